@@ -1,0 +1,5 @@
+pub mod Word
+pub mod Rows
+pub mod Insn
+pub mod Fields
+pub mod InsnOf

@@ -1,0 +1,19 @@
+//! The instructions of RV32I, and the words that spell them.
+//!
+//! Stands on nothing. Proved: `decode` and `encode` are the table of `specs/Insn.antt` both ways, and each reader of
+//! `fields` says what it read. Only tested: that the table is the manual's. Open: nothing.
+#![tactic(auto)]
+
+mod decoder;
+mod encoder;
+pub mod fields;
+mod insn;
+pub mod laws;
+pub mod opcode;
+mod rows;
+#[cfg(test)]
+mod tests;
+
+pub use decoder::decode;
+pub use encoder::encode;
+pub use insn::{Cond, ImmOp, Insn, LoadKind, Op, StoreKind};
