@@ -1,6 +1,6 @@
 //! What `decode`, `encode` and the table owe one another.
 
-ghost use Rattle.std.specs.Prelude.{◌≡◌, ℕ, ◌^◌, ◌<◌, Some, None, IfSome, IfNone};
+ghost use Rattle.std.specs.Prelude.{◌≡◌, ℕ, ◌^◌, ◌<◌, Some, option_map};
 ghost use Rattle.rv_insn.specs.declared.insn.Insn.{Insn};
 ghost use Rattle.rv_insn.specs.Insn.{InRange, IsWord};
 ghost use Rattle.rv_insn.specs.InsnOf.{insn_of};
@@ -19,8 +19,7 @@ pub fn decode_encoded(insn: &Insn) -> Option<Insn>
 
 /// A word that is an instruction is encoded again from it; `None` where the word is none.
 pub fn encode_decoded(word: u32) -> Option<u32>
-    ensures some { IfSome result (λ again. again ≡ word) }
-    ensures none { IfNone result (insn_of word ≡ None) }
+    ensures { result ≡ option_map (λ _. word) (insn_of word) }
 {
     let insn = decode(word)?;
     Some(encode(&insn))
