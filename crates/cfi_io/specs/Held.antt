@@ -1,0 +1,36 @@
+-- What a shelf and a sink in memory hold, and which of their calls fail. Calls are numbered from 0.
+use Rattle.std.specs.Prelude.{ℕ, List, reverse, find, String, Vec, string_bytes, bytes_eq}
+use Rattle.std.specs.Option.{option_map}
+use Rattle.std.specs.declared.alloc.Global.{Global}
+use Rattle.cfi_io.specs.Files.{Files}
+use Rattle.cfi_io.specs.declared.mem_shelf.MemShelf.{MemShelf}
+use Rattle.cfi_io.specs.declared.mem_sink.MemSink.{MemSink}
+
+-- the files of these pairs of name and bytes: of two pairs with one name the later counts
+abbrev pub files_of : List (String Global × Vec ℕ Global) → Files
+files_of pairs name =
+    option_map (λ pair. pair.1.items) (find (λ pair. bytes_eq (string_bytes pair.0) name) (reverse pairs))
+
+-- the files that the shelf holds
+abbrev pub files_held : MemShelf → Files
+files_held shelf = files_of shelf.files.items
+
+-- how many calls of the shelf were made
+abbrev pub shelf_calls : MemShelf → ℕ
+shelf_calls shelf = shelf.calls.made
+
+-- the numbers of the shelf's calls that fail
+abbrev pub shelf_fails : MemShelf → List ℕ
+shelf_fails shelf = shelf.calls.fails.items
+
+-- the bytes that the sink holds
+abbrev pub bytes_held : MemSink → List ℕ
+bytes_held sink = sink.bytes.items
+
+-- how many calls of the sink were made
+abbrev pub sink_calls : MemSink → ℕ
+sink_calls sink = sink.calls.made
+
+-- the numbers of the sink's calls that fail
+abbrev pub sink_fails : MemSink → List ℕ
+sink_fails sink = sink.calls.fails.items

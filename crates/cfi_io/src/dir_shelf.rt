@@ -1,0 +1,85 @@
+//! The files of the current folder as a shelf.
+ghost use Rattle.std.specs.Prelude.{◌≡◌, ◌≤◌, ◌<◌, ℕ, length, None, vec_len, IfOk};
+ghost use Rattle.cfi_io.specs.declared.shelf.TheConstants.{MAX_FILE_BYTES};
+
+use crate::count::raise;
+use crate::pipe::{read_file, write_file};
+use crate::{MAX_FILE_BYTES, Shelf, ShelfFault};
+use std::alloc::Global;
+use std::io::ErrorKind;
+use std::{fs, io};
+
+/// The files of the current folder. It tells no content.
+#[derive(Drop)]
+pub struct DirShelf {
+    rt: HostRuntime,
+    alloc: Global,
+    faults: u64,
+    misses: u64,
+}
+
+impl DirShelf {
+    /// The shelf of the current folder, which takes memory from `alloc` where it reads. This call takes none.
+    pub fn new(rt: HostRuntime, alloc: Global) -> Self
+        ensures faults { ⟦<DirShelf as Shelf>⟧.faults result ≡ 0 }
+        ensures misses { ⟦<DirShelf as Shelf>⟧.misses result ≡ 0 }
+    {
+        DirShelf {
+            rt,
+            alloc,
+            faults: 0,
+            misses: 0,
+        }
+    }
+}
+
+// The bytes of a file, or of its first `MAX_FILE_BYTES + 1`.
+fn bytes_of(rt: &HostRuntime, alloc: Global, name: &str) -> io::Result<Vec<u8>> {
+    let mut file = fs::open(rt, name)?;
+    read_file(alloc, &mut file)
+}
+
+// Makes a file of these bytes.
+fn make(rt: &HostRuntime, name: &str, bytes: &[u8]) -> io::Result<()> {
+    let mut file = fs::create(rt, name)?;
+    write_file(&mut file, bytes)
+}
+
+impl Shelf for DirShelf {
+    ghost files = { λ _. None };
+
+    ghost faults = { λ shelf. shelf.faults };
+
+    ghost misses = { λ shelf. shelf.misses };
+
+    fn read(&mut self, name: &str) -> Result<Vec<u8>, ShelfFault> {
+        let fault = match bytes_of(&self.rt, self.alloc, name) {
+            Ok(bytes) if bytes.len() <= MAX_FILE_BYTES => return Ok(bytes),
+            Ok(_) => ShelfFault::TooLong,
+            Err(error) => fault_of(&error),
+        };
+        match fault {
+            ShelfFault::Failed => raise(&mut self.faults),
+            ShelfFault::Absent | ShelfFault::TooLong => raise(&mut self.misses),
+            ShelfFault::Memory => {}
+        }
+        Err(fault)
+    }
+
+    fn write(&mut self, name: &str, bytes: &[u8]) -> Result<(), ShelfFault> {
+        if make(&self.rt, name, bytes).is_ok() {
+            return Ok(());
+        }
+        raise(&mut self.faults);
+        Err(ShelfFault::Failed)
+    }
+}
+
+// What a read answers at an error of the system.
+fn fault_of(error: &io::Error) -> ShelfFault {
+    match error.kind() {
+        ErrorKind::NotFound => ShelfFault::Absent,
+        ErrorKind::OutOfMemory => ShelfFault::Memory,
+        _ => ShelfFault::Failed,
+    }
+}

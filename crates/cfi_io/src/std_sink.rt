@@ -1,0 +1,37 @@
+//! Standard output as a sink.
+ghost use Rattle.std.specs.Prelude.{◌≡◌, ◌≤◌, ℕ, None};
+
+use crate::count::raise;
+use crate::pipe::write_file;
+use crate::{Sink, SinkFault};
+use std::io;
+
+/// Standard output. It tells no content.
+#[derive(Drop)]
+pub struct StdSink {
+    rt: HostRuntime,
+    faults: u64,
+}
+
+impl StdSink {
+    /// The standard output of this runtime. This call takes no memory, nor does a write.
+    pub fn new(rt: HostRuntime) -> Self
+        ensures { ⟦<StdSink as Sink>⟧.faults result ≡ 0 }
+    {
+        StdSink { rt, faults: 0 }
+    }
+}
+
+impl Sink for StdSink {
+    ghost written = { λ _. None };
+
+    ghost faults = { λ sink. sink.faults };
+
+    fn write(&mut self, bytes: &[u8]) -> Result<(), SinkFault> {
+        if write_file(&mut io::writer(&self.rt), bytes).is_ok() {
+            return Ok(());
+        }
+        raise(&mut self.faults);
+        Err(SinkFault::Failed)
+    }
+}
