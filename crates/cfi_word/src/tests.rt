@@ -37,6 +37,8 @@ fn layouts(rt: HostRuntime) -> Result<(), Fail> {
     assert_eq!(rt; layout.words(), 135771);
     assert_eq!(rt; layout.quiet(15), 16);
     assert_eq!(rt; Layout::new(1000).err(), Some(BadSize(1000)));
+    let text = format!(in rt.alloc(); "{}", BadSize(1000))?;
+    assert_eq!(rt; text.as_str(), "1000 code words are no size of a table");
     let small = Layout::new(1024)?;
     assert_eq!(rt; small.code_words(), 1024);
     assert_eq!(rt; small.code(16), 33);
