@@ -1,0 +1,4 @@
+pub mod IdLemmas
+pub mod WordLemmas
+pub mod TableLemmas
+pub mod RankLemmas

@@ -1,0 +1,4 @@
+pub mod Ids
+pub mod Word
+pub mod Table
+pub mod Rank
