@@ -1,0 +1,3 @@
+pub mod InsnLemmas
+pub mod UnitLemmas
+pub mod CodeLemmas

@@ -1,0 +1,16 @@
+//! The units of instrumented code, and the words that spell them.
+//!
+//! Stands on `rv_insn`. Proved: `next_unit` and `spell` are the spellings of `specs/Unit.antt` both ways, and a list of
+//! words is the code of at most one list of units. Only tested: the spellings against an assembler. Open: nothing.
+#![tactic(auto)]
+
+pub mod laws;
+mod reader;
+mod spelling;
+#[cfg(test)]
+mod tests;
+mod unit;
+
+pub use reader::next_unit;
+pub use spelling::spell;
+pub use unit::{FREE_REGISTERS, Unit};
