@@ -1,11 +1,11 @@
 -- A shelf in memory after a pair was added.
-use Rattle.std.proofs.Common.{◌≡◌, ◌≢◌, Bool, true, false, cond, List, [], ◌∷◌, ◌++◌, String, Vec, ℕ, Option, Some, refl, sym, ap, ◌∙◌, reverse, find, string_bytes, bytes_eq}
+use Rattle.std.proofs.Common.{◌≡◌, false, cond, List, [], ◌∷◌, ◌++◌, String, Vec, ℕ, Some, refl, sym, reverse, find, string_bytes, bytes_eq}
 use Rattle.std.specs.Option.{option_map}
 use Rattle.std.specs.declared.alloc.Global.{Global}
 use Rattle.std.proofs.lemmas.List.{reverse-append}
 use Rattle.std.proofs.lemmas.Bool.{false_from_ne_true}
 use Rattle.std.proofs.lemmas.Slice.Eq.{bytes_eq-Decides}
-use Rattle.cfi_io.specs.Files.{Files, Puts}
+use Rattle.cfi_io.specs.Files.{Puts}
 use Rattle.cfi_io.specs.Held.{files_of}
 
 abbrev Pair : Type 0

@@ -1,4 +1,4 @@
-use Rattle.std.proofs.Common.{◌≡◌, ◌≤◌, ◌+◌, ◌-◌, vec_len}
+use Rattle.std.proofs.Common.{◌≤◌, ◌+◌, ◌-◌, vec_len}
 use Rattle.std.specs.Io.KnownBytes.{Consumes}
 use Rattle.cfi_io.specs.declared.shelf.TheConstants.{MAX_FILE_BYTES}
 use Rattle.cfi_io.proofs.pipe.read_file.Given as goal

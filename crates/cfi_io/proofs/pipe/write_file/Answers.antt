@@ -1,4 +1,4 @@
-use Rattle.std.proofs.Common.{arith, rules}
+use Rattle.std.proofs.Common.{arith}
 use Rattle.cfi_io.proofs.ToldLemmas.{Appends-take, take-rest}
 use Rattle.cfi_io.proofs.pipe.write_file.Goals as goal
 
