@@ -1,0 +1,4 @@
+pub mod ClosedLemmas
+pub mod WordsLemmas
+pub mod VerifyLemmas
+pub mod TopLemmas

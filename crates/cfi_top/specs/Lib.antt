@@ -1,0 +1,11 @@
+pub mod Machine
+pub mod Target
+pub mod Part
+pub mod Text
+pub mod Verify
+pub mod Closed
+pub mod Run
+pub mod Bare
+pub mod Answer
+pub mod Words
+pub mod Top

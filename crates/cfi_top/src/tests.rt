@@ -1,0 +1,188 @@
+use crate::{Ended, top};
+use cfi_io::{Gate, MemShelf, MemSink, QuietGate};
+use std::alloc::{AllocError, Global};
+use std::sync::atomic::{AtomicU32, Ordering};
+use std::test::Fail;
+
+// What a user reads of `hello.bin`: it puts `H` and exits with 7.
+const HELLO: [u8; 28] = [
+    0x93, 0x08, 0x20, 0x00, 0x13, 0x05, 0x80, 0x04, 0x73, 0x00, 0x00, 0x00, 0x93, 0x08, 0x10, 0x00,
+    0x13, 0x05, 0x70, 0x00, 0x73, 0x00, 0x00, 0x00, 0x6f, 0x00, 0x00, 0x00,
+];
+
+const HELLO_REPORT: &str =
+    "report 1\nforce 0 0\nmodule 0 bare 16 0 40000000 0\nguest 0 bare\nout 48\nstop exit 7\nunits 6\nsteps 6\nend\n";
+
+const USAGE: &str = "usage: cfi asm|list|instrument|link|verify|graph|sim|run|gen\n";
+
+// `top` over a shelf with one file, and a sink; the calls with these numbers fail.
+fn top_over<G: Gate>(
+    alloc: Global,
+    line: &str,
+    file: &[u8],
+    shelf_fails: &[u32],
+    sink_fails: &[u32],
+    gate: &G,
+) -> Result<(Ended, String), AllocError> {
+    let mut words = Vec::new(alloc);
+    for word in line.split_whitespace() {
+        words.push(word.to_string(alloc)?)?;
+    }
+    let pair = ("a.bin".to_string(alloc)?, file.to_vec(alloc)?);
+    let mut shelf = MemShelf::new(alloc, vec![in alloc; pair]?, shelf_fails.to_vec(alloc)?);
+    let mut sink = MemSink::new(alloc, sink_fails.to_vec(alloc)?);
+    let ended = top(alloc, &words, &mut shelf, &mut sink, gate);
+    let text = String::from_utf8_lossy(alloc, sink.written())?;
+    Ok((ended, text))
+}
+
+#[test]
+fn statuses_and_texts(rt: HostRuntime) -> Result<(), Fail> {
+    let alloc = rt.alloc();
+    let long = vec![in alloc; 0u8; 1_048_577]?;
+    let mut full: Vec<u8> = Vec::new(alloc);
+    for _ in 0..65_521 {
+        full.extend_from_slice(b"\x6f\x00\x00\x00")?;
+    }
+    let none: [u32; 0] = [];
+    let first = [0];
+    let fuel =
+        "report 1\nforce 0 0\nmodule 0 bare 16 0 40000000 0\nguest 0 bare\nout -\nstop fuel\nunits 1000000\nsteps 1000000\nend\n";
+    let rows: [(&str, &[u8], &[u32], &[u32], u8, &str); 20] = [
+        ("run a.bin", &HELLO, &none, &none, 0, HELLO_REPORT),
+        (
+            "run a.bin",
+            b"\x00\x00\x00\x00",
+            &none,
+            &none,
+            5,
+            "refused a.bin verify Illegal 0\n",
+        ),
+        (
+            "run a.bin",
+            b"",
+            &none,
+            &none,
+            5,
+            "refused a.bin verify Empty\n",
+        ),
+        (
+            "run a.bin",
+            b"\x00\x00\x00",
+            &none,
+            &none,
+            5,
+            "refused a.bin bare Length 3\n",
+        ),
+        (
+            "run a.bin",
+            &full,
+            &none,
+            &none,
+            5,
+            "refused a.bin place CodeFull\n",
+        ),
+        (
+            "run a.bin",
+            b"\x93\x08\x20\x00",
+            &none,
+            &none,
+            5,
+            "refused a.bin verify FallsThrough 0\n",
+        ),
+        (
+            "run a.bin",
+            b"\x6f\x00\x80\x00",
+            &none,
+            &none,
+            5,
+            "refused a.bin verify Target 0\n",
+        ),
+        (
+            "run a.bin",
+            b"\x73\x00\x10\x00",
+            &none,
+            &none,
+            5,
+            "refused a.bin verify NotUnit 0\n",
+        ),
+        (
+            "run a.bin",
+            b"plan 1\n",
+            &none,
+            &none,
+            5,
+            "refused a.bin bare Plan\n",
+        ),
+        ("run a.bin", b"\x6f\x00\x00\x00", &none, &none, 0, fuel),
+        ("run", &HELLO, &none, &none, 1, USAGE),
+        ("run -x", &HELLO, &none, &none, 1, USAGE),
+        ("gen 1 33", &HELLO, &none, &none, 1, USAGE),
+        ("run a.bin b.bin", &HELLO, &none, &none, 1, USAGE),
+        ("", &HELLO, &none, &none, 1, USAGE),
+        (
+            "run nothing.bin",
+            &HELLO,
+            &none,
+            &none,
+            3,
+            "absent nothing.bin\n",
+        ),
+        ("run a.bin", &long, &none, &none, 3, "toolong a.bin\n"),
+        ("run a.bin", &HELLO, &first, &none, 2, "failed read a.bin\n"),
+        ("run a.bin", &HELLO, &none, &first, 4, ""),
+        ("run", &HELLO, &none, &first, 4, ""),
+    ];
+    for (line, file, shelf_fails, sink_fails, status, text) in rows {
+        let (ended, written) = top_over(
+            alloc,
+            line,
+            file,
+            shelf_fails,
+            sink_fails,
+            &QuietGate::new(),
+        )?;
+        assert_eq!(rt; ended, Ended { status }, "{line}: {text}");
+        assert_eq!(rt; written.as_str(), text, "{line}");
+    }
+    Ok(())
+}
+
+// Counts the services that guests ask for.
+#[derive(Drop)]
+struct CountingGate {
+    passes: AtomicU32,
+}
+
+impl Gate for CountingGate {
+    fn pass(&self, _guest: u32, _service: u32) {
+        self.passes.fetch_add(1, Ordering::SeqCst);
+    }
+
+    fn line(&self, _call: u32) {}
+}
+
+#[test]
+fn output_is_full_after_65536_bytes(rt: HostRuntime) -> Result<(), Fail> {
+    // li a7,2; again: li a0,65; ecall; bne a0,x0,again; li a7,1; li a0,0; ecall; j .
+    let file =
+        b"\x93\x08\x20\x00\x13\x05\x10\x04\x73\x00\x00\x00\xe3\x1c\x05\xfe\x93\x08\x10\x00\x13\x05\x00\x00\x73\x00\x00\x00\x6f\x00\x00\x00";
+    let alloc = rt.alloc();
+    let gate = CountingGate {
+        passes: AtomicU32::new(0),
+    };
+    let none: [u32; 0] = [];
+    let (ended, text) = top_over(alloc, "run a.bin", file, &none, &none, &gate)?;
+    assert_eq!(rt; ended, Ended { status: 0 });
+    let (_, rest) = text.as_str().split_once("out ").unwrap_or(("", ""));
+    let (out, rest) = rest.split_once('\n').unwrap_or(("", ""));
+    assert_eq!(rt; out.len(), 131_072);
+    assert!(rt;
+        out.as_bytes().iter().enumerate().all(|(at, digit)| *digit
+            == if at % 2 == 0 { b'4' } else { b'1' })
+    );
+    // One unit, three for each of 65,537 puts, and three to exit.
+    assert_eq!(rt; rest, "stop exit 0\nunits 196615\nsteps 196615\nend\n");
+    assert_eq!(rt; gate.passes.load(Ordering::SeqCst), 65_538);
+    Ok(())
+}
