@@ -1,6 +1,7 @@
 use crate::{Ended, top};
 use cfi_io::{Gate, MemShelf, MemSink, QuietGate};
 use std::alloc::{AllocError, Global};
+use std::process::Abort;
 use std::sync::atomic::{AtomicU32, Ordering};
 use std::test::Fail;
 
@@ -36,116 +37,120 @@ fn top_over<G: Gate>(
     Ok((ended, text))
 }
 
+// Asks `top` for this status and this text.
+fn expect(
+    rt: &impl Abort,
+    alloc: Global,
+    line: &str,
+    file: &[u8],
+    fails: (&[u32], &[u32]),
+    status: u8,
+    text: &str,
+) -> Result<(), Fail> {
+    let (ended, written) = top_over(alloc, line, file, fails.0, fails.1, &QuietGate::new())?;
+    assert_eq!(rt; ended.status, status, "{line}: {text}");
+    assert_eq!(rt; written.as_str(), text, "{line}");
+    Ok(())
+}
+
 #[test]
-fn statuses_and_texts(rt: HostRuntime) -> Result<(), Fail> {
-    let alloc = rt.alloc();
-    let long = vec![in alloc; 0u8; 1_048_577]?;
-    let mut full: Vec<u8> = Vec::new(alloc);
+fn reports(rt: HostRuntime) -> Result<(), Fail> {
+    let fuel =
+        "report 1\nforce 0 0\nmodule 0 bare 16 0 40000000 0\nguest 0 bare\nout -\nstop fuel\nunits 1000000\nsteps 1000000\nend\n";
+    expect(
+        &rt,
+        rt.alloc(),
+        "run a.bin",
+        &HELLO,
+        (&[], &[]),
+        0,
+        HELLO_REPORT,
+    )?;
+    expect(
+        &rt,
+        rt.alloc(),
+        "run a.bin",
+        b"\x6f\x00\x00\x00",
+        (&[], &[]),
+        0,
+        fuel,
+    )
+}
+
+#[test]
+fn refusals(rt: HostRuntime) -> Result<(), Fail> {
+    let rows: [(&[u8], &str); 7] = [
+        (b"\x00\x00\x00\x00", "refused a.bin verify Illegal 0\n"),
+        (b"", "refused a.bin verify Empty\n"),
+        (b"\x00\x00\x00", "refused a.bin bare Length 3\n"),
+        (b"\x93\x08\x20\x00", "refused a.bin verify FallsThrough 0\n"),
+        (b"\x6f\x00\x80\x00", "refused a.bin verify Target 0\n"),
+        (b"\x73\x00\x10\x00", "refused a.bin verify NotUnit 0\n"),
+        (b"plan 1\n", "refused a.bin bare Plan\n"),
+    ];
+    for (file, text) in rows {
+        expect(&rt, rt.alloc(), "run a.bin", file, (&[], &[]), 5, text)?;
+    }
+    Ok(())
+}
+
+#[test]
+fn long_files(rt: HostRuntime) -> Result<(), Fail> {
+    let mut full = Vec::new(rt.alloc());
     for _ in 0..65_521 {
         full.extend_from_slice(b"\x6f\x00\x00\x00")?;
     }
-    let none: [u32; 0] = [];
-    let first = [0];
-    let fuel =
-        "report 1\nforce 0 0\nmodule 0 bare 16 0 40000000 0\nguest 0 bare\nout -\nstop fuel\nunits 1000000\nsteps 1000000\nend\n";
-    let rows: [(&str, &[u8], &[u32], &[u32], u8, &str); 20] = [
-        ("run a.bin", &HELLO, &none, &none, 0, HELLO_REPORT),
-        (
-            "run a.bin",
-            b"\x00\x00\x00\x00",
-            &none,
-            &none,
-            5,
-            "refused a.bin verify Illegal 0\n",
-        ),
-        (
-            "run a.bin",
-            b"",
-            &none,
-            &none,
-            5,
-            "refused a.bin verify Empty\n",
-        ),
-        (
-            "run a.bin",
-            b"\x00\x00\x00",
-            &none,
-            &none,
-            5,
-            "refused a.bin bare Length 3\n",
-        ),
-        (
-            "run a.bin",
-            &full,
-            &none,
-            &none,
-            5,
-            "refused a.bin place CodeFull\n",
-        ),
-        (
-            "run a.bin",
-            b"\x93\x08\x20\x00",
-            &none,
-            &none,
-            5,
-            "refused a.bin verify FallsThrough 0\n",
-        ),
-        (
-            "run a.bin",
-            b"\x6f\x00\x80\x00",
-            &none,
-            &none,
-            5,
-            "refused a.bin verify Target 0\n",
-        ),
-        (
-            "run a.bin",
-            b"\x73\x00\x10\x00",
-            &none,
-            &none,
-            5,
-            "refused a.bin verify NotUnit 0\n",
-        ),
-        (
-            "run a.bin",
-            b"plan 1\n",
-            &none,
-            &none,
-            5,
-            "refused a.bin bare Plan\n",
-        ),
-        ("run a.bin", b"\x6f\x00\x00\x00", &none, &none, 0, fuel),
-        ("run", &HELLO, &none, &none, 1, USAGE),
-        ("run -x", &HELLO, &none, &none, 1, USAGE),
-        ("gen 1 33", &HELLO, &none, &none, 1, USAGE),
-        ("run a.bin b.bin", &HELLO, &none, &none, 1, USAGE),
-        ("", &HELLO, &none, &none, 1, USAGE),
-        (
-            "run nothing.bin",
-            &HELLO,
-            &none,
-            &none,
-            3,
-            "absent nothing.bin\n",
-        ),
-        ("run a.bin", &long, &none, &none, 3, "toolong a.bin\n"),
-        ("run a.bin", &HELLO, &first, &none, 2, "failed read a.bin\n"),
-        ("run a.bin", &HELLO, &none, &first, 4, ""),
-        ("run", &HELLO, &none, &first, 4, ""),
-    ];
-    for (line, file, shelf_fails, sink_fails, status, text) in rows {
-        let (ended, written) = top_over(
-            alloc,
-            line,
-            file,
-            shelf_fails,
-            sink_fails,
-            &QuietGate::new(),
-        )?;
-        assert_eq!(rt; ended, Ended { status }, "{line}: {text}");
-        assert_eq!(rt; written.as_str(), text, "{line}");
+    expect(
+        &rt,
+        rt.alloc(),
+        "run a.bin",
+        &full,
+        (&[], &[]),
+        5,
+        "refused a.bin place CodeFull\n",
+    )?;
+    let long = vec![in rt.alloc(); 0u8; 1_048_577]?;
+    expect(
+        &rt,
+        rt.alloc(),
+        "run a.bin",
+        &long,
+        (&[], &[]),
+        3,
+        "toolong a.bin\n",
+    )
+}
+
+#[test]
+fn usage(rt: HostRuntime) -> Result<(), Fail> {
+    for line in ["run", "run -x", "gen 1 33", "run a.bin b.bin", ""] {
+        expect(&rt, rt.alloc(), line, &HELLO, (&[], &[]), 1, USAGE)?;
     }
     Ok(())
+}
+
+#[test]
+fn failing_devices(rt: HostRuntime) -> Result<(), Fail> {
+    expect(
+        &rt,
+        rt.alloc(),
+        "run b.bin",
+        &HELLO,
+        (&[], &[]),
+        3,
+        "absent b.bin\n",
+    )?;
+    expect(
+        &rt,
+        rt.alloc(),
+        "run a.bin",
+        &HELLO,
+        (&[0], &[]),
+        2,
+        "failed read a.bin\n",
+    )?;
+    expect(&rt, rt.alloc(), "run a.bin", &HELLO, (&[], &[0]), 4, "")?;
+    expect(&rt, rt.alloc(), "run", &HELLO, (&[], &[0]), 4, "")
 }
 
 // Counts the services that guests ask for.

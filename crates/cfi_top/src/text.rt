@@ -45,6 +45,7 @@ fn push_stop(text: &mut String, stop: Stop) -> Result<(), AllocError>
     }
 }
 
+/// The text of a report of a bare file.
 pub fn report_text(alloc: Global, part: &GuestPart) -> Result<String, AllocError>
     ensures { IfOk result (λ text. string_bytes text ≡ report_text part.now) }
 {
