@@ -1,15 +1,19 @@
 -- Where units begin, and the code of a list of units.
-use Rattle.std.proofs.Common.{◌≡◌, ℕ, ◌+◌, ◌≤◌, List, [], ◌∷◌, ◌++◌, map, length, take, drop, get_or, Some, refl, ap, sym, subst, ◌∙◌, arith, length-take, length-drop, get_or-drop}
+use Rattle.std.proofs.Common.{◌≡◌, ℕ, ◌<◌, ◌+◌, ◌≤◌, List, [], ◌∷◌, ◌++◌, map, length, take, drop, get_or, Some, refl, ap, sym, subst, ◌∙◌, arith, length-take, length-drop, get_or-drop, get_or-take}
 use Rattle.std.specs.List.{flat_map, AllByRecursion}
 use Rattle.std.proofs.lemmas.List.{take-append-drop}
 use Rattle.std.proofs.lemmas.List.Concat.{flat_map-append}
 use Rattle.std.proofs.Math.Seq.{drop-append_seam, take-append_seam}
 use Rattle.rv_insn.specs.declared.insn.Insn.{Insn}
+use Rattle.rv_insn.specs.declared.insn.Insn.TheVariants as insns
 use Rattle.rv_insn.specs.Insn.{InRange, word_of, IsWord}
 use Rattle.cfi_unit.specs.declared.unit.Unit.{Unit as CodeUnit}
 use Rattle.cfi_unit.specs.Unit.{IsUnit, insns_of, words_of, size_of}
 use Rattle.cfi_unit.specs.Code.{BeginsAt, UnitCode}
-use Rattle.cfi_unit.proofs.UnitLemmas.{unit_at, unit_at-append, size_pos, IsUnit-range}
+use Rattle.rv_insn.specs.InsnOf.{insn_of}
+use Rattle.rv_insn.proofs.InsnOfLemmas.{insn_of-IsWord}
+use Rattle.cfi_unit.proofs.InsnLemmas.{IsWord-get}
+use Rattle.cfi_unit.proofs.UnitLemmas.{unit_at, unit_at-append, size_pos, IsUnit-range, first_insn}
 
 -- there are as many words as instructions
 length-map : {X Y : Type 0} (f : X → Y) (xs : List X) → length (map f xs) ≡ length xs
@@ -46,30 +50,26 @@ BeginsAt-within words at unit begins =
     let some = size_pos unit in
     omega (arith, length-take (size_of unit) (drop at words), length-drop at words)
 
--- where a unit of one instruction begins, its word is that instruction
-pub one_insn : (unit : CodeUnit) → IsUnit unit → size_of unit ≡ 1 → (insn : Insn) × InRange insn × (insns_of unit ≡ insn ∷ [])
-one_insn unit fits one = from (insns_of unit) (IsUnit-range unit fits) one
-  where
-    from : (is : List Insn) → AllByRecursion InRange is → length is ≡ 1 → (insn : Insn) × InRange insn × (is ≡ insn ∷ [])
-    from [] all e = absurd (omega arith)
-    from (i ∷ []) all e = (i, all.0, refl)
-    from (i ∷ j ∷ is) all e = absurd (omega arith)
+-- where a unit begins, its instructions stand one after the other
+pub BeginsAt-word : (words : List ℕ) (at : ℕ) (unit : CodeUnit) → BeginsAt words at unit → (k : ℕ) (d : Insn) →
+    k < size_of unit → IsWord (get_or (insns_of unit) k d) (get_or words (at + k) 0)
+BeginsAt-word words at unit begins k d h =
+    let word : get_or words (at + k) 0 ≡ get_or (words_of unit) k 0 =
+    sym (get_or-drop at words k 0) ∙ sym (get_or-take (size_of unit) (drop at words) k 0 h)
+    ∙ ap (λ ws. get_or ws k 0) begins.spelled in
+    subst (IsWord (get_or (insns_of unit) k d)) (sym word)
+    (IsWord-get (insns_of unit) (IsUnit-range unit begins.fits) k d h)
 
--- the head of a list that begins with one element
-first_of : (words : List ℕ) (x : ℕ) → take 1 words ≡ x ∷ [] → get_or words 0 0 ≡ x
-first_of [] x e = absurd (cc)
-first_of (y ∷ ys) x e = cc
+pub BeginsAt-insn : (words : List ℕ) (at : ℕ) (unit : CodeUnit) → BeginsAt words at unit → (k : ℕ) (d : Insn) →
+    k < size_of unit → insn_of (get_or words (at + k) 0) ≡ Some (get_or (insns_of unit) k d)
+BeginsAt-insn words at unit begins k d h =
+    insn_of-IsWord (get_or (insns_of unit) k d) (get_or words (at + k) 0) (BeginsAt-word words at unit begins k d h)
 
-pub BeginsAt-first : (words : List ℕ) (at : ℕ) (unit : CodeUnit) → BeginsAt words at unit → size_of unit ≡ 1 →
-    (insn : Insn) × IsWord insn (get_or words at 0) × (insns_of unit ≡ insn ∷ [])
-BeginsAt-first words at unit begins one =
-    let p = one_insn unit begins.fits one in
-    let Begins : List Insn → Type 0 = λ is. take (length is) (drop at words) ≡ map word_of is in
-    let head : take 1 (drop at words) ≡ word_of p.0 ∷ [] = subst Begins p.2 begins.spelled in
-    let place : at ≡ at + 0 = omega arith in
-    let word : get_or words at 0 ≡ word_of p.0 =
-    ap (λ k. get_or words k 0) place ∙ sym (get_or-drop at words 0 0) ∙ first_of (drop at words) (word_of p.0) head in
-    (p.0, record { range = p.1; spelled = word }, p.2)
+pub BeginsAt-first : (words : List ℕ) (at : ℕ) (unit : CodeUnit) → BeginsAt words at unit →
+  IsWord (first_insn unit) (get_or words at 0)
+BeginsAt-first words at unit begins =
+  let place : at + 0 ≡ at = omega arith in
+  subst (λ k. IsWord (first_insn unit) (get_or words k 0)) place (BeginsAt-word words at unit begins 0 insns.Ecall (size_pos unit))
 
 -- the code of no unit, and of one more before the others
 pub UnitCode-cons : (words : List ℕ) (unit : CodeUnit) (code : List CodeUnit) → BeginsAt words 0 unit →

@@ -4,7 +4,10 @@
 //! words is the code of at most one list of units. Only tested: the spellings against an assembler. Open: nothing.
 #![tactic(auto)]
 
+mod check;
+mod free;
 pub mod laws;
+mod masked;
 mod reader;
 mod spelling;
 #[cfg(test)]
@@ -13,4 +16,4 @@ mod unit;
 
 pub use reader::next_unit;
 pub use spelling::spell;
-pub use unit::{FREE_REGISTERS, Unit};
+pub use unit::{BARY, FREE_REGISTERS, SLOTS, Unit};
