@@ -6,7 +6,7 @@ use Rattle.std.proofs.lemmas.List.Concat.{flat_map-append}
 use Rattle.std.proofs.Math.Seq.{drop-append_seam, take-append_seam}
 use Rattle.rv_insn.specs.declared.insn.Insn.{Insn}
 use Rattle.rv_insn.specs.declared.insn.Insn.TheVariants as insns
-use Rattle.rv_insn.specs.Insn.{InRange, word_of, IsWord}
+use Rattle.rv_insn.specs.Insn.{word_of, IsWord}
 use Rattle.cfi_unit.specs.declared.unit.Unit.{Unit as CodeUnit}
 use Rattle.cfi_unit.specs.Unit.{IsUnit, insns_of, words_of, size_of}
 use Rattle.cfi_unit.specs.Code.{BeginsAt, UnitCode}
@@ -66,10 +66,10 @@ BeginsAt-insn words at unit begins k d h =
     insn_of-IsWord (get_or (insns_of unit) k d) (get_or words (at + k) 0) (BeginsAt-word words at unit begins k d h)
 
 pub BeginsAt-first : (words : List ℕ) (at : ℕ) (unit : CodeUnit) → BeginsAt words at unit →
-  IsWord (first_insn unit) (get_or words at 0)
+    IsWord (first_insn unit) (get_or words at 0)
 BeginsAt-first words at unit begins =
-  let place : at + 0 ≡ at = omega arith in
-  subst (λ k. IsWord (first_insn unit) (get_or words k 0)) place (BeginsAt-word words at unit begins 0 insns.Ecall (size_pos unit))
+    let place : at + 0 ≡ at = omega arith in
+    subst (λ k. IsWord (first_insn unit) (get_or words k 0)) place (BeginsAt-word words at unit begins 0 insns.Ecall (size_pos unit))
 
 -- the code of no unit, and of one more before the others
 pub UnitCode-cons : (words : List ℕ) (unit : CodeUnit) (code : List CodeUnit) → BeginsAt words 0 unit →

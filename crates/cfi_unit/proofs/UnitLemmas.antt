@@ -1,15 +1,12 @@
 -- A unit is determined by its first words.
-use Rattle.std.proofs.Common.{◌≡◌, ℕ, ◌+◌, ◌-◌, ◌*◌, ◌/◌, ◌%◌, ◌^◌, ◌<◌, ◌≤◌, ◌⊎◌, inl, inr, zero, suc, ℤ, pos, negsuc, Bool, true, false, cond, eqb, ltb, List, [], ◌∷◌, ◌++◌, map, length, get_or, Option, Some, None, refl, ap, sym, subst, ◌∙◌, arith, rules}
+use Rattle.std.proofs.Common.{◌≡◌, ℕ, ◌+◌, ◌-◌, ◌*◌, ◌/◌, ◌%◌, ◌^◌, ◌<◌, ◌⊎◌, inl, inr, zero, suc, ℤ, pos, Bool, true, false, cond, eqb, ltb, List, [], ◌∷◌, ◌++◌, get_or, Option, Some, None, refl, ap, subst, ◌∙◌, arith}
 use Rattle.std.specs.List.{AllByRecursion}
 use Rattle.std.proofs.lemmas.Bool.{ne_eqb, cases_lt, lt-ltb, le-ltb}
 use Rattle.rv_insn.specs.declared.insn.Insn.{Insn}
 use Rattle.rv_insn.specs.declared.insn.Insn.TheVariants as insns
-use Rattle.rv_insn.specs.declared.insn.ImmOp.{ImmOp}
 use Rattle.rv_insn.specs.declared.insn.ImmOp.TheVariants.{Addi}
-use Rattle.rv_insn.specs.declared.insn.LoadKind.{LoadKind}
-use Rattle.rv_insn.specs.declared.insn.StoreKind.{StoreKind}
 use Rattle.rv_insn.specs.Word.{IsSigned, low_bits}
-use Rattle.rv_insn.specs.Insn.{InRange, word_of}
+use Rattle.rv_insn.specs.Insn.{InRange}
 use Rattle.cfi_unit.specs.declared.unit.TheConstants.{SLOTS, BARY}
 use Rattle.cfi_unit.specs.declared.unit.Unit.{Unit as CodeUnit}
 use Rattle.cfi_unit.specs.declared.unit.Unit.TheVariants as units
@@ -155,10 +152,10 @@ first_insn unit = get_or (insns_of unit) 0 insns.Ecall
 
 -- a unit that begins with a write of x31 has several words
 pub long_from : (unit : CodeUnit) (rs1 : ℕ) (imm : ℤ) → IsUnit unit → first_insn unit ≡ insns.OpImm Addi 31 rs1 imm →
-  IsLong unit rs1 imm
+    IsLong unit rs1 imm
 long_from (units.Plain insn) rs1 imm fits e =
-  let plain : IsPlain (insns.OpImm Addi 31 rs1 imm) = subst IsPlain e fits in
-  absurd (omega (arith, plain.0))
+    let plain : IsPlain (insns.OpImm Addi 31 rs1 imm) = subst IsPlain e fits in
+    absurd (omega (arith, plain.0))
 long_from (units.Load kind rd r i) rs1 imm fits e = ((cc), (cc))
 long_from (units.Store kind r rs2 i) rs1 imm fits e = ((cc), (cc))
 long_from (units.Branch cond r rs2 off) rs1 imm fits e = absurd (cc)
@@ -168,7 +165,7 @@ long_from units.Service rs1 imm fits e = absurd (cc)
 
 -- a unit begins so, or is one instruction
 pub long_or_short : (unit : CodeUnit) → IsUnit unit →
-  ((rs1 : ℕ) × (imm : ℤ) × IsFree rs1 × (first_insn unit ≡ insns.OpImm Addi 31 rs1 imm)) ⊎ (insns_of unit ≡ first_insn unit ∷ [])
+    ((rs1 : ℕ) × (imm : ℤ) × IsFree rs1 × (first_insn unit ≡ insns.OpImm Addi 31 rs1 imm)) ⊎ (insns_of unit ≡ first_insn unit ∷ [])
 long_or_short (units.Plain insn) fits = inr refl
 long_or_short (units.Load kind rd r i) fits = inl (r, i, fits.1, refl)
 long_or_short (units.Store kind r rs2 i) fits = inl (r, i, fits.0, refl)

@@ -49,7 +49,7 @@ pub fn words_by(link: bool, rs1: u32, imm: i32, slot: u32) -> [u32; WORDS]
 // The slot that words 3 and 4 of a check address, and any number where they address none.
 fn slot_of(high: u32, low: u32) -> u32
     ensures { (slot : ℕ) → slot < SLOTS → high ≡ word_of (high_insn slot) →
-              low ≡ word_of (low_insn slot) → result ≡ slot }
+        low ≡ word_of (low_insn slot) → result ≡ slot }
 {
     upper(high).wrapping_add(imm_i(low)).wrapping_sub(BARY) / 4
 }

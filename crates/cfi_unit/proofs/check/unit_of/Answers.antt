@@ -29,9 +29,9 @@ returns-else-begins_with-clause-only c = λ link slot begins.
     let fits : FitsSigned w32 imm = c.ranges.imm in
     let words = simp to_z-of_z at c.words_by.ensures in
     let spelled : c.words_by.result ≡ words_of unit =
-      words ∙ ap (λ l. words_of (units.Check l rs1 imm c.slot_of-slot.result)) linked
-      ∙ ap (λ s. words_of (units.Check link rs1 imm s)) read in
+    words ∙ ap (λ l. words_of (units.Check l rs1 imm c.slot_of-slot.result)) linked
+    ∙ ap (λ s. words_of (units.Check link rs1 imm s)) read in
     let begun : take (length c.words_by.result) c.args.words.now ≡ c.words_by.result =
-      ap (λ ws. take (length ws) c.args.words.now) spelled ∙ begins.spelled ∙ sym spelled in
+    ap (λ ws. take (length ws) c.args.words.now) spelled ∙ begins.spelled ∙ sym spelled in
     let held : IsTrue c.begins_with.result = c.begins_with.ensures.1 begun in
     absurd (cc)

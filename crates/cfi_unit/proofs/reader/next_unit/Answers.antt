@@ -1,10 +1,10 @@
 -- The first instruction of a unit that begins at the place is the one that was decoded.
-use Rattle.std.proofs.Common.{◌≡◌, ◌∷◌, [], inl, inr, Some, None, ap, sym, subst, ◌∙◌, ◌-◌, length, take, drop, length-drop, rules, FitsSigned}
+use Rattle.std.proofs.Common.{◌≡◌, inl, inr, Some, None, ap, sym, subst, ◌∙◌, ◌-◌, length, take, drop, length-drop, rules, FitsSigned}
 use Rattle.std.specs.Int.{w32}
 use Rattle.std.proofs.lemmas.Int.{to_z-of_z}
 use Rattle.rv_insn.specs.declared.insn.Insn.TheVariants as insns
 use Rattle.rv_insn.specs.declared.insn.ImmOp.TheVariants.{Addi}
-use Rattle.cfi_unit.specs.Unit.{insns_of, size_of}
+use Rattle.cfi_unit.specs.Unit.{size_of}
 use Rattle.std.proofs.Math.Seq.{take-length}
 use Rattle.cfi_unit.specs.Code.{BeginsAt}
 use Rattle.cfi_unit.proofs.UnitLemmas.{first_insn, long_from, long_or_short}
@@ -28,7 +28,7 @@ returns-in-Some-clause-only c = λ unit begins.
     let only = simp to_z-of_z at c.long_of.ensures.only in
     let rest = drop c.args.at c.args.words.now in
     let whole : rest ≡ take (length c.args.words.now - c.args.at) rest =
-      sym (take-length rest) ∙ ap (λ n. take n rest) (length-drop c.args.at c.args.words.now) in
+    sym (take-length rest) ∙ ap (λ n. take n rest) (length-drop c.args.at c.args.words.now) in
     only unit long (subst (λ ws. BeginsAt ws 0 unit) whole begins)
 
 pub returns-in_err-single_of-clause-only : goal.returns-in_err-single_of-clause-only
@@ -36,8 +36,8 @@ returns-in_err-single_of-clause-only c = λ unit begins.
     let first = BeginsAt-first c.args.words.now c.args.at unit begins in
     let read : Some c.in_ok-insn.insn ≡ Some (first_insn unit) = c.in_ok-insn.ensures.only (first_insn unit) first in
     elim (long_or_short unit begins.fits) [
-      inl l ↦ absurd (c.in_default.not-Some (l.0, l.1) (c.place_of.ensures.only l.0 l.1 l.2 (cc)))
-    | inr s ↦ (let none : None ≡ Some unit = c.in_err-single_of.ensures.only unit begins.fits (cc) in absurd (cc))
+      | inl l ↦ absurd (c.in_default.not-Some (l.0, l.1) (c.place_of.ensures.only l.0 l.1 l.2 (cc)))
+      | inr s ↦ (let none : None ≡ Some unit = c.in_err-single_of.ensures.only unit begins.fits (cc) in absurd (cc))
     ]
 
 pub returns-clause-only : goal.returns-clause-only
@@ -45,9 +45,9 @@ returns-clause-only c = λ unit begins.
     let first = BeginsAt-first c.args.words.now c.args.at unit begins in
     let read : Some c.in_ok-insn.insn ≡ Some (first_insn unit) = c.in_ok-insn.ensures.only (first_insn unit) first in
     elim (long_or_short unit begins.fits) [
-      inl l ↦ absurd (c.in_default.not-Some (l.0, l.1) (c.place_of.ensures.only l.0 l.1 l.2 (cc)))
-    | inr s ↦
-        (let same : Some c.in_ok-single_of.field-0 ≡ Some unit = c.in_ok-single_of.ensures.only unit begins.fits (cc) in
-        let size : size_of unit ≡ 1 = ap length s in
-        cc)
+      | inl l ↦ absurd (c.in_default.not-Some (l.0, l.1) (c.place_of.ensures.only l.0 l.1 l.2 (cc)))
+      | inr s ↦
+          (let same : Some c.in_ok-single_of.field-0 ≡ Some unit = c.in_ok-single_of.ensures.only unit begins.fits (cc) in
+          let size : size_of unit ≡ 1 = ap length s in
+          cc)
     ]
