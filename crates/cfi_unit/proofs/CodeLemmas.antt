@@ -27,10 +27,12 @@ length-words_of unit = length-map word_of (insns_of unit)
 pub BeginsAt-split : (words : List ℕ) (at : ℕ) (unit : CodeUnit) → BeginsAt words at unit →
     drop at words ≡ words_of unit ++ drop (size_of unit) (drop at words)
 BeginsAt-split words at unit begins =
-    sym (take-append-drop (size_of unit) (drop at words)) ∙ ap (λ ws. ws ++ drop (size_of unit) (drop at words)) begins.spelled
+    sym (take-append-drop (size_of unit) (drop at words)) ∙ ap (λ ws. ws ++ drop (size_of unit) (drop at words))
+    begins.spelled
 
 -- the unit that begins at a place is the one that its words can begin
-pub BeginsAt-unit_at : (words : List ℕ) (at : ℕ) (unit : CodeUnit) → BeginsAt words at unit → unit_at (drop at words) ≡ Some unit
+pub BeginsAt-unit_at : (words : List ℕ) (at : ℕ) (unit : CodeUnit) → BeginsAt words at unit →
+    unit_at (drop at words) ≡ Some unit
 BeginsAt-unit_at words at unit begins =
     ap unit_at (BeginsAt-split words at unit begins)
     ∙ unit_at-append unit (drop (size_of unit) (drop at words)) begins.fits
@@ -43,7 +45,8 @@ BeginsAt-one words at u v p q =
     cc
 
 -- a unit ends within the words
-pub BeginsAt-within : (words : List ℕ) (at : ℕ) (unit : CodeUnit) → BeginsAt words at unit → at + size_of unit ≤ length words
+pub BeginsAt-within : (words : List ℕ) (at : ℕ) (unit : CodeUnit) → BeginsAt words at unit →
+    at + size_of unit ≤ length words
 BeginsAt-within words at unit begins =
     let size = length-words_of unit in
     let whole = ap length begins.spelled in
@@ -69,7 +72,8 @@ pub BeginsAt-first : (words : List ℕ) (at : ℕ) (unit : CodeUnit) → BeginsA
     IsWord (first_insn unit) (get_or words at 0)
 BeginsAt-first words at unit begins =
     let place : at + 0 ≡ at = omega arith in
-    subst (λ k. IsWord (first_insn unit) (get_or words k 0)) place (BeginsAt-word words at unit begins 0 insns.Ecall (size_pos unit))
+    subst (λ k. IsWord (first_insn unit) (get_or words k 0)) place
+    (BeginsAt-word words at unit begins 0 insns.Ecall (size_pos unit))
 
 -- the code of no unit, and of one more before the others
 pub UnitCode-cons : (words : List ℕ) (unit : CodeUnit) (code : List CodeUnit) → BeginsAt words 0 unit →
@@ -94,11 +98,13 @@ UnitCode-first words unit code h =
     )
 
 -- code before code is code
-AllByRecursion-append : (us vs : List CodeUnit) → AllByRecursion IsUnit us → AllByRecursion IsUnit vs → AllByRecursion IsUnit (us ++ vs)
+AllByRecursion-append : (us vs : List CodeUnit) → AllByRecursion IsUnit us → AllByRecursion IsUnit vs →
+    AllByRecursion IsUnit (us ++ vs)
 AllByRecursion-append [] vs p q = q
 AllByRecursion-append (u ∷ us) vs p q = (p.0, AllByRecursion-append us vs p.1 q)
 
-pub UnitCode-append : (xs ys : List ℕ) (us vs : List CodeUnit) → UnitCode xs us → UnitCode ys vs → UnitCode (xs ++ ys) (us ++ vs)
+pub UnitCode-append : (xs ys : List ℕ) (us vs : List CodeUnit) → UnitCode xs us → UnitCode ys vs →
+    UnitCode (xs ++ ys) (us ++ vs)
 UnitCode-append xs ys us vs p q = record {
   fit = AllByRecursion-append us vs p.fit q.fit;
   spelled = (let a = p.spelled in let b = q.spelled in let e = flat_map-append words_of us vs in cc);
@@ -119,6 +125,7 @@ UnitCode-one words (u ∷ us) (v ∷ vs) p q =
     let a = UnitCode-first words u us p in
     let b = UnitCode-first words v vs q in
     let same : u ≡ v = BeginsAt-one words 0 u v a.0 b.0 in
-    let rest : UnitCode (drop (size_of u) words) vs = subst (λ w. UnitCode (drop (size_of w) words) vs) (sym same) b.1 in
+    let rest : UnitCode (drop (size_of u) words) vs = subst (λ w. UnitCode (drop (size_of w) words) vs) (sym same) b.1
+    in
     let others = UnitCode-one (drop (size_of u) words) us vs a.1 rest in
     cc

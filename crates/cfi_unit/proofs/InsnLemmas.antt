@@ -28,7 +28,8 @@ insns_at-append (insn ∷ insns) words all =
     ∙ ap (λ is. insn ∷ is) (insns_at-append insns words all.1)
 
 -- each word of a list is its instruction
-pub insn_of-words : (insns : List Insn) → AllByRecursion InRange insns → map insn_of (map word_of insns) ≡ map (λ i. Some i) insns
+pub insn_of-words : (insns : List Insn) → AllByRecursion InRange insns →
+    map insn_of (map word_of insns) ≡ map (λ i. Some i) insns
 insn_of-words [] all = refl
 insn_of-words (insn ∷ insns) all =
     ap (λ o. o ∷ map insn_of (map word_of insns)) (insn_of-word_of insn all.0)

@@ -79,9 +79,11 @@ check-first_of : (link : Bool) (rs1 : ℕ) (imm : ℤ) (slot : ℕ) (rest : List
     unit_of (check link rs1 imm slot ++ rest) ≡ Some (units.Check link rs1 imm slot)
 check-first_of link rs1 imm slot rest e =
     let low = signed-bits (2 ^ 11) (bary_address slot % 2 ^ 12) (omega arith) in
-    ap (λ l. Some (units.Check l rs1 imm (slot_in (high_part (bary_address slot)) (low_bits (2 ^ 12) (low_part (bary_address slot))))))
+    ap (λ l. Some (units.Check l rs1 imm (slot_in (high_part (bary_address slot))
+    (low_bits (2 ^ 12) (low_part (bary_address slot))))))
     e
-    ∙ ap (λ s. Some (units.Check link rs1 imm s)) (slot_in-is slot (low_bits (2 ^ 12) (low_part (bary_address slot))) low)
+    ∙ ap (λ s. Some (units.Check link rs1 imm s)) (slot_in-is slot (low_bits (2 ^ 12) (low_part (bary_address slot)))
+    low)
 
 pub unit_of-insns_of : (unit : CodeUnit) (rest : List Insn) → IsUnit unit → unit_of (insns_of unit ++ rest) ≡ Some unit
 unit_of-insns_of (units.Plain insn) rest fits = ap (λ u. Some u) (plain-first_of insn (insn ∷ rest) fits)
@@ -105,8 +107,19 @@ plain-range insn plain = absurd plain
 
 masked-range : (rs1 : ℕ) (imm : ℤ) (access : Insn) → IsFree rs1 → IsSigned (2 ^ 11) imm → InRange access →
     AllByRecursion InRange (masked rs1 imm access)
-masked-range rs1 imm access free short range =
-    ((omega arith, omega arith, short), ((omega arith, omega arith, omega arith), ((omega arith, omega arith, omega arith), ((omega arith, omega arith), ((omega arith, omega arith, omega arith), (range, tt))))))
+masked-range rs1 imm access free short range = (
+  (omega arith, omega arith, short),
+  (
+    (omega arith, omega arith, omega arith),
+    (
+      (omega arith, omega arith, omega arith),
+      (
+        (omega arith, omega arith),
+        ((omega arith, omega arith, omega arith), (range, tt)),
+      ),
+    ),
+  ),
+)
 
 link_register_fits : (link : Bool) → link_register link < 32
 link_register_fits true = omega arith
@@ -115,8 +128,43 @@ link_register_fits false = omega arith
 check-range : (link : Bool) (rs1 : ℕ) (imm : ℤ) (slot : ℕ) → IsFree rs1 → IsSigned (2 ^ 11) imm → slot < SLOTS →
     AllByRecursion InRange (check link rs1 imm slot)
 check-range link rs1 imm slot free short within =
-    let low = signed-range (2 ^ 11) (bary_address slot % 2 ^ 12) (omega arith) in
-    ((omega arith, omega arith, short), ((omega arith, omega arith, omega arith), ((omega arith, omega arith, omega arith, omega arith), ((omega arith, omega arith), ((omega arith, omega arith, low), ((omega arith, omega arith), ((omega arith, omega arith, omega arith), ((omega arith, omega arith, omega arith), ((omega arith, omega arith, omega arith, omega arith), ((omega arith, omega arith, omega arith), ((omega arith, omega arith, omega arith), ((omega arith, omega arith, omega arith, omega arith), (tt, ((link_register_fits link, omega arith, omega arith), tt))))))))))))))
+    let low = signed-range (2 ^ 11) (bary_address slot % 2 ^ 12) (omega arith) in (
+      (omega arith, omega arith, short),
+      (
+        (omega arith, omega arith, omega arith),
+        (
+          (omega arith, omega arith, omega arith, omega arith),
+          (
+            (omega arith, omega arith),
+            (
+              (omega arith, omega arith, low),
+              (
+                (omega arith, omega arith),
+                (
+                  (omega arith, omega arith, omega arith),
+                  (
+                    (omega arith, omega arith, omega arith),
+                    (
+                      (omega arith, omega arith, omega arith, omega arith),
+                      (
+                        (omega arith, omega arith, omega arith),
+                        (
+                          (omega arith, omega arith, omega arith),
+                          (
+                            (omega arith, omega arith, omega arith, omega arith),
+                            (tt, ((link_register_fits link, omega arith, omega arith), tt)),
+                          ),
+                        ),
+                      ),
+                    ),
+                  ),
+                ),
+              ),
+            ),
+          ),
+        ),
+      ),
+    )
 
 pub IsUnit-range : (unit : CodeUnit) → IsUnit unit → AllByRecursion InRange (insns_of unit)
 IsUnit-range (units.Plain insn) fits = (plain-range insn fits, tt)
@@ -165,7 +213,8 @@ long_from units.Service rs1 imm fits e = absurd (cc)
 
 -- a unit begins so, or is one instruction
 pub long_or_short : (unit : CodeUnit) → IsUnit unit →
-    ((rs1 : ℕ) × (imm : ℤ) × IsFree rs1 × (first_insn unit ≡ insns.OpImm Addi 31 rs1 imm)) ⊎ (insns_of unit ≡ first_insn unit ∷ [])
+    ((rs1 : ℕ) × (imm : ℤ) × IsFree rs1 × (first_insn unit ≡ insns.OpImm Addi 31 rs1 imm)) ⊎
+    (insns_of unit ≡ first_insn unit ∷ [])
 long_or_short (units.Plain insn) fits = inr refl
 long_or_short (units.Load kind rd r i) fits = inl (r, i, fits.1, refl)
 long_or_short (units.Store kind r rs2 i) fits = inl (r, i, fits.0, refl)

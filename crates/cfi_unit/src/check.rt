@@ -14,7 +14,8 @@ use rv_insn::{ImmOp, Insn, encode};
 /// The number of words of a check.
 pub const WORDS: usize = 14;
 
-// The words of a check: the target into x31, the range test, the two IDs, their comparison, the retry, the halt, the jump.
+// The words of a check: the target into x31, its range test, the two IDs and their comparison, the retry, the halt, the
+// jump.
 pub fn words_by(link: bool, rs1: u32, imm: i32, slot: u32) -> [u32; WORDS]
     requires fits { IsUnit (units.Check link rs1 imm slot) }
     ensures { result ≡ words_of (units.Check link rs1 imm slot) }
@@ -56,7 +57,8 @@ fn slot_of(high: u32, low: u32) -> u32
 
 // Whether the last word of a check links.
 fn link_of(last: u32) -> bool
-    ensures { (link : Bool) → last ≡ word_of (insns.Jalr (link_register link) 31 (pos 0)) → result ≡ link }
+    ensures { (link : Bool) → last ≡ word_of (insns.Jalr (link_register link) 31 (pos 0)) →
+        result ≡ link }
 {
     (last >> 7) % 2 == 1
 }

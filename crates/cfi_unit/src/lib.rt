@@ -1,4 +1,4 @@
-//! The units of instrumented code, and the words that spell them; and what machines that run units log and are answered.
+//! The units of instrumented code, the words that spell them, and what machines that run units log and are answered.
 //!
 //! Stands on `rv_insn`. Proved: `next_unit` and `spell` are the spellings of `specs/Unit.antt` both ways, and a list of
 //! words is the code of at most one list of units. Only tested: the spellings against an assembler. Open: nothing.

@@ -54,7 +54,8 @@ fn access_of(access: Insn, rs1: u32, imm: i32) -> Option<Unit>
     ensures some { IfSome result (λ unit. IsUnit unit × (insns_of unit ≡ masked rs1 imm access)) }
     ensures load { (kind : LoadKind) (rd : ℕ) → IsFree rd → access ≡ insns.Load kind rd 31 (pos 0) →
         result ≡ Some (units.Load kind rd rs1 imm) }
-    ensures store { (kind : StoreKind) (rs2 : ℕ) → IsFree rs2 → access ≡ insns.Store kind 31 rs2 (pos 0) →
+    ensures store { (kind : StoreKind) (rs2 : ℕ) → IsFree rs2 →
+        access ≡ insns.Store kind 31 rs2 (pos 0) →
         result ≡ Some (units.Store kind rs1 rs2 imm) }
 {
     match access {
@@ -87,7 +88,8 @@ pub fn unit_of(words: &[u32], rs1: u32, imm: i32) -> Option<Unit>
     ensures size { IfSome result (λ unit. size_of unit ≡ WORDS) }
     ensures load { (kind : LoadKind) (rd : ℕ) → BeginsAt words.now 0 (units.Load kind rd rs1 imm) →
         result ≡ Some (units.Load kind rd rs1 imm) }
-    ensures store { (kind : StoreKind) (rs2 : ℕ) → BeginsAt words.now 0 (units.Store kind rs1 rs2 imm) →
+    ensures store { (kind : StoreKind) (rs2 : ℕ) →
+        BeginsAt words.now 0 (units.Store kind rs1 rs2 imm) →
         result ≡ Some (units.Store kind rs1 rs2 imm) }
 {
     if words.len() < WORDS {

@@ -16,7 +16,8 @@ use rv_insn::{ImmOp, Insn, decode};
 fn single_of(insn: Insn) -> Option<Unit>
     requires { InRange insn }
     ensures some { IfSome result (λ unit. IsUnit unit × (insns_of unit ≡ insn ∷ [])) }
-    ensures only { (unit : CodeUnit) → IsUnit unit → insns_of unit ≡ insn ∷ [] → result ≡ Some unit }
+    ensures only { (unit : CodeUnit) → IsUnit unit → insns_of unit ≡ insn ∷ [] →
+        result ≡ Some unit }
 {
     match insn {
         Insn::Lui { rd, .. } | Insn::Auipc { rd, .. } if is_free(rd) => Some(Unit::Plain(insn)),
@@ -85,7 +86,8 @@ pub fn next_unit(words: &[u32], at: u32) -> Option<(Unit, u32)>
     requires within { at ≤ length words.now }
     ensures some { IfSome result (λ found. BeginsAt words.now at found.0) }
     ensures size { IfSome result (λ found. found.1 ≡ size_of found.0) }
-    ensures only { (unit : CodeUnit) → BeginsAt words.now at unit → result ≡ Some (unit, size_of unit) }
+    ensures only { (unit : CodeUnit) → BeginsAt words.now at unit →
+        result ≡ Some (unit, size_of unit) }
 {
     let at = at as usize;
     if at == words.len() {

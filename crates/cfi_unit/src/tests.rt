@@ -190,7 +190,7 @@ fn masked_accesses(rt: HostRuntime) -> Result<(), Fail> {
             0x00028f93, 0x00cf9f93, 0x00cfdf93, 0x40000f37, 0x01efefb3, last,
         ];
         assert_eq!(rt; next_unit(&words, 0), unit.map(|unit| (unit, 6)), "{text}");
-        if let Some(unit) = unit {
+        if let Some((unit, _)) = next_unit(&words, 0) {
             let mut spelled = Vec::new(rt.alloc());
             spell(&unit, &mut spelled)?;
             assert_eq!(rt; spelled.as_slice(), words.as_slice(), "{text}");

@@ -42,8 +42,8 @@ pub enum Unit {
         link: bool,
         off: i32,
     },
-    /// A jump to `rs1` and `imm`, from -2048 to 2047, where the IDs of the branch's slot and of the target agree. One that
-    /// links puts the address after it into x1.
+    /// A jump to `rs1` and `imm`, from -2048 to 2047, where the IDs of the branch's slot and of the target agree. One
+    /// that links puts the address after it into x1.
     Check {
         link: bool,
         rs1: u32,

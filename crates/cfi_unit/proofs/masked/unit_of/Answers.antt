@@ -26,7 +26,8 @@ returns-in_err-unit-clause-load c = λ kind rd begins.
     let unit = units.Load kind rd c.args.rs1 c.args.imm in
     let sixth = BeginsAt-word c.args.words.now 0 unit begins 5 insns.Ecall (omega arith) in
     let fits : FitsSigned w32 c.args.imm = c.ranges.imm in
-    let read : Some c.in_ok-access.access ≡ Some (insns.Load kind rd 31 (pos 0)) = c.in_ok-access.ensures.only _ sixth in
+    let read : Some c.in_ok-access.access ≡ Some (insns.Load kind rd 31 (pos 0)) = c.in_ok-access.ensures.only _ sixth
+    in
     let none = simp to_z-of_z at (c.in_err-unit.ensures.load kind rd begins.fits.0 (cc)) in
     absurd (cc)
 
@@ -35,6 +36,7 @@ returns-in_err-unit-clause-store c = λ kind rs2 begins.
     let unit = units.Store kind c.args.rs1 rs2 c.args.imm in
     let sixth = BeginsAt-word c.args.words.now 0 unit begins 5 insns.Ecall (omega arith) in
     let fits : FitsSigned w32 c.args.imm = c.ranges.imm in
-    let read : Some c.in_ok-access.access ≡ Some (insns.Store kind 31 rs2 (pos 0)) = c.in_ok-access.ensures.only _ sixth in
+    let read : Some c.in_ok-access.access ≡ Some (insns.Store kind 31 rs2 (pos 0)) = c.in_ok-access.ensures.only _
+    sixth in
     let none = simp to_z-of_z at (c.in_err-unit.ensures.store kind rs2 begins.fits.1 (cc)) in
     absurd (cc)

@@ -47,7 +47,8 @@ returns-clause-only c = λ unit begins.
     elim (long_or_short unit begins.fits) [
       | inl l ↦ absurd (c.in_default.not-Some (l.0, l.1) (c.place_of.ensures.only l.0 l.1 l.2 (cc)))
       | inr s ↦
-          (let same : Some c.in_ok-single_of.field-0 ≡ Some unit = c.in_ok-single_of.ensures.only unit begins.fits (cc) in
+          (let same : Some c.in_ok-single_of.field-0 ≡ Some unit = c.in_ok-single_of.ensures.only unit begins.fits
+          (cc) in
           let size : size_of unit ≡ 1 = ap length s in
           cc)
     ]
