@@ -1,15 +1,19 @@
 -- Where units begin, and the code of a list of units.
-use Rattle.std.proofs.Common.{◌≡◌, ℕ, ◌+◌, ◌≤◌, List, [], ◌∷◌, ◌++◌, map, length, take, drop, get_or, Some, refl, ap, sym, subst, ◌∙◌, arith, length-take, length-drop, get_or-drop}
+use Rattle.std.proofs.Common.{◌≡◌, ℕ, ◌<◌, ◌+◌, ◌≤◌, List, [], ◌∷◌, ◌++◌, map, length, take, drop, get_or, Some, refl, ap, sym, subst, ◌∙◌, arith, length-take, length-drop, get_or-drop, get_or-take}
 use Rattle.std.specs.List.{flat_map, AllByRecursion}
 use Rattle.std.proofs.lemmas.List.{take-append-drop}
 use Rattle.std.proofs.lemmas.List.Concat.{flat_map-append}
 use Rattle.std.proofs.Math.Seq.{drop-append_seam, take-append_seam}
 use Rattle.rv_insn.specs.declared.insn.Insn.{Insn}
-use Rattle.rv_insn.specs.Insn.{InRange, word_of, IsWord}
+use Rattle.rv_insn.specs.declared.insn.Insn.TheVariants as insns
+use Rattle.rv_insn.specs.Insn.{word_of, IsWord}
 use Rattle.cfi_unit.specs.declared.unit.Unit.{Unit as CodeUnit}
 use Rattle.cfi_unit.specs.Unit.{IsUnit, insns_of, words_of, size_of}
 use Rattle.cfi_unit.specs.Code.{BeginsAt, UnitCode}
-use Rattle.cfi_unit.proofs.UnitLemmas.{unit_at, unit_at-append, size_pos, IsUnit-range}
+use Rattle.rv_insn.specs.InsnOf.{insn_of}
+use Rattle.rv_insn.proofs.InsnOfLemmas.{insn_of-IsWord}
+use Rattle.cfi_unit.proofs.InsnLemmas.{IsWord-get}
+use Rattle.cfi_unit.proofs.UnitLemmas.{unit_at, unit_at-append, size_pos, IsUnit-range, first_insn}
 
 -- there are as many words as instructions
 length-map : {X Y : Type 0} (f : X → Y) (xs : List X) → length (map f xs) ≡ length xs
@@ -23,10 +27,12 @@ length-words_of unit = length-map word_of (insns_of unit)
 pub BeginsAt-split : (words : List ℕ) (at : ℕ) (unit : CodeUnit) → BeginsAt words at unit →
     drop at words ≡ words_of unit ++ drop (size_of unit) (drop at words)
 BeginsAt-split words at unit begins =
-    sym (take-append-drop (size_of unit) (drop at words)) ∙ ap (λ ws. ws ++ drop (size_of unit) (drop at words)) begins.spelled
+    sym (take-append-drop (size_of unit) (drop at words)) ∙ ap (λ ws. ws ++ drop (size_of unit) (drop at words))
+    begins.spelled
 
 -- the unit that begins at a place is the one that its words can begin
-pub BeginsAt-unit_at : (words : List ℕ) (at : ℕ) (unit : CodeUnit) → BeginsAt words at unit → unit_at (drop at words) ≡ Some unit
+pub BeginsAt-unit_at : (words : List ℕ) (at : ℕ) (unit : CodeUnit) → BeginsAt words at unit →
+    unit_at (drop at words) ≡ Some unit
 BeginsAt-unit_at words at unit begins =
     ap unit_at (BeginsAt-split words at unit begins)
     ∙ unit_at-append unit (drop (size_of unit) (drop at words)) begins.fits
@@ -39,37 +45,35 @@ BeginsAt-one words at u v p q =
     cc
 
 -- a unit ends within the words
-pub BeginsAt-within : (words : List ℕ) (at : ℕ) (unit : CodeUnit) → BeginsAt words at unit → at + size_of unit ≤ length words
+pub BeginsAt-within : (words : List ℕ) (at : ℕ) (unit : CodeUnit) → BeginsAt words at unit →
+    at + size_of unit ≤ length words
 BeginsAt-within words at unit begins =
     let size = length-words_of unit in
     let whole = ap length begins.spelled in
     let some = size_pos unit in
     omega (arith, length-take (size_of unit) (drop at words), length-drop at words)
 
--- where a unit of one instruction begins, its word is that instruction
-pub one_insn : (unit : CodeUnit) → IsUnit unit → size_of unit ≡ 1 → (insn : Insn) × InRange insn × (insns_of unit ≡ insn ∷ [])
-one_insn unit fits one = from (insns_of unit) (IsUnit-range unit fits) one
-  where
-    from : (is : List Insn) → AllByRecursion InRange is → length is ≡ 1 → (insn : Insn) × InRange insn × (is ≡ insn ∷ [])
-    from [] all e = absurd (omega arith)
-    from (i ∷ []) all e = (i, all.0, refl)
-    from (i ∷ j ∷ is) all e = absurd (omega arith)
+-- where a unit begins, its instructions stand one after the other
+pub BeginsAt-word : (words : List ℕ) (at : ℕ) (unit : CodeUnit) → BeginsAt words at unit → (k : ℕ) (d : Insn) →
+    k < size_of unit → IsWord (get_or (insns_of unit) k d) (get_or words (at + k) 0)
+BeginsAt-word words at unit begins k d h =
+    let word : get_or words (at + k) 0 ≡ get_or (words_of unit) k 0 =
+    sym (get_or-drop at words k 0) ∙ sym (get_or-take (size_of unit) (drop at words) k 0 h)
+    ∙ ap (λ ws. get_or ws k 0) begins.spelled in
+    subst (IsWord (get_or (insns_of unit) k d)) (sym word)
+    (IsWord-get (insns_of unit) (IsUnit-range unit begins.fits) k d h)
 
--- the head of a list that begins with one element
-first_of : (words : List ℕ) (x : ℕ) → take 1 words ≡ x ∷ [] → get_or words 0 0 ≡ x
-first_of [] x e = absurd (cc)
-first_of (y ∷ ys) x e = cc
+pub BeginsAt-insn : (words : List ℕ) (at : ℕ) (unit : CodeUnit) → BeginsAt words at unit → (k : ℕ) (d : Insn) →
+    k < size_of unit → insn_of (get_or words (at + k) 0) ≡ Some (get_or (insns_of unit) k d)
+BeginsAt-insn words at unit begins k d h =
+    insn_of-IsWord (get_or (insns_of unit) k d) (get_or words (at + k) 0) (BeginsAt-word words at unit begins k d h)
 
-pub BeginsAt-first : (words : List ℕ) (at : ℕ) (unit : CodeUnit) → BeginsAt words at unit → size_of unit ≡ 1 →
-    (insn : Insn) × IsWord insn (get_or words at 0) × (insns_of unit ≡ insn ∷ [])
-BeginsAt-first words at unit begins one =
-    let p = one_insn unit begins.fits one in
-    let Begins : List Insn → Type 0 = λ is. take (length is) (drop at words) ≡ map word_of is in
-    let head : take 1 (drop at words) ≡ word_of p.0 ∷ [] = subst Begins p.2 begins.spelled in
-    let place : at ≡ at + 0 = omega arith in
-    let word : get_or words at 0 ≡ word_of p.0 =
-    ap (λ k. get_or words k 0) place ∙ sym (get_or-drop at words 0 0) ∙ first_of (drop at words) (word_of p.0) head in
-    (p.0, record { range = p.1; spelled = word }, p.2)
+pub BeginsAt-first : (words : List ℕ) (at : ℕ) (unit : CodeUnit) → BeginsAt words at unit →
+    IsWord (first_insn unit) (get_or words at 0)
+BeginsAt-first words at unit begins =
+    let place : at + 0 ≡ at = omega arith in
+    subst (λ k. IsWord (first_insn unit) (get_or words k 0)) place
+    (BeginsAt-word words at unit begins 0 insns.Ecall (size_pos unit))
 
 -- the code of no unit, and of one more before the others
 pub UnitCode-cons : (words : List ℕ) (unit : CodeUnit) (code : List CodeUnit) → BeginsAt words 0 unit →
@@ -94,11 +98,13 @@ UnitCode-first words unit code h =
     )
 
 -- code before code is code
-AllByRecursion-append : (us vs : List CodeUnit) → AllByRecursion IsUnit us → AllByRecursion IsUnit vs → AllByRecursion IsUnit (us ++ vs)
+AllByRecursion-append : (us vs : List CodeUnit) → AllByRecursion IsUnit us → AllByRecursion IsUnit vs →
+    AllByRecursion IsUnit (us ++ vs)
 AllByRecursion-append [] vs p q = q
 AllByRecursion-append (u ∷ us) vs p q = (p.0, AllByRecursion-append us vs p.1 q)
 
-pub UnitCode-append : (xs ys : List ℕ) (us vs : List CodeUnit) → UnitCode xs us → UnitCode ys vs → UnitCode (xs ++ ys) (us ++ vs)
+pub UnitCode-append : (xs ys : List ℕ) (us vs : List CodeUnit) → UnitCode xs us → UnitCode ys vs →
+    UnitCode (xs ++ ys) (us ++ vs)
 UnitCode-append xs ys us vs p q = record {
   fit = AllByRecursion-append us vs p.fit q.fit;
   spelled = (let a = p.spelled in let b = q.spelled in let e = flat_map-append words_of us vs in cc);
@@ -119,6 +125,7 @@ UnitCode-one words (u ∷ us) (v ∷ vs) p q =
     let a = UnitCode-first words u us p in
     let b = UnitCode-first words v vs q in
     let same : u ≡ v = BeginsAt-one words 0 u v a.0 b.0 in
-    let rest : UnitCode (drop (size_of u) words) vs = subst (λ w. UnitCode (drop (size_of w) words) vs) (sym same) b.1 in
+    let rest : UnitCode (drop (size_of u) words) vs = subst (λ w. UnitCode (drop (size_of w) words) vs) (sym same) b.1
+    in
     let others = UnitCode-one (drop (size_of u) words) us vs a.1 rest in
     cc

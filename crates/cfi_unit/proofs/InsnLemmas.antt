@@ -1,8 +1,8 @@
 -- Lists of instructions and their words.
-use Rattle.std.proofs.Common.{◌≡◌, ℕ, List, [], ◌∷◌, ◌++◌, map, Option, Some, None, refl, ap, ◌∙◌}
+use Rattle.std.proofs.Common.{◌≡◌, ℕ, zero, suc, ◌<◌, length, get_or, arith, List, [], ◌∷◌, ◌++◌, map, Option, Some, None, refl, ap, ◌∙◌}
 use Rattle.std.specs.List.{AllByRecursion}
 use Rattle.rv_insn.specs.declared.insn.Insn.{Insn}
-use Rattle.rv_insn.specs.Insn.{InRange, word_of}
+use Rattle.rv_insn.specs.Insn.{InRange, IsWord, word_of}
 use Rattle.rv_insn.specs.InsnOf.{insn_of}
 use Rattle.rv_insn.proofs.InsnOfLemmas.{insn_of-IsWord}
 
@@ -28,8 +28,16 @@ insns_at-append (insn ∷ insns) words all =
     ∙ ap (λ is. insn ∷ is) (insns_at-append insns words all.1)
 
 -- each word of a list is its instruction
-pub insn_of-words : (insns : List Insn) → AllByRecursion InRange insns → map insn_of (map word_of insns) ≡ map (λ i. Some i) insns
+pub insn_of-words : (insns : List Insn) → AllByRecursion InRange insns →
+    map insn_of (map word_of insns) ≡ map (λ i. Some i) insns
 insn_of-words [] all = refl
 insn_of-words (insn ∷ insns) all =
     ap (λ o. o ∷ map insn_of (map word_of insns)) (insn_of-word_of insn all.0)
     ∙ ap (λ os. Some insn ∷ os) (insn_of-words insns all.1)
+
+-- a word of a list is the instruction at its place
+pub IsWord-get : (insns : List Insn) → AllByRecursion InRange insns → (k : ℕ) (d : Insn) → k < length insns →
+    IsWord (get_or insns k d) (get_or (map word_of insns) k 0)
+IsWord-get [] all k d h = absurd (omega arith)
+IsWord-get (insn ∷ insns) all zero d h = record { range = all.0; spelled = refl }
+IsWord-get (insn ∷ insns) all (suc k) d h = IsWord-get insns all.1 k d (omega arith)

@@ -1,3 +1,4 @@
 pub mod InsnLemmas
+pub mod SlotLemmas
 pub mod UnitLemmas
 pub mod CodeLemmas

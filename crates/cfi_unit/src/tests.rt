@@ -1,6 +1,6 @@
 use crate::laws::{one_code, one_unit, unit_within};
-use crate::{Unit, next_unit, spell};
-use rv_insn::{Cond, ImmOp, Insn, Op};
+use crate::{Answer, Bytes, Fill, Log, Stop, Unit, next_unit, spell};
+use rv_insn::{Cond, ImmOp, Insn, LoadKind, Op, StoreKind};
 use std::test::Fail;
 
 fn op_imm(op: ImmOp, rd: u32, rs1: u32, imm: i32) -> Option<Unit> {
@@ -114,6 +114,126 @@ fn units_of_one_word(rt: HostRuntime) {
     }
     assert_eq!(rt; next_unit(&[], 0), None, "no word");
     assert_eq!(rt; next_unit(&[0x73], 1), None, "the end");
+}
+
+// The sixth word of a masked access at `0(x5)`, by the same assembler.
+#[test]
+fn masked_accesses(rt: HostRuntime) -> Result<(), Fail> {
+    let rows = [
+        (
+            0x000fa283,
+            Some(Unit::Load {
+                kind: LoadKind::Lw,
+                rd: 5,
+                rs1: 5,
+                imm: 0,
+            }),
+            "lw x5,0(x31)",
+        ),
+        (
+            0x000f8d83,
+            Some(Unit::Load {
+                kind: LoadKind::Lb,
+                rd: 27,
+                rs1: 5,
+                imm: 0,
+            }),
+            "lb x27,0(x31)",
+        ),
+        (
+            0x000fd003,
+            Some(Unit::Load {
+                kind: LoadKind::Lhu,
+                rd: 0,
+                rs1: 5,
+                imm: 0,
+            }),
+            "lhu x0,0(x31)",
+        ),
+        (
+            0x007fa023,
+            Some(Unit::Store {
+                kind: StoreKind::Sw,
+                rs1: 5,
+                rs2: 7,
+                imm: 0,
+            }),
+            "sw x7,0(x31)",
+        ),
+        (
+            0x01bf8023,
+            Some(Unit::Store {
+                kind: StoreKind::Sb,
+                rs1: 5,
+                rs2: 27,
+                imm: 0,
+            }),
+            "sb x27,0(x31)",
+        ),
+        (
+            0x000f9023,
+            Some(Unit::Store {
+                kind: StoreKind::Sh,
+                rs1: 5,
+                rs2: 0,
+                imm: 0,
+            }),
+            "sh x0,0(x31)",
+        ),
+        (0x000fae03, None, "lw x28,0(x31)"),
+        (0x01cfa023, None, "sw x28,0(x31)"),
+        (0x004fa283, None, "lw x5,4(x31)"),
+        (0x000f2283, None, "lw x5,0(x30)"),
+    ];
+    for (last, unit, text) in rows {
+        let words = [
+            0x00028f93, 0x00cf9f93, 0x00cfdf93, 0x40000f37, 0x01efefb3, last,
+        ];
+        assert_eq!(rt; next_unit(&words, 0), unit.map(|unit| (unit, 6)), "{text}");
+        if let Some((unit, _)) = next_unit(&words, 0) {
+            let mut spelled = Vec::new(rt.alloc());
+            spell(&unit, &mut spelled)?;
+            assert_eq!(rt; spelled.as_slice(), words.as_slice(), "{text}");
+        }
+    }
+    let masks = [
+        0x00028f93, 0x00df9f93, 0x00dfdf93, 0x40000f37, 0x01efefb3, 0x000fa283,
+    ];
+    assert_eq!(rt; next_unit(&masks, 0), None, "slli x31,x31,13");
+    Ok(())
+}
+
+// What machines log and are answered is plain data.
+#[test]
+fn answers(rt: HostRuntime) -> Result<(), Fail> {
+    let fills = [Fill {
+        at: 0x40000000,
+        bytes: Bytes::from_vec(vec![in rt.alloc(); 1, 2]?),
+    }];
+    let answer = Answer {
+        address: 0x40,
+        cause: 0,
+        policy: 1,
+        fills: &fills,
+    };
+    assert_eq!(rt; answer.fills[0].bytes.as_slice(), [1, 2].as_slice());
+    let entry = Log::Open {
+        module: 2,
+        address: answer.address,
+        policy: answer.policy,
+    };
+    assert_eq!(rt;
+        entry,
+        Log::Open {
+            module: 2,
+            address: 0x40,
+            policy: 1
+        }
+    );
+    assert_ne!(rt; Stop::Exit(0), Stop::Fuel);
+    let [fill] = fills;
+    assert_eq!(rt; fill.bytes.into_vec().len(), 2);
+    Ok(())
 }
 
 #[test]

@@ -1,7 +1,13 @@
-use rv_insn::{Cond, Insn};
+use rv_insn::{Cond, Insn, LoadKind, StoreKind};
 
 /// A guest's own instructions name x0 to x27 alone; x28 to x31 belong to the instrumentation.
 pub const FREE_REGISTERS: u32 = 28;
+
+/// Slots of branches are below this: so many checks fit into the code's 65,536 words.
+pub const SLOTS: u32 = 4_682;
+
+/// The address of the Bary ID of slot 0; that of slot b is 4 b after it.
+pub const BARY: u32 = 0x2000_0000;
 
 /// A unit of code: what a guest's program counter never stands inside.
 ///
@@ -10,6 +16,20 @@ pub const FREE_REGISTERS: u32 = 28;
 pub enum Unit {
     /// An instruction on registers alone.
     Plain(Insn),
+    /// A masked load of `rd` from `rs1` and `imm`, from -2048 to 2047, brought into private data.
+    Load {
+        kind: LoadKind,
+        rd: u32,
+        rs1: u32,
+        imm: i32,
+    },
+    /// A masked store of `rs2` to `rs1` and `imm`, from -2048 to 2047, brought into private data.
+    Store {
+        kind: StoreKind,
+        rs1: u32,
+        rs2: u32,
+        imm: i32,
+    },
     /// A conditional branch, `off` from -4096 to 4094.
     Branch {
         cond: Cond,
@@ -21,6 +41,14 @@ pub enum Unit {
     Jump {
         link: bool,
         off: i32,
+    },
+    /// A jump to `rs1` and `imm`, from -2048 to 2047, where the IDs of the branch's slot and of the target agree. One
+    /// that links puts the address after it into x1.
+    Check {
+        link: bool,
+        rs1: u32,
+        imm: i32,
+        slot: u32,
     },
     /// A call of the environment.
     Service,

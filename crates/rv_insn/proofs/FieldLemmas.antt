@@ -54,13 +54,15 @@ pub i_word-fields : (opcode rd funct3 rs1 : ℕ) (imm : ℤ) → opcode < 128 �
     (word : ℕ) → word ≡ i_word opcode rd funct3 rs1 imm →
     HasFields word opcode rd funct3 rs1 (low_bits (2 ^ 12) imm % 32) (low_bits (2 ^ 12) imm / 32)
 i_word-fields opcode rd funct3 rs1 imm o d f r word e =
-    word_by-fields opcode rd funct3 rs1 (low_bits (2 ^ 12) imm % 32) (low_bits (2 ^ 12) imm / 32) o d f r (omega arith) word e
+    word_by-fields opcode rd funct3 rs1 (low_bits (2 ^ 12) imm % 32) (low_bits (2 ^ 12) imm / 32) o d f r
+    (omega arith) word e
 
 pub s_word-fields : (opcode funct3 rs1 rs2 : ℕ) (imm : ℤ) → opcode < 128 → funct3 < 8 → rs1 < 32 → rs2 < 32 →
     (word : ℕ) → word ≡ s_word opcode funct3 rs1 rs2 imm →
     HasFields word opcode (low_bits (2 ^ 12) imm % 32) funct3 rs1 rs2 (low_bits (2 ^ 12) imm / 32)
 s_word-fields opcode funct3 rs1 rs2 imm o f r s word e =
-    word_by-fields opcode (low_bits (2 ^ 12) imm % 32) funct3 rs1 rs2 (low_bits (2 ^ 12) imm / 32) o (omega arith) f r s word e
+    word_by-fields opcode (low_bits (2 ^ 12) imm % 32) funct3 rs1 rs2 (low_bits (2 ^ 12) imm / 32) o (omega arith) f r
+    s word e
 
 pub b_word-fields : (opcode funct3 rs1 rs2 : ℕ) (off : ℤ) → opcode < 128 → funct3 < 8 → rs1 < 32 → rs2 < 32 →
     (word : ℕ) → word ≡ b_word opcode funct3 rs1 rs2 off →

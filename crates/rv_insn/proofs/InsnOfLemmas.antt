@@ -121,11 +121,14 @@ branch-is : (cond : Cond) (rs1 rs2 : ℕ) (off : ℤ) (word : ℕ) → IsWord (i
 branch-is cond rs1 rs2 off word w =
     let f = fields_at word in
     let r = w.range in
-    let h = b_word-fields opcodes.BRANCH (cond_funct3 cond) rs1 rs2 off (omega arith) (cond_below cond) r.0 r.1 word w.spelled in
-    let offset = imm_b-at word opcodes.BRANCH (cond_funct3 cond) rs1 rs2 off (omega arith) (cond_below cond) r.0 r.1 r.2 r.3
+    let h = b_word-fields opcodes.BRANCH (cond_funct3 cond) rs1 rs2 off (omega arith) (cond_below cond) r.0 r.1 word
+    w.spelled in
+    let offset = imm_b-at word opcodes.BRANCH (cond_funct3 cond) rs1 rs2 off (omega arith) (cond_below cond) r.0 r.1
+    r.2 r.3
     w.spelled in
     insn_of-by word opcodes.BRANCH h.2.opcode_is
-    ∙ same4 branch_row f.funct3 (cond_funct3 cond) f.rs1 rs1 f.rs2 rs2 (imm_b_at word) off h.2.funct3_is h.2.rs1_is h.2.rs2_is
+    ∙ same4 branch_row f.funct3 (cond_funct3 cond) f.rs1 rs1 f.rs2 rs2 (imm_b_at word) off h.2.funct3_is h.2.rs1_is
+    h.2.rs2_is
     offset
     ∙ branch_row-is cond rs1 rs2 off
 
@@ -134,10 +137,13 @@ load-is : (kind : LoadKind) (rd rs1 : ℕ) (imm : ℤ) (word : ℕ) → IsWord (
 load-is kind rd rs1 imm word w =
     let f = fields_at word in
     let r = w.range in
-    let h = i_word-fields opcodes.LOAD rd (load_funct3 kind) rs1 imm (omega arith) r.0 (load_below kind) r.1 word w.spelled in
-    let offset = imm_i-at word opcodes.LOAD rd (load_funct3 kind) rs1 imm (omega arith) r.0 (load_below kind) r.1 r.2 w.spelled in
+    let h = i_word-fields opcodes.LOAD rd (load_funct3 kind) rs1 imm (omega arith) r.0 (load_below kind) r.1 word
+    w.spelled in
+    let offset = imm_i-at word opcodes.LOAD rd (load_funct3 kind) rs1 imm (omega arith) r.0 (load_below kind) r.1 r.2
+    w.spelled in
     insn_of-by word opcodes.LOAD h.opcode_is
-    ∙ same4 load_row f.funct3 (load_funct3 kind) f.rd rd f.rs1 rs1 (imm_i_at word) imm h.funct3_is h.rd_is h.rs1_is offset
+    ∙ same4 load_row f.funct3 (load_funct3 kind) f.rd rd f.rs1 rs1 (imm_i_at word) imm h.funct3_is h.rd_is h.rs1_is
+    offset
     ∙ load_row-is kind rd rs1 imm
 
 store-is : (kind : StoreKind) (rs1 rs2 : ℕ) (imm : ℤ) (word : ℕ) → IsWord (insns.Store kind rs1 rs2 imm) word →
@@ -145,11 +151,14 @@ store-is : (kind : StoreKind) (rs1 rs2 : ℕ) (imm : ℤ) (word : ℕ) → IsWor
 store-is kind rs1 rs2 imm word w =
     let f = fields_at word in
     let r = w.range in
-    let h = s_word-fields opcodes.STORE (store_funct3 kind) rs1 rs2 imm (omega arith) (store_below kind) r.0 r.1 word w.spelled in
-    let offset = imm_s-at word opcodes.STORE (store_funct3 kind) rs1 rs2 imm (omega arith) (store_below kind) r.0 r.1 r.2
+    let h = s_word-fields opcodes.STORE (store_funct3 kind) rs1 rs2 imm (omega arith) (store_below kind) r.0 r.1 word
+    w.spelled in
+    let offset = imm_s-at word opcodes.STORE (store_funct3 kind) rs1 rs2 imm (omega arith) (store_below kind) r.0 r.1
+    r.2
     w.spelled in
     insn_of-by word opcodes.STORE h.opcode_is
-    ∙ same4 store_row f.funct3 (store_funct3 kind) f.rs1 rs1 f.rs2 rs2 (imm_s_at word) imm h.funct3_is h.rs1_is h.rs2_is offset
+    ∙ same4 store_row f.funct3 (store_funct3 kind) f.rs1 rs1 f.rs2 rs2 (imm_s_at word) imm h.funct3_is h.rs1_is
+    h.rs2_is offset
     ∙ store_row-is kind rs1 rs2 imm
 
 op-is : (op : Op) (rd rs1 rs2 : ℕ) (word : ℕ) → IsWord (insns.Op op rd rs1 rs2) word →
@@ -157,16 +166,19 @@ op-is : (op : Op) (rd rs1 rs2 : ℕ) (word : ℕ) → IsWord (insns.Op op rd rs1
 op-is op rd rs1 rs2 word w =
     let f = fields_at word in
     let r = w.range in
-    let h = word_by-fields opcodes.OP rd (op_funct3 op) rs1 rs2 (op_funct7 op) (omega arith) r.0 (op_below op).0 r.1 r.2 word
+    let h = word_by-fields opcodes.OP rd (op_funct3 op) rs1 rs2 (op_funct7 op) (omega arith) r.0 (op_below op).0 r.1
+    r.2 word
     w.spelled in
     insn_of-by word opcodes.OP h.opcode_is
-    ∙ same5 op_row f.funct3 (op_funct3 op) f.funct7 (op_funct7 op) f.rd rd f.rs1 rs1 f.rs2 rs2 h.funct3_is h.funct7_is h.rd_is
+    ∙ same5 op_row f.funct3 (op_funct3 op) f.funct7 (op_funct7 op) f.rd rd f.rs1 rs1 f.rs2 rs2 h.funct3_is h.funct7_is
+    h.rd_is
     h.rs1_is h.rs2_is
     ∙ op_row-is op rd rs1 rs2
 
 -- an operation that looks at funct3 alone
 plain-is : (op : ImmOp) (rd rs1 : ℕ) (imm : ℤ) (word : ℕ) →
-    ((funct7 rd rs1 rs2 : ℕ) (imm : ℤ) → imm_row (imm_funct3 op) funct7 rd rs1 rs2 imm ≡ Some (insns.OpImm op rd rs1 imm)) →
+    ((funct7 rd rs1 rs2 : ℕ) (imm : ℤ) → imm_row (imm_funct3 op) funct7 rd rs1 rs2 imm ≡ Some
+    (insns.OpImm op rd rs1 imm)) →
     rd < 32 → rs1 < 32 → IsSigned (2 ^ 11) imm → word ≡ i_word opcodes.OP_IMM rd (imm_funct3 op) rs1 imm →
     insn_of word ≡ Some (insns.OpImm op rd rs1 imm)
 plain-is op rd rs1 imm word row d s range e =
@@ -180,14 +192,17 @@ plain-is op rd rs1 imm word row d s range e =
 
 -- a shift, which looks at funct7 too
 shift-is : (op : ImmOp) (rd rs1 n funct7 : ℕ) (word : ℕ) →
-    ((rd rs1 rs2 : ℕ) (imm : ℤ) → imm_row (imm_funct3 op) funct7 rd rs1 rs2 imm ≡ Some (insns.OpImm op rd rs1 (pos rs2))) →
+    ((rd rs1 rs2 : ℕ) (imm : ℤ) → imm_row (imm_funct3 op) funct7 rd rs1 rs2 imm ≡ Some
+    (insns.OpImm op rd rs1 (pos rs2))) →
     rd < 32 → rs1 < 32 → n < 32 → word ≡ word_by opcodes.OP_IMM rd (imm_funct3 op) rs1 n funct7 →
     insn_of word ≡ Some (insns.OpImm op rd rs1 (pos n))
 shift-is op rd rs1 n funct7 word row d s range e =
     let f = fields_at word in
-    let h = word_by-fields opcodes.OP_IMM rd (imm_funct3 op) rs1 n funct7 (omega arith) d (imm_op_below op) s range word e in
+    let h = word_by-fields opcodes.OP_IMM rd (imm_funct3 op) rs1 n funct7 (omega arith) d (imm_op_below op) s range
+    word e in
     insn_of-by word opcodes.OP_IMM h.opcode_is
-    ∙ same5 (λ funct3 funct7 rd rs1 rs2. imm_row funct3 funct7 rd rs1 rs2 (imm_i_at word)) f.funct3 (imm_funct3 op) f.funct7
+    ∙ same5 (λ funct3 funct7 rd rs1 rs2. imm_row funct3 funct7 rd rs1 rs2 (imm_i_at word)) f.funct3 (imm_funct3 op)
+    f.funct7
     funct7 f.rd rd f.rs1 rs1 f.rs2 n h.funct3_is h.funct7_is h.rd_is h.rs1_is h.rs2_is
     ∙ row rd rs1 n (imm_i_at word)
 

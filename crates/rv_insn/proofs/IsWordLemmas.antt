@@ -27,7 +27,8 @@ found p (y ∷ ys) x e =
     ]
 
 -- what a map over an option gives comes from its value
-mapped : {X Y : Type 0} (f : X → Y) (o : Option X) (y : Y) → option_map f o ≡ Some y → (x : X) × (o ≡ Some x) × (f x ≡ y)
+mapped : {X Y : Type 0} (f : X → Y) (o : Option X) (y : Y) → option_map f o ≡ Some y →
+    (x : X) × (o ≡ Some x) × (f x ≡ y)
 mapped f None y e = absurd (cc)
 mapped f (Some x) y e = (x, refl, (cc))
 
@@ -58,7 +59,8 @@ branch-spelled : (cond : Cond) (word : ℕ) → word < 2 ^ 32 → word % 2 ^ 7 �
     cond_funct3 cond ≡ word / 2 ^ 12 % 8 →
     IsWord (insns.Branch cond (word / 2 ^ 15 % 32) (word / 2 ^ 20 % 32) (imm_b_at word)) word
 branch-spelled cond word fits o row =
-    let n = 2 * (word / 2 ^ 8 % 16) + 2 ^ 5 * (word / 2 ^ 25 % 64) + 2 ^ 11 * (word / 2 ^ 7 % 2) + 2 ^ 12 * (word / 2 ^ 31) in
+    let n = 2 * (word / 2 ^ 8 % 16) + 2 ^ 5 * (word / 2 ^ 25 % 64) + 2 ^ 11 * (word / 2 ^ 7 % 2) + 2 ^ 12 *
+    (word / 2 ^ 31) in
     let below : n < 2 * 2 ^ 12 = omega arith in
     let bits : low_bits (2 ^ 13) (imm_b_at word) ≡ n = signed-bits (2 ^ 12) n below in
     record {
@@ -66,7 +68,8 @@ branch-spelled cond word fits o row =
       spelled = omega arith;
     }
 
-branch-word : (word : ℕ) (insn : Insn) → word < 2 ^ 32 → word % 2 ^ 7 ≡ opcodes.BRANCH → row_of opcodes.BRANCH word ≡ Some insn →
+branch-word : (word : ℕ) (insn : Insn) → word < 2 ^ 32 → word % 2 ^ 7 ≡ opcodes.BRANCH →
+    row_of opcodes.BRANCH word ≡ Some insn →
     IsWord insn word
 branch-word word insn fits o e =
     let f = fields_at word in
@@ -85,12 +88,14 @@ load-spelled kind word fits o row =
       spelled = omega arith;
     }
 
-load-word : (word : ℕ) (insn : Insn) → word < 2 ^ 32 → word % 2 ^ 7 ≡ opcodes.LOAD → row_of opcodes.LOAD word ≡ Some insn →
+load-word : (word : ℕ) (insn : Insn) → word < 2 ^ 32 → word % 2 ^ 7 ≡ opcodes.LOAD →
+    row_of opcodes.LOAD word ≡ Some insn →
     IsWord insn word
 load-word word insn fits o e =
     let f = fields_at word in
     let m = mapped (λ kind. insns.Load kind f.rd f.rs1 (imm_i_at word)) (load_at f.funct3) insn e in
-    let row = eqb-true (load_funct3 m.0) f.funct3 (found (λ kind. eqb (load_funct3 kind) f.funct3) load_kinds m.0 m.1) in
+    let row = eqb-true (load_funct3 m.0) f.funct3 (found (λ kind. eqb (load_funct3 kind) f.funct3) load_kinds m.0 m.1)
+    in
     subst (λ i. IsWord i word) m.2 (load-spelled m.0 word fits o row)
 
 store-spelled : (kind : StoreKind) (word : ℕ) → word < 2 ^ 32 → word % 2 ^ 7 ≡ opcodes.STORE →
@@ -105,12 +110,14 @@ store-spelled kind word fits o row =
       spelled = omega arith;
     }
 
-store-word : (word : ℕ) (insn : Insn) → word < 2 ^ 32 → word % 2 ^ 7 ≡ opcodes.STORE → row_of opcodes.STORE word ≡ Some insn →
+store-word : (word : ℕ) (insn : Insn) → word < 2 ^ 32 → word % 2 ^ 7 ≡ opcodes.STORE →
+    row_of opcodes.STORE word ≡ Some insn →
     IsWord insn word
 store-word word insn fits o e =
     let f = fields_at word in
     let m = mapped (λ kind. insns.Store kind f.rs1 f.rs2 (imm_s_at word)) (store_at f.funct3) insn e in
-    let row = eqb-true (store_funct3 m.0) f.funct3 (found (λ kind. eqb (store_funct3 kind) f.funct3) store_kinds m.0 m.1) in
+    let row = eqb-true (store_funct3 m.0) f.funct3 (found (λ kind. eqb (store_funct3 kind) f.funct3) store_kinds m.0
+    m.1) in
     subst (λ i. IsWord i word) m.2 (store-spelled m.0 word fits o row)
 
 op-spelled : (op : Op) (word : ℕ) → word < 2 ^ 32 → word % 2 ^ 7 ≡ opcodes.OP →
@@ -131,7 +138,8 @@ op-word word insn fits o e =
     subst (λ i. IsWord i word) m.2 (op-spelled m.0 word fits o (eqb-true _ _ both.0) (eqb-true _ _ both.1))
 
 -- an operation on an immediate: a shift has a row of funct7, the others the whole immediate
-imm-spelled : (op : ImmOp) (seven : Option ℕ) (word : ℕ) → imm_funct7 op ≡ seven → word < 2 ^ 32 → word % 2 ^ 7 ≡ opcodes.OP_IMM →
+imm-spelled : (op : ImmOp) (seven : Option ℕ) (word : ℕ) → imm_funct7 op ≡ seven → word < 2 ^ 32 →
+    word % 2 ^ 7 ≡ opcodes.OP_IMM →
     imm_funct3 op ≡ word / 2 ^ 12 % 8 → allows_funct7 seven (word / 2 ^ 25) ≡ true →
     (IsImmOf seven (imm_value seven (imm_i_at word) (word / 2 ^ 20 % 32))) × (word ≡ imm_word seven (word / 2 ^ 7 % 32)
     (imm_funct3 op) (word / 2 ^ 15 % 32) (imm_value seven (imm_i_at word) (word / 2 ^ 20 % 32)))
@@ -143,11 +151,13 @@ imm-spelled op (Some n) word at fits o row allowed =
     let seven : n ≡ word / 2 ^ 25 = eqb-true n (word / 2 ^ 25) allowed in
     (omega arith, omega arith)
 
-imm-word : (word : ℕ) (insn : Insn) → word < 2 ^ 32 → word % 2 ^ 7 ≡ opcodes.OP_IMM → row_of opcodes.OP_IMM word ≡ Some insn →
+imm-word : (word : ℕ) (insn : Insn) → word < 2 ^ 32 → word % 2 ^ 7 ≡ opcodes.OP_IMM →
+    row_of opcodes.OP_IMM word ≡ Some insn →
     IsWord insn word
 imm-word word insn fits o e =
     let f = fields_at word in
-    let m = mapped (λ op. insns.OpImm op f.rd f.rs1 (imm_value (imm_funct7 op) (imm_i_at word) f.rs2)) (imm_op_at f.funct3 f.funct7)
+    let m = mapped (λ op. insns.OpImm op f.rd f.rs1 (imm_value (imm_funct7 op) (imm_i_at word) f.rs2))
+    (imm_op_at f.funct3 f.funct7)
     insn e in
     let both = and_parts (eqb (imm_funct3 m.0) f.funct3) (allows_funct7 (imm_funct7 m.0) f.funct7)
     (found (λ op. eqb (imm_funct3 op) f.funct3 && allows_funct7 (imm_funct7 op) f.funct7) imm_ops m.0 m.1) in
@@ -155,7 +165,8 @@ imm-word word insn fits o e =
     subst (λ i. IsWord i word) m.2 (record { range = (omega arith, omega arith, h.0); spelled = h.1 })
 
 -- the rows with one mnemonic
-jalr-word : (word : ℕ) (insn : Insn) → word < 2 ^ 32 → word % 2 ^ 7 ≡ opcodes.JALR → row_of opcodes.JALR word ≡ Some insn →
+jalr-word : (word : ℕ) (insn : Insn) → word < 2 ^ 32 → word % 2 ^ 7 ≡ opcodes.JALR →
+    row_of opcodes.JALR word ≡ Some insn →
     IsWord insn word
 jalr-word word insn fits o e =
     let f = fields_at word in
@@ -172,7 +183,8 @@ jalr-word word insn fits o e =
       | inr n ↦ (let h = rw n at e in absurd (cc))
     ]
 
-fence-word : (word : ℕ) (insn : Insn) → word < 2 ^ 32 → word % 2 ^ 7 ≡ opcodes.FENCE → row_of opcodes.FENCE word ≡ Some insn →
+fence-word : (word : ℕ) (insn : Insn) → word < 2 ^ 32 → word % 2 ^ 7 ≡ opcodes.FENCE →
+    row_of opcodes.FENCE word ≡ Some insn →
     IsWord insn word
 fence-word word insn fits o e =
     let f = fields_at word in
@@ -191,7 +203,8 @@ jal-word : (word : ℕ) (insn : Insn) → word < 2 ^ 32 → word % 2 ^ 7 ≡ opc
     IsWord insn word
 jal-word word insn fits o e =
     let f = fields_at word in
-    let n = 2 * (word / 2 ^ 21 % 1024) + 2 ^ 11 * (word / 2 ^ 20 % 2) + 2 ^ 12 * (word / 2 ^ 12 % 256) + 2 ^ 20 * (word / 2 ^ 31) in
+    let n = 2 * (word / 2 ^ 21 % 1024) + 2 ^ 11 * (word / 2 ^ 20 % 2) + 2 ^ 12 * (word / 2 ^ 12 % 256) + 2 ^ 20 *
+    (word / 2 ^ 31) in
     let below : n < 2 * 2 ^ 20 = omega arith in
     let bits : low_bits (2 ^ 21) (imm_j_at word) ≡ n = signed-bits (2 ^ 20) n below in
     let same : insns.Jal f.rd (imm_j_at word) ≡ insn = cc in
@@ -207,7 +220,8 @@ lui-word word insn fits o e =
     let same : insns.Lui f.rd (imm_u_at word) ≡ insn = cc in
     subst (λ i. IsWord i word) same (record { range = (omega arith, omega arith); spelled = omega arith })
 
-auipc-word : (word : ℕ) (insn : Insn) → word < 2 ^ 32 → word % 2 ^ 7 ≡ opcodes.AUIPC → row_of opcodes.AUIPC word ≡ Some insn →
+auipc-word : (word : ℕ) (insn : Insn) → word < 2 ^ 32 → word % 2 ^ 7 ≡ opcodes.AUIPC →
+    row_of opcodes.AUIPC word ≡ Some insn →
     IsWord insn word
 auipc-word word insn fits o e =
     let f = fields_at word in

@@ -37,4 +37,5 @@ imm_u_at word = word / 2 ^ 12
 -- the offset of form J
 abbrev pub imm_j_at : ℕ → ℤ
 imm_j_at word = signed (2 ^ 20)
-    (2 * (word / 2 ^ 21 % 1024) + 2 ^ 11 * (word / 2 ^ 20 % 2) + 2 ^ 12 * (word / 2 ^ 12 % 256) + 2 ^ 20 * (word / 2 ^ 31))
+    (2 * (word / 2 ^ 21 % 1024) + 2 ^ 11 * (word / 2 ^ 20 % 2) + 2 ^ 12 * (word / 2 ^ 12 % 256) + 2 ^ 20 *
+    (word / 2 ^ 31))

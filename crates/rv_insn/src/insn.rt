@@ -91,8 +91,8 @@ pub enum Op {
 
 /// An instruction of RV32I (RISC-V Unprivileged ISA 20191213, 2).
 ///
-/// Registers are numbers below 32. A signed immediate is the number that its field holds, sign extended; an offset is in
-/// bytes from the instruction's own address, and even.
+/// Registers are numbers below 32. A signed immediate is the number that its field holds, sign extended; an offset is
+/// in bytes from the instruction's own address, and even.
 #[derive(Clone, Copy, Debug, PartialEq, Eq)]
 pub enum Insn {
     /// `imm`, below 2^20, is bits 12 to 31 of what `rd` gets.

@@ -32,5 +32,6 @@ pub fn one_meaning()
 
 /// What `insn_of` answers of a word, the word is.
 pub fn meaning_is_exact()
-    ensures { (word : ℕ) (insn : Insn) → word < 2 ^ 32 → insn_of word ≡ Some insn → IsWord insn word }
+    ensures { (word : ℕ) (insn : Insn) →
+        word < 2 ^ 32 → insn_of word ≡ Some insn → IsWord insn word }
 {}
