@@ -2,9 +2,9 @@
 use Rattle.std.proofs.Common.{◌≡◌, ◌≢◌, ℕ, ◌+◌, ◌*◌, ◌-◌, ◌/◌, ◌%◌, ◌^◌, ◌<◌, ◌≤◌, ℤ, pos, negsuc, Bool, true, false, List, length, refl, sym, ◌∙◌, ap, subst, arith, cond}
 use Rattle.rv_insn.specs.declared.insn.Cond.{Cond}
 use Rattle.cfi_unit.specs.declared.unit.Unit.{Unit as CodeUnit}
-use Rattle.cfi_unit.specs.declared.unit.Unit.TheVariants.{Plain, Branch, Jump, Service}
-use Rattle.cfi_unit.specs.Code.{BeginsAt}
-use Rattle.cfi_unit.proofs.CodeLemmas.{BeginsAt-one}
+use Rattle.cfi_unit.specs.declared.unit.Unit.TheVariants.{Plain, Load, Store, Branch, Jump, Check, Service}
+use Rattle.cfi_top.specs.Single.{IsSingleAt}
+use Rattle.cfi_top.proofs.SingleLemmas.{one_unit}
 use Rattle.cfi_top.specs.Target.{LeadsTo, IsTarget}
 use Rattle.cfi_top.specs.Machine.{State, StandsAt, effect, displaced, after}
 use Rattle.cfi_top.specs.Verify.{IsClosed, MayLead, LeadsInside}
@@ -31,15 +31,15 @@ pub record Place (words : List ℕ) (s : State) (unit : CodeUnit) : Type 0 where
   pub small : length words ≤ MAX_WORDS
   pub closed : IsClosed words
   pub start : IsStart words s.pc
-  pub begins : BeginsAt words (s.pc / 4 - BASE) unit
+  pub begins : IsSingleAt words (s.pc / 4 - BASE) unit
 
 -- a unit that is no jump without link is not the last
 not_last : (words : List ℕ) (s : State) (unit : CodeUnit) → Place words s unit
     → ((off : ℤ) → unit ≢ Jump false off) → s.pc / 4 - BASE + 1 < length words
 not_last words s unit p other =
     let apart : (s.pc / 4 - BASE) ≢ (length words - 1) = λ e.
-    other p.closed.ends.0 (BeginsAt-one words (length words - 1) unit (Jump false p.closed.ends.0)
-    (let P : ℕ → Type 0 = λ at. BeginsAt words at unit in subst P e p.begins) p.closed.ends.1) in
+    other p.closed.ends.0 (one_unit words (length words - 1) unit (Jump false p.closed.ends.0)
+    (let P : ℕ → Type 0 = λ at. IsSingleAt words at unit in subst P e p.begins) p.closed.ends.1) in
     omega (arith, p.closed.some, p.start.within)
 
 -- the place after a unit that is no jump without link
@@ -81,15 +81,18 @@ start_kept words s (Jump true off) p =
 start_kept words s (Jump false off) p =
     let far = leads_well words s (Jump false off) p in
     far_start words s _ off far.0 p far.1.within far.1.leads
+start_kept words s (Load kind rd rs1 imm) p = absurd (omega (arith, p.begins.one))
+start_kept words s (Store kind rs1 rs2 imm) p = absurd (omega (arith, p.begins.one))
+start_kept words s (Check link rs1 imm slot) p = absurd (omega (arith, p.begins.one))
 start_kept words s Service p = next_start words s _ p (λ off e. cc)
 
 -- the same, at an address
 pub unit_leads : (words : List ℕ) (pc : ℕ) (unit : CodeUnit) → length words ≤ MAX_WORDS → IsClosed words
-    → IsStart words pc → BeginsAt words (pc / 4 - BASE) unit → (s : State) → s.pc ≡ pc
+    → IsStart words pc → IsSingleAt words (pc / 4 - BASE) unit → (s : State) → s.pc ≡ pc
     → IsStart words (effect unit s).pc
 unit_leads words pc unit small closed start begins s is =
     let Start : ℕ → Type 0 = λ a. IsStart words a in
-    let Begins : ℕ → Type 0 = λ a. BeginsAt words (a / 4 - BASE) unit in
+    let Begins : ℕ → Type 0 = λ a. IsSingleAt words (a / 4 - BASE) unit in
     start_kept words s unit (record {
       small = small;
       closed = closed;

@@ -2,3 +2,4 @@ pub mod ClosedLemmas
 pub mod WordsLemmas
 pub mod VerifyLemmas
 pub mod TopLemmas
+pub mod SingleLemmas

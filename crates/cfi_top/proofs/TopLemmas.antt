@@ -12,7 +12,7 @@ use Rattle.cfi_top.specs.declared.verifier.VerifyFault.TheVariants.{Empty, Illeg
 use Rattle.cfi_top.specs.Verify.{IsClosed, IsFirstFault}
 use Rattle.cfi_top.specs.Bare.{HasWords, IsAccepted, IsFirstRefusal}
 use Rattle.cfi_top.specs.Top.{Ends, IsRefused, IsValid}
-use Rattle.cfi_top.proofs.VerifyLemmas.{insn_at}
+use Rattle.cfi_top.proofs.SingleLemmas.{insn_at}
 
 -- status 5 says that the file was refused
 pub refused_of : (words : List (List ℕ)) (files : Option Files) (f f' m m' status : ℕ) (old new : Option (List ℕ))

@@ -1,10 +1,9 @@
 -- What one more word adds to what is known of the first words.
 use Rattle.std.proofs.Common.{◌≡◌, ℕ, ◌+◌, ◌<◌, List, length, get_or, Option, Some, None, arith, below_more, ◌-◌, true, false, ap, subst, sym, refl}
 use Rattle.cfi_unit.specs.declared.unit.Unit.{Unit as CodeUnit}
-use Rattle.cfi_unit.specs.Code.{BeginsAt}
-use Rattle.cfi_unit.proofs.CodeLemmas.{BeginsAt-one, BeginsAt-first}
-use Rattle.cfi_unit.specs.declared.unit.Unit.TheVariants.{Plain, Branch, Jump, Service}
-use Rattle.cfi_unit.specs.Unit.{size_of}
+use Rattle.cfi_top.specs.Single.{IsSingleAt}
+use Rattle.cfi_unit.specs.declared.unit.Unit.TheVariants.{Plain, Load, Store, Branch, Jump, Check, Service}
+use Rattle.cfi_top.proofs.SingleLemmas.{one_unit, insn_at}
 use Rattle.cfi_top.specs.Verify.{Below, FailsFirst, IsFirstFailure, IsInsnAt, HasUnitAt, LeadsWellAt, MayLead, IsSeen, first_of_two, EndsInJump, may_be_last}
 
 -- P holds of one more number
@@ -12,27 +11,15 @@ pub more : (n : ℕ) (P : ℕ → Type 0) (first : Option ℕ) → FailsFirst n 
 more n P None known here = below_more P n known here
 more n P (Some i) known here = record { within = omega (arith, known.within); fails = known.fails; before = known.before }
 
--- each unit is one word
-one_word : (unit : CodeUnit) → size_of unit ≡ 1
-one_word (Plain insn) = refl
-one_word (Branch cond rs1 rs2 off) = refl
-one_word (Jump link off) = refl
-one_word Service = refl
-
--- a unit begins with an instruction
-pub insn_at : (words : List ℕ) (at : ℕ) (unit : CodeUnit) → BeginsAt words at unit → IsInsnAt words at
-insn_at words at unit begins =
-    let first = BeginsAt-first words at unit begins (one_word unit) in (first.0, first.1)
-
 -- a unit that leads where it may
 pub seen_unit : (words : List ℕ) (at : ℕ) (not_unit stray : Option ℕ) (unit : CodeUnit)
-    → IsSeen words at not_unit stray → BeginsAt words at unit → MayLead (length words) at unit
+    → IsSeen words at not_unit stray → IsSingleAt words at unit → MayLead (length words) at unit
     → IsSeen words (at + 1) not_unit stray
 seen_unit words at not_unit stray unit seen begins leads = record {
   insns = below_more (IsInsnAt words) at seen.insns (insn_at words at unit begins);
   units = more at (HasUnitAt words) not_unit seen.units (unit, begins);
   leads = more at (LeadsWellAt words) stray seen.leads (λ u b.
-      let P : CodeUnit → Type 0 = λ v. MayLead (length words) at v in subst P (BeginsAt-one words at unit u begins b) leads);
+      let P : CodeUnit → Type 0 = λ v. MayLead (length words) at v in subst P (one_unit words at unit u begins b) leads);
 }
 
 -- P fails at the next number
@@ -47,7 +34,7 @@ fails_here n P (Some i) known fails next is =
 
 -- a unit that leads where it may not
 pub seen_stray : (words : List ℕ) (at : ℕ) (not_unit stray : Option ℕ) (unit : CodeUnit)
-    → IsSeen words at not_unit stray → BeginsAt words at unit → ¬ MayLead (length words) at unit
+    → IsSeen words at not_unit stray → IsSingleAt words at unit → ¬ MayLead (length words) at unit
     → (next : Option ℕ) → next ≡ first_of_two stray at → IsSeen words (at + 1) not_unit next
 seen_stray words at not_unit stray unit seen begins leads next is = record {
   insns = below_more (IsInsnAt words) at seen.insns (insn_at words at unit begins);
@@ -66,16 +53,19 @@ seen_insn words at not_unit stray seen insn none next is = record {
 }
 
 -- the last unit is one that may be last
-pub last_ends : (words : List ℕ) (unit : CodeUnit) → BeginsAt words (length words - 1) unit
+pub last_ends : (words : List ℕ) (unit : CodeUnit) → IsSingleAt words (length words - 1) unit
     → may_be_last unit ≡ true → EndsInJump words
 last_ends words (Plain insn) begins last = absurd (cc)
 last_ends words (Branch cond rs1 rs2 off) begins last = absurd (cc)
 last_ends words (Jump true off) begins last = absurd (cc)
 last_ends words (Jump false off) begins last = (off, begins)
+last_ends words (Load kind rd rs1 imm) begins last = absurd (cc)
+last_ends words (Store kind rs1 rs2 imm) begins last = absurd (cc)
+last_ends words (Check link rs1 imm slot) begins last = absurd (cc)
 last_ends words Service begins last = absurd (cc)
 
 -- where the words end in such a unit, the last unit is one
-pub ends_last : (words : List ℕ) (unit : CodeUnit) → BeginsAt words (length words - 1) unit
+pub ends_last : (words : List ℕ) (unit : CodeUnit) → IsSingleAt words (length words - 1) unit
     → EndsInJump words → may_be_last unit ≡ true
 ends_last words unit begins ends =
-    ap may_be_last (BeginsAt-one words (length words - 1) unit (Jump false ends.0) begins ends.1)
+    ap may_be_last (one_unit words (length words - 1) unit (Jump false ends.0) begins ends.1)

@@ -9,3 +9,4 @@ pub mod Bare
 pub mod Answer
 pub mod Words
 pub mod Top
+pub mod Single

@@ -7,7 +7,7 @@ use Rattle.rv_insn.specs.declared.insn.Insn.TheVariants.{Lui, Auipc, OpImm, Op}
 use Rattle.rv_alu.specs.Alu.{value_of_op, value_of_imm_op, takes}
 use Rattle.cfi_unit.specs.declared.unit.Unit.{Unit as CodeUnit}
 use Rattle.cfi_unit.specs.declared.unit.Unit.TheVariants.{Plain, Branch, Jump, Service}
-use Rattle.cfi_unit.specs.Code.{BeginsAt}
+use Rattle.cfi_top.specs.Single.{IsSingleAt}
 use Rattle.cfi_top.specs.declared.machine.TheConstants.{BASE, REGISTERS, STACK, MAX_OUTPUT, REFUSED, EXIT, PUT}
 
 -- x0 to x27, the address of the next unit, what was put, how many units and instructions were run, and the exit code
@@ -88,17 +88,18 @@ served s = record s {
   exit = if service s == EXIT then Some (argument s) else s.exit;
 }
 
--- what a unit does
+-- what a unit of one word does
 abbrev pub effect : CodeUnit → State → State
 effect (Plain insn) s = going_to (plain_effect insn s) (after s)
 effect (Branch cond rs1 rs2 off) s =
     going_to s (if takes cond (register s rs1) (register s rs2) then displaced s.pc off else after s)
 effect (Jump link off) s = going_to (with_register s (if link then 1 else 0) (after s)) (displaced s.pc off)
 effect Service s = going_to (served s) (after s)
+effect unit s = s
 
 -- a unit of the words begins at this address; word 0 of a file stands at the word BASE of the code
 abbrev pub StandsAt : (words : List ℕ) → (pc : ℕ) → CodeUnit → Type 0
-StandsAt words pc unit = (4 * BASE ≤ pc) × (pc % 4 ≡ 0) × BeginsAt words (pc / 4 - BASE) unit
+StandsAt words pc unit = (4 * BASE ≤ pc) × (pc % 4 ≡ 0) × IsSingleAt words (pc / 4 - BASE) unit
 
 -- one unit is run by a guest that has not ended
 pub record Steps (words : List ℕ) (old new : State) : Type 0 where

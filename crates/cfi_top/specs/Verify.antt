@@ -4,8 +4,8 @@ use Rattle.std.specs.Prelude.{◌≡◌, ℕ, ◌-◌, ◌<◌, ℤ, List, [], l
 use Rattle.rv_insn.specs.declared.insn.Insn.{Insn}
 use Rattle.rv_insn.specs.Insn.{IsWord}
 use Rattle.cfi_unit.specs.declared.unit.Unit.{Unit as CodeUnit}
-use Rattle.cfi_unit.specs.declared.unit.Unit.TheVariants.{Plain, Branch, Jump, Service}
-use Rattle.cfi_unit.specs.Code.{BeginsAt}
+use Rattle.cfi_unit.specs.declared.unit.Unit.TheVariants.{Branch, Jump}
+use Rattle.cfi_top.specs.Single.{IsSingleAt}
 use Rattle.cfi_top.specs.declared.verifier.VerifyFault.{VerifyFault}
 use Rattle.cfi_top.specs.declared.verifier.VerifyFault.TheVariants.{Empty, Illegal, NotUnit, FallsThrough, Target}
 use Rattle.cfi_top.specs.Target.{LeadsTo, IsTarget}
@@ -26,7 +26,7 @@ IsInsnAt words at = (insn : Insn) × IsWord insn (slice_index words at)
 
 -- a unit begins at the place
 abbrev pub HasUnitAt : List ℕ → ℕ → Type 0
-HasUnitAt words at = (unit : CodeUnit) × BeginsAt words at unit
+HasUnitAt words at = (unit : CodeUnit) × IsSingleAt words at unit
 
 -- a displacement leads to a word of the file
 abbrev pub LeadsInside : (words at : ℕ) → ℤ → Type 0
@@ -34,15 +34,14 @@ LeadsInside words at off = (to : ℕ) × IsTarget words at off to
 
 -- where a unit may lead: a branch to a unit, a jump that links to a function's first word, another jump to either
 abbrev pub MayLead : (words at : ℕ) → CodeUnit → Type 0
-MayLead words at (Plain insn) = ⊤
 MayLead words at (Branch cond rs1 rs2 off) = LeadsInside words at off
 MayLead words at (Jump true off) = LeadsTo at off 0
 MayLead words at (Jump false off) = LeadsInside words at off
-MayLead words at Service = ⊤
+MayLead words at unit = ⊤
 
 -- the unit at the place leads where it may
 abbrev pub LeadsWellAt : List ℕ → ℕ → Type 0
-LeadsWellAt words at = (unit : CodeUnit) → BeginsAt words at unit → MayLead (length words) at unit
+LeadsWellAt words at = (unit : CodeUnit) → IsSingleAt words at unit → MayLead (length words) at unit
 
 -- a jump that does not link
 abbrev pub may_be_last : CodeUnit → Bool
@@ -51,7 +50,7 @@ may_be_last _ = false
 
 -- the last unit is a jump that does not link
 abbrev pub EndsInJump : List ℕ → Type 0
-EndsInJump words = (off : ℤ) × BeginsAt words (length words - 1) (Jump false off)
+EndsInJump words = (off : ℤ) × IsSingleAt words (length words - 1) (Jump false off)
 
 -- each word is a unit, the last one is a jump that does not link, and each leads where it may
 pub record IsClosed (words : List ℕ) : Type 0 where

@@ -6,7 +6,8 @@ ghost use Rattle.cfi_top.specs.declared.machine.TheConstants.{BASE};
 ghost use Rattle.cfi_top.specs.declared.target.TheConstants.{MAX_WORDS};
 
 use crate::machine::BASE;
-use cfi_unit::{Unit, next_unit};
+use crate::single::single_at;
+use cfi_unit::Unit;
 use std::marker::Model;
 
 /// The words of a bare file that was verified.
@@ -36,7 +37,7 @@ fn unit_in(words: &[u32], pc: u32) -> Unit
     ensures stands { StandsAt words.now pc result }
     ensures leads { (s : State) → s.pc ≡ pc → IsStart words.now (effect result s).pc }
 {
-    let Some((unit, _)) = next_unit(words, pc / 4 - BASE) else {
+    let Some(unit) = single_at(words, pc / 4 - BASE) else {
         unreachable!();
     };
     unit

@@ -12,6 +12,7 @@ mod machine;
 mod part;
 mod program;
 mod run;
+mod single;
 mod target;
 #[cfg(test)]
 mod tests;

@@ -56,7 +56,7 @@ impl Model for Machine {
 }
 
 impl Machine {
-    ghost use Rattle.cfi_unit.specs.Unit.{IsPlain, IsUnit};
+    ghost use Rattle.cfi_unit.specs.Unit.{IsPlain, IsUnit, size_of};
     ghost use Rattle.cfi_top.specs.Run.{part_of};
     ghost use Rattle.cfi_top.specs.Machine.{register, with_register, plain_effect, effect, served, opened, service, reply_of, output_after, going_to};
 
@@ -205,6 +205,7 @@ impl Machine {
     #[inline(always)]
     pub fn unit(&mut self, unit: Unit)
         requires unit { IsUnit unit }
+        requires single { size_of unit ≡ 1 }
         requires units { self.old.units < u32.MAX }
         requires steps { self.old.steps < u32.MAX }
         ensures { self.new ≡ effect unit self.old }
@@ -236,6 +237,7 @@ impl Machine {
                 self.serve();
                 after
             }
+            Unit::Load { .. } | Unit::Store { .. } | Unit::Check { .. } => unreachable!(),
         };
         self.go_to(to);
     }

@@ -1,11 +1,12 @@
 ghost use Rattle.std.specs.Prelude.{◌≡◌, ◌<◌, ◌≤◌, length, OnOk, IfOk, IfErr, IfSome, IfNone, ◌↔◌, IsTrue, ◌-◌, ◌+◌};
 ghost use Rattle.cfi_unit.specs.declared.unit.Unit.{Unit as CodeUnit};
-ghost use Rattle.cfi_unit.specs.Code.{BeginsAt};
+ghost use Rattle.cfi_top.specs.Single.{IsSingleAt};
 ghost use Rattle.cfi_top.specs.Verify.{IsFirstFault, IsFirstFailure, IsClosed, IsSeen, IsInsnAt, EndsInJump, may_be_last, first_of_two, MayLead};
 ghost use Rattle.cfi_top.specs.declared.target.TheConstants.{MAX_WORDS};
 
+use crate::single::single_at;
 use crate::target::target_of;
-use cfi_unit::{Unit, next_unit};
+use cfi_unit::Unit;
 use rv_insn::decode;
 
 /// The first fault of a bare file's words, in the order of the variants. Places are word numbers.
@@ -31,6 +32,8 @@ fn may_lead(words: u32, at: u32, unit: Unit) -> bool
 {
     match unit {
         Unit::Plain(_) | Unit::Service => true,
+        // These are of several words, and stand nowhere in a file that is accepted.
+        Unit::Load { .. } | Unit::Store { .. } | Unit::Check { .. } => true,
         Unit::Branch { off, .. } | Unit::Jump { link: false, off } => target_of(
             words, at, off,
         ).is_some(),
@@ -62,8 +65,8 @@ fn look_at(words: &[u32], at: u32, found: Found) -> Option<Found>
     ensures some { IfSome result (λ next. IsSeen words.now (at + 1) next.not_unit next.stray) }
     ensures none { IfNone result (¬ IsInsnAt words.now at) }
 {
-    match next_unit(words, at) {
-        Some((unit, _)) => {
+    match single_at(words, at) {
+        Some(unit) => {
             if may_lead(words.len() as u32, at, unit) {
                 Some(found)
             } else {
@@ -118,8 +121,8 @@ fn ends_in_jump(words: &[u32]) -> bool
     ensures ends { IsTrue result → EndsInJump words.now }
     ensures only { EndsInJump words.now → IsTrue result }
 {
-    match next_unit(words, words.len() as u32 - 1) {
-        Some((unit, _)) => is_last(unit),
+    match single_at(words, words.len() as u32 - 1) {
+        Some(unit) => is_last(unit),
         None => false,
     }
 }

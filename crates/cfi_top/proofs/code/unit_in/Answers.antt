@@ -5,7 +5,7 @@ use Rattle.cfi_top.proofs.code.unit_in.Goals as goal
 pub unreachable-requires : goal.unreachable-requires
 unreachable-requires c =
     let unit = c.requires.closed.units _ c.requires.start.within in
-    let found = c.next_unit.ensures.only unit.0 unit.1 in
+    let found = c.single_at.ensures.only unit.0 unit.1 in
     let none = c.in_default.is in
     cc
 
