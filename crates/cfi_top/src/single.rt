@@ -14,13 +14,7 @@ pub fn single_at(words: &[u32], at: u32) -> Option<Unit>
     ensures only { (unit : CodeUnit) → IsSingleAt words.now at unit → result ≡ Some unit }
 {
     match next_unit(words, at) {
-        Some((unit, size)) => {
-            if size == 1 {
-                Some(unit)
-            } else {
-                None
-            }
-        }
+        Some((unit, size)) => { if size == 1 { Some(unit) } else { None } }
         None => None,
     }
 }
