@@ -1,0 +1,8 @@
+use Rattle.std.proofs.Common.{◌≡◌, ◌-◌, length}
+use Rattle.cfi_types.specs.Reading.{nodes_at}
+use Rattle.cfi_types.proofs.Parts.{with_front}
+use Rattle.cfi_types.proofs.Loops.{NodesSoFar}
+use Rattle.cfi_types.proofs.reading.table_nodes.Given as goal
+
+abbrev pub invariant-loop-number : goal.invariant-loop-number
+invariant-loop-number l = NodesSoFar l.count l.number l.nodes.items l.rest l.bytes
