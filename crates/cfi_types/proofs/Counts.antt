@@ -1,5 +1,5 @@
 -- Numbers that are given in order of first occurrence.
-use Rattle.std.proofs.Common.{◌≡◌, ℕ, ◌+◌, ◌<◌, ◌≤◌, Bool, true, false, cond, ltb, List, [], ◌∷◌, ◌++◌, length, get_or, refl, sym, ap, subst, ◌∙◌, arith, inl, inr}
+use Rattle.std.proofs.Common.{◌≡◌, ℕ, ◌+◌, ◌<◌, ◌≤◌, true, false, cond, ltb, List, [], ◌∷◌, ◌++◌, length, get_or, refl, sym, ap, subst, ◌∙◌, arith, inl, inr}
 use Rattle.std.specs.Prelude.{max, ◌↔◌, ◌⊎◌}
 use Rattle.std.proofs.lemmas.Bool.{cases_lt, lt-ltb}
 use Rattle.std.proofs.lemmas.Bool.Decides.{nat_tests}
@@ -26,7 +26,8 @@ pub record NumbersSoFar (leaders : List ℕ) (i : ℕ) (numbers : List ℕ) (cou
   pub len : length numbers ≡ i
   pub few : count ≤ i
   pub below : (a : ℕ) → a < i → get_or numbers a 0 < count
-  pub same : (a b : ℕ) → a < i → b < i → (get_or numbers a 0 ≡ get_or numbers b 0) ↔ (get_or leaders a 0 ≡ get_or leaders b 0)
+  pub same : (a b : ℕ) → a < i → b < i
+      → (get_or numbers a 0 ≡ get_or numbers b 0) ↔ (get_or leaders a 0 ≡ get_or leaders b 0)
   pub order : InOrder 0 numbers
   pub next : next_after 0 numbers ≡ count
 
@@ -40,7 +41,8 @@ no_numbers leaders numbers none = subst (λ (l : List ℕ). NumbersSoFar leaders
   next = refl;
 })
 
-module _ (leaders : List ℕ) (i : ℕ) (numbers : List ℕ) (count n : ℕ) (so_far : NumbersSoFar leaders i numbers count) (within : n ≤ count)
+module _ (leaders : List ℕ) (i : ℕ) (numbers : List ℕ) (count n : ℕ) (so_far : NumbersSoFar leaders i numbers count)
+    (within : n ≤ count)
     (fresh : (b : ℕ) → b < i → (get_or numbers b 0 ≡ n) ↔ (get_or leaders b 0 ≡ get_or leaders i 0)) where
   old : (a : ℕ) → a < i → get_or (numbers ++ n ∷ []) a 0 ≡ get_or numbers a 0
   old a la = get_or_append_left numbers (n ∷ []) 0 a (omega (arith, so_far.len))
@@ -49,7 +51,8 @@ module _ (leaders : List ℕ) (i : ℕ) (numbers : List ℕ) (count n : ℕ) (so
   new a e = get_or_push numbers n 0 a (so_far.len ∙ sym e)
 
   -- numbers agree with leaders at i too
-  same_at : (a b : ℕ) → (a < i) ⊎ (a ≡ i) → (b < i) ⊎ (b ≡ i) → (get_or (numbers ++ n ∷ []) a 0 ≡ get_or (numbers ++ n ∷ []) b 0) ↔ (get_or leaders a 0 ≡ get_or leaders b 0)
+  same_at : (a b : ℕ) → (a < i) ⊎ (a ≡ i) → (b < i) ⊎ (b ≡ i)
+      → (get_or (numbers ++ n ∷ []) a 0 ≡ get_or (numbers ++ n ∷ []) b 0) ↔ (get_or leaders a 0 ≡ get_or leaders b 0)
   same_at a b (inl la) (inl lb) = (
     (λ e. (so_far.same a b la lb).0 (sym (old a la) ∙ e ∙ old b lb)),
     (λ e. old a la ∙ (so_far.same a b la lb).1 e ∙ sym (old b lb)),
@@ -84,9 +87,12 @@ module _ (leaders : List ℕ) (i : ℕ) (numbers : List ℕ) (count n : ℕ) (so
   }
 
 -- the number that the code gives next
-module _ (leaders : List ℕ) (i : ℕ) (numbers : List ℕ) (count : ℕ) (so_far : NumbersSoFar leaders i numbers count) (low : IsLow leaders)
-    (own : (a : ℕ) → a < length leaders → get_or leaders (get_or leaders a 0) 0 ≡ get_or leaders a 0) (lt : i < length leaders) where
-  earlier : (n : ℕ) → get_or leaders i 0 < i → n ≡ get_or numbers (get_or leaders i 0) 0 → NumbersSoFar leaders (i + 1) (numbers ++ n ∷ []) (max count (n + 1))
+module _ (leaders : List ℕ) (i : ℕ) (numbers : List ℕ) (count : ℕ) (so_far : NumbersSoFar leaders i numbers count)
+    (low : IsLow leaders)
+    (own : (a : ℕ) → a < length leaders → get_or leaders (get_or leaders a 0) 0 ≡ get_or leaders a 0)
+    (lt : i < length leaders) where
+  earlier : (n : ℕ) → get_or leaders i 0 < i → n ≡ get_or numbers (get_or leaders i 0) 0
+      → NumbersSoFar leaders (i + 1) (numbers ++ n ∷ []) (max count (n + 1))
   earlier n less is =
       let m = get_or leaders i 0 in
       let within : n ≤ count = omega (arith, so_far.below m less) in
@@ -95,7 +101,8 @@ module _ (leaders : List ℕ) (i : ℕ) (numbers : List ℕ) (count : ℕ) (so_f
         (λ e. (so_far.same b m lb less).1 (e ∙ sym (own i lt)) ∙ sym is),
       ))
 
-  first : (n : ℕ) → i ≤ get_or leaders i 0 → n ≡ count → NumbersSoFar leaders (i + 1) (numbers ++ n ∷ []) (max count (n + 1))
+  first : (n : ℕ) → i ≤ get_or leaders i 0 → n ≡ count
+      → NumbersSoFar leaders (i + 1) (numbers ++ n ∷ []) (max count (n + 1))
   first n more is =
       let at : get_or leaders i 0 ≡ i = omega (arith, low i lt) in
       one_number leaders i numbers count n so_far (omega arith) (λ b lb. (
@@ -103,7 +110,9 @@ module _ (leaders : List ℕ) (i : ℕ) (numbers : List ℕ) (count : ℕ) (so_f
         (λ e. absurd (omega (arith, low b (omega arith)))),
       ))
 
-  pub given : (n : ℕ) → n ≡ cond (ltb (get_or leaders i 0) (length numbers)) (get_or numbers (get_or leaders i 0) 0) count → NumbersSoFar leaders (i + 1) (numbers ++ n ∷ []) (max count (n + 1))
+  pub given : (n : ℕ)
+      → n ≡ cond (ltb (get_or leaders i 0) (length numbers)) (get_or numbers (get_or leaders i 0) 0) count
+      → NumbersSoFar leaders (i + 1) (numbers ++ n ∷ []) (max count (n + 1))
   given n is =
       elim (cases_lt (get_or leaders i 0) (length numbers)) [
         | inl less ↦
@@ -114,7 +123,8 @@ module _ (leaders : List ℕ) (i : ℕ) (numbers : List ℕ) (count : ℕ) (so_f
             first n (omega (arith, so_far.len)) (is ∙ rw past refl)
       ]
 
-  pub given_within : (n : ℕ) → n ≡ cond (ltb (get_or leaders i 0) (length numbers)) (get_or numbers (get_or leaders i 0) 0) count → n ≤ count
+  pub given_within : (n : ℕ)
+      → n ≡ cond (ltb (get_or leaders i 0) (length numbers)) (get_or numbers (get_or leaders i 0) 0) count → n ≤ count
   given_within n is =
       elim (cases_lt (get_or leaders i 0) (length numbers)) [
         | inl less ↦
@@ -127,7 +137,8 @@ module _ (leaders : List ℕ) (i : ℕ) (numbers : List ℕ) (count : ℕ) (so_f
             omega arith
       ]
 
-pub all_numbers : (leaders : List ℕ) (i : ℕ) (numbers : List ℕ) (count : ℕ) → NumbersSoFar leaders i numbers count → length leaders ≡ i → AreNumbers leaders numbers
+pub all_numbers : (leaders : List ℕ) (i : ℕ) (numbers : List ℕ) (count : ℕ) → NumbersSoFar leaders i numbers count
+    → length leaders ≡ i → AreNumbers leaders numbers
 all_numbers leaders i numbers count so_far all = record {
   len = so_far.len ∙ sym all;
   same = λ a b la lb. so_far.same a b (omega arith) (omega arith);

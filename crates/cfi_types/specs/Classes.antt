@@ -24,5 +24,6 @@ InOrder next (n ∷ ns) = (n ≤ next) × InOrder (max next (n + 1)) ns
 -- the numbers of all nodes: one number exactly where two types are equal, in order of first occurrence
 pub record AreClasses (tables : List (List Node)) (classes : List (List ℕ)) : Type 0 where
   pub shape : map length classes ≡ map length tables
-  pub equal : (t a u b : ℕ) → IsPlace tables t a → IsPlace tables u b → (class_of classes t a ≡ class_of classes u b) ↔ Equal (table_of tables t) a (table_of tables u) b
+  pub equal : (t a u b : ℕ) → IsPlace tables t a → IsPlace tables u b
+      → (class_of classes t a ≡ class_of classes u b) ↔ Equal (table_of tables t) a (table_of tables u) b
   pub order : InOrder 0 (flat_map (λ row. row) classes)

@@ -33,4 +33,5 @@ has_arity kind n =
 -- whether a word may be the field of this place: an integer has 8, 16, 32 or 64 bits, and is signed (1) or not (0)
 abbrev pub field_fits : (kind place word : ℕ) → Bool
 field_fits kind place word =
-    if kind == INT then (if place == 0 then word == 8 || word == 16 || word == 32 || word == 64 else nat_le word 1) else true
+    if kind == INT then (if place == 0 then word == 8 || word == 16 || word == 32 || word == 64 else nat_le word 1)
+    else true

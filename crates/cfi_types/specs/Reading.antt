@@ -55,7 +55,8 @@ nodes_at k (suc count) bytes =
 -- the least node, from number k on, that names a node which is none of the first `count`
 unfoldable pub stray_from : (count k : ℕ) → List Node → Option ℕ
 stray_from count k [] = None
-stray_from count k (x ∷ xs) = if list_all (λ f. nat_lt f count) (nodes_of x) then stray_from count (suc k) xs else Some k
+stray_from count k (x ∷ xs) =
+    if list_all (λ f. nat_lt f count) (nodes_of x) then stray_from count (suc k) xs else Some k
 
 abbrev pub judged : List Node → Option ℕ → Result (List Node) TypeFault
 judged xs None = Ok xs

@@ -1,5 +1,5 @@
 -- One step of a refinement: each class of nodes is split by what its nodes name. A class is named by its least node.
-use Rattle.std.specs.Prelude.{◌≡◌, ◌≢◌, ℕ, ◌+◌, ◌<◌, ◌≤◌, Bool, true, false, not, ◌==◌, if◌then◌else◌, Option, Some, None, unwrap_or, List, [], ◌∷◌, ◌++◌, length, map, slice_index, slice_index_or, IsTrue}
+use Rattle.std.specs.Prelude.{◌≡◌, ◌≢◌, ℕ, ◌<◌, ◌≤◌, Bool, false, not, ◌==◌, if◌then◌else◌, List, [], ◌∷◌, ◌++◌, length, map, slice_index, slice_index_or}
 use Rattle.std.specs.List.{list_any, AllByRecursion}
 use Rattle.cfi_types.specs.Node.{Node}
 use Rattle.cfi_types.specs.Kind.{numbers_of, nodes_of}
@@ -39,7 +39,8 @@ IsLow classes = (a : ℕ) → a < length classes → slice_index classes a ≤ a
 -- the nodes that leave their class: all but one part of each, `kept` by the class
 pub record Leaves (classes next : List ℕ) (leaving : List Bool) : Type 0 where
   pub kept : List ℕ
-  pub each : (a : ℕ) → a < length next → slice_index_or leaving a false ≡ not (slice_index kept (slice_index classes a) == slice_index next a)
+  pub each : (a : ℕ) → a < length next
+      → slice_index_or leaving a false ≡ not (slice_index kept (slice_index classes a) == slice_index next a)
 
 -- whether a node names one that leaves
 abbrev pub names_leaving : (leaving : List Bool) → Node → Bool

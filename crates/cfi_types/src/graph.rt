@@ -27,7 +27,8 @@ fn shift(alloc: Global, node: &TypeNode, start: u32) -> Result<TypeNode, AllocEr
 fn add_table(alloc: Global, out: &mut Vec<TypeNode>, nodes: &[TypeNode]) -> Result<(), AllocError>
     requires fits { vec_len out.old + length nodes.now < 2 ^ 32 }
     requires closed { AllByRecursion (NamesBelow (length nodes.now)) nodes.now }
-    ensures { OnOk result (out.new.items ≡ out.old.items ++ map (shifted (vec_len out.old)) nodes.now) }
+    ensures { OnOk result
+        (out.new.items ≡ out.old.items ++ map (shifted (vec_len out.old)) nodes.now) }
 {
     let start = out.len() as u32;
     for node in nodes {

@@ -65,7 +65,8 @@ impl Firsts {
     // The first node of this key that moved: `node`, where none has come.
     pub(crate) fn moved(&mut self, key: Vec<u32>, node: u32) -> Result<u32, AllocError>
         requires { 1 < vec_len key }
-        ensures first { IfOk result (λ first. PutsFirst (first_of self.old) (first_of self.new) key.items node first) }
+        ensures first { IfOk result (λ first.
+            PutsFirst (first_of self.old) (first_of self.new) key.items node first) }
         ensures len { vec_len self.new.stayed ≡ vec_len self.old.stayed }
     {
         if let Some(first) = self.moved.get(key.as_slice()) {

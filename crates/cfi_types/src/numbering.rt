@@ -8,7 +8,8 @@ use std::alloc::{AllocError, Global};
 
 // The number of this leader, or the next one where it has none yet.
 fn number_of(numbers: &[u32], leader: u32, next: u32) -> u32
-    ensures { result ≡ (if nat_lt leader (length numbers.now) then slice_index numbers.now leader else next) }
+    ensures { result ≡
+        (if nat_lt leader (length numbers.now) then slice_index numbers.now leader else next) }
 {
     if (leader as usize) < numbers.len() {
         return numbers[leader as usize];
@@ -20,7 +21,8 @@ fn number_of(numbers: &[u32], leader: u32, next: u32) -> u32
 pub(crate) fn number(alloc: Global, leaders: &[u32]) -> Result<Vec<u32>, AllocError>
     requires fits { length leaders.now < 2 ^ 32 }
     requires low { IsLow leaders.now }
-    requires leader { (a : ℕ) → a < length leaders.now → slice_index leaders.now (slice_index leaders.now a) ≡ slice_index leaders.now a }
+    requires leader { (a : ℕ) → a < length leaders.now →
+        slice_index leaders.now (slice_index leaders.now a) ≡ slice_index leaders.now a }
     ensures { IfOk result (λ numbers. AreNumbers leaders.now numbers.items) }
 {
     let mut numbers = Vec::with_capacity(alloc, leaders.len())?;

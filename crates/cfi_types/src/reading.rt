@@ -117,14 +117,16 @@ fn all_of(alloc: Global, bytes: &[u8]) -> Result<TypeTable, TypeFault>
 
 /// The type table that the bytes spell, all of the bytes.
 ///
-/// A word with the number of nodes, at most `MAX_NODES`; then each node as a word with its kind, a word
-/// with the number of its fields, and its fields; words are of four bytes, the lowest first. A fault is
-/// the first from left to right; that a node names one which is not there comes last. MCFI, type matching.
+/// A word with the number of nodes, at most `MAX_NODES`; then each node as a word with its kind, a
+/// word with the number of its fields, and its fields; words are of four bytes, the lowest first. A
+/// fault is the first from left to right; that a node names one which is not there comes last. MCFI,
+/// type matching.
 pub fn read_types(alloc: Global, bytes: &[u8]) -> Result<TypeTable, TypeFault>
     // What is read is a table, and the bytes are its spelling.
     ensures ok { IfOk result (λ table. AreTypes table × (bytes.now ≡ spelling table)) }
     // What is spelled so is read.
-    ensures only { (xs : List Node) → AreTypes xs → bytes.now ≡ spelling xs → Gives (λ table. table) result (Ok xs) }
+    ensures only { (xs : List Node) → AreTypes xs → bytes.now ≡ spelling xs →
+        Gives (λ table. table) result (Ok xs) }
     // Which fault it is.
     ensures fault { Gives (λ table. table) result (types_in bytes.now) }
 {

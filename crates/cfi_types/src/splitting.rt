@@ -21,7 +21,8 @@ fn first_like(
     requires closed { NamesBelow (length classes.now) node.now }
     requires number { number < length classes.now }
     requires class { slice_index classes.now number < vec_len firsts.old.stayed }
-    ensures first { IfOk result (λ m. PutsFirst (first_of firsts.old) (first_of firsts.new) (key_at classes.now moved node.now number) number m) }
+    ensures first { IfOk result (λ m. PutsFirst (first_of firsts.old) (first_of firsts.new)
+        (key_at classes.now moved node.now number) number m) }
     ensures len { vec_len firsts.new.stayed ≡ vec_len firsts.old.stayed }
 {
     let class = classes[number as usize];

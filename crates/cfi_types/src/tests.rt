@@ -5,7 +5,8 @@ use super::*;
 use std::alloc::{AllocError, Global};
 use std::test::*;
 
-// Two nodes, Void and a function of no parameters that gives it, as words of four bytes, the lowest first.
+// Two nodes, Void and a function of no parameters that gives it; words are of four bytes, the lowest
+// first.
 const VOID_FUNC: [u8; 24] = [
     2, 0, 0, 0, 0, 0, 0, 0, 0, 0, 0, 0, 7, 0, 0, 0, 1, 0, 0, 0, 0, 0, 0, 0,
 ];

@@ -1,6 +1,3 @@
-use Rattle.std.proofs.Common.{◌≡◌, ◌-◌, length}
-use Rattle.cfi_types.specs.Reading.{nodes_at}
-use Rattle.cfi_types.proofs.Parts.{with_front}
 use Rattle.cfi_types.proofs.Loops.{NodesSoFar}
 use Rattle.cfi_types.proofs.reading.table_nodes.Given as goal
 
