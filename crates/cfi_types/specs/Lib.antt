@@ -1,0 +1,11 @@
+pub mod Node
+pub mod Kind
+pub mod Spelling
+pub mod Reading
+pub mod Same
+pub mod Classes
+pub mod Joined
+pub mod Leader
+pub mod Splitting
+pub mod Refining
+pub mod Numbering

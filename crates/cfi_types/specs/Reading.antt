@@ -1,0 +1,70 @@
+-- Reading from left to right, with the first fault that is met.
+use Rattle.std.specs.Prelude.{◌≡◌, ℕ, zero, suc, List, [], ◌∷◌, length, take, drop, Bool, Option, Some, None, Result, Ok, Err, nat_lt, nat_le, ◌==◌, if◌then◌else◌}
+use Rattle.std.specs.List.{list_all}
+use Rattle.std.specs.Int.{w32, from_le_bytes}
+use Rattle.cfi_types.specs.declared.kind.TheConstants.{FUNC, MAX_NODES}
+use Rattle.cfi_types.specs.declared.fault.TypeFault.{TypeFault}
+use Rattle.cfi_types.specs.declared.fault.TypeFault.TheVariants.{BadNode, BadIndex, Short, Memory}
+use Rattle.cfi_types.specs.Node.{Node, make_node}
+use Rattle.cfi_types.specs.Kind.{nodes_of, has_arity, field_fits}
+
+infixl 10 ◌>>=◌
+abbrev pub ◌>>=◌ : {A B : Type 0} → Result A TypeFault → (A → Result B TypeFault) → Result B TypeFault
+(Ok x) >>= f = f x
+(Err e) >>= f = Err e
+
+-- goes on where a test holds, and else has the fault
+abbrev pub unless_bad : {A : Type 0} → Bool → TypeFault → Result A TypeFault → Result A TypeFault
+unless_bad fits fault on = if fits then on else Err fault
+
+-- what a function returned, seen by view, is what reading gives, unless memory ran out
+abbrev pub Fails : {Y : Type 0} → TypeFault → Result Y TypeFault → Type 0
+Fails Memory read = Unit {0}
+Fails (BadNode k) read = read ≡ Err (BadNode k)
+Fails (BadIndex k) read = read ≡ Err (BadIndex k)
+Fails Short read = read ≡ Err Short
+
+abbrev pub Gives : {X Y : Type 0} → (X → Y) → Result X TypeFault → Result Y TypeFault → Type 0
+Gives view (Ok x) read = read ≡ Ok (view x)
+Gives view (Err e) read = Fails e read
+
+-- a word, and the bytes after it
+abbrev pub word_at : List ℕ → Result (ℕ × List ℕ) TypeFault
+word_at bytes = if nat_lt (length bytes) 4 then Err Short else Ok (from_le_bytes w32 (take 4 bytes), drop 4 bytes)
+
+-- the fields of node number k from this place on, of which `count` are left
+unfoldable pub fields_at : (k kind place count : ℕ) → List ℕ → Result (List ℕ × List ℕ) TypeFault
+fields_at k kind place zero bytes = Ok ([], bytes)
+fields_at k kind place (suc count) bytes =
+    word_at bytes >>= λ w. unless_bad (field_fits kind place w.0) (BadNode k)
+    (fields_at k kind (suc place) count w.1 >>= λ ws. Ok (w.0 ∷ ws.0, ws.1))
+
+-- node number k: its kind, the number of its fields, and its fields
+unfoldable pub node_at : (k : ℕ) → List ℕ → Result (Node × List ℕ) TypeFault
+node_at k bytes =
+    word_at bytes >>= λ kind. unless_bad (nat_le kind.0 FUNC) (BadNode k)
+    (word_at kind.1 >>= λ count. unless_bad (has_arity kind.0 count.0) (BadNode k)
+    (fields_at k kind.0 0 count.0 count.1 >>= λ fields. Ok (make_node kind.0 fields.0, fields.1)))
+
+-- `count` nodes from number k on
+unfoldable pub nodes_at : (k count : ℕ) → List ℕ → Result (List Node × List ℕ) TypeFault
+nodes_at k zero bytes = Ok ([], bytes)
+nodes_at k (suc count) bytes =
+    node_at k bytes >>= λ first. nodes_at (suc k) count first.1 >>= λ others. Ok (first.0 ∷ others.0, others.1)
+
+-- the least node, from number k on, that names a node which is none of the first `count`
+unfoldable pub stray_from : (count k : ℕ) → List Node → Option ℕ
+stray_from count k [] = None
+stray_from count k (x ∷ xs) =
+    if list_all (λ f. nat_lt f count) (nodes_of x) then stray_from count (suc k) xs else Some k
+
+abbrev pub judged : List Node → Option ℕ → Result (List Node) TypeFault
+judged xs None = Ok xs
+judged xs (Some k) = Err (BadIndex k)
+
+-- all of the bytes
+unfoldable pub types_in : List ℕ → Result (List Node) TypeFault
+types_in bytes =
+    word_at bytes >>= λ count. unless_bad (nat_le count.0 MAX_NODES) (BadNode MAX_NODES)
+    (nodes_at 0 count.0 count.1 >>= λ nodes. unless_bad (length nodes.1 == 0) Short
+    (judged nodes.0 (stray_from count.0 0 nodes.0)))

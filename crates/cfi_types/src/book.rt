@@ -1,0 +1,78 @@
+//! Type tables whose types are compared.
+
+ghost use Rattle.std.specs.Prelude.{◌≡◌, ◌<◌, ◌^◌, [], ◌∷◌, ◌++◌, length, OnOk, OnErr, IfOk};
+ghost use Rattle.std.specs.List.{flat_map, AllByRecursion};
+ghost use Rattle.cfi_types.specs.Spelling.{AreTypes};
+ghost use Rattle.cfi_types.specs.Classes.{AreClasses};
+
+use crate::classes::{Classes, by_table};
+use crate::graph::join;
+use crate::numbering::number;
+use crate::refining::leaders;
+use crate::table::TypeTable;
+use std::alloc::{AllocError, Global};
+use std::marker::Model;
+
+// The numbers of the tables' nodes.
+fn classes_of(alloc: Global, tables: &[TypeTable]) -> Result<Classes, AllocError>
+    requires fits { length (flat_map (λ xs. xs) tables.now) < 2 ^ 32 }
+    requires types { AllByRecursion AreTypes tables.now }
+    ensures { IfOk result (λ classes. AreClasses tables.now classes) }
+{
+    let nodes = join(alloc, tables)?;
+    let leaders = leaders(alloc, nodes.as_slice())?;
+    let numbers = number(alloc, leaders.as_slice())?;
+    by_table(alloc, tables, numbers.as_slice())
+}
+
+/// Type tables in the order in which they were added.
+#[derive(Debug, Drop)]
+pub struct TypeBook {
+    tables: Vec<TypeTable>,
+}
+
+impl Model for TypeBook {
+    ghost use Rattle.std.specs.Prelude.{List};
+    ghost use Rattle.std.specs.List.{AllByRecursion};
+    ghost use Rattle.cfi_types.specs.Node.{Node};
+    ghost use Rattle.cfi_types.specs.Spelling.{AreTypes};
+
+    ghost Value = { List (List Node) };
+
+    ghost view = { λ book. book.tables.items };
+
+    ghost invariant = { λ book. AllByRecursion AreTypes book.tables.items };
+}
+
+impl TypeBook {
+    /// No tables. The book keeps the allocator.
+    pub fn new(alloc: Global) -> TypeBook
+        ensures { result ≡ [] }
+    {
+        TypeBook {
+            tables: Vec::new(alloc),
+        }
+    }
+
+    /// Adds a table at the end.
+    pub fn add(&mut self, table: &TypeTable) -> Result<(), AllocError>
+        requires { AreTypes table.now }
+        ensures ok { OnOk result (self.new ≡ self.old ++ table.now ∷ []) }
+        ensures err { OnErr result (self.new ≡ self.old) }
+    {
+        let copy = table.copied(*self.tables.allocator())?;
+        self.tables.push(copy)?;
+        Ok(())
+    }
+
+    /// A number for each node of each table: two nodes have one number exactly where their types are
+    /// equal, to every depth. Numbers are given from 0, in order of first occurrence.
+    ///
+    /// The number of all nodes is below 2^32. MCFI, type matching: equal by structure.
+    pub fn classes(&self) -> Result<Classes, AllocError>
+        requires fits { length (flat_map (λ xs. xs) self.now) < 2 ^ 32 }
+        ensures { IfOk result (λ classes. AreClasses self.now classes) }
+    {
+        classes_of(*self.tables.allocator(), self.tables.as_slice())
+    }
+}

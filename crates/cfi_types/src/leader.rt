@@ -1,0 +1,78 @@
+//! The first node of each key that has come.
+
+ghost use Rattle.std.specs.Prelude.{◌≡◌, ℕ, ◌<◌, List, [], ◌∷◌, None, length, vec_len, IfOk};
+ghost use Rattle.cfi_types.specs.Spelling.{NamesBelow};
+ghost use Rattle.cfi_types.specs.Splitting.{signature};
+ghost use Rattle.cfi_types.specs.Leader.{first_of, PutsFirst};
+
+use crate::node::TypeNode;
+use std::alloc::{AllocError, Global};
+use std::collections::BTreeMap;
+
+/// The first node of each class that stayed, and of each class and signature that moved.
+#[derive(Drop)]
+pub(crate) struct Firsts {
+    stayed: Vec<Option<u32>>,
+    moved: BTreeMap<Vec<u32>, u32>,
+}
+
+// A class, and a node's signature.
+pub(crate) fn key(
+    alloc: Global,
+    class: u32,
+    node: &TypeNode,
+    classes: &[u32],
+) -> Result<Vec<u32>, AllocError>
+    requires { NamesBelow (length classes.now) node.now }
+    ensures { IfOk result (λ key. key.items ≡ class ∷ signature classes.now node.now) }
+{
+    let (numbers, named) = node.parts();
+    let mut key = Vec::with_capacity(alloc, numbers.len() + named.len())?;
+    key.push(class)?;
+    key.push(node.kind())?;
+    key.extend_from_slice(numbers)?;
+    for k in named {
+        key.push(classes[*k as usize])?;
+    }
+    Ok(key)
+}
+
+impl Firsts {
+    // None, of nodes in this many classes.
+    pub(crate) fn new(alloc: Global, classes: usize) -> Result<Firsts, AllocError>
+        ensures none { IfOk result (λ firsts. (q : List ℕ) → first_of firsts q ≡ None) }
+        ensures len { IfOk result (λ firsts. vec_len firsts.stayed ≡ classes) }
+    {
+        Ok(Firsts {
+            stayed: vec![in alloc; None; classes]?,
+            moved: BTreeMap::new(alloc),
+        })
+    }
+
+    // The first node of this class that stayed: `node`, where none has come.
+    pub(crate) fn stayed(&mut self, class: u32, node: u32) -> u32
+        requires { class < vec_len self.old.stayed }
+        ensures first { PutsFirst (first_of self.old) (first_of self.new) (class ∷ []) node result }
+        ensures len { vec_len self.new.stayed ≡ vec_len self.old.stayed }
+    {
+        if let Some(first) = self.stayed[class as usize] {
+            return first;
+        }
+        self.stayed[class as usize] = Some(node);
+        node
+    }
+
+    // The first node of this key that moved: `node`, where none has come.
+    pub(crate) fn moved(&mut self, key: Vec<u32>, node: u32) -> Result<u32, AllocError>
+        requires { 1 < vec_len key }
+        ensures first { IfOk result (λ first.
+            PutsFirst (first_of self.old) (first_of self.new) key.items node first) }
+        ensures len { vec_len self.new.stayed ≡ vec_len self.old.stayed }
+    {
+        if let Some(first) = self.moved.get(key.as_slice()) {
+            return Ok(*first);
+        }
+        self.moved.insert(key, node)?;
+        Ok(node)
+    }
+}

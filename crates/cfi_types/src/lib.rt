@@ -1,0 +1,32 @@
+//! Type tables, and which types of several tables are equal.
+//!
+//! Stands on `thiserror`. Proved: a table is read exactly where the bytes are its one spelling, each
+//! other list of bytes has its first fault, and two nodes have one class exactly where their
+//! unfoldings agree to every depth. Only tested: the texts of faults. Open: nothing.
+#![tactic(auto)]
+
+mod book;
+mod classes;
+mod fault;
+mod graph;
+mod kind;
+mod leader;
+mod node;
+mod numbering;
+mod reading;
+mod refining;
+mod splitting;
+mod table;
+mod writing;
+
+pub use book::TypeBook;
+pub use classes::Classes;
+pub use fault::TypeFault;
+pub use kind::{ARRAY, FUNC, INT, MAX_FIELDS, MAX_NODES, PTR, REAL, STRUCT, UNION, VOID};
+pub use node::TypeNode;
+pub use reading::read_types;
+pub use table::TypeTable;
+pub use writing::{read_can_be_written, write_types, written_is_read};
+
+#[cfg(test)]
+mod tests;

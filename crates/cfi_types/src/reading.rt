@@ -1,0 +1,134 @@
+//! Reads a type table from its bytes.
+
+ghost use Rattle.std.specs.Prelude.{◌≡◌, ◌≤◌, List, length, nat_lt, IfOk, Ok};
+ghost use Rattle.std.specs.List.{list_all};
+ghost use Rattle.cfi_types.specs.Kind.{nodes_of};
+ghost use Rattle.cfi_types.specs.Node.{Node};
+ghost use Rattle.cfi_types.specs.Spelling.{AreTypes, spelling};
+ghost use Rattle.cfi_types.specs.Reading.{Gives, word_at, fields_at, node_at, nodes_at, stray_from, types_in};
+
+use crate::fault::TypeFault;
+use crate::kind::{FUNC, MAX_NODES, may_be_field, may_have};
+use crate::node::TypeNode;
+use crate::table::TypeTable;
+use std::alloc::Global;
+
+fn word_from(bytes: &[u8]) -> Result<(u32, &[u8]), TypeFault>
+    ensures { Gives (λ x. (x.0, x.1.now)) result (word_at bytes.now) }
+{
+    if bytes.len() < 4 {
+        return Err(TypeFault::Short);
+    }
+    let (front, rest) = bytes.split_at(4);
+    let word = u32::from_le_bytes([front[0], front[1], front[2], front[3]]);
+    Ok((word, rest))
+}
+
+fn fields_from(
+    alloc: Global,
+    number: u32,
+    kind: u32,
+    count: u32,
+    bytes: &[u8],
+) -> Result<(Vec<u32>, &[u8]), TypeFault>
+    ensures { Gives (λ x. (x.0.items, x.1.now)) result (fields_at number kind 0 count bytes.now) }
+{
+    let mut fields = Vec::new(alloc);
+    let mut rest = bytes;
+    for place in 0..count {
+        let (word, after) = word_from(rest)?;
+        if !may_be_field(kind, place as usize, word) {
+            return Err(TypeFault::BadNode(number));
+        }
+        fields.push(word)?;
+        rest = after;
+    }
+    Ok((fields, rest))
+}
+
+#[tactic(auto, unfolding(crate::specs::Reading::node_at))]
+fn node_from(alloc: Global, number: u32, bytes: &[u8]) -> Result<(TypeNode, &[u8]), TypeFault>
+    ensures { Gives (λ x. (x.0, x.1.now)) result (node_at number bytes.now) }
+{
+    let (kind, rest) = word_from(bytes)?;
+    if kind > FUNC {
+        return Err(TypeFault::BadNode(number));
+    }
+    let (count, rest) = word_from(rest)?;
+    if !may_have(kind, count) {
+        return Err(TypeFault::BadNode(number));
+    }
+    let (fields, rest) = fields_from(alloc, number, kind, count, rest)?;
+    Ok((TypeNode::new(kind, fields), rest))
+}
+
+fn table_nodes(alloc: Global, count: u32, bytes: &[u8]) -> Result<(Vec<TypeNode>, &[u8]), TypeFault>
+    ensures read { Gives (λ x. (x.0.items, x.1.now)) result (nodes_at 0 count bytes.now) }
+    ensures counted { IfOk result (λ x. length x.0.items ≡ count) }
+{
+    let mut nodes = Vec::new(alloc);
+    let mut rest = bytes;
+    for number in 0..count {
+        let (node, after) = node_from(alloc, number, rest)?;
+        nodes.push(node)?;
+        rest = after;
+    }
+    Ok((nodes, rest))
+}
+
+// Whether each node that this one names is one of the first `count`.
+fn names_below(node: &TypeNode, count: u32) -> bool
+    ensures { result ≡ list_all (λ k. nat_lt k count) (nodes_of node.now) }
+{
+    let (_, named) = node.parts();
+    named.iter().all(|k| *k < count)
+}
+
+// The least node that names a node which is none of the first `count`.
+fn first_stray(nodes: &[TypeNode], count: u32) -> Option<u32>
+    requires { length nodes.now ≤ MAX_NODES }
+    ensures { result ≡ stray_from count 0 nodes.now }
+{
+    for (number, node) in nodes.iter().enumerate() {
+        if !names_below(node, count) {
+            return Some(number as u32);
+        }
+    }
+    None
+}
+
+#[tactic(auto, unfolding(crate::specs::Reading::types_in))]
+fn all_of(alloc: Global, bytes: &[u8]) -> Result<TypeTable, TypeFault>
+    ensures { Gives (λ table. table) result (types_in bytes.now) }
+{
+    let (count, rest) = word_from(bytes)?;
+    if count > MAX_NODES {
+        return Err(TypeFault::BadNode(MAX_NODES));
+    }
+    let (nodes, rest) = table_nodes(alloc, count, rest)?;
+    if !rest.is_empty() {
+        return Err(TypeFault::Short);
+    }
+    match first_stray(nodes.as_slice(), count) {
+        Some(number) => Err(TypeFault::BadIndex(number)),
+        None => Ok(TypeTable::from_vec(nodes)),
+    }
+}
+
+/// The type table that the bytes spell, all of the bytes.
+///
+/// A word with the number of nodes, at most `MAX_NODES`; then each node as a word with its kind, a
+/// word with the number of its fields, and its fields; words are of four bytes, the lowest first. A
+/// fault is the first from left to right; that a node names one which is not there comes last. MCFI,
+/// type matching.
+pub fn read_types(alloc: Global, bytes: &[u8]) -> Result<TypeTable, TypeFault>
+    // What is read is a table, and the bytes are its spelling.
+    ensures ok { IfOk result (λ table. AreTypes table × (bytes.now ≡ spelling table)) }
+    // What is spelled so is read.
+    ensures only { (xs : List Node) → AreTypes xs → bytes.now ≡ spelling xs →
+        Gives (λ table. table) result (Ok xs) }
+    // Which fault it is.
+    ensures fault { Gives (λ table. table) result (types_in bytes.now) }
+{
+    all_of(alloc, bytes)
+}
