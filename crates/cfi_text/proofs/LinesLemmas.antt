@@ -41,16 +41,22 @@ lines_of-first (byte ∷ next ∷ rest) some = by_first (is_end byte) refl (line
     by_first false is more = splits_ahead byte (next ∷ rest) is more
 
 -- the same in the words of the code, whose slices are cut at their ends
-pub lines_of-split : (text : List ℕ) (end : ℕ) → 0 < length text → end ≡ position_or_len is_end text → lines_of text ≡ take end text ∷ lines_of (take (length text - (end + 1)) (drop (end + 1) text))
-lines_of-split text end some is =
-    let rest : take (length text - (end + 1)) (drop (end + 1) text) ≡ drop (end + 1) text = take_all _ _ (omega (arith, length-drop (end + 1) text)) in
-    rw (rest, is) (lines_of-first text some)
+module _ (text : List ℕ) (end : ℕ) (some : 0 < length text) (is : end ≡ position_or_len is_end text) where
+  -- what stands from a place on
+  abbrev from : ℕ → List ℕ
+  from at = take (length text - at) (drop at text)
 
--- a text without an end is one line
-pub lines_of-last : (text : List ℕ) (end : ℕ) → 0 < length text → end ≡ position_or_len is_end text → end ≡ length text → lines_of text ≡ text ∷ lines_of (take (length text - end) (drop end text))
-lines_of-last text end some is all =
-    let whole : take end text ≡ text = take_all end text (omega (arith, all)) in
-    let none : take (length text - end) (drop end text) ≡ [] = rw (drop_all end text (omega (arith, all))) (take_all (length text - end) [] (omega arith)) in
-    let after : drop (end + 1) text ≡ [] = drop_all (end + 1) text (omega (arith, all)) in
-    let first : lines_of text ≡ take end text ∷ lines_of (drop (end + 1) text) = rw is (lines_of-first text some) in
-    rw (none, first, whole, after) refl
+  pub lines_of-split : lines_of text ≡ take end text ∷ lines_of (from (end + 1))
+  lines_of-split =
+      let rest : from (end + 1) ≡ drop (end + 1) text = take_all _ _ (omega (arith, length-drop (end + 1) text)) in
+      rw (rest, is) (lines_of-first text some)
+
+  -- a text without an end is one line
+  pub lines_of-last : end ≡ length text → lines_of text ≡ text ∷ lines_of (from end)
+  lines_of-last all =
+      let whole : take end text ≡ text = take_all end text (omega (arith, all)) in
+      let nothing : drop end text ≡ [] = drop_all end text (omega (arith, all)) in
+      let none : from end ≡ [] = rw nothing (take_all (length text - end) [] (omega arith)) in
+      let after : drop (end + 1) text ≡ [] = drop_all (end + 1) text (omega (arith, all)) in
+      let first : lines_of text ≡ take end text ∷ lines_of (drop (end + 1) text) = rw is (lines_of-first text some) in
+      rw (none, first, whole, after) refl

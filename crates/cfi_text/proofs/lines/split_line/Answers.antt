@@ -4,7 +4,7 @@ use Rattle.cfi_text.proofs.lines.split_line.Goals as goal
 
 pub returns-then-end-text-clause-first : goal.returns-then-end-text-clause-first
 returns-then-end-text-clause-first c =
-    lines_of-last c.args.text.now c.place_of-end.result (search rules) c.place_of-end.ensures.place c.if-end-text.true
+    lines_of-last c.args.text.now _ (search rules) c.place_of-end.ensures.place c.if-end-text.true
 
 pub returns-clause-first : goal.returns-clause-first
-returns-clause-first c = lines_of-split c.args.text.now c.place_of-end.result (search rules) c.place_of-end.ensures.place
+returns-clause-first c = lines_of-split c.args.text.now _ (search rules) c.place_of-end.ensures.place
