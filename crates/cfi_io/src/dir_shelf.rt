@@ -1,6 +1,7 @@
 //! The files of the current folder as a shelf.
 ghost use Rattle.std.specs.Prelude.{◌≡◌, ◌≤◌, ◌<◌, ℕ, length, None, vec_len, IfOk};
 ghost use Rattle.cfi_io.specs.declared.shelf.TheConstants.{MAX_FILE_BYTES};
+ghost use Rattle.cfi_io.specs.Edge.{folder_faults, folder_misses};
 
 use crate::count::raise;
 use crate::pipe::{read_file, write_file};
@@ -19,10 +20,11 @@ pub struct DirShelf {
 }
 
 impl DirShelf {
-    /// The shelf of the current folder, which takes memory from `alloc` where it reads. This call takes none.
+    /// The shelf of the current folder, which takes memory from `alloc` where it reads. This call
+    /// takes none.
     pub fn new(rt: HostRuntime, alloc: Global) -> Self
-        ensures faults { ⟦<DirShelf as Shelf>⟧.faults result ≡ 0 }
-        ensures misses { ⟦<DirShelf as Shelf>⟧.misses result ≡ 0 }
+        ensures faults { folder_faults result ≡ 0 }
+        ensures misses { folder_misses result ≡ 0 }
     {
         DirShelf {
             rt,
@@ -48,9 +50,9 @@ fn make(rt: &HostRuntime, name: &str, bytes: &[u8]) -> io::Result<()> {
 impl Shelf for DirShelf {
     ghost files = { λ _. None };
 
-    ghost faults = { λ shelf. shelf.faults };
+    ghost faults = { folder_faults };
 
-    ghost misses = { λ shelf. shelf.misses };
+    ghost misses = { folder_misses };
 
     fn read(&mut self, name: &str) -> Result<Vec<u8>, ShelfFault> {
         let fault = match bytes_of(&self.rt, self.alloc, name) {

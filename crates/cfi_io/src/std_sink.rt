@@ -1,5 +1,6 @@
 //! Standard output as a sink.
 ghost use Rattle.std.specs.Prelude.{◌≡◌, ◌≤◌, ℕ, None};
+ghost use Rattle.cfi_io.specs.Edge.{output_faults};
 
 use crate::count::raise;
 use crate::pipe::write_file;
@@ -16,7 +17,7 @@ pub struct StdSink {
 impl StdSink {
     /// The standard output of this runtime. This call takes no memory, nor does a write.
     pub fn new(rt: HostRuntime) -> Self
-        ensures { ⟦<StdSink as Sink>⟧.faults result ≡ 0 }
+        ensures { output_faults result ≡ 0 }
     {
         StdSink { rt, faults: 0 }
     }
@@ -25,7 +26,7 @@ impl StdSink {
 impl Sink for StdSink {
     ghost written = { λ _. None };
 
-    ghost faults = { λ sink. sink.faults };
+    ghost faults = { output_faults };
 
     fn write(&mut self, bytes: &[u8]) -> Result<(), SinkFault> {
         if write_file(&mut io::writer(&self.rt), bytes).is_ok() {
