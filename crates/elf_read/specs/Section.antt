@@ -47,3 +47,47 @@ unfoldable pub is_text : List ℕ → (k : ℕ) → Bool
 is_text bytes k = is_loaded bytes k && has_flag (section_at bytes k) EXECINSTR
 unfoldable pub is_data : List ℕ → (k : ℕ) → Bool
 is_data bytes k = is_loaded bytes k && not (has_flag (section_at bytes k) EXECINSTR)
+
+-- a section of types or of records: PROGBITS without ALLOC, by name
+unfoldable pub is_record_section : List ℕ → (name : List ℕ) → (k : ℕ) → Bool
+is_record_section bytes name k =
+    let section = section_at bytes k in
+    section.kind == PROGBITS && not (has_flag section ALLOC) && has_name bytes k name
+
+abbrev pub is_types : List ℕ → (k : ℕ) → Bool
+is_types bytes k = is_record_section bytes CFI_TYPES.now k
+abbrev pub is_records : List ℕ → (k : ℕ) → Bool
+is_records bytes k = is_record_section bytes CFI_RECORDS.now k
+
+-- the number of the first symbol table, or the number of sections where there is none
+abbrev pub symbol_table : List ℕ → ℕ
+symbol_table bytes = first_where (λ k. (section_at bytes k).kind == SYMTAB) (section_count bytes)
+
+-- there is a symbol table
+abbrev pub has_symbols : List ℕ → Bool
+has_symbols bytes = nat_lt (symbol_table bytes) (section_count bytes)
+
+-- a section is there and has this type
+abbrev pub has_kind : List ℕ → (kind k : ℕ) → Bool
+has_kind bytes kind k = nat_lt k (section_count bytes) && (section_at bytes k).kind == kind
+
+-- section k holds the names of the first symbol table's symbols
+unfoldable pub is_symbol_names : List ℕ → (k : ℕ) → Bool
+is_symbol_names bytes k = has_symbols bytes && (section_at bytes (symbol_table bytes)).link == k && has_kind bytes STRTAB k
+
+-- section k has relocations of loaded section `info`
+unfoldable pub is_rela : List ℕ → (k : ℕ) → Bool
+is_rela bytes k =
+    let section = section_at bytes k in
+    section.kind == RELA && nat_lt section.info (section_count bytes) && is_loaded bytes section.info
+
+-- the sections that are kept: loaded ones, types, records, the first symbol table and its names, and relocations
+unfoldable pub is_kept : List ℕ → (k : ℕ) → Bool
+is_kept bytes k = is_loaded bytes k || is_types bytes k || is_records bytes k || k == symbol_table bytes || is_symbol_names bytes k
+    || is_rela bytes k
+
+-- the contents of kept section k pass the file's end
+unfoldable pub is_short : List ℕ → (k : ℕ) → Bool
+is_short bytes k =
+    let section = section_at bytes k in
+    is_kept bytes k && not (section.kind == NOBITS) && nat_lt (length bytes) (section.offset + section.size)

@@ -6,7 +6,12 @@ mod object;
 mod header;
 mod section;
 mod file;
+mod symbol;
+mod relocation;
+mod join;
+mod read;
 mod word;
 
 pub use crate::fault::{ElfFault, Limit};
-pub use crate::object::Bytes;
+pub use crate::object::{Area, Binding, Bytes, Name, Object, Place, Reloc, Relocs, Symbol, Symbols};
+pub use crate::read::read_object;
