@@ -2,9 +2,8 @@
 use Rattle.std.specs.Prelude.{◌≡◌, ◌+◌, ◌*◌, ◌%◌, ◌<◌, ◌≤◌, ℕ, Bool, not, ◌&&◌, ◌||◌, ◌==◌, nat_eq, nat_lt, nat_le, List, length, take, drop}
 use Rattle.std.specs.List.{list_any}
 use Rattle.std.specs.Int.{is_power_of_two}
-use Rattle.elf_read.specs.Places.{first_where}
 use Rattle.elf_read.specs.Header.{section_count}
-use Rattle.elf_read.specs.Section.{section_at, section_names, has_name, has_flag, has_kind, is_loaded, is_text, is_types, is_records, is_kept, is_rela, symbol_table, has_symbols}
+use Rattle.elf_read.specs.Section.{section_at, section_names, has_name, has_flag, has_kind, is_loaded, is_text, is_types, is_records, is_kept, is_rela, symbol_table, has_symbols, first_named}
 use Rattle.elf_read.specs.declared.section.TheConstants.{SYMTAB, STRTAB, RELA, NOBITS, REL, INIT_ARRAY, PREINIT_ARRAY, ALLOC, TLS, CFI_TYPES, CFI_RECORDS}
 use Rattle.elf_read.specs.declared.symbol.TheConstants.{SYMBOL_SIZE}
 use Rattle.elf_read.specs.declared.relocation.TheConstants.{RELA_SIZE}
@@ -29,7 +28,7 @@ is_misaligned bytes k =
 
 -- it is a second section of this name
 unfoldable pub is_second : List ℕ → (name : List ℕ) → (k : ℕ) → Bool
-is_second bytes name k = has_name bytes k name && nat_lt (first_where (λ j. has_name bytes j name) (section_count bytes)) k
+is_second bytes name k = has_name bytes k name && nat_lt (first_named bytes name) k
 
 -- it is a symbol table, and its size is no multiple of a symbol's, or its link is no table of names
 unfoldable pub is_bad_symbol_table : List ℕ → (k : ℕ) → Bool

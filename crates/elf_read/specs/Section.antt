@@ -91,3 +91,7 @@ unfoldable pub is_short : List ℕ → (k : ℕ) → Bool
 is_short bytes k =
     let section = section_at bytes k in
     is_kept bytes k && not (section.kind == NOBITS) && nat_lt (length bytes) (section.offset + section.size)
+
+-- the number of the first section of this name, or the number of sections
+abbrev pub first_named : List ℕ → (name : List ℕ) → ℕ
+first_named bytes name = first_where (λ k. has_name bytes k name) (section_count bytes)

@@ -6,6 +6,8 @@ mod object;
 mod header;
 mod section;
 mod file;
+mod sections;
+mod bad_section;
 mod symbol;
 mod relocation;
 mod join;
