@@ -1,3 +1,5 @@
 pub mod WordLemmas
 pub mod PlaceLemmas
 pub mod NameLemmas
+pub mod SectionLemmas
+pub mod SymbolLemmas

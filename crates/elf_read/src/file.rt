@@ -1,4 +1,4 @@
-ghost use Rattle.std.specs.Prelude.{◌≡◌, ◌<◌, ℕ, nat_eq, length, take, drop, IfOk, IfErr};
+ghost use Rattle.std.specs.Prelude.{◌≡◌, ◌<◌, ◌≤◌, ◌^◌, ℕ, nat_eq, length, take, drop, IfOk, IfErr};
 ghost use Rattle.elf_read.specs.Places.{first_where};
 ghost use Rattle.elf_read.specs.Header.{HasShape, HasTable, section_count};
 ghost use Rattle.elf_read.specs.Fault.{IsFirstFault, HasNames};
@@ -32,7 +32,8 @@ impl<'a> Model for File<'a> {
 
 /// The bytes of a file from `offset` on, at most `size` of them.
 fn part(bytes: &[u8], offset: usize, size: usize) -> &[u8]
-    ensures { result.now ≡ take size (drop offset bytes.now) }
+    ensures same { result.now ≡ take size (drop offset bytes.now) }
+    ensures len { length result.now ≤ size }
 {
     let from = rest(bytes, offset);
     if size < from.len() {
@@ -47,7 +48,8 @@ fn part(bytes: &[u8], offset: usize, size: usize) -> &[u8]
 fn contents_of(bytes: &[u8], k: usize) -> &[u8]
     requires table { HasTable bytes.now }
     requires within { k < section_count bytes.now }
-    ensures { result.now ≡ contents bytes.now k }
+    ensures same { result.now ≡ contents bytes.now k }
+    ensures small { length result.now < 2 ^ 32 }
 {
     let section = section::section_at(bytes, k);
     part(bytes, section.offset as usize, section.size as usize)
@@ -94,7 +96,8 @@ impl<'a> File<'a> {
     /// The contents of section `k`, as far as they are in the file.
     pub fn contents(&self, k: usize) -> &'a [u8]
         requires within { k < section_count self.now }
-        ensures { result.now ≡ contents self.now k }
+        ensures same { result.now ≡ contents self.now k }
+        ensures small { length result.now < 2 ^ 32 }
     {
         contents_of(self.bytes, k)
     }
