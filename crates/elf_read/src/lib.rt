@@ -11,6 +11,7 @@ mod bad_section;
 mod name;
 mod symbol;
 mod symbol_table;
+mod bad_symbol;
 mod relocation;
 mod join;
 mod read;
