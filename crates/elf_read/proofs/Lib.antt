@@ -3,3 +3,4 @@ pub mod PlaceLemmas
 pub mod NameLemmas
 pub mod SectionLemmas
 pub mod SymbolLemmas
+pub mod RelaLemmas

@@ -32,6 +32,10 @@ pub or_false : (a b : Bool) → (a || b) ≡ false → (a ≡ false) × (b ≡ f
 or_false true b h = absurd (true≢false h)
 or_false false b h = (refl, h)
 
+pub or_true : (a b : Bool) → b ≡ true → (a || b) ≡ true
+or_true true b h = refl
+or_true false b h = h
+
 pub and_false : (a b : Bool) → a ≡ true → (a && b) ≡ false → b ≡ false
 and_false true b p h = h
 and_false false b p h = absurd (false≢true p)

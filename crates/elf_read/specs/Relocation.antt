@@ -42,6 +42,10 @@ unfoldable pub is_of_instruction : (kind : ℕ) → Bool
 is_of_instruction kind = is_of_pair kind || kind == BRANCH || kind == JAL || kind == PCREL_HI20 || kind == PCREL_LO12_I
     || kind == PCREL_LO12_S || kind == HI20 || kind == LO12_I || kind == LO12_S
 
+-- the kinds of the table
+unfoldable pub is_known : (kind : ℕ) → Bool
+is_known kind = is_dropped kind || is_of_data kind || is_of_instruction kind
+
 -- the bytes of the field that it fills
 unfoldable pub field_size : (kind : ℕ) → ℕ
 field_size kind = if is_of_pair kind then 8 else (if is_dropped kind then 0 else 4)
@@ -69,9 +73,7 @@ is_bad_rela_at bytes s i =
 
 -- the kind of entry i of section s is in no table
 unfoldable pub is_unknown_at : List ℕ → (s i : ℕ) → Bool
-is_unknown_at bytes s i =
-    let kind = kind_of (rela_at bytes s i) in
-    not (is_dropped kind || is_of_data kind || is_of_instruction kind)
+is_unknown_at bytes s i = not (is_known (kind_of (rela_at bytes s i)))
 
 -- entry `entry` of section `section` is the first of the file that passes the test, and k its number among all
 pub record IsFirstRela (bytes : List ℕ) (test : (s i : ℕ) → Bool) (k : ℕ) (section entry : ℕ) : Type 0 where

@@ -12,6 +12,7 @@ mod name;
 mod symbol;
 mod symbol_table;
 mod bad_symbol;
+mod rela;
 mod relocation;
 mod join;
 mod read;

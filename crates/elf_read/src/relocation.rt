@@ -1,3 +1,6 @@
+ghost use Rattle.std.specs.Prelude.{◌≡◌, ◌≤◌};
+ghost use Rattle.elf_read.specs.Relocation.{is_dropped, is_of_data, is_of_pair, is_of_instruction, is_known, field_size};
+
 /// Bytes of a relocation with its addend.
 pub const RELA_SIZE: usize = 12;
 
@@ -43,4 +46,64 @@ pub struct Rela {
     pub info: u32,
     /// r_addend, as 32 bits.
     pub addend: u32,
+}
+
+/// Whether a relocation of this kind changes nothing, and is dropped.
+pub fn is_dropped(kind: u32) -> bool
+    ensures { result ≡ is_dropped kind }
+{
+    kind == NONE || kind == ALIGN || kind == RELAX
+}
+
+/// Whether a relocation of this kind changes a word of data.
+pub fn is_of_data(kind: u32) -> bool
+    ensures { result ≡ is_of_data kind }
+{
+    kind == WORD || kind == ADD32 || kind == SUB32
+}
+
+/// Whether a relocation of this kind changes two instructions.
+pub fn is_of_pair(kind: u32) -> bool
+    ensures { result ≡ is_of_pair kind }
+{
+    kind == CALL || kind == CALL_PLT
+}
+
+/// Whether a relocation of this kind changes instructions.
+#[tactic(auto, unfolding(crate::specs::Relocation::is_of_instruction))]
+pub fn is_of_instruction(kind: u32) -> bool
+    ensures { result ≡ is_of_instruction kind }
+{
+    is_of_pair(kind)
+        || kind == BRANCH
+        || kind == JAL
+        || kind == PCREL_HI20
+        || kind == PCREL_LO12_I
+        || kind == PCREL_LO12_S
+        || kind == HI20
+        || kind == LO12_I
+        || kind == LO12_S
+}
+
+/// Whether the kind is one of the table.
+#[tactic(auto, unfolding(crate::specs::Relocation::is_known))]
+pub fn is_known(kind: u32) -> bool
+    ensures { result ≡ is_known kind }
+{
+    is_dropped(kind) || is_of_data(kind) || is_of_instruction(kind)
+}
+
+/// How many bytes the field of a relocation of this kind has.
+#[tactic(auto, unfolding(crate::specs::Relocation::field_size))]
+pub fn field_size(kind: u32) -> usize
+    ensures same { result ≡ field_size kind }
+    ensures small { result ≤ 8 }
+{
+    if is_of_pair(kind) {
+        8
+    } else if is_dropped(kind) {
+        0
+    } else {
+        4
+    }
 }

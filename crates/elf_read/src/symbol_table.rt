@@ -85,6 +85,13 @@ impl<'a> SymbolTable<'a> {
         }
     }
 
+    /// How many sections there are.
+    pub fn section_count(&self) -> usize
+        ensures { result ≡ section_count self.now }
+    {
+        self.sections.count()
+    }
+
     /// How many symbols there are.
     pub fn count(&self) -> usize
         ensures same { result ≡ symbol_count self.now }
