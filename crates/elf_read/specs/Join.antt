@@ -36,12 +36,13 @@ data_end bytes (suc k) = if is_data bytes k then aligned (data_end bytes k) (ali
 abbrev pub data_start : List ℕ → (k : ℕ) → ℕ
 data_start bytes k = aligned (data_end bytes k) (alignment_of bytes k)
 
--- what section k adds to the data: the gap before it, then its contents, which are zero where the file has none
+-- the contents of data section k, which are zero where the file has none
+unfoldable pub data_contents : List ℕ → (k : ℕ) → List ℕ
+data_contents bytes k = if (section_at bytes k).kind == NOBITS then replicate (section_at bytes k).size 0 else contents bytes k
+
+-- what section k adds to the data: the gap before it, and its contents
 unfoldable pub data_of : List ℕ → (k : ℕ) → List ℕ
-data_of bytes k = if is_data bytes k
-    then replicate (data_start bytes k - data_end bytes k) 0
-        ++ (if (section_at bytes k).kind == NOBITS then replicate (section_at bytes k).size 0 else contents bytes k)
-    else []
+data_of bytes k = if is_data bytes k then replicate (data_start bytes k - data_end bytes k) 0 ++ data_contents bytes k else []
 
 -- the data: the data sections, each at its alignment
 abbrev pub joined_data : List ℕ → List ℕ

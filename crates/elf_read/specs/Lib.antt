@@ -8,3 +8,4 @@ pub mod Relocation
 pub mod Join
 pub mod Object
 pub mod Fault
+pub mod Layout

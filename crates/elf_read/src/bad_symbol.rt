@@ -3,7 +3,7 @@ ghost use Rattle.std.specs.BTreeMap.{get_by};
 ghost use Rattle.std.specs.Cmp.Lexicographic.{slice_cmp};
 ghost use Rattle.std.specs.Ordering.{nat_cmp};
 ghost use Rattle.elf_read.specs.Places.{some_below};
-ghost use Rattle.elf_read.specs.Fault.{IsFirstFault, HasSections, HasSymbols};
+ghost use Rattle.elf_read.specs.Fault.{IsFirstFault, HasSections, HasSymbols, HasKinds, HasPlaces};
 ghost use Rattle.elf_read.specs.Symbol.{symbol_count, name_of, defines, is_bad_info, is_bad_place, is_nameless, is_local_undefined, is_past_section, is_second_definition, is_well_named, is_bad_symbol};
 ghost use Rattle.elf_read.specs.declared.fault.ElfFault.TheVariants.{Memory};
 
@@ -34,7 +34,7 @@ fn is_bad_place(table: &SymbolTable<'_>, k: usize) -> bool
     !(section == UNDEFINED
         || section == ABSOLUTE
         || section == COMMON
-        || (section as usize) < table.sections.count())
+        || (section as usize) < table.section_count())
 }
 
 /// Whether symbol `k` is global or weak and has no name.
@@ -66,8 +66,8 @@ fn is_past_section(table: &SymbolTable<'_>, k: usize) -> bool
     let entry = table.symbol(k);
     let section = entry.section as usize;
     table.is_in_section(k)
-        && table.sections.file.is_loaded(section)
-        && table.sections.file.section(section).size < entry.value
+        && table.is_loaded(section)
+        && table.section(section).size < entry.value
 }
 
 /// Whether an earlier symbol defines the name that symbol `k` defines.
@@ -140,6 +140,21 @@ pub fn check_symbols(alloc: Global, table: &SymbolTable<'_>) -> Result<(), ElfFa
             return Err(ElfFault::BadSymbol(k as u32));
         }
         define(table, k, &mut defined)?;
+    }
+    Ok(())
+}
+
+/// Whether no symbol is a common block.
+#[tactic(auto, unfolding(crate::specs::Symbol::is_common))]
+pub fn check_common(table: &SymbolTable<'_>) -> Result<(), ElfFault>
+    requires kinds { HasKinds table.now }
+    ensures ok { IfOk result (λ _. HasPlaces table.now) }
+    ensures fault { IfErr result (IsFirstFault table.now) }
+{
+    for k in 0..table.count() {
+        if table.symbol(k).section == COMMON {
+            return Err(ElfFault::Common(k as u32));
+        }
     }
     Ok(())
 }

@@ -2,6 +2,7 @@ ghost use Rattle.std.specs.Prelude.{◌≡◌, ◌<◌, ◌≤◌, ◌^◌, ℕ,
 ghost use Rattle.elf_read.specs.Places.{first_where};
 ghost use Rattle.elf_read.specs.Header.{HasShape, HasTable, section_count};
 ghost use Rattle.elf_read.specs.Fault.{IsFirstFault, HasNames};
+ghost use Rattle.elf_read.specs.declared.header.TheConstants.{MAX_SECTIONS};
 ghost use Rattle.elf_read.specs.Section.{section_at, section_names, contents, has_name, is_loaded, is_text, is_data, is_record_section, first_named};
 
 use std::marker::Model;
@@ -80,7 +81,8 @@ impl<'a> File<'a> {
 
     /// How many sections the file has.
     pub fn count(&self) -> usize
-        ensures { result ≡ section_count self.now }
+        ensures same { result ≡ section_count self.now }
+        ensures few { result ≤ MAX_SECTIONS }
     {
         usize::from(u16_at(self.bytes, 48))
     }
@@ -166,6 +168,19 @@ impl<'a> File<'a> {
         let count = self.count();
         for k in 0..count {
             if self.section(k).kind == kind {
+                return k;
+            }
+        }
+        count
+    }
+
+    /// The number of the first section of types or of records, by its name, or the number of sections.
+    pub fn first_record(&self, name: &[u8]) -> usize
+        ensures { result ≡ first_where (is_record_section self.now name.now) (section_count self.now) }
+    {
+        let count = self.count();
+        for k in 0..count {
+            if self.is_record_section(k, name) {
                 return k;
             }
         }

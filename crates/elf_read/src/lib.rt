@@ -15,6 +15,8 @@ mod bad_symbol;
 mod rela;
 mod relocation;
 mod join;
+mod layout;
+mod limits;
 mod read;
 mod word;
 

@@ -1,4 +1,4 @@
-ghost use Rattle.std.specs.Prelude.{◌≡◌, ◌<◌, ◌≤◌, ◌*◌, ◌+◌, ℕ, length, IfOk, IfErr, IfSome, IfNone};
+ghost use Rattle.std.specs.Prelude.{◌≡◌, ◌<◌, ◌≤◌, ◌*◌, ◌+◌, ◌^◌, ℕ, length, IfOk, IfErr, IfSome, IfNone};
 ghost use Rattle.elf_read.specs.Places.{IsFirst, IsNone};
 ghost use Rattle.elf_read.specs.Header.{section_count};
 ghost use Rattle.elf_read.specs.Section.{section_at, contents};
@@ -34,11 +34,12 @@ pub fn kind_of(rela: Rela) -> u32
 pub fn rela_count(table: &SymbolTable<'_>, s: usize) -> usize
     requires within { s < section_count table.now }
     ensures same { result ≡ rela_count table.now s }
+    ensures small { result < 2 ^ 32 }
 {
     if !table.sections.is_rela(s) {
         return 0;
     }
-    table.sections.file.section(s).size as usize / RELA_SIZE
+    table.section(s).size as usize / RELA_SIZE
 }
 
 /// The number of the section that the relocations of section `s` change.
@@ -49,7 +50,7 @@ pub fn target_of(table: &SymbolTable<'_>, s: usize) -> usize
     ensures same { result ≡ (section_at table.now s).info }
     ensures there { result < section_count table.now }
 {
-    table.sections.file.section(s).info as usize
+    table.section(s).info as usize
 }
 
 /// The bytes of the relocations of section `s`.
@@ -58,7 +59,8 @@ fn entries_of<'a>(table: &SymbolTable<'a>, s: usize) -> &'a [u8]
     ensures same { result.now ≡ contents table.now s }
     ensures whole { 12 * rela_count table.now s ≤ length result.now }
 {
-    table.sections.file.contents(s)
+    let _sections = &table.sections;
+    table.contents(s)
 }
 
 /// Entry `i` of section `s`.
@@ -92,7 +94,7 @@ fn is_outside(table: &SymbolTable<'_>, target: usize, rela: Rela) -> bool
     requires target { target < section_count table.now }
     ensures { result ≡ is_outside table.now target rela }
 {
-    let size = table.sections.file.section(target).size as usize;
+    let size = table.section(target).size as usize;
     size < rela.offset as usize + field_size(kind_of(rela))
 }
 
@@ -103,9 +105,8 @@ fn is_misplaced(table: &SymbolTable<'_>, target: usize, rela: Rela) -> bool
     ensures { result ≡ is_misplaced table.now target rela }
 {
     let kind = kind_of(rela);
-    let file = &table.sections.file;
-    (file.is_text(target) && (rela.offset % 4 != 0 || is_of_data(kind)))
-        || (file.is_data(target) && is_of_instruction(kind))
+    (table.is_text(target) && (rela.offset % 4 != 0 || is_of_data(kind)))
+        || (table.is_data(target) && is_of_instruction(kind))
 }
 
 /// Whether entry `i` of section `s` breaks a rule.

@@ -1,6 +1,7 @@
-ghost use Rattle.std.specs.Prelude.{◌≡◌, ◌<◌, ◌^◌, ◌%◌, ◌/◌, ◌&&◌, ◌==◌, ℕ, Bool, List, length, IfSome, is_some};
+ghost use Rattle.std.specs.Prelude.{◌≡◌, ◌<◌, ◌≤◌, ◌^◌, ◌%◌, ◌/◌, ◌&&◌, ◌==◌, ℕ, Bool, List, length, IfSome, is_some};
 ghost use Rattle.elf_read.specs.Header.{section_count};
-ghost use Rattle.elf_read.specs.Section.{is_loaded};
+ghost use Rattle.elf_read.specs.declared.header.TheConstants.{MAX_SECTIONS};
+ghost use Rattle.elf_read.specs.Section.{section_at, contents, is_loaded, is_text, is_data};
 ghost use Rattle.elf_read.specs.Fault.{HasSections};
 ghost use Rattle.elf_read.specs.Symbol.{symbol_bytes, symbol_names, symbol_count, symbol_at, type_of, binding_of, stored_name, name_of, is_well_named, is_exported, is_in_section, is_left_out, is_definition};
 
@@ -8,6 +9,7 @@ use std::marker::Model;
 use std::str;
 
 use crate::name::ended;
+use crate::section::Section;
 use crate::sections::Sections;
 use crate::symbol::{
     Entry, FILE, GLOBAL, MAX_NAME, SECTION, SYMBOL_SIZE, UNDEFINED, WEAK,
@@ -87,9 +89,50 @@ impl<'a> SymbolTable<'a> {
 
     /// How many sections there are.
     pub fn section_count(&self) -> usize
-        ensures { result ≡ section_count self.now }
+        ensures same { result ≡ section_count self.now }
+        ensures few { result ≤ MAX_SECTIONS }
     {
         self.sections.count()
+    }
+
+    /// The header of section `k`.
+    pub fn section(&self, k: usize) -> Section
+        requires within { k < section_count self.now }
+        ensures { result ≡ section_at self.now k }
+    {
+        self.sections.file.section(k)
+    }
+
+    /// The contents of section `k`.
+    pub fn contents(&self, k: usize) -> &'a [u8]
+        requires within { k < section_count self.now }
+        ensures { result.now ≡ contents self.now k }
+    {
+        self.sections.file.contents(k)
+    }
+
+    /// Whether section `k` is loaded.
+    pub fn is_loaded(&self, k: usize) -> bool
+        requires within { k < section_count self.now }
+        ensures { result ≡ is_loaded self.now k }
+    {
+        self.sections.file.is_loaded(k)
+    }
+
+    /// Whether section `k` is kept text.
+    pub fn is_text(&self, k: usize) -> bool
+        requires within { k < section_count self.now }
+        ensures { result ≡ is_text self.now k }
+    {
+        self.sections.file.is_text(k)
+    }
+
+    /// Whether section `k` is kept data.
+    pub fn is_data(&self, k: usize) -> bool
+        requires within { k < section_count self.now }
+        ensures { result ≡ is_data self.now k }
+    {
+        self.sections.file.is_data(k)
     }
 
     /// How many symbols there are.
@@ -140,7 +183,7 @@ impl<'a> SymbolTable<'a> {
         ensures { result ≡ is_in_section self.now (symbol_at self.now k) }
     {
         let entry = self.symbol(k);
-        entry.section != UNDEFINED && (entry.section as usize) < self.sections.count()
+        entry.section != UNDEFINED && (entry.section as usize) < self.section_count()
     }
 
     /// Whether symbol `k` is left out.
@@ -152,7 +195,7 @@ impl<'a> SymbolTable<'a> {
         let entry = self.symbol(k);
         k == 0
             || type_of(entry) == FILE
-            || (self.is_in_section(k) && !self.sections.file.is_loaded(entry.section as usize))
+            || (self.is_in_section(k) && !self.is_loaded(entry.section as usize))
     }
 
     /// Whether symbol `k` defines a global or weak name.
