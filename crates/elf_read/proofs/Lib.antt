@@ -4,3 +4,4 @@ pub mod NameLemmas
 pub mod SectionLemmas
 pub mod SymbolLemmas
 pub mod RelaLemmas
+pub mod JoinLemmas

@@ -17,6 +17,7 @@ mod relocation;
 mod join;
 mod layout;
 mod limits;
+mod keep;
 mod read;
 mod word;
 

@@ -1,7 +1,8 @@
 ghost use Rattle.std.specs.Prelude.{◌≡◌, ◌<◌, ◌≤◌, ◌^◌, ◌%◌, ◌/◌, ◌&&◌, ◌==◌, ℕ, Bool, List, length, IfSome, is_some};
 ghost use Rattle.elf_read.specs.Header.{section_count};
 ghost use Rattle.elf_read.specs.declared.header.TheConstants.{MAX_SECTIONS};
-ghost use Rattle.elf_read.specs.Section.{section_at, contents, is_loaded, is_text, is_data};
+ghost use Rattle.elf_read.specs.Section.{section_at, contents, is_loaded, is_text, is_data, is_record_section};
+ghost use Rattle.elf_read.specs.Places.{first_where};
 ghost use Rattle.elf_read.specs.Fault.{HasSections};
 ghost use Rattle.elf_read.specs.Symbol.{symbol_bytes, symbol_names, symbol_count, symbol_at, type_of, binding_of, stored_name, name_of, is_well_named, is_exported, is_in_section, is_left_out, is_definition};
 
@@ -101,6 +102,13 @@ impl<'a> SymbolTable<'a> {
         ensures { result ≡ section_at self.now k }
     {
         self.sections.file.section(k)
+    }
+
+    /// The number of the first section of types or of records, by its name, or the number of sections.
+    pub fn first_record(&self, name: &[u8]) -> usize
+        ensures { result ≡ first_where (is_record_section self.now name.now) (section_count self.now) }
+    {
+        self.sections.file.first_record(name)
     }
 
     /// The contents of section `k`.
