@@ -27,7 +27,11 @@ pub total_of-part : (give : ℕ → ℕ) (k count : ℕ) → k < count → total
 total_of-part give k zero lt = absurd (omega arith)
 total_of-part give k (suc count) lt = ⊎_elim
     (λ below. let part = total_of-part give k count below in omega arith)
-    (λ last. let same : k ≡ count = omega arith in rw same (omega arith))
+    (λ (last : count ≤ k).
+        let same : k ≡ count = omega arith in
+        let end : total_of give k ≡ total_of give count = ap (λ n. total_of give n) same in
+        let here : give k ≡ give count = ap give same in
+        omega (arith, end, here))
     (cases_lt k count)
 
 -- an alignment is above 0

@@ -5,3 +5,4 @@ pub mod SectionLemmas
 pub mod SymbolLemmas
 pub mod RelaLemmas
 pub mod JoinLemmas
+pub mod KeepLemmas
