@@ -15,11 +15,11 @@ pub count_where-le : (test : ℕ → Bool) (count : ℕ) → count_where test co
 count_where-le test zero = omega arith
 count_where-le test (suc count) = ⊎_elim
     (λ is.
-        let one : count_where test (suc count) ≡ count_where test count + 1 = rw is refl in
-        omega (arith, one, count_where-le test count))
+    let one : count_where test (suc count) ≡ count_where test count + 1 = rw is refl in
+    omega (arith, one, count_where-le test count))
     (λ none.
-        let same : count_where test (suc count) ≡ count_where test count + 0 = rw none refl in
-        omega (arith, same, count_where-le test count))
+    let same : count_where test (suc count) ≡ count_where test count + 0 = rw none refl in
+    omega (arith, same, count_where-le test count))
     (cases_Bool (test count))
 
 -- a part of a sum is at most the sum
@@ -28,10 +28,10 @@ total_of-part give k zero lt = absurd (omega arith)
 total_of-part give k (suc count) lt = ⊎_elim
     (λ below. let part = total_of-part give k count below in omega arith)
     (λ (last : count ≤ k).
-        let same : k ≡ count = omega arith in
-        let end : total_of give k ≡ total_of give count = ap (λ n. total_of give n) same in
-        let here : give k ≡ give count = ap give same in
-        omega (arith, end, here))
+    let same : k ≡ count = omega arith in
+    let end : total_of give k ≡ total_of give count = ap (λ n. total_of give n) same in
+    let here : give k ≡ give count = ap give same in
+    omega (arith, end, here))
     (cases_lt k count)
 
 -- an alignment is above 0
@@ -51,12 +51,12 @@ aligned-above n alignment some =
 data_end-more : (bytes : List ℕ) (k : ℕ) → data_end bytes k ≤ data_end bytes (suc k)
 data_end-more bytes k = ⊎_elim
     (λ is.
-        let end : data_end bytes (suc k) ≡ data_start bytes k + (section_at bytes k).size = rw is refl in
-        let above = aligned-above (data_end bytes k) (alignment_of bytes k) (alignment-some bytes k) in
-        omega (arith, end, above))
+    let end : data_end bytes (suc k) ≡ data_start bytes k + (section_at bytes k).size = rw is refl in
+    let above = aligned-above (data_end bytes k) (alignment_of bytes k) (alignment-some bytes k) in
+    omega (arith, end, above))
     (λ none.
-        let end : data_end bytes (suc k) ≡ data_end bytes k = rw none refl in
-        omega (arith, end))
+    let end : data_end bytes (suc k) ≡ data_end bytes k = rw none refl in
+    omega (arith, end))
     (cases_Bool (is_data bytes k))
 
 data_end-later : (bytes : List ℕ) (k more : ℕ) → data_end bytes k ≤ data_end bytes (k + more)
@@ -87,12 +87,12 @@ pub start-small : (bytes : List ℕ) (k : ℕ) → IsSound bytes → k < section
 unfolding start_of text_size
 start-small bytes k sound within loaded = ⊎_elim
     (λ is.
-        let start : start_of bytes k ≡ text_end bytes k = rw is refl in
-        let size : text_size bytes k ≡ (section_at bytes k).size = rw is refl in
-        let part = total_of-part (text_size bytes) k (section_count bytes) within in
-        omega (arith, start, size, part, sound.words))
+    let start : start_of bytes k ≡ text_end bytes k = rw is refl in
+    let size : text_size bytes k ≡ (section_at bytes k).size = rw is refl in
+    let part = total_of-part (text_size bytes) k (section_count bytes) within in
+    omega (arith, start, size, part, sound.words))
     (λ other.
-        let start : start_of bytes k ≡ data_start bytes k = rw other refl in
-        let part = data_end-part bytes k (section_count bytes) within (loaded_cases bytes k loaded other) in
-        omega (arith, start, part, sound.data_size))
+    let start : start_of bytes k ≡ data_start bytes k = rw other refl in
+    let part = data_end-part bytes k (section_count bytes) within (loaded_cases bytes k loaded other) in
+    omega (arith, start, part, sound.data_size))
     (cases_Bool (is_text bytes k))

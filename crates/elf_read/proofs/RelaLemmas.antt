@@ -16,8 +16,8 @@ unfolding rela_count
 rela_there bytes s some = ⊎_elim
     (λ is. is)
     (λ none.
-        let empty : rela_count bytes s ≡ 0 = rw none refl in
-        absurd (omega arith))
+    let empty : rela_count bytes s ≡ 0 = rw none refl in
+    absurd (omega arith))
     (cases_Bool (is_rela bytes s))
 
 -- and changes a loaded section that is there
@@ -61,14 +61,14 @@ pub relas_within : (bytes : List ℕ) (s : ℕ) → HasSections bytes → s < se
 unfolding rela_count
 relas_within bytes s sections within = ⊎_elim
     (λ there.
-        let stored = rela_stored bytes s there in
-        let inside = contents_within bytes s sections within stored.0 stored.1 in
-        let size = length-contents bytes s inside in
-        let count : rela_count bytes s ≡ (section_at bytes s).size / 12 = rw there refl in
-        omega (arith, size, count))
+    let stored = rela_stored bytes s there in
+    let inside = contents_within bytes s sections within stored.0 stored.1 in
+    let size = length-contents bytes s inside in
+    let count : rela_count bytes s ≡ (section_at bytes s).size / 12 = rw there refl in
+    omega (arith, size, count))
     (λ none.
-        let empty : rela_count bytes s ≡ 0 = rw none refl in
-        omega arith)
+    let empty : rela_count bytes s ≡ 0 = rw none refl in
+    omega arith)
     (cases_Bool (is_rela bytes s))
 
 -- no section has more entries than fit the file
@@ -76,13 +76,13 @@ pub rela_count-le : (bytes : List ℕ) (s : ℕ) → HasSections bytes → s < s
 unfolding rela_count
 rela_count-le bytes s sections within = ⊎_elim
     (λ there.
-        let stored = rela_stored bytes s there in
-        let inside = contents_within bytes s sections within stored.0 stored.1 in
-        let count : rela_count bytes s ≡ (section_at bytes s).size / 12 = rw there refl in
-        omega (arith, inside, count))
+    let stored = rela_stored bytes s there in
+    let inside = contents_within bytes s sections within stored.0 stored.1 in
+    let count : rela_count bytes s ≡ (section_at bytes s).size / 12 = rw there refl in
+    omega (arith, inside, count))
     (λ none.
-        let empty : rela_count bytes s ≡ 0 = rw none refl in
-        omega arith)
+    let empty : rela_count bytes s ≡ 0 = rw none refl in
+    omega arith)
     (cases_Bool (is_rela bytes s))
 
 -- nor have all of them

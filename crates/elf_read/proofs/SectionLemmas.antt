@@ -15,12 +15,12 @@ pub first_from-passes : (test : ℕ → Bool) (at left : ℕ) → first_from tes
 first_from-passes test at zero lt = absurd (omega arith)
 first_from-passes test at (suc left) lt = ⊎_elim
     (λ yes.
-        let here : first_from test at (suc left) ≡ at = rw yes refl in
-        rw here yes)
+    let here : first_from test at (suc left) ≡ at = rw yes refl in
+    rw here yes)
     (λ none.
-        let past : first_from test at (suc left) ≡ first_from test (at + 1) left = rw none refl in
-        let within : first_from test (at + 1) left < at + 1 + left = omega (arith, past) in
-        rw past (first_from-passes test (at + 1) left within))
+    let past : first_from test at (suc left) ≡ first_from test (at + 1) left = rw none refl in
+    let within : first_from test (at + 1) left < at + 1 + left = omega (arith, past) in
+    rw past (first_from-passes test (at + 1) left within))
     (cases_Bool (test at))
 
 pub first_where-passes : (test : ℕ → Bool) (count : ℕ) → first_where test count < count → test (first_where test count) ≡ true

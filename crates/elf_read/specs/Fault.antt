@@ -54,10 +54,13 @@ pub record HasPlaces (bytes : List ℕ) : Type 0 where
 -- how many symbols, relocations, words of text and bytes of data are kept
 abbrev pub kept_symbols : List ℕ → ℕ
 kept_symbols bytes = symbol_number bytes (symbol_count bytes)
+
 abbrev pub kept_relocs : List ℕ → ℕ
 kept_relocs bytes = total_of (kept_count bytes) (section_count bytes)
+
 abbrev pub kept_words : List ℕ → ℕ
 kept_words bytes = text_end bytes (section_count bytes) / 4
+
 abbrev pub kept_data : List ℕ → ℕ
 kept_data bytes = data_end bytes (section_count bytes)
 

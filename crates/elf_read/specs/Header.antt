@@ -11,14 +11,19 @@ is_elf32 bytes = starts_with nat_eq bytes (0x7f ∷ 0x45 ∷ 0x4c ∷ 0x46 ∷ 1
 -- e_type, e_machine, e_shoff, e_shentsize, e_shnum and e_shstrndx
 abbrev pub type_of : List ℕ → ℕ
 type_of bytes = u16_at bytes 16
+
 abbrev pub machine_of : List ℕ → ℕ
 machine_of bytes = u16_at bytes 18
+
 abbrev pub table_offset : List ℕ → ℕ
 table_offset bytes = u32_at bytes 32
+
 abbrev pub entry_size : List ℕ → ℕ
 entry_size bytes = u16_at bytes 46
+
 abbrev pub section_count : List ℕ → ℕ
 section_count bytes = u16_at bytes 48
+
 abbrev pub names_number : List ℕ → ℕ
 names_number bytes = u16_at bytes 50
 

@@ -9,6 +9,7 @@ use Rattle.elf_read.specs.declared.join.TheConstants.{MAX_ALIGNMENT}
 -- what section k adds to the text
 unfoldable pub text_of : List ℕ → (k : ℕ) → List ℕ
 text_of bytes k = if is_text bytes k then contents bytes k else []
+
 unfoldable pub text_size : List ℕ → (k : ℕ) → ℕ
 text_size bytes k = if is_text bytes k then (section_at bytes k).size else 0
 
@@ -33,6 +34,7 @@ abbrev pub data_end : List ℕ → (k : ℕ) → ℕ
 data_end bytes zero = 0
 data_end bytes (suc k) = if is_data bytes k then aligned (data_end bytes k) (alignment_of bytes k) + (section_at bytes k).size
     else data_end bytes k
+
 abbrev pub data_start : List ℕ → (k : ℕ) → ℕ
 data_start bytes k = aligned (data_end bytes k) (alignment_of bytes k)
 

@@ -63,15 +63,18 @@ area_of bytes s = if is_text bytes (section_at bytes s).info then areas.Text els
 unfoldable pub kept_reloc : List ℕ → (s i : ℕ) → Reloc
 kept_reloc bytes s i =
     let rela = rela_at bytes s i in
-    record { area = area_of bytes s
-    ; offset = start_of bytes (section_at bytes s).info + rela.offset
-    ; kind = kind_of rela
-    ; symbol = reference_of bytes s i
-    ; addend = cast_signed w32 rela.addend }
+    record {
+      area = area_of bytes s;
+      offset = start_of bytes (section_at bytes s).info + rela.offset;
+      kind = kind_of rela;
+      symbol = reference_of bytes s i;
+      addend = cast_signed w32 rela.addend;
+    }
 
 -- what entry i of section s, and what the whole section, adds to the list of relocations
 unfoldable pub reloc_of : List ℕ → (s i : ℕ) → List Reloc
 reloc_of bytes s i = if is_dropped (kind_of (rela_at bytes s i)) then [] else kept_reloc bytes s i ∷ []
+
 unfoldable pub relocs_of : List ℕ → (s : ℕ) → List Reloc
 relocs_of bytes s = joined (reloc_of bytes s) (rela_count bytes s)
 

@@ -21,23 +21,29 @@ relas_before bytes s = total_of (rela_count bytes) s
 unfoldable pub rela_at : List ℕ → (s i : ℕ) → Rela
 rela_at bytes s i =
     let at = RELA_SIZE * i in
-    record { offset = u32_at (contents bytes s) at
-    ; info = u32_at (contents bytes s) (at + 4)
-    ; addend = u32_at (contents bytes s) (at + 8) }
+    record {
+      offset = u32_at (contents bytes s) at;
+      info = u32_at (contents bytes s) (at + 4);
+      addend = u32_at (contents bytes s) (at + 8);
+    }
 
 -- the number of its symbol, and its kind
 abbrev pub symbol_of : Rela → ℕ
 symbol_of rela = rela.info / 256
+
 abbrev pub kind_of : Rela → ℕ
 kind_of rela = rela.info % 256
 
 -- the kinds that are dropped, of data, of instructions
 abbrev pub is_dropped : (kind : ℕ) → Bool
 is_dropped kind = kind == NONE || kind == ALIGN || kind == RELAX
+
 abbrev pub is_of_data : (kind : ℕ) → Bool
 is_of_data kind = kind == WORD || kind == ADD32 || kind == SUB32
+
 abbrev pub is_of_pair : (kind : ℕ) → Bool
 is_of_pair kind = kind == CALL || kind == CALL_PLT
+
 unfoldable pub is_of_instruction : (kind : ℕ) → Bool
 is_of_instruction kind = is_of_pair kind || kind == BRANCH || kind == JAL || kind == PCREL_HI20 || kind == PCREL_LO12_I
     || kind == PCREL_LO12_S || kind == HI20 || kind == LO12_I || kind == LO12_S

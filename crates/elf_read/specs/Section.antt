@@ -12,14 +12,16 @@ use Rattle.elf_read.specs.declared.section.TheConstants.{PROGBITS, SYMTAB, STRTA
 unfoldable pub section_at : List ℕ → (k : ℕ) → Section
 section_at bytes k =
     let at = table_offset bytes + ENTRY_SIZE * k in
-    record { name = u32_at bytes at
-    ; kind = u32_at bytes (at + 4)
-    ; flags = u32_at bytes (at + 8)
-    ; offset = u32_at bytes (at + 16)
-    ; size = u32_at bytes (at + 20)
-    ; link = u32_at bytes (at + 24)
-    ; info = u32_at bytes (at + 28)
-    ; alignment = u32_at bytes (at + 32) }
+    record {
+      name = u32_at bytes at;
+      kind = u32_at bytes (at + 4);
+      flags = u32_at bytes (at + 8);
+      offset = u32_at bytes (at + 16);
+      size = u32_at bytes (at + 20);
+      link = u32_at bytes (at + 24);
+      info = u32_at bytes (at + 28);
+      alignment = u32_at bytes (at + 32);
+    }
 
 -- the contents of section k
 unfoldable pub contents : List ℕ → (k : ℕ) → List ℕ
@@ -45,6 +47,7 @@ is_loaded bytes k =
 -- a loaded section is text where it is executable, else data
 unfoldable pub is_text : List ℕ → (k : ℕ) → Bool
 is_text bytes k = is_loaded bytes k && has_flag (section_at bytes k) EXECINSTR
+
 unfoldable pub is_data : List ℕ → (k : ℕ) → Bool
 is_data bytes k = is_loaded bytes k && not (has_flag (section_at bytes k) EXECINSTR)
 
@@ -56,6 +59,7 @@ is_record_section bytes name k =
 
 abbrev pub is_types : List ℕ → (k : ℕ) → Bool
 is_types bytes k = is_record_section bytes CFI_TYPES.now k
+
 abbrev pub is_records : List ℕ → (k : ℕ) → Bool
 is_records bytes k = is_record_section bytes CFI_RECORDS.now k
 

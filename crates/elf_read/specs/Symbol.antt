@@ -13,6 +13,7 @@ use Rattle.elf_read.specs.declared.symbol.TheConstants.{SYMBOL_SIZE, LOCAL, GLOB
 -- the bytes of the first symbol table, and of the names of its symbols; none where there is no table
 unfoldable pub symbol_bytes : List ℕ → List ℕ
 symbol_bytes bytes = if has_symbols bytes then contents bytes (symbol_table bytes) else []
+
 unfoldable pub symbol_names : List ℕ → List ℕ
 symbol_names bytes = if has_symbols bytes then contents bytes (section_at bytes (symbol_table bytes)).link else []
 
@@ -24,14 +25,17 @@ symbol_count bytes = length (symbol_bytes bytes) / SYMBOL_SIZE
 unfoldable pub symbol_at : List ℕ → (k : ℕ) → Entry
 symbol_at bytes k =
     let at = SYMBOL_SIZE * k in
-    record { name = u32_at (symbol_bytes bytes) at
-    ; value = u32_at (symbol_bytes bytes) (at + 4)
-    ; info = slice_index (symbol_bytes bytes) (at + 12)
-    ; section = u16_at (symbol_bytes bytes) (at + 14) }
+    record {
+      name = u32_at (symbol_bytes bytes) at;
+      value = u32_at (symbol_bytes bytes) (at + 4);
+      info = slice_index (symbol_bytes bytes) (at + 12);
+      section = u16_at (symbol_bytes bytes) (at + 14);
+    }
 
 -- its type and its binding
 abbrev pub type_of : Entry → ℕ
 type_of symbol = symbol.info % 16
+
 abbrev pub binding_of : Entry → ℕ
 binding_of symbol = symbol.info / 16
 

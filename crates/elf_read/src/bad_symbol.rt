@@ -7,12 +7,11 @@ ghost use Rattle.elf_read.specs.Fault.{IsFirstFault, HasSections, HasSymbols, Ha
 ghost use Rattle.elf_read.specs.Symbol.{symbol_count, name_of, defines, is_bad_info, is_bad_place, is_nameless, is_local_undefined, is_past_section, is_second_definition, is_well_named, is_bad_symbol};
 ghost use Rattle.elf_read.specs.declared.fault.ElfFault.TheVariants.{Memory};
 
-use std::alloc::Global;
-use std::collections::BTreeMap;
-
 use crate::fault::ElfFault;
 use crate::symbol::{ABSOLUTE, COMMON, LOCAL, THREAD_LOCAL, UNDEFINED, WEAK};
 use crate::symbol_table::{SymbolTable, binding_of, is_exported, type_of};
+use std::alloc::Global;
+use std::collections::BTreeMap;
 
 /// Whether the type or the binding of symbol `k` is not taken.
 #[tactic(auto, unfolding(crate::specs::Symbol::is_bad_info))]
@@ -65,9 +64,7 @@ fn is_past_section(table: &SymbolTable<'_>, k: usize) -> bool
 {
     let entry = table.symbol(k);
     let section = entry.section as usize;
-    table.is_in_section(k)
-        && table.is_loaded(section)
-        && table.section(section).size < entry.value
+    table.is_in_section(k) && table.is_loaded(section) && table.section(section).size < entry.value
 }
 
 /// Whether an earlier symbol defines the name that symbol `k` defines.

@@ -5,11 +5,10 @@ ghost use Rattle.elf_read.specs.Fault.{IsFirstFault, HasNames};
 ghost use Rattle.elf_read.specs.declared.header.TheConstants.{MAX_SECTIONS};
 ghost use Rattle.elf_read.specs.Section.{section_at, section_names, contents, has_name, is_loaded, is_text, is_data, is_record_section, first_named};
 
-use std::marker::Model;
-
 use crate::fault::ElfFault;
 use crate::section::{self, ALLOC, EH_FRAME, EXECINSTR, NOBITS, PROGBITS, Section};
 use crate::word::{rest, u16_at};
+use std::marker::Model;
 
 /// A file whose section headers and section names can be read. Contracts see its bytes.
 #[derive(Drop)]

@@ -2,12 +2,11 @@ ghost use Rattle.std.specs.Prelude.{◌≡◌, ◌<◌, ◌≤◌, ◌+◌, ◌-
 ghost use Rattle.elf_read.specs.Header.{section_count};
 ghost use Rattle.elf_read.specs.Join.{text_of, data_of, data_contents, data_end, joined_text, joined_data};
 
-use std::alloc::{AllocError, Global};
-
 use crate::layout::{align_up, alignment_of, data_end_of};
 use crate::object::Bytes;
 use crate::section::NOBITS;
 use crate::symbol_table::SymbolTable;
+use std::alloc::{AllocError, Global};
 
 /// The greatest alignment that joined data keeps.
 pub const MAX_ALIGNMENT: u32 = 16;

@@ -7,8 +7,6 @@ ghost use Rattle.elf_read.specs.Object.{kept_binding, kept_place, kept_value, ke
 ghost use Rattle.elf_read.specs.Layout.{IsLayout, IsNumbering};
 ghost use Rattle.elf_read.specs.Fault.{IsFirstFault, HasPlaces, IsSound, IsObject};
 
-use std::alloc::{AllocError, Global};
-
 use crate::fault::ElfFault;
 use crate::join::{join_data, join_text};
 use crate::layout::{Layout, layout_of};
@@ -19,6 +17,7 @@ use crate::relocation::is_dropped;
 use crate::section::{CFI_RECORDS, CFI_TYPES};
 use crate::symbol::{ABSOLUTE, GLOBAL, LOCAL, UNDEFINED};
 use crate::symbol_table::{SymbolTable, binding_of};
+use std::alloc::{AllocError, Global};
 
 /// The binding of symbol `k`.
 #[tactic(auto, unfolding(crate::specs::Object::kept_binding))]

@@ -3,10 +3,9 @@ ghost use Rattle.elf_read.specs.Header.{section_count};
 ghost use Rattle.elf_read.specs.Join.{aligned, alignment_of, text_size, text_end, data_end, start_of};
 ghost use Rattle.elf_read.specs.Layout.{IsLayout};
 
-use std::alloc::{AllocError, Global};
-
 use crate::join::MAX_ALIGNMENT;
 use crate::symbol_table::SymbolTable;
+use std::alloc::{AllocError, Global};
 
 /// Where the sections of a file begin once they are joined, in bytes.
 #[derive(Drop)]

@@ -5,14 +5,13 @@ ghost use Rattle.elf_read.specs.Object.{symbol_number, kept_count};
 ghost use Rattle.elf_read.specs.Layout.{IsLayout, IsNumbering};
 ghost use Rattle.elf_read.specs.Fault.{IsFirstFault, HasPlaces, IsSound, kept_symbols, kept_relocs};
 
-use std::alloc::{AllocError, Global};
-
 use crate::fault::{ElfFault, Limit};
 use crate::join::{MAX_DATA, MAX_RELOCS, MAX_SYMBOLS, MAX_WORDS};
 use crate::layout::Layout;
 use crate::rela::{kind_of, rela_at, rela_count};
 use crate::relocation::is_dropped;
 use crate::symbol_table::SymbolTable;
+use std::alloc::{AllocError, Global};
 
 /// The number of each symbol among those that are kept, and how many those are.
 #[tactic(auto, unfolding(crate::specs::Object::symbol_number))]

@@ -1,8 +1,6 @@
 ghost use Rattle.std.specs.Prelude.{◌≡◌, ◌≤◌, length, IfOk, IfErr};
 ghost use Rattle.elf_read.specs.Fault.{IsFirstFault, IsObject};
 
-use std::alloc::Global;
-
 use crate::bad_section::check_sections;
 use crate::bad_symbol::{check_common, check_symbols};
 use crate::fault::ElfFault;
@@ -13,6 +11,7 @@ use crate::object::Object;
 use crate::rela::{MAX_FILE, check_kinds, check_relas};
 use crate::sections::Sections;
 use crate::symbol_table::SymbolTable;
+use std::alloc::Global;
 
 /// The object that the bytes of a relocatable file are.
 ///

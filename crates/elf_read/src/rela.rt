@@ -6,9 +6,7 @@ ghost use Rattle.elf_read.specs.Fault.{IsFirstFault, HasSymbols, HasRelas, HasKi
 ghost use Rattle.elf_read.specs.Relocation.{rela_count, rela_at, symbol_of, kind_of, is_bad_reference, is_outside, is_misplaced, is_bad_rela_at, is_unknown_at};
 
 use crate::fault::ElfFault;
-use crate::relocation::{
-    RELA_SIZE, Rela, field_size, is_known, is_of_data, is_of_instruction,
-};
+use crate::relocation::{RELA_SIZE, Rela, field_size, is_known, is_of_data, is_of_instruction};
 use crate::symbol_table::SymbolTable;
 use crate::word::u32_at;
 

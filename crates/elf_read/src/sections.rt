@@ -4,11 +4,10 @@ ghost use Rattle.elf_read.specs.declared.header.TheConstants.{MAX_SECTIONS};
 ghost use Rattle.elf_read.specs.Section.{section_at, is_types, is_records, has_symbols, has_kind, is_symbol_names, is_rela, is_kept, is_short, symbol_table, first_named};
 ghost use Rattle.elf_read.specs.Fault.{IsFirstFault, HasNames, HasContents};
 
-use std::marker::Model;
-
 use crate::fault::ElfFault;
 use crate::file::File;
 use crate::section::{CFI_RECORDS, CFI_TYPES, NOBITS, RELA, STRTAB, SYMTAB};
+use std::marker::Model;
 
 /// The sections of a file, with the numbers of the first ones that others are told by. Contracts see the file's bytes.
 #[derive(Drop)]

@@ -6,16 +6,13 @@ ghost use Rattle.elf_read.specs.Places.{first_where};
 ghost use Rattle.elf_read.specs.Fault.{HasSections};
 ghost use Rattle.elf_read.specs.Symbol.{symbol_bytes, symbol_names, symbol_count, symbol_at, type_of, binding_of, stored_name, name_of, is_well_named, is_exported, is_in_section, is_left_out, is_definition};
 
-use std::marker::Model;
-use std::str;
-
 use crate::name::ended;
 use crate::section::Section;
 use crate::sections::Sections;
-use crate::symbol::{
-    Entry, FILE, GLOBAL, MAX_NAME, SECTION, SYMBOL_SIZE, UNDEFINED, WEAK,
-};
+use crate::symbol::{Entry, FILE, GLOBAL, MAX_NAME, SECTION, SYMBOL_SIZE, UNDEFINED, WEAK};
 use crate::word::{rest, u16_at, u32_at};
+use std::marker::Model;
+use std::str;
 
 /// The first symbol table of a file whose sections are good. Contracts see the file's bytes.
 #[derive(Drop)]

@@ -10,9 +10,9 @@ use Rattle.elf_read.proofs.bad_section.ended_bytes.Goals as goal
 up_to : (xs : List ℕ) (end i : ℕ) → end ≤ length xs → (end ≡ 0) ⊎ (get_or xs (end - 1) 0 ≡ 0) → ((j : ℕ) → end ≤ j → j < length xs → get_or xs j 0 ≢ 0) → list_any (λ byte. byte == 0) (drop i xs) ≡ nat_lt i end
 up_to xs end i within last none = ⊎_elim
     (λ before. ⊎_elim
-        (λ zero_end. absurd (omega arith))
-        (λ zero_there. ended-at xs i (end - 1) (omega arith) (omega arith) zero_there ∙ grind (arith, nat_tests))
-        last)
+    (λ zero_end. absurd (omega arith))
+    (λ zero_there. ended-at xs i (end - 1) (omega arith) (omega arith) zero_there ∙ grind (arith, nat_tests))
+    last)
     (λ after. not-ended xs i (λ j low high. none j (omega arith) high) ∙ grind (arith, nat_tests))
     (cases_lt i end)
 
