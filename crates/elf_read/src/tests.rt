@@ -68,7 +68,7 @@ fn from_hex(alloc: Global, digits: &str) -> Result<Vec<u8>, AllocError> {
         match high {
             None => high = Some(value),
             Some(first) => {
-                out.push(first * 16 + value)?;
+                out.push((first % 16) * 16 + value)?;
                 high = None;
             }
         }
@@ -76,10 +76,10 @@ fn from_hex(alloc: Global, digits: &str) -> Result<Vec<u8>, AllocError> {
     Ok(out)
 }
 
-// Writes the bytes from `at` on over those of a file.
-fn patch(bytes: &mut Vec<u8>, at: usize, patch: &[u8]) {
-    for (byte, new) in bytes.iter_mut().skip(at).zip(patch) {
-        *byte = *new;
+// Writes a half word over that at `at`.
+fn patch(bytes: &mut Vec<u8>, at: usize, word: u16) {
+    for (byte, new) in bytes.iter_mut().skip(at).zip(word.to_le_bytes()) {
+        *byte = new;
     }
 }
 
@@ -119,51 +119,76 @@ fn example_is_read(rt: HostRuntime) -> Result<(), Fail> {
     Ok(())
 }
 
-#[test]
-fn faults(rt: HostRuntime) -> Result<(), Fail> {
-    // Where the example is changed, to which bytes, and the fault that it then has.
-    let rows: [(usize, &[u8], ElfFault); 24] = [
-        (4, b"\x02", ElfFault::NotElf32),
-        (18, b"\x3e", ElfFault::NotRiscv),
-        (16, b"\x02", ElfFault::NotRelocatable),
-        (48, b"\x01\x04", ElfFault::TooMany(Limit::Sections)),
-        (32, b"\x10\x0f", ElfFault::Short(0xf10)),
-        (46, b"\x29", ElfFault::BadSection(0)),
-        (50, b"\x0a", ElfFault::BadSection(0)),
-        // .shstrtab, .text and .strtab past the end
-        (268 + 40 * 9 + 20, b"\0\x10", ElfFault::Short(184)),
-        (268 + 40 + 21, b"\x10", ElfFault::Short(52)),
-        (268 + 40 * 8 + 16, b"\xff\xff", ElfFault::Short(0xffff)),
-        // the name, TLS, a size of no words, an alignment, a wrong symbol table
-        (268 + 40 * 3, b"\x52", ElfFault::BadSection(3)),
-        (268 + 40 * 3 + 8, b"\x02\x04", ElfFault::BadSection(3)),
-        (268 + 40 + 20, b"\x0f", ElfFault::BadSection(1)),
-        (268 + 40 + 32, b"\x03", ElfFault::BadSection(1)),
-        (268 + 40 * 2 + 24, b"\x06", ElfFault::BadSection(2)),
-        // a type, a section number, a name that is not ended, a local undefined symbol, a value
-        (112 + 16 + 12, b"\x06", ElfFault::BadSymbol(1)),
-        (112 + 32 + 14, b"\x0a", ElfFault::BadSymbol(2)),
-        (112 + 16, b"\x08", ElfFault::BadSymbol(1)),
-        (112 + 48 + 12, b"\0", ElfFault::BadSymbol(3)),
-        (112 + 32 + 4, b"\x11", ElfFault::BadSymbol(2)),
-        // a field past the text, a symbol that is left out, a kind, a common block
-        (68, b"\x0c", ElfFault::BadReloc(0)),
-        (68 + 5, b"\x01", ElfFault::BadReloc(0)),
-        (68 + 12 + 4, b"\x34", ElfFault::UnknownReloc(1, 0x34)),
-        (112 + 48 + 14, b"\xf2\xff", ElfFault::Common(3)),
-    ];
-    for (at, new, fault) in rows {
-        let mut bytes = example(rt.alloc())?;
-        patch(&mut bytes, at, new);
-        let answer = read(&rt, rt.alloc(), bytes.as_slice());
-        assert_eq!(rt; answer.err(), Some(fault), "at {at}");
+// Whether the example has these faults, each where a half word is written over that at a place.
+fn refuses(
+    rt: &impl Abort,
+    alloc: Global,
+    rows: &[(usize, u16, ElfFault)],
+) -> Result<(), AllocError> {
+    for (at, word, fault) in rows {
+        let mut bytes = example(alloc)?;
+        patch(&mut bytes, *at, *word);
+        let answer = read(rt, alloc, bytes.as_slice());
+        assert_eq!(rt; answer.err(), Some(*fault), "at {at}");
     }
-    let bytes = example(rt.alloc())?;
-    assert!(rt; bytes.len() > 51);
+    Ok(())
+}
+
+#[test]
+fn faults_of_the_header(rt: HostRuntime) -> Result<(), Fail> {
+    let mut bytes = example(rt.alloc())?;
+    bytes.truncate(51);
     assert_eq!(rt;
-        read(&rt, rt.alloc(), &bytes.as_slice()[..51]).err(),
+        read(&rt, rt.alloc(), bytes.as_slice()).err(),
         Some(ElfFault::Short(0))
     );
+    let rows = [
+        (4, 0x0102, ElfFault::NotElf32),
+        (18, 62, ElfFault::NotRiscv),
+        (16, 2, ElfFault::NotRelocatable),
+        (48, 1025, ElfFault::TooMany(Limit::Sections)),
+        (32, 0xf10, ElfFault::Short(0xf10)),
+        (46, 41, ElfFault::BadSection(0)),
+        (50, 10, ElfFault::BadSection(0)),
+    ];
+    refuses(&rt, rt.alloc(), &rows)?;
+    Ok(())
+}
+
+#[test]
+fn faults_of_sections(rt: HostRuntime) -> Result<(), Fail> {
+    let rows = [
+        // .shstrtab, .text and .strtab past the end
+        (268 + 40 * 9 + 20, 0x1000, ElfFault::Short(184)),
+        (268 + 40 + 21, 0x10, ElfFault::Short(52)),
+        (268 + 40 * 8 + 16, 0xffff, ElfFault::Short(0xffff)),
+        // a name that is not ended, TLS, a size of no words, an alignment, a wrong symbol table
+        (268 + 40 * 3, 82, ElfFault::BadSection(3)),
+        (268 + 40 * 3 + 8, 0x402, ElfFault::BadSection(3)),
+        (268 + 40 + 20, 15, ElfFault::BadSection(1)),
+        (268 + 40 + 32, 3, ElfFault::BadSection(1)),
+        (268 + 40 * 2 + 24, 6, ElfFault::BadSection(2)),
+    ];
+    refuses(&rt, rt.alloc(), &rows)?;
+    Ok(())
+}
+
+#[test]
+fn faults_of_symbols(rt: HostRuntime) -> Result<(), Fail> {
+    let rows = [
+        // a type, a section number, a name that is not ended, a local undefined symbol, a value
+        (112 + 16 + 12, 6, ElfFault::BadSymbol(1)),
+        (112 + 32 + 14, 10, ElfFault::BadSymbol(2)),
+        (112 + 16, 8, ElfFault::BadSymbol(1)),
+        (112 + 48 + 12, 0, ElfFault::BadSymbol(3)),
+        (112 + 32 + 4, 17, ElfFault::BadSymbol(2)),
+        // a field past the text, a symbol that is left out, a kind, a common block
+        (68, 12, ElfFault::BadReloc(0)),
+        (68 + 5, 1, ElfFault::BadReloc(0)),
+        (68 + 12 + 4, 52, ElfFault::UnknownReloc(1, 52)),
+        (112 + 48 + 14, 0xfff2, ElfFault::Common(3)),
+    ];
+    refuses(&rt, rt.alloc(), &rows)?;
     Ok(())
 }
 
@@ -225,7 +250,8 @@ fn assembled(rt: HostRuntime) -> Result<(), Fail> {
     assert_eq!(rt; object.symbols.as_slice().len(), 9);
     for (symbol, (name, place, value)) in object.symbols.as_slice().iter().zip(symbols) {
         assert_eq!(rt; symbol.name.as_str(), name);
-        assert_eq!(rt; (symbol.place, symbol.value), (place, value), "{name}");
+        assert_eq!(rt; symbol.place, place, "{name}");
+        assert_eq!(rt; symbol.value, value, "{name}");
     }
     let relocs = [
         (Area::Text, 0, 19, Some(8)),
