@@ -6,3 +6,4 @@ pub mod SymbolLemmas
 pub mod RelaLemmas
 pub mod JoinLemmas
 pub mod KeepLemmas
+pub mod FaultLemmas

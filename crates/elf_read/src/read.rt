@@ -1,4 +1,6 @@
-ghost use Rattle.std.specs.Prelude.{◌≡◌, ◌≤◌, length, IfOk, IfErr};
+ghost use Rattle.std.specs.Prelude.{◌≡◌, ◌≤◌, ◌⊎◌, length, Ok, Err, IfOk, IfErr};
+ghost use Rattle.elf_read.specs.declared.object.Object.{Object};
+ghost use Rattle.elf_read.specs.declared.fault.ElfFault.TheVariants.{Memory};
 ghost use Rattle.elf_read.specs.Fault.{IsFirstFault, IsObject};
 
 use crate::bad_section::check_sections;
@@ -19,6 +21,17 @@ use std::alloc::Global;
 /// passes: header, section headers, contents, sections, symbols, relocations, kinds of relocations, common blocks,
 /// limits. System V ELF; RISC-V ELF psABI.
 pub fn read_object(alloc: Global, bytes: &[u8]) -> Result<Object, ElfFault>
+    requires small { length bytes.now ≤ MAX_FILE }
+    ensures ok { IfOk result (IsObject bytes.now) }
+    ensures fault { IfErr result (IsFirstFault bytes.now) }
+    ensures only { (object : Object) → IsObject bytes.now object →
+        (result ≡ Ok object) ⊎ (result ≡ Err Memory) }
+{
+    pass_over(alloc, bytes)
+}
+
+/// The object, or the fault of the first pass over the file that has one.
+fn pass_over(alloc: Global, bytes: &[u8]) -> Result<Object, ElfFault>
     requires small { length bytes.now ≤ MAX_FILE }
     ensures ok { IfOk result (IsObject bytes.now) }
     ensures fault { IfErr result (IsFirstFault bytes.now) }

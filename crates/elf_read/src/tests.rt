@@ -226,9 +226,13 @@ const ASSEMBLED: &str = "\
      11000000030000000000000000000000b00100004800000000000000000000000100000000000000\
      ";
 
+fn assembled_file(alloc: Global) -> Result<Vec<u8>, AllocError> {
+    from_hex(alloc, ASSEMBLED)
+}
+
 #[test]
 fn assembled(rt: HostRuntime) -> Result<(), Fail> {
-    let bytes = from_hex(rt.alloc(), ASSEMBLED)?;
+    let bytes = assembled_file(rt.alloc())?;
     let object = read(&rt, rt.alloc(), bytes.as_slice())?;
     assert_eq!(rt; object.text.len(), 28);
     assert_eq!(rt;
