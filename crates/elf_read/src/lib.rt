@@ -1,4 +1,8 @@
 //! Reads ELF32 relocatable files for RISC-V.
+//!
+//! Stands on `byteorder` and `thiserror`; the crates of records, relocations and written objects stand on it. Proved:
+//! each answer is exactly the object that the bytes are, or their first fault, by `specs/Fault.antt` and what it
+//! cites. Only tested: the texts of faults, and that ample memory is enough. Open: when memory runs out.
 #![tactic(auto)]
 
 mod bad_section;
@@ -14,7 +18,7 @@ mod name;
 mod object;
 mod read;
 mod rela;
-mod relocation;
+pub mod relocation;
 mod section;
 mod sections;
 mod symbol;
@@ -28,3 +32,4 @@ pub use crate::object::{
     Area, Binding, Bytes, Name, Object, Place, Reloc, Relocs, Symbol, Symbols,
 };
 pub use crate::read::read_object;
+pub use crate::rela::MAX_FILE;
