@@ -9,8 +9,7 @@ use Rattle.cfi_io.specs.declared.mem_sink.MemSink.{MemSink}
 -- the files of these pairs of name and bytes: of two pairs with one name the later counts
 abbrev pub files_of : List (String Global × Vec ℕ Global) → Files
 files_of pairs name =
-    let last = find (λ pair. bytes_eq (string_bytes pair.0) name) (reverse pairs) in
-    option_map (λ pair. pair.1.items) last
+    option_map (λ pair. pair.1.items) (find (λ pair. bytes_eq (string_bytes pair.0) name) (reverse pairs))
 
 -- the files that the shelf holds
 abbrev pub files_held : MemShelf → Files
@@ -24,14 +23,6 @@ shelf_calls shelf = shelf.calls.made
 abbrev pub shelf_fails : MemShelf → List ℕ
 shelf_fails shelf = shelf.calls.fails.items
 
--- how often the shelf has failed
-abbrev pub shelf_faults : MemShelf → ℕ
-shelf_faults shelf = shelf.calls.faults
-
--- how often a file of the shelf was not there, or was too long
-abbrev pub shelf_misses : MemShelf → ℕ
-shelf_misses shelf = shelf.misses
-
 -- the bytes that the sink holds
 abbrev pub bytes_held : MemSink → List ℕ
 bytes_held sink = sink.bytes.items
@@ -43,7 +34,3 @@ sink_calls sink = sink.calls.made
 -- the numbers of the sink's calls that fail
 abbrev pub sink_fails : MemSink → List ℕ
 sink_fails sink = sink.calls.fails.items
-
--- how often the sink has failed
-abbrev pub sink_faults : MemSink → ℕ
-sink_faults sink = sink.calls.faults

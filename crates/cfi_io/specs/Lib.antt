@@ -1,5 +1,4 @@
 pub mod Count
-pub mod Edge
 pub mod Files
 pub mod Held
 pub mod Told

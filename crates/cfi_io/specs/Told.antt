@@ -1,4 +1,4 @@
--- Meanings of the outside that an object tells, or does not tell. Nothing is claimed of the latter.
+-- Meanings of the outside that an object tells or does not tell. Nothing is claimed where nothing is told.
 use Rattle.std.specs.Prelude.{ℕ, List, take, Option, Some, None, ⊤}
 use Rattle.std.specs.Io.KnownBytes.{Appends}
 

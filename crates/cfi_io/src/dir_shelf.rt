@@ -1,7 +1,6 @@
 //! The files of the current folder as a shelf.
 ghost use Rattle.std.specs.Prelude.{◌≡◌, ◌≤◌, ◌<◌, ℕ, length, None, vec_len, IfOk};
 ghost use Rattle.cfi_io.specs.declared.shelf.TheConstants.{MAX_FILE_BYTES};
-ghost use Rattle.cfi_io.specs.Edge.{folder_faults, folder_misses};
 
 use crate::count::raise;
 use crate::pipe::{read_file, write_file};
@@ -20,11 +19,10 @@ pub struct DirShelf {
 }
 
 impl DirShelf {
-    /// The shelf of the current folder, which takes memory from `alloc` where it reads. This call
-    /// takes none.
+    /// The shelf of the current folder, which takes memory from `alloc` where it reads. This call takes none.
     pub fn new(rt: HostRuntime, alloc: Global) -> Self
-        ensures faults { folder_faults result ≡ 0 }
-        ensures misses { folder_misses result ≡ 0 }
+        ensures faults { ⟦<DirShelf as Shelf>⟧.faults result ≡ 0 }
+        ensures misses { ⟦<DirShelf as Shelf>⟧.misses result ≡ 0 }
     {
         DirShelf {
             rt,
@@ -50,9 +48,9 @@ fn make(rt: &HostRuntime, name: &str, bytes: &[u8]) -> io::Result<()> {
 impl Shelf for DirShelf {
     ghost files = { λ _. None };
 
-    ghost faults = { folder_faults };
+    ghost faults = { λ shelf. shelf.faults };
 
-    ghost misses = { folder_misses };
+    ghost misses = { λ shelf. shelf.misses };
 
     fn read(&mut self, name: &str) -> Result<Vec<u8>, ShelfFault> {
         let fault = match bytes_of(&self.rt, self.alloc, name) {

@@ -1,11 +1,11 @@
 //! A shelf in memory, some of whose calls fail.
-ghost use Rattle.std.specs.Prelude.{◌≡◌, ◌≢◌, ◌≤◌, ◌<◌, length, Some, Contains, vec_len, IfOk, OnOk, OnErr, IsErrOf};
+ghost use Rattle.std.specs.Prelude.{◌≡◌, ◌≢◌, ◌≤◌, ◌<◌, length, Some, Contains, vec_len, IfOk, OnOk, OnErr, IsErrOf, IsSomeAnd};
 ghost use Rattle.std.specs.Option.{option_map};
 ghost use Rattle.cfi_io.specs.declared.shelf.TheConstants.{MAX_FILE_BYTES};
 ghost use Rattle.cfi_io.specs.declared.fault.ShelfFault.TheVariants.{Failed, Absent, TooLong, Memory};
 ghost use Rattle.cfi_io.specs.Count.{Rose, next_count};
-ghost use Rattle.cfi_io.specs.Files.{HasFile, Lacks, HasLonger, Puts, PutsPart};
-ghost use Rattle.cfi_io.specs.Held.{files_of, files_held, shelf_calls, shelf_fails, shelf_faults, shelf_misses};
+ghost use Rattle.cfi_io.specs.Files.{Puts, PutsPart};
+ghost use Rattle.cfi_io.specs.Held.{files_of, files_held, shelf_calls, shelf_fails};
 
 use crate::count::{Calls, raise};
 use crate::{MAX_FILE_BYTES, Shelf, ShelfFault};
@@ -23,14 +23,13 @@ pub struct MemShelf {
 impl MemShelf {
     /// A shelf with these pairs of name and bytes, whose calls with these numbers fail.
     ///
-    /// Of two pairs with one name the later counts. Later calls take their memory from `alloc`;
-    /// this one takes none.
+    /// Of two pairs with one name the later counts. Later calls take their memory from `alloc`; this one takes none.
     pub fn new(alloc: Global, files: Vec<(String, Vec<u8>)>, fails: Vec<u32>) -> Self
         ensures files { files_held result ≡ files_of files.items }
         ensures fails { shelf_fails result ≡ fails.items }
         ensures calls { shelf_calls result ≡ 0 }
-        ensures faults { shelf_faults result ≡ 0 }
-        ensures misses { shelf_misses result ≡ 0 }
+        ensures faults { ⟦<MemShelf as Shelf>⟧.faults result ≡ 0 }
+        ensures misses { ⟦<MemShelf as Shelf>⟧.misses result ≡ 0 }
     {
         MemShelf {
             alloc,
@@ -40,7 +39,7 @@ impl MemShelf {
         }
     }
 
-    /// The bytes of the file of this name, and `None` where no file has it. It is no numbered call.
+    /// The bytes of the file of this name, and `None` where no file has it. This is no numbered call.
     pub fn file(&self, name: &str) -> Option<&[u8]>
         ensures { option_map (λ bytes. bytes.now) result ≡ files_held self.now name.now }
     {
@@ -65,30 +64,25 @@ fn last_of<'a>(files: &'a [(String, Vec<u8>)], name: &str) -> Option<&'a Vec<u8>
 impl Shelf for MemShelf {
     ghost files = { λ shelf. Some (files_held shelf) };
 
-    ghost faults = { shelf_faults };
+    ghost faults = { λ shelf. shelf.calls.faults };
 
-    ghost misses = { shelf_misses };
+    ghost misses = { λ shelf. shelf.misses };
 
     fn read(&mut self, name: &str) -> Result<Vec<u8>, ShelfFault>
         ensures within { IfOk result (λ bytes. vec_len bytes ≤ MAX_FILE_BYTES) }
-        ensures ok { IfOk result (λ bytes. HasFile name.now bytes.items (files_held self.old)) }
-        ensures failed { IsErrOf result Failed →
-            Rose (shelf_faults self.old) (shelf_faults self.new) }
-        ensures numbered { IsErrOf result Failed →
-            Contains (shelf_fails self.old) (shelf_calls self.old) }
-        ensures fails { Contains (shelf_fails self.old) (shelf_calls self.old) →
-            result ≡ Err Failed }
-        ensures absent { IsErrOf result Absent →
-            Rose (shelf_misses self.old) (shelf_misses self.new) }
-        ensures lacks { IsErrOf result Absent → Lacks name.now (files_held self.old) }
-        ensures too_long { IsErrOf result TooLong →
-            Rose (shelf_misses self.old) (shelf_misses self.new) }
+        ensures ok { IfOk result (λ bytes. files_held self.old name.now ≡ Some bytes.items) }
+        ensures failed { IsErrOf result Failed → Rose self.old.calls.faults self.new.calls.faults }
+        ensures numbered { IsErrOf result Failed → Contains (shelf_fails self.old) (shelf_calls self.old) }
+        ensures fails { Contains (shelf_fails self.old) (shelf_calls self.old) → result ≡ Err Failed }
+        ensures absent { IsErrOf result Absent → Rose self.old.misses self.new.misses }
+        ensures lacks { IsErrOf result Absent → files_held self.old name.now ≡ None }
+        ensures too_long { IsErrOf result TooLong → Rose self.old.misses self.new.misses }
         ensures exceeds { IsErrOf result TooLong →
-            HasLonger name.now MAX_FILE_BYTES (files_held self.old) }
+            IsSomeAnd (files_held self.old name.now) (λ bytes. MAX_FILE_BYTES < length bytes) }
         ensures same { Some (files_held self.new) ≡ Some (files_held self.old) }
-        ensures faults { shelf_faults self.old ≤ shelf_faults self.new }
-        ensures still { (result ≢ Err Failed) → shelf_faults self.new ≡ shelf_faults self.old }
-        ensures misses { shelf_misses self.old ≤ shelf_misses self.new }
+        ensures faults { self.old.calls.faults ≤ self.new.calls.faults }
+        ensures still { (result ≢ Err Failed) → self.new.calls.faults ≡ self.old.calls.faults }
+        ensures misses { self.old.misses ≤ self.new.misses }
         ensures counted { shelf_calls self.new ≡ next_count (shelf_calls self.old) }
         ensures same_fails { shelf_fails self.new ≡ shelf_fails self.old }
     {
@@ -107,24 +101,18 @@ impl Shelf for MemShelf {
     }
 
     fn write(&mut self, name: &str, bytes: &[u8]) -> Result<(), ShelfFault>
-        ensures ok { OnOk result
-            (Puts name.now bytes.now (files_held self.old) (files_held self.new)) }
-        ensures failed { IsErrOf result Failed →
-            Rose (shelf_faults self.old) (shelf_faults self.new) }
-        ensures numbered { IsErrOf result Failed →
-            Contains (shelf_fails self.old) (shelf_calls self.old) }
-        ensures fails { Contains (shelf_fails self.old) (shelf_calls self.old) →
-            result ≡ Err Failed }
-        ensures part { IsErrOf result Failed →
-            PutsPart name.now bytes.now (files_held self.old) (files_held self.new) }
+        ensures ok { OnOk result (Puts name.now bytes.now (files_held self.old) (files_held self.new)) }
+        ensures failed { IsErrOf result Failed → Rose self.old.calls.faults self.new.calls.faults }
+        ensures numbered { IsErrOf result Failed → Contains (shelf_fails self.old) (shelf_calls self.old) }
+        ensures fails { Contains (shelf_fails self.old) (shelf_calls self.old) → result ≡ Err Failed }
+        ensures part { IsErrOf result Failed → PutsPart name.now bytes.now (files_held self.old) (files_held self.new) }
         ensures err { OnErr result (files_held self.new ≡ files_held self.old) }
-        ensures memory { IsErrOf result Memory →
-            Some (files_held self.new) ≡ Some (files_held self.old) }
+        ensures memory { IsErrOf result Memory → Some (files_held self.new) ≡ Some (files_held self.old) }
         ensures no_absent { IsErrOf result Absent → ⊥ }
         ensures no_too_long { IsErrOf result TooLong → ⊥ }
-        ensures faults { shelf_faults self.old ≤ shelf_faults self.new }
-        ensures still { (result ≢ Err Failed) → shelf_faults self.new ≡ shelf_faults self.old }
-        ensures misses { shelf_misses self.old ≤ shelf_misses self.new }
+        ensures faults { self.old.calls.faults ≤ self.new.calls.faults }
+        ensures still { (result ≢ Err Failed) → self.new.calls.faults ≡ self.old.calls.faults }
+        ensures misses { self.old.misses ≤ self.new.misses }
         ensures counted { shelf_calls self.new ≡ next_count (shelf_calls self.old) }
         ensures same_fails { shelf_fails self.new ≡ shelf_fails self.old }
     {

@@ -19,13 +19,11 @@ pub trait Sink {
 
     /// Appends these bytes.
     ///
-    /// `Failed` where the sink failed: some of the bytes were appended, from the first on.
-    /// `Memory`: none was.
+    /// `Failed` where the sink failed: some of the bytes were appended, from the first on. `Memory`: none was.
     fn write(&mut self, bytes: &[u8]) -> Result<(), SinkFault>
         ensures ok { OnOk result (Appends (written self.old) (written self.new) bytes.now) }
         ensures failed { IsErrOf result Failed → Rose (faults self.old) (faults self.new) }
-        ensures part { IsErrOf result Failed →
-            AppendsPrefix (written self.old) (written self.new) bytes.now }
+        ensures part { IsErrOf result Failed → AppendsPrefix (written self.old) (written self.new) bytes.now }
         ensures memory { IsErrOf result Memory → written self.new ≡ written self.old }
         ensures faults { faults self.old ≤ faults self.new };
 }

@@ -1,6 +1,5 @@
 //! Standard output as a sink.
 ghost use Rattle.std.specs.Prelude.{◌≡◌, ◌≤◌, ℕ, None};
-ghost use Rattle.cfi_io.specs.Edge.{output_faults};
 
 use crate::count::raise;
 use crate::pipe::write_file;
@@ -17,7 +16,7 @@ pub struct StdSink {
 impl StdSink {
     /// The standard output of this runtime. This call takes no memory, nor does a write.
     pub fn new(rt: HostRuntime) -> Self
-        ensures { output_faults result ≡ 0 }
+        ensures { ⟦<StdSink as Sink>⟧.faults result ≡ 0 }
     {
         StdSink { rt, faults: 0 }
     }
@@ -26,7 +25,7 @@ impl StdSink {
 impl Sink for StdSink {
     ghost written = { λ _. None };
 
-    ghost faults = { output_faults };
+    ghost faults = { λ sink. sink.faults };
 
     fn write(&mut self, bytes: &[u8]) -> Result<(), SinkFault> {
         if write_file(&mut io::writer(&self.rt), bytes).is_ok() {

@@ -1,7 +1,6 @@
-ghost use Rattle.std.specs.Prelude.{IfSome, OnOk, IsErrOf};
+ghost use Rattle.std.specs.Prelude.{◌≡◌, IfSome, OnOk, IsErrOf};
 ghost use Rattle.std.specs.Io.KnownBytes.{Appends};
 ghost use Rattle.cfi_io.specs.Count.{Rose};
-ghost use Rattle.cfi_io.specs.Files.{Lacks};
 ghost use Rattle.cfi_io.specs.Told.{WhereTold};
 ghost use Rattle.cfi_io.specs.declared.tests.ShowFault.TheVariants.{Read, Write};
 ghost use Rattle.cfi_io.specs.declared.fault.ShelfFault.TheVariants.{Failed as ShelfFailed, Absent};
@@ -25,14 +24,12 @@ fn show<F: Shelf, S: Sink, G: Gate>(
     sink: &mut S,
     gate: &G,
 ) -> Result<(), ShowFault>
-    ensures ok { OnOk result (WhereTold (F.files shelf.old) (λ files.
-        IfSome (files name.now) (Appends (S.written sink.old) (S.written sink.new)))) }
-    ensures unread { IsErrOf result (Read ShelfFailed) →
-        Rose (F.faults shelf.old) (F.faults shelf.new) }
+    ensures ok { OnOk result (WhereTold (F.files shelf.old) (λ files. IfSome (files name.now) (λ bytes.
+        Appends (S.written sink.old) (S.written sink.new) bytes))) }
+    ensures unread { IsErrOf result (Read ShelfFailed) → Rose (F.faults shelf.old) (F.faults shelf.new) }
     ensures absent { IsErrOf result (Read Absent) →
-        WhereTold (F.files shelf.old) (Lacks name.now) }
-    ensures unwritten { IsErrOf result (Write SinkFailed) →
-        Rose (S.faults sink.old) (S.faults sink.new) }
+        WhereTold (F.files shelf.old) (λ files. files name.now ≡ None) }
+    ensures unwritten { IsErrOf result (Write SinkFailed) → Rose (S.faults sink.old) (S.faults sink.new) }
 {
     gate.line(0);
     let bytes = shelf.read(name).map_err(ShowFault::Read)?;

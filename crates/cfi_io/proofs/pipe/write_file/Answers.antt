@@ -5,7 +5,5 @@ use Rattle.cfi_io.proofs.pipe.write_file.Goals as goal
 pub loop-done-preserved : goal.loop-done-preserved
 loop-done-preserved g c = record {
   within = omega (arith, c.in_ok-count.ensures.bound);
-  written =
-      let rest = take-rest c.args.bytes.now c.loop-done.done in
-      Appends-take _ _ _ _ _ _ _ c.loop-done.invariant.written rest c.in_ok-count.ensures.bytes;
+  written = Appends-take _ _ _ _ _ _ _ c.loop-done.invariant.written (take-rest c.args.bytes.now c.loop-done.done) c.in_ok-count.ensures.bytes;
 }
