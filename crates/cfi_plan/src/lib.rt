@@ -1,0 +1,32 @@
+//! Plans: what a run is to do, the lines that its script and its guests give the journal, and where modules lie.
+//!
+//! Stands on `cfi_text`. Proved: `read_plan` gives exactly the plan that a text says, or exactly its first fault. Only
+//! tested: the texts of faults, and that memory suffices. Open: nothing.
+#![tactic(auto)]
+
+mod draft;
+mod fault;
+mod index;
+mod items;
+mod journal;
+mod limits;
+mod line;
+mod names;
+mod plan;
+mod reading;
+#[cfg(test)]
+mod tests;
+mod text;
+mod words;
+
+pub use fault::PlanFault;
+pub use items::Items;
+pub use journal::{Entry, JournalLine, ModuleLine, Who};
+pub use limits::{
+    FUEL, MAX_CODE_WORDS, MAX_EPOCH, MAX_FUEL, MAX_GUESTS, MAX_MODULES, MAX_REFRESHES, MAX_SCRIPT,
+    MAX_STARTS, MAX_VERSIONS, MIN_CODE_WORDS, MIN_VERSIONS,
+};
+pub use names::MAX_NAME;
+pub use plan::{Plan, PlanModule, ScriptLine};
+pub use reading::read_plan;
+pub use text::Text;
