@@ -1,0 +1,10 @@
+pub mod Data
+pub mod Log
+pub mod State
+pub mod Service
+pub mod Effect
+pub mod Plain
+pub mod Raw
+pub mod Begin
+pub mod Run
+pub mod Closed

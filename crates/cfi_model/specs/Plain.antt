@@ -1,0 +1,79 @@
+-- The policy machine as a program runs it: a state between two units, or one that waits for the answer to an open.
+use Rattle.std.specs.Prelude.{◌≡◌, ℕ, ◌+◌, ◌*◌, ◌/◌, ◌%◌, ◌^◌, ◌≤◌, ◌<◌, ◌&&◌, Bool, true, false, if◌then◌else◌, IsTrue, List, Option, Some, None}
+use Rattle.cfi_unit.specs.declared.unit.Unit.{Unit as CodeUnit}
+use Rattle.cfi_unit.specs.declared.unit.Unit.TheVariants as units
+use Rattle.cfi_unit.specs.declared.fill.Fill.{Fill}
+use Rattle.cfi_unit.specs.declared.log.Log.{Log}
+use Rattle.cfi_unit.specs.declared.log.Stop.{Stop}
+use Rattle.cfi_unit.specs.Code.{BeginsAt}
+use Rattle.cfi_word.specs.declared.lists.Edge.{Edge}
+use Rattle.cfi_model.specs.declared.step.PlainStep.{PlainStep}
+use Rattle.cfi_model.specs.declared.step.PlainStep.TheVariants.{Went, Asks, Stopped}
+use Rattle.cfi_model.specs.declared.places.TheConstants.{MAX_OPENS}
+use Rattle.cfi_word.specs.declared.word.TheConstants.{MAX_POLICY}
+use Rattle.std.specs.List.{All}
+use Rattle.cfi_model.specs.Data.{IsInside}
+use Rattle.cfi_model.specs.Log.{last_policy, last_picks, opens}
+use Rattle.cfi_model.specs.State.{State, opened, after}
+use Rattle.cfi_model.specs.Service.{Reply, Opens, served, argument, too_many}
+use Rattle.cfi_model.specs.Effect.{effect, allows_by, asks, going_to}
+
+pub record PlainState : Type 0 where
+  pub state : State
+  pub waits : Bool
+
+-- a guest at its start
+abbrev pub plain_opened : (number entry : ℕ) → List Fill → PlainState
+plain_opened number entry fills = record { state = opened number entry fills; waits = false }
+
+-- a unit asks for an answer
+abbrev pub asks_of : CodeUnit → State → Bool
+asks_of units.Service s = asks s
+asks_of _ s = false
+
+-- what a unit makes of the machine, under one policy and its pairs: an open first waits for its answer
+abbrev pub unit_of : CodeUnit → (policy : ℕ) → List Edge → PlainState → PlainState
+unit_of unit policy pairs m =
+    if asks_of unit m.state
+    then record m { waits = true }
+    else record m { state = effect unit policy (allows_by pairs) too_many m.state }
+
+-- how a unit ended, by the machine after it
+abbrev pub ended_by : Option Stop → PlainStep
+ended_by None = Went
+ended_by (Some stop) = Stopped stop
+
+abbrev pub step_of : PlainState → PlainStep
+step_of m = if m.waits then Asks (argument m.state) else ended_by m.state.stop
+
+-- the open that was asked for is answered
+abbrev pub answered : Reply → PlainState → PlainState
+answered reply m = record {
+  state = going_to (after 4 m.state.pc) 1 (served Opens reply m.state);
+  waits = false;
+}
+
+-- a unit can be run: it runs none, and one begins at its address
+pub record CanRun (code : List ℕ) (policy : ℕ) (m : PlainState) : Type 0 where
+  pub going : m.state.stop ≡ None
+  pub idle : m.waits ≡ false
+  pub aligned : m.state.pc % 4 ≡ 0
+  pub unit : CodeUnit
+  pub begins : BeginsAt code (m.state.pc / 4) unit
+  pub rises : last_policy m.state.log ≤ policy
+  pub most : policy ≤ MAX_POLICY
+  pub few : m.state.units + 1 < 2 ^ 32
+
+-- an answer that a machine may get: its policy does not fall, and its fills lie inside private data
+pub record CanEnd (reply : Reply) (m : PlainState) : Type 0 where
+  pub waiting : m.waits ≡ true
+  pub inside : All IsInside reply.fills
+  pub rises : last_policy m.state.log ≤ reply.policy
+  pub most : reply.policy ≤ MAX_POLICY
+
+-- the counts of a machine: a unit runs at most 13 instructions and makes at most one pick
+pub record IsCounted (units steps : ℕ) (log : List Log) (waits : Bool) : Type 0 where
+  pub steps_most : steps ≤ 13 * units
+  pub units_most : units < 2 ^ 32
+  pub picks_most : last_picks log ≤ units
+  pub asks_few : waits ≡ true → opens log < MAX_OPENS

@@ -1,0 +1,27 @@
+//! The policy machine, which runs code unit by unit, and the states and steps of the raw machine.
+//!
+//! Stands on `cfi_unit`, `cfi_word`, `rv_insn` and `rv_alu`. Proved: `Plain` is the machine of `specs/Effect.antt`, and
+//! private data, log and output are what `specs/` says. Only tested: values from the manual. Open: nothing.
+#![tactic(auto)]
+
+mod act;
+mod data;
+mod log_book;
+mod output;
+mod places;
+mod plain;
+mod step;
+#[cfg(test)]
+mod tests;
+
+pub use act::{Act, Wait};
+pub use cfi_unit::{Answer, Bytes, Fill, Log, Stop};
+pub use data::{PrivateData, load_width, store_width};
+pub use log_book::LogBook;
+pub use output::Output;
+pub use places::{
+    ARGUMENT, BASE, CAUSE, CODE_BYTES, DATA, DATA_BYTES, EXIT, MAX_LOG, MAX_OPENS, MAX_OUTPUT,
+    OPEN, PUT, QUIET, REFUSED, SERVICE, STACK, TARY, TOO_MANY,
+};
+pub use plain::Plain;
+pub use step::PlainStep;
