@@ -3,3 +3,4 @@ pub mod WordsLemmas
 pub mod VerifyLemmas
 pub mod TopLemmas
 pub mod SingleLemmas
+pub mod ValidLemmas

@@ -8,6 +8,7 @@
 mod answer;
 mod bare;
 mod code;
+pub mod laws;
 mod machine;
 mod part;
 mod program;
