@@ -1,0 +1,14 @@
+//! The raw machine: a guest that runs RV32I word by word, with the loads of table words and the services left to others.
+//!
+//! Stands on `cfi_model`, whose definitions it meets, and on `cfi_unit`, `cfi_word`, `rv_insn` and `rv_alu`. Proved: each
+//! call leaves the guest as `specs/Begin.antt` and `specs/Run.antt` of `cfi_model` say. Open: nothing.
+#![tactic(auto)]
+
+mod decode;
+mod guest;
+mod registers;
+#[cfg(test)]
+mod tests;
+
+pub use cfi_model::{Act, Answer, Bytes, Fill, Log, Stop, Wait};
+pub use guest::Guest;
