@@ -75,7 +75,8 @@ start_kept : (words : List ℕ) (s : State) (unit : CodeUnit) → Place words s 
 start_kept words s (Plain insn) p = next_start words s _ p (λ off e. cc)
 start_kept words s (Branch c rs1 rs2 off) p =
     let far = leads_well words s (Branch c rs1 rs2 off) p in
-    either words _ _ _ (far_start words s _ off far.0 p far.1.within far.1.leads) (next_start words s _ p (λ off' e. cc))
+    either words _ _ _ (far_start words s _ off far.0 p far.1.within far.1.leads)
+    (next_start words s _ p (λ off' e. cc))
 start_kept words s (Jump true off) p =
     far_start words s _ off 0 p p.closed.some (leads_well words s (Jump true off) p)
 start_kept words s (Jump false off) p =

@@ -9,7 +9,8 @@ use Rattle.cfi_top.specs.Verify.{Below, FailsFirst, IsFirstFailure, IsInsnAt, Ha
 -- P holds of one more number
 pub more : (n : ℕ) (P : ℕ → Type 0) (first : Option ℕ) → FailsFirst n P first → P n → FailsFirst (n + 1) P first
 more n P None known here = below_more P n known here
-more n P (Some i) known here = record { within = omega (arith, known.within); fails = known.fails; before = known.before }
+more n P (Some i) known here =
+    record { within = omega (arith, known.within); fails = known.fails; before = known.before }
 
 -- a unit that leads where it may
 pub seen_unit : (words : List ℕ) (at : ℕ) (not_unit stray : Option ℕ) (unit : CodeUnit)
@@ -19,7 +20,8 @@ seen_unit words at not_unit stray unit seen begins leads = record {
   insns = below_more (IsInsnAt words) at seen.insns (insn_at words at unit begins);
   units = more at (HasUnitAt words) not_unit seen.units (unit, begins);
   leads = more at (LeadsWellAt words) stray seen.leads (λ u b.
-      let P : CodeUnit → Type 0 = λ v. MayLead (length words) at v in subst P (one_unit words at unit u begins b) leads);
+      let P : CodeUnit → Type 0 = λ v. MayLead (length words) at v in
+      subst P (one_unit words at unit u begins b) leads);
 }
 
 -- P fails at the next number

@@ -63,7 +63,8 @@ IsAnswer words files faults faults' misses misses' answer =
 
 -- The text is appended whole, and the status is the wanted one. Or the sink failed, and the text is appended in part.
 -- Or no memory was left, and nothing is appended.
-abbrev pub Delivers : (wanted : ℕ) (text : List ℕ) (status : ℕ) (old new : Option (List ℕ)) (faults faults' : ℕ) → Type 0
+abbrev pub Delivers : (wanted : ℕ) (text : List ℕ) (status : ℕ) (old new : Option (List ℕ))
+    (faults faults' : ℕ) → Type 0
 Delivers wanted text status old new faults faults' =
     ((status ≡ wanted) × Appends old new text)
     ⊎ ((status ≡ WRITE_FAULT) × Rose faults faults' × AppendsPrefix old new text)

@@ -33,7 +33,8 @@ fn words_of(alloc: Global, bytes: &[u8]) -> Result<Vec<u32>, AllocError>
 
 /// The code of a bare file, or why it is refused.
 pub fn accept(alloc: Global, bytes: &[u8]) -> Result<Result<BareCode, Refusal>, AllocError>
-    ensures { IfOk result (λ found. MatchResult found (IsAccepted bytes.now) (IsFirstRefusal bytes.now)) }
+    ensures { IfOk result (λ found.
+        MatchResult found (IsAccepted bytes.now) (IsFirstRefusal bytes.now)) }
 {
     if bytes.starts_with(b"plan ") {
         return Ok(Err(Refusal::Plan));

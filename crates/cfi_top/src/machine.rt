@@ -50,7 +50,14 @@ impl Model for Machine {
 
     ghost Value = { State };
 
-    ghost view = { λ m. record { regs = m.regs; pc = m.pc; output = m.output.items; units = m.units; steps = m.steps; exit = m.exit } };
+    ghost view = { λ m. record {
+      regs = m.regs;
+      pc = m.pc;
+      output = m.output.items;
+      units = m.units;
+      steps = m.steps;
+      exit = m.exit;
+    } };
 
     ghost invariant = { λ m. (vec_len m.output ≤ MAX_OUTPUT) × (MAX_OUTPUT ≤ vec_capacity m.output) };
 }

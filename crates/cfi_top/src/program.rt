@@ -73,7 +73,8 @@ fn answer_words<F: Shelf, G: Gate>(
 
 // The text of what the words came to.
 fn words_text(alloc: Global, words: &[String], answer: &Answer) -> Result<String, AllocError>
-    ensures { IfOk result (λ text. string_bytes text ≡ text_of (name_of (texts words.now)) answer.now) }
+    ensures { IfOk result (λ text.
+        string_bytes text ≡ text_of (name_of (texts words.now)) answer.now) }
 {
     match words {
         [_, name, ..] => text_of(alloc, name.as_str(), answer),
@@ -136,10 +137,12 @@ pub fn top<F: Shelf, S: Sink, G: Gate>(
     ensures usage { result.status ≡ USAGE → ¬ Fits (texts words.now) }
     ensures unfit { ¬ Fits (texts words.now) →
         (result.status ≡ USAGE) ⊎ (result.status ≡ WRITE_FAULT) ⊎ (result.status ≡ MEMORY) }
-    ensures read_fault { result.status ≡ READ_FAULT → Rose (F.faults shelf.old) (F.faults shelf.new) }
+    ensures read_fault { result.status ≡ READ_FAULT →
+        Rose (F.faults shelf.old) (F.faults shelf.new) }
     ensures missed { result.status ≡ NO_FILE → Rose (F.misses shelf.old) (F.misses shelf.new) }
     ensures no_file { result.status ≡ NO_FILE → IsNotThere (texts words.now) (F.files shelf.old) }
-    ensures write_fault { result.status ≡ WRITE_FAULT → Rose (S.faults sink.old) (S.faults sink.new) }
+    ensures write_fault { result.status ≡ WRITE_FAULT →
+        Rose (S.faults sink.old) (S.faults sink.new) }
     ensures refused { result.status ≡ REFUSED →
         IsRefused (texts words.now) (F.files shelf.old) (S.written sink.old) (S.written sink.new) }
     ensures within { result.status ≤ MEMORY }

@@ -18,7 +18,8 @@ fn hex_digit(value: u8) -> char
 }
 
 fn push_hex(text: &mut String, bytes: &[u8]) -> Result<(), AllocError>
-    ensures ok { OnOk result (string_bytes text.new ≡ string_bytes text.old ++ flat_map hex_pair bytes.now) }
+    ensures ok { OnOk result
+        (string_bytes text.new ≡ string_bytes text.old ++ flat_map hex_pair bytes.now) }
 {
     for byte in bytes {
         text.push(hex_digit(*byte / 16))?;

@@ -91,7 +91,8 @@ fn look_at(words: &[u32], at: u32, found: Found) -> Option<Found>
 // Looks at all words, or at the first that is illegal.
 fn look(words: &[u32]) -> Result<Found, u32>
     requires { length words.now ≤ MAX_WORDS }
-    ensures ok { IfOk result (λ found. IsSeen words.now (length words.now) found.not_unit found.stray) }
+    ensures ok { IfOk result (λ found.
+        IsSeen words.now (length words.now) found.not_unit found.stray) }
     ensures illegal { IfErr result (IsFirstFailure (length words.now) (IsInsnAt words.now)) }
 {
     let mut found = Found {

@@ -21,7 +21,8 @@ fn is_run(word: &str) -> bool
 /// The file that is to be run, where the words are `run FILE`.
 pub fn file_of(words: &[String]) -> Option<&str>
     ensures some { IfSome result (λ name. FitsRun (texts words.now) name.now) }
-    ensures only { (name : List ℕ) → FitsRun (texts words.now) name → IsSomeAnd result (λ found. found.now ≡ name) }
+    ensures only { (name : List ℕ) → FitsRun (texts words.now) name →
+        IsSomeAnd result (λ found. found.now ≡ name) }
 {
     match words {
         [command, name] if is_run(command.as_str()) && is_operand(name.as_str()) => {
