@@ -1,0 +1,5 @@
+use Rattle.std.proofs.Common.{ℕ, ◌≢◌, ◌<◌, get_or}
+use Rattle.elf_read.proofs.name.zero_at.Given as goal
+
+abbrev pub invariant-loop-i : goal.invariant-loop-i
+invariant-loop-i l = (j : ℕ) → j < l.i → get_or l.bytes j 0 ≢ 0

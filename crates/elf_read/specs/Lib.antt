@@ -1,0 +1,11 @@
+pub mod Words
+pub mod Places
+pub mod Header
+pub mod Section
+pub mod BadSection
+pub mod Symbol
+pub mod Relocation
+pub mod Join
+pub mod Object
+pub mod Fault
+pub mod Layout
