@@ -1,1 +1,5 @@
 pub mod LogLemmas
+pub mod InnerLemmas
+pub mod WalkLemmas
+pub mod AccessLemmas
+pub mod CheckLemmas

@@ -8,3 +8,6 @@ pub mod Raw
 pub mod Begin
 pub mod Run
 pub mod Closed
+pub mod History
+pub mod Fits
+pub mod Shows

@@ -10,6 +10,7 @@ mod log_book;
 mod output;
 mod places;
 mod plain;
+mod shows;
 mod step;
 #[cfg(test)]
 mod tests;
@@ -24,4 +25,5 @@ pub use places::{
     OPEN, PUT, QUIET, REFUSED, SERVICE, STACK, TARY, TOO_MANY,
 };
 pub use plain::Plain;
+pub use shows::raw_shows_policy;
 pub use step::PlainStep;

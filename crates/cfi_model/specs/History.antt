@@ -1,0 +1,64 @@
+-- The history of the tables: each epoch has a policy number and an image.
+-- Epochs, policies and classes are numbers; addresses are in bytes, places are word numbers, from 0.
+use Rattle.std.specs.Prelude.{◌≡◌, ◌≢◌, ℕ, ◌+◌, ◌/◌, ◌%◌, ◌≤◌, ◌<◌, ◌==◌, Bool, List, length, slice_index, Option, Some, None, ⊤}
+use Rattle.cfi_unit.specs.declared.unit.Unit.{Unit as CodeUnit}
+use Rattle.cfi_word.specs.declared.lists.Image.{Image}
+use Rattle.cfi_word.specs.declared.word.TheConstants.{MAX_EPOCH, MAX_POLICY, MIN_VERSIONS, MAX_VERSIONS}
+use Rattle.cfi_word.specs.Table.{IsSize}
+use Rattle.cfi_word.specs.Word.{packed, epoch_in}
+use Rattle.cfi_model.specs.Closed.{IsClosedBy, IsStartOf}
+
+-- so many epochs from the first one on, the number of versions, and for each epoch the number of its policy, its image
+-- and the units as which the image's code is read
+pub record History : Type 0 where
+  pub first : ℕ
+  pub count : ℕ
+  pub versions : ℕ
+  pub policy : ℕ → ℕ
+  pub image : ℕ → Image
+  pub body : ℕ → List CodeUnit
+
+-- the history has the epoch
+pub record IsEpoch (h : History) (epoch : ℕ) : Type 0 where
+  pub least : h.first ≤ epoch
+  pub most : epoch < h.first + h.count
+
+-- the class of a code address in an epoch's image, and that of a branch slot
+abbrev pub target_class : History → (epoch address : ℕ) → ℕ
+target_class h epoch address = slice_index (h.image epoch).tary (address / 4)
+
+abbrev pub slot_class : History → (epoch slot : ℕ) → ℕ
+slot_class h epoch slot = slice_index (h.image epoch).bary slot
+
+-- an epoch's policy: a slot may go to the addresses that have its class
+abbrev pub allows_at : History → (epoch : ℕ) → (slot target : ℕ) → Bool
+allows_at h epoch slot target = slot_class h epoch slot == target_class h epoch target
+
+-- the address is a start of some epoch's code
+pub record IsStart (h : History) (address : ℕ) : Type 0 where
+  pub epoch : ℕ
+  pub known : IsEpoch h epoch
+  pub starts : IsStartOf (h.body epoch) address
+
+-- the word is some epoch's table word, with the class that its place has in that epoch
+pub record IsTableWord (h : History) (class_of : ℕ → ℕ) (found : ℕ) : Type 0 where
+  pub epoch : ℕ
+  pub known : IsEpoch h epoch
+  pub is : found ≡ packed epoch (h.policy epoch) (class_of epoch) h.versions
+
+-- a word that is found after the kept one is fair: equal versions are equal epochs
+abbrev pub IsFair : History → (kept : Option ℕ) → (found : ℕ) → Type 0
+IsFair h None found = ⊤
+IsFair h (Some kept) found =
+    epoch_in kept % h.versions ≡ epoch_in found % h.versions → epoch_in kept ≡ epoch_in found
+
+-- the history's table words can be packed, its images are closed, and none takes back a word of the code
+pub record IsHistory (h : History) (code : List ℕ) : Type 0 where
+  pub size : IsSize (length code)
+  pub versions_least : MIN_VERSIONS ≤ h.versions
+  pub versions_most : h.versions ≤ MAX_VERSIONS
+  pub epochs_fit : (epoch : ℕ) → IsEpoch h epoch → epoch ≤ MAX_EPOCH
+  pub policies_fit : (epoch : ℕ) → IsEpoch h epoch → h.policy epoch ≤ MAX_POLICY
+  pub closed : (epoch : ℕ) → IsEpoch h epoch → IsClosedBy (length code) (h.image epoch) (h.body epoch)
+  pub kept : (epoch place : ℕ) → IsEpoch h epoch → slice_index (h.image epoch).code place ≢ 0
+      → slice_index code place ≡ slice_index (h.image epoch).code place
