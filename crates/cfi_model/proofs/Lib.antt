@@ -5,3 +5,9 @@ pub mod AccessLemmas
 pub mod CheckLemmas
 pub mod CheckEndLemmas
 pub mod IdLemmas
+pub mod FetchLemmas
+pub mod MaskedLemmas
+pub mod StartLemmas
+pub mod ReadyLemmas
+pub mod CheckPlaces
+pub mod CheckWalk

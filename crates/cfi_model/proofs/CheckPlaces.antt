@@ -1,0 +1,158 @@
+-- The places within a check, and how one leads to the next.
+use Rattle.std.proofs.Common.{◌≡◌, ◌≢◌, ℕ, ◌+◌, ◌*◌, ◌/◌, ◌%◌, ◌^◌, ◌<◌, ◌≤◌, ◌==◌, ℤ, pos, negsuc, Option, Some, None, List, get_or, refl, sym, ◌∙◌, ap, subst, arith, rules, ◌⊎◌, inl, inr, bit_xor, Bool, true, false}
+use Rattle.std.proofs.lemmas.Bool.{cases_lt, cases_eq}
+use Rattle.std.specs.Prelude.{⊤}
+use Rattle.rv_insn.specs.declared.insn.Insn.{Insn}
+use Rattle.rv_insn.specs.declared.insn.Insn.TheVariants as insns
+use Rattle.cfi_unit.specs.declared.unit.TheConstants.{SLOTS}
+use Rattle.cfi_unit.specs.declared.unit.Unit.{Unit as CodeUnit}
+use Rattle.cfi_unit.specs.declared.unit.Unit.TheVariants as units
+use Rattle.cfi_unit.specs.Unit.{insns_of, check, link_register}
+use Rattle.cfi_word.specs.Ids.{low_half}
+use Rattle.cfi_word.specs.Word.{id_in, policy_in}
+use Rattle.cfi_model.specs.declared.act.Wait.TheVariants as waits
+use Rattle.cfi_model.specs.Log.{last_policy}
+use Rattle.cfi_model.specs.State.{State, register, displaced}
+use Rattle.cfi_model.specs.Raw.{Raw}
+use Rattle.cfi_model.specs.Begin.{begin_as}
+use Rattle.cfi_model.specs.Run.{Take, Word, Served, take_one}
+use Rattle.cfi_model.specs.History.{History, IsEpoch, IsTableWord, slot_class, allows_at}
+use Rattle.cfi_model.specs.Fits.{Fits}
+use Rattle.cfi_model.specs.Shows.{IsRetried, IsBetween}
+use Rattle.cfi_model.specs.Effect.{checked, is_in_code}
+use Rattle.cfi_model.proofs.InnerLemmas.{inner}
+use Rattle.cfi_model.proofs.WalkLemmas.{aims}
+use Rattle.cfi_model.proofs.CheckLemmas.{high_of, splits, far, near, points, asks_bary, tables, adds, asks_tary, equals, differs, compares, keeps_low}
+use Rattle.cfi_model.proofs.IdLemmas.{IsTry, same-xor, same-low, apart-low}
+use Rattle.cfi_model.proofs.FetchLemmas.{Here, walks, counts}
+
+-- a place is named for what was done last
+pub data CheckPlace : Type 0 where
+  Aimed : CheckPlace
+  Split : CheckPlace
+  Far : CheckPlace
+  Trying : CheckPlace
+  Pointed : CheckPlace
+  AskedBary : CheckPlace
+  FoundBary : CheckPlace
+  Tabled : CheckPlace
+  Added : CheckPlace
+  AskedTary : CheckPlace
+  FoundTary : CheckPlace
+  Differed : CheckPlace
+  Compared : CheckPlace
+  Lowered : CheckPlace
+  Refused : CheckPlace
+  Allowed : CheckPlace
+
+-- registers and table words, where a place leaves them open
+pub record Values : Type 0 where
+  pub x28 : ℕ
+  pub x29 : ℕ
+  pub x30 : ℕ
+  pub kept : Option ℕ
+  pub last : Option ℕ
+  pub bary : ℕ
+  pub tary : ℕ
+
+-- the raw state at a place, after so many repeated tries in this check and before it
+abbrev pub check_raw : State → (n slot target : ℕ) → Values → CheckPlace → Raw
+check_raw p n slot t v Aimed =
+    inner p p.units (p.pc + 4 * 1) (p.steps + 9 * n + 1) v.x28 v.x29 v.x30 t None None None
+check_raw p n slot t v Split =
+    inner p p.units (p.pc + 4 * 2) (p.steps + 9 * n + 2) v.x28 v.x29 (t / 2 ^ 18) t None None None
+check_raw p n slot t v Far =
+    inner p p.units (p.pc + 4 * 12) (p.steps + 9 * n + 3) v.x28 v.x29 v.x30 t None None None
+check_raw p n slot t v Trying =
+    inner p p.units (p.pc + 4 * 3) (p.steps + 9 * n + 3) v.x28 v.x29 v.x30 t v.kept v.last None
+check_raw p n slot t v Pointed =
+    inner p p.units (p.pc + 4 * 4) (p.steps + 9 * n + 4) (high_of slot) v.x29 v.x30 t v.kept v.last None
+check_raw p n slot t v AskedBary =
+    inner p p.units (p.pc + 4 * 5) (p.steps + 9 * n + 5) (high_of slot) v.x29 v.x30 t v.kept v.last
+    (Some (waits.Bary slot 29))
+check_raw p n slot t v FoundBary =
+    inner p p.units (p.pc + 4 * 5) (p.steps + 9 * n + 5) v.x28 (id_in v.bary) v.x30 t (Some v.bary) v.last None
+check_raw p n slot t v Tabled =
+    inner p p.units (p.pc + 4 * 6) (p.steps + 9 * n + 6) v.x28 (id_in v.bary) 0x10000000 t (Some v.bary) v.last None
+check_raw p n slot t v Added =
+    inner p p.units (p.pc + 4 * 7) (p.steps + 9 * n + 7) v.x28 (id_in v.bary) (0x10000000 + t) t (Some v.bary) v.last
+    None
+check_raw p n slot t v AskedTary =
+    inner p p.units (p.pc + 4 * 8) (p.steps + 9 * n + 8) v.x28 (id_in v.bary) (0x10000000 + t) t (Some v.bary) v.last
+    (Some (waits.Tary t 30))
+check_raw p n slot t v FoundTary =
+    inner p p.units (p.pc + 4 * 8) (p.steps + 9 * n + 8) v.x28 (id_in v.bary) (id_in v.tary) t (Some v.bary)
+    (Some v.tary) None
+check_raw p n slot t v Differed =
+    inner p p.units (p.pc + 4 * 9) (p.steps + 9 * n + 9) v.x28 (id_in v.bary) (id_in v.tary) t (Some v.bary)
+    (Some v.tary) None
+check_raw p n slot t v Compared =
+    inner p p.units (p.pc + 4 * 10) (p.steps + 9 * n + 10) v.x28 (id_in v.bary)
+    (bit_xor (id_in v.tary) (id_in v.bary)) t (Some v.bary) (Some v.tary) None
+check_raw p n slot t v Lowered =
+    inner p p.units (p.pc + 4 * 11) (p.steps + 9 * n + 11) v.x28 (id_in v.bary)
+    (bit_xor (id_in v.tary) (id_in v.bary) * 2 ^ 16 % 2 ^ 32) t (Some v.bary) (Some v.tary) None
+check_raw p n slot t v Refused =
+    inner p p.units (p.pc + 4 * 12) (p.steps + 9 * n + 12) v.x28 v.x29 v.x30 t (Some v.bary) (Some v.tary) None
+check_raw p n slot t v Allowed =
+    inner p p.units (p.pc + 4 * 13) (p.steps + 9 * n + 9) v.x28 v.x29 v.x30 t (Some v.bary) (Some v.tary) None
+
+-- the slot's word was found
+abbrev pub IsBranchWord : History → (slot bary : ℕ) → Type 0
+IsBranchWord h slot bary = IsTableWord h (λ epoch. slot_class h epoch slot) bary
+
+-- a try has begun, which repeats one only where the target is whole
+pub record IsTrying (more target : ℕ) : Type 0 where
+  pub low : target < 2 ^ 18
+  pub whole : more ≢ 0 → target % 4 ≡ 0
+
+-- both words were found, and the second one may be logged
+pub record IsTried (h : History) (p : State) (slot target bary tary : ℕ) : Type 0 where
+  pub low : target < 2 ^ 18
+  pub whole : target % 4 ≡ 0
+  pub words : IsTry h slot target bary tary
+  pub rises : last_policy p.log ≤ policy_in tary
+
+-- what holds at a place, after so many repeated tries
+abbrev pub CheckHolds : History → State → (more slot target : ℕ) → Values → CheckPlace → Type 0
+CheckHolds h p more slot t v Aimed = more ≡ 0
+CheckHolds h p more slot t v Split = more ≡ 0
+CheckHolds h p more slot t v Far = (more ≡ 0) × (2 ^ 18 ≤ t)
+CheckHolds h p more slot t v Trying = IsTrying more t
+CheckHolds h p more slot t v Pointed = IsTrying more t
+CheckHolds h p more slot t v AskedBary = IsTrying more t
+CheckHolds h p more slot t v FoundBary = IsTrying more t × IsBranchWord h slot v.bary
+CheckHolds h p more slot t v Tabled = IsTrying more t × IsBranchWord h slot v.bary
+CheckHolds h p more slot t v Added = IsTrying more t × IsBranchWord h slot v.bary
+CheckHolds h p more slot t v AskedTary = (t < 2 ^ 18) × (t % 4 ≡ 0) × IsBranchWord h slot v.bary
+CheckHolds h p more slot t v FoundTary = IsTried h p slot t v.bary v.tary
+CheckHolds h p more slot t v Differed = IsTried h p slot t v.bary v.tary × (id_in v.bary ≢ id_in v.tary)
+CheckHolds h p more slot t v Compared = IsTried h p slot t v.bary v.tary × (id_in v.bary ≢ id_in v.tary)
+CheckHolds h p more slot t v Lowered = IsTried h p slot t v.bary v.tary × (id_in v.bary ≢ id_in v.tary)
+CheckHolds h p more slot t v Refused =
+    IsTried h p slot t v.bary v.tary × (id_in v.bary ≢ id_in v.tary) × (low_half (id_in v.tary) ≡ low_half (id_in v.bary))
+CheckHolds h p more slot t v Allowed = IsTried h p slot t v.bary v.tary × (id_in v.bary ≡ id_in v.tary)
+
+-- tries are repeated where two epochs' versions differ
+abbrev pub HasTwo : History → (more : ℕ) → Type 0
+HasTwo h more =
+    more ≢ 0 → (one : ℕ) × (other : ℕ) × IsEpoch h one × IsEpoch h other × (one % h.versions ≢ other % h.versions)
+
+-- a raw state within a check, which has repeated some tries after those of earlier checks
+pub record CheckAt (h : History) (p : State) (retries slot target : ℕ) (r : Raw) : Type 0 where
+  pub more : ℕ
+  pub two : HasTwo h more
+  pub values : Values
+  pub place : CheckPlace
+  pub is : r ≡ check_raw p (retries + more) slot target values place
+  pub holds : CheckHolds h p more slot target values place
+
+-- a check has ended, under the policy of an epoch
+pub record CheckEnded (h : History) (p : State) (retries slot target : ℕ) (link : Bool) (r : Raw) : Type 0 where
+  pub more : ℕ
+  pub two : HasTwo h more
+  pub epoch : ℕ
+  pub known : IsEpoch h epoch
+  pub ends : IsBetween (retries + more) (checked (h.policy epoch) (allows_at h epoch slot target) link target p) r
+  pub logged : more ≢ 0 → is_in_code target ≡ true
+  pub rises : is_in_code target ≡ true → last_policy p.log ≤ h.policy epoch
