@@ -61,3 +61,21 @@ pub counts : (p : State) (pc pc' steps steps' x28 x29 x30 x31 : ℕ) (bary tary 
     → inner p p.units pc steps x28 x29 x30 x31 bary tary wait ≡ inner p p.units pc' steps' x28 x29 x30 x31 bary tary wait
 counts p pc pc' steps steps' x28 x29 x30 x31 bary tary wait a b =
     same_inner p _ _ _ _ _ _ _ _ _ _ _ _ _ _ bary tary wait refl a b refl refl refl refl
+
+-- the raw state before a unit, after so many repeated tries
+abbrev pub start_raw : State → (n x28 x29 x30 x31 : ℕ) → Raw
+start_raw p n x28 x29 x30 x31 = inner p p.units p.pc (p.steps + 9 * n) x28 x29 x30 x31 None None None
+
+-- the place of the first instruction
+pub first_place : (p : State) (n x28 x29 x30 x31 : ℕ)
+    → start_raw p n x28 x29 x30 x31 ≡ inner p p.units (p.pc + 4 * 0) (p.steps + 9 * n) x28 x29 x30 x31 None None None
+first_place p n x28 x29 x30 x31 = counts p _ _ _ _ x28 x29 x30 x31 None None None (omega arith) refl
+
+-- the first instruction comes
+pub first_walks : (h : History) (code : List ℕ) (p : State) (unit : CodeUnit) → Here h code p unit
+    → (all : List Insn) → insns_of unit ≡ all → 0 < length all → (n x28 x29 x30 x31 : ℕ) (r : Raw)
+    → r ≡ start_raw p n x28 x29 x30 x31 → (t : Take) → Fits h code r t
+    → take_one r t ≡ begin_as (get_or all 0 insns.Ebreak) (start_raw p n x28 x29 x30 x31)
+first_walks h code p unit here all spelled some n x28 x29 x30 x31 r is t fits =
+    walks h code p unit here all spelled 0 some _ _ _ _ _ _ _ _ r (is ∙ first_place p n x28 x29 x30 x31)
+    (ap (begin_as (get_or all 0 insns.Ebreak)) (sym (first_place p n x28 x29 x30 x31))) t fits

@@ -11,3 +11,8 @@ pub mod StartLemmas
 pub mod ReadyLemmas
 pub mod CheckPlaces
 pub mod CheckWalk
+pub mod PickLemmas
+pub mod SingleLemmas
+pub mod LawLemmas
+pub mod AdvanceLemmas
+pub mod ShownLemmas

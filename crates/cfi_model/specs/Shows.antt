@@ -96,6 +96,7 @@ pub record IsShown (h : History) (code : List ℕ) (retries : ℕ) (old : State)
   pub ready : IsReady h new
   pub settled : ℕ
   pub least : retries ≤ settled
+  pub picks : pick_entries old.log ≤ pick_entries new.log
   pub picked : pick_entries new.log ≡ 0 → settled ≡ retries
   pub single : h.count ≡ 1 → settled ≡ retries
   pub shows : Shows h code settled new r

@@ -1,0 +1,123 @@
+-- One access after the other: the raw machine stays within a unit, or ends it as the policy machine does.
+use Rattle.std.proofs.Common.{◌≡◌, ◌≢◌, ℕ, zero, suc, ◌+◌, ◌*◌, ◌/◌, ◌%◌, ◌^◌, ◌<◌, ◌≤◌, ◌==◌, ◌&&◌, ℤ, Bool, true, false, Option, Some, None, List, [], ◌∷◌, length, refl, sym, ◌∙◌, ap, subst, arith, rules, ◌⊎◌, inl, inr}
+use Rattle.std.proofs.lemmas.Bool.Decides.{nat_tests}
+use Rattle.std.specs.Prelude.{⊤}
+use Rattle.rv_insn.specs.declared.insn.Insn.TheVariants as insns
+use Rattle.cfi_unit.specs.declared.unit.Unit.{Unit as CodeUnit}
+use Rattle.cfi_unit.specs.declared.unit.Unit.TheVariants as units
+use Rattle.cfi_unit.specs.Unit.{IsUnit, insns_of, size_of}
+use Rattle.cfi_model.specs.declared.places.TheConstants.{OPEN}
+use Rattle.cfi_model.specs.Closed.{StaysInside, IsStartOf}
+use Rattle.cfi_model.specs.Log.{last_policy, pick_entries}
+use Rattle.cfi_model.specs.State.{State, register, displaced}
+use Rattle.cfi_model.specs.Raw.{Raw}
+use Rattle.cfi_model.specs.Begin.{begin_as}
+use Rattle.cfi_model.specs.Service.{Reply, IsAnswer, asked, too_many, service_of}
+use Rattle.cfi_model.specs.Effect.{effect, is_in_code}
+use Rattle.cfi_model.specs.Run.{Take, Word, Served, take_one, serve_by}
+use Rattle.cfi_model.specs.History.{History, IsEpoch, IsHistory, IsStart, allows_at, slot_class, target_class}
+use Rattle.cfi_model.specs.Fits.{Fits, FitsOpen}
+use Rattle.cfi_model.specs.Shows.{Stands, IsStep, IsReady, IsAnswered, IsBetween}
+use Rattle.cfi_model.proofs.InnerLemmas.{inner}
+use Rattle.cfi_model.proofs.StartLemmas.{Started, started}
+use Rattle.cfi_model.proofs.ReadyLemmas.{Targets, ready_kept}
+use Rattle.cfi_model.proofs.FetchLemmas.{Here, walks}
+use Rattle.cfi_model.proofs.MaskedLemmas.{MaskedPlace, MaskedAt, masked_raw, masked_begins, masked_goes_on}
+use Rattle.cfi_model.proofs.AccessLemmas.{load_ends, store_ends}
+use Rattle.cfi_model.proofs.CheckPlaces.{CheckAt, CheckEnded, HasTwo}
+use Rattle.cfi_model.proofs.CheckWalk.{check_begins, check_goes_on}
+use Rattle.cfi_model.proofs.PickLemmas.{IsRising, effect_rises, pick_logged}
+use Rattle.cfi_model.proofs.SingleLemmas.{plain_ends, branch_ends, jump_ends, service_raw, ecall_waits, serve_ends}
+
+-- a unit has ended, and the policy machine has run it
+pub record Ended (h : History) (code : List ℕ) (retries : ℕ) (old : State) (r : Raw) : Type 0 where
+  pub new : State
+  pub step : IsStep h code old new
+  pub ready : IsReady h new
+  pub more : ℕ
+  pub two : HasTwo h more
+  pub logged : more ≢ 0 → 0 < pick_entries new.log
+  pub picks : pick_entries old.log ≤ pick_entries new.log
+  pub between : IsBetween (retries + more) new r
+
+-- a raw state within a service, which waits for its end
+pub record ServiceAt (p : State) (retries : ℕ) (r : Raw) : Type 0 where
+  pub x28 : ℕ
+  pub x29 : ℕ
+  pub x30 : ℕ
+  pub x31 : ℕ
+  pub is : r ≡ service_raw p retries x28 x29 x30 x31
+
+-- a raw state within a unit
+abbrev pub Begun : History → State → CodeUnit → (retries : ℕ) → Raw → Type 0
+Begun h p (units.Load kind rd rs1 imm) retries r = MaskedAt p retries (displaced (register p rs1) imm) r
+Begun h p (units.Store kind rs1 rs2 imm) retries r = MaskedAt p retries (displaced (register p rs1) imm) r
+Begun h p (units.Check link rs1 imm slot) retries r = CheckAt h p retries slot (displaced (register p rs1) imm) r
+Begun h p units.Service retries r = ServiceAt p retries r
+Begun h p unit retries r = ⊥
+
+-- the policy machine at a unit of a closed image
+pub record At (h : History) (code : List ℕ) (p : State) (unit : CodeUnit) : Type 0 where
+  pub here : Here h code p unit
+  pub epoch : ℕ
+  pub is : IsEpoch h epoch
+  pub inside : StaysInside (h.body epoch) (length (h.image epoch).bary) p.pc unit
+
+-- a check's target that an epoch's policy allows is a start
+pub target_starts : (h : History) (code : List ℕ) (known : IsHistory h code) (epoch slot target : ℕ) → IsEpoch h epoch
+    → slot < length (h.image epoch).bary → (is_in_code target && allows_at h epoch slot target) ≡ true
+    → IsStart h target
+target_starts h code known epoch slot target is within granted =
+    let closed = known.closed epoch is in
+    let whole : target % 4 ≡ 0 = grind (arith, nat_tests) in
+    let same : slot_class h epoch slot ≡ target_class h epoch target = grind (arith, nat_tests) in
+    let size = closed.classes.bary_length in
+    let some : target_class h epoch target ≢ 0 =
+    λ none. closed.classes.bary_least slot (omega arith) (same ∙ none) in
+    let place : 4 * (target / 4) ≡ target = omega arith in
+    let starts = closed.targets (target / 4) some in
+    record { epoch = epoch; known = is; starts = subst (IsStartOf (h.body epoch)) place starts }
+
+-- the unit has ended under the policy of an epoch
+pub ends_as : (h : History) (code : List ℕ) (retries more : ℕ) (p : State) (unit : CodeUnit) → At h code p unit
+    → (epoch : ℕ) → IsEpoch h epoch → (reply : Reply) → IsAnswered unit reply p → IsRising unit (h.policy epoch) p
+    → Targets h (allows_at h epoch) unit p → HasTwo h more
+    → (more ≢ 0 → 0 < pick_entries (effect unit (h.policy epoch) (allows_at h epoch) reply p).log)
+    → (r : Raw) → IsBetween (retries + more) (effect unit (h.policy epoch) (allows_at h epoch) reply p) r
+    → Ended h code retries p r
+ends_as h code retries more p unit at epoch is reply answered rising targets two logged r between =
+    let rises = effect_rises unit (h.policy epoch) (allows_at h epoch) reply p answered rising in
+    let here = at.here in
+    record {
+      new = effect unit (h.policy epoch) (allows_at h epoch) reply p;
+      step = record {
+        going = here.going;
+        unit = unit;
+        stands = here.stands;
+        epoch = epoch;
+        known = is;
+        reply = reply;
+        answered = answered;
+        is = refl;
+        rises = rises.policies;
+      };
+      ready = ready_kept h code here.known at.epoch at.is unit (h.policy epoch) (allows_at h epoch) reply p here.ready
+      here.small at.inside targets;
+      more = more;
+      two = two;
+      logged = logged;
+      picks = rises.picks;
+      between = between;
+    }
+
+-- a unit that is no check has ended, with no try
+pub plainly : (h : History) (code : List ℕ) (retries : ℕ) (p : State) (unit : CodeUnit) → (at : At h code p unit)
+    → (reply : Reply) → IsAnswered unit reply p → IsRising unit (h.policy at.epoch) p
+    → Targets h (allows_at h at.epoch) unit p
+    → (r : Raw) → IsBetween retries (effect unit (h.policy at.epoch) (allows_at h at.epoch) reply p) r
+    → Ended h code retries p r
+plainly h code retries p unit at reply answered rising targets r between =
+    let same : retries ≡ retries + 0 = omega arith in
+    ends_as h code retries 0 p unit at at.epoch at.is reply answered rising targets (λ some. absurd (some refl))
+    (λ some. absurd (some refl)) r
+    (subst (λ n. IsBetween n (effect unit (h.policy at.epoch) (allows_at h at.epoch) reply p) r) same between)
