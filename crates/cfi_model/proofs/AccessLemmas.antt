@@ -1,24 +1,20 @@
 -- How a masked access ends.
-use Rattle.std.proofs.Common.{◌≡◌, ◌≢◌, ℕ, ◌+◌, ◌-◌, ◌*◌, ◌/◌, ◌%◌, ◌^◌, ◌<◌, ◌≤◌, ◌==◌, ℤ, pos, negsuc, nat_lt, nat_le, ◌||◌, Bool, true, false, cond, if◌then◌else◌, Option, Some, None, List, slice_index, refl, sym, ◌∙◌, ap, subst, arith, rules}
+use Rattle.std.proofs.Common.{◌≡◌, ℕ, ◌+◌, ◌*◌, ◌%◌, ◌^◌, ◌<◌, ℤ, pos, ◌||◌, Bool, true, false, cond, None, List, refl, sym, ◌∙◌, ap, subst, arith}
 use Rattle.std.proofs.lemmas.Bool.Decides.{nat_tests}
-use Rattle.std.specs.Int.{w32, cast_unsigned}
-use Rattle.rv_insn.specs.declared.insn.Insn.{Insn}
 use Rattle.rv_insn.specs.declared.insn.Insn.TheVariants as insns
 use Rattle.rv_insn.specs.declared.insn.LoadKind.{LoadKind}
 use Rattle.rv_insn.specs.declared.insn.StoreKind.{StoreKind}
-use Rattle.cfi_unit.specs.declared.unit.Unit.{Unit as CodeUnit}
 use Rattle.cfi_unit.specs.declared.unit.Unit.TheVariants as units
-use Rattle.cfi_model.specs.declared.places.TheConstants.{DATA, DATA_BYTES}
+use Rattle.cfi_model.specs.declared.places.TheConstants.{DATA}
 use Rattle.cfi_model.specs.Data.{load_width, store_width, is_aligned, loaded, stored}
-use Rattle.cfi_model.specs.State.{State, register, displaced, regs_with}
-use Rattle.cfi_model.specs.Raw.{Raw, reg, with_reg}
+use Rattle.cfi_model.specs.State.{State, register, regs_with}
+use Rattle.cfi_model.specs.Raw.{Raw, reg}
 use Rattle.cfi_model.specs.Service.{Reply}
 use Rattle.cfi_model.specs.Effect.{effect, masked_at, accessed}
-use Rattle.cfi_model.specs.Begin.{Area, Private, begin_as, area_of, load_at, load_private, store_at, store_private, next, ran, stopped, units_of, is_reserved}
-use Rattle.cfi_model.specs.declared.act.Wait.{Wait}
+use Rattle.cfi_model.specs.Begin.{Private, begin_as, area_of, load_at, store_at, store_private, next, ran, stopped, units_of, is_reserved}
 use Rattle.cfi_unit.specs.declared.log.Stop.TheVariants as stops
-use Rattle.cfi_model.specs.Shows.{IsBetween, moved_to}
-use Rattle.cfi_model.proofs.InnerLemmas.{state, same_state, inner, reg-free, with_reg-free}
+use Rattle.cfi_model.specs.Shows.{IsBetween}
+use Rattle.cfi_model.proofs.InnerLemmas.{same_state, inner, reg-free, with_reg-free}
 
 -- a masked address lies in private data
 area_private : (o : ℕ) → o < 2 ^ 20 → area_of ((0x40000000 + o + 0) % 2 ^ 32) ≡ Private o

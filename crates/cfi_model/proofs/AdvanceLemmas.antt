@@ -1,14 +1,13 @@
 -- One access leaves the raw machine within a unit, or ends the unit as the policy machine does.
-use Rattle.std.proofs.Common.{◌≡◌, ◌≢◌, ℕ, ◌+◌, ◌*◌, ◌/◌, ◌%◌, ◌^◌, ◌<◌, ◌≤◌, ◌&&◌, ℤ, pos, Bool, true, Option, Some, None, List, [], ◌∷◌, length, refl, sym, ◌∙◌, ap, subst, arith, rules, ◌⊎◌, inl, inr}
+use Rattle.std.proofs.Common.{◌≡◌, ℕ, ◌*◌, ◌<◌, Option, None, List, [], ◌∷◌, length, refl, sym, ◌∙◌, ap, subst, arith, ◌⊎◌, inl, inr}
 use Rattle.rv_insn.specs.declared.insn.Insn.TheVariants as insns
 use Rattle.cfi_unit.specs.declared.unit.Unit.{Unit as CodeUnit}
 use Rattle.cfi_unit.specs.declared.unit.Unit.TheVariants as units
-use Rattle.cfi_unit.specs.Unit.{check}
 use Rattle.cfi_model.specs.declared.act.Wait.{Wait}
 use Rattle.cfi_model.specs.declared.places.TheConstants.{OPEN}
 use Rattle.cfi_model.specs.State.{State, register, displaced}
 use Rattle.cfi_model.specs.Raw.{Raw}
-use Rattle.cfi_model.specs.Service.{Reply, IsAnswer, asked, too_many}
+use Rattle.cfi_model.specs.Service.{Reply, asked, too_many}
 use Rattle.cfi_model.specs.Effect.{effect}
 use Rattle.cfi_model.specs.Run.{Take, Word, Served, take_one}
 use Rattle.cfi_model.specs.History.{History, IsEpoch, IsHistory, allows_at}
@@ -21,7 +20,7 @@ use Rattle.cfi_model.proofs.AccessLemmas.{load_ends, store_ends}
 use Rattle.cfi_model.proofs.CheckWalk.{check_begins, check_goes_on}
 use Rattle.cfi_model.proofs.PickLemmas.{pick_logged}
 use Rattle.cfi_model.proofs.SingleLemmas.{plain_ends, branch_ends, jump_ends, service_raw, ecall_waits, serve_ends}
-use Rattle.cfi_model.proofs.LawLemmas.{Ended, ServiceAt, Begun, At, target_starts, ends_as, plainly}
+use Rattle.cfi_model.proofs.LawLemmas.{Ended, Begun, At, target_starts, ends_as, plainly}
 
 -- after an access: within the unit, or past it
 abbrev pub Next : History → (code : List ℕ) → (retries : ℕ) → State → CodeUnit → Raw → Type 0
@@ -41,7 +40,6 @@ fits_open reply p pc units steps fits = record {
 }
 
 module _ (h : History) (code : List ℕ) (p : State) (retries : ℕ) where
-
   -- the first access of a unit
   pub first_access : (unit : CodeUnit) → At h code p unit → (x28 x29 x30 x31 : ℕ) (r : Raw)
       → r ≡ start_raw p retries x28 x29 x30 x31 → (t : Take) → Fits h code r t
@@ -82,7 +80,7 @@ module _ (h : History) (code : List ℕ) (p : State) (retries : ℕ) where
         x30 = x30;
         x31 = x31;
         is = first_walks h code p units.Service at.here (insns.Ecall ∷ []) refl (omega arith) retries x28 x29 x30 x31 r
-        is t fits ∙ ecall_waits p retries x28 x29 x30 x31;
+            is t fits ∙ ecall_waits p retries x28 x29 x30 x31;
       })
 
   -- the slots of all epochs are those of the code
@@ -102,38 +100,38 @@ module _ (h : History) (code : List ℕ) (p : State) (retries : ℕ) where
       let small = at.here.small in
       elim (masked_goes_on h code p unit rs1 imm _ at.here refl retries _ begun.x28 begun.x29 begun.x30 begun.place r
       begun.is t fits) [
-        inl next ↦ inl next
-      | inr new ↦
-        inr (plainly h code retries p unit at too_many tt tt tt (take_one r t)
-        (subst (IsBetween retries (effect unit (h.policy at.epoch) (allows_at h at.epoch) too_many p)) (sym new)
-        (load_ends p retries begun.x28 begun.x29 begun.x30 kind rd rs1 imm (h.policy at.epoch)
-        (allows_at h at.epoch) too_many at.here.stands.begins.fits.0 (omega arith) at.here.going)))
+        | inl next ↦ inl next
+        | inr new ↦
+            inr (plainly h code retries p unit at too_many tt tt tt (take_one r t)
+            (subst (IsBetween retries (effect unit (h.policy at.epoch) (allows_at h at.epoch) too_many p)) (sym new)
+            (load_ends p retries begun.x28 begun.x29 begun.x30 kind rd rs1 imm (h.policy at.epoch)
+            (allows_at h at.epoch) too_many at.here.stands.begins.fits.0 (omega arith) at.here.going)))
       ]
   next_access (units.Store kind rs1 rs2 imm) at r begun t fits =
       let unit : CodeUnit = units.Store kind rs1 rs2 imm in
       let small = at.here.small in
       elim (masked_goes_on h code p unit rs1 imm _ at.here refl retries _ begun.x28 begun.x29 begun.x30 begun.place r
       begun.is t fits) [
-        inl next ↦ inl next
-      | inr new ↦
-        inr (plainly h code retries p unit at too_many tt tt tt (take_one r t)
-        (subst (IsBetween retries (effect unit (h.policy at.epoch) (allows_at h at.epoch) too_many p)) (sym new)
-        (store_ends p retries begun.x28 begun.x29 begun.x30 kind rs1 rs2 imm (h.policy at.epoch)
-        (allows_at h at.epoch) too_many at.here.stands.begins.fits.1 (omega arith) at.here.going)))
+        | inl next ↦ inl next
+        | inr new ↦
+            inr (plainly h code retries p unit at too_many tt tt tt (take_one r t)
+            (subst (IsBetween retries (effect unit (h.policy at.epoch) (allows_at h at.epoch) too_many p)) (sym new)
+            (store_ends p retries begun.x28 begun.x29 begun.x30 kind rs1 rs2 imm (h.policy at.epoch)
+            (allows_at h at.epoch) too_many at.here.stands.begins.fits.1 (omega arith) at.here.going)))
       ]
   next_access (units.Check link rs1 imm slot) at r begun t fits =
       let unit : CodeUnit = units.Check link rs1 imm slot in
       let target : ℕ = displaced (register p rs1) imm in
       elim (check_goes_on h code p link rs1 imm slot at.here retries begun.more begun.two begun.values target begun.place
       r begun.is begun.holds t fits) [
-        inl next ↦ inl next
-      | inr e ↦
-        inr (ends_as h code retries e.more p unit at e.epoch e.known too_many tt e.rises
-        (target_starts h code at.here.known e.epoch slot target e.known
-        (slot_within at.here.known at.epoch e.epoch slot at.is e.known at.inside.1))
-        e.two
-        (λ some. pick_logged (h.policy e.epoch) (allows_at h e.epoch) too_many p link rs1 imm slot (e.logged some))
-        (take_one r t) e.ends)
+        | inl next ↦ inl next
+        | inr e ↦
+            inr (ends_as h code retries e.more p unit at e.epoch e.known too_many tt e.rises
+            (target_starts h code at.here.known e.epoch slot target e.known
+            (slot_within at.here.known at.epoch e.epoch slot at.is e.known at.inside.1))
+            e.two
+            (λ some. pick_logged (h.policy e.epoch) (allows_at h e.epoch) too_many p link rs1 imm slot (e.logged some))
+            (take_one r t) e.ends)
       ]
   next_access units.Service at r begun (Word word) fits = absurd (subst (λ x. Fits h code x (Word word)) begun.is fits)
   next_access units.Service at r begun (Served reply) fits =
@@ -164,7 +162,15 @@ module _ (h : History) (code : List ℕ) (p : State) (retries : ℕ) where
       let base : r.base ≡ moved_to p.pc (9 * retries) p =
       between.base ∙ ap (λ a. moved_to a (9 * retries) p) fresh.0 in
       let raw : State → Option ℕ → Option ℕ → Option Wait → Raw = λ b bary tary waits. record {
-        base = b; x28 = r.x28; x29 = r.x29; x30 = r.x30; x31 = r.x31; bary = bary; tary = tary; waits = waits } in
+        base = b;
+        x28 = r.x28;
+        x29 = r.x29;
+        x30 = r.x30;
+        x31 = r.x31;
+        bary = bary;
+        tary = tary;
+        waits = waits;
+      } in
       ap (λ b. raw b r.bary r.tary r.waits) base
       ∙ ap (λ x. raw (moved_to p.pc (9 * retries) p) x r.tary r.waits) fresh.1
       ∙ ap (λ x. raw (moved_to p.pc (9 * retries) p) None x r.waits) fresh.2
@@ -178,7 +184,12 @@ module _ (h : History) (code : List ℕ) (p : State) (retries : ℕ) where
       let going = goes_on r rests.1 t fits in
       let from = started h code p.pc known (rests.0.start going) in
       let here : Here h code p from.unit = record {
-        known = known; ready = rests.0; going = going; stands = from.stands; small = from.small } in
+        known = known;
+        ready = rests.0;
+        going = going;
+        stands = from.stands;
+        small = from.small;
+      } in
       let at : At h code p from.unit = record {
         here = here;
         epoch = from.epoch;
@@ -186,11 +197,11 @@ module _ (h : History) (code : List ℕ) (p : State) (retries : ℕ) where
         inside = (known.closed from.epoch from.known).inside p.pc from.unit from.stands_in;
       } in
       elim (first_access from.unit at r.x28 r.x29 r.x30 r.x31 r (start_is r rests.1 going) t fits) [
-        inl begun ↦ inl (from.unit, at, begun)
-      | inr ended ↦ inr ended
+        | inl begun ↦ inl (from.unit, at, begun)
+        | inr ended ↦ inr ended
       ]
   advance known r (inr within) t fits =
       elim (next_access within.0 within.1 r within.2 t fits) [
-        inl begun ↦ inl (within.0, within.1, begun)
-      | inr ended ↦ inr ended
+        | inl begun ↦ inl (within.0, within.1, begun)
+        | inr ended ↦ inr ended
       ]

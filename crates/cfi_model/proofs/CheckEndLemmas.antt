@@ -1,6 +1,5 @@
 -- How a check ends.
-use Rattle.std.proofs.Common.{◌≡◌, ◌≢◌, ℕ, ◌+◌, ◌-◌, ◌*◌, ◌/◌, ◌%◌, ◌^◌, ◌<◌, ◌≤◌, ◌==◌, ℤ, pos, nat_lt, ◌&&◌, Bool, true, false, cond, Option, Some, None, List, refl, sym, ◌∙◌, ap, subst, arith, rules}
-use Rattle.std.proofs.lemmas.Bool.Decides.{nat_tests}
+use Rattle.std.proofs.Common.{◌≡◌, ◌≢◌, ℕ, ◌+◌, ◌*◌, ◌%◌, ◌^◌, ◌<◌, ◌≤◌, ◌==◌, pos, nat_lt, ◌&&◌, Bool, true, false, cond, Option, Some, None, refl, sym, ◌∙◌, ap, subst, arith, rules}
 use Rattle.rv_insn.specs.declared.insn.Insn.TheVariants as insns
 use Rattle.rv_insn.specs.declared.insn.LoadKind.TheVariants.{Lw}
 use Rattle.cfi_unit.specs.declared.log.Stop.TheVariants.{Halt}
@@ -11,7 +10,7 @@ use Rattle.cfi_model.specs.Log.{picked}
 use Rattle.cfi_model.specs.State.{State, regs_with, after}
 use Rattle.cfi_model.specs.Raw.{Raw}
 use Rattle.cfi_model.specs.Effect.{checked}
-use Rattle.cfi_model.specs.Begin.{begin_as, load_at, TaryId, waiting, stopped, is_reserved, ran}
+use Rattle.cfi_model.specs.Begin.{begin_as, waiting, stopped}
 use Rattle.cfi_model.specs.declared.act.Wait.TheVariants as waits
 use Rattle.cfi_model.specs.Shows.{IsBetween}
 use Rattle.cfi_model.proofs.InnerLemmas.{state, same_state, inner}
@@ -108,7 +107,7 @@ jump_ends p retries x28 x29 x30 target word bary allowed true below even granted
     (sym is)
     (record {
       base = same_state p _ _ _ _ _ _ _ _ _ _ _ _ _ _
-      (ap (λ a. regs_with p.regs 1 a) link) refl refl refl refl (omega arith) refl;
+          (ap (λ a. regs_with p.regs 1 a) link) refl refl refl refl (omega arith) refl;
       idle = refl;
       fresh = λ e. (omega arith, refl, refl);
     })

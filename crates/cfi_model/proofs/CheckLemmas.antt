@@ -1,25 +1,19 @@
 -- What a check's instructions make of a raw state, one after the other.
-use Rattle.std.proofs.Common.{◌≡◌, ◌≢◌, ℕ, ◌+◌, ◌-◌, ◌*◌, ◌/◌, ◌%◌, ◌^◌, ◌<◌, ◌≤◌, ◌==◌, ℤ, pos, negsuc, nat_lt, nat_le, not, Bool, true, false, cond, if◌then◌else◌, Option, Some, None, List, refl, sym, ◌∙◌, ap, subst, arith, rules, bit_xor, inl, inr}
+use Rattle.std.proofs.Common.{◌≡◌, ◌≢◌, ℕ, ◌+◌, ◌-◌, ◌*◌, ◌/◌, ◌%◌, ◌^◌, ◌<◌, ◌==◌, ℤ, pos, negsuc, not, true, false, cond, Option, Some, None, refl, ◌∙◌, ap, arith, rules, bit_xor, inl, inr}
 use Rattle.std.proofs.lemmas.Bool.Decides.{nat_tests}
 use Rattle.std.proofs.lemmas.Bool.{cases_lt, lt-ltb, le-ltb}
-use Rattle.std.specs.Int.{w32, cast_unsigned}
-use Rattle.rv_insn.specs.declared.insn.Insn.{Insn}
 use Rattle.rv_insn.specs.declared.insn.Insn.TheVariants as insns
-use Rattle.rv_insn.specs.declared.insn.ImmOp.TheVariants.{Addi, Slli, Srli}
-use Rattle.rv_insn.specs.declared.insn.Op.TheVariants.{Add, Xor, Or}
+use Rattle.rv_insn.specs.declared.insn.ImmOp.TheVariants.{Slli, Srli}
+use Rattle.rv_insn.specs.declared.insn.Op.TheVariants.{Add, Xor}
 use Rattle.rv_insn.specs.declared.insn.Cond.TheVariants.{Beq, Bne}
 use Rattle.rv_insn.specs.declared.insn.LoadKind.TheVariants.{Lw}
-use Rattle.rv_insn.specs.Fields.{signed}
-use Rattle.cfi_unit.specs.declared.unit.TheConstants.{SLOTS, BARY}
+use Rattle.cfi_unit.specs.declared.unit.TheConstants.{SLOTS}
 use Rattle.cfi_unit.specs.Unit.{high_insn, low_insn, high_part, low_part, bary_address}
-use Rattle.cfi_word.specs.Word.{id_in}
 use Rattle.cfi_unit.specs.declared.log.Stop.TheVariants as stops
-use Rattle.cfi_model.specs.declared.act.Wait.{Wait}
 use Rattle.cfi_model.specs.declared.act.Wait.TheVariants as waits
 use Rattle.cfi_model.specs.State.{State, register, displaced}
-use Rattle.cfi_model.specs.Raw.{Raw, reg}
-use Rattle.cfi_model.specs.Begin.{Area, TaryId, BaryId, begin_as, begin_of, area_of, load_at, next, ran, stopped, waiting}
-use Rattle.cfi_model.specs.Run.{finish_as}
+use Rattle.cfi_model.specs.Raw.{Raw}
+use Rattle.cfi_model.specs.Begin.{TaryId, BaryId, begin_as, area_of, load_at, stopped, waiting}
 use Rattle.cfi_model.proofs.InnerLemmas.{inner, same_inner}
 
 -- x30 is the part of x31 that lies past the code
@@ -64,13 +58,13 @@ points p pc steps x28 x29 x30 x31 bary tary slot small =
 joins : (address : ℕ) → address + 2 ^ 11 < 2 ^ 32
     → displaced (high_part address * 2 ^ 12 % 2 ^ 32) (low_part address) ≡ address
 joins address small = elim (cases_lt (address % 2 ^ 12) (2 ^ 11)) [
-      inl h ↦
+  | inl h ↦
       ap (λ b. displaced (high_part address * 2 ^ 12 % 2 ^ 32)
       (cond b (pos (address % 2 ^ 12)) (negsuc (2 * 2 ^ 11 - 1 - address % 2 ^ 12)))) (lt-ltb _ _ h) ∙ omega arith
-    | inr h ↦
+  | inr h ↦
       ap (λ b. displaced (high_part address * 2 ^ 12 % 2 ^ 32)
       (cond b (pos (address % 2 ^ 12)) (negsuc (2 * 2 ^ 11 - 1 - address % 2 ^ 12)))) (le-ltb _ _ h) ∙ omega arith
-    ]
+]
 
 area_bary : (slot : ℕ) → slot < SLOTS → area_of (bary_address slot) ≡ BaryId slot
 area_bary slot h = grind (arith, nat_tests)

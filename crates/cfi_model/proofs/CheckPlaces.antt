@@ -1,30 +1,17 @@
 -- The places within a check, and how one leads to the next.
-use Rattle.std.proofs.Common.{◌≡◌, ◌≢◌, ℕ, ◌+◌, ◌*◌, ◌/◌, ◌%◌, ◌^◌, ◌<◌, ◌≤◌, ◌==◌, ℤ, pos, negsuc, Option, Some, None, List, get_or, refl, sym, ◌∙◌, ap, subst, arith, rules, ◌⊎◌, inl, inr, bit_xor, Bool, true, false}
-use Rattle.std.proofs.lemmas.Bool.{cases_lt, cases_eq}
-use Rattle.std.specs.Prelude.{⊤}
-use Rattle.rv_insn.specs.declared.insn.Insn.{Insn}
-use Rattle.rv_insn.specs.declared.insn.Insn.TheVariants as insns
-use Rattle.cfi_unit.specs.declared.unit.TheConstants.{SLOTS}
-use Rattle.cfi_unit.specs.declared.unit.Unit.{Unit as CodeUnit}
-use Rattle.cfi_unit.specs.declared.unit.Unit.TheVariants as units
-use Rattle.cfi_unit.specs.Unit.{insns_of, check, link_register}
+use Rattle.std.proofs.Common.{◌≡◌, ◌≢◌, ℕ, ◌+◌, ◌*◌, ◌/◌, ◌%◌, ◌^◌, ◌<◌, ◌≤◌, Option, Some, None, bit_xor, Bool, true}
 use Rattle.cfi_word.specs.Ids.{low_half}
 use Rattle.cfi_word.specs.Word.{id_in, policy_in}
 use Rattle.cfi_model.specs.declared.act.Wait.TheVariants as waits
 use Rattle.cfi_model.specs.Log.{last_policy}
-use Rattle.cfi_model.specs.State.{State, register, displaced}
+use Rattle.cfi_model.specs.State.{State}
 use Rattle.cfi_model.specs.Raw.{Raw}
-use Rattle.cfi_model.specs.Begin.{begin_as}
-use Rattle.cfi_model.specs.Run.{Take, Word, Served, take_one}
 use Rattle.cfi_model.specs.History.{History, IsEpoch, IsTableWord, slot_class, allows_at}
-use Rattle.cfi_model.specs.Fits.{Fits}
-use Rattle.cfi_model.specs.Shows.{IsRetried, IsBetween}
+use Rattle.cfi_model.specs.Shows.{IsBetween}
 use Rattle.cfi_model.specs.Effect.{checked, is_in_code}
 use Rattle.cfi_model.proofs.InnerLemmas.{inner}
-use Rattle.cfi_model.proofs.WalkLemmas.{aims}
-use Rattle.cfi_model.proofs.CheckLemmas.{high_of, splits, far, near, points, asks_bary, tables, adds, asks_tary, equals, differs, compares, keeps_low}
-use Rattle.cfi_model.proofs.IdLemmas.{IsTry, same-xor, same-low, apart-low}
-use Rattle.cfi_model.proofs.FetchLemmas.{Here, walks, counts}
+use Rattle.cfi_model.proofs.CheckLemmas.{high_of}
+use Rattle.cfi_model.proofs.IdLemmas.{IsTry}
 
 -- a place is named for what was done last
 pub data CheckPlace : Type 0 where

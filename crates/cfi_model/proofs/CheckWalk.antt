@@ -1,7 +1,6 @@
 -- From each place within a check the next access leads to a place, or ends it.
-use Rattle.std.proofs.Common.{◌≡◌, ◌≢◌, ℕ, ◌+◌, ◌*◌, ◌/◌, ◌%◌, ◌^◌, ◌<◌, ◌≤◌, ◌==◌, ℤ, pos, negsuc, Option, Some, None, List, get_or, refl, sym, ◌∙◌, ap, subst, arith, rules, ◌⊎◌, inl, inr, bit_xor, Bool, true, false}
+use Rattle.std.proofs.Common.{◌≡◌, ℕ, ◌+◌, ◌*◌, ◌/◌, ◌%◌, ◌^◌, ◌<◌, ◌≤◌, ℤ, pos, negsuc, Some, None, List, refl, sym, ◌∙◌, ap, subst, arith, rules, ◌⊎◌, inl, inr, bit_xor, Bool, true, false}
 use Rattle.std.proofs.lemmas.Bool.{cases_lt, cases_eq}
-use Rattle.cfi_unit.specs.declared.unit.TheConstants.{SLOTS}
 use Rattle.std.proofs.lemmas.Bool.Decides.{nat_tests}
 use Rattle.rv_insn.specs.declared.insn.Insn.{Insn}
 use Rattle.cfi_unit.specs.declared.unit.Unit.{Unit as CodeUnit}
@@ -20,9 +19,9 @@ use Rattle.cfi_model.proofs.InnerLemmas.{inner}
 use Rattle.cfi_model.proofs.WalkLemmas.{aims}
 use Rattle.cfi_model.proofs.CheckLemmas.{high_of, splits, far, near, points, asks_bary, tables, adds, asks_tary, equals, differs, compares, keeps_low}
 use Rattle.cfi_model.proofs.CheckEndLemmas.{far_ends, odd_ends, not_ends, jump_ends}
-use Rattle.cfi_model.proofs.IdLemmas.{IsTry, same-low, apart-low, apart-versions, equal-allows, apart-refuses, tary_parts}
+use Rattle.cfi_model.proofs.IdLemmas.{same-low, apart-low, apart-versions, equal-allows, apart-refuses, tary_parts}
 use Rattle.cfi_model.proofs.FetchLemmas.{Here, walks, counts}
-use Rattle.cfi_model.proofs.CheckPlaces.{CheckPlace, Aimed, Split, Far, Trying, Pointed, AskedBary, FoundBary, Tabled, Added, AskedTary, FoundTary, Differed, Compared, Lowered, Refused, Allowed, Values, check_raw, IsBranchWord, IsTrying, IsTried, CheckHolds, HasTwo, CheckAt, CheckEnded}
+use Rattle.cfi_model.proofs.CheckPlaces.{CheckPlace, Aimed, Split, Far, Trying, Pointed, AskedBary, FoundBary, Tabled, Added, AskedTary, FoundTary, Differed, Compared, Lowered, Refused, Allowed, Values, check_raw, CheckHolds, HasTwo, CheckAt, CheckEnded}
 
 -- an address of the code is whole, and below its end
 in_code_whole : (target : ℕ) → is_in_code target ≡ true → target % 4 ≡ 0
@@ -36,7 +35,6 @@ whole_in_code target low whole = grind (arith, nat_tests)
 
 module _ (h : History) (code : List ℕ) (p : State) (link : Bool) (rs1 : ℕ) (imm : ℤ) (slot : ℕ)
     (here : Here h code p (units.Check link rs1 imm slot)) (retries : ℕ) where
-
   abbrev unit : CodeUnit
   unit = units.Check link rs1 imm slot
 
@@ -55,8 +53,8 @@ module _ (h : History) (code : List ℕ) (p : State) (link : Bool) (rs1 : ℕ) (
         values = record { x28 = x28; x29 = x29; x30 = x30; kept = None; last = None; bary = 0; tary = 0 };
         place = Aimed;
         is = walks h code p unit here all refl 0 (omega arith) _ _ _ _ _ _ _ _ r is
-        (aims p (p.pc + 4 * 0) (p.steps + 9 * retries) x28 x29 x30 x31 None None rs1 imm here.stands.begins.fits.0
-        (omega arith) ∙ counts p _ _ _ _ _ _ _ _ _ _ _ (omega arith) (omega arith)) t fits;
+            (aims p (p.pc + 4 * 0) (p.steps + 9 * retries) x28 x29 x30 x31 None None rs1 imm here.stands.begins.fits.0
+            (omega arith) ∙ counts p _ _ _ _ _ _ _ _ _ _ _ (omega arith) (omega arith)) t fits;
         holds = refl;
       }
 
@@ -67,231 +65,231 @@ module _ (h : History) (code : List ℕ) (p : State) (link : Bool) (rs1 : ℕ) (
       → CheckAt h p retries slot to (take_one r t) ⊎ CheckEnded h p retries slot to link (take_one r t)
   check_goes_on more two v to Aimed r is holds t fits =
       let small = here.small in
-    inl (record {
-      more = more;
-      two = two;
-      values = v;
-      place = Split;
-      is = walks h code p unit here all refl 1 (omega arith) _ _ _ _ _ _ _ _ r is
-        (splits p (p.pc + 4 * 1) (p.steps + 9 * (retries + more) + 1) v.x28 v.x29 v.x30 to None None (omega arith)
-        ∙ counts p _ _ _ _ _ _ _ _ _ _ _ (omega arith) (omega arith)) t fits;
-      holds = holds;
-    })
+      inl (record {
+        more = more;
+        two = two;
+        values = v;
+        place = Split;
+        is = walks h code p unit here all refl 1 (omega arith) _ _ _ _ _ _ _ _ r is
+            (splits p (p.pc + 4 * 1) (p.steps + 9 * (retries + more) + 1) v.x28 v.x29 v.x30 to None None (omega arith)
+            ∙ counts p _ _ _ _ _ _ _ _ _ _ _ (omega arith) (omega arith)) t fits;
+        holds = holds;
+      })
   check_goes_on more two v to Split r is holds t fits =
       let small = here.small in
-    elim (cases_lt to (2 ^ 18)) [
-        inl low ↦
-        inl (record {
-          more = more;
-          two = two;
-          values = record v { x30 = to / 2 ^ 18; kept = None; last = None };
-          place = Trying;
-          is = walks h code p unit here all refl 2 (omega arith) _ _ _ _ _ _ _ _ r is
-        (near p (p.pc + 4 * 2) (p.steps + 9 * (retries + more) + 2) v.x28 v.x29 (to / 2 ^ 18) to None None (pos 40) here.ready.zero_is (omega arith) (omega arith)
-        ∙ counts p _ _ _ _ _ _ _ _ _ _ _ (omega arith) (omega arith)) t fits;
-          holds = record { low = low; whole = λ some. absurd (some holds) };
-        })
-      | inr high ↦
-        inl (record {
-          more = more;
-          two = two;
-          values = record v { x30 = to / 2 ^ 18 };
-          place = Far;
-          is = walks h code p unit here all refl 2 (omega arith) _ _ _ _ _ _ _ _ r is
-        (far p (p.pc + 4 * 2) (p.steps + 9 * (retries + more) + 2) v.x28 v.x29 (to / 2 ^ 18) to None None (pos 40) here.ready.zero_is (omega arith)
-        ∙ counts p _ _ _ _ _ _ _ _ _ _ _ (omega arith) (omega arith)) t fits;
-          holds = (holds, high);
-        })
+      elim (cases_lt to (2 ^ 18)) [
+        | inl low ↦
+            inl (record {
+              more = more;
+              two = two;
+              values = record v { x30 = to / 2 ^ 18; kept = None; last = None };
+              place = Trying;
+              is = walks h code p unit here all refl 2 (omega arith) _ _ _ _ _ _ _ _ r is
+                  (near p (p.pc + 4 * 2) (p.steps + 9 * (retries + more) + 2) v.x28 v.x29 (to / 2 ^ 18) to None None (pos 40) here.ready.zero_is (omega arith) (omega arith)
+                  ∙ counts p _ _ _ _ _ _ _ _ _ _ _ (omega arith) (omega arith)) t fits;
+              holds = record { low = low; whole = λ some. absurd (some holds) };
+            })
+        | inr high ↦
+            inl (record {
+              more = more;
+              two = two;
+              values = record v { x30 = to / 2 ^ 18 };
+              place = Far;
+              is = walks h code p unit here all refl 2 (omega arith) _ _ _ _ _ _ _ _ r is
+                  (far p (p.pc + 4 * 2) (p.steps + 9 * (retries + more) + 2) v.x28 v.x29 (to / 2 ^ 18) to None None (pos 40) here.ready.zero_is (omega arith)
+                  ∙ counts p _ _ _ _ _ _ _ _ _ _ _ (omega arith) (omega arith)) t fits;
+              holds = (holds, high);
+            })
       ]
   check_goes_on more two v to Trying r is holds t fits =
       let small = here.small in
-    inl (record {
-      more = more;
-      two = two;
-      values = v;
-      place = Pointed;
-      is = walks h code p unit here all refl 3 (omega arith) _ _ _ _ _ _ _ _ r is
-        (points p (p.pc + 4 * 3) (p.steps + 9 * (retries + more) + 3) v.x28 v.x29 v.x30 to v.kept v.last slot (omega arith)
-        ∙ counts p _ _ _ _ _ _ _ _ _ _ _ (omega arith) (omega arith)) t fits;
-      holds = holds;
-    })
+      inl (record {
+        more = more;
+        two = two;
+        values = v;
+        place = Pointed;
+        is = walks h code p unit here all refl 3 (omega arith) _ _ _ _ _ _ _ _ r is
+            (points p (p.pc + 4 * 3) (p.steps + 9 * (retries + more) + 3) v.x28 v.x29 v.x30 to v.kept v.last slot (omega arith)
+            ∙ counts p _ _ _ _ _ _ _ _ _ _ _ (omega arith) (omega arith)) t fits;
+        holds = holds;
+      })
   check_goes_on more two v to Pointed r is holds t fits =
       let small = here.small in
-    inl (record {
-      more = more;
-      two = two;
-      values = v;
-      place = AskedBary;
-      is = walks h code p unit here all refl 4 (omega arith) _ _ _ _ _ _ _ _ r is
-        (asks_bary p (p.pc + 4 * 4) (p.steps + 9 * (retries + more) + 4) v.x29 v.x30 to v.kept v.last slot here.stands.begins.fits.2 (omega arith)
-        ∙ counts p _ _ _ _ _ _ _ _ _ _ _ (omega arith) (omega arith)) t fits;
-      holds = holds;
-    })
+      inl (record {
+        more = more;
+        two = two;
+        values = v;
+        place = AskedBary;
+        is = walks h code p unit here all refl 4 (omega arith) _ _ _ _ _ _ _ _ r is
+            (asks_bary p (p.pc + 4 * 4) (p.steps + 9 * (retries + more) + 4) v.x29 v.x30 to v.kept v.last slot here.stands.begins.fits.2 (omega arith)
+            ∙ counts p _ _ _ _ _ _ _ _ _ _ _ (omega arith) (omega arith)) t fits;
+        holds = holds;
+      })
   check_goes_on more two v to AskedBary r is holds (Word w) fits =
       let small = here.small in
-    inl (record {
-      more = more;
-      two = two;
-      values = record v { x28 = high_of slot; bary = w };
-      place = FoundBary;
-      is = ap (λ x. take_one x (Word w)) is;
-      holds = (holds, subst (λ x. Fits h code x (Word w)) is fits);
-    })
+      inl (record {
+        more = more;
+        two = two;
+        values = record v { x28 = high_of slot; bary = w };
+        place = FoundBary;
+        is = ap (λ x. take_one x (Word w)) is;
+        holds = (holds, subst (λ x. Fits h code x (Word w)) is fits);
+      })
   check_goes_on more two v to AskedBary r is holds (Served reply) fits =
       absurd (subst (λ x. Fits h code x (Served reply)) is fits)
   check_goes_on more two v to FoundBary r is holds t fits =
       let small = here.small in
-    inl (record {
-      more = more;
-      two = two;
-      values = v;
-      place = Tabled;
-      is = walks h code p unit here all refl 5 (omega arith) _ _ _ _ _ _ _ _ r is
-        (tables p (p.pc + 4 * 5) (p.steps + 9 * (retries + more) + 5) v.x28 (id_in v.bary) v.x30 to (Some v.bary) v.last (omega arith)
-        ∙ counts p _ _ _ _ _ _ _ _ _ _ _ (omega arith) (omega arith)) t fits;
-      holds = holds;
-    })
+      inl (record {
+        more = more;
+        two = two;
+        values = v;
+        place = Tabled;
+        is = walks h code p unit here all refl 5 (omega arith) _ _ _ _ _ _ _ _ r is
+            (tables p (p.pc + 4 * 5) (p.steps + 9 * (retries + more) + 5) v.x28 (id_in v.bary) v.x30 to (Some v.bary) v.last (omega arith)
+            ∙ counts p _ _ _ _ _ _ _ _ _ _ _ (omega arith) (omega arith)) t fits;
+        holds = holds;
+      })
   check_goes_on more two v to Tabled r is holds t fits =
       let small = here.small in
-    inl (record {
-      more = more;
-      two = two;
-      values = v;
-      place = Added;
-      is = walks h code p unit here all refl 6 (omega arith) _ _ _ _ _ _ _ _ r is
-        (adds p (p.pc + 4 * 6) (p.steps + 9 * (retries + more) + 6) v.x28 (id_in v.bary) to (Some v.bary) v.last (omega arith) holds.0.low
-        ∙ counts p _ _ _ _ _ _ _ _ _ _ _ (omega arith) (omega arith)) t fits;
-      holds = holds;
-    })
+      inl (record {
+        more = more;
+        two = two;
+        values = v;
+        place = Added;
+        is = walks h code p unit here all refl 6 (omega arith) _ _ _ _ _ _ _ _ r is
+            (adds p (p.pc + 4 * 6) (p.steps + 9 * (retries + more) + 6) v.x28 (id_in v.bary) to (Some v.bary) v.last (omega arith) holds.0.low
+            ∙ counts p _ _ _ _ _ _ _ _ _ _ _ (omega arith) (omega arith)) t fits;
+        holds = holds;
+      })
   check_goes_on more two v to Added r is holds t fits =
       let small = here.small in
       let start = here.ready.start here.going in
-    elim (cases_eq (to % 4) 0) [
-        inl whole ↦
-        inl (record {
-          more = more;
-          two = two;
-          values = v;
-          place = AskedTary;
-          is = walks h code p unit here all refl 7 (omega arith) _ _ _ _ _ _ _ _ r is
-        (asks_tary p (p.pc + 4 * 7) (p.steps + 9 * (retries + more) + 7) v.x28 (id_in v.bary) to (Some v.bary) v.last (omega arith) holds.0.low whole
-        ∙ counts p _ _ _ _ _ _ _ _ _ _ _ (omega arith) (omega arith)) t fits;
-          holds = (holds.0.low, whole, holds.1);
-        })
-      | inr odd ↦
-        inr (record {
-          more = more;
-          two = two;
-          epoch = start.epoch;
-          known = start.known;
-          ends = subst (IsBetween (retries + more) (checked (h.policy start.epoch) (allows_at h start.epoch slot to) link to p))
-          (sym (walks h code p unit here all refl 7 (omega arith) _ _ _ _ _ _ _ _ r is refl t fits))
-          (odd_ends p (retries + more) v.x28 (id_in v.bary) to (Some v.bary) v.last (h.policy start.epoch)
-          (allows_at h start.epoch slot to) link holds.0.low odd);
-          logged = λ some. absurd (odd (holds.0.whole some));
-          rises = λ inside. absurd (odd (in_code_whole to inside));
-        })
+      elim (cases_eq (to % 4) 0) [
+        | inl whole ↦
+            inl (record {
+              more = more;
+              two = two;
+              values = v;
+              place = AskedTary;
+              is = walks h code p unit here all refl 7 (omega arith) _ _ _ _ _ _ _ _ r is
+                  (asks_tary p (p.pc + 4 * 7) (p.steps + 9 * (retries + more) + 7) v.x28 (id_in v.bary) to (Some v.bary) v.last (omega arith) holds.0.low whole
+                  ∙ counts p _ _ _ _ _ _ _ _ _ _ _ (omega arith) (omega arith)) t fits;
+              holds = (holds.0.low, whole, holds.1);
+            })
+        | inr odd ↦
+            inr (record {
+              more = more;
+              two = two;
+              epoch = start.epoch;
+              known = start.known;
+              ends = subst (IsBetween (retries + more) (checked (h.policy start.epoch) (allows_at h start.epoch slot to) link to p))
+                  (sym (walks h code p unit here all refl 7 (omega arith) _ _ _ _ _ _ _ _ r is refl t fits))
+                  (odd_ends p (retries + more) v.x28 (id_in v.bary) to (Some v.bary) v.last (h.policy start.epoch)
+                  (allows_at h start.epoch slot to) link holds.0.low odd);
+              logged = λ some. absurd (odd (holds.0.whole some));
+              rises = λ inside. absurd (odd (in_code_whole to inside));
+            })
       ]
   check_goes_on more two v to AskedTary r is holds (Word w) fits =
       let small = here.small in
-    let given : Fits h code (check_raw p (retries + more) slot to v AskedTary) (Word w) =
+      let given : Fits h code (check_raw p (retries + more) slot to v AskedTary) (Word w) =
       subst (λ x. Fits h code x (Word w)) is fits in
       inl (record {
-      more = more;
-      two = two;
-      values = record v { tary = w };
-      place = FoundTary;
-      is = ap (λ x. take_one x (Word w)) is;
-      holds = record {
-        low = holds.0;
-        whole = holds.1;
-        words = record { branch = holds.2; goal = given.found; fair = given.fair };
-        rises = given.rises;
-      };
-    })
+        more = more;
+        two = two;
+        values = record v { tary = w };
+        place = FoundTary;
+        is = ap (λ x. take_one x (Word w)) is;
+        holds = record {
+          low = holds.0;
+          whole = holds.1;
+          words = record { branch = holds.2; goal = given.found; fair = given.fair };
+          rises = given.rises;
+        };
+      })
   check_goes_on more two v to AskedTary r is holds (Served reply) fits =
       absurd (subst (λ x. Fits h code x (Served reply)) is fits)
   check_goes_on more two v to FoundTary r is holds t fits =
       let small = here.small in
-    elim (cases_eq (id_in v.bary) (id_in v.tary)) [
-        inl same ↦
-        inl (record {
-          more = more;
-          two = two;
-          values = record v { x29 = id_in v.bary; x30 = id_in v.tary };
-          place = Allowed;
-          is = walks h code p unit here all refl 8 (omega arith) _ _ _ _ _ _ _ _ r is
-        (equals p (p.pc + 4 * 8) (p.steps + 9 * (retries + more) + 8) v.x28 (id_in v.bary) (id_in v.tary) to (Some v.bary) (Some v.tary) same (omega arith)
-        ∙ counts p _ _ _ _ _ _ _ _ _ _ _ (omega arith) (omega arith)) t fits;
-          holds = (holds, same);
-        })
-      | inr other ↦
-        inl (record {
-          more = more;
-          two = two;
-          values = v;
-          place = Differed;
-          is = walks h code p unit here all refl 8 (omega arith) _ _ _ _ _ _ _ _ r is
-        (differs p (p.pc + 4 * 8) (p.steps + 9 * (retries + more) + 8) v.x28 (id_in v.bary) (id_in v.tary) to (Some v.bary) (Some v.tary) other (omega arith)
-        ∙ counts p _ _ _ _ _ _ _ _ _ _ _ (omega arith) (omega arith)) t fits;
-          holds = (holds, other);
-        })
+      elim (cases_eq (id_in v.bary) (id_in v.tary)) [
+        | inl same ↦
+            inl (record {
+              more = more;
+              two = two;
+              values = record v { x29 = id_in v.bary; x30 = id_in v.tary };
+              place = Allowed;
+              is = walks h code p unit here all refl 8 (omega arith) _ _ _ _ _ _ _ _ r is
+                  (equals p (p.pc + 4 * 8) (p.steps + 9 * (retries + more) + 8) v.x28 (id_in v.bary) (id_in v.tary) to (Some v.bary) (Some v.tary) same (omega arith)
+                  ∙ counts p _ _ _ _ _ _ _ _ _ _ _ (omega arith) (omega arith)) t fits;
+              holds = (holds, same);
+            })
+        | inr other ↦
+            inl (record {
+              more = more;
+              two = two;
+              values = v;
+              place = Differed;
+              is = walks h code p unit here all refl 8 (omega arith) _ _ _ _ _ _ _ _ r is
+                  (differs p (p.pc + 4 * 8) (p.steps + 9 * (retries + more) + 8) v.x28 (id_in v.bary) (id_in v.tary) to (Some v.bary) (Some v.tary) other (omega arith)
+                  ∙ counts p _ _ _ _ _ _ _ _ _ _ _ (omega arith) (omega arith)) t fits;
+              holds = (holds, other);
+            })
       ]
   check_goes_on more two v to Differed r is holds t fits =
       let small = here.small in
-    inl (record {
-      more = more;
-      two = two;
-      values = v;
-      place = Compared;
-      is = walks h code p unit here all refl 9 (omega arith) _ _ _ _ _ _ _ _ r is
-        (compares p (p.pc + 4 * 9) (p.steps + 9 * (retries + more) + 9) v.x28 (id_in v.bary) (id_in v.tary) to (Some v.bary) (Some v.tary) (omega arith)
-        ∙ counts p _ _ _ _ _ _ _ _ _ _ _ (omega arith) (omega arith)) t fits;
-      holds = holds;
-    })
+      inl (record {
+        more = more;
+        two = two;
+        values = v;
+        place = Compared;
+        is = walks h code p unit here all refl 9 (omega arith) _ _ _ _ _ _ _ _ r is
+            (compares p (p.pc + 4 * 9) (p.steps + 9 * (retries + more) + 9) v.x28 (id_in v.bary) (id_in v.tary) to (Some v.bary) (Some v.tary) (omega arith)
+            ∙ counts p _ _ _ _ _ _ _ _ _ _ _ (omega arith) (omega arith)) t fits;
+        holds = holds;
+      })
   check_goes_on more two v to Compared r is holds t fits =
       let small = here.small in
-    inl (record {
-      more = more;
-      two = two;
-      values = v;
-      place = Lowered;
-      is = walks h code p unit here all refl 10 (omega arith) _ _ _ _ _ _ _ _ r is
-        (keeps_low p (p.pc + 4 * 10) (p.steps + 9 * (retries + more) + 10) v.x28 (id_in v.bary) (bit_xor (id_in v.tary) (id_in v.bary)) to (Some v.bary) (Some v.tary) (omega arith)
-        ∙ counts p _ _ _ _ _ _ _ _ _ _ _ (omega arith) (omega arith)) t fits;
-      holds = holds;
-    })
+      inl (record {
+        more = more;
+        two = two;
+        values = v;
+        place = Lowered;
+        is = walks h code p unit here all refl 10 (omega arith) _ _ _ _ _ _ _ _ r is
+            (keeps_low p (p.pc + 4 * 10) (p.steps + 9 * (retries + more) + 10) v.x28 (id_in v.bary) (bit_xor (id_in v.tary) (id_in v.bary)) to (Some v.bary) (Some v.tary) (omega arith)
+            ∙ counts p _ _ _ _ _ _ _ _ _ _ _ (omega arith) (omega arith)) t fits;
+        holds = holds;
+      })
   check_goes_on more two v to Lowered r is holds t fits =
       let small = here.small in
-    elim (cases_eq (bit_xor (id_in v.tary) (id_in v.bary) * 2 ^ 16 % 2 ^ 32) 0) [
-        inl none ↦
-        inl (record {
-          more = more;
-          two = two;
-          values = record v { x29 = id_in v.bary; x30 = (bit_xor (id_in v.tary) (id_in v.bary) * 2 ^ 16 % 2 ^ 32) };
-          place = Refused;
-          is = walks h code p unit here all refl 11 (omega arith) _ _ _ _ _ _ _ _ r is
-        (near p (p.pc + 4 * 11) (p.steps + 9 * (retries + more) + 11) v.x28 (id_in v.bary) (bit_xor (id_in v.tary) (id_in v.bary) * 2 ^ 16 % 2 ^ 32) to (Some v.bary) (Some v.tary) (negsuc 31) here.ready.zero_is none (omega arith)
-        ∙ counts p _ _ _ _ _ _ _ _ _ _ _ (omega arith) (omega arith)) t fits;
-          holds = (holds.0, holds.1, same-low (id_in v.tary) (id_in v.bary) none);
-        })
-      | inr some ↦
-        let apart = apart-versions h code slot to v.bary v.tary here.known holds.0.words
-        (apart-low (id_in v.tary) (id_in v.bary) some) in
-        inl (record {
-          more = more + 1;
-          two = λ again. (_, _, holds.0.words.branch.known, holds.0.words.goal.known, apart);
-          values = record v { x29 = id_in v.bary; x30 = (bit_xor (id_in v.tary) (id_in v.bary) * 2 ^ 16 % 2 ^ 32); kept = Some v.bary; last = Some v.tary };
-          place = Trying;
-          is = walks h code p unit here all refl 11 (omega arith) _ _ _ _ _ _ _ _ r is
-        (far p (p.pc + 4 * 11) (p.steps + 9 * (retries + more) + 11) v.x28 (id_in v.bary) (bit_xor (id_in v.tary) (id_in v.bary) * 2 ^ 16 % 2 ^ 32) to (Some v.bary) (Some v.tary) (negsuc 31) here.ready.zero_is some
-        ∙ counts p _ _ _ _ _ _ _ _ _ _ _ (omega arith) (omega arith)) t fits;
-          holds = record { low = holds.0.low; whole = λ again. holds.0.whole };
-        })
+      elim (cases_eq (bit_xor (id_in v.tary) (id_in v.bary) * 2 ^ 16 % 2 ^ 32) 0) [
+        | inl none ↦
+            inl (record {
+              more = more;
+              two = two;
+              values = record v { x29 = id_in v.bary; x30 = (bit_xor (id_in v.tary) (id_in v.bary) * 2 ^ 16 % 2 ^ 32) };
+              place = Refused;
+              is = walks h code p unit here all refl 11 (omega arith) _ _ _ _ _ _ _ _ r is
+                  (near p (p.pc + 4 * 11) (p.steps + 9 * (retries + more) + 11) v.x28 (id_in v.bary) (bit_xor (id_in v.tary) (id_in v.bary) * 2 ^ 16 % 2 ^ 32) to (Some v.bary) (Some v.tary) (negsuc 31) here.ready.zero_is none (omega arith)
+                  ∙ counts p _ _ _ _ _ _ _ _ _ _ _ (omega arith) (omega arith)) t fits;
+              holds = (holds.0, holds.1, same-low (id_in v.tary) (id_in v.bary) none);
+            })
+        | inr some ↦
+            let apart = apart-versions h code slot to v.bary v.tary here.known holds.0.words
+            (apart-low (id_in v.tary) (id_in v.bary) some) in
+            inl (record {
+              more = more + 1;
+              two = λ again. (_, _, holds.0.words.branch.known, holds.0.words.goal.known, apart);
+              values = record v { x29 = id_in v.bary; x30 = (bit_xor (id_in v.tary) (id_in v.bary) * 2 ^ 16 % 2 ^ 32); kept = Some v.bary; last = Some v.tary };
+              place = Trying;
+              is = walks h code p unit here all refl 11 (omega arith) _ _ _ _ _ _ _ _ r is
+                  (far p (p.pc + 4 * 11) (p.steps + 9 * (retries + more) + 11) v.x28 (id_in v.bary) (bit_xor (id_in v.tary) (id_in v.bary) * 2 ^ 16 % 2 ^ 32) to (Some v.bary) (Some v.tary) (negsuc 31) here.ready.zero_is some
+                  ∙ counts p _ _ _ _ _ _ _ _ _ _ _ (omega arith) (omega arith)) t fits;
+              holds = record { low = holds.0.low; whole = λ again. holds.0.whole };
+            })
       ]
   check_goes_on more two v to Refused r is holds t fits =
       let small = here.small in
-    let word = tary_parts h code slot to v.bary v.tary here.known holds.0.words in
+      let word = tary_parts h code slot to v.bary v.tary here.known holds.0.words in
       let epoch : ℕ = holds.0.words.goal.epoch in
       let apart = apart-refuses h code slot to v.bary v.tary here.known holds.0.words holds.2 holds.1 in
       let refused : allows_at h epoch slot to ≡ false = search (rules, arith) in
@@ -301,17 +299,17 @@ module _ (h : History) (code : List ℕ) (p : State) (link : Bool) (rs1 : ℕ) (
         epoch = epoch;
         known = holds.0.words.goal.known;
         ends = subst (λ pick. IsBetween (retries + more) (checked pick (allows_at h epoch slot to) link to p) (take_one r t))
-        word.policy
-        (subst (IsBetween (retries + more) (checked (policy_in v.tary) (allows_at h epoch slot to) link to p))
-        (sym (walks h code p unit here all refl 12 (omega arith) _ _ _ _ _ _ _ _ r is refl t fits))
-        (not_ends p (retries + more) v.x28 v.x29 v.x30 to v.tary (Some v.bary) (allows_at h epoch slot to) link
-        holds.0.low holds.0.whole refused));
+            word.policy
+            (subst (IsBetween (retries + more) (checked (policy_in v.tary) (allows_at h epoch slot to) link to p))
+            (sym (walks h code p unit here all refl 12 (omega arith) _ _ _ _ _ _ _ _ r is refl t fits))
+            (not_ends p (retries + more) v.x28 v.x29 v.x30 to v.tary (Some v.bary) (allows_at h epoch slot to) link
+            holds.0.low holds.0.whole refused));
         logged = λ again. whole_in_code to holds.0.low holds.0.whole;
         rises = λ inside. subst (λ q. last_policy p.log ≤ q) word.policy holds.0.rises;
       })
   check_goes_on more two v to Allowed r is holds t fits =
       let small = here.small in
-    let word = tary_parts h code slot to v.bary v.tary here.known holds.0.words in
+      let word = tary_parts h code slot to v.bary v.tary here.known holds.0.words in
       let epoch : ℕ = holds.0.words.goal.epoch in
       let same = equal-allows h code slot to v.bary v.tary here.known holds.0.words holds.1 in
       let granted : allows_at h epoch slot to ≡ true = search (rules, arith) in
@@ -321,26 +319,26 @@ module _ (h : History) (code : List ℕ) (p : State) (link : Bool) (rs1 : ℕ) (
         epoch = epoch;
         known = holds.0.words.goal.known;
         ends = subst (λ pick. IsBetween (retries + more) (checked pick (allows_at h epoch slot to) link to p) (take_one r t))
-        word.policy
-        (subst (IsBetween (retries + more) (checked (policy_in v.tary) (allows_at h epoch slot to) link to p))
-        (sym (walks h code p unit here all refl 13 (omega arith) _ _ _ _ _ _ _ _ r is refl t fits))
-        (jump_ends p (retries + more) v.x28 v.x29 v.x30 to v.tary (Some v.bary) (allows_at h epoch slot to) link
-        holds.0.low holds.0.whole granted here.going));
+            word.policy
+            (subst (IsBetween (retries + more) (checked (policy_in v.tary) (allows_at h epoch slot to) link to p))
+            (sym (walks h code p unit here all refl 13 (omega arith) _ _ _ _ _ _ _ _ r is refl t fits))
+            (jump_ends p (retries + more) v.x28 v.x29 v.x30 to v.tary (Some v.bary) (allows_at h epoch slot to) link
+            holds.0.low holds.0.whole granted here.going));
         logged = λ again. whole_in_code to holds.0.low holds.0.whole;
         rises = λ inside. subst (λ q. last_policy p.log ≤ q) word.policy holds.0.rises;
       })
   check_goes_on more two v to Far r is holds t fits =
       let small = here.small in
       let start = here.ready.start here.going in
-    inr (record {
+      inr (record {
         more = more;
         two = two;
         epoch = start.epoch;
         known = start.known;
         ends = subst (IsBetween (retries + more) (checked (h.policy start.epoch) (allows_at h start.epoch slot to) link to p))
-        (sym (walks h code p unit here all refl 12 (omega arith) _ _ _ _ _ _ _ _ r is refl t fits))
-        (far_ends p (retries + more) v.x28 v.x29 v.x30 to None (h.policy start.epoch) (allows_at h start.epoch slot to)
-        link holds.1);
+            (sym (walks h code p unit here all refl 12 (omega arith) _ _ _ _ _ _ _ _ r is refl t fits))
+            (far_ends p (retries + more) v.x28 v.x29 v.x30 to None (h.policy start.epoch) (allows_at h start.epoch slot to)
+            link holds.1);
         logged = λ some. absurd (some holds.0);
         rises = λ inside. absurd (in_code_low to inside holds.1);
       })

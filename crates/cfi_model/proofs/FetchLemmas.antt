@@ -1,10 +1,10 @@
 -- Where a unit stands, its instructions are fetched one after the other.
-use Rattle.std.proofs.Common.{◌≡◌, ◌≢◌, ℕ, ◌+◌, ◌*◌, ◌/◌, ◌%◌, ◌^◌, ◌<◌, Option, Some, None, List, slice_index, get_or, length, refl, sym, ◌∙◌, ap, subst, arith, rules}
+use Rattle.std.proofs.Common.{◌≡◌, ℕ, ◌+◌, ◌*◌, ◌/◌, ◌^◌, ◌<◌, Option, None, List, slice_index, get_or, length, refl, sym, ◌∙◌, ap, subst, arith}
 use Rattle.rv_insn.specs.declared.insn.Insn.{Insn}
 use Rattle.rv_insn.specs.declared.insn.Insn.TheVariants as insns
 use Rattle.rv_insn.specs.InsnOf.{insn_of}
 use Rattle.cfi_unit.specs.declared.unit.Unit.{Unit as CodeUnit}
-use Rattle.cfi_unit.specs.Unit.{IsUnit, insns_of, size_of}
+use Rattle.cfi_unit.specs.Unit.{insns_of, size_of}
 use Rattle.cfi_unit.proofs.CodeLemmas.{BeginsAt-insn}
 use Rattle.cfi_model.specs.State.{State}
 use Rattle.cfi_model.specs.Raw.{Raw}

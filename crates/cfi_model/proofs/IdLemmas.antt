@@ -1,12 +1,12 @@
 -- What the IDs of two table words of a history say of their epochs and classes.
-use Rattle.std.proofs.Common.{◌≡◌, ◌≢◌, ℕ, ◌+◌, ◌-◌, ◌*◌, ◌/◌, ◌%◌, ◌^◌, ◌<◌, ◌≤◌, ◌==◌, Bool, true, false, Option, Some, None, List, slice_index, refl, sym, ◌∙◌, ap, subst, arith, rules, bit_xor}
-use Rattle.std.specs.Int.Bits.{bit_and, xor_add_and, xor_self}
+use Rattle.std.proofs.Common.{◌≡◌, ◌≢◌, ℕ, ◌*◌, ◌/◌, ◌%◌, ◌^◌, Some, List, sym, ◌∙◌, ap, arith, bit_xor}
+use Rattle.std.specs.Int.Bits.{xor_add_and, xor_self}
 use Rattle.std.proofs.lemmas.Nat.{xor_mod, and_le_l, and_le_r}
 use Rattle.cfi_word.specs.Ids.{IsField, id_of, low_half}
 use Rattle.cfi_word.specs.Word.{IsPackable, packed, id_in, policy_in, epoch_in}
-use Rattle.cfi_word.proofs.IdLemmas.{low_half-id_of_any, same_versions, same_classes, id_of-lt}
+use Rattle.cfi_word.proofs.IdLemmas.{low_half-id_of_any, same_versions, same_classes}
 use Rattle.cfi_word.proofs.WordLemmas.{IsField-version, id_in-packed, policy_in-packed, epoch_in-packed}
-use Rattle.cfi_model.specs.History.{History, IsEpoch, IsHistory, IsTableWord, IsFair, target_class, slot_class, allows_at}
+use Rattle.cfi_model.specs.History.{History, IsEpoch, IsHistory, IsTableWord, IsFair, target_class, slot_class}
 
 -- numbers are equal exactly where they differ in no bit
 pub same-xor : (a b : ℕ) → bit_xor a b ≡ 0 → a ≡ b
@@ -106,7 +106,7 @@ equal-allows h code slot target bary tary known try same =
     let t = tary_parts h code slot target bary tary known try in
     let one = one_epoch h code slot target bary tary known try (ap low_half (sym same)) in
     let ids : id_of (slot_class h try.goal.epoch slot) (try.goal.epoch % h.versions)
-        ≡ id_of (target_class h try.goal.epoch target) (try.goal.epoch % h.versions) =
+    ≡ id_of (target_class h try.goal.epoch target) (try.goal.epoch % h.versions) =
     ap (λ e. id_of (slot_class h e slot) (e % h.versions)) (sym one) ∙ sym b.id ∙ same ∙ t.id in
     same_classes _ _ (try.goal.epoch % h.versions)
     (slot-field h code try.goal.epoch slot known try.goal.known) t.class ids

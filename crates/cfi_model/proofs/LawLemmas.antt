@@ -1,33 +1,22 @@
 -- One access after the other: the raw machine stays within a unit, or ends it as the policy machine does.
-use Rattle.std.proofs.Common.{◌≡◌, ◌≢◌, ℕ, zero, suc, ◌+◌, ◌*◌, ◌/◌, ◌%◌, ◌^◌, ◌<◌, ◌≤◌, ◌==◌, ◌&&◌, ℤ, Bool, true, false, Option, Some, None, List, [], ◌∷◌, length, refl, sym, ◌∙◌, ap, subst, arith, rules, ◌⊎◌, inl, inr}
+use Rattle.std.proofs.Common.{◌≡◌, ◌≢◌, ℕ, ◌+◌, ◌*◌, ◌/◌, ◌%◌, ◌<◌, ◌≤◌, ◌&&◌, true, List, length, refl, ◌∙◌, subst, arith}
 use Rattle.std.proofs.lemmas.Bool.Decides.{nat_tests}
-use Rattle.std.specs.Prelude.{⊤}
-use Rattle.rv_insn.specs.declared.insn.Insn.TheVariants as insns
 use Rattle.cfi_unit.specs.declared.unit.Unit.{Unit as CodeUnit}
 use Rattle.cfi_unit.specs.declared.unit.Unit.TheVariants as units
-use Rattle.cfi_unit.specs.Unit.{IsUnit, insns_of, size_of}
-use Rattle.cfi_model.specs.declared.places.TheConstants.{OPEN}
 use Rattle.cfi_model.specs.Closed.{StaysInside, IsStartOf}
-use Rattle.cfi_model.specs.Log.{last_policy, pick_entries}
+use Rattle.cfi_model.specs.Log.{pick_entries}
 use Rattle.cfi_model.specs.State.{State, register, displaced}
 use Rattle.cfi_model.specs.Raw.{Raw}
-use Rattle.cfi_model.specs.Begin.{begin_as}
-use Rattle.cfi_model.specs.Service.{Reply, IsAnswer, asked, too_many, service_of}
+use Rattle.cfi_model.specs.Service.{Reply}
 use Rattle.cfi_model.specs.Effect.{effect, is_in_code}
-use Rattle.cfi_model.specs.Run.{Take, Word, Served, take_one, serve_by}
 use Rattle.cfi_model.specs.History.{History, IsEpoch, IsHistory, IsStart, allows_at, slot_class, target_class}
-use Rattle.cfi_model.specs.Fits.{Fits, FitsOpen}
-use Rattle.cfi_model.specs.Shows.{Stands, IsStep, IsReady, IsAnswered, IsBetween}
-use Rattle.cfi_model.proofs.InnerLemmas.{inner}
-use Rattle.cfi_model.proofs.StartLemmas.{Started, started}
+use Rattle.cfi_model.specs.Shows.{IsStep, IsReady, IsAnswered, IsBetween}
 use Rattle.cfi_model.proofs.ReadyLemmas.{Targets, ready_kept}
-use Rattle.cfi_model.proofs.FetchLemmas.{Here, walks}
-use Rattle.cfi_model.proofs.MaskedLemmas.{MaskedPlace, MaskedAt, masked_raw, masked_begins, masked_goes_on}
-use Rattle.cfi_model.proofs.AccessLemmas.{load_ends, store_ends}
-use Rattle.cfi_model.proofs.CheckPlaces.{CheckAt, CheckEnded, HasTwo}
-use Rattle.cfi_model.proofs.CheckWalk.{check_begins, check_goes_on}
-use Rattle.cfi_model.proofs.PickLemmas.{IsRising, effect_rises, pick_logged}
-use Rattle.cfi_model.proofs.SingleLemmas.{plain_ends, branch_ends, jump_ends, service_raw, ecall_waits, serve_ends}
+use Rattle.cfi_model.proofs.FetchLemmas.{Here}
+use Rattle.cfi_model.proofs.MaskedLemmas.{MaskedAt}
+use Rattle.cfi_model.proofs.CheckPlaces.{CheckAt, HasTwo}
+use Rattle.cfi_model.proofs.PickLemmas.{IsRising, effect_rises}
+use Rattle.cfi_model.proofs.SingleLemmas.{service_raw}
 
 -- a unit has ended, and the policy machine has run it
 pub record Ended (h : History) (code : List ℕ) (retries : ℕ) (old : State) (r : Raw) : Type 0 where
@@ -102,7 +91,7 @@ ends_as h code retries more p unit at epoch is reply answered rising targets two
         rises = rises.policies;
       };
       ready = ready_kept h code here.known at.epoch at.is unit (h.policy epoch) (allows_at h epoch) reply p here.ready
-      here.small at.inside targets;
+          here.small at.inside targets;
       more = more;
       two = two;
       logged = logged;

@@ -1,8 +1,8 @@
 -- The places within a masked access, and how one leads to the next.
-use Rattle.std.proofs.Common.{◌≡◌, ◌≢◌, ℕ, ◌+◌, ◌*◌, ◌/◌, ◌%◌, ◌^◌, ◌<◌, ℤ, pos, Option, Some, None, List, get_or, refl, sym, ◌∙◌, ap, subst, arith, rules, ◌⊎◌, inl, inr}
+use Rattle.std.proofs.Common.{◌≡◌, ℕ, ◌+◌, ◌*◌, ◌%◌, ◌^◌, ◌<◌, ℤ, None, List, refl, ◌∙◌, arith, ◌⊎◌, inl, inr}
 use Rattle.rv_insn.specs.declared.insn.Insn.{Insn}
 use Rattle.cfi_unit.specs.declared.unit.Unit.{Unit as CodeUnit}
-use Rattle.cfi_unit.specs.Unit.{insns_of, size_of, masked}
+use Rattle.cfi_unit.specs.Unit.{insns_of, masked}
 use Rattle.cfi_model.specs.State.{State, register, displaced}
 use Rattle.cfi_model.specs.Raw.{Raw}
 use Rattle.cfi_model.specs.Begin.{begin_as}
@@ -11,7 +11,7 @@ use Rattle.cfi_model.specs.History.{History}
 use Rattle.cfi_model.specs.Fits.{Fits}
 use Rattle.cfi_model.proofs.InnerLemmas.{inner}
 use Rattle.cfi_model.proofs.WalkLemmas.{aims, shifts, cuts, bases, merges}
-use Rattle.cfi_model.proofs.FetchLemmas.{Here, insn_at, walks, counts}
+use Rattle.cfi_model.proofs.FetchLemmas.{Here, walks, counts}
 
 -- a place is named for what was done last: x31 has the address, is shifted and cut to its offset, x30 has the first
 -- address, and x31 has both
@@ -56,8 +56,8 @@ masked_begins h code p unit rs1 imm access here spelled free n x28 x29 x30 x31 r
       x30 = x30;
       place = Aimed;
       is = walks h code p unit here (masked rs1 imm access) spelled 0 (omega arith) _ _ _ _ _ _ _ _ r is
-      (aims p (p.pc + 4 * 0) (p.steps + 9 * n) x28 x29 x30 x31 None None rs1 imm free (omega arith)
-      ∙ counts p _ _ _ _ _ _ _ _ None None None (omega arith) (omega arith)) t fits;
+          (aims p (p.pc + 4 * 0) (p.steps + 9 * n) x28 x29 x30 x31 None None rs1 imm free (omega arith)
+          ∙ counts p _ _ _ _ _ _ _ _ None None None (omega arith) (omega arith)) t fits;
     }
 
 -- from each place but the last the next instruction leads to the next place
@@ -75,8 +75,8 @@ masked_goes_on h code p unit rs1 imm access here spelled n address x28 x29 x30 A
       x30 = x30;
       place = Shifted;
       is = walks h code p unit here (masked rs1 imm access) spelled 1 (omega arith) _ _ _ _ _ _ _ _ r is
-      (shifts p (p.pc + 4 * 1) (p.steps + 9 * n + 1) x28 x29 x30 address None None (omega arith)
-      ∙ counts p _ _ _ _ _ _ _ _ None None None (omega arith) (omega arith)) t fits;
+          (shifts p (p.pc + 4 * 1) (p.steps + 9 * n + 1) x28 x29 x30 address None None (omega arith)
+          ∙ counts p _ _ _ _ _ _ _ _ None None None (omega arith) (omega arith)) t fits;
     })
 masked_goes_on h code p unit rs1 imm access here spelled n address x28 x29 x30 Shifted r is t fits =
     let small = here.small in
@@ -86,8 +86,8 @@ masked_goes_on h code p unit rs1 imm access here spelled n address x28 x29 x30 S
       x30 = x30;
       place = Cut;
       is = walks h code p unit here (masked rs1 imm access) spelled 2 (omega arith) _ _ _ _ _ _ _ _ r is
-      (cuts p (p.pc + 4 * 2) (p.steps + 9 * n + 2) x28 x29 x30 address None None (omega arith)
-      ∙ counts p _ _ _ _ _ _ _ _ None None None (omega arith) (omega arith)) t fits;
+          (cuts p (p.pc + 4 * 2) (p.steps + 9 * n + 2) x28 x29 x30 address None None (omega arith)
+          ∙ counts p _ _ _ _ _ _ _ _ None None None (omega arith) (omega arith)) t fits;
     })
 masked_goes_on h code p unit rs1 imm access here spelled n address x28 x29 x30 Cut r is t fits =
     let small = here.small in
@@ -97,8 +97,8 @@ masked_goes_on h code p unit rs1 imm access here spelled n address x28 x29 x30 C
       x30 = x30;
       place = Based;
       is = walks h code p unit here (masked rs1 imm access) spelled 3 (omega arith) _ _ _ _ _ _ _ _ r is
-      (bases p (p.pc + 4 * 3) (p.steps + 9 * n + 3) x28 x29 x30 (address % 2 ^ 20) None None (omega arith)
-      ∙ counts p _ _ _ _ _ _ _ _ None None None (omega arith) (omega arith)) t fits;
+          (bases p (p.pc + 4 * 3) (p.steps + 9 * n + 3) x28 x29 x30 (address % 2 ^ 20) None None (omega arith)
+          ∙ counts p _ _ _ _ _ _ _ _ None None None (omega arith) (omega arith)) t fits;
     })
 masked_goes_on h code p unit rs1 imm access here spelled n address x28 x29 x30 Based r is t fits =
     let small = here.small in
@@ -108,8 +108,8 @@ masked_goes_on h code p unit rs1 imm access here spelled n address x28 x29 x30 B
       x30 = 0x40000000;
       place = Merged;
       is = walks h code p unit here (masked rs1 imm access) spelled 4 (omega arith) _ _ _ _ _ _ _ _ r is
-      (merges p (p.pc + 4 * 4) (p.steps + 9 * n + 4) x28 x29 (address % 2 ^ 20) None None (omega arith) (omega arith)
-      ∙ counts p _ _ _ _ _ _ _ _ None None None (omega arith) (omega arith)) t fits;
+          (merges p (p.pc + 4 * 4) (p.steps + 9 * n + 4) x28 x29 (address % 2 ^ 20) None None (omega arith) (omega arith)
+          ∙ counts p _ _ _ _ _ _ _ _ None None None (omega arith) (omega arith)) t fits;
     })
 masked_goes_on h code p unit rs1 imm access here spelled n address x28 x29 x30 Merged r is t fits =
     inr (walks h code p unit here (masked rs1 imm access) spelled 5 (omega arith) _ _ _ _ _ _ _ _ r is refl t fits)

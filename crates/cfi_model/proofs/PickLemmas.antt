@@ -1,5 +1,5 @@
 -- What a unit makes of the log's policies and picks.
-use Rattle.std.proofs.Common.{◌≡◌, ◌≢◌, ℕ, ◌+◌, ◌-◌, ◌<◌, ◌≤◌, ◌==◌, ℤ, Bool, true, false, cond, List, [], ◌∷◌, ◌++◌, length, take, slice_set, Option, Some, None, refl, sym, ◌∙◌, ap, subst, arith, rules}
+use Rattle.std.proofs.Common.{◌≡◌, ℕ, ◌+◌, ◌-◌, ◌<◌, ◌≤◌, ◌==◌, ℤ, Bool, true, false, cond, List, [], ◌∷◌, ◌++◌, length, take, slice_set, Option, Some, None, refl, sym, ◌∙◌, ap, subst, arith, rules}
 use Rattle.std.specs.Prelude.{⊤}
 use Rattle.cfi_unit.specs.declared.log.Log.{Log}
 use Rattle.cfi_unit.specs.declared.log.Log.TheVariants.{Pick, Open, Cause}
@@ -8,7 +8,7 @@ use Rattle.cfi_unit.specs.declared.unit.Unit.TheVariants as units
 use Rattle.cfi_model.specs.declared.places.TheConstants.{OPEN, TOO_MANY}
 use Rattle.cfi_model.specs.Log.{last_of, is_pick_of, picks_of, picked, last_policy, pick_entries, is_pick}
 use Rattle.cfi_model.specs.State.{State, register, displaced}
-use Rattle.cfi_model.specs.Service.{Reply, Service, Ends, Puts, Quiets, Opens, Unknown, served_log, opened_log, succeeds, argument, asked, service_of}
+use Rattle.cfi_model.specs.Service.{Reply, Service, Ends, Puts, Quiets, Opens, Unknown, served_log, succeeds, argument, asked, service_of}
 use Rattle.cfi_model.specs.Effect.{effect, is_in_code}
 use Rattle.cfi_model.specs.Fits.{FitsOpen}
 use Rattle.cfi_model.specs.Shows.{IsAnswered}

@@ -1,22 +1,21 @@
 -- Each unit leads from a start to a start, and keeps x0 at 0.
-use Rattle.std.proofs.Common.{◌≡◌, ◌≢◌, ℕ, ◌+◌, ◌-◌, ◌*◌, ◌/◌, ◌%◌, ◌^◌, ◌<◌, ◌≤◌, ◌==◌, ◌&&◌, ℤ, pos, negsuc, nat_lt, Bool, true, false, cond, if◌then◌else◌, Option, Some, None, List, length, slice_index, slice_set, get_or-set_other, refl, sym, ◌∙◌, ap, subst, arith, rules}
+use Rattle.std.proofs.Common.{◌≡◌, ℕ, ◌+◌, ◌^◌, ◌<◌, ◌&&◌, ℤ, pos, negsuc, Bool, true, false, cond, if◌then◌else◌, Option, Some, None, List, length, slice_index, slice_set, get_or-set_other, refl, sym, ◌∙◌, subst, arith}
 use Rattle.std.proofs.lemmas.Bool.Decides.{nat_tests}
 use Rattle.std.specs.Prelude.{⊤}
-use Rattle.std.specs.Int.{w32, cast_unsigned}
 use Rattle.rv_insn.specs.declared.insn.Insn.{Insn}
 use Rattle.rv_insn.specs.declared.insn.Insn.TheVariants as insns
 use Rattle.cfi_unit.specs.declared.log.Stop.{Stop}
 use Rattle.cfi_unit.specs.declared.unit.Unit.{Unit as CodeUnit}
 use Rattle.cfi_unit.specs.declared.unit.Unit.TheVariants as units
-use Rattle.cfi_unit.specs.Unit.{IsUnit, link_register}
-use Rattle.cfi_model.specs.Closed.{IsStartOf, LeadsToStart, StaysInside, ReturnsToStart}
+use Rattle.cfi_unit.specs.Unit.{link_register}
+use Rattle.cfi_model.specs.Closed.{IsStartOf, LeadsToStart, StaysInside}
 use Rattle.cfi_model.specs.Data.{load_width, store_width, is_aligned, loaded}
 use Rattle.cfi_model.specs.State.{State, register, regs_with, displaced, after}
-use Rattle.cfi_model.specs.Service.{Reply, Service, Ends, Puts, Quiets, Opens, Unknown, served, served_regs, service_of, asked, succeeds}
-use Rattle.cfi_model.specs.Effect.{effect, plain_regs, checked, is_in_code, masked_at}
+use Rattle.cfi_model.specs.Service.{Reply, Service, Ends, Puts, Quiets, Opens, Unknown, served_regs, service_of, asked, succeeds}
+use Rattle.cfi_model.specs.Effect.{effect, plain_regs, is_in_code, masked_at}
 use Rattle.cfi_model.specs.History.{History, IsEpoch, IsHistory, IsStart}
 use Rattle.cfi_model.specs.Shows.{IsReady}
-use Rattle.cfi_model.proofs.StartLemmas.{Started, started, start_in}
+use Rattle.cfi_model.proofs.StartLemmas.{start_in}
 
 -- a write keeps x0 at 0
 zero_kept : (regs : List ℕ) (k value : ℕ) → slice_index regs 0 ≡ 0 → slice_index (regs_with regs k value) 0 ≡ 0
@@ -81,7 +80,6 @@ Targets h allows (units.Check link rs1 imm slot) s =
 Targets h allows unit s = ⊤
 
 module _ (h : History) (code : List ℕ) (known : IsHistory h code) (epoch : ℕ) (is : IsEpoch h epoch) where
-
   -- a start of the epoch is one of the history, wherever it is written as a sum in 32 bits
   lands : (address to : ℕ) → IsStartOf (h.body epoch) to → (to < 2 ^ 18 → address ≡ to) → IsStart h address
   lands address to start same =

@@ -1,18 +1,17 @@
 -- What the raw machine shows after a list of accesses.
-use Rattle.std.proofs.Common.{◌≡◌, ◌≢◌, ℕ, zero, suc, ◌+◌, ◌*◌, ◌/◌, ◌%◌, ◌^◌, ◌<◌, ◌≤◌, ℤ, Bool, Option, Some, None, List, [], ◌∷◌, length, refl, sym, ◌∙◌, ap, subst, arith, rules, ◌⊎◌, inl, inr}
+use Rattle.std.proofs.Common.{◌≡◌, ◌≢◌, ℕ, zero, suc, ◌+◌, ◌*◌, ◌%◌, ◌^◌, ◌≤◌, ℤ, Bool, Option, Some, None, List, [], ◌∷◌, refl, ◌∙◌, ap, arith, inl, inr}
 use Rattle.cfi_unit.specs.declared.unit.Unit.{Unit as CodeUnit}
 use Rattle.cfi_unit.specs.declared.unit.Unit.TheVariants as units
 use Rattle.cfi_unit.specs.Unit.{size_of}
 use Rattle.cfi_model.specs.declared.act.Wait.{Wait}
 use Rattle.cfi_model.specs.declared.act.Wait.TheVariants as waits
 use Rattle.cfi_model.specs.Service.{asked}
-use Rattle.cfi_model.specs.Log.{pick_entries}
-use Rattle.cfi_model.specs.State.{State, register, displaced}
+use Rattle.cfi_model.specs.State.{State}
 use Rattle.cfi_model.specs.Raw.{Raw}
 use Rattle.cfi_model.specs.Run.{Take, take_one, run_of}
 use Rattle.cfi_model.specs.History.{History, IsHistory, IsEpoch}
 use Rattle.cfi_model.specs.Fits.{Along}
-use Rattle.cfi_model.specs.Shows.{IsReady, IsBetween, IsInside, IsRetried, IsShown, Shows, few_of, moved_to}
+use Rattle.cfi_model.specs.Shows.{IsReady, IsBetween, IsInside, IsRetried, IsShown, Shows, few_of}
 use Rattle.cfi_model.proofs.InnerLemmas.{inner}
 use Rattle.cfi_model.proofs.MaskedLemmas as masked
 use Rattle.cfi_model.proofs.CheckPlaces as check
@@ -189,10 +188,10 @@ shown h code known [] p retries r (inr within) along =
     at_rest h code p retries r within.1.here.ready (inr (shown_within h code p within.0 retries r within.1 within.2))
 shown h code known (t ∷ takes) p retries r running along =
     elim (advance h code p retries known r running t along.0) [
-      inl within ↦ shown h code known takes p retries (take_one r t) (inr within) along.1
-    | inr e ↦
-      one_more h code retries p (take_one r t) (run_of (take_one r t) takes) e
-      (shown h code known takes e.new (retries + e.more) (take_one r t) (inl (e.ready, e.between)) along.1)
+      | inl within ↦ shown h code known takes p retries (take_one r t) (inr within) along.1
+      | inr e ↦
+          one_more h code retries p (take_one r t) (run_of (take_one r t) takes) e
+          (shown h code known takes e.new (retries + e.more) (take_one r t) (inl (e.ready, e.between)) along.1)
     ]
 
 pub raw_shows : (h : History) (code : List ℕ) → IsHistory h code → (old : State) → IsReady h old → (retries : ℕ) (r : Raw)

@@ -1,5 +1,5 @@
 -- How the units of one instruction end.
-use Rattle.std.proofs.Common.{◌≡◌, ◌≢◌, ℕ, ◌+◌, ◌-◌, ◌*◌, ◌/◌, ◌%◌, ◌^◌, ◌<◌, ◌≤◌, ◌==◌, ◌||◌, ℤ, pos, nat_lt, nat_le, Bool, true, false, cond, if◌then◌else◌, Option, Some, None, List, refl, sym, ◌∙◌, ap, subst, arith, rules}
+use Rattle.std.proofs.Common.{◌≡◌, ℕ, ◌+◌, ◌*◌, ◌<◌, ◌||◌, ℤ, Bool, true, false, cond, Some, None, List, refl, sym, ◌∙◌, ap, subst, arith, rules}
 use Rattle.std.specs.Int.{w32, cast_unsigned}
 use Rattle.rv_insn.specs.declared.insn.Insn.{Insn}
 use Rattle.rv_insn.specs.declared.insn.Insn.TheVariants as insns
@@ -7,13 +7,12 @@ use Rattle.rv_insn.specs.declared.insn.Cond.{Cond}
 use Rattle.rv_alu.specs.Alu.{value_of_op, value_of_imm_op, takes}
 use Rattle.cfi_unit.specs.declared.unit.Unit.TheVariants as units
 use Rattle.cfi_unit.specs.Unit.{IsPlain, link_register}
-use Rattle.cfi_model.specs.declared.act.Wait.{Wait}
 use Rattle.cfi_model.specs.declared.act.Wait.TheVariants as waits
 use Rattle.cfi_model.specs.State.{State, register, regs_with, displaced, after}
 use Rattle.cfi_model.specs.Raw.{Raw, reg, with_reg}
 use Rattle.cfi_model.specs.Service.{Reply, Service, Ends, Puts, Quiets, Opens, Unknown, served, service_of, asked}
 use Rattle.cfi_model.specs.Effect.{effect, going_to}
-use Rattle.cfi_model.specs.Begin.{begin_as, is_reserved, names_reserved, units_of, writes, ran, next}
+use Rattle.cfi_model.specs.Begin.{begin_as, is_reserved, units_of, ran}
 use Rattle.cfi_model.specs.Run.{serve_by}
 use Rattle.cfi_model.specs.Shows.{IsBetween}
 use Rattle.cfi_model.proofs.InnerLemmas.{same_state, inner, reg-free, with_reg-free}
@@ -24,7 +23,6 @@ free_is k h = search (rules, arith)
 
 module _ (p : State) (n x28 x29 x30 x31 : ℕ) (going : p.stop ≡ None) (pick : ℕ) (allows : ℕ → ℕ → Bool)
     (reply : Reply) where
-
   abbrev r : Raw
   r = start_raw p n x28 x29 x30 x31
 
@@ -34,7 +32,7 @@ module _ (p : State) (n x28 x29 x30 x31 : ℕ) (going : p.stop ≡ None) (pick :
       (ran to count (inner (record p { regs = regs }) p.units p.pc (p.steps + 9 * n) x28 x29 x30 x31 None None None))
   unit_ends regs to count one = record {
     base = same_state (record p { regs = regs }) _ _ _ _ _ _ _ _ _ _ _ _ _ _
-    refl refl refl refl (ap (λ c. p.units + c) one) (omega arith) refl;
+        refl refl refl refl (ap (λ c. p.units + c) one) (omega arith) refl;
     idle = refl;
     fresh = λ e. (refl, refl, refl);
   }

@@ -1,6 +1,6 @@
 -- Where a closed image's units stand, and where they lead.
-use Rattle.std.proofs.Common.{◌≡◌, ◌≢◌, ℕ, zero, suc, ◌+◌, ◌-◌, ◌*◌, ◌/◌, ◌%◌, ◌^◌, ◌<◌, ◌≤◌, ◌==◌, ℤ, pos, negsuc, nat_lt, Bool, true, false, cond, Option, Some, None, List, [], ◌∷◌, ◌++◌, length, take, drop, replicate, slice_get, slice_index, get_or, refl, sym, ◌∙◌, ap, subst, arith, rules, length-take, length-drop, get_or-drop, get_or-take}
-use Rattle.std.specs.List.{flat_map, AllByRecursion}
+use Rattle.std.proofs.Common.{◌≡◌, ◌≢◌, ℕ, zero, suc, ◌+◌, ◌/◌, ◌^◌, ◌<◌, Some, None, List, [], ◌∷◌, ◌++◌, length, take, drop, replicate, slice_get, slice_index, get_or, refl, sym, ◌∙◌, ap, subst, arith, length-take, length-drop, get_or-drop, get_or-take}
+use Rattle.std.specs.List.{AllByRecursion}
 use Rattle.std.proofs.lemmas.List.{take-append-drop, ext_get_or, append_assoc, drop-drop}
 use Rattle.std.proofs.lemmas.Option.{slice_get_within, get_or_from_slice_get, slice_get-get_or}
 use Rattle.std.proofs.lemmas.List.Concat.{flat_map-append}
@@ -8,13 +8,12 @@ use Rattle.std.proofs.Math.Seq.{drop-append_seam, take-append_seam, drop-cons}
 use Rattle.rv_insn.specs.declared.insn.Insn.TheVariants as insns
 use Rattle.rv_insn.specs.InsnOf.{insn_of}
 use Rattle.cfi_unit.specs.declared.unit.Unit.{Unit as CodeUnit}
-use Rattle.cfi_unit.specs.declared.unit.Unit.TheVariants as units
-use Rattle.cfi_unit.specs.Unit.{IsUnit, Spells, insns_of, words_of, size_of}
+use Rattle.cfi_unit.specs.Unit.{IsUnit, insns_of, words_of, size_of}
 use Rattle.cfi_unit.specs.Code.{BeginsAt}
 use Rattle.cfi_unit.proofs.CodeLemmas.{BeginsAt-insn, BeginsAt-within, length-words_of}
 use Rattle.cfi_unit.proofs.UnitLemmas.{size_pos}
 use Rattle.cfi_model.specs.declared.places.TheConstants.{BASE}
-use Rattle.cfi_model.specs.Closed.{code_of, idle, place_of, IsReadAs, IsStartOf, StandsIn, IsClosedBy}
+use Rattle.cfi_model.specs.Closed.{code_of, idle, place_of, IsReadAs, IsStartOf, StandsIn}
 use Rattle.cfi_model.specs.History.{History, IsHistory, IsEpoch, IsStart}
 use Rattle.cfi_model.specs.Shows.{Stands}
 
@@ -82,10 +81,15 @@ begins_on : (old new : List ℕ) (at : ℕ) (u : CodeUnit) → BeginsAt old at u
 begins_on old new at u begins same kept =
     let inside = BeginsAt-within old at u begins in
     let sizes : length (take (size_of u) (drop at old)) ≡ length (take (size_of u) (drop at new)) =
-    omega (arith, length-take (size_of u) (drop at old), length-take (size_of u) (drop at new), length-drop at old,
-    length-drop at new) in
+    omega (
+      arith,
+      length-take (size_of u) (drop at old),
+      length-take (size_of u) (drop at new),
+      length-drop at old,
+      length-drop at new,
+    ) in
     let each : (i : ℕ) → i < length (take (size_of u) (drop at old))
-        → get_or (take (size_of u) (drop at old)) i 0 ≡ get_or (take (size_of u) (drop at new)) i 0 =
+    → get_or (take (size_of u) (drop at old)) i 0 ≡ get_or (take (size_of u) (drop at new)) i 0 =
     λ i h.
     let below : i < size_of u = omega (arith, length-take (size_of u) (drop at old)) in
     get_or-take (size_of u) (drop at old) i 0 below ∙ get_or-drop at old i 0

@@ -1,16 +1,12 @@
 -- What a masked access's instructions make of a raw state, one after the other.
-use Rattle.std.proofs.Common.{◌≡◌, ◌≢◌, ℕ, ◌+◌, ◌-◌, ◌*◌, ◌/◌, ◌%◌, ◌^◌, ◌<◌, ◌≤◌, ◌==◌, ℤ, pos, negsuc, nat_lt, Bool, true, false, cond, if◌then◌else◌, Option, Some, None, List, refl, sym, ◌∙◌, ap, subst, arith, rules, bit_or}
-use Rattle.std.specs.Int.{w32, cast_unsigned}
+use Rattle.std.proofs.Common.{◌≡◌, ℕ, ◌+◌, ◌*◌, ◌%◌, ◌^◌, ◌<◌, ℤ, pos, Option, None, refl, ◌∙◌, ap, arith, bit_or}
 use Rattle.std.specs.Int.Bits.{bit_and, and_shifted}
 use Rattle.std.proofs.lemmas.Nat.{or_disjoint, and_comm}
-use Rattle.rv_insn.specs.declared.insn.Insn.{Insn}
 use Rattle.rv_insn.specs.declared.insn.Insn.TheVariants as insns
 use Rattle.rv_insn.specs.declared.insn.ImmOp.TheVariants.{Addi, Slli, Srli}
-use Rattle.rv_insn.specs.declared.insn.Op.TheVariants.{Add, Xor, Or}
-use Rattle.cfi_model.specs.declared.act.Wait.{Wait}
+use Rattle.rv_insn.specs.declared.insn.Op.TheVariants.{Or}
 use Rattle.cfi_model.specs.State.{State, register, displaced}
-use Rattle.cfi_model.specs.Raw.{Raw, reg}
-use Rattle.cfi_model.specs.Begin.{begin_as, begin_of}
+use Rattle.cfi_model.specs.Begin.{begin_as}
 use Rattle.cfi_model.proofs.InnerLemmas.{inner, same_inner, reg-free}
 
 -- x31 is the sum of a register and an immediate
