@@ -1,6 +1,5 @@
 -- What a log's end says of it, and that its room suffices for one pick more.
-use Rattle.std.proofs.Common.{◌≡◌, ◌≢◌, ℕ, ◌+◌, ◌-◌, ◌<◌, ◌≤◌, ◌^◌, Bool, true, false, cond, List, [], ◌∷◌, ◌++◌, length, take, slice_get, slice_set, Option, Some, None, refl, sym, ◌∙◌, ap, subst, arith, rules, eqb}
-use Rattle.std.specs.List.{fold, count_by}
+use Rattle.std.proofs.Common.{◌≡◌, ◌≢◌, ℕ, ◌+◌, ◌-◌, ◌<◌, ◌≤◌, false, cond, List, [], ◌∷◌, ◌++◌, length, take, slice_set, Option, Some, None, refl, sym, ◌∙◌, ap, subst, arith, rules}
 use Rattle.std.proofs.lemmas.Grind.{common_steps}
 use Rattle.std.proofs.Common.{tests}
 use Rattle.std.proofs.lemmas.List.{take_all, take_more, take_more_set, length-set, length_push, get_or_push}
@@ -9,7 +8,7 @@ use Rattle.cfi_unit.specs.declared.log.Log.{Log}
 use Rattle.cfi_unit.specs.declared.log.Log.TheVariants.{Pick, Open, Cause}
 use Rattle.cfi_model.specs.declared.places.TheConstants.{MAX_LOG}
 use Rattle.cfi_word.specs.declared.word.TheConstants.{MAX_POLICY}
-use Rattle.cfi_model.specs.Log.{HasRoom, opens, last_policy, last_of, is_pick_of, picked, pick_entries, is_pick, is_open, policy_after, spent_by, last_picks, picks_in}
+use Rattle.cfi_model.specs.Log.{HasRoom, opens, last_policy, last_of, is_pick_of, pick_entries, is_pick, is_open, policy_after, spent_by, last_picks, picks_in}
 
 -- the log but for its last entry
 abbrev front_of : List Log → List Log

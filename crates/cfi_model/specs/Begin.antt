@@ -1,7 +1,7 @@
 -- The raw machine's instructions (RISC-V Unprivileged ISA 20191213, 2): what each makes of a state, and asks for.
 -- An instruction is counted as fetched when it begins. A load from a table then waits for its word, and ECALL for its
 -- service. A word that is no instruction, and an access that has no meaning, leave the state as it is.
-use Rattle.std.specs.Prelude.{◌≡◌, ℕ, ◌+◌, ◌-◌, ◌*◌, ◌/◌, ◌%◌, ◌^◌, ◌<◌, ◌≤◌, ◌==◌, nat_lt, nat_le, ◌&&◌, ◌||◌, Bool, true, false, if◌then◌else◌, ℤ, Option, Some, None, List}
+use Rattle.std.specs.Prelude.{ℕ, ◌+◌, ◌-◌, ◌*◌, ◌/◌, ◌%◌, ◌^◌, ◌==◌, nat_lt, nat_le, ◌&&◌, ◌||◌, Bool, true, false, if◌then◌else◌, ℤ, Option, Some, None, List}
 use Rattle.std.specs.Int.{w32, cast_unsigned}
 use Rattle.rv_insn.specs.declared.insn.Insn.{Insn}
 use Rattle.rv_insn.specs.declared.insn.Insn.TheVariants as insns
@@ -22,7 +22,7 @@ use Rattle.cfi_model.specs.declared.act.Wait.TheVariants as waits
 use Rattle.cfi_model.specs.declared.places.TheConstants.{DATA, DATA_BYTES, TARY, CODE_BYTES}
 use Rattle.cfi_model.specs.Data.{load_width, store_width, is_aligned, loaded, stored}
 use Rattle.cfi_model.specs.Log.{picked}
-use Rattle.cfi_model.specs.State.{State, displaced, after}
+use Rattle.cfi_model.specs.State.{displaced, after}
 use Rattle.cfi_model.specs.Service.{asked}
 use Rattle.cfi_model.specs.Raw.{Raw, reg, with_reg, address_of}
 

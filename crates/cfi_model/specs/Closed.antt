@@ -1,12 +1,12 @@
 -- A closed image: tables and code in which each unit at a start leads to starts.
 -- Code addresses are in bytes; places are word numbers, from 0.
-use Rattle.std.specs.Prelude.{◌≡◌, ◌≢◌, ℕ, ◌+◌, ◌-◌, ◌*◌, ◌≤◌, ◌<◌, Bool, true, false, ℤ, pos, negsuc, List, [], ◌∷◌, ◌++◌, length, take, drop, replicate, slice_get, slice_index, Option, Some, None, ⊤}
+use Rattle.std.specs.Prelude.{◌≡◌, ◌≢◌, ℕ, ◌+◌, ◌-◌, ◌*◌, ◌≤◌, ◌<◌, Bool, true, false, ℤ, pos, negsuc, List, ◌++◌, length, take, drop, replicate, slice_get, slice_index, Some, ⊤}
 use Rattle.std.specs.List.{flat_map, AllByRecursion}
 use Rattle.rv_insn.specs.declared.insn.Insn.TheVariants.{OpImm}
 use Rattle.rv_insn.specs.declared.insn.ImmOp.TheVariants.{Addi}
 use Rattle.cfi_unit.specs.declared.unit.Unit.{Unit as CodeUnit}
 use Rattle.cfi_unit.specs.declared.unit.Unit.TheVariants as units
-use Rattle.cfi_unit.specs.Unit.{IsUnit, words_of, size_of}
+use Rattle.cfi_unit.specs.Unit.{IsUnit, words_of}
 use Rattle.cfi_word.specs.declared.lists.Image.{Image}
 use Rattle.cfi_word.specs.declared.ids.TheConstants.{FIELD_MAX}
 use Rattle.cfi_word.specs.Table.{slots_of}

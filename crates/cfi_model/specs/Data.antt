@@ -1,7 +1,7 @@
 -- Private data: bytes by their offset from the first address of private data, the least byte of a number first
 -- (RISC-V Unprivileged ISA 20191213, 1.4 and 2.6).
-use Rattle.std.specs.Prelude.{ℕ, ◌+◌, ◌-◌, ◌*◌, ◌/◌, ◌%◌, ◌^◌, ◌≤◌, ◌==◌, Bool, nat_lt, if◌then◌else◌, List, slice_index, slice_set, replicate, length, [], ◌∷◌}
-use Rattle.std.specs.List.{splice, fold, AllByRecursion}
+use Rattle.std.specs.Prelude.{ℕ, ◌+◌, ◌-◌, ◌*◌, ◌/◌, ◌%◌, ◌^◌, ◌≤◌, ◌==◌, Bool, nat_lt, if◌then◌else◌, List, slice_index, slice_set, replicate, length}
+use Rattle.std.specs.List.{splice, fold}
 use Rattle.rv_insn.specs.declared.insn.LoadKind.{LoadKind}
 use Rattle.rv_insn.specs.declared.insn.LoadKind.TheVariants.{Lb, Lh, Lw, Lbu, Lhu}
 use Rattle.rv_insn.specs.declared.insn.StoreKind.{StoreKind}

@@ -1,5 +1,5 @@
 -- The policy machine: what one unit makes of a state, in how many instructions.
-use Rattle.std.specs.Prelude.{ℕ, ◌+◌, ◌*◌, ◌%◌, ◌^◌, ◌==◌, nat_lt, ◌&&◌, Bool, if◌then◌else◌, ℤ, List, Option, Some, None}
+use Rattle.std.specs.Prelude.{ℕ, ◌+◌, ◌*◌, ◌%◌, ◌^◌, ◌==◌, nat_lt, ◌&&◌, Bool, if◌then◌else◌, ℤ, List, Some}
 use Rattle.std.specs.Int.{w32, cast_unsigned}
 use Rattle.std.specs.List.{list_any}
 use Rattle.rv_insn.specs.declared.insn.Insn.{Insn}
@@ -7,8 +7,6 @@ use Rattle.rv_insn.specs.declared.insn.Insn.TheVariants.{Lui, Auipc, OpImm, Op}
 use Rattle.rv_alu.specs.Alu.{value_of_op, value_of_imm_op, takes}
 use Rattle.cfi_unit.specs.declared.unit.Unit.{Unit as CodeUnit}
 use Rattle.cfi_unit.specs.declared.unit.Unit.TheVariants as units
-use Rattle.cfi_unit.specs.declared.log.Log.{Log}
-use Rattle.cfi_unit.specs.declared.log.Stop.{Stop}
 use Rattle.cfi_unit.specs.declared.log.Stop.TheVariants.{Halt, Align}
 use Rattle.cfi_unit.specs.Unit.{link_register}
 use Rattle.cfi_word.specs.declared.lists.Edge.{Edge}
@@ -16,7 +14,7 @@ use Rattle.cfi_model.specs.declared.places.TheConstants.{DATA, DATA_BYTES, CODE_
 use Rattle.cfi_model.specs.Data.{load_width, store_width, is_aligned, loaded, stored}
 use Rattle.cfi_model.specs.Log.{picked, opens}
 use Rattle.cfi_model.specs.State.{State, register, regs_with, displaced, after}
-use Rattle.cfi_model.specs.Service.{Reply, Service, Opens, service_of, served, asked}
+use Rattle.cfi_model.specs.Service.{Reply, service_of, served, asked}
 
 -- a unit has ended after so many instructions, and the next is at this address
 abbrev pub going_to : (to steps : ℕ) → State → State

@@ -1,5 +1,5 @@
 -- The policy machine as a program runs it: a state between two units, or one that waits for the answer to an open.
-use Rattle.std.specs.Prelude.{◌≡◌, ℕ, ◌+◌, ◌*◌, ◌/◌, ◌%◌, ◌^◌, ◌≤◌, ◌<◌, ◌&&◌, Bool, true, false, if◌then◌else◌, IsTrue, List, Option, Some, None}
+use Rattle.std.specs.Prelude.{◌≡◌, ℕ, ◌+◌, ◌*◌, ◌/◌, ◌%◌, ◌^◌, ◌≤◌, ◌<◌, Bool, true, false, if◌then◌else◌, List, Option, Some, None}
 use Rattle.cfi_unit.specs.declared.unit.Unit.{Unit as CodeUnit}
 use Rattle.cfi_unit.specs.declared.unit.Unit.TheVariants as units
 use Rattle.cfi_unit.specs.declared.fill.Fill.{Fill}
@@ -77,3 +77,4 @@ pub record IsCounted (units steps : ℕ) (log : List Log) (waits : Bool) : Type 
   pub units_most : units < 2 ^ 32
   pub picks_most : last_picks log ≤ units
   pub asks_few : waits ≡ true → opens log < MAX_OPENS
+  pub ends_few : waits ≡ true → units + 1 < 2 ^ 32

@@ -1,5 +1,5 @@
 -- The raw machine's state: RV32I without units, with two table words that are kept within a check.
-use Rattle.std.specs.Prelude.{ℕ, ◌+◌, ◌%◌, ◌^◌, ◌==◌, nat_lt, Bool, if◌then◌else◌, ℤ, Option, None, List}
+use Rattle.std.specs.Prelude.{ℕ, ◌==◌, nat_lt, if◌then◌else◌, ℤ, Option, None, List}
 use Rattle.cfi_unit.specs.declared.unit.TheConstants.{FREE_REGISTERS}
 use Rattle.cfi_unit.specs.declared.fill.Fill.{Fill}
 use Rattle.cfi_model.specs.declared.act.Wait.{Wait}

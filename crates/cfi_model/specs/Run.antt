@@ -1,10 +1,9 @@
 -- The raw machine over what it is given: fetched and loaded words, and the answers of services.
-use Rattle.std.specs.Prelude.{ℕ, ◌+◌, ◌%◌, ◌^◌, Option, Some, None, List}
+use Rattle.std.specs.Prelude.{ℕ, ◌+◌, Option, Some, None, List}
 use Rattle.std.specs.List.{fold}
 use Rattle.cfi_word.specs.Word.{id_in}
 use Rattle.cfi_model.specs.declared.act.Wait.{Wait}
 use Rattle.cfi_model.specs.declared.act.Wait.TheVariants as waits
-use Rattle.cfi_model.specs.State.{State}
 use Rattle.cfi_model.specs.Service.{Reply, Service, service_of, served}
 use Rattle.cfi_model.specs.Raw.{Raw, with_reg}
 use Rattle.cfi_model.specs.Begin.{begin_of}

@@ -6,6 +6,7 @@
 
 mod act;
 mod data;
+pub mod laws;
 mod log_book;
 mod output;
 mod places;

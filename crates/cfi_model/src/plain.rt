@@ -113,8 +113,8 @@ impl Plain {
     ///
     /// The policy is at most `MAX_POLICY` and not below the last one that is logged; the fills lie inside private data.
     pub fn answer(&mut self, answer: &Answer<'_>)
-        requires can { let a = answer.now in CanEnd (reply_of a.address a.cause a.policy a.fills.now) self.old }
-        requires few { self.old.state.units + 1 < 2 ^ 32 }
+        requires { let a = answer.now in
+            CanEnd (reply_of a.address a.cause a.policy a.fills.now) self.old }
         ensures { let a = answer.now in
             self.new ≡ answered (reply_of a.address a.cause a.policy a.fills.now) self.old }
     {

@@ -1,7 +1,6 @@
-use Rattle.std.proofs.Common.{◌≡◌, ◌-◌, arith, rules, sym, ap, ◌∙◌, subst, List, length, slice_set, Some, vec_len}
-use Rattle.cfi_unit.specs.declared.log.Log.{Log}
+use Rattle.std.proofs.Common.{◌≡◌, arith, rules, sym, ap, ◌∙◌, length, Some}
 use Rattle.cfi_unit.specs.declared.log.Log.TheVariants.{Pick}
-use Rattle.cfi_model.specs.Log.{last_of, HasRoom, opens}
+use Rattle.cfi_model.specs.Log.{last_of}
 use Rattle.cfi_model.proofs.LogLemmas.{room_set, opens_set, room_more, opens_push, room_bound}
 use Rattle.cfi_model.proofs.log_book.LogBook.pick.Goals as goal
 
