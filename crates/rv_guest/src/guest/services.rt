@@ -22,6 +22,8 @@ impl Guest {
             self.new ≡ serve_of self.old (reply_of a.address a.cause a.policy a.fills.now) }
     {
         let module = self.argument();
+        // The answer's policy may be above that of the kept Tary word.
+        self.tary = None;
         match answer.cause {
             0 => {
                 self.regs.write(ARGUMENT, answer.address);
@@ -35,10 +37,7 @@ impl Guest {
             }
         }
         self.regs.write(CAUSE, answer.cause);
-        self.units += 1;
-        self.bary = None;
-        self.tary = None;
-        self.waits = None;
+        self.served();
     }
 
     // Counts a service as a unit.
