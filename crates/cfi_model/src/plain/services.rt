@@ -85,9 +85,10 @@ impl Plain {
     fn ask(&mut self)
         requires going { self.old.waits ≡ false }
         requires few { self.old.state.units + 1 < 2 ^ 32 }
-        ensures asks { IsTrue (nat_lt (opens self.old.state.log) MAX_OPENS) → self.new ≡ record self.old { waits = true } }
-        ensures full { nat_lt (opens self.old.state.log) MAX_OPENS ≡ false →
-            self.new ≡ record self.old { state = going_to (after 4 self.old.state.pc) 1 (served Opens too_many self.old.state) } }
+        ensures asks { IsTrue (nat_lt (opens self.old.state.log) MAX_OPENS) →
+            self.new ≡ record self.old { waits = true } }
+        ensures full { let s = self.old.state in nat_lt (opens s.log) MAX_OPENS ≡ false →
+            self.new ≡ record self.old { state = going_to (after 4 s.pc) 1 (served Opens too_many s) } }
     {
         if self.log.opens() < MAX_OPENS {
             self.waits = true;
