@@ -8,6 +8,7 @@
 
 mod decode;
 mod guest;
+pub mod laws;
 mod registers;
 #[cfg(test)]
 mod tests;
