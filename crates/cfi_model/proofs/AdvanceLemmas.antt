@@ -87,7 +87,7 @@ module _ (h : History) (code : List ℕ) (p : State) (retries : ℕ) where
   slot_within : (known : IsHistory h code) (one other slot : ℕ) → IsEpoch h one → IsEpoch h other
       → slot < length (h.image one).bary → slot < length (h.image other).bary
   slot_within known one other slot is is2 within =
-      omega (arith, (known.closed one is).classes.bary_length, (known.closed other is2).classes.bary_length)
+      omega (arith, (known.closed one is).1.classes.bary_length, (known.closed other is2).1.classes.bary_length)
 
   -- each further access of a unit
   pub next_access : (unit : CodeUnit) → At h code p unit → (r : Raw) → Begun h p unit retries r
@@ -193,8 +193,8 @@ module _ (h : History) (code : List ℕ) (p : State) (retries : ℕ) where
       let at : At h code p from.unit = record {
         here = here;
         epoch = from.epoch;
-        is = from.known;
-        inside = (known.closed from.epoch from.known).inside p.pc from.unit from.stands_in;
+        is = from.is;
+        inside = (known.closed from.epoch from.is).1.inside p.pc from.unit from.stands_in;
       } in
       elim (first_access from.unit at r.x28 r.x29 r.x30 r.x31 r (start_is r rests.1 going) t fits) [
         | inl begun ↦ inl (from.unit, at, begun)

@@ -39,11 +39,11 @@ packable h code epoch class known is field = record {
 -- the classes of a history have fourteen bits
 slot-field : (h : History) (code : List ℕ) (epoch slot : ℕ) → IsHistory h code → IsEpoch h epoch
     → IsField (slot_class h epoch slot)
-slot-field h code epoch slot known is = (known.closed epoch is).classes.bary_most slot
+slot-field h code epoch slot known is = (known.closed epoch is).1.classes.bary_most slot
 
 target-field : (h : History) (code : List ℕ) (epoch target : ℕ) → IsHistory h code → IsEpoch h epoch
     → IsField (target_class h epoch target)
-target-field h code epoch target known is = (known.closed epoch is).classes.tary_most (target / 4)
+target-field h code epoch target known is = (known.closed epoch is).1.classes.tary_most (target / 4)
 
 -- the words of one try
 pub record IsTry (h : History) (slot target bary tary : ℕ) : Type 0 where

@@ -11,6 +11,7 @@ use Rattle.cfi_model.specs.Service.{Reply}
 use Rattle.cfi_model.specs.Effect.{effect, is_in_code}
 use Rattle.cfi_model.specs.History.{History, IsEpoch, IsHistory, IsStart, allows_at, slot_class, target_class}
 use Rattle.cfi_model.specs.Shows.{IsStep, IsReady, IsAnswered, IsBetween}
+use Rattle.cfi_model.proofs.StartLemmas.{body_at}
 use Rattle.cfi_model.proofs.ReadyLemmas.{Targets, ready_kept}
 use Rattle.cfi_model.proofs.FetchLemmas.{Here}
 use Rattle.cfi_model.proofs.MaskedLemmas.{MaskedAt}
@@ -50,14 +51,14 @@ pub record At (h : History) (code : List ℕ) (p : State) (unit : CodeUnit) : Ty
   pub here : Here h code p unit
   pub epoch : ℕ
   pub is : IsEpoch h epoch
-  pub inside : StaysInside (h.body epoch) (length (h.image epoch).bary) p.pc unit
+  pub inside : StaysInside (body_at h code epoch here.known is) (length (h.image epoch).bary) p.pc unit
 
 -- a check's target that an epoch's policy allows is a start
 pub target_starts : (h : History) (code : List ℕ) (known : IsHistory h code) (epoch slot target : ℕ) → IsEpoch h epoch
     → slot < length (h.image epoch).bary → (is_in_code target && allows_at h epoch slot target) ≡ true
     → IsStart h target
 target_starts h code known epoch slot target is within granted =
-    let closed = known.closed epoch is in
+    let closed = (known.closed epoch is).1 in
     let whole : target % 4 ≡ 0 = grind (arith, nat_tests) in
     let same : slot_class h epoch slot ≡ target_class h epoch target = grind (arith, nat_tests) in
     let size = closed.classes.bary_length in
@@ -65,7 +66,17 @@ target_starts h code known epoch slot target is within granted =
     λ none. closed.classes.bary_least slot (omega arith) (same ∙ none) in
     let place : 4 * (target / 4) ≡ target = omega arith in
     let starts = closed.targets (target / 4) some in
-    record { epoch = epoch; known = is; starts = subst (IsStartOf (h.body epoch)) place starts }
+    record {
+      epoch = epoch;
+      known = is;
+      starts = record {
+        body = body_at h code epoch known is;
+        idles = closed.idles;
+        zeros = closed.zeros;
+        code = closed.code;
+        starts = subst (IsStartOf (body_at h code epoch known is)) place starts;
+      };
+    }
 
 -- the unit has ended under the policy of an epoch
 pub ends_as : (h : History) (code : List ℕ) (retries more : ℕ) (p : State) (unit : CodeUnit) → At h code p unit

@@ -7,6 +7,7 @@ pub mod CheckEndLemmas
 pub mod IdLemmas
 pub mod FetchLemmas
 pub mod MaskedLemmas
+pub mod ReadLemmas
 pub mod StartLemmas
 pub mod ReadyLemmas
 pub mod CheckPlaces
@@ -16,3 +17,5 @@ pub mod SingleLemmas
 pub mod LawLemmas
 pub mod AdvanceLemmas
 pub mod ShownLemmas
+pub mod ClosedLemmas
+pub mod CanLemmas

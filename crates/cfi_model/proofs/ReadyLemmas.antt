@@ -15,7 +15,7 @@ use Rattle.cfi_model.specs.Service.{Reply, Service, Ends, Puts, Quiets, Opens, U
 use Rattle.cfi_model.specs.Effect.{effect, plain_regs, is_in_code, masked_at}
 use Rattle.cfi_model.specs.History.{History, IsEpoch, IsHistory, IsStart}
 use Rattle.cfi_model.specs.Shows.{IsReady}
-use Rattle.cfi_model.proofs.StartLemmas.{start_in}
+use Rattle.cfi_model.proofs.StartLemmas.{body_at, start_in}
 
 -- a write keeps x0 at 0
 zero_kept : (regs : List ℕ) (k value : ℕ) → slice_index regs 0 ≡ 0 → slice_index (regs_with regs k value) 0 ≡ 0
@@ -80,16 +80,31 @@ Targets h allows (units.Check link rs1 imm slot) s =
 Targets h allows unit s = ⊤
 
 module _ (h : History) (code : List ℕ) (known : IsHistory h code) (epoch : ℕ) (is : IsEpoch h epoch) where
+
+  abbrev body : List CodeUnit
+  body = body_at h code epoch known is
+
   -- a start of the epoch is one of the history, wherever it is written as a sum in 32 bits
-  lands : (address to : ℕ) → IsStartOf (h.body epoch) to → (to < 2 ^ 18 → address ≡ to) → IsStart h address
+  lands : (address to : ℕ) → IsStartOf body to → (to < 2 ^ 18 → address ≡ to) → IsStart h address
   lands address to start same =
       let small : to < 2 ^ 18 = (start_in h code epoch to known is start).small in
-      subst (IsStart h) (sym (same small)) (record { epoch = epoch; known = is; starts = start })
+      let closed = (known.closed epoch is).1 in
+      subst (IsStart h) (sym (same small)) (record {
+        epoch = epoch;
+        known = is;
+        starts = record {
+          body = body;
+          idles = closed.idles;
+          zeros = closed.zeros;
+          code = closed.code;
+          starts = start;
+        };
+      })
 
-  falls : (pc bytes : ℕ) → IsStartOf (h.body epoch) (pc + bytes) → IsStart h (after bytes pc)
+  falls : (pc bytes : ℕ) → IsStartOf body (pc + bytes) → IsStart h (after bytes pc)
   falls pc bytes start = lands _ (pc + bytes) start (λ small. omega arith)
 
-  leads : (pc : ℕ) (off : ℤ) → pc < 2 ^ 18 → LeadsToStart (h.body epoch) pc off → IsStart h (displaced pc off)
+  leads : (pc : ℕ) (off : ℤ) → pc < 2 ^ 18 → LeadsToStart body pc off → IsStart h (displaced pc off)
   leads pc (pos n) small start = lands _ (pc + n) start (λ low. omega arith)
   leads pc (negsuc n) small start =
       let back : start.0 + n + 1 ≡ pc = start.1 in
@@ -107,7 +122,7 @@ module _ (h : History) (code : List ℕ) (known : IsHistory h code) (epoch : ℕ
 
   -- the next unit's address, where the guest goes on
   pub next_start : (unit : CodeUnit) (pick : ℕ) (allows : ℕ → ℕ → Bool) (reply : Reply) (s : State) → s.pc < 2 ^ 18
-      → StaysInside (h.body epoch) (length (h.image epoch).bary) s.pc unit
+      → StaysInside body (length (h.image epoch).bary) s.pc unit
       → Targets h allows unit s
       → (effect unit pick allows reply s).stop ≡ None → IsStart h (effect unit pick allows reply s).pc
   next_start (units.Plain insn) pick allows reply s small inside targets goes = falls s.pc 4 inside
@@ -124,7 +139,7 @@ module _ (h : History) (code : List ℕ) (known : IsHistory h code) (epoch : ℕ
 
   -- the state after a unit is ready for the next one
   pub ready_kept : (unit : CodeUnit) (pick : ℕ) (allows : ℕ → ℕ → Bool) (reply : Reply) (s : State) → IsReady h s
-      → s.pc < 2 ^ 18 → StaysInside (h.body epoch) (length (h.image epoch).bary) s.pc unit
+      → s.pc < 2 ^ 18 → StaysInside body (length (h.image epoch).bary) s.pc unit
       → Targets h allows unit s → IsReady h (effect unit pick allows reply s)
   ready_kept unit pick allows reply s ready small inside targets = record {
     zero_is = regs_kept unit pick allows reply s ready.zero_is;

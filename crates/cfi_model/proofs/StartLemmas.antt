@@ -16,6 +16,7 @@ use Rattle.cfi_model.specs.declared.places.TheConstants.{BASE}
 use Rattle.cfi_model.specs.Closed.{code_of, idle, place_of, IsReadAs, IsStartOf, StandsIn}
 use Rattle.cfi_model.specs.History.{History, IsHistory, IsEpoch, IsStart}
 use Rattle.cfi_model.specs.Shows.{Stands}
+use Rattle.cfi_model.proofs.ReadLemmas.{no_zero, read_once}
 
 -- what holds of all units of a list holds of each
 unit_fits : (us : List CodeUnit) → AllByRecursion IsUnit us → (k : ℕ) (d : CodeUnit) → k < length us
@@ -64,16 +65,6 @@ begins_in code body idles zeros n u read h =
       spelled = ap (take (size_of u)) there ∙ front;
     }
 
--- a unit has no word 0
-no_zero : (words : List ℕ) (at : ℕ) (u : CodeUnit) → BeginsAt words at u → (k : ℕ) → k < size_of u
-    → get_or words (at + k) 0 ≢ 0
-unfolding insn_of
-no_zero words at u begins k h none =
-    let is = BeginsAt-insn words at u begins k insns.Ebreak h in
-    let never : insn_of 0 ≡ None = refl in
-    let some : insn_of 0 ≡ Some (get_or (insns_of u) k insns.Ebreak) = sym (ap insn_of none) ∙ is in
-    absurd (cc)
-
 -- the unit stands in each list that keeps the words that are not 0
 begins_on : (old new : List ℕ) (at : ℕ) (u : CodeUnit) → BeginsAt old at u → length old ≡ length new
     → ((k : ℕ) → slice_index old k ≢ 0 → slice_index new k ≡ slice_index old k)
@@ -100,30 +91,36 @@ begins_on old new at u begins same kept =
       spelled = sym (ext_get_or 0 _ _ sizes each) ∙ begins.spelled;
     }
 
+-- the units as which an epoch's code is read
+abbrev pub body_at : (h : History) (code : List ℕ) (epoch : ℕ) → IsHistory h code → IsEpoch h epoch → List CodeUnit
+body_at h code epoch known is = (known.closed epoch is).0
+
 -- the unit at a start, and the epoch whose start it is
-pub record Started (h : History) (code : List ℕ) (address : ℕ) : Type 0 where
+pub record Started (h : History) (code : List ℕ) (known : IsHistory h code) (address : ℕ) : Type 0 where
   pub epoch : ℕ
-  pub known : IsEpoch h epoch
+  pub is : IsEpoch h epoch
   pub unit : CodeUnit
-  pub stands_in : StandsIn (h.body epoch) address unit
+  pub stands_in : StandsIn (body_at h code epoch known is) address unit
   pub stands : Stands code address unit
   pub small : address < 2 ^ 18
 
 -- a start's address is one of the code
-unit_starts : (h : History) (code : List ℕ) (epoch n : ℕ) (u : CodeUnit) → IsHistory h code → IsEpoch h epoch
-    → slice_get (h.body epoch) n ≡ Some u → Started h code (place_of (h.body epoch) n)
+unit_starts : (h : History) (code : List ℕ) (epoch n : ℕ) (u : CodeUnit) (known : IsHistory h code)
+    (is : IsEpoch h epoch) → slice_get (body_at h code epoch known is) n ≡ Some u
+    → Started h code known (place_of (body_at h code epoch known is) n)
 unit_starts h code epoch n u known is item =
-    let closed = known.closed epoch is in
-    let read = begins_in (h.image epoch).code (h.body epoch) closed.idles closed.zeros n u closed.code item in
+    let body : List CodeUnit = body_at h code epoch known is in
+    let closed = (known.closed epoch is).1 in
+    let read = begins_in (h.image epoch).code body closed.idles closed.zeros n u closed.code item in
     let begins = begins_on (h.image epoch).code code _ u read closed.classes.code_length
     (λ k. known.kept epoch k is) in
     let inside = BeginsAt-within code _ u begins in
     let some = size_pos u in
     let most = known.size.most in
-    let place : place_of (h.body epoch) n / 4 ≡ BASE + length (code_of (take n (h.body epoch))) = omega arith in
+    let place : place_of body n / 4 ≡ BASE + length (code_of (take n body)) = omega arith in
     record {
       epoch = epoch;
-      known = is;
+      is = is;
       unit = u;
       stands_in = (n, item, refl);
       stands = record {
@@ -134,13 +131,18 @@ unit_starts h code epoch n u known is item =
     }
 
 -- a start of the epoch's code
-pub start_in : (h : History) (code : List ℕ) (epoch address : ℕ) → IsHistory h code → IsEpoch h epoch
-    → IsStartOf (h.body epoch) address → Started h code address
+pub start_in : (h : History) (code : List ℕ) (epoch address : ℕ) (known : IsHistory h code) (is : IsEpoch h epoch)
+    → IsStartOf (body_at h code epoch known is) address → Started h code known address
 start_in h code epoch address known is start =
-    let u : CodeUnit = get_or (h.body epoch) start.0 idle in
-    let item : slice_get (h.body epoch) start.0 ≡ Some u = slice_get-get_or (h.body epoch) start.0 idle start.1 in
-    subst (Started h code) (sym start.2) (unit_starts h code epoch start.0 u known is item)
+    let body : List CodeUnit = body_at h code epoch known is in
+    let u : CodeUnit = get_or body start.0 idle in
+    let item : slice_get body start.0 ≡ Some u = slice_get-get_or body start.0 idle start.1 in
+    subst (Started h code known) (sym start.2) (unit_starts h code epoch start.0 u known is item)
 
-pub started : (h : History) (code : List ℕ) (address : ℕ) → IsHistory h code → IsStart h address
-    → Started h code address
-started h code address known start = start_in h code start.epoch address known start.known start.starts
+pub started : (h : History) (code : List ℕ) (address : ℕ) (known : IsHistory h code) → IsStart h address
+    → Started h code known address
+started h code address known start =
+    let closed = (known.closed start.epoch start.known).1 in
+    let one = read_once (h.image start.epoch).code _ _ start.starts.idles closed.idles start.starts.zeros closed.zeros
+    start.starts.code closed.code in
+    start_in h code start.epoch address known start.known (subst (λ b. IsStartOf b address) one start.starts.starts)

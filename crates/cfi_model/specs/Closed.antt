@@ -80,6 +80,14 @@ pub record IsClosedBy (code_words : ℕ) (image : Image) (body : List CodeUnit) 
       → StaysInside body (length image.bary) address unit
   pub targets : (k : ℕ) → slice_index image.tary k ≢ 0 → IsStartOf body (4 * k)
 
+-- the address is a start of the image's code
+pub record IsStartIn (image : Image) (address : ℕ) : Type 0 where
+  pub body : List CodeUnit
+  pub idles : ℕ
+  pub zeros : ℕ
+  pub code : IsReadAs image.code body idles zeros
+  pub starts : IsStartOf body address
+
 -- the image is closed
 abbrev pub IsClosed : (code_words : ℕ) → Image → Type 0
 IsClosed code_words image = (body : List CodeUnit) × IsClosedBy code_words image body

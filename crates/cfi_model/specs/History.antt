@@ -1,22 +1,20 @@
 -- The history of the tables: each epoch has a policy number and an image.
 -- Epochs, policies and classes are numbers; addresses are in bytes, places are word numbers, from 0.
 use Rattle.std.specs.Prelude.{◌≡◌, ◌≢◌, ℕ, ◌+◌, ◌/◌, ◌%◌, ◌≤◌, ◌<◌, ◌==◌, Bool, List, length, slice_index, Option, Some, None, ⊤}
-use Rattle.cfi_unit.specs.declared.unit.Unit.{Unit as CodeUnit}
 use Rattle.cfi_word.specs.declared.lists.Image.{Image}
 use Rattle.cfi_word.specs.declared.word.TheConstants.{MAX_EPOCH, MAX_POLICY, MIN_VERSIONS, MAX_VERSIONS}
 use Rattle.cfi_word.specs.Table.{IsSize}
 use Rattle.cfi_word.specs.Word.{packed, epoch_in}
-use Rattle.cfi_model.specs.Closed.{IsClosedBy, IsStartOf}
+use Rattle.cfi_model.specs.Closed.{IsClosed, IsStartIn}
 
--- so many epochs from the first one on, the number of versions, and for each epoch the number of its policy, its image
--- and the units as which the image's code is read
+-- so many epochs from the first one on, the number of versions, and for each epoch the number of its policy and its
+-- image
 pub record History : Type 0 where
   pub first : ℕ
   pub count : ℕ
   pub versions : ℕ
   pub policy : ℕ → ℕ
   pub image : ℕ → Image
-  pub body : ℕ → List CodeUnit
 
 -- the history has the epoch
 pub record IsEpoch (h : History) (epoch : ℕ) : Type 0 where
@@ -38,7 +36,7 @@ allows_at h epoch slot target = slot_class h epoch slot == target_class h epoch 
 pub record IsStart (h : History) (address : ℕ) : Type 0 where
   pub epoch : ℕ
   pub known : IsEpoch h epoch
-  pub starts : IsStartOf (h.body epoch) address
+  pub starts : IsStartIn (h.image epoch) address
 
 -- the word is some epoch's table word, with the class that its place has in that epoch
 pub record IsTableWord (h : History) (class_of : ℕ → ℕ) (found : ℕ) : Type 0 where
@@ -59,6 +57,6 @@ pub record IsHistory (h : History) (code : List ℕ) : Type 0 where
   pub versions_most : h.versions ≤ MAX_VERSIONS
   pub epochs_fit : (epoch : ℕ) → IsEpoch h epoch → epoch ≤ MAX_EPOCH
   pub policies_fit : (epoch : ℕ) → IsEpoch h epoch → h.policy epoch ≤ MAX_POLICY
-  pub closed : (epoch : ℕ) → IsEpoch h epoch → IsClosedBy (length code) (h.image epoch) (h.body epoch)
+  pub closed : (epoch : ℕ) → IsEpoch h epoch → IsClosed (length code) (h.image epoch)
   pub kept : (epoch place : ℕ) → IsEpoch h epoch → slice_index (h.image epoch).code place ≢ 0
       → slice_index code place ≡ slice_index (h.image epoch).code place

@@ -77,3 +77,4 @@ pub record IsCounted (units steps : ℕ) (log : List Log) (waits : Bool) : Type 
   pub units_most : units < 2 ^ 32
   pub picks_most : last_picks log ≤ units
   pub asks_few : waits ≡ true → opens log < MAX_OPENS
+  pub ends_few : waits ≡ true → units + 1 < 2 ^ 32

@@ -1,11 +1,13 @@
 //! The policy machine, which runs code unit by unit, and the states and steps of the raw machine.
 //!
-//! Stands on `cfi_unit`, `cfi_word`, `rv_insn` and `rv_alu`. Proved: `Plain` is the machine of `specs/Effect.antt`, and
-//! private data, log and output are what `specs/` says. Only tested: values from the manual. Open: nothing.
+//! Stands on `cfi_unit`, `cfi_word`, `rv_insn` and `rv_alu`. Proved: `Plain` is the machine of `specs/Effect.antt`,
+//! and private data, log and output are what `specs/` says; some image is closed. Tested: each kind of unit, by the
+//! manual. Open: nothing.
 #![tactic(auto)]
 
 mod act;
 mod data;
+pub mod laws;
 mod log_book;
 mod output;
 mod places;

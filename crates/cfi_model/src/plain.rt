@@ -80,8 +80,8 @@ impl Plain {
 
     /// Runs the unit of `code` at `pc` under one policy, whose pairs of branch slots and targets are `allowed`.
     ///
-    /// `code` is by word, from address 0. The policy is at most `MAX_POLICY` and not below the last one that is logged. The
-    /// guest has not stopped, waits for nothing, and has run fewer than 2^32 - 1 units.
+    /// `code` is by word, from address 0. The policy is at most `MAX_POLICY` and not below the last one that is
+    /// logged. The guest has not stopped, waits for nothing, and has run fewer than 2^32 - 1 units.
     pub fn unit(&mut self, code: &[u32], policy: u32, allowed: &[Edge]) -> PlainStep
         requires { CanRun code.now policy self.old }
         ensures state { (unit : CodeUnit) → BeginsAt code.now (self.old.state.pc / 4) unit
@@ -111,10 +111,11 @@ impl Plain {
 
     /// Answers the open that the guest waits for.
     ///
-    /// The policy is at most `MAX_POLICY` and not below the last one that is logged; the fills lie inside private data.
+    /// The policy is at most `MAX_POLICY` and not below the last one that is logged; the fills lie inside private
+    /// data.
     pub fn answer(&mut self, answer: &Answer<'_>)
-        requires can { let a = answer.now in CanEnd (reply_of a.address a.cause a.policy a.fills.now) self.old }
-        requires few { self.old.state.units + 1 < 2 ^ 32 }
+        requires { let a = answer.now in
+            CanEnd (reply_of a.address a.cause a.policy a.fills.now) self.old }
         ensures { let a = answer.now in
             self.new ≡ answered (reply_of a.address a.cause a.policy a.fills.now) self.old }
     {

@@ -1,8 +1,11 @@
 //! What the arithmetic and the comparisons of RV32I give.
 //!
-//! Stands on `rv_insn`; the machines call it. Proved: each result is that of `specs/Alu.antt`. Open: nothing.
+//! Stands on `rv_insn`; the machines call it. Proved: each result is that of `specs/Alu.antt`. Tested: results at border
+//! operands, by the manual. Open: nothing.
 #![tactic(auto)]
 
 mod alu;
+#[cfg(test)]
+mod tests;
 
 pub use alu::{imm_op_value, is_taken, op_value};

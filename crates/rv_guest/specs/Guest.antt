@@ -2,7 +2,6 @@
 use Rattle.std.specs.Prelude.{◌≡◌, ◌≢◌, ℕ, ◌+◌, ◌≤◌, ◌<◌, ◌^◌, ◌==◌, ◌&&◌, Bool, false, is_none, if◌then◌else◌, List, Option, Some, None, ⊤}
 use Rattle.std.specs.List.{All}
 use Rattle.cfi_unit.specs.declared.log.Log.{Log}
-use Rattle.cfi_unit.specs.declared.log.Stop.{Stop}
 use Rattle.cfi_unit.specs.declared.log.Stop.TheVariants.{Fuel}
 use Rattle.cfi_word.specs.Word.{policy_in}
 use Rattle.cfi_model.specs.declared.act.Wait.{Wait}

@@ -1,5 +1,5 @@
 -- The registers of the raw machine: x0 to x27 as a list, and the four of the instrumentation.
-use Rattle.std.specs.Prelude.{ℕ, ◌==◌, nat_lt, if◌then◌else◌, List, slice_index, slice_set, take, replicate}
+use Rattle.std.specs.Prelude.{ℕ, ◌==◌, nat_lt, if◌then◌else◌, List, slice_index, take, replicate}
 use Rattle.cfi_unit.specs.declared.unit.TheConstants.{FREE_REGISTERS}
 use Rattle.cfi_model.specs.State.{regs_with}
 

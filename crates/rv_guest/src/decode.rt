@@ -4,10 +4,19 @@ ghost use Rattle.std.specs.Prelude.{◌≡◌, ◌<◌};
 ghost use Rattle.std.specs.Int.{w32, cast_unsigned};
 ghost use Rattle.rv_insn.specs.Fields.{imm_i_at};
 ghost use Rattle.rv_insn.specs.Rows.{imm_funct7};
-ghost use Rattle.rv_insn.specs.InsnOf.{cond_at, load_at, store_at, imm_op_at, op_at, imm_value};
+ghost use Rattle.rv_insn.specs.InsnOf.{insn_of, row_of, cond_at, load_at, store_at, imm_op_at, op_at, imm_value};
 
 use rv_insn::fields::imm_i;
 use rv_insn::{Cond, ImmOp, LoadKind, Op, StoreKind};
+
+/// The opcode of a word, bits 0 to 6: the rows of the table are told by it.
+#[inline(always)]
+#[tactic(auto, unfolding(rv_insn::specs::InsnOf::insn_of))]
+pub fn opcode_of(word: u32) -> u32
+    ensures { insn_of word ≡ row_of result word }
+{
+    word % 128
+}
 
 /// The condition of a branch.
 #[inline(always)]

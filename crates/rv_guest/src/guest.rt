@@ -4,10 +4,10 @@ ghost use Rattle.cfi_model.specs.Data.{IsInside};
 ghost use Rattle.cfi_model.specs.Raw.{Raw, raw_opened};
 ghost use Rattle.cfi_model.specs.Begin.{begin_of, act_of};
 
+use crate::decode::opcode_of;
 use crate::registers::Registers;
 use cfi_model::{ARGUMENT, Act, LogBook, Output, PrivateData, STACK, Wait};
 use cfi_unit::{Fill, Stop};
-use rv_insn::fields::fields_of;
 use rv_insn::opcode;
 use std::alloc::{AllocError, Global};
 use std::marker::Model;
@@ -77,15 +77,16 @@ impl Guest {
 
     /// Runs the instruction at `pc`, whose word this is, and says what it asks for.
     ///
-    /// After `Need` the guest waits for a table word, after `Service` in that service. A word that is no instruction, and an
-    /// access that has no meaning, are `Done` and leave the guest as it is. RISC-V Unprivileged ISA 20191213, 2.
+    /// After `Need` the guest waits for a table word, after `Service` in that service. A word that is no instruction,
+    /// and an access that has no meaning, are `Done` and leave the guest as it is. RISC-V Unprivileged ISA 20191213,
+    /// 2.
     #[inline(always)]
     pub fn begin(&mut self, word: u32) -> Act
         requires { self.old.base.steps + 1 < 2 ^ 32 }
         ensures state { self.new ≡ begin_of self.old word }
         ensures act { result ≡ act_of self.old word }
     {
-        match fields_of(word).opcode {
+        match opcode_of(word) {
             opcode::OP_IMM => self.op_imm(word),
             opcode::OP => self.op(word),
             opcode::BRANCH => self.branch(word),

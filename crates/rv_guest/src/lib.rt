@@ -1,11 +1,14 @@
-//! The raw machine: a guest that runs RV32I word by word, with the loads of table words and the services left to others.
+//! The raw machine: a guest that runs RV32I word by word, with the loads of table words and the services left to
+//! others.
 //!
-//! Stands on `cfi_model`, whose definitions it meets, and on `cfi_unit`, `cfi_word`, `rv_insn` and `rv_alu`. Proved: each
-//! call leaves the guest as `specs/Begin.antt` and `specs/Run.antt` of `cfi_model` say. Open: nothing.
+//! Stands on `cfi_model`, whose definitions it meets, and on `cfi_unit`, `cfi_word`, `rv_insn` and `rv_alu`. Proved:
+//! each call leaves the guest as `specs/Begin.antt` and `specs/Run.antt` of `cfi_model` say. Tested: each instruction
+//! at border operands, checks and services, by the manual. Open: nothing.
 #![tactic(auto)]
 
 mod decode;
 mod guest;
+pub mod laws;
 mod registers;
 #[cfg(test)]
 mod tests;

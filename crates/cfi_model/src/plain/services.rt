@@ -33,7 +33,8 @@ impl Plain {
 
     // Ends a service unit.
     fn proceed(&mut self)
-        requires { self.old.state.units + 1 < 2 ^ 32 }
+        requires going { self.old.waits ≡ false }
+        requires few { self.old.state.units + 1 < 2 ^ 32 }
         ensures { self.new ≡ record self.old { state = going_to (after 4 self.old.state.pc) 1 self.old.state } }
     {
         self.pc = self.pc.wrapping_add(4);
@@ -42,7 +43,8 @@ impl Plain {
     }
 
     fn exit(&mut self)
-        requires { self.old.state.units + 1 < 2 ^ 32 }
+        requires going { self.old.waits ≡ false }
+        requires few { self.old.state.units + 1 < 2 ^ 32 }
         ensures { let s = self.old.state in self.new ≡ record self.old {
           state = going_to (after 4 s.pc) 1 (served Ends too_many s);
         } }
@@ -53,7 +55,8 @@ impl Plain {
     }
 
     fn put(&mut self)
-        requires { self.old.state.units + 1 < 2 ^ 32 }
+        requires going { self.old.waits ≡ false }
+        requires few { self.old.state.units + 1 < 2 ^ 32 }
         ensures { let s = self.old.state in self.new ≡ record self.old {
           state = going_to (after 4 s.pc) 1 (served Puts too_many s);
         } }
@@ -69,7 +72,8 @@ impl Plain {
     }
 
     fn refuse(&mut self)
-        requires { self.old.state.units + 1 < 2 ^ 32 }
+        requires going { self.old.waits ≡ false }
+        requires few { self.old.state.units + 1 < 2 ^ 32 }
         ensures { let s = self.old.state in self.new ≡ record self.old {
           state = going_to (after 4 s.pc) 1 (served Unknown too_many s);
         } }
@@ -81,9 +85,10 @@ impl Plain {
     fn ask(&mut self)
         requires going { self.old.waits ≡ false }
         requires few { self.old.state.units + 1 < 2 ^ 32 }
-        ensures asks { IsTrue (nat_lt (opens self.old.state.log) MAX_OPENS) → self.new ≡ record self.old { waits = true } }
-        ensures full { nat_lt (opens self.old.state.log) MAX_OPENS ≡ false →
-            self.new ≡ record self.old { state = going_to (after 4 self.old.state.pc) 1 (served Opens too_many self.old.state) } }
+        ensures asks { IsTrue (nat_lt (opens self.old.state.log) MAX_OPENS) →
+            self.new ≡ record self.old { waits = true } }
+        ensures full { let s = self.old.state in nat_lt (opens s.log) MAX_OPENS ≡ false →
+            self.new ≡ record self.old { state = going_to (after 4 s.pc) 1 (served Opens too_many s) } }
     {
         if self.log.opens() < MAX_OPENS {
             self.waits = true;

@@ -87,7 +87,8 @@ impl Plain {
 
     // Ends a unit of one instruction.
     fn go_to(&mut self, to: u32)
-        requires { self.old.state.units + 1 < 2 ^ 32 }
+        requires going { self.old.waits ≡ false }
+        requires few { self.old.state.units + 1 < 2 ^ 32 }
         ensures { self.new ≡ record self.old { state = going_to to 1 self.old.state } }
     {
         self.pc = to;
@@ -97,6 +98,7 @@ impl Plain {
 
     fn compute(&mut self, insn: Insn)
         requires plain { IsPlain insn }
+        requires going { self.old.waits ≡ false }
         requires few { self.old.state.units + 1 < 2 ^ 32 }
         ensures { let s = self.old.state in self.new ≡ record self.old {
           state = going_to (after 4 s.pc) 1 (record s { regs = plain_regs insn s });
@@ -124,7 +126,8 @@ impl Plain {
     }
 
     fn jump(&mut self, link: bool, to: u32)
-        requires { self.old.state.units + 1 < 2 ^ 32 }
+        requires going { self.old.waits ≡ false }
+        requires few { self.old.state.units + 1 < 2 ^ 32 }
         ensures { let s = self.old.state in self.new ≡ record self.old {
           state = going_to to 1 (record s { regs = regs_with s.regs (link_register link) (after 4 s.pc) });
         } }
@@ -146,6 +149,7 @@ impl Plain {
 
     // Ends a masked access at the offset, which fits or stops the guest.
     fn end_access(&mut self, fits: bool, offset: u32)
+        requires going { self.old.waits ≡ false }
         requires few { self.old.state.units + 1 < 2 ^ 32 }
         requires within { offset < DATA_BYTES }
         ensures { let s = self.old.state in self.new ≡ record self.old {
@@ -164,6 +168,7 @@ impl Plain {
     fn load(&mut self, kind: LoadKind, rd: u32, rs1: u32, imm: i32)
         requires rd { rd < FREE_REGISTERS }
         requires rs1 { rs1 < FREE_REGISTERS }
+        requires going { self.old.waits ≡ false }
         requires few { self.old.state.units + 1 < 2 ^ 32 }
         ensures { let s = self.old.state in let offset = masked_at rs1 imm s in self.new ≡ record self.old {
           state = load_effect (load_width kind) (loaded kind s.memory offset) offset rd s;
@@ -181,6 +186,7 @@ impl Plain {
     fn store(&mut self, kind: StoreKind, rs1: u32, rs2: u32, imm: i32)
         requires rs1 { rs1 < FREE_REGISTERS }
         requires rs2 { rs2 < FREE_REGISTERS }
+        requires going { self.old.waits ≡ false }
         requires few { self.old.state.units + 1 < 2 ^ 32 }
         ensures { let s = self.old.state in let offset = masked_at rs1 imm s in self.new ≡ record self.old {
           state = store_effect (store_width kind) offset (stored kind s.memory offset (register s rs2)) s;

@@ -173,7 +173,8 @@ impl Guest {
 
     /// Ends a table load with the whole word that was loaded: the register gets its ID.
     ///
-    /// The policy of a Tary word is not below the last one that is logged. A guest that waits for no word stays as it is.
+    /// The policy of a Tary word is not below the last one that is logged. A guest that waits for no word stays as it
+    /// is.
     #[inline(always)]
     pub fn finish(&mut self, loaded: u64)
         requires { MayLoad self.old.waits self.old.base.log loaded }

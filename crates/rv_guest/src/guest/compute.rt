@@ -14,7 +14,7 @@ use cfi_unit::FREE_REGISTERS;
 use rv_alu::{imm_op_value, op_value};
 use rv_insn::fields::{fields_of, upper};
 
-// Whether the register is one of the instrumentation's.
+/// Whether the register is one of the instrumentation's, x28 to x31.
 #[inline(always)]
 pub fn is_own(k: u32) -> bool
     ensures { result ≡ is_reserved k }
@@ -76,10 +76,11 @@ impl Guest {
         ensures act { result ≡ act_by (row_of opcodes.OP_IMM word) self.old }
     {
         let f = fields_of(word);
+        let x = self.regs.read(f.rs1);
         let Some(op) = imm_op_of(f.funct3, f.funct7) else {
             return Act::Done;
         };
-        let value = imm_op_value(op, self.regs.read(f.rs1), imm_of(op, word, f.rs2));
+        let value = imm_op_value(op, x, imm_of(op, word, f.rs2));
         self.give(f.rd, value, is_own(f.rd) || is_own(f.rs1));
         Act::Done
     }
@@ -91,10 +92,12 @@ impl Guest {
         ensures act { result ≡ act_by (row_of opcodes.OP word) self.old }
     {
         let f = fields_of(word);
+        let x = self.regs.read(f.rs1);
+        let y = self.regs.read(f.rs2);
         let Some(op) = op_of(f.funct3, f.funct7) else {
             return Act::Done;
         };
-        let value = op_value(op, self.regs.read(f.rs1), self.regs.read(f.rs2));
+        let value = op_value(op, x, y);
         self.give(f.rd, value, is_own(f.rd) || is_own(f.rs1) || is_own(f.rs2));
         Act::Done
     }

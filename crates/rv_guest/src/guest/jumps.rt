@@ -38,10 +38,12 @@ impl Guest {
         ensures act { result ≡ act_by (row_of opcodes.BRANCH word) self.old }
     {
         let f = fields_of(word);
+        let x = self.regs.read(f.rs1);
+        let y = self.regs.read(f.rs2);
         let Some(cond) = cond_of(f.funct3) else {
             return Act::Done;
         };
-        let to = if is_taken(cond, self.regs.read(f.rs1), self.regs.read(f.rs2)) {
+        let to = if is_taken(cond, x, y) {
             self.pc.wrapping_add(imm_b(word))
         } else {
             self.pc.wrapping_add(4)

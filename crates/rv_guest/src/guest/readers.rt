@@ -1,6 +1,9 @@
 // What a guest's parts hold.
 
-ghost use Rattle.std.specs.Prelude.{◌≡◌, ◌<◌};
+ghost use Rattle.std.specs.Prelude.{◌≡◌, ◌<◌, ◌≤◌};
+ghost use Rattle.cfi_word.specs.declared.word.TheConstants.{MAX_POLICY};
+ghost use Rattle.cfi_model.specs.declared.places.TheConstants.{MAX_OPENS};
+ghost use Rattle.cfi_model.specs.Log.{last_policy, opens};
 ghost use Rattle.cfi_model.specs.Service.{argument};
 ghost use Rattle.cfi_model.specs.Raw.{reg};
 
@@ -65,9 +68,18 @@ impl Guest {
 
     /// The log.
     pub fn log(&self) -> &[Log]
-        ensures { result.now ≡ self.now.base.log }
+        ensures entries { result.now ≡ self.now.base.log }
+        ensures most { last_policy self.now.base.log ≤ MAX_POLICY }
     {
         self.log.as_slice()
+    }
+
+    /// How many opens are logged, at most `MAX_OPENS`.
+    pub fn opens(&self) -> u32
+        ensures count { result ≡ opens self.now.base.log }
+        ensures most { result ≤ MAX_OPENS }
+    {
+        self.log.opens()
     }
 
     /// Why the guest stopped, if it has.

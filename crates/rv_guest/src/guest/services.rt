@@ -13,8 +13,8 @@ use cfi_unit::{Answer, Stop};
 impl Guest {
     /// Ends an open with its answer.
     ///
-    /// The policy is at most 255 and not below the last one that is logged, the fills lie inside private data, and where
-    /// `MAX_OPENS` opens are logged the cause is `TOO_MANY`.
+    /// The policy is at most 255 and not below the last one that is logged, the fills lie inside private data, and
+    /// where `MAX_OPENS` opens are logged the cause is `TOO_MANY`.
     pub fn answer(&mut self, answer: &Answer<'_>)
         requires { let a = answer.now in
             MayAnswer (reply_of a.address a.cause a.policy a.fills.now) self.old }
@@ -22,6 +22,8 @@ impl Guest {
             self.new ≡ serve_of self.old (reply_of a.address a.cause a.policy a.fills.now) }
     {
         let module = self.argument();
+        // The answer's policy may be above that of the kept Tary word.
+        self.tary = None;
         match answer.cause {
             0 => {
                 self.regs.write(ARGUMENT, answer.address);
@@ -35,10 +37,7 @@ impl Guest {
             }
         }
         self.regs.write(CAUSE, answer.cause);
-        self.units += 1;
-        self.bary = None;
-        self.tary = None;
-        self.waits = None;
+        self.served();
     }
 
     // Counts a service as a unit.
@@ -103,7 +102,8 @@ impl Guest {
         }
     }
 
-    /// Stops the guest with Fuel where it has not stopped and has fetched `fuel` instructions, and says whether it did.
+    /// Stops the guest with Fuel where it has not stopped and has fetched `fuel` instructions, and says whether it
+    /// did.
     #[inline(always)]
     pub fn spend(&mut self, fuel: u32) -> bool
         ensures state { self.new ≡ spent fuel self.old }
