@@ -17,7 +17,7 @@ use Rattle.cfi_model.specs.Shows.{IsBetween}
 use Rattle.cfi_model.proofs.InnerLemmas.{same_state, inner, reg-free, with_reg-free}
 
 -- a masked address lies in private data
-area_private : (o : ℕ) → o < 2 ^ 20 → area_of ((0x40000000 + o + 0) % 2 ^ 32) ≡ Private o
+pub area_private : (o : ℕ) → o < 2 ^ 20 → area_of ((0x40000000 + o + 0) % 2 ^ 32) ≡ Private o
 area_private o h = grind (arith, nat_tests)
 
 -- the state before the access itself

@@ -148,14 +148,14 @@ module _ (h : History) (code : List ℕ) (p : State) (retries : ℕ) where
   Running r = (IsReady h p × IsBetween retries p r) ⊎ ((unit : CodeUnit) × At h code p unit × Begun h p unit retries r)
 
   -- a guest between two units that takes something has not stopped
-  goes_on : (r : Raw) → IsBetween retries p r → (t : Take) → Fits h code r t → p.stop ≡ None
+  pub goes_on : (r : Raw) → IsBetween retries p r → (t : Take) → Fits h code r t → p.stop ≡ None
   goes_on r between (Word word) fits =
       let given : FitsWord h code None r word = subst (λ w. FitsWord h code w r word) between.idle fits in
       sym (ap (λ b. b.stop) between.base) ∙ given.0
   goes_on r between (Served reply) fits = absurd (subst (λ w. FitsReply w r reply) between.idle fits)
 
   -- it is then the raw state before a unit
-  start_is : (r : Raw) → IsBetween retries p r → p.stop ≡ None
+  pub start_is : (r : Raw) → IsBetween retries p r → p.stop ≡ None
       → r ≡ start_raw p retries r.x28 r.x29 r.x30 r.x31
   start_is r between going =
       let fresh = between.fresh going in
@@ -176,32 +176,39 @@ module _ (h : History) (code : List ℕ) (p : State) (retries : ℕ) where
       ∙ ap (λ x. raw (moved_to p.pc (9 * retries) p) None x r.waits) fresh.2
       ∙ ap (λ x. raw (moved_to p.pc (9 * retries) p) None None x) between.idle
 
+  -- the unit at which it stands
+  pub at_start : IsHistory h code → IsReady h p → p.stop ≡ None → (unit : CodeUnit) × At h code p unit
+  at_start known ready going =
+      let from = started h code p.pc known (ready.start going) in
+      let here : Here h code p from.unit = record {
+        known = known;
+        ready = ready;
+        going = going;
+        stands = from.stands;
+        small = from.small;
+      } in (
+        from.unit,
+        record {
+          here = here;
+          epoch = from.epoch;
+          is = from.is;
+          inside = (known.closed from.epoch from.is).1.inside p.pc from.unit from.stands_in;
+        },
+      )
+
   -- one access of a running machine
   pub advance : IsHistory h code → (r : Raw) → Running r → (t : Take) → Fits h code r t
       → ((unit : CodeUnit) × At h code p unit × Begun h p unit retries (take_one r t))
       ⊎ Ended h code retries p (take_one r t)
   advance known r (inl rests) t fits =
       let going = goes_on r rests.1 t fits in
-      let from = started h code p.pc known (rests.0.start going) in
-      let here : Here h code p from.unit = record {
-        known = known;
-        ready = rests.0;
-        going = going;
-        stands = from.stands;
-        small = from.small;
-      } in
-      let at : At h code p from.unit = record {
-        here = here;
-        epoch = from.epoch;
-        is = from.is;
-        inside = (known.closed from.epoch from.is).1.inside p.pc from.unit from.stands_in;
-      } in
-      elim (first_access from.unit at r.x28 r.x29 r.x30 r.x31 r (start_is r rests.1 going) t fits) [
-        | inl begun ↦ inl (from.unit, at, begun)
-        | inr ended ↦ inr ended
+      let at = at_start known rests.0 going in
+      elim (first_access at.0 at.1 r.x28 r.x29 r.x30 r.x31 r (start_is r rests.1 going) t fits) [
+        inl begun ↦ inl (at.0, at.1, begun)
+      | inr ended ↦ inr ended
       ]
   advance known r (inr within) t fits =
       elim (next_access within.0 within.1 r within.2 t fits) [
-        | inl begun ↦ inl (within.0, within.1, begun)
-        | inr ended ↦ inr ended
+        inl begun ↦ inl (within.0, within.1, begun)
+      | inr ended ↦ inr ended
       ]

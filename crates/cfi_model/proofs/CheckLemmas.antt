@@ -55,7 +55,7 @@ points p pc steps x28 x29 x30 x31 bary tary slot small =
     same_inner p _ _ _ _ _ _ _ _ _ _ _ _ _ _ bary tary None (omega arith) (omega arith) refl refl refl refl refl
 
 -- both parts give the address
-joins : (address : ℕ) → address + 2 ^ 11 < 2 ^ 32
+pub joins : (address : ℕ) → address + 2 ^ 11 < 2 ^ 32
     → displaced (high_part address * 2 ^ 12 % 2 ^ 32) (low_part address) ≡ address
 joins address small = elim (cases_lt (address % 2 ^ 12) (2 ^ 11)) [
   | inl h ↦
@@ -66,7 +66,7 @@ joins address small = elim (cases_lt (address % 2 ^ 12) (2 ^ 11)) [
       (cond b (pos (address % 2 ^ 12)) (negsuc (2 * 2 ^ 11 - 1 - address % 2 ^ 12)))) (le-ltb _ _ h) ∙ omega arith
 ]
 
-area_bary : (slot : ℕ) → slot < SLOTS → area_of (bary_address slot) ≡ BaryId slot
+pub area_bary : (slot : ℕ) → slot < SLOTS → area_of (bary_address slot) ≡ BaryId slot
 area_bary slot h = grind (arith, nat_tests)
 
 -- the slot's word is asked for
@@ -96,7 +96,7 @@ adds p pc steps x28 x29 x31 bary tary small low =
     same_inner p _ _ _ _ _ _ _ _ _ _ _ _ _ _ bary tary None
     (omega arith) (omega arith) refl refl refl (omega arith) refl
 
-area_tary : (t : ℕ) → t < 2 ^ 18 → area_of ((0x10000000 + t + 0) % 2 ^ 32) ≡ TaryId t
+pub area_tary : (t : ℕ) → t < 2 ^ 18 → area_of ((0x10000000 + t + 0) % 2 ^ 32) ≡ TaryId t
 area_tary t h = grind (arith, nat_tests)
 
 -- a load of the target's word, in the terms of its place

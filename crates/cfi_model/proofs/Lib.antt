@@ -11,11 +11,15 @@ pub mod ReadLemmas
 pub mod StartLemmas
 pub mod ReadyLemmas
 pub mod CheckPlaces
+pub mod CheckFinish
 pub mod CheckWalk
 pub mod PickLemmas
 pub mod SingleLemmas
 pub mod LawLemmas
 pub mod AdvanceLemmas
 pub mod ShownLemmas
+pub mod StepLemmas
+pub mod StuckLemmas
+pub mod FixedLemmas
 pub mod ClosedLemmas
 pub mod CanLemmas

@@ -1,7 +1,7 @@
 -- The raw machine's instructions (RISC-V Unprivileged ISA 20191213, 2): what each makes of a state, and asks for.
 -- An instruction is counted as fetched when it begins. A load from a table then waits for its word, and ECALL for its
 -- service. A word that is no instruction, and an access that has no meaning, leave the state as it is.
-use Rattle.std.specs.Prelude.{ℕ, ◌+◌, ◌-◌, ◌*◌, ◌/◌, ◌%◌, ◌^◌, ◌==◌, nat_lt, nat_le, ◌&&◌, ◌||◌, Bool, true, false, if◌then◌else◌, ℤ, Option, Some, None, List}
+use Rattle.std.specs.Prelude.{◌≡◌, ℕ, ◌+◌, ◌-◌, ◌*◌, ◌/◌, ◌%◌, ◌^◌, ◌==◌, nat_lt, nat_le, ◌&&◌, ◌||◌, Bool, true, false, if◌then◌else◌, ℤ, Option, Some, None, List, ⊤}
 use Rattle.std.specs.Int.{w32, cast_unsigned}
 use Rattle.rv_insn.specs.declared.insn.Insn.{Insn}
 use Rattle.rv_insn.specs.declared.insn.Insn.TheVariants as insns
@@ -208,3 +208,25 @@ act_by (Some insn) r = act_as insn r
 
 abbrev pub act_of : Raw → (word : ℕ) → Act
 act_of r word = act_by (insn_of word) r
+
+-- the raw machine has a step for an access: private data, or a whole word of a table
+abbrev pub HasLoad : Area → LoadKind → Type 0
+HasLoad (Private offset) kind = ⊤
+HasLoad (TaryId address) kind = reads_table kind ≡ true
+HasLoad (BaryId slot) kind = reads_table kind ≡ true
+HasLoad Nothing kind = ⊥
+
+abbrev pub HasStore : Area → Type 0
+HasStore (Private offset) = ⊤
+HasStore area = ⊥
+
+-- the raw machine has a step for an instruction
+abbrev pub HasStep : Insn → Raw → Type 0
+HasStep (insns.Load kind rd rs1 imm) r = HasLoad (area_of (address_of r rs1 imm)) kind
+HasStep (insns.Store kind rs1 rs2 imm) r = HasStore (area_of (address_of r rs1 imm))
+HasStep insn r = ⊤
+
+-- and for a word
+abbrev pub HasStepBy : Option Insn → Raw → Type 0
+HasStepBy None r = ⊥
+HasStepBy (Some insn) r = HasStep insn r

@@ -16,6 +16,10 @@ pub record History : Type 0 where
   pub policy : ℕ → ℕ
   pub image : ℕ → Image
 
+-- the history of one image, whose policy has the number 0
+abbrev pub fixed : Image → History
+fixed image = record { first = 0; count = 1; versions = MAX_VERSIONS; policy = λ epoch. 0; image = λ epoch. image }
+
 -- the history has the epoch
 pub record IsEpoch (h : History) (epoch : ℕ) : Type 0 where
   pub least : h.first ≤ epoch

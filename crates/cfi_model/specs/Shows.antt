@@ -1,19 +1,25 @@
 -- The raw machine shows the policy machine: the same registers x0 to x27, private data, output, log, units and stop.
 -- A raw state within a unit shows the policy state at that unit's start.
-use Rattle.std.specs.Prelude.{◌≡◌, ◌≢◌, ℕ, zero, suc, ◌+◌, ◌*◌, ◌/◌, ◌%◌, ◌≤◌, ◌⊎◌, List, None, ⊤}
+use Rattle.std.specs.Prelude.{◌≡◌, ◌≢◌, ℕ, zero, suc, ◌+◌, ◌*◌, ◌/◌, ◌%◌, ◌≤◌, ◌⊎◌, length, List, None, ⊤}
+use Rattle.rv_insn.specs.InsnOf.{insn_of}
+use Rattle.cfi_unit.specs.declared.fill.Fill.{Fill}
 use Rattle.cfi_unit.specs.declared.unit.Unit.{Unit as CodeUnit}
 use Rattle.cfi_unit.specs.declared.unit.Unit.TheVariants as units
 use Rattle.cfi_unit.specs.Unit.{size_of}
 use Rattle.cfi_unit.specs.Code.{BeginsAt}
+use Rattle.cfi_word.specs.declared.lists.Image.{Image}
+use Rattle.cfi_word.specs.Table.{IsSize}
 use Rattle.cfi_model.specs.declared.places.TheConstants.{OPEN}
 use Rattle.cfi_model.specs.Log.{last_policy, pick_entries}
-use Rattle.cfi_model.specs.State.{State, register}
+use Rattle.cfi_model.specs.State.{State, register, opened}
 use Rattle.cfi_model.specs.Service.{Reply, asked}
 use Rattle.cfi_model.specs.Effect.{effect}
-use Rattle.cfi_model.specs.Raw.{Raw}
-use Rattle.cfi_model.specs.Run.{Take, run_of}
-use Rattle.cfi_model.specs.History.{History, IsEpoch, IsStart, IsHistory, allows_at}
-use Rattle.cfi_model.specs.Fits.{FitsOpen, Along}
+use Rattle.cfi_model.specs.Raw.{Raw, raw_opened}
+use Rattle.cfi_model.specs.Run.{Take, Word, run_of}
+use Rattle.cfi_model.specs.Begin.{HasStepBy}
+use Rattle.cfi_model.specs.Closed.{IsClosed}
+use Rattle.cfi_model.specs.History.{History, IsEpoch, IsStart, IsHistory, allows_at, fixed}
+use Rattle.cfi_model.specs.Fits.{FitsOpen, Fits, Along}
 
 -- the unit stands at the address
 pub record Stands (code : List ℕ) (address : ℕ) (unit : CodeUnit) : Type 0 where
@@ -108,3 +114,23 @@ RawShowsPolicy =
     (old : State) → IsReady h old →
     (retries : ℕ) (r : Raw) → IsBetween retries old r →
     (takes : List Take) → Along h code r takes → IsShown h code retries old (run_of r takes)
+
+-- a raw machine that waits for nothing always has a step for the code's word
+abbrev pub RawHasSteps : Type 0
+RawHasSteps =
+    (h : History) (code : List ℕ) → IsHistory h code →
+    (old : State) → IsReady h old →
+    (retries : ℕ) (r : Raw) → IsBetween retries old r →
+    (takes : List Take) → Along h code r takes → (run_of r takes).waits ≡ None →
+    (word : ℕ) → Fits h code (run_of r takes) (Word word) → HasStepBy (insn_of word) (run_of r takes)
+
+-- the premises can be met by each closed image, and by each guest that is opened at a start of it
+abbrev pub FixedIsHistory : Type 0
+FixedIsHistory =
+    (image : Image) → IsSize (length image.code) → IsClosed (length image.code) image →
+    IsHistory (fixed image) image.code
+
+abbrev pub OpenedIsReady : Type 0
+OpenedIsReady =
+    (h : History) (number entry : ℕ) (fills : List Fill) → IsStart h entry →
+    IsReady h (opened number entry fills) × IsBetween 0 (opened number entry fills) (raw_opened number entry fills)

@@ -27,5 +27,5 @@ pub use places::{
     OPEN, PUT, QUIET, REFUSED, SERVICE, STACK, TARY, TOO_MANY,
 };
 pub use plain::Plain;
-pub use shows::raw_shows_policy;
+pub use shows::{an_opened_guest_shows, raw_shows_policy};
 pub use step::PlainStep;
