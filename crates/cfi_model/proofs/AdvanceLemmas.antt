@@ -204,11 +204,11 @@ module _ (h : History) (code : List ℕ) (p : State) (retries : ℕ) where
       let going = goes_on r rests.1 t fits in
       let at = at_start known rests.0 going in
       elim (first_access at.0 at.1 r.x28 r.x29 r.x30 r.x31 r (start_is r rests.1 going) t fits) [
-        inl begun ↦ inl (at.0, at.1, begun)
-      | inr ended ↦ inr ended
+        | inl begun ↦ inl (at.0, at.1, begun)
+        | inr ended ↦ inr ended
       ]
   advance known r (inr within) t fits =
       elim (next_access within.0 within.1 r within.2 t fits) [
-        inl begun ↦ inl (within.0, within.1, begun)
-      | inr ended ↦ inr ended
+        | inl begun ↦ inl (within.0, within.1, begun)
+        | inr ended ↦ inr ended
       ]

@@ -1,14 +1,12 @@
 -- From each place within a check the next access leads to a place, or ends it.
-use Rattle.std.proofs.Common.{◌≡◌, ℕ, ◌+◌, ◌*◌, ◌/◌, ◌%◌, ◌^◌, ◌<◌, ◌≤◌, ℤ, pos, negsuc, Some, None, List, refl, sym, ◌∙◌, ap, subst, arith, rules, ◌⊎◌, inl, inr, bit_xor, Bool, true, false}
+use Rattle.std.proofs.Common.{◌≡◌, ℕ, ◌+◌, ◌*◌, ◌/◌, ◌%◌, ◌^◌, ℤ, pos, negsuc, Some, None, List, refl, sym, ◌∙◌, ap, subst, arith, rules, ◌⊎◌, inl, inr, bit_xor, Bool, true, false}
 use Rattle.std.proofs.lemmas.Bool.{cases_lt, cases_eq}
-use Rattle.std.proofs.lemmas.Bool.Decides.{nat_tests}
 use Rattle.rv_insn.specs.declared.insn.Insn.{Insn}
 use Rattle.cfi_unit.specs.declared.unit.Unit.{Unit as CodeUnit}
 use Rattle.cfi_unit.specs.declared.unit.Unit.TheVariants as units
 use Rattle.cfi_unit.specs.Unit.{check}
 use Rattle.cfi_word.specs.Word.{id_in, policy_in}
-use Rattle.cfi_model.specs.Log.{last_policy}
-use Rattle.cfi_model.specs.Effect.{checked, is_in_code}
+use Rattle.cfi_model.specs.Effect.{checked}
 use Rattle.cfi_model.specs.Shows.{IsBetween}
 use Rattle.cfi_model.specs.State.{State, register, displaced}
 use Rattle.cfi_model.specs.Raw.{Raw}
@@ -19,19 +17,11 @@ use Rattle.cfi_model.proofs.InnerLemmas.{inner}
 use Rattle.cfi_model.proofs.WalkLemmas.{aims}
 use Rattle.cfi_model.proofs.CheckLemmas.{high_of, splits, far, near, points, asks_bary, tables, adds, asks_tary, equals, differs, compares, keeps_low}
 use Rattle.cfi_model.proofs.CheckEndLemmas.{far_ends, odd_ends, not_ends, jump_ends}
-use Rattle.cfi_model.proofs.IdLemmas.{same-low, apart-low, apart-versions, equal-allows, apart-refuses, tary_parts}
+use Rattle.cfi_model.proofs.IdLemmas.{same-low, apart-low, apart-versions, equal-allows, apart-refuses}
+use Rattle.cfi_model.proofs.CheckFinish as finish
+use Rattle.cfi_model.proofs.CheckFinish.{in_code_whole, in_code_low}
 use Rattle.cfi_model.proofs.FetchLemmas.{Here, walks, counts}
 use Rattle.cfi_model.proofs.CheckPlaces.{CheckPlace, Aimed, Split, Far, Trying, Pointed, AskedBary, FoundBary, Tabled, Added, AskedTary, FoundTary, Differed, Compared, Lowered, Refused, Allowed, Values, check_raw, CheckHolds, HasTwo, CheckAt, CheckEnded}
-
--- an address of the code is whole, and below its end
-in_code_whole : (target : ℕ) → is_in_code target ≡ true → target % 4 ≡ 0
-in_code_whole target inside = grind (arith, nat_tests)
-
-in_code_low : (target : ℕ) → is_in_code target ≡ true → 2 ^ 18 ≤ target → ⊥
-in_code_low target inside high = grind (arith, nat_tests)
-
-whole_in_code : (target : ℕ) → target < 2 ^ 18 → target % 4 ≡ 0 → is_in_code target ≡ true
-whole_in_code target low whole = grind (arith, nat_tests)
 
 module _ (h : History) (code : List ℕ) (p : State) (link : Bool) (rs1 : ℕ) (imm : ℤ) (slot : ℕ)
     (here : Here h code p (units.Check link rs1 imm slot)) (retries : ℕ) where
@@ -40,6 +30,9 @@ module _ (h : History) (code : List ℕ) (p : State) (link : Bool) (rs1 : ℕ) (
 
   abbrev all : List Insn
   all = check link rs1 imm slot
+
+  abbrev unpicked_state : (to : ℕ) → State
+  unpicked_state to = finish.unpicked_state h code p link rs1 imm slot here retries to
 
   -- the first instruction leads to the first place
   pub check_begins : (x28 x29 x30 x31 : ℕ) (r : Raw)
@@ -177,18 +170,11 @@ module _ (h : History) (code : List ℕ) (p : State) (link : Bool) (rs1 : ℕ) (
               holds = (holds.0.low, whole, holds.1);
             })
         | inr odd ↦
-            inr (record {
-              more = more;
-              two = two;
-              epoch = start.epoch;
-              known = start.known;
-              ends = subst (IsBetween (retries + more) (checked (h.policy start.epoch) (allows_at h start.epoch slot to) link to p))
-                  (sym (walks h code p unit here all refl 7 (omega arith) _ _ _ _ _ _ _ _ r is refl t fits))
-                  (odd_ends p (retries + more) v.x28 (id_in v.bary) to (Some v.bary) v.last (h.policy start.epoch)
-                  (allows_at h start.epoch slot to) link holds.0.low odd);
-              logged = λ some. absurd (odd (holds.0.whole some));
-              rises = λ inside. absurd (odd (in_code_whole to inside));
-            })
+            inr (finish.unpicked h code p link rs1 imm slot here retries more two to (λ inside. odd (in_code_whole to inside)) (λ some. odd (holds.0.whole some))
+            (take_one r t) (subst (IsBetween (retries + more) (unpicked_state to))
+            (sym (walks h code p unit here all refl 7 (omega arith) _ _ _ _ _ _ _ _ r is refl t fits))
+            (odd_ends p (retries + more) v.x28 (id_in v.bary) to (Some v.bary) v.last (h.policy start.epoch)
+            (allows_at h start.epoch slot to) link holds.0.low odd)))
       ]
   check_goes_on more two v to AskedTary r is holds (Word w) fits =
       let small = here.small in
@@ -288,57 +274,27 @@ module _ (h : History) (code : List ℕ) (p : State) (link : Bool) (rs1 : ℕ) (
             })
       ]
   check_goes_on more two v to Refused r is holds t fits =
-      let small = here.small in
-      let word = tary_parts h code slot to v.bary v.tary here.known holds.0.words in
       let epoch : ℕ = holds.0.words.goal.epoch in
       let apart = apart-refuses h code slot to v.bary v.tary here.known holds.0.words holds.2 holds.1 in
       let refused : allows_at h epoch slot to ≡ false = search (rules, arith) in
-      inr (record {
-        more = more;
-        two = two;
-        epoch = epoch;
-        known = holds.0.words.goal.known;
-        ends = subst (λ pick. IsBetween (retries + more) (checked pick (allows_at h epoch slot to) link to p) (take_one r t))
-            word.policy
-            (subst (IsBetween (retries + more) (checked (policy_in v.tary) (allows_at h epoch slot to) link to p))
-            (sym (walks h code p unit here all refl 12 (omega arith) _ _ _ _ _ _ _ _ r is refl t fits))
-            (not_ends p (retries + more) v.x28 v.x29 v.x30 to v.tary (Some v.bary) (allows_at h epoch slot to) link
-            holds.0.low holds.0.whole refused));
-        logged = λ again. whole_in_code to holds.0.low holds.0.whole;
-        rises = λ inside. subst (λ q. last_policy p.log ≤ q) word.policy holds.0.rises;
-      })
+      inr (finish.judged h code p link rs1 imm slot here retries more two to v.bary v.tary holds.0 (take_one r t)
+      (subst (IsBetween (retries + more) (checked (policy_in v.tary) (allows_at h epoch slot to) link to p))
+      (sym (walks h code p unit here all refl 12 (omega arith) _ _ _ _ _ _ _ _ r is refl t fits))
+      (not_ends p (retries + more) v.x28 v.x29 v.x30 to v.tary (Some v.bary) (allows_at h epoch slot to) link
+      holds.0.low holds.0.whole refused)))
   check_goes_on more two v to Allowed r is holds t fits =
-      let small = here.small in
-      let word = tary_parts h code slot to v.bary v.tary here.known holds.0.words in
       let epoch : ℕ = holds.0.words.goal.epoch in
       let same = equal-allows h code slot to v.bary v.tary here.known holds.0.words holds.1 in
       let granted : allows_at h epoch slot to ≡ true = search (rules, arith) in
-      inr (record {
-        more = more;
-        two = two;
-        epoch = epoch;
-        known = holds.0.words.goal.known;
-        ends = subst (λ pick. IsBetween (retries + more) (checked pick (allows_at h epoch slot to) link to p) (take_one r t))
-            word.policy
-            (subst (IsBetween (retries + more) (checked (policy_in v.tary) (allows_at h epoch slot to) link to p))
-            (sym (walks h code p unit here all refl 13 (omega arith) _ _ _ _ _ _ _ _ r is refl t fits))
-            (jump_ends p (retries + more) v.x28 v.x29 v.x30 to v.tary (Some v.bary) (allows_at h epoch slot to) link
-            holds.0.low holds.0.whole granted here.going));
-        logged = λ again. whole_in_code to holds.0.low holds.0.whole;
-        rises = λ inside. subst (λ q. last_policy p.log ≤ q) word.policy holds.0.rises;
-      })
+      inr (finish.judged h code p link rs1 imm slot here retries more two to v.bary v.tary holds.0 (take_one r t)
+      (subst (IsBetween (retries + more) (checked (policy_in v.tary) (allows_at h epoch slot to) link to p))
+      (sym (walks h code p unit here all refl 13 (omega arith) _ _ _ _ _ _ _ _ r is refl t fits))
+      (jump_ends p (retries + more) v.x28 v.x29 v.x30 to v.tary (Some v.bary) (allows_at h epoch slot to) link
+      holds.0.low holds.0.whole granted here.going)))
   check_goes_on more two v to Far r is holds t fits =
-      let small = here.small in
       let start = here.ready.start here.going in
-      inr (record {
-        more = more;
-        two = two;
-        epoch = start.epoch;
-        known = start.known;
-        ends = subst (IsBetween (retries + more) (checked (h.policy start.epoch) (allows_at h start.epoch slot to) link to p))
-            (sym (walks h code p unit here all refl 12 (omega arith) _ _ _ _ _ _ _ _ r is refl t fits))
-            (far_ends p (retries + more) v.x28 v.x29 v.x30 to None (h.policy start.epoch) (allows_at h start.epoch slot to)
-            link holds.1);
-        logged = λ some. absurd (some holds.0);
-        rises = λ inside. absurd (in_code_low to inside holds.1);
-      })
+      inr (finish.unpicked h code p link rs1 imm slot here retries more two to (λ inside. in_code_low to inside holds.1) (λ some. some holds.0)
+      (take_one r t) (subst (IsBetween (retries + more) (unpicked_state to))
+      (sym (walks h code p unit here all refl 12 (omega arith) _ _ _ _ _ _ _ _ r is refl t fits))
+      (far_ends p (retries + more) v.x28 v.x29 v.x30 to None (h.policy start.epoch) (allows_at h start.epoch slot to)
+      link holds.1)))

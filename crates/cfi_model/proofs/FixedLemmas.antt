@@ -1,5 +1,5 @@
 -- One closed image is a history, and a guest that is opened at its start shows the policy machine.
-use Rattle.std.proofs.Common.{◌≡◌, ◌≢◌, ℕ, ◌+◌, ◌≤◌, ◌<◌, None, List, length, slice_index, refl, arith}
+use Rattle.std.proofs.Common.{ℕ, List, length, refl, arith}
 use Rattle.cfi_unit.specs.declared.fill.Fill.{Fill}
 use Rattle.cfi_word.specs.declared.lists.Image.{Image}
 use Rattle.cfi_word.specs.Table.{IsSize}

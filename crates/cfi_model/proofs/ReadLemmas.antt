@@ -1,6 +1,6 @@
 -- Code is read as one list of units.
-use Rattle.std.proofs.Common.{◌≡◌, ◌≢◌, ℕ, zero, suc, ◌+◌, ◌-◌, ◌<◌, ◌≤◌, Option, Some, None, List, [], ◌∷◌, ◌++◌, length, take, drop, replicate, slice_get, get_or, refl, sym, ◌∙◌, ap, subst, arith, inl, inr}
-use Rattle.std.specs.List.{flat_map, AllByRecursion}
+use Rattle.std.proofs.Common.{◌≡◌, ◌≢◌, ℕ, zero, suc, ◌+◌, ◌-◌, ◌<◌, ◌≤◌, Some, None, List, [], ◌∷◌, ◌++◌, length, take, drop, replicate, slice_get, get_or, refl, sym, ◌∙◌, ap, subst, arith, inl, inr}
+use Rattle.std.specs.List.{AllByRecursion}
 use Rattle.std.proofs.lemmas.Bool.{cases_lt}
 use Rattle.std.proofs.lemmas.List.{append_assoc, length-replicate, length-append, get_or-replicate}
 use Rattle.std.proofs.lemmas.List.Concat.{flat_map-append}
@@ -14,7 +14,6 @@ use Rattle.cfi_unit.specs.Unit.{IsUnit, insns_of, words_of, size_of}
 use Rattle.cfi_unit.specs.Code.{BeginsAt}
 use Rattle.cfi_unit.proofs.CodeLemmas.{BeginsAt-insn, BeginsAt-one, length-words_of}
 use Rattle.cfi_unit.proofs.UnitLemmas.{size_pos}
-use Rattle.cfi_model.specs.declared.places.TheConstants.{BASE}
 use Rattle.cfi_model.specs.Closed.{code_of, idle, IsReadAs}
 
 -- a unit has no word 0
@@ -85,19 +84,25 @@ not_shorter : (a b : List CodeUnit) (i j : ℕ) → a ++ replicate i idle ≡ b 
     → slice_get b (length b - 1) ≢ Some idle → length b ≤ length a
 not_shorter a b i j same busy =
     elim (cases_lt (length a) (length b)) [
-      inl less ↦
-      let k : ℕ = length b - 1 in
-      let sizes : length a + i ≡ length b + j =
-      omega (arith, ap length same, length-append a (replicate i idle), length-append b (replicate j idle),
-      length-replicate i idle, length-replicate j idle) in
-      let left : get_or (a ++ replicate i idle) k idle ≡ idle =
-      get_or-append_right a (replicate i idle) k idle (omega arith)
-      ∙ get_or-replicate i (k - length a) idle idle (omega arith) in
-      let right : get_or (b ++ replicate j idle) k idle ≡ get_or b k idle =
-      get_or-append b (replicate j idle) idle k (omega arith) in
-      let last : get_or b k idle ≡ idle = sym right ∙ ap (λ xs. get_or xs k idle) (sym same) ∙ left in
-      absurd (busy (slice_get-get_or b k idle (omega arith) ∙ ap (λ u. Some u) last))
-    | inr more ↦ more
+      | inl less ↦
+          let k : ℕ = length b - 1 in
+          let sizes : length a + i ≡ length b + j =
+          omega (
+            arith,
+            ap length same,
+            length-append a (replicate i idle),
+            length-append b (replicate j idle),
+            length-replicate i idle,
+            length-replicate j idle,
+          ) in
+          let left : get_or (a ++ replicate i idle) k idle ≡ idle =
+          get_or-append_right a (replicate i idle) k idle (omega arith)
+          ∙ get_or-replicate i (k - length a) idle idle (omega arith) in
+          let right : get_or (b ++ replicate j idle) k idle ≡ get_or b k idle =
+          get_or-append b (replicate j idle) idle k (omega arith) in
+          let last : get_or b k idle ≡ idle = sym right ∙ ap (λ xs. get_or xs k idle) (sym same) ∙ left in
+          absurd (busy (slice_get-get_or b k idle (omega arith) ∙ ap (λ u. Some u) last))
+      | inr more ↦ more
     ]
 
 -- the body is one

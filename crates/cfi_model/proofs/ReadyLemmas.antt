@@ -80,7 +80,6 @@ Targets h allows (units.Check link rs1 imm slot) s =
 Targets h allows unit s = ⊤
 
 module _ (h : History) (code : List ℕ) (known : IsHistory h code) (epoch : ℕ) (is : IsEpoch h epoch) where
-
   abbrev body : List CodeUnit
   body = body_at h code epoch known is
 

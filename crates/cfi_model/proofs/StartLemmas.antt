@@ -1,16 +1,14 @@
 -- Where a closed image's units stand, and where they lead.
-use Rattle.std.proofs.Common.{◌≡◌, ◌≢◌, ℕ, zero, suc, ◌+◌, ◌/◌, ◌^◌, ◌<◌, Some, None, List, [], ◌∷◌, ◌++◌, length, take, drop, replicate, slice_get, slice_index, get_or, refl, sym, ◌∙◌, ap, subst, arith, length-take, length-drop, get_or-drop, get_or-take}
+use Rattle.std.proofs.Common.{◌≡◌, ◌≢◌, ℕ, zero, suc, ◌+◌, ◌/◌, ◌^◌, ◌<◌, Some, List, [], ◌∷◌, ◌++◌, length, take, drop, replicate, slice_get, slice_index, get_or, refl, sym, ◌∙◌, ap, subst, arith, length-take, length-drop, get_or-drop, get_or-take}
 use Rattle.std.specs.List.{AllByRecursion}
 use Rattle.std.proofs.lemmas.List.{take-append-drop, ext_get_or, append_assoc, drop-drop}
 use Rattle.std.proofs.lemmas.Option.{slice_get_within, get_or_from_slice_get, slice_get-get_or}
 use Rattle.std.proofs.lemmas.List.Concat.{flat_map-append}
 use Rattle.std.proofs.Math.Seq.{drop-append_seam, take-append_seam, drop-cons}
-use Rattle.rv_insn.specs.declared.insn.Insn.TheVariants as insns
-use Rattle.rv_insn.specs.InsnOf.{insn_of}
 use Rattle.cfi_unit.specs.declared.unit.Unit.{Unit as CodeUnit}
-use Rattle.cfi_unit.specs.Unit.{IsUnit, insns_of, words_of, size_of}
+use Rattle.cfi_unit.specs.Unit.{IsUnit, words_of, size_of}
 use Rattle.cfi_unit.specs.Code.{BeginsAt}
-use Rattle.cfi_unit.proofs.CodeLemmas.{BeginsAt-insn, BeginsAt-within, length-words_of}
+use Rattle.cfi_unit.proofs.CodeLemmas.{BeginsAt-within, length-words_of}
 use Rattle.cfi_unit.proofs.UnitLemmas.{size_pos}
 use Rattle.cfi_model.specs.declared.places.TheConstants.{BASE}
 use Rattle.cfi_model.specs.Closed.{code_of, idle, place_of, IsReadAs, IsStartOf, StandsIn}

@@ -1,5 +1,5 @@
 -- An instruction that has a step counts one.
-use Rattle.std.proofs.Common.{◌≡◌, ℕ, ◌+◌, ◌==◌, ℤ, Bool, true, false, cond, refl, ap, subst, sym, ◌∙◌}
+use Rattle.std.proofs.Common.{◌≡◌, ℕ, ◌+◌, ◌==◌, Bool, true, false, cond, refl, ap, ◌∙◌}
 use Rattle.rv_insn.specs.declared.insn.Insn.{Insn}
 use Rattle.rv_insn.specs.declared.insn.Insn.TheVariants as insns
 use Rattle.rv_insn.specs.declared.insn.LoadKind.{LoadKind}
@@ -7,8 +7,8 @@ use Rattle.rv_insn.specs.declared.insn.StoreKind.{StoreKind}
 use Rattle.cfi_unit.specs.declared.log.Stop.TheVariants.{Halt}
 use Rattle.cfi_model.specs.declared.act.Wait.TheVariants as waits
 use Rattle.cfi_model.specs.Data.{load_width, store_width, is_aligned}
-use Rattle.cfi_model.specs.Raw.{Raw, reg, with_reg, address_of}
-use Rattle.cfi_model.specs.Begin.{Area, Private, TaryId, BaryId, Nothing, HasLoad, HasStore, HasStep, begin_as, load_at, store_at, area_of, reads_table, waiting, stopped}
+use Rattle.cfi_model.specs.Raw.{Raw, address_of}
+use Rattle.cfi_model.specs.Begin.{Area, Private, TaryId, BaryId, Nothing, HasLoad, HasStore, HasStep, begin_as, load_at, store_at, area_of, waiting, stopped}
 
 -- either of two states counts the step
 either : (b : Bool) (x y : Raw) (steps : ℕ) → x.base.steps ≡ steps → y.base.steps ≡ steps

@@ -1,5 +1,5 @@
 -- A running raw machine that waits for nothing has a step for what it fetches.
-use Rattle.std.proofs.Common.{◌≡◌, ◌≢◌, ℕ, zero, suc, ◌+◌, ◌*◌, ◌/◌, ◌%◌, ◌^◌, ◌<◌, ◌≤◌, ℤ, pos, Bool, Option, Some, None, List, [], ◌∷◌, length, get_or, slice_index, refl, sym, ◌∙◌, ap, subst, arith, rules, ◌⊎◌, inl, inr}
+use Rattle.std.proofs.Common.{◌≡◌, ℕ, ◌+◌, ◌*◌, ◌/◌, ◌%◌, ◌^◌, ◌<◌, ℤ, Bool, Option, Some, None, List, [], ◌∷◌, length, get_or, slice_index, refl, sym, ◌∙◌, ap, subst, arith, inl, inr}
 use Rattle.rv_insn.specs.declared.insn.Insn.{Insn}
 use Rattle.rv_insn.specs.declared.insn.Insn.TheVariants as insns
 use Rattle.rv_insn.specs.InsnOf.{insn_of}
@@ -10,22 +10,20 @@ use Rattle.cfi_unit.specs.Unit.{masked as masked_insns, check as check_insns}
 use Rattle.cfi_unit.proofs.UnitLemmas.{size_pos}
 use Rattle.rv_insn.specs.declared.insn.LoadKind.TheVariants.{Lw}
 use Rattle.cfi_unit.proofs.CodeLemmas.{BeginsAt-insn}
-use Rattle.cfi_model.specs.declared.act.Wait.{Wait}
 use Rattle.cfi_model.specs.State.{State, register, displaced}
-use Rattle.cfi_model.specs.Raw.{Raw, address_of}
-use Rattle.cfi_model.specs.Begin.{Area, Private, HasLoad, HasStore, HasStep, HasStepBy, area_of}
+use Rattle.cfi_model.specs.Raw.{Raw}
+use Rattle.cfi_model.specs.Begin.{HasLoad, HasStore, HasStep, HasStepBy, area_of}
 use Rattle.cfi_model.specs.Run.{Take, Word, take_one, run_of}
 use Rattle.cfi_model.specs.History.{History, IsHistory}
-use Rattle.cfi_model.specs.Fits.{Fits, FitsWord, Along}
+use Rattle.cfi_model.specs.Fits.{Fits, Along}
 use Rattle.cfi_model.specs.Shows.{IsReady, IsBetween}
 use Rattle.cfi_model.proofs.InnerLemmas.{inner}
 use Rattle.cfi_model.proofs.AccessLemmas.{area_private}
 use Rattle.cfi_model.proofs.CheckLemmas.{area_bary, area_tary, joins}
-use Rattle.cfi_model.proofs.StartLemmas.{started}
 use Rattle.cfi_model.proofs.FetchLemmas.{Here, start_raw, first_place}
 use Rattle.cfi_model.proofs.MaskedLemmas as masked
 use Rattle.cfi_model.proofs.CheckPlaces as check
-use Rattle.cfi_model.proofs.LawLemmas.{Ended, Begun, At}
+use Rattle.cfi_model.proofs.LawLemmas.{Begun, At}
 use Rattle.cfi_model.proofs.AdvanceLemmas.{Running, advance, goes_on, start_is, at_start}
 
 -- nothing is no wait
@@ -77,7 +75,6 @@ first_of (units.Check link rs1 imm slot) r fits = tt
 first_of units.Service r fits = tt
 
 module _ (h : History) (code : List ℕ) (p : State) (retries : ℕ) where
-
   -- the first instruction of a unit
   first_has : (unit : CodeUnit) → At h code p unit → (r : Raw)
       → r ≡ start_raw p retries r.x28 r.x29 r.x30 r.x31 → (word : ℕ) → Fits h code r (Word word)
@@ -194,8 +191,8 @@ reached : (h : History) (code : List ℕ) → IsHistory h code → (takes : List
 reached h code known [] p retries r running along = (p, retries, running)
 reached h code known (t ∷ takes) p retries r running along =
     elim (advance h code p retries known r running t along.0) [
-      inl within ↦ reached h code known takes p retries (take_one r t) (inr within) along.1
-    | inr e ↦ reached h code known takes e.new (retries + e.more) (take_one r t) (inl (e.ready, e.between)) along.1
+      | inl within ↦ reached h code known takes p retries (take_one r t) (inr within) along.1
+      | inr e ↦ reached h code known takes e.new (retries + e.more) (take_one r t) (inl (e.ready, e.between)) along.1
     ]
 
 pub raw_has_steps : (h : History) (code : List ℕ) → IsHistory h code → (old : State) → IsReady h old
