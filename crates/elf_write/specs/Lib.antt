@@ -1,0 +1,5 @@
+pub mod Words
+pub mod Part
+pub mod Contents
+pub mod File
+pub mod Limits
