@@ -18,14 +18,15 @@ use Rattle.elf_write.specs.File.{sections_of, contents_of, padding, padded, body
 use Rattle.elf_write.specs.Limits.{IsWithinLimits}
 use Rattle.elf_write.proofs.SizeLemmas.{length-joined, length-symbol_table, length-file_header, parts_count, name-short}
 
-count-small : (types records : Bool) → cond types 1 0 + cond records 1 0 ≤ 2
+pub count-small : (types records : Bool) → cond types 1 0 + cond records 1 0 ≤ 2
 count-small true true = omega arith
 count-small true false = omega arith
 count-small false true = omega arith
 count-small false false = omega arith
 
 -- lists of short pieces are short
-pub pieces-short : {X : Type 0} (f : X → List ℕ) (size : ℕ) (xs : List X) → ((x : X) → length (f x) ≤ size) → length (flat_map f xs) ≤ size * length xs
+pub pieces-short : {X : Type 0} (f : X → List ℕ) (size : ℕ) (xs : List X) → ((x : X) → length (f x) ≤ size)
+    → length (flat_map f xs) ≤ size * length xs
 pieces-short f size [] each = omega arith
 pieces-short f size (x ∷ xs) each =
     let rest = pieces-short f size xs each in
@@ -67,7 +68,8 @@ relas-short area relocs =
     let each = pieces-short rela_entry 12 (filter (is_in area) relocs) (λ r. omega (arith, length-rela_entry r)) in
     omega (arith, kept, each)
 
-names-from : (symbols : List Symbol) → All (λ symbol. length symbol.name ≤ 255) symbols → length (flat_map (λ (symbol : Symbol). ended symbol.name) symbols) ≤ 256 * length symbols
+names-from : (symbols : List Symbol) → All (λ symbol. length symbol.name ≤ 255) symbols
+    → length (flat_map (λ (symbol : Symbol). ended symbol.name) symbols) ≤ 256 * length symbols
 names-from [] short = omega arith
 names-from (symbol ∷ symbols) short =
     let rest = names-from symbols (λ k d within. short (suc k) d (omega arith)) in
@@ -75,7 +77,8 @@ names-from (symbol ∷ symbols) short =
     let sum = length-append (ended symbol.name) (flat_map (λ (s : Symbol). ended s.name) symbols) in
     omega (arith, rest, here, ended-below symbol.name, sum)
 
-pub names-short : (symbols : List Symbol) → All (λ symbol. length symbol.name ≤ 255) symbols → length (names_of symbols) ≤ 1 + 256 * length symbols
+pub names-short : (symbols : List Symbol) → All (λ symbol. length symbol.name ≤ 255) symbols
+    → length (names_of symbols) ≤ 1 + 256 * length symbols
 unfolding names_of
 names-short symbols short = omega (arith, names-from symbols short)
 
@@ -92,7 +95,13 @@ contents-short object limits Symbols = omega (arith, length-symbol_table object.
 contents-short object limits SymbolNames = omega (arith, names-short object.symbols limits.names, limits.symbols)
 contents-short object limits SectionNames =
     let names = pieces-short name_of 13 (sections_of object) name-short in
-    omega (arith, names, parts_count (is_some object.types) (is_some object.records), count-small (is_some object.types) (is_some object.records))
+    omega (
+      arith,
+      names,
+      parts_count (is_some object.types) (is_some object.records),
+      count-small (is_some
+          object.types) (is_some object.records),
+    )
 
 -- so the file is short
 pub file-short : (object : Object) → IsWithinLimits object → length (bytes_of object) ≤ 50331647

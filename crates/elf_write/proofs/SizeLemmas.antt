@@ -14,7 +14,8 @@ use Rattle.elf_write.specs.Contents.{names_of, null_entry, symbol_entry, entry_o
 use Rattle.elf_write.specs.File.{sections_of, contents_of, padding, padded, body_of, symbols_number, names_number, name_place, table_place, header_of, part_header, place_of, file_header, bytes_of, IsWritable}
 
 -- what entries of one size give together
-pub length-joined : (give : ℕ → List ℕ) (size count : ℕ) → ((k : ℕ) → length (give k) ≡ size) → length (joined give count) ≡ size * count
+pub length-joined : (give : ℕ → List ℕ) (size count : ℕ) → ((k : ℕ) → length (give k) ≡ size)
+    → length (joined give count) ≡ size * count
 length-joined give size zero each = omega arith
 length-joined give size (suc count) each =
     let before = length-joined give size count each in
@@ -60,7 +61,8 @@ body-within object writable =
 
 -- so is each section, after those before it
 pub part-within : (object : Object) (k : ℕ) → IsWritable object → k < length (sections_of object)
-    → 52 + length (body_of object (take k (sections_of object))) + length (contents_of object (get_or (sections_of object) k Null)) < 2 ^ 32
+    → 52 + length (body_of object (take k (sections_of object)))
+    + length (contents_of object (get_or (sections_of object) k Null)) < 2 ^ 32
 part-within object k writable within =
     let sections = sections_of object in
     let part = length-flat_map-take (λ (p : Part). padded (contents_of object p)) sections k Null within in
@@ -69,13 +71,15 @@ part-within object k writable within =
     omega (arith, part, above, all)
 
 -- where the symbol table and its names stand
-pub symbols_at : (types records : Bool) → get_or (parts_of types records) (5 + (cond types 1 0 + cond records 1 0)) Null ≡ Symbols
+pub symbols_at : (types records : Bool)
+    → get_or (parts_of types records) (5 + (cond types 1 0 + cond records 1 0)) Null ≡ Symbols
 symbols_at true true = refl
 symbols_at true false = refl
 symbols_at false true = refl
 symbols_at false false = refl
 
-pub names_at : (types records : Bool) → get_or (parts_of types records) (6 + (cond types 1 0 + cond records 1 0)) Null ≡ SymbolNames
+pub names_at : (types records : Bool)
+    → get_or (parts_of types records) (6 + (cond types 1 0 + cond records 1 0)) Null ≡ SymbolNames
 names_at true true = refl
 names_at true false = refl
 names_at false true = refl
@@ -93,7 +97,8 @@ symbols-fit object writable =
     let records = is_some object.records in
     let count = parts_count types records in
     let part = part-within object (symbols_number object) writable (omega (arith, count)) in
-    let is : length (contents_of object (get_or (sections_of object) (symbols_number object) Null)) ≡ length (symbol_table object.symbols)
+    let is : length (contents_of object (get_or (sections_of object) (symbols_number object) Null)) ≡ length
+    (symbol_table object.symbols)
     = ap (λ (p : Part). length (contents_of object p)) (symbols_at types records) in
     omega (arith, part, is, length-symbol_table object.symbols)
 
@@ -103,7 +108,8 @@ names-fit object writable =
     let records = is_some object.records in
     let count = parts_count types records in
     let part = part-within object (names_number object) writable (omega (arith, count)) in
-    let is : length (contents_of object (get_or (sections_of object) (names_number object) Null)) ≡ length (names_of object.symbols)
+    let is : length (contents_of object (get_or (sections_of object) (names_number object) Null)) ≡ length (names_of
+    object.symbols)
     = ap (λ (p : Part). length (contents_of object p)) (names_at types records) in
     omega (arith, part, is)
 
@@ -121,29 +127,36 @@ name-short SymbolNames = omega arith
 name-short SectionNames = omega arith
 
 -- where the name of the next section begins
-pub next_name : (object : Object) (k : ℕ) (part : Part) → k < length (sections_of object) → get_or (sections_of object) k Null ≡ part
+pub next_name : (object : Object) (k : ℕ) (part : Part) → k < length (sections_of object)
+    → get_or (sections_of object) k Null ≡ part
     → name_place object (k + 1) ≡ name_place object k + length (name_of part)
 next_name object k part within is =
     let sections = sections_of object in
-    let more : take (k + 1) sections ≡ take k sections ++ part ∷ [] = take_more sections k Null within ∙ ap (λ p. take k sections ++ p ∷ []) is in
+    let more : take (k + 1) sections ≡ take k sections ++ part ∷ [] = take_more sections k Null within
+    ∙ ap (λ p. take k sections ++ p ∷ []) is in
     let split = flat_map-append name_of (take k sections) (part ∷ []) in
     let sum = length-append (flat_map name_of (take k sections)) (name_of part ++ []) in
     let last = length-append (name_of part) [] in
     rw (more, split) (omega (arith, sum, last))
 
 -- so the numbers of a section fit
-pub part-fits : (object : Object) (sections : List Part) (k : ℕ) (body : List ℕ) → IsWritable object → sections ≡ sections_of object → k < length sections
-    → body ≡ body_of object (take k sections) → 52 + length body + length (contents_of object (get_or sections k Null)) < 2 ^ 32
+pub part-fits : (object : Object) (sections : List Part) (k : ℕ) (body : List ℕ) → IsWritable object
+    → sections ≡ sections_of object → k < length sections
+    → body ≡ body_of object (take k sections)
+    → 52 + length body + length (contents_of object (get_or sections k Null)) < 2 ^ 32
 part-fits object sections k body writable is within before =
     let there : k < length (sections_of object) = rw is at within in
     rw (before, is) (part-within object k writable there)
 
 -- the header of a section is the one of its number
-pub header_is : (object : Object) (sections : List Part) (k len name place : ℕ) (body : List ℕ) → sections ≡ sections_of object → body ≡ body_of object (take k sections)
-    → len ≡ length body → name ≡ name_place object k → place ≡ cond (k == 0) 0 (52 + len) → part_header object (get_or sections k Null) name place ≡ header_of object k
+pub header_is : (object : Object) (sections : List Part) (k len name place : ℕ) (body : List ℕ)
+    → sections ≡ sections_of object → body ≡ body_of object (take k sections)
+    → len ≡ length body → name ≡ name_place object k → place ≡ cond (k == 0) 0 (52 + len)
+    → part_header object (get_or sections k Null) name place ≡ header_of object k
 unfolding place_of
 header_is object sections k len name place body is before size named placed =
-    let contents : len ≡ length (body_of object (take k (sections_of object))) = size ∙ ap (length {A = ℕ}) before ∙ ap (λ (s : List Part). length (body_of object (take k s))) is in
+    let contents : len ≡ length (body_of object (take k (sections_of object))) = size ∙ ap (length {A = ℕ}) before
+    ∙ ap (λ (s : List Part). length (body_of object (take k s))) is in
     let there : place ≡ place_of object k = placed ∙ ap (λ n. cond (k == 0) 0 (52 + n)) contents in
     ap (λ (s : List Part). part_header object (get_or s k Null) name place) is
     ∙ ap (λ n. part_header object (get_or (sections_of object) k Null) n place) named

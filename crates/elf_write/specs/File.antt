@@ -45,7 +45,7 @@ padded bytes = bytes ++ padding (length bytes)
 abbrev pub body_of : Object → List Part → List ℕ
 body_of object sections = flat_map (λ part. padded (contents_of object part)) sections
 
--- how many sections of types and of records there are; the number of the symbol table, of its names, and of the last section
+-- how many sections of types and of records there are; the number of the symbol table, and of its names
 abbrev pub extra_of : Object → ℕ
 extra_of object = (if is_some object.types then 1 else 0) + (if is_some object.records then 1 else 0)
 
@@ -54,9 +54,6 @@ symbols_number object = 5 + extra_of object
 
 abbrev pub names_number : Object → ℕ
 names_number object = 6 + extra_of object
-
-abbrev pub last_number : Object → ℕ
-last_number object = 7 + extra_of object
 
 -- the section that a section links to
 abbrev pub link_of : Object → Part → ℕ
@@ -81,7 +78,8 @@ place_of object k = if k == 0 then 0 else HEADER_SIZE + length (body_of object (
 
 -- the header of a section whose name and contents begin at these places
 unfoldable pub part_header : Object → Part → (name place : ℕ) → List ℕ
-part_header object part name place = words (name ∷ kind_of part ∷ flags_of part ∷ 0 ∷ place ∷ length (contents_of object part)
+part_header object part name place =
+    words (name ∷ kind_of part ∷ flags_of part ∷ 0 ∷ place ∷ length (contents_of object part)
     ∷ link_of object part ∷ info_of_part object part ∷ alignment_of part ∷ entry_size_of part ∷ [])
 
 -- the header of section k

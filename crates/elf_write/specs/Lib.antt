@@ -3,3 +3,4 @@ pub mod Part
 pub mod Contents
 pub mod File
 pub mod Limits
+pub mod Whole

@@ -1,9 +1,9 @@
 //! Writes ELF32 relocatable files for RISC-V.
 //!
-//! Stands on `elf_read`; what makes object files stands on it. Proved: the bytes are exactly those of
-//! `specs/File.antt`, section by section; which objects are within the limits, and that their files can be written
-//! and read. Only tested: that ample memory is enough, and that GNU readelf takes such a file. Open: when memory runs
-//! out.
+//! Stands on `elf_read`, and in its proofs on `byteorder`; what makes object files stands on it. Proved: the bytes are
+//! exactly those of `specs/File.antt`, section by section; which objects are within the limits; and what is written of
+//! an object that a file can be (`specs/Whole.antt`) is read again. Only tested: that ample memory is enough, and that
+//! GNU readelf takes such a file. Open: when memory runs out.
 #![tactic(auto)]
 
 mod contents;

@@ -6,5 +6,6 @@ use Rattle.elf_write.proofs.file.file_of.Goals as goal
 
 pub overflow_cast-len : goal.overflow_cast-len
 overflow_cast-len c =
-    let all : 52 + length (body_of c.args.object.now c.args.parts.now) < 2 ^ 32 = rw c.requires.parts (body-within c.args.object.now c.requires.writable) in
+    let all : 52 + length (body_of c.args.object.now c.args.parts.now) < 2 ^ 32 =
+    rw c.requires.parts (body-within c.args.object.now c.requires.writable) in
     omega (arith, all, ap length c.in_ok-body.ensures.body)
