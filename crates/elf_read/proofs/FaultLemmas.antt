@@ -1,12 +1,9 @@
 -- An object has no fault, and is the only one that its bytes are.
-use Rattle.std.proofs.Common.{◌≡◌, ◌<◌, ◌≤◌, ◌⊎◌, ◌∙◌, inl, inr, ⊎_elim, ℕ, List, Bool, true, false, Result, Ok, Err, IfOk, IfErr, refl, sym, ap, arith}
+use Rattle.std.proofs.Common.{◌≡◌, ◌⊎◌, ◌∙◌, inl, inr, ⊎_elim, ℕ, List, Bool, Result, Ok, Err, IfOk, IfErr, refl, sym, ap, arith}
 use Rattle.std.proofs.lemmas.Bool.{both_ways}
 use Rattle.elf_read.specs.Places.{IsFirst, IsNone}
 use Rattle.elf_read.specs.Header.{section_count}
-use Rattle.elf_read.specs.Section.{is_short}
-use Rattle.elf_read.specs.BadSection.{is_bad_section}
-use Rattle.elf_read.specs.Symbol.{symbol_count, is_bad_symbol, is_common}
-use Rattle.elf_read.specs.Relocation.{is_bad_rela_at, is_unknown_at, IsFirstRela, IsNoRela}
+use Rattle.elf_read.specs.Relocation.{IsFirstRela, IsNoRela}
 use Rattle.elf_read.specs.Object.{IsKept}
 use Rattle.elf_read.specs.Fault.{IsSound, IsShort, IsBadSection, IsPassed, IsFirstFault, IsObject}
 use Rattle.elf_read.specs.declared.object.Object.{Object}

@@ -1,7 +1,6 @@
 -- Where joined sections end.
-use Rattle.std.proofs.Common.{◌≡◌, ◌+◌, ◌-◌, ◌*◌, ◌/◌, ◌%◌, ◌<◌, ◌≤◌, ◌&&◌, not, min, max, cond, ℕ, zero, suc, List, Bool, true, false, refl, sym, ap, ◌∙◌, ⊎_elim, ◌⊎◌, arith, rules}
-use Rattle.std.proofs.lemmas.Bool.{cases_Bool, and_parts, cases_lt, cases_order}
-use Rattle.std.proofs.lemmas.Bool.Decides.{nat_tests}
+use Rattle.std.proofs.Common.{◌≡◌, ◌+◌, ◌-◌, ◌<◌, ◌≤◌, ℕ, zero, suc, List, Bool, true, false, refl, ap, ⊎_elim, arith}
+use Rattle.std.proofs.lemmas.Bool.{cases_Bool, cases_lt}
 use Rattle.std.proofs.Math.Nat.{div-add-mod', mod-lt}
 use Rattle.elf_read.specs.Places.{total_of, count_where}
 use Rattle.elf_read.specs.Header.{section_count}

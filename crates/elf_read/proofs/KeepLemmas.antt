@@ -1,6 +1,6 @@
 -- Where the symbols and relocations of a sound file lead.
-use Rattle.std.proofs.Common.{◌≡◌, ◌≢◌, ◌+◌, ◌*◌, ◌/◌, ◌%◌, ◌<◌, ◌≤◌, ◌==◌, ◌&&◌, ◌||◌, not, cond, ℕ, zero, suc, List, length, get_or, Bool, true, false, nat_lt, refl, sym, ap, ◌∙◌, ⊎_elim, arith, rules}
-use Rattle.std.proofs.lemmas.Bool.{cases_Bool, and_parts, and_from, or_cases, ltb-true, ltb-false, eqb-true, eqb-false, ne_eqb, not-false, false≢true, both_ways}
+use Rattle.std.proofs.Common.{◌≡◌, ◌≢◌, ◌+◌, ◌<◌, ◌≤◌, ◌==◌, ◌&&◌, ◌||◌, not, ℕ, List, length, get_or, Bool, true, false, nat_lt, refl, sym, ap, ◌∙◌, arith}
+use Rattle.std.proofs.lemmas.Bool.{and_parts, and_from, ltb-true, ltb-false, ne_eqb, not-false, false≢true}
 use Rattle.std.proofs.lemmas.List.{get_or_read}
 use Rattle.elf_read.specs.Layout.{IsLayout}
 use Rattle.elf_read.specs.declared.layout.Layout.{Layout}
@@ -9,7 +9,7 @@ use Rattle.elf_read.specs.declared.relocation.Rela.{Rela}
 use Rattle.elf_read.specs.Header.{section_count}
 use Rattle.elf_read.specs.Section.{section_at, is_loaded}
 use Rattle.elf_read.specs.Symbol.{symbol_at, symbol_count, is_in_section, is_left_out, is_bad_place, is_past_section, is_common, type_of}
-use Rattle.elf_read.specs.Relocation.{rela_count, rela_at, symbol_of, kind_of, field_size, is_bad_rela_at, is_bad_reference, is_outside, is_misplaced}
+use Rattle.elf_read.specs.Relocation.{rela_count, rela_at, symbol_of, is_bad_rela_at, is_bad_reference, is_outside, is_misplaced}
 use Rattle.elf_read.specs.Object.{symbol_number}
 use Rattle.elf_read.specs.Join.{start_of}
 use Rattle.elf_read.specs.Fault.{IsSound}

@@ -1,6 +1,6 @@
 -- First places.
-use Rattle.std.proofs.Common.{◌≡◌, ◌+◌, ◌-◌, ◌<◌, ◌≤◌, ℕ, zero, suc, Bool, true, false, refl, sym, ap, ◌∙◌, arith}
-use Rattle.elf_read.specs.Places.{IsFirst, IsNone, first_from, first_where}
+use Rattle.std.proofs.Common.{◌≡◌, ◌+◌, ◌-◌, ◌<◌, ℕ, zero, suc, Bool, true, false, refl, ◌∙◌, arith}
+use Rattle.elf_read.specs.Places.{first_from, first_where}
 
 -- past numbers that do not pass, the first is the first from there on
 pub first_from-past : (test : ℕ → Bool) (at more left : ℕ) → ((j : ℕ) → j < at + more → test j ≡ false) → first_from test at (more + left) ≡ first_from test (at + more) left

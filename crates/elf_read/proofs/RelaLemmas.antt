@@ -1,10 +1,9 @@
 -- How many relocations the sections of a file have.
-use Rattle.std.proofs.Common.{◌≡◌, ◌+◌, ◌*◌, ◌/◌, ◌^◌, ◌<◌, ◌≤◌, ◌==◌, ◌||◌, ◌&&◌, not, cond, ℕ, zero, suc, List, Bool, true, false, nat_lt, length, take, drop, length-take, length-drop, min, ap, sym, ◌∙◌, ⊎_elim, refl, arith, rules}
-use Rattle.std.proofs.lemmas.Bool.{cases_Bool, and_parts, ltb-true, ltb-false, eqb-true, false≢true}
+use Rattle.std.proofs.Common.{◌≡◌, ◌+◌, ◌*◌, ◌/◌, ◌^◌, ◌<◌, ◌≤◌, ◌==◌, ◌&&◌, not, ℕ, zero, suc, List, true, false, nat_lt, length, drop, length-take, length-drop, ⊎_elim, refl, arith}
+use Rattle.std.proofs.lemmas.Bool.{cases_Bool, and_parts, ltb-true, ltb-false, eqb-true}
 use Rattle.std.proofs.Math.Nat.{mul-le-mul}
-use Rattle.std.proofs.lemmas.Bool.Decides.{nat_tests}
 use Rattle.elf_read.specs.Header.{section_count}
-use Rattle.elf_read.specs.Section.{section_at, contents, is_rela, is_kept, is_short, is_loaded, is_types, is_records, is_symbol_names, symbol_table}
+use Rattle.elf_read.specs.Section.{section_at, contents, is_rela, is_kept, is_short, is_loaded}
 use Rattle.elf_read.specs.Relocation.{rela_count, relas_before}
 use Rattle.elf_read.specs.Fault.{HasSections}
 use Rattle.elf_read.specs.declared.section.TheConstants.{RELA, NOBITS}

@@ -1,8 +1,7 @@
 -- What good sections are.
-use Rattle.std.proofs.Common.{◌≡◌, ◌≢◌, ◌+◌, ◌%◌, ◌<◌, ◌≤◌, ℕ, zero, suc, Bool, true, false, ◌==◌, ◌||◌, ◌&&◌, not, nat_lt, nat_eq, List, length, refl, sym, ap, ◌∙◌, ⊎_elim, cond, arith, rules}
+use Rattle.std.proofs.Common.{◌≡◌, ◌+◌, ◌%◌, ◌<◌, ℕ, zero, suc, Bool, true, false, ◌==◌, ◌||◌, ◌&&◌, not, List, refl, ⊎_elim, arith}
 use Rattle.std.proofs.lemmas.Bool.{cases_Bool, ltb-true, and_parts, not-false, true≢false, false≢true}
-use Rattle.std.proofs.lemmas.Bool.Decides.{nat_tests}
-use Rattle.elf_read.specs.Places.{IsNone, first_from, first_where}
+use Rattle.elf_read.specs.Places.{first_from, first_where}
 use Rattle.elf_read.specs.Header.{section_count}
 use Rattle.elf_read.specs.Section.{section_at, symbol_table, has_symbols, has_kind}
 use Rattle.elf_read.specs.BadSection.{is_bad_section, is_refused, is_bad_text, is_misaligned, is_second, is_bad_symbol_table, is_bad_target, is_bad_rela, is_named}

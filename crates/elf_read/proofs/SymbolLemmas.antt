@@ -1,5 +1,5 @@
 -- What the names of symbols are.
-use Rattle.std.proofs.Common.{◌≡◌, ◌<◌, ◌≤◌, ◌==◌, ◌||◌, not, cond, is_some, Option, Some, None, Bool, refl, ℕ, List, true, false, nat_le, length, drop, ap, sym, ◌∙◌, rules, arith}
+use Rattle.std.proofs.Common.{◌≡◌, ◌≤◌, ◌==◌, ◌||◌, not, cond, is_some, Option, Some, None, Bool, refl, ℕ, List, true, false, nat_le, length, drop}
 use Rattle.std.proofs.lemmas.Bool.{and_from, le-leb, eq-eqb, not-false}
 use Rattle.std.proofs.lemmas.Str.{utf8_valid_len-IsUtf8}
 use Rattle.std.specs.List.{list_any, before_first}

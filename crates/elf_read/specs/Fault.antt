@@ -1,10 +1,10 @@
 -- The passes over a file, in their order, and its first fault.
-use Rattle.std.specs.Prelude.{◌≡◌, ◌≢◌, ◌+◌, ◌*◌, ◌/◌, ◌<◌, ◌≤◌, ◌⊎◌, ℕ, Bool, true, false, not, List, length}
-use Rattle.elf_read.specs.Places.{IsFirst, IsNone, count_where, total_of}
+use Rattle.std.specs.Prelude.{◌≡◌, ◌≢◌, ◌+◌, ◌*◌, ◌/◌, ◌<◌, ◌≤◌, ◌⊎◌, ℕ, true, false, List, length}
+use Rattle.elf_read.specs.Places.{IsFirst, IsNone, total_of}
 use Rattle.elf_read.specs.Header.{is_elf32, machine_of, type_of, table_offset, section_count, entry_size, names_number, IsRelocatable, HasTable, HasShape}
 use Rattle.elf_read.specs.Section.{section_at, is_short}
 use Rattle.elf_read.specs.BadSection.{is_bad_section}
-use Rattle.elf_read.specs.Symbol.{symbol_count, is_bad_symbol, is_common, is_left_out}
+use Rattle.elf_read.specs.Symbol.{symbol_count, is_bad_symbol, is_common}
 use Rattle.elf_read.specs.Relocation.{is_bad_rela_at, is_unknown_at, rela_at, kind_of, IsFirstRela, IsNoRela}
 use Rattle.elf_read.specs.Join.{text_end, data_end}
 use Rattle.elf_read.specs.Object.{IsKept, kept_count, symbol_number}

@@ -1,5 +1,5 @@
 -- Where the loaded sections lie once they are joined, in bytes from the start of the joined text or of the joined data.
-use Rattle.std.specs.Prelude.{◌≡◌, ◌+◌, ◌-◌, ◌*◌, ◌/◌, ◌<◌, ◌≤◌, ℕ, zero, suc, Bool, not, ◌==◌, if◌then◌else◌, min, max, List, [], ◌++◌, replicate}
+use Rattle.std.specs.Prelude.{◌+◌, ◌-◌, ◌*◌, ◌/◌, ℕ, zero, suc, ◌==◌, if◌then◌else◌, min, max, List, [], ◌++◌, replicate}
 use Rattle.elf_read.specs.Places.{joined, total_of}
 use Rattle.elf_read.specs.Header.{section_count}
 use Rattle.elf_read.specs.Section.{section_at, contents, is_text, is_data}

@@ -1,9 +1,9 @@
 -- The object that a file is.
-use Rattle.std.specs.Prelude.{◌≡◌, ◌+◌, ◌*◌, ◌/◌, ◌<◌, ◌≤◌, ℕ, Bool, not, ◌&&◌, ◌==◌, if◌then◌else◌, nat_lt, List, [], ◌∷◌, Option, Some, None}
+use Rattle.std.specs.Prelude.{◌≡◌, ◌+◌, ℕ, not, ◌==◌, if◌then◌else◌, nat_lt, List, [], ◌∷◌, Option, Some, None}
 use Rattle.std.specs.Int.{w32, cast_signed}
-use Rattle.elf_read.specs.Places.{joined, total_of, count_where, first_where}
+use Rattle.elf_read.specs.Places.{joined, count_where, first_where}
 use Rattle.elf_read.specs.Header.{section_count}
-use Rattle.elf_read.specs.Section.{section_at, contents, is_text, is_loaded, is_record_section}
+use Rattle.elf_read.specs.Section.{section_at, contents, is_text, is_record_section}
 use Rattle.elf_read.specs.Symbol.{symbol_at, symbol_count, binding_of, name_of, is_left_out, is_in_section}
 use Rattle.elf_read.specs.Relocation.{rela_at, rela_count, symbol_of, kind_of, is_dropped}
 use Rattle.elf_read.specs.Join.{joined_text, joined_data, start_of}

@@ -1,5 +1,5 @@
 -- First places, and what the numbers below a bound give together. Numbers count from 0.
-use Rattle.std.specs.Prelude.{◌≡◌, ◌+◌, ◌<◌, ℕ, zero, suc, Bool, true, false, ◌||◌, if◌then◌else◌, List, [], ◌++◌, IsTrue}
+use Rattle.std.specs.Prelude.{◌≡◌, ◌+◌, ◌<◌, ℕ, zero, suc, Bool, true, false, ◌||◌, if◌then◌else◌, List, [], ◌++◌}
 
 -- k is the first number below the count that passes the test
 pub record IsFirst (test : ℕ → Bool) (count k : ℕ) : Type 0 where

@@ -1,10 +1,9 @@
 -- The relocations of a file, by section and entry (RISC-V ELF psABI, "Relocations"), and the rules that one may break.
-use Rattle.std.specs.Prelude.{◌≡◌, ◌+◌, ◌*◌, ◌/◌, ◌%◌, ◌<◌, ◌≤◌, ℕ, Bool, not, ◌&&◌, ◌||◌, ◌==◌, if◌then◌else◌, nat_eq, nat_lt, nat_le, List, [], ◌∷◌, length, take, drop}
-use Rattle.std.specs.List.{list_any}
+use Rattle.std.specs.Prelude.{◌≡◌, ◌+◌, ◌*◌, ◌/◌, ◌%◌, ◌<◌, ℕ, Bool, not, ◌&&◌, ◌||◌, ◌==◌, if◌then◌else◌, nat_lt, List}
 use Rattle.elf_read.specs.Words.{u32_at}
 use Rattle.elf_read.specs.Places.{IsFirst, IsNone, total_of}
 use Rattle.elf_read.specs.Header.{section_count}
-use Rattle.elf_read.specs.Section.{section_at, contents, is_loaded, is_text, is_data, is_rela}
+use Rattle.elf_read.specs.Section.{section_at, contents, is_text, is_data, is_rela}
 use Rattle.elf_read.specs.Symbol.{symbol_count, is_left_out}
 use Rattle.elf_read.specs.declared.relocation.Rela.{Rela}
 use Rattle.elf_read.specs.declared.relocation.TheConstants.{RELA_SIZE, NONE, WORD, BRANCH, JAL, CALL, CALL_PLT, PCREL_HI20, PCREL_LO12_I, PCREL_LO12_S, HI20, LO12_I, LO12_S, ADD32, SUB32, ALIGN, RELAX}

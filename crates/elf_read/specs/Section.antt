@@ -1,6 +1,6 @@
 -- The sections of a file, by their numbers (System V ELF, "Sections"), and which of them are kept.
-use Rattle.std.specs.Prelude.{◌≡◌, ◌+◌, ◌*◌, ◌<◌, ◌≤◌, ℕ, Bool, not, ◌&&◌, ◌||◌, ◌==◌, nat_eq, nat_lt, List, length, take, drop, bit_and}
-use Rattle.std.specs.List.{starts_with, list_any}
+use Rattle.std.specs.Prelude.{◌+◌, ◌*◌, ℕ, Bool, not, ◌&&◌, ◌||◌, ◌==◌, nat_eq, nat_lt, List, length, take, drop, bit_and}
+use Rattle.std.specs.List.{starts_with}
 use Rattle.elf_read.specs.Words.{u32_at}
 use Rattle.elf_read.specs.Places.{first_where}
 use Rattle.elf_read.specs.Header.{table_offset, section_count, names_number}

@@ -1,5 +1,6 @@
 ghost use Rattle.std.specs.Prelude.{◌≡◌, ◌<◌, ◌≤◌, ◌+◌, ◌-◌, ◌++◌, ◌^◌, ℕ, length, replicate, vec_len, IfOk, OnOk};
 ghost use Rattle.elf_read.specs.Header.{section_count};
+ghost use Rattle.elf_read.specs.Object.{record_bytes};
 ghost use Rattle.elf_read.specs.Join.{text_of, data_of, data_contents, data_end, joined_text, joined_data};
 
 use crate::layout::{align_up, alignment_of, data_end_of};
@@ -97,4 +98,21 @@ pub fn join_data(alloc: Global, table: &SymbolTable<'_>) -> Result<Bytes, AllocE
         end = data_end_of(table, k, end);
     }
     Ok(Bytes::from_vec(out))
+}
+
+/// The contents of the section of types or of records, by its name, if there is one.
+#[tactic(auto, unfolding(crate::specs::Object::record_bytes))]
+pub fn record_bytes(
+    alloc: Global,
+    table: &SymbolTable<'_>,
+    name: &[u8],
+) -> Result<Option<Bytes>, AllocError>
+    ensures { IfOk result (λ found. found ≡ record_bytes table.now name.now) }
+{
+    let k = table.first_record(name);
+    if k >= table.section_count() {
+        return Ok(None);
+    }
+    let contents = Vec::from_slice(alloc, table.contents(k))?;
+    Ok(Some(Bytes::from_vec(contents)))
 }

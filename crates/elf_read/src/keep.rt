@@ -3,15 +3,15 @@ ghost use Rattle.elf_read.specs.Header.{section_count};
 ghost use Rattle.elf_read.specs.Places.{joined};
 ghost use Rattle.elf_read.specs.Symbol.{symbol_count, is_left_out, symbol_at};
 ghost use Rattle.elf_read.specs.Relocation.{rela_count};
-ghost use Rattle.elf_read.specs.Object.{kept_binding, kept_place, kept_value, kept_symbol, symbols_of, area_of, reference_of, kept_reloc, reloc_of, relocs_of, record_bytes, IsKept};
+ghost use Rattle.elf_read.specs.Object.{kept_binding, kept_place, kept_value, kept_symbol, symbols_of, area_of, reference_of, kept_reloc, reloc_of, relocs_of, IsKept};
 ghost use Rattle.elf_read.specs.Layout.{IsLayout, IsNumbering};
 ghost use Rattle.elf_read.specs.Fault.{IsFirstFault, HasPlaces, IsSound, IsObject};
 
 use crate::fault::ElfFault;
-use crate::join::{join_data, join_text};
+use crate::join::{join_data, join_text, record_bytes};
 use crate::layout::{Layout, layout_of};
 use crate::limits::{check_limits, number_symbols};
-use crate::object::{Area, Binding, Bytes, Name, Object, Place, Reloc, Relocs, Symbol, Symbols};
+use crate::object::{Area, Binding, Name, Object, Place, Reloc, Relocs, Symbol, Symbols};
 use crate::rela::{kind_of, rela_at, rela_count, symbol_of, target_of};
 use crate::relocation::is_dropped;
 use crate::section::{CFI_RECORDS, CFI_TYPES};
@@ -262,23 +262,6 @@ fn keep_relocs(
         push_relocs(&mut out, table, layout, numbers, s)?;
     }
     Ok(Relocs::from_vec(out))
-}
-
-/// The contents of the section of types or of records, by its name, if there is one.
-#[tactic(auto, unfolding(crate::specs::Object::record_bytes))]
-fn record_bytes(
-    alloc: Global,
-    table: &SymbolTable<'_>,
-    name: &[u8],
-) -> Result<Option<Bytes>, AllocError>
-    ensures { IfOk result (λ found. found ≡ record_bytes table.now name.now) }
-{
-    let k = table.first_record(name);
-    if k >= table.section_count() {
-        return Ok(None);
-    }
-    let contents = Vec::from_slice(alloc, table.contents(k))?;
-    Ok(Some(Bytes::from_vec(contents)))
 }
 
 /// What the file keeps, if it is within the limits.

@@ -1,4 +1,3 @@
-use Rattle.std.proofs.Common.{ℕ, ◌≡◌, ◌<◌}
 use Rattle.elf_read.specs.Places.{IsNone}
 use Rattle.elf_read.specs.BadSection.{is_bad_section}
 use Rattle.elf_read.proofs.bad_section.check_sections.Given as goal

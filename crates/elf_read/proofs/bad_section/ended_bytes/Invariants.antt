@@ -1,4 +1,4 @@
-use Rattle.std.proofs.Common.{ℕ, ◌≡◌, ◌≢◌, ◌<◌, ◌≤◌, length, get_or}
+use Rattle.std.proofs.Common.{ℕ, ◌≢◌, ◌<◌, ◌≤◌, length, get_or}
 use Rattle.elf_read.proofs.bad_section.ended_bytes.Given as goal
 
 abbrev pub invariant-loop-end : goal.invariant-loop-end

@@ -1,4 +1,3 @@
-use Rattle.std.proofs.Common.{ℕ, ◌≡◌, ◌<◌}
 use Rattle.elf_read.specs.Places.{IsNone}
 use Rattle.elf_read.specs.Symbol.{is_common}
 use Rattle.elf_read.proofs.bad_symbol.check_common.Given as goal

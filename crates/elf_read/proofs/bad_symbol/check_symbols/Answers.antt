@@ -1,5 +1,5 @@
 -- A symbol that breaks no rule is well named.
-use Rattle.std.proofs.Common.{◌≡◌, true, false}
+use Rattle.std.proofs.Common.{◌≡◌, false}
 use Rattle.elf_read.specs.Symbol.{is_bad_symbol}
 use Rattle.elf_read.proofs.SymbolLemmas.{good_symbol}
 use Rattle.elf_read.proofs.bad_symbol.check_symbols.Goals as goal

@@ -1,5 +1,5 @@
 -- The name is looked up among those that are defined.
-use Rattle.std.proofs.Common.{◌≡◌, true, false, ◌&&◌, List, ℕ, is_some, sym, ◌∙◌, ap, nat_cmp}
+use Rattle.std.proofs.Common.{◌≡◌, true, is_some, ◌∙◌, ap, nat_cmp}
 use Rattle.std.specs.BTreeMap.{get_by}
 use Rattle.std.specs.Cmp.Lexicographic.{slice_cmp}
 use Rattle.elf_read.specs.Places.{some_below}

@@ -1,4 +1,4 @@
-use Rattle.std.proofs.Common.{ℕ, ◌≡◌, ◌≤◌, ◌*◌}
+use Rattle.std.proofs.Common.{◌≡◌, ◌≤◌, ◌*◌}
 use Rattle.elf_read.specs.Places.{joined}
 use Rattle.elf_read.specs.Join.{data_of, data_end}
 use Rattle.elf_read.proofs.join.join_data.Given as goal

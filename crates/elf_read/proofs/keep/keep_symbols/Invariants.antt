@@ -1,4 +1,4 @@
-use Rattle.std.proofs.Common.{ℕ, ◌≡◌}
+use Rattle.std.proofs.Common.{◌≡◌}
 use Rattle.elf_read.specs.Places.{joined}
 use Rattle.elf_read.specs.Object.{symbols_of}
 use Rattle.elf_read.proofs.keep.keep_symbols.Given as goal

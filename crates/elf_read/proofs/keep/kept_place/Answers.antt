@@ -1,6 +1,5 @@
 -- A symbol that is neither undefined nor absolute is in a section.
-use Rattle.std.proofs.Common.{◌≡◌, ◌≢◌, ◌+◌, ◌<◌, ◌≤◌, ◌++◌, ℕ, List, true, false, length, get_or, sym, ap, ◌∙◌, refl, arith, rules, add-one, append_assoc}
-use Rattle.elf_read.specs.Header.{section_count}
+use Rattle.std.proofs.Common.{◌≡◌, ◌≢◌}
 use Rattle.elf_read.specs.Symbol.{symbol_at}
 use Rattle.elf_read.proofs.KeepLemmas.{section_there}
 use Rattle.elf_read.proofs.keep.kept_place.Goals as goal

@@ -1,6 +1,5 @@
 -- A good symbol has a name.
-use Rattle.std.proofs.Common.{◌≡◌, ◌≢◌, ◌+◌, ◌<◌, ◌≤◌, ◌++◌, ℕ, List, true, false, length, get_or, sym, ap, ◌∙◌, refl, arith, rules, add-one, append_assoc}
-use Rattle.std.specs.Option.{IsSome}
+use Rattle.std.proofs.Common.{◌∙◌}
 use Rattle.elf_read.proofs.KeepLemmas.{sound_symbol}
 use Rattle.elf_read.proofs.keep.kept_symbol.Goals as goal
 

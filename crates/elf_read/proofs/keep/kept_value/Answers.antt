@@ -1,5 +1,5 @@
 -- A value in a section is within the joined text or data.
-use Rattle.std.proofs.Common.{◌≡◌, ◌≢◌, ◌+◌, ◌<◌, ◌≤◌, ◌++◌, ℕ, List, true, false, length, get_or, sym, ap, ◌∙◌, refl, arith, rules, add-one, append_assoc}
+use Rattle.std.proofs.Common.{◌≡◌, true, sym, ◌∙◌, arith}
 use Rattle.elf_read.specs.Symbol.{symbol_at, is_in_section}
 use Rattle.elf_read.proofs.KeepLemmas.{value_read}
 use Rattle.elf_read.proofs.keep.kept_value.Goals as goal

@@ -1,5 +1,5 @@
 -- The field of a good relocation is within the joined text or data.
-use Rattle.std.proofs.Common.{◌≡◌, ◌≢◌, ◌+◌, ◌<◌, ◌≤◌, ◌++◌, ℕ, List, true, false, length, get_or, sym, ap, ◌∙◌, refl, arith, rules, add-one, append_assoc}
+use Rattle.std.proofs.Common.{arith}
 use Rattle.elf_read.specs.Object.{kept_reloc}
 use Rattle.elf_read.proofs.KeepLemmas.{offset_read}
 use Rattle.elf_read.proofs.keep.offset_of.Goals as goal

@@ -1,5 +1,5 @@
 -- This turn adds its entry at the end.
-use Rattle.std.proofs.Common.{◌≡◌, ◌≢◌, ◌+◌, ◌<◌, ◌≤◌, ◌++◌, ℕ, List, true, false, length, get_or, sym, ap, ◌∙◌, refl, arith, rules, add-one, append_assoc}
+use Rattle.std.proofs.Common.{◌≡◌, ◌++◌, ap, ◌∙◌, refl, add-one, append_assoc}
 use Rattle.elf_read.specs.Places.{joined}
 use Rattle.elf_read.specs.Object.{reloc_of}
 use Rattle.elf_read.proofs.keep.push_relocs.Goals as goal

@@ -1,9 +1,8 @@
 -- The symbol of a good relocation is there.
-use Rattle.std.proofs.Common.{◌≡◌, ◌≢◌, ◌+◌, ◌<◌, ◌≤◌, ◌++◌, ℕ, List, true, false, ◌==◌, Some, length, get_or, sym, ap, ◌∙◌, refl, arith, rules, add-one, append_assoc}
+use Rattle.std.proofs.Common.{◌≡◌, ◌≢◌, false, ◌==◌, Some, ap, arith}
 use Rattle.std.proofs.lemmas.Bool.{ne_eqb}
-use Rattle.elf_read.specs.Symbol.{symbol_count}
 use Rattle.elf_read.specs.Relocation.{rela_at, symbol_of}
-use Rattle.elf_read.specs.Object.{reference_of, symbol_number}
+use Rattle.elf_read.specs.Object.{reference_of}
 use Rattle.elf_read.proofs.KeepLemmas.{reference_there, symbol_number-le}
 use Rattle.elf_read.proofs.keep.reference_of.Goals as goal
 

@@ -1,5 +1,4 @@
-use Rattle.std.proofs.Common.{ℕ, ◌≡◌, ◌<◌, ◌≤◌, ◌*◌, vec_len, length, get_or}
-use Rattle.elf_read.specs.Header.{section_count}
+use Rattle.std.proofs.Common.{ℕ, ◌≡◌, ◌<◌, ◌≤◌, ◌*◌, vec_len, get_or}
 use Rattle.elf_read.specs.Join.{start_of, text_end, data_end}
 use Rattle.elf_read.proofs.layout.layout_of.Given as goal
 

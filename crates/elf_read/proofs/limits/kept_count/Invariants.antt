@@ -1,4 +1,4 @@
-use Rattle.std.proofs.Common.{ℕ, ◌≡◌, ◌<◌, ◌≤◌, not}
+use Rattle.std.proofs.Common.{◌≡◌, ◌≤◌, not}
 use Rattle.elf_read.specs.Places.{count_where}
 use Rattle.elf_read.specs.Relocation.{is_dropped, kind_of, rela_at}
 use Rattle.elf_read.proofs.limits.kept_count.Given as goal

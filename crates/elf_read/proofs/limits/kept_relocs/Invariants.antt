@@ -1,4 +1,4 @@
-use Rattle.std.proofs.Common.{ℕ, ◌≡◌, ◌<◌, ◌≤◌, ◌*◌}
+use Rattle.std.proofs.Common.{◌≡◌, ◌≤◌, ◌*◌}
 use Rattle.elf_read.specs.Places.{total_of}
 use Rattle.elf_read.specs.Object.{kept_count}
 use Rattle.elf_read.proofs.limits.kept_relocs.Given as goal

@@ -1,9 +1,8 @@
 -- The name ends at the first zero byte.
-use Rattle.std.proofs.Common.{◌≡◌, ◌≢◌, ◌<◌, ◌==◌, ℕ, true, false, length, get_or, take, sym, ap, ◌∙◌, arith, rules}
-use Rattle.std.proofs.lemmas.Bool.Decides.{nat_tests}
+use Rattle.std.proofs.Common.{◌≡◌, ◌==◌, take, sym, ap, ◌∙◌, arith}
 use Rattle.std.proofs.lemmas.Bool.{ne_eqb, eq-eqb}
 use Rattle.std.proofs.lemmas.List.Sums.{position_or_len_is}
-use Rattle.std.specs.List.{list_any, before_first, position_or_len}
+use Rattle.std.specs.List.{position_or_len}
 use Rattle.elf_read.proofs.NameLemmas.{not-ended}
 use Rattle.elf_read.proofs.name.ended.Goals as goal
 

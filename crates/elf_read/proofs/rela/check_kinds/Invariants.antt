@@ -1,4 +1,4 @@
-use Rattle.std.proofs.Common.{ℕ, ◌≡◌, ◌<◌}
+use Rattle.std.proofs.Common.{◌≡◌}
 use Rattle.elf_read.specs.Relocation.{is_unknown_at, relas_before, IsNoRela}
 use Rattle.elf_read.proofs.rela.check_kinds.Given as goal
 

@@ -1,7 +1,6 @@
 -- The numbers of relocations are below 2 ^ 32.
-use Rattle.std.proofs.Common.{◌≡◌, ◌+◌, ◌<◌, ◌≤◌, ◌^◌, arith}
+use Rattle.std.proofs.Common.{◌<◌, arith}
 use Rattle.elf_read.specs.Header.{section_count}
-use Rattle.elf_read.specs.Relocation.{rela_count, relas_before}
 use Rattle.elf_read.proofs.RelaLemmas.{relas-small}
 use Rattle.elf_read.proofs.rela.check_relas.Goals as goal
 

@@ -1,5 +1,5 @@
 -- The entries are in the file.
-use Rattle.std.proofs.Common.{◌≡◌, ◌≤◌, ◌*◌, length, sym, ap, ◌∙◌, subst}
+use Rattle.std.proofs.Common.{◌≡◌, subst}
 use Rattle.elf_read.specs.Section.{contents}
 use Rattle.elf_read.specs.Fault.{HasSections}
 use Rattle.elf_read.proofs.RelaLemmas.{relas_within}

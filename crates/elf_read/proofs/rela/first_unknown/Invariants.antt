@@ -1,4 +1,3 @@
-use Rattle.std.proofs.Common.{ℕ, ◌≡◌, ◌<◌}
 use Rattle.elf_read.specs.Places.{IsNone}
 use Rattle.elf_read.specs.Relocation.{is_unknown_at}
 use Rattle.elf_read.proofs.rela.first_unknown.Given as goal

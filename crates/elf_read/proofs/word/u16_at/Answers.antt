@@ -1,6 +1,6 @@
 -- The number in the rest of the bytes is the one at the place.
 use Rattle.std.proofs.Common.{◌≡◌, ◌+◌, drop, arith, ap, ◌∙◌}
-use Rattle.byteorder.specs.Endian.{little_from, little_number}
+use Rattle.byteorder.specs.Endian.{little_from}
 use Rattle.elf_read.specs.Words.{u16_at}
 use Rattle.elf_read.proofs.WordLemmas.{little_from-drop}
 use Rattle.elf_read.proofs.word.u16_at.Goals as goal

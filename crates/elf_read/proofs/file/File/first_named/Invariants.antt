@@ -1,4 +1,3 @@
-use Rattle.std.proofs.Common.{ℕ, ◌≡◌, ◌<◌}
 use Rattle.elf_read.specs.Places.{IsNone}
 use Rattle.elf_read.specs.Section.{has_name}
 use Rattle.elf_read.proofs.file.File.first_named.Given as goal

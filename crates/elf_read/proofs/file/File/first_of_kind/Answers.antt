@@ -1,9 +1,8 @@
 -- The first place is where the loop stops.
-use Rattle.std.proofs.Common.{◌≡◌, ◌<◌, ℕ, Bool, true, false, nat_eq, sym, ◌∙◌, arith, rules}
+use Rattle.std.proofs.Common.{◌≡◌, ◌<◌, ℕ, true, false, nat_eq, sym, ◌∙◌, arith}
 use Rattle.std.proofs.lemmas.Bool.Decides.{nat_tests}
 use Rattle.elf_read.specs.Header.{section_count}
 use Rattle.elf_read.specs.Section.{section_at}
-use Rattle.elf_read.specs.Places.{first_where}
 use Rattle.elf_read.proofs.PlaceLemmas.{first_where-is, first_where-none}
 use Rattle.elf_read.proofs.file.File.first_of_kind.Goals as goal
 

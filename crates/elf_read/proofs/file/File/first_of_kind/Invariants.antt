@@ -1,4 +1,4 @@
-use Rattle.std.proofs.Common.{ℕ, ◌≡◌, ◌<◌, nat_eq}
+use Rattle.std.proofs.Common.{nat_eq}
 use Rattle.elf_read.specs.Places.{IsNone}
 use Rattle.elf_read.specs.Section.{section_at}
 use Rattle.elf_read.proofs.file.File.first_of_kind.Given as goal

@@ -1,9 +1,7 @@
 -- The first place is where the loop stops.
-use Rattle.std.proofs.Common.{◌≡◌, ◌<◌, ℕ, Bool, true, false, nat_eq, sym, ◌∙◌, arith, rules}
-use Rattle.std.proofs.lemmas.Bool.Decides.{nat_tests}
+use Rattle.std.proofs.Common.{◌≡◌, ◌<◌, ℕ, true, false, sym, ◌∙◌, arith}
 use Rattle.elf_read.specs.Header.{section_count}
 use Rattle.elf_read.specs.Section.{is_record_section}
-use Rattle.elf_read.specs.Places.{first_where}
 use Rattle.elf_read.proofs.PlaceLemmas.{first_where-is, first_where-none}
 use Rattle.elf_read.proofs.file.File.first_record.Goals as goal
 

@@ -1,4 +1,3 @@
-use Rattle.std.proofs.Common.{ℕ, ◌≡◌, ◌<◌}
 use Rattle.elf_read.specs.Places.{IsNone}
 use Rattle.elf_read.specs.Section.{is_record_section}
 use Rattle.elf_read.proofs.file.File.first_record.Given as goal

@@ -1,4 +1,3 @@
-use Rattle.std.proofs.Common.{ℕ, ◌≡◌, ◌<◌}
 use Rattle.elf_read.specs.Places.{IsNone}
 use Rattle.elf_read.specs.Section.{is_short}
 use Rattle.elf_read.proofs.sections.Sections.check_contents.Given as goal

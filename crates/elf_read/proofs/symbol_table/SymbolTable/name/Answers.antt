@@ -1,5 +1,5 @@
 -- The name is well formed where its end, its length and its bytes are.
-use Rattle.std.proofs.Common.{◌≡◌, ◌<◌, ◌==◌, ℕ, List, true, false, nat_le, length, drop, ap, sym, ◌∙◌, rules, arith}
+use Rattle.std.proofs.Common.{◌≡◌, drop, sym, arith}
 use Rattle.elf_read.specs.Symbol.{symbol_at, symbol_names}
 use Rattle.elf_read.proofs.SymbolLemmas.{well_named}
 use Rattle.elf_read.proofs.symbol_table.SymbolTable.name.Goals as goal

@@ -1,7 +1,6 @@
 -- The symbol table of good sections links to a section that is there.
-use Rattle.std.proofs.Common.{◌≡◌, ◌<◌, true, false, nat_lt, ap, sym, subst, ◌∙◌, rules, arith}
+use Rattle.std.proofs.Common.{◌≡◌, true, sym, subst, arith}
 use Rattle.std.proofs.lemmas.Bool.Decides.{nat_tests}
-use Rattle.elf_read.specs.Header.{section_count}
 use Rattle.elf_read.specs.Section.{section_at, has_symbols, symbol_table}
 use Rattle.elf_read.specs.Fault.{HasSections}
 use Rattle.elf_read.proofs.SectionLemmas.{symbol_link-within}

@@ -1,0 +1,6 @@
+pub mod Words
+pub mod Part
+pub mod Contents
+pub mod File
+pub mod Limits
+pub mod Whole

@@ -1,0 +1,66 @@
+-- The sections of a written file in their order, and the table of what each section header says by the kind of its
+-- section (System V ELF, "Sections"). Names are given with the zero byte that ends them.
+use Rattle.std.specs.Prelude.{ℕ, ◌+◌, Bool, if◌then◌else◌, List, [], ◌∷◌, ◌++◌}
+use Rattle.elf_read.specs.declared.section.TheConstants.{PROGBITS, SYMTAB, STRTAB, RELA, ALLOC, EXECINSTR, CFI_TYPES, CFI_RECORDS}
+use Rattle.elf_read.specs.declared.symbol.TheConstants.{SYMBOL_SIZE}
+use Rattle.elf_read.specs.declared.relocation.TheConstants.{RELA_SIZE}
+use Rattle.elf_write.specs.declared.part.TheConstants.{TEXT, DATA, TEXT_RELAS, DATA_RELAS, SYMBOLS, SYMBOL_NAMES, SECTION_NAMES, WRITE}
+use Rattle.elf_write.specs.declared.part.Part.{Part}
+use Rattle.elf_write.specs.declared.part.Part.TheVariants.{Null, Text, Data, Types, Records, TextRelas, DataRelas, Symbols, SymbolNames, SectionNames}
+
+-- the part where it is there
+abbrev pub where_there : Bool → Part → List Part
+where_there there part = if there then part ∷ [] else []
+
+-- the sections in their order, with those of types and of records where they are there
+abbrev pub parts_of : (types records : Bool) → List Part
+parts_of types records =
+    Null ∷ Text ∷ Data ∷ where_there types Types ++ where_there records Records
+    ++ (TextRelas ∷ DataRelas ∷ Symbols ∷ SymbolNames ∷ SectionNames ∷ [])
+
+-- the name of each section
+abbrev pub name_of : Part → List ℕ
+name_of Null = 0 ∷ []
+name_of Text = TEXT.now
+name_of Data = DATA.now
+name_of Types = CFI_TYPES.now
+name_of Records = CFI_RECORDS.now
+name_of TextRelas = TEXT_RELAS.now
+name_of DataRelas = DATA_RELAS.now
+name_of Symbols = SYMBOLS.now
+name_of SymbolNames = SYMBOL_NAMES.now
+name_of SectionNames = SECTION_NAMES.now
+
+-- its type
+abbrev pub kind_of : Part → ℕ
+kind_of Null = 0
+kind_of Text = PROGBITS
+kind_of Data = PROGBITS
+kind_of Types = PROGBITS
+kind_of Records = PROGBITS
+kind_of TextRelas = RELA
+kind_of DataRelas = RELA
+kind_of Symbols = SYMTAB
+kind_of SymbolNames = STRTAB
+kind_of SectionNames = STRTAB
+
+-- its flags
+abbrev pub flags_of : Part → ℕ
+flags_of Text = ALLOC + EXECINSTR
+flags_of Data = WRITE + ALLOC
+flags_of _ = 0
+
+-- its alignment
+abbrev pub alignment_of : Part → ℕ
+alignment_of Null = 0
+alignment_of Data = 16
+alignment_of SymbolNames = 1
+alignment_of SectionNames = 1
+alignment_of _ = 4
+
+-- the size of an entry, where it is a table
+abbrev pub entry_size_of : Part → ℕ
+entry_size_of TextRelas = RELA_SIZE
+entry_size_of DataRelas = RELA_SIZE
+entry_size_of Symbols = SYMBOL_SIZE
+entry_size_of _ = 0

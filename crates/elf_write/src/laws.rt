@@ -1,0 +1,31 @@
+//! Which objects can be written, and that what is written is read again.
+
+ghost use Rattle.std.specs.Prelude.{◌≤◌, length};
+ghost use Rattle.elf_read.specs.declared.rela.TheConstants.{MAX_FILE};
+ghost use Rattle.elf_read.specs.declared.object.Object.{Object};
+ghost use Rattle.elf_read.specs.Fault.{IsObject};
+ghost use Rattle.elf_write.specs.File.{bytes_of, IsWritable};
+ghost use Rattle.elf_write.specs.Limits.{IsWithinLimits};
+ghost use Rattle.elf_write.specs.Whole.{IsWhole};
+
+/// Each object within the limits can be written, and its file is short enough to be read.
+pub fn limits_fit()
+    ensures writable { (object : Object) → IsWithinLimits object → IsWritable object }
+    ensures short { (object : Object) → IsWithinLimits object → length (bytes_of object) ≤ MAX_FILE }
+{}
+
+/// Some object is within the limits: the empty one.
+pub fn some_object_is_within_limits()
+    ensures { (object : Object) × IsWithinLimits object }
+{}
+
+/// What is written is read again: the bytes of an object that a file can be are that object, and no other, as
+/// `read_object` has it.
+pub fn written_is_read()
+    ensures { (object : Object) → IsWhole object → IsObject (bytes_of object) object }
+{}
+
+/// Some object is one that a file can be: a word of text, a global symbol there, and a relocation with it.
+pub fn some_object_is_whole()
+    ensures { (object : Object) × IsWhole object }
+{}

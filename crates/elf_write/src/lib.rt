@@ -1,0 +1,19 @@
+//! Writes ELF32 relocatable files for RISC-V.
+//!
+//! Stands on `elf_read`, and in its proofs on `byteorder`; what makes object files stands on it. Proved: the bytes are
+//! exactly those of `specs/File.antt`, section by section; which objects are within the limits; and what is written of
+//! an object that a file can be (`specs/Whole.antt`) is read again. Only tested: that ample memory is enough, and that
+//! GNU readelf takes such a file. Open: when memory runs out.
+#![tactic(auto)]
+
+mod contents;
+mod file;
+pub mod laws;
+mod limits;
+mod part;
+#[cfg(test)]
+mod tests;
+mod word;
+
+pub use crate::file::write_object;
+pub use crate::limits::{MAX_RECORDS, is_within_limits};
