@@ -1,0 +1,4 @@
+pub mod Each
+pub mod Zeroes
+pub mod Text
+pub mod Formats

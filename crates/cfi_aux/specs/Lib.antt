@@ -1,0 +1,4 @@
+pub mod Format
+pub mod Records
+pub mod Reading
+pub mod Faults

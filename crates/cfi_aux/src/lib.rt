@@ -1,0 +1,24 @@
+//! The records of functions and branches that a module carries, modules, and placed modules.
+//!
+//! Stands on `elf_read`, `cfi_types` and `thiserror`. Proved: records are read exactly where the bytes are their one
+//! spelling, each other list of bytes has its first fault, and what is written is read again. Only tested: the texts
+//! of faults, and that ample memory is enough. Open: nothing.
+#![tactic(auto)]
+
+mod branch;
+mod fault;
+mod format;
+mod function;
+mod items;
+mod name;
+mod reading;
+mod records;
+mod word;
+
+
+pub use fault::AuxFault;
+pub use format::{CALL, MAX_BRANCHES, MAX_ENTRIES, MAX_FUNCTIONS, MAX_NAME, RETURN, SWITCH, TAIL, VERSION};
+pub use items::Items;
+pub use reading::read_records;
+pub use records::{Function, Kind, Records};
+
