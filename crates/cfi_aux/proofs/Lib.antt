@@ -2,3 +2,9 @@ pub mod Each
 pub mod Zeroes
 pub mod Text
 pub mod Formats
+pub mod Words
+pub mod Lists
+pub mod Functions
+pub mod Branches
+pub mod Whole
+pub mod Appends

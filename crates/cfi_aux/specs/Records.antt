@@ -1,6 +1,6 @@
 -- What records are, and the bytes of each: words with the version, the number of functions and the number of branches,
 -- then each function, then each branch. A word is four bytes, the lowest first.
-use Rattle.std.specs.Prelude.{◌≡◌, ℕ, ◌+◌, ◌-◌, ◌%◌, ◌<◌, ◌≤◌, ◌^◌, Bool, true, false, if◌then◌else◌, List, [], ◌∷◌, ◌++◌, length, replicate, IsTrue}
+use Rattle.std.specs.Prelude.{ℕ, ◌-◌, ◌%◌, ◌<◌, ◌≤◌, ◌^◌, Bool, if◌then◌else◌, List, [], ◌∷◌, ◌++◌, length, replicate, IsTrue, All}
 use Rattle.std.specs.List.{flat_map, AllByRecursion}
 use Rattle.std.specs.Str.{is_utf8}
 use Rattle.cfi_types.specs.Node.{Node}
@@ -77,3 +77,10 @@ pub record AreRecords (types : List Node) (r : Records) : Type 0 where
   pub branch_count : length r.branches ≤ MAX_BRANCHES
   pub functions : AllByRecursion (IsFunction types) r.functions
   pub branches : AllByRecursion (IsBranch types) r.branches
+
+-- records whose numbers of functions, of branches, of a name's bytes and of a branch's words have words of four bytes
+pub record CanBeWritten (r : Records) : Type 0 where
+  pub functions : length r.functions < 2 ^ 32
+  pub branches : length r.branches < 2 ^ 32
+  pub names : All (λ f. length f.name < 2 ^ 32) r.functions
+  pub words : All (λ b. length (words_of b) < 2 ^ 32) r.branches

@@ -14,11 +14,16 @@ mod name;
 mod reading;
 mod records;
 mod word;
-
+mod writing;
 
 pub use fault::AuxFault;
-pub use format::{CALL, MAX_BRANCHES, MAX_ENTRIES, MAX_FUNCTIONS, MAX_NAME, RETURN, SWITCH, TAIL, VERSION};
+pub use format::{
+    CALL, MAX_BRANCHES, MAX_ENTRIES, MAX_FUNCTIONS, MAX_NAME, RETURN, SWITCH, TAIL, VERSION,
+};
 pub use items::Items;
 pub use reading::read_records;
 pub use records::{Function, Kind, Records};
+pub use writing::{read_can_be_written, write_records, written_is_read};
 
+#[cfg(test)]
+mod tests;

@@ -1,4 +1,4 @@
-use Rattle.std.proofs.Common.{◌≡◌, ◌+◌, ◌-◌}
+use Rattle.std.proofs.Common.{◌≡◌, ◌-◌}
 use Rattle.cfi_aux.specs.Reading.{each}
 use Rattle.cfi_aux.specs.Faults.{branch_at}
 use Rattle.cfi_aux.proofs.Each.{with_front}
