@@ -8,3 +8,4 @@ pub mod Functions
 pub mod Branches
 pub mod Whole
 pub mod Appends
+pub mod ModuleLemmas

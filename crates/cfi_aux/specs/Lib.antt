@@ -2,3 +2,4 @@ pub mod Format
 pub mod Records
 pub mod Reading
 pub mod Faults
+pub mod Module

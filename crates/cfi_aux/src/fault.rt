@@ -31,6 +31,20 @@ pub enum AuxFault {
     Memory,
 }
 
+impl From<TypeFault> for AuxFault {
+    ghost use Rattle.std.specs.Prelude.{◌≡◌};
+    ghost use Rattle.cfi_aux.specs.Module.{fault_of};
+
+    ghost from_gives = { λ fault e. e ≡ fault_of fault };
+
+    fn from(fault: TypeFault) -> AuxFault {
+        match fault {
+            TypeFault::Memory => AuxFault::Memory,
+            _ => AuxFault::Types(fault),
+        }
+    }
+}
+
 impl From<AllocError> for AuxFault {
     ghost from_gives = { λ _ e. e ≡ Memory };
 

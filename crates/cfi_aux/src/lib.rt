@@ -10,6 +10,7 @@ mod fault;
 mod format;
 mod function;
 mod items;
+mod modules;
 mod name;
 mod reading;
 mod records;
@@ -21,6 +22,7 @@ pub use format::{
     CALL, MAX_BRANCHES, MAX_ENTRIES, MAX_FUNCTIONS, MAX_NAME, RETURN, SWITCH, TAIL, VERSION,
 };
 pub use items::Items;
+pub use modules::{Module, module_of};
 pub use reading::read_records;
 pub use records::{Function, Kind, Records};
 pub use writing::{read_can_be_written, write_records, written_is_read};
