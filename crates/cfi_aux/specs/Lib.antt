@@ -3,3 +3,5 @@ pub mod Records
 pub mod Reading
 pub mod Faults
 pub mod Module
+pub mod Sound
+pub mod Placed

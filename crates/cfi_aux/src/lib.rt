@@ -12,6 +12,7 @@ mod function;
 mod items;
 mod modules;
 mod name;
+mod placed;
 mod reading;
 mod records;
 mod word;
@@ -23,6 +24,7 @@ pub use format::{
 };
 pub use items::Items;
 pub use modules::{Module, module_of};
+pub use placed::{Placed, PlacedFunction, address_of, exports, is_global};
 pub use reading::read_records;
 pub use records::{Function, Kind, Records};
 pub use writing::{read_can_be_written, write_records, written_is_read};

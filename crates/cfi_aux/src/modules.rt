@@ -6,6 +6,7 @@ ghost use Rattle.cfi_types.specs.Spelling.{AreTypes, spelling};
 ghost use Rattle.cfi_types.specs.Reading.{types_in};
 ghost use Rattle.cfi_aux.specs.declared.modules.Module.{Module};
 ghost use Rattle.cfi_aux.specs.Reading.{Gives};
+ghost use Rattle.cfi_aux.specs.Sound.{IsSoundObject, IsSoundModule};
 ghost use Rattle.cfi_aux.specs.Module.{AreSpelled, IsModuleOf, as_types, parts_in, module_in};
 
 use crate::fault::AuxFault;
@@ -65,6 +66,8 @@ fn whole(alloc: Global, object: Object) -> Result<Module, AuxFault>
 pub fn module_of(alloc: Global, object: Object) -> Result<Module, AuxFault>
     // The module is the object's.
     ensures ok { IfOk result (IsModuleOf object) }
+    // It breaks no rule that its object does not.
+    ensures sound { IsSoundObject object → IfOk result IsSoundModule }
     // Where there is such a module, it is the answer.
     ensures only { (m : Module) → IsModuleOf object m → Gives (λ found. found) result (Ok m) }
     // Which fault it is.

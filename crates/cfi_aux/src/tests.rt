@@ -1,9 +1,9 @@
-ghost use Rattle.std.specs.Prelude.{IfOk};
-ghost use Rattle.cfi_types.specs.Spelling.{AreTypes};
+ghost use Rattle.std.specs.Prelude.{◌<◌, ◌^◌, All, IfOk, OnOk};
+ghost use Rattle.cfi_aux.specs.Placed.{address_of};
 
 use super::*;
-use cfi_types::{TypeFault, TypeTable, read_types};
-use elf_read::Name;
+use cfi_types::{TypeFault, read_types};
+use elf_read::{Binding, Bytes, Name, Object, Place, Relocs, Symbol, Symbols};
 use std::alloc::{AllocError, Global};
 use std::process::Abort;
 use std::test::*;
@@ -134,4 +134,121 @@ fn bad_branches(rt: HostRuntime) {
     for (words, fault) in rows {
         refuses(&rt, rt.alloc(), words, fault);
     }
+}
+
+fn bytes(alloc: Global, items: &[u8]) -> Result<Bytes, AllocError> {
+    Ok(Bytes::from_vec(Vec::from_slice(alloc, items)?))
+}
+
+fn add(
+    alloc: Global,
+    symbols: &mut Vec<Symbol>,
+    name: &str,
+    binding: Binding,
+    place: Place,
+    value: u32,
+) -> Result<(), AllocError>
+    requires small { value < 1000 }
+    requires before { All (λ s. address_of 16 0x40000000 s < 2 ^ 32) symbols.old.items }
+    ensures { OnOk result (All (λ s. address_of 16 0x40000000 s < 2 ^ 32) symbols.new.items) }
+{
+    let name = Name::from_string(String::from_str(alloc, name)?);
+    symbols.push(Symbol {
+        name,
+        binding,
+        place,
+        value,
+    })?;
+    Ok(())
+}
+
+// An object of one word of text, `jalr x0,0(x1)`, and these sections.
+fn object(
+    alloc: Global,
+    types: Option<&[u8]>,
+    records: Option<&[u8]>,
+) -> Result<Object, AllocError>
+    ensures { IfOk result (λ object. All (λ s. address_of 16 0x40000000 s < 2 ^ 32) object.symbols) }
+{
+    let types = match types {
+        Some(items) => Some(bytes(alloc, items)?),
+        None => None,
+    };
+    let records = match records {
+        Some(items) => Some(bytes(alloc, items)?),
+        None => None,
+    };
+    let mut symbols = Vec::new(alloc);
+    add(alloc, &mut symbols, "g", Binding::Local, Place::Text, 0)?;
+    add(alloc, &mut symbols, "d", Binding::Weak, Place::Data, 4)?;
+    add(
+        alloc,
+        &mut symbols,
+        "u",
+        Binding::Global,
+        Place::Undefined,
+        9,
+    )?;
+    add(
+        alloc,
+        &mut symbols,
+        "a",
+        Binding::Global,
+        Place::Absolute,
+        7,
+    )?;
+    add(alloc, &mut symbols, "f", Binding::Global, Place::Text, 0)?;
+    Ok(Object {
+        text: bytes(alloc, &[0x67, 0x80, 0, 0])?,
+        static_data: bytes(alloc, &[0; 8])?,
+        symbols: Symbols::from_vec(symbols),
+        relocs: Relocs::from_vec(Vec::new(alloc)),
+        types,
+        records,
+    })
+}
+
+#[test]
+fn a_module(rt: HostRuntime) -> Result<(), Fail> {
+    let object = object(rt.alloc(), Some(&TYPES), Some(&RECORDS))?;
+    let module = module_of(rt.alloc(), object)?;
+    assert_eq!(rt;
+        module.object.text.as_slice(),
+        [0x67, 0x80, 0, 0].as_slice()
+    );
+    assert_eq!(rt; module.types.nodes().len(), 2);
+    let functions = module.records.functions.as_slice();
+    assert_eq!(rt; functions.len(), 1);
+    assert_eq!(rt; functions[0].name.as_str(), "f");
+    assert!(rt; is_global(&module.object.symbols, &functions[0]));
+    // The text begins at address 0x40.
+    let list = exports(rt.alloc(), &module.object.symbols, 16, 0x4000_0000)?;
+    let want = [("d", 0x4000_0004), ("a", 7), ("f", 0x40)];
+    assert_eq!(rt; list.as_slice().len(), want.len());
+    for (found, (name, address)) in list.as_slice().iter().zip(want) {
+        assert_eq!(rt; found.0.as_str(), name);
+        assert_eq!(rt; found.1, address);
+    }
+    Ok(())
+}
+
+#[test]
+fn no_module(rt: HostRuntime) -> Result<(), Fail> {
+    let cut: &[u8] = &TYPES[..23];
+    let (types, records): (&[u8], &[u8]) = (&TYPES, &RECORDS);
+    let rows = [
+        (None, Some(records), AuxFault::NoRecords),
+        (Some(types), None, AuxFault::NoRecords),
+        (Some(cut), None, AuxFault::NoRecords),
+        (Some(cut), Some(types), AuxFault::Types(TypeFault::Short)),
+        (Some(types), Some(types), AuxFault::Version),
+    ];
+    for (types, records, fault) in rows {
+        let object = object(rt.alloc(), types, records)?;
+        match module_of(rt.alloc(), object) {
+            Ok(_) => assert!(rt; false, "no module"),
+            Err(found) => assert_eq!(rt; found, fault),
+        }
+    }
+    Ok(())
 }
