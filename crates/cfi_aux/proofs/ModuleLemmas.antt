@@ -1,8 +1,7 @@
 -- The parts of a module are read again.
-use Rattle.std.proofs.Common.{◌≡◌, ℕ, List, Option, Some, Result, Ok, refl, sym, ap, ◌∙◌}
+use Rattle.std.proofs.Common.{◌≡◌, ℕ, List, Option, Some, Ok, refl, sym, ap, ◌∙◌}
 use Rattle.elf_read.specs.declared.object.Object.{Object}
 use Rattle.cfi_types.specs.Node.{Node}
-use Rattle.cfi_types.specs.Reading.{types_in}
 use Rattle.cfi_types.specs.Spelling as spelled
 use Rattle.cfi_types.proofs.Tables.{types_again}
 use Rattle.cfi_aux.specs.declared.modules.Module.{Module}

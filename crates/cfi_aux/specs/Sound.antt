@@ -1,7 +1,7 @@
 -- What calls that take an object, a type table or a module may take for granted of it. For a type table it is
 -- `AreTypes`: few nodes, each as its kind wants it, and each node that one names is there.
-use Rattle.std.specs.Prelude.{◌≡◌, ℕ, ◌+◌, ◌%◌, ◌≤◌, ◌<◌, Bool, true, false, not, ◌||◌, ◌&&◌, ◌==◌, List, length, All, Option, Some, None}
-use Rattle.std.specs.List.{list_any, IsDistinct}
+use Rattle.std.specs.Prelude.{◌≡◌, ℕ, ◌+◌, ◌%◌, ◌≤◌, ◌<◌, Bool, true, false, not, ◌||◌, ◌&&◌, ◌==◌, length, All, Option, Some, None}
+use Rattle.std.specs.List.{list_any, AllPairs}
 use Rattle.std.specs.Str.{bytes_eq, is_utf8}
 use Rattle.elf_read.specs.declared.object.Object.{Object}
 use Rattle.elf_read.specs.declared.object.Symbol.{Symbol}
@@ -82,7 +82,7 @@ pub record IsSoundReloc (object : Object) (reloc : Reloc) : Type 0 where
 pub record IsSoundObject (object : Object) : Type 0 where
   pub words : length object.text % 4 ≡ 0
   pub symbols : All (IsSoundSymbol object) object.symbols
-  pub definitions : IsDistinct are_rivals object.symbols
+  pub definitions : AllPairs (λ a b. are_rivals a b ≡ false) object.symbols
   pub relocs : All (IsSoundReloc object) object.relocs
 
 -- a module's object and type table break no rule

@@ -107,9 +107,8 @@ pub fn flags_from(number: u32, bytes: &[u8]) -> Result<(u32, &[u8]), AuxFault>
 /// The number of bytes of the name in record `number`.
 #[tactic(auto, unfolding(crate::specs::Reading::word_where))]
 pub fn name_length_from(number: u32, bytes: &[u8]) -> Result<(u32, &[u8]), AuxFault>
-    ensures read { Gives (λ x. (x.0, x.1.now)) result
+    ensures { Gives (λ x. (x.0, x.1.now)) result
         (word_where is_name_length (BadRecord number) bytes.now) }
-    ensures within { IfOk result (λ x. x.0 ≤ 255) }
 {
     let (word, rest) = word_from(bytes)?;
     if !is_name_length(word) {
