@@ -9,3 +9,6 @@ pub mod Branches
 pub mod Whole
 pub mod Appends
 pub mod ModuleLemmas
+pub mod JoinedLists
+pub mod SoundSymbols
+pub mod SoundRelocs
