@@ -87,7 +87,8 @@ tails_agree types kind n is one = record {
 }
 
 switches_agree : (types : List Node) (kind n : ℕ) → kind ≡ SWITCH
-    → Agree (List ℕ) Kind (flat_map word) (AreGood (Passes is_whole) n) body_bytes (IsBody types kind n) Switch places_of
+    → Agree (List ℕ) Kind (flat_map word) (AreGood (Passes is_whole) n) body_bytes (IsBody types kind n) Switch
+    places_of
 switches_agree types kind n is = record {
   spelled = λ places h. refl;
   viewed = λ places h. record { number = sym is; count = h.0; words = h.1 };

@@ -37,8 +37,8 @@ each_begins one first count front bytes empty =
     let all : first + count - first ≡ count = omega arith in
     rw (all, empty) (nothing (each one first count bytes))
 
-pub each_go_on : {A : Type 0} (one : ℕ → Reader A) (end i : ℕ) (front : List A) (bytes : List ℕ) (x : A) (after : List ℕ)
-    (total : Result (List A × List ℕ) AuxFault) → i < end → one i bytes ≡ Ok (x, after)
+pub each_go_on : {A : Type 0} (one : ℕ → Reader A) (end i : ℕ) (front : List A) (bytes : List ℕ) (x : A)
+    (after : List ℕ) (total : Result (List A × List ℕ) AuxFault) → i < end → one i bytes ≡ Ok (x, after)
     → with_front front (each one i (end - i) bytes) ≡ total
     → with_front (front ++ x ∷ []) (each one (i + 1) (end - (i + 1)) after) ≡ total
 unfolding each

@@ -92,7 +92,8 @@ functions_agree types = record {
   view_back = λ f h. ap (λ (b : Bool). record f { taken = b }) (flag_back f.taken);
 }
 
-pub Reads-function : (types : List Node) (k : ℕ) → Reads Function function_bytes (IsFunction types) (function_at types k)
+pub Reads-function : (types : List Node) (k : ℕ)
+    → Reads Function function_bytes (IsFunction types) (function_at types k)
 unfolding function_at
 Reads-function types k =
     let bad = BadRecord k in

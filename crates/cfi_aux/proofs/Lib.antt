@@ -10,5 +10,6 @@ pub mod Whole
 pub mod Appends
 pub mod ModuleLemmas
 pub mod JoinedLists
+pub mod SoundNames
 pub mod SoundSymbols
 pub mod SoundRelocs

@@ -94,7 +94,8 @@ zeroes_take : (k count : ℕ) (bytes : List ℕ) (x : (Unit {0}) × List ℕ) �
     → Takes bytes (replicate count 0) x.1
 unfolding zeroes_at
 zeroes_take k zero bytes x fits e =
-    subst (λ (y : (Unit {0}) × List ℕ). Takes bytes [] y.1) (ok_is (tt, bytes) x e) (record { parts = refl; rest_fits = fits })
+    subst (λ (y : (Unit {0}) × List ℕ). Takes bytes [] y.1) (ok_is (tt, bytes) x e)
+    (record { parts = refl; rest_fits = fits })
 zeroes_take k (suc count) [] x fits e = absurd cc
 zeroes_take k (suc count) (byte ∷ bytes) x fits e =
     let g = unless_bad_ok (eqb byte 0) (BadRecord k) (zeroes_at k count bytes) x e in
@@ -102,7 +103,8 @@ zeroes_take k (suc count) (byte ∷ bytes) x fits e =
     let others = zeroes_take k count bytes x (IsBytes-drop 1 (byte ∷ bytes) fits) g.1 in
     record { parts = rw is (ap (λ (s : List ℕ). 0 ∷ s) others.parts); rest_fits = others.rest_fits }
 
-zeroes_again : (k count : ℕ) (x : Unit {0}) (rest : List ℕ) → zeroes_at k count (replicate count 0 ++ rest) ≡ Ok (x, rest)
+zeroes_again : (k count : ℕ) (x : Unit {0}) (rest : List ℕ)
+    → zeroes_at k count (replicate count 0 ++ rest) ≡ Ok (x, rest)
 unfolding zeroes_at
 zeroes_again k zero x rest = refl
 zeroes_again k (suc count) x rest = zeroes_again k count x rest

@@ -66,7 +66,8 @@ good_rela bytes s i sound within entry =
     let rela = rela_at bytes s i in
     let target = (section_at bytes s).info in
     let good = sound.places.kinds.relas.good s within i entry in
-    let two = or_false (is_bad_reference bytes rela || is_outside bytes target rela) (is_misplaced bytes target rela) good in
+    let two = or_false (is_bad_reference bytes rela || is_outside bytes target rela) (is_misplaced bytes target rela)
+    good in
     let one = or_false (is_bad_reference bytes rela) (is_outside bytes target rela) two.0 in
     record { reference = one.0; inside = one.1; placed = two.1 }
 
@@ -82,7 +83,8 @@ reference_good bytes s i good some =
     let symbol = symbol_of (rela_at bytes s i) in
     let named : not (symbol == 0) ≡ true = rw some refl in
     let parts = or_false (not (nat_lt symbol (symbol_count bytes))) (is_left_out bytes symbol)
-    (and_false (not (symbol == 0)) (not (nat_lt symbol (symbol_count bytes)) || is_left_out bytes symbol) named good.reference) in
+    (and_false (not (symbol == 0)) (not (nat_lt symbol (symbol_count bytes)) || is_left_out bytes symbol) named
+    good.reference) in
     (ltb-true _ _ (not-false _ parts.0), parts.1)
 
 symbol_there : (bytes : List ℕ) (object : Object) (s i : ℕ) → IsGoodRela bytes s i
@@ -120,13 +122,15 @@ data_rules bytes s i good is =
     and_false (is_data bytes target) (is_of_instruction (kind_of rela)) is second
 
 field_inside : (bytes : List ℕ) (s i : ℕ) → IsGoodRela bytes s i
-    → (rela_at bytes s i).offset + field_size (kind_of (rela_at bytes s i)) ≤ (section_at bytes (section_at bytes s).info).size
+    → (rela_at bytes s i).offset + field_size (kind_of (rela_at bytes s i)) ≤ (section_at bytes
+    (section_at bytes s).info).size
 unfolding is_outside
 field_inside bytes s i good = ltb-false _ _ good.inside
 
 text_field : (bytes : List ℕ) (object : Object) (s i : ℕ) → IsSound bytes → HasSizes bytes object → IsGoodRela bytes s i
     → (section_at bytes s).info < section_count bytes → is_text bytes (section_at bytes s).info ≡ true
-    → (start_of bytes (section_at bytes s).info + (rela_at bytes s i).offset + field_size (kind_of (rela_at bytes s i)) ≤ length object.text)
+    → (start_of bytes (section_at bytes s).info + (rela_at bytes s i).offset + field_size (kind_of (rela_at bytes s i))
+    ≤ length object.text)
     × ((start_of bytes (section_at bytes s).info + (rela_at bytes s i).offset) % 4 ≡ 0)
 unfolding start_of text_size
 text_field bytes object s i sound sizes good there is =
@@ -141,7 +145,8 @@ text_field bytes object s i sound sizes good there is =
 data_field : (bytes : List ℕ) (object : Object) (s i : ℕ) → HasSizes bytes object → IsGoodRela bytes s i
     → (section_at bytes s).info < section_count bytes → is_text bytes (section_at bytes s).info ≡ false
     → is_data bytes (section_at bytes s).info ≡ true
-    → start_of bytes (section_at bytes s).info + (rela_at bytes s i).offset + field_size (kind_of (rela_at bytes s i)) ≤ length object.static_data
+    → start_of bytes (section_at bytes s).info + (rela_at bytes s i).offset + field_size (kind_of (rela_at bytes s i))
+    ≤ length object.static_data
 unfolding start_of
 data_field bytes object s i sizes good there other is =
     let target = (section_at bytes s).info in
@@ -151,7 +156,8 @@ data_field bytes object s i sizes good there other is =
 
 has_field : (bytes : List ℕ) (object : Object) (s i : ℕ) → IsSound bytes → HasSizes bytes object → IsGoodRela bytes s i
     → (section_at bytes s).info < section_count bytes → is_loaded bytes (section_at bytes s).info ≡ true
-    → HasField object (area_of bytes s) (kind_of (rela_at bytes s i)) (start_of bytes (section_at bytes s).info + (rela_at bytes s i).offset)
+    → HasField object (area_of bytes s) (kind_of (rela_at bytes s i))
+    (start_of bytes (section_at bytes s).info + (rela_at bytes s i).offset)
 unfolding area_of
 has_field bytes object s i sound sizes good there loaded =
     elim (cases_Bool (is_text bytes (section_at bytes s).info)) [
@@ -164,7 +170,8 @@ has_field bytes object s i sound sizes good there loaded =
     ]
 
 reloc_sound : (bytes : List ℕ) (object : Object) (s i : ℕ) → IsSound bytes → HasSizes bytes object
-    → length object.symbols ≡ symbol_number bytes (symbol_count bytes) → s < section_count bytes → i < rela_count bytes s
+    → length object.symbols ≡ symbol_number bytes (symbol_count bytes) → s < section_count bytes
+    → i < rela_count bytes s
     → is_dropped (kind_of (rela_at bytes s i)) ≡ false → IsSoundReloc object (kept_reloc bytes s i)
 unfolding kept_reloc
 reloc_sound bytes object s i sound sizes count within entry kept =
@@ -180,7 +187,8 @@ reloc_sound bytes object s i sound sizes count within entry kept =
 -- ---- all of them
 
 one_reloc : (bytes : List ℕ) (object : Object) (s i : ℕ) → IsSound bytes → HasSizes bytes object
-    → length object.symbols ≡ symbol_number bytes (symbol_count bytes) → s < section_count bytes → i < rela_count bytes s
+    → length object.symbols ≡ symbol_number bytes (symbol_count bytes) → s < section_count bytes
+    → i < rela_count bytes s
     → All (IsSoundReloc object) (reloc_of bytes s i)
 unfolding reloc_of
 one_reloc bytes object s i sound sizes count within entry =

@@ -7,7 +7,8 @@ use Rattle.cfi_aux.proofs.branch.branches_from.Goals as goal
 
 pub loop-number-init : goal.loop-number-init
 loop-number-init c =
-    each_begins (branch_at c.args.types.now) c.args.first c.args.count c.new-branches.result.items c.args.bytes.now (search rules)
+    each_begins (branch_at c.args.types.now) c.args.first c.args.count c.new-branches.result.items
+    c.args.bytes.now (search rules)
 
 pub returns-in_err-branch : goal.returns-in_err-branch
 returns-in_err-branch c =

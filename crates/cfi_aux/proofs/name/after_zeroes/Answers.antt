@@ -10,8 +10,8 @@ returns-in_default c =
 pub returns-then-byte-ne0 : goal.returns-then-byte-ne0
 returns-then-byte-ne0 c =
     zeroes_bad c.args.number c.args.count c.loop.counter c.loop.rest.now c.in-Some.byte.now c.in-Some.after.now
-    (zeroes_at c.args.number c.args.count c.args.bytes.now) c.loop-test.true c.in-Some.ensures.cases.0 c.if-byte-ne0.true
-    c.loop.invariant
+    (zeroes_at c.args.number c.args.count c.args.bytes.now) c.loop-test.true c.in-Some.ensures.cases.0
+    c.if-byte-ne0.true c.loop.invariant
 
 pub loop-preserved : goal.loop-preserved
 loop-preserved c =
