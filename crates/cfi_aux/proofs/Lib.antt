@@ -1,0 +1,15 @@
+pub mod Each
+pub mod Zeroes
+pub mod Text
+pub mod Formats
+pub mod Words
+pub mod Lists
+pub mod Functions
+pub mod Branches
+pub mod Whole
+pub mod Appends
+pub mod ModuleLemmas
+pub mod JoinedLists
+pub mod SoundNames
+pub mod SoundSymbols
+pub mod SoundRelocs

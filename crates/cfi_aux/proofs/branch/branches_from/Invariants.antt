@@ -1,0 +1,11 @@
+use Rattle.std.proofs.Common.{◌≡◌, ◌-◌}
+use Rattle.cfi_aux.specs.Reading.{each}
+use Rattle.cfi_aux.specs.Faults.{branch_at}
+use Rattle.cfi_aux.proofs.Each.{with_front}
+use Rattle.cfi_aux.proofs.branch.branches_from.Given as goal
+
+-- the branches so far and what is still read are what all reading gives
+abbrev pub invariant-loop-number : goal.invariant-loop-number
+invariant-loop-number l =
+    with_front l.branches.items (each (branch_at l.types) l.number (l.number-end - l.number) l.rest) ≡ each (branch_at
+    l.types) l.first l.count l.bytes

@@ -1,0 +1,7 @@
+pub mod Format
+pub mod Records
+pub mod Reading
+pub mod Faults
+pub mod Module
+pub mod Sound
+pub mod Placed

@@ -1,0 +1,52 @@
+-- Which module an object is: its records are read with its types, and both sections are used up.
+use Rattle.std.specs.Prelude.{◌≡◌, ℕ, List, Option, Some, None, Result, Ok, Err}
+use Rattle.elf_read.specs.declared.object.Object.{Object}
+use Rattle.cfi_types.specs.declared.fault.TypeFault.{TypeFault}
+use Rattle.cfi_types.specs.declared.fault.TypeFault.TheVariants as faults
+use Rattle.cfi_types.specs.Node.{Node}
+use Rattle.cfi_types.specs.Spelling as spelled
+use Rattle.cfi_types.specs.Reading.{types_in}
+use Rattle.cfi_aux.specs.declared.fault.AuxFault.{AuxFault}
+use Rattle.cfi_aux.specs.declared.fault.AuxFault.TheVariants.{NoRecords, Types, Memory}
+use Rattle.cfi_aux.specs.declared.modules.Module.{Module}
+use Rattle.cfi_aux.specs.declared.records.Records.{Records}
+use Rattle.cfi_aux.specs.Records.{AreRecords, spelling}
+use Rattle.cfi_aux.specs.Reading.{◌>>=◌}
+use Rattle.cfi_aux.specs.Faults.{records_in}
+
+-- a type table and records, spelled by the two sections of the object
+pub record AreSpelled (object : Object) (types : List Node) (records : Records) : Type 0 where
+  pub table : spelled.AreTypes types
+  pub types_spelled : object.types ≡ Some (spelled.spelling types)
+  pub good : AreRecords types records
+  pub records_spelled : object.records ≡ Some (spelling records)
+
+-- the object, with the type table and the records that its two sections spell
+pub record IsModuleOf (object : Object) (m : Module) : Type 0 where
+  pub object_kept : m.object ≡ object
+  pub parts : AreSpelled object m.types m.records
+
+-- a fault of a type table, as one of a module; want of memory is no fault of the table
+abbrev pub fault_of : TypeFault → AuxFault
+fault_of faults.Memory = Memory
+fault_of (faults.BadNode k) = Types (faults.BadNode k)
+fault_of (faults.BadIndex k) = Types (faults.BadIndex k)
+fault_of faults.Short = Types faults.Short
+
+abbrev pub as_types : Result (List Node) TypeFault → Result (List Node) AuxFault
+as_types (Ok table) = Ok table
+as_types (Err fault) = Err (fault_of fault)
+
+-- what the two sections give, or what stands first: a section is missing, the types have a fault, the records have one
+abbrev pub parts_by : (types records : Option (List ℕ)) → Result (List Node × Records) AuxFault
+parts_by None records = Err NoRecords
+parts_by (Some types) None = Err NoRecords
+parts_by (Some types) (Some records) =
+    as_types (types_in types) >>= λ table. records_in table records >>= λ found. Ok (table, found)
+
+abbrev pub parts_in : Object → Result (List Node × Records) AuxFault
+parts_in object = parts_by object.types object.records
+
+-- the module that they give with the object
+abbrev pub module_in : Object → Result Module AuxFault
+module_in object = parts_in object >>= λ parts. Ok (record { object = object; types = parts.0; records = parts.1 })

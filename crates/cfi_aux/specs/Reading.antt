@@ -1,0 +1,62 @@
+-- Reading from the front of bytes: the value and the bytes after it, or the fault that is met first.
+use Rattle.std.specs.Prelude.{◌≡◌, ℕ, zero, suc, List, [], ◌∷◌, length, take, drop, Bool, nat_lt, if◌then◌else◌, Result, Ok, Err}
+use Rattle.std.specs.Int.{w32, from_le_bytes}
+use Rattle.cfi_aux.specs.declared.fault.AuxFault.{AuxFault}
+use Rattle.cfi_aux.specs.declared.fault.AuxFault.TheVariants.{NoRecords, Types, Version, Short, BadRecord, Memory}
+
+-- ---- what a call gives
+
+-- a call that failed met this fault, unless memory ran out
+abbrev pub Fails : {Y : Type 0} → AuxFault → (due : Result Y AuxFault) → Type 0
+Fails Memory due = Unit {0}
+Fails NoRecords due = due ≡ Err NoRecords
+Fails (Types fault) due = due ≡ Err (Types fault)
+Fails Version due = due ≡ Err Version
+Fails Short due = due ≡ Err Short
+Fails (BadRecord k) due = due ≡ Err (BadRecord k)
+
+-- what a call answered, seen by view, is what is due, unless memory ran out
+abbrev pub Gives : {X Y : Type 0} → (X → Y) → Result X AuxFault → (due : Result Y AuxFault) → Type 0
+Gives view (Ok x) due = due ≡ Ok (view x)
+Gives view (Err e) due = Fails e due
+
+-- ---- readers
+
+abbrev pub Reader : Type 0 → Type 0
+Reader X = List ℕ → Result (X × List ℕ) AuxFault
+
+-- goes on with what was read
+infixl 10 ◌>>=◌
+abbrev pub ◌>>=◌ : {A B : Type 0} → Result A AuxFault → (A → Result B AuxFault) → Result B AuxFault
+(Ok x) >>= f = f x
+(Err e) >>= f = Err e
+
+-- goes on where a test holds, and else has the fault
+abbrev pub unless_bad : {A : Type 0} → Bool → AuxFault → Result A AuxFault → Result A AuxFault
+unless_bad fits fault on = if fits then on else Err fault
+
+-- a word
+abbrev pub word_at : Reader ℕ
+word_at bytes = if nat_lt (length bytes) 4 then Err Short else Ok (from_le_bytes w32 (take 4 bytes), drop 4 bytes)
+
+-- a word that passes a test
+unfoldable pub word_where : (test : ℕ → Bool) → AuxFault → Reader ℕ
+word_where test fault bytes = word_at bytes >>= λ w. unless_bad (test w.0) fault (Ok w)
+
+-- one, and another that depends on it
+unfoldable pub and_with : {A B : Type 0} → Reader A → (A → Reader B) → Reader (A × B)
+and_with first second bytes = first bytes >>= λ a. second a.0 a.1 >>= λ b. Ok ((a.0, b.0), b.1)
+
+-- one, and another
+unfoldable pub and_also : {A B : Type 0} → Reader A → Reader B → Reader (A × B)
+and_also first second bytes = first bytes >>= λ a. second a.1 >>= λ b. Ok ((a.0, b.0), b.1)
+
+-- what is read, seen as another value
+unfoldable pub seen_as : {A B : Type 0} → (A → B) → Reader A → Reader B
+seen_as view first bytes = first bytes >>= λ a. Ok (view a.0, a.1)
+
+-- `count` of them, with the numbers from `at` on
+unfoldable pub each : {A : Type 0} → (ℕ → Reader A) → (at count : ℕ) → Reader (List A)
+each one at zero bytes = Ok ([], bytes)
+each one at (suc count) bytes =
+    one at bytes >>= λ first. each one (suc at) count first.1 >>= λ others. Ok (first.0 ∷ others.0, others.1)

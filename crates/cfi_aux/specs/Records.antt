@@ -1,0 +1,86 @@
+-- What records are, and the bytes of each: words with the version, the number of functions and the number of branches,
+-- then each function, then each branch. A word is four bytes, the lowest first.
+use Rattle.std.specs.Prelude.{ℕ, ◌-◌, ◌%◌, ◌<◌, ◌≤◌, ◌^◌, Bool, if◌then◌else◌, List, [], ◌∷◌, ◌++◌, length, replicate, IsTrue, All}
+use Rattle.std.specs.List.{flat_map, AllByRecursion}
+use Rattle.std.specs.Str.{is_utf8}
+use Rattle.cfi_types.specs.Node.{Node}
+use Rattle.cfi_types.specs.Spelling.{word}
+use Rattle.cfi_aux.specs.declared.format.TheConstants.{VERSION, MAX_FUNCTIONS, MAX_BRANCHES, CALL, TAIL, RETURN, SWITCH}
+use Rattle.cfi_aux.specs.declared.records.Function.{Function}
+use Rattle.cfi_aux.specs.declared.records.Records.{Records}
+use Rattle.cfi_aux.specs.declared.records.Kind.{Kind}
+use Rattle.cfi_aux.specs.declared.records.Kind.TheVariants.{Call, Tail, Return, Switch}
+use Rattle.cfi_aux.specs.Format.{is_whole, is_length, is_name_length, is_func, has_count}
+
+-- how many zero bytes follow n bytes up to the next multiple of four
+abbrev pub padding : ℕ → ℕ
+padding n = (4 - n % 4) % 4
+
+-- a name: a word with the number of its bytes, the bytes, and zero bytes up to a multiple of four
+abbrev pub name_bytes : List ℕ → List ℕ
+name_bytes name = word (length name) ++ (name ++ replicate (padding (length name)) 0)
+
+abbrev pub flag_of : (taken : Bool) → ℕ
+flag_of taken = if taken then 1 else 0
+
+abbrev pub function_bytes : Function → List ℕ
+function_bytes f = word f.offset ++ (word f.length ++ (word f.ty ++ (word (flag_of f.taken) ++ name_bytes f.name)))
+
+-- a branch's kind, and its words: a node, or the places of a switch
+abbrev pub number_of : Kind → ℕ
+number_of (Call node) = CALL
+number_of (Tail node) = TAIL
+number_of Return = RETURN
+number_of (Switch places) = SWITCH
+
+abbrev pub words_of : Kind → List ℕ
+words_of (Call node) = node ∷ []
+words_of (Tail node) = node ∷ []
+words_of Return = []
+words_of (Switch places) = places
+
+abbrev pub branch_bytes : Kind → List ℕ
+branch_bytes b = word (number_of b) ++ (word (length (words_of b)) ++ flat_map word (words_of b))
+
+abbrev pub spelling : Records → List ℕ
+spelling r = word VERSION ++ ((word (length r.functions) ++ word (length r.branches))
+    ++ (flat_map function_bytes r.functions ++ flat_map branch_bytes r.branches))
+
+-- a number that a word has
+abbrev pub Fits : ℕ → Type 0
+Fits n = n < 2 ^ 32
+
+-- a name has 1 to 255 bytes of UTF-8
+pub record IsName (name : List ℕ) : Type 0 where
+  pub count : IsTrue (is_name_length (length name))
+  pub text : IsTrue (is_utf8 name)
+
+-- a function begins at an instruction, has whole ones, at least one, and its type is one of functions
+pub record IsFunction (types : List Node) (f : Function) : Type 0 where
+  pub offset : Fits f.offset × IsTrue (is_whole f.offset)
+  pub length : Fits f.length × IsTrue (is_length f.length)
+  pub ty : Fits f.ty × IsTrue (is_func types f.ty)
+  pub name : IsName f.name
+
+-- a word of a branch: the type of a call and of a tail call is one of functions, and a switch leads to instructions
+abbrev pub IsBranchWord : (types : List Node) → Kind → ℕ → Type 0
+IsBranchWord types (Switch places) n = Fits n × IsTrue (is_whole n)
+IsBranchWord types b n = Fits n × IsTrue (is_func types n)
+
+pub record IsBranch (types : List Node) (b : Kind) : Type 0 where
+  pub count : IsTrue (has_count (number_of b) (length (words_of b)))
+  pub words : AllByRecursion (IsBranchWord types b) (words_of b)
+
+-- records: not too many, each as it is wanted
+pub record AreRecords (types : List Node) (r : Records) : Type 0 where
+  pub function_count : length r.functions ≤ MAX_FUNCTIONS
+  pub branch_count : length r.branches ≤ MAX_BRANCHES
+  pub functions : AllByRecursion (IsFunction types) r.functions
+  pub branches : AllByRecursion (IsBranch types) r.branches
+
+-- records whose numbers of functions, of branches, of a name's bytes and of a branch's words have words of four bytes
+pub record CanBeWritten (r : Records) : Type 0 where
+  pub functions : length r.functions < 2 ^ 32
+  pub branches : length r.branches < 2 ^ 32
+  pub names : All (λ f. length f.name < 2 ^ 32) r.functions
+  pub words : All (λ b. length (words_of b) < 2 ^ 32) r.branches

@@ -1,0 +1,97 @@
+//! Records of branches.
+
+ghost use Rattle.std.specs.Prelude.{◌≡◌, ◌≤◌};
+ghost use Rattle.cfi_aux.specs.Reading.{Gives, each};
+ghost use Rattle.cfi_aux.specs.Faults.{place_at, body_at, branch_at};
+
+use crate::fault::AuxFault;
+use crate::format::{CALL, MAX_BRANCHES, MAX_FUNCTIONS, RETURN, TAIL};
+use crate::items::Items;
+use crate::records::Kind;
+use crate::word::{func_from, kind_from, place_from, word_count_from};
+use cfi_types::TypeTable;
+use std::alloc::Global;
+
+fn places_from(
+    alloc: Global,
+    number: u32,
+    count: u32,
+    bytes: &[u8],
+) -> Result<(Vec<u32>, &[u8]), AuxFault>
+    ensures { Gives (λ x. (x.0.items, x.1.now)) result
+        (each (place_at number) 0 count bytes.now) }
+{
+    let mut places = Vec::new(alloc);
+    let mut rest = bytes;
+    for _i in 0..count {
+        let (place, after) = place_from(number, rest)?;
+        places.push(place)?;
+        rest = after;
+    }
+    Ok((places, rest))
+}
+
+#[tactic(auto, unfolding(crate::specs::Faults::body_at, crate::specs::Reading::seen_as))]
+fn body_from<'a>(
+    alloc: Global,
+    types: &TypeTable,
+    number: u32,
+    kind: u32,
+    count: u32,
+    bytes: &'a [u8],
+) -> Result<(Kind, &'a [u8]), AuxFault>
+    ensures { Gives (λ x. (x.0, x.1.now)) result (body_at types.now number kind count bytes.now) }
+{
+    match kind {
+        CALL => {
+            let (node, rest) = func_from(types, number, bytes)?;
+            Ok((Kind::Call(node), rest))
+        }
+        TAIL => {
+            let (node, rest) = func_from(types, number, bytes)?;
+            Ok((Kind::Tail(node), rest))
+        }
+        RETURN => Ok((Kind::Return, bytes)),
+        _ => {
+            let (places, rest) = places_from(alloc, number, count, bytes)?;
+            Ok((Kind::Switch(Items::from_vec(places)), rest))
+        }
+    }
+}
+
+#[tactic(auto, unfolding(crate::specs::Faults::branch_at, crate::specs::Reading::seen_as, crate::specs::Reading::and_with))]
+fn branch_from<'a>(
+    alloc: Global,
+    types: &TypeTable,
+    number: u32,
+    bytes: &'a [u8],
+) -> Result<(Kind, &'a [u8]), AuxFault>
+    ensures { Gives (λ x. (x.0, x.1.now)) result (branch_at types.now number bytes.now) }
+{
+    let (kind, rest) = kind_from(number, bytes)?;
+    let (count, rest) = word_count_from(kind, number, rest)?;
+    body_from(alloc, types, number, kind, count, rest)
+}
+
+/// The branches of the records from `first` on, `count` of them.
+pub fn branches_from<'a>(
+    alloc: Global,
+    types: &TypeTable,
+    first: u32,
+    count: u32,
+    bytes: &'a [u8],
+) -> Result<(Vec<Kind>, &'a [u8]), AuxFault>
+    requires functions { first ≤ MAX_FUNCTIONS }
+    requires branches { count ≤ MAX_BRANCHES }
+    ensures { Gives (λ x. (x.0.items, x.1.now)) result
+        (each (branch_at types.now) first count bytes.now) }
+{
+    let mut branches = Vec::new(alloc);
+    let mut rest = bytes;
+    for number in first..first + count {
+        let (branch, after) = branch_from(alloc, types, number, rest)?;
+        branches.push(branch)?;
+        rest = after;
+    }
+    Ok((branches, rest))
+}

@@ -1,0 +1,75 @@
+//! The numbers of the record section, and which words its records may have.
+
+ghost use Rattle.std.specs.Prelude.{◌≡◌};
+ghost use Rattle.cfi_aux.specs.Format.{is_whole, is_length, is_flag, is_name_length, is_func, has_count};
+
+use cfi_types::{FUNC, TypeTable};
+
+/// The first word of the section.
+pub const VERSION: u32 = 1;
+/// The greatest number of functions of an object.
+pub const MAX_FUNCTIONS: u32 = 16384;
+/// The greatest number of branches of an object.
+pub const MAX_BRANCHES: u32 = 4680;
+/// The greatest number of entries of a switch.
+pub const MAX_ENTRIES: u32 = 1024;
+/// The greatest number of bytes of a name.
+pub const MAX_NAME: u32 = 255;
+
+/// The kind of a branch that is an indirect call.
+pub const CALL: u32 = 0;
+/// The kind of a branch that is an indirect tail call.
+pub const TAIL: u32 = 1;
+/// The kind of a branch that is a return.
+pub const RETURN: u32 = 2;
+/// The kind of a branch that is the jump of a switch.
+pub const SWITCH: u32 = 3;
+
+/// The word counts bytes of whole instructions.
+pub fn is_whole(word: u32) -> bool
+    ensures { result ≡ is_whole word }
+{
+    word % 4 == 0
+}
+
+/// The word may be a function's length.
+pub fn is_length(word: u32) -> bool
+    ensures { result ≡ is_length word }
+{
+    word % 4 == 0 && word != 0
+}
+
+/// The word may be a function's flags.
+pub fn is_flag(word: u32) -> bool
+    ensures { result ≡ is_flag word }
+{
+    word <= 1
+}
+
+/// The word may be a name's number of bytes.
+pub fn is_name_length(word: u32) -> bool
+    ensures { result ≡ is_name_length word }
+{
+    1 <= word && word <= MAX_NAME
+}
+
+/// The word is the number of a node that is there and is the type of a function.
+pub fn is_func(types: &TypeTable, word: u32) -> bool
+    ensures { result ≡ is_func types.now word }
+{
+    let nodes = types.nodes();
+    let number = word as usize;
+    number < nodes.len() && nodes[number].kind() == FUNC
+}
+
+/// A branch of the kind may have `count` words.
+pub fn has_count(kind: u32, count: u32) -> bool
+    ensures { result ≡ has_count kind count }
+{
+    match kind {
+        CALL | TAIL => count == 1,
+        RETURN => count == 0,
+        SWITCH => 1 <= count && count <= MAX_ENTRIES,
+        _ => false,
+    }
+}

@@ -1,0 +1,36 @@
+//! The records of functions and branches that a module carries, modules, and placed modules.
+//!
+//! Stands on `elf_read`, `cfi_types` and `thiserror`. Proved: records are read exactly where the bytes are their one
+//! spelling, and each other list of bytes has its first fault; what is written is read again; an object is a module
+//! exactly where its two sections are a type table and records; which functions are global, and what a module exports.
+//! Only tested: the texts of faults, and that ample memory is enough. Open: nothing.
+#![tactic(auto)]
+
+mod branch;
+mod fault;
+mod format;
+mod function;
+mod items;
+mod laws;
+mod modules;
+mod name;
+mod placed;
+mod reading;
+mod records;
+mod word;
+mod writing;
+
+pub use fault::AuxFault;
+pub use format::{
+    CALL, MAX_BRANCHES, MAX_ENTRIES, MAX_FUNCTIONS, MAX_NAME, RETURN, SWITCH, TAIL, VERSION,
+};
+pub use items::Items;
+pub use laws::{some_object_is_sound, what_is_read_is_sound};
+pub use modules::{Module, module_of};
+pub use placed::{Placed, PlacedFunction, address_of, exports, is_global};
+pub use reading::read_records;
+pub use records::{Function, Kind, Records};
+pub use writing::{read_can_be_written, write_records, written_is_read};
+
+#[cfg(test)]
+mod tests;

@@ -1,0 +1,65 @@
+//! Reads records from their bytes.
+
+ghost use Rattle.std.specs.Prelude.{◌≡◌, IfOk, Ok};
+ghost use Rattle.cfi_aux.specs.declared.records.Records.{Records};
+ghost use Rattle.cfi_aux.specs.Records.{AreRecords, spelling};
+ghost use Rattle.cfi_aux.specs.Reading.{Gives};
+ghost use Rattle.cfi_aux.specs.Faults.{records_at, records_in};
+
+use crate::branch::branches_from;
+use crate::fault::AuxFault;
+use crate::format::{MAX_BRANCHES, MAX_FUNCTIONS};
+use crate::function::functions_from;
+use crate::items::Items;
+use crate::records::Records;
+use crate::word::{after_version, count_from};
+use cfi_types::TypeTable;
+use std::alloc::Global;
+
+#[tactic(auto, unfolding(crate::specs::Faults::records_at, crate::specs::Reading::seen_as, crate::specs::Reading::and_with, crate::specs::Reading::and_also))]
+fn records_from<'a>(
+    alloc: Global,
+    bytes: &'a [u8],
+    types: &TypeTable,
+) -> Result<(Records, &'a [u8]), AuxFault>
+    ensures { Gives (λ x. (x.0, x.1.now)) result (records_at types.now bytes.now) }
+{
+    let rest = after_version(bytes)?;
+    let (function_count, rest) = count_from(MAX_FUNCTIONS, rest)?;
+    let (branch_count, rest) = count_from(MAX_BRANCHES, rest)?;
+    let (functions, rest) = functions_from(alloc, types, function_count, rest)?;
+    let (branches, rest) = branches_from(alloc, types, function_count, branch_count, rest)?;
+    let records = Records {
+        functions: Items::from_vec(functions),
+        branches: Items::from_vec(branches),
+    };
+    Ok((records, rest))
+}
+
+#[tactic(auto, unfolding(crate::specs::Faults::records_in))]
+fn all_of(alloc: Global, bytes: &[u8], types: &TypeTable) -> Result<Records, AuxFault>
+    ensures { Gives (λ records. records) result (records_in types.now bytes.now) }
+{
+    let (records, rest) = records_from(alloc, bytes, types)?;
+    if !rest.is_empty() {
+        return Err(AuxFault::Short);
+    }
+    Ok(records)
+}
+
+/// The records that the bytes spell, all of the bytes, with the type table that they name nodes of.
+///
+/// Words with the version, the number of functions and the number of branches; then each function as its offset, its
+/// length, its type, its flags and its name; then each branch as its kind, the number of its words, and these. Words
+/// are of four bytes, the lowest first. A fault is the first from left to right. MCFI, auxiliary information.
+pub fn read_records(alloc: Global, bytes: &[u8], types: &TypeTable) -> Result<Records, AuxFault>
+    // What is read are records, and the bytes are their spelling.
+    ensures ok { IfOk result (λ records. AreRecords types.now records × (bytes.now ≡ spelling records)) }
+    // What is spelled so is read.
+    ensures only { (records : Records) → AreRecords types.now records → bytes.now ≡ spelling records →
+        Gives (λ found. found) result (Ok records) }
+    // Which fault it is.
+    ensures fault { Gives (λ found. found) result (records_in types.now bytes.now) }
+{
+    all_of(alloc, bytes, types)
+}

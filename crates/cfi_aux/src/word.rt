@@ -1,0 +1,144 @@
+//! Words from the front of bytes.
+
+ghost use Rattle.std.specs.Prelude.{◌≡◌, ◌≤◌, ℕ, nat_le, IfOk};
+ghost use Rattle.cfi_aux.specs.declared.fault.AuxFault.TheVariants.{BadRecord};
+ghost use Rattle.cfi_aux.specs.Reading.{Gives, word_at, word_where};
+ghost use Rattle.cfi_aux.specs.Format.{is_whole, is_length, is_flag, is_name_length, is_func, has_count};
+ghost use Rattle.cfi_aux.specs.Faults.{count_at, version_at};
+
+use crate::fault::AuxFault;
+use crate::format::{
+    SWITCH, VERSION, has_count, is_flag, is_func, is_length, is_name_length, is_whole,
+};
+use cfi_types::TypeTable;
+
+fn word_from(bytes: &[u8]) -> Result<(u32, &[u8]), AuxFault>
+    ensures { Gives (λ x. (x.0, x.1.now)) result (word_at bytes.now) }
+{
+    if bytes.len() < 4 {
+        return Err(AuxFault::Short);
+    }
+    let (front, rest) = bytes.split_at(4);
+    let word = u32::from_le_bytes([front[0], front[1], front[2], front[3]]);
+    Ok((word, rest))
+}
+
+/// The bytes after the word of the version, which stands first.
+#[tactic(auto, unfolding(crate::specs::Faults::version_at))]
+pub fn after_version(bytes: &[u8]) -> Result<&[u8], AuxFault>
+    ensures { Gives (λ x. (tt, x.now)) result (version_at bytes.now) }
+{
+    if bytes.len() < 4 {
+        return Err(AuxFault::Version);
+    }
+    let (front, rest) = bytes.split_at(4);
+    if u32::from_le_bytes([front[0], front[1], front[2], front[3]]) != VERSION {
+        return Err(AuxFault::Version);
+    }
+    Ok(rest)
+}
+
+/// A number of records, at most `limit`.
+#[tactic(auto, unfolding(crate::specs::Reading::word_where))]
+pub fn count_from(limit: u32, bytes: &[u8]) -> Result<(u32, &[u8]), AuxFault>
+    ensures read { Gives (λ x. (x.0, x.1.now)) result (count_at limit bytes.now) }
+    ensures within { IfOk result (λ x. x.0 ≤ limit) }
+{
+    let (count, rest) = word_from(bytes)?;
+    if count > limit {
+        return Err(AuxFault::BadRecord(limit));
+    }
+    Ok((count, rest))
+}
+
+/// Where a function begins or a switch leads, in record `number`.
+#[tactic(auto, unfolding(crate::specs::Reading::word_where))]
+pub fn place_from(number: u32, bytes: &[u8]) -> Result<(u32, &[u8]), AuxFault>
+    ensures { Gives (λ x. (x.0, x.1.now)) result (word_where is_whole (BadRecord number) bytes.now) }
+{
+    let (word, rest) = word_from(bytes)?;
+    if !is_whole(word) {
+        return Err(AuxFault::BadRecord(number));
+    }
+    Ok((word, rest))
+}
+
+/// The length of the function of record `number`.
+#[tactic(auto, unfolding(crate::specs::Reading::word_where))]
+pub fn length_from(number: u32, bytes: &[u8]) -> Result<(u32, &[u8]), AuxFault>
+    ensures { Gives (λ x. (x.0, x.1.now)) result (word_where is_length (BadRecord number) bytes.now) }
+{
+    let (word, rest) = word_from(bytes)?;
+    if !is_length(word) {
+        return Err(AuxFault::BadRecord(number));
+    }
+    Ok((word, rest))
+}
+
+/// The type of record `number`, one of functions.
+#[tactic(auto, unfolding(crate::specs::Reading::word_where))]
+pub fn func_from<'a>(
+    types: &TypeTable,
+    number: u32,
+    bytes: &'a [u8],
+) -> Result<(u32, &'a [u8]), AuxFault>
+    ensures { Gives (λ x. (x.0, x.1.now)) result
+        (word_where (is_func types.now) (BadRecord number) bytes.now) }
+{
+    let (word, rest) = word_from(bytes)?;
+    if !is_func(types, word) {
+        return Err(AuxFault::BadRecord(number));
+    }
+    Ok((word, rest))
+}
+
+/// The flags of the function of record `number`.
+#[tactic(auto, unfolding(crate::specs::Reading::word_where))]
+pub fn flags_from(number: u32, bytes: &[u8]) -> Result<(u32, &[u8]), AuxFault>
+    ensures { Gives (λ x. (x.0, x.1.now)) result (word_where is_flag (BadRecord number) bytes.now) }
+{
+    let (word, rest) = word_from(bytes)?;
+    if !is_flag(word) {
+        return Err(AuxFault::BadRecord(number));
+    }
+    Ok((word, rest))
+}
+
+/// The number of bytes of the name in record `number`.
+#[tactic(auto, unfolding(crate::specs::Reading::word_where))]
+pub fn name_length_from(number: u32, bytes: &[u8]) -> Result<(u32, &[u8]), AuxFault>
+    ensures { Gives (λ x. (x.0, x.1.now)) result
+        (word_where is_name_length (BadRecord number) bytes.now) }
+{
+    let (word, rest) = word_from(bytes)?;
+    if !is_name_length(word) {
+        return Err(AuxFault::BadRecord(number));
+    }
+    Ok((word, rest))
+}
+
+/// The kind of the branch of record `number`.
+#[tactic(auto, unfolding(crate::specs::Reading::word_where))]
+pub fn kind_from(number: u32, bytes: &[u8]) -> Result<(u32, &[u8]), AuxFault>
+    ensures { Gives (λ x. (x.0, x.1.now)) result
+        (word_where (λ kind. nat_le kind SWITCH) (BadRecord number) bytes.now) }
+{
+    let (word, rest) = word_from(bytes)?;
+    if word > SWITCH {
+        return Err(AuxFault::BadRecord(number));
+    }
+    Ok((word, rest))
+}
+
+/// How many words the branch of record `number` and of this kind has.
+#[tactic(auto, unfolding(crate::specs::Reading::word_where))]
+pub fn word_count_from(kind: u32, number: u32, bytes: &[u8]) -> Result<(u32, &[u8]), AuxFault>
+    ensures { Gives (λ x. (x.0, x.1.now)) result
+        (word_where (has_count kind) (BadRecord number) bytes.now) }
+{
+    let (word, rest) = word_from(bytes)?;
+    if !has_count(kind, word) {
+        return Err(AuxFault::BadRecord(number));
+    }
+    Ok((word, rest))
+}

@@ -1,0 +1,120 @@
+//! Writes records as bytes.
+
+ghost use Rattle.std.specs.Prelude.{◌≡◌, ◌<◌, ◌^◌, List, ◌++◌, length, All, OnOk, IfOk, Ok};
+ghost use Rattle.std.specs.List.{flat_map};
+ghost use Rattle.cfi_types.specs.Node.{Node};
+ghost use Rattle.cfi_types.specs.Spelling.{word};
+ghost use Rattle.cfi_aux.specs.declared.records.Records.{Records};
+ghost use Rattle.cfi_aux.specs.Records.{AreRecords, CanBeWritten, words_of, name_bytes, function_bytes, branch_bytes, spelling};
+ghost use Rattle.cfi_aux.specs.Faults.{records_in};
+
+use crate::format::{CALL, RETURN, SWITCH, TAIL, VERSION};
+use crate::name::padding;
+use crate::records::{Function, Kind, Records};
+use elf_read::Name;
+use std::alloc::{AllocError, Global};
+
+fn put_word(out: &mut Vec<u8>, number: u32) -> Result<(), AllocError>
+    ensures { OnOk result (out.new.items ≡ out.old.items ++ word number) }
+{
+    out.extend_from_slice(&number.to_le_bytes())?;
+    Ok(())
+}
+
+fn put_name(out: &mut Vec<u8>, name: &Name) -> Result<(), AllocError>
+    requires { length name.now < 2 ^ 32 }
+    ensures { OnOk result (out.new.items ≡ out.old.items ++ name_bytes name.now) }
+{
+    let text = name.as_str().as_bytes();
+    put_word(out, text.len() as u32)?;
+    out.extend_from_slice(text)?;
+    out.extend_from_slice(&[0; 3][..padding(text.len())])?;
+    Ok(())
+}
+
+fn put_function(out: &mut Vec<u8>, function: &Function) -> Result<(), AllocError>
+    requires { length function.now.name < 2 ^ 32 }
+    ensures { OnOk result (out.new.items ≡ out.old.items ++ function_bytes function.now) }
+{
+    put_word(out, function.offset)?;
+    put_word(out, function.length)?;
+    put_word(out, function.ty)?;
+    put_word(out, u32::from(function.taken))?;
+    put_name(out, &function.name)?;
+    Ok(())
+}
+
+fn put_words(out: &mut Vec<u8>, kind: u32, words: &[u32]) -> Result<(), AllocError>
+    requires { length words.now < 2 ^ 32 }
+    ensures { OnOk result (out.new.items ≡
+        out.old.items ++ (word kind ++ (word (length words.now) ++ flat_map word words.now))) }
+{
+    put_word(out, kind)?;
+    put_word(out, words.len() as u32)?;
+    for number in words {
+        put_word(out, *number)?;
+    }
+    Ok(())
+}
+
+fn put_branch(out: &mut Vec<u8>, branch: &Kind) -> Result<(), AllocError>
+    requires { length (words_of branch.now) < 2 ^ 32 }
+    ensures { OnOk result (out.new.items ≡ out.old.items ++ branch_bytes branch.now) }
+{
+    match branch {
+        Kind::Call(node) => put_words(out, CALL, &[*node]),
+        Kind::Tail(node) => put_words(out, TAIL, &[*node]),
+        Kind::Return => put_words(out, RETURN, &[]),
+        Kind::Switch(places) => put_words(out, SWITCH, places.as_slice()),
+    }
+}
+
+fn put_functions(out: &mut Vec<u8>, functions: &[Function]) -> Result<(), AllocError>
+    requires { All (λ f. length f.name < 2 ^ 32) functions.now }
+    ensures { OnOk result (out.new.items ≡ out.old.items ++ flat_map function_bytes functions.now) }
+{
+    for function in functions {
+        put_function(out, function)?;
+    }
+    Ok(())
+}
+
+fn put_branches(out: &mut Vec<u8>, branches: &[Kind]) -> Result<(), AllocError>
+    requires { All (λ b. length (words_of b) < 2 ^ 32) branches.now }
+    ensures { OnOk result (out.new.items ≡ out.old.items ++ flat_map branch_bytes branches.now) }
+{
+    for branch in branches {
+        put_branch(out, branch)?;
+    }
+    Ok(())
+}
+
+/// The bytes that spell the records. `read_records` reads them from these where they are records of a type table.
+///
+/// The numbers of functions, of branches, of a name's bytes and of a branch's words are below 2^32.
+pub fn write_records(alloc: Global, records: &Records) -> Result<Vec<u8>, AllocError>
+    requires { CanBeWritten records.now }
+    ensures { IfOk result (λ bytes. bytes.items ≡ spelling records.now) }
+{
+    let mut out = Vec::new(alloc);
+    let functions = records.functions.as_slice();
+    let branches = records.branches.as_slice();
+    put_word(&mut out, VERSION)?;
+    put_word(&mut out, functions.len() as u32)?;
+    put_word(&mut out, branches.len() as u32)?;
+    put_functions(&mut out, functions)?;
+    put_branches(&mut out, branches)?;
+    Ok(out)
+}
+
+/// What is written is read again, whatever the records and the type table that they name nodes of.
+pub fn written_is_read()
+    ensures { (types : List Node) → (records : Records) → AreRecords types records →
+        records_in types (spelling records) ≡ Ok records }
+{}
+
+/// Records of any type table can be written.
+pub fn read_can_be_written()
+    ensures { (types : List Node) → (records : Records) → AreRecords types records →
+        CanBeWritten records }
+{}
