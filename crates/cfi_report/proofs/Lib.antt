@@ -1,0 +1,9 @@
+pub mod BackLemmas
+pub mod BuiltLemmas
+pub mod NextLemmas
+pub mod OrderLemmas
+pub mod ReachedLemmas
+pub mod ReadLemmas
+pub mod SaidLemmas
+pub mod SolidLemmas
+pub mod WordLemmas
