@@ -1,5 +1,6 @@
 pub mod BackLemmas
 pub mod BuiltLemmas
+pub mod LawLemmas
 pub mod NextLemmas
 pub mod OrderLemmas
 pub mod ReachedLemmas
@@ -7,3 +8,4 @@ pub mod ReadLemmas
 pub mod SaidLemmas
 pub mod SolidLemmas
 pub mod WordLemmas
+pub mod WriterLemmas

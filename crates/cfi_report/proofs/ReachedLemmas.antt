@@ -189,15 +189,17 @@ next draft lines (line.Units count) may so kept =
     let h = units draft lines draft.stage may so kept in
     (rw h.0 (append_assoc (open_lines draft) (line.Out draft.out ∷ line.Stop draft.stop ∷ []) (line.Units count ∷ [])), (h.1, h.2))
 next draft lines (line.Steps count) may so kept =
-    let h = steps draft lines draft.stage may so kept in
-    (rw h.0 (guest_more
-    (line.Title ∷ line.Force draft.epoch draft.policy ∷ map line.Module draft.modules ++ map line.Journal draft.journal)
-    (flat_map guest_lines draft.guests)
-    (line.Guest draft.number draft.entry ∷ map line.Log draft.log)
-    (line.Out draft.out ∷ line.Stop draft.stop ∷ line.Units draft.units ∷ [])
-    (flat_map guest_lines (draft.guests ++ part_of draft count ∷ []))
-    (line.Steps count)
-    (flat_map-append guest_lines draft.guests (part_of draft count ∷ []))), Each-append (λ (guest : GuestPart). AreApart guest.log) draft.guests (part_of draft count ∷ []) h.1 (h.2, tt))
+    let h = steps draft lines draft.stage may so kept in (
+      rw h.0 (guest_more
+          (line.Title ∷ line.Force draft.epoch draft.policy ∷ map line.Module draft.modules ++ map line.Journal draft.journal)
+          (flat_map guest_lines draft.guests)
+          (line.Guest draft.number draft.entry ∷ map line.Log draft.log)
+          (line.Out draft.out ∷ line.Stop draft.stop ∷ line.Units draft.units ∷ [])
+          (flat_map guest_lines (draft.guests ++ part_of draft count ∷ []))
+          (line.Steps count)
+          (flat_map-append guest_lines draft.guests (part_of draft count ∷ []))),
+      Each-append (λ (guest : GuestPart). AreApart guest.log) draft.guests (part_of draft count ∷ []) h.1 (h.2, tt),
+    )
 next draft lines line.End may so kept =
     let h = guests draft lines draft.stage may so kept in
     (rw h.0 refl, h.1)
@@ -244,7 +246,7 @@ record Closes (at : Stage) (last_lines : List Line) : Type 0 where
 zero_fits : 0 < 2 ^ 32
 zero_fits = omega arith
 
-force-IsLine : IsLine (line.Force 0 0)
+pub force-IsLine : IsLine (line.Force 0 0)
 force-IsLine = ((tt, (zero_fits, (zero_fits, tt))), tt)
 
 units-IsLine : IsLine (line.Units 0)
@@ -253,10 +255,10 @@ units-IsLine = ((tt, (zero_fits, tt)), tt)
 steps-IsLine : IsLine (line.Steps 0)
 steps-IsLine = ((tt, (zero_fits, tt)), tt)
 
-end-IsLine : IsLine line.End
+pub end-IsLine : IsLine line.End
 end-IsLine = ((tt, tt), tt)
 
-title-IsLine : IsLine line.Title
+pub title-IsLine : IsLine line.Title
 title-IsLine = ((tt, (tt, tt)), tt)
 
 out-IsLine : IsLine (line.Out [])

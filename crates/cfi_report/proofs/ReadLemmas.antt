@@ -97,12 +97,15 @@ module _ (text rest : List ℕ) (number : ℕ) (draft : Draft) (h : IsRead text 
       let lines = some.1.1.1 in
       let count : number - 1 ≡ length h.lines = omega (arith, h.number) in
       let first : take (number - 1) (lines_of some.0) ≡ h.lines =
-      rw (count, lines) (take-append-le (length h.lines) h.lines some.1.1.0 (omega arith) ∙ take_all (length h.lines) h.lines (omega arith)) in
-      (some.0, some.1.0, record {
-        within = omega (arith, count, ap length lines, length-append h.lines some.1.1.0);
-        rest = rest;
-        begins = h.text ∙ ap (λ (l : List Line). lines_text l ++ rest) (sym first);
-      })
+      rw (count, lines) (take-append-le (length h.lines) h.lines some.1.1.0 (omega arith) ∙ take_all (length h.lines) h.lines (omega arith)) in (
+        some.0,
+        some.1.0,
+        record {
+          within = omega (arith, count, ap length lines, length-append h.lines some.1.1.0);
+          rest = rest;
+          begins = h.text ∙ ap (λ (l : List Line). lines_text l ++ rest) (sym first);
+        },
+      )
 
   -- and none has one line more
   here : HasNoNext draft.stage rest → CanBegin text number → ⊥

@@ -1,10 +1,11 @@
 ghost use Rattle.std.specs.Prelude.{◌≡◌, ◌++◌, ◌∷◌, [], OnOk, Option, Some, codes};
 ghost use Rattle.std.specs.List.{join_with_byte};
 ghost use Rattle.cfi_text.specs.Decimal.{dec_text};
+ghost use Rattle.cfi_unit.specs.declared.log.Log.TheVariants.{Pick, Open, Cause};
 ghost use Rattle.cfi_report.specs.declared.line.Line.TheVariants as line;
 ghost use Rattle.cfi_report.specs.Line.{line_text, who_field, what_fields, log_fields, stop_fields, field_text, spaced, Word, Decimal};
 
-use crate::put::{put, put_address, put_end, put_number, put_word};
+use crate::put::{put, put_address, put_bytes, put_end, put_number, put_word};
 use cfi_plan::{Entry, JournalLine, Who};
 use cfi_unit::{Log, Stop};
 use std::alloc::AllocError;
@@ -36,10 +37,7 @@ fn put_what(out: &mut Vec<u8>, what: JournalLine) -> Result<(), AllocError>
             module,
             epoch,
             policy,
-        } => {
-            put_load(out, module, b"ok")?;
-            put_two(out, epoch, policy)
-        }
+        } => put_load_two(out, module, b"ok", epoch, policy),
         JournalLine::LoadAgain { module, policy } => {
             put_load(out, module, b"again")?;
             put_number(out, policy)
@@ -53,18 +51,12 @@ fn put_what(out: &mut Vec<u8>, what: JournalLine) -> Result<(), AllocError>
             module,
             number,
             place,
-        } => {
-            put_load(out, module, b"verify")?;
-            put_two(out, number, place)
-        }
+        } => put_load_two(out, module, b"verify", number, place),
         JournalLine::LoadVersions {
             module,
             guest,
             quiet,
-        } => {
-            put_load(out, module, b"versions")?;
-            put_two(out, guest, quiet)
-        }
+        } => put_load_two(out, module, b"versions", guest, quiet),
         JournalLine::LoadEpochs { module } => put_load(out, module, b"epochs"),
         JournalLine::RefreshOk { epoch } => {
             put_refresh(out, b"ok")?;
@@ -72,7 +64,8 @@ fn put_what(out: &mut Vec<u8>, what: JournalLine) -> Result<(), AllocError>
         }
         JournalLine::RefreshVersions { guest, quiet } => {
             put_refresh(out, b"versions")?;
-            put_two(out, guest, quiet)
+            put_number(out, guest)?;
+            put_number(out, quiet)
         }
         JournalLine::RefreshEpochs => put_refresh(out, b"epochs"),
     }
@@ -88,6 +81,22 @@ fn put_load(out: &mut Vec<u8>, number: u32, word: &[u8]) -> Result<(), AllocErro
     put_word(out, word)
 }
 
+// The same with two numbers more.
+fn put_load_two(
+    out: &mut Vec<u8>,
+    number: u32,
+    word: &[u8],
+    first: u32,
+    last: u32,
+) -> Result<(), AllocError>
+    ensures { OnOk result (out.new.items ≡ out.old.items ++ spaced (Word (codes "load")
+        ∷ Decimal number ∷ Word word.now ∷ Decimal first ∷ Decimal last ∷ [])) }
+{
+    put_load(out, number, word)?;
+    put_number(out, first)?;
+    put_number(out, last)
+}
+
 // A refresh, and what came of it.
 fn put_refresh(out: &mut Vec<u8>, word: &[u8]) -> Result<(), AllocError>
     ensures { OnOk result (out.new.items ≡ out.old.items
@@ -97,41 +106,59 @@ fn put_refresh(out: &mut Vec<u8>, word: &[u8]) -> Result<(), AllocError>
     put_word(out, word)
 }
 
-fn put_two(out: &mut Vec<u8>, first: u32, last: u32) -> Result<(), AllocError>
-    ensures { OnOk result
-        (out.new.items ≡ out.old.items ++ spaced (Decimal first ∷ Decimal last ∷ [])) }
-{
-    put_number(out, first)?;
-    put_number(out, last)
-}
-
 /// Appends an entry of a guest's log.
 pub fn put_logged(out: &mut Vec<u8>, entry: Log) -> Result<(), AllocError>
     ensures { OnOk result (out.new.items ≡ out.old.items ++ line_text (line.Log entry)) }
 {
     match entry {
-        Log::Pick { policy, count } => {
-            put(out, b"pick")?;
-            put_number(out, policy)?;
-            put_number(out, count)?;
-        }
+        Log::Pick { policy, count } => put_pick(out, policy, count),
         Log::Open {
             module,
             address,
             policy,
-        } => {
-            put(out, b"open")?;
-            put_number(out, module)?;
-            put_address(out, address)?;
-            put_number(out, policy)?;
-        }
-        Log::Cause { module, cause } => {
-            put(out, b"open")?;
-            put_number(out, module)?;
-            put_word(out, b"cause")?;
-            put_number(out, cause)?;
-        }
+        } => put_open(out, module, address, policy),
+        Log::Cause { module, cause } => put_refusal(out, module, cause),
     }
+}
+
+fn put_pick(out: &mut Vec<u8>, policy: u32, count: u32) -> Result<(), AllocError>
+    ensures { OnOk result
+        (out.new.items ≡ out.old.items ++ line_text (line.Log (Pick policy count))) }
+{
+    put(out, b"pick")?;
+    put_number(out, policy)?;
+    put_number(out, count)?;
+    put_end(out)
+}
+
+fn put_open(out: &mut Vec<u8>, number: u32, address: u32, policy: u32) -> Result<(), AllocError>
+    ensures { OnOk result
+        (out.new.items ≡ out.old.items ++ line_text (line.Log (Open number address policy))) }
+{
+    put(out, b"open")?;
+    put_number(out, number)?;
+    put_address(out, address)?;
+    put_number(out, policy)?;
+    put_end(out)
+}
+
+fn put_refusal(out: &mut Vec<u8>, number: u32, cause: u32) -> Result<(), AllocError>
+    ensures { OnOk result
+        (out.new.items ≡ out.old.items ++ line_text (line.Log (Cause number cause))) }
+{
+    put(out, b"open")?;
+    put_number(out, number)?;
+    put_word(out, b"cause")?;
+    put_number(out, cause)?;
+    put_end(out)
+}
+
+/// Appends what a guest put.
+pub fn put_out(out: &mut Vec<u8>, bytes: &[u8]) -> Result<(), AllocError>
+    ensures { OnOk result (out.new.items ≡ out.old.items ++ line_text (line.Out bytes.now)) }
+{
+    put(out, b"out")?;
+    put_bytes(out, bytes)?;
     put_end(out)
 }
 
@@ -167,12 +194,20 @@ fn put_cause(out: &mut Vec<u8>, stop: Stop) -> Result<(), AllocError>
     }
 }
 
-/// Appends a line of a word and a number.
-pub fn put_count(out: &mut Vec<u8>, word: &[u8], count: u32) -> Result<(), AllocError>
-    ensures { OnOk result
-        (out.new.items ≡ out.old.items ++ word.now ++ 32 ∷ dec_text count ++ 10 ∷ []) }
+/// Appends how many units a guest ended.
+pub fn put_units(out: &mut Vec<u8>, units: u32) -> Result<(), AllocError>
+    ensures { OnOk result (out.new.items ≡ out.old.items ++ line_text (line.Units units)) }
 {
-    put(out, word)?;
-    put_number(out, count)?;
+    put(out, b"units")?;
+    put_number(out, units)?;
+    put_end(out)
+}
+
+/// Appends how many instructions a guest ran.
+pub fn put_steps(out: &mut Vec<u8>, steps: u32) -> Result<(), AllocError>
+    ensures { OnOk result (out.new.items ≡ out.old.items ++ line_text (line.Steps steps)) }
+{
+    put(out, b"steps")?;
+    put_number(out, steps)?;
     put_end(out)
 }

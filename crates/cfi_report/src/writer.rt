@@ -4,9 +4,9 @@ ghost use Rattle.cfi_report.specs.declared.line.Line.TheVariants as line;
 ghost use Rattle.cfi_report.specs.Line.{line_text};
 ghost use Rattle.cfi_report.specs.Report.{guest_lines, ending_lines, lines_text, text_of};
 
-use crate::put::{put, put_address, put_bytes, put_end, put_number, put_word};
+use crate::put::{put, put_address, put_end, put_number, put_word};
 use crate::report::{GuestPart, Report};
-use crate::spell::{put_count, put_entry, put_logged, put_stop};
+use crate::spell::{put_entry, put_logged, put_out, put_steps, put_stop, put_units};
 use cfi_plan::{Entry, ModuleLine};
 use cfi_unit::Log;
 use std::alloc::{AllocError, Global};
@@ -111,10 +111,8 @@ fn put_log(out: &mut Vec<u8>, log: &[Log]) -> Result<(), AllocError>
 fn put_ending(out: &mut Vec<u8>, guest: &GuestPart) -> Result<(), AllocError>
     ensures { OnOk result (out.new.items ≡ out.old.items ++ lines_text (ending_lines guest.now)) }
 {
-    put(out, b"out")?;
-    put_bytes(out, guest.out.as_slice())?;
-    put_end(out)?;
+    put_out(out, guest.out.as_slice())?;
     put_stop(out, guest.stop)?;
-    put_count(out, b"units", guest.units)?;
-    put_count(out, b"steps", guest.steps)
+    put_units(out, guest.units)?;
+    put_steps(out, guest.steps)
 }
