@@ -1,9 +1,9 @@
 -- The words of a line say this line.
-use Rattle.std.proofs.Common.{◌≡◌, ℕ, ◌^◌, ◌<◌, Bool, true, false, cond, List, [], ◌∷◌, length, map, Option, Some, None, option_and_then, nat_eq, refl, sym, ap, ◌∙◌, subst, arith}
+use Rattle.std.proofs.Common.{◌≡◌, ℕ, ◌^◌, ◌<◌, false, List, ◌∷◌, length, map, Option, Some, None, nat_eq, refl, sym, ap, ◌∙◌, subst, arith}
 use Rattle.std.specs.Prelude.{codes}
 use Rattle.std.specs.Option.{option_map}
 use Rattle.std.specs.Str.{bytes_eq}
-use Rattle.std.proofs.lemmas.Bool.{cond-true, cond-false, ne_eqb}
+use Rattle.std.proofs.lemmas.Bool.{cond-false, ne_eqb}
 use Rattle.cfi_text.specs.Decimal.{dec_text, AreDigits}
 use Rattle.cfi_text.specs.Hex.{hex8_text}
 use Rattle.cfi_text.proofs.DecimalLemmas.{IsDecimal-dec_text}
@@ -16,9 +16,9 @@ use Rattle.cfi_unit.specs.declared.log.Log.TheVariants.{Pick, Open, Cause}
 use Rattle.cfi_unit.specs.declared.log.Stop.TheVariants.{Exit, Halt, Align, Fuel}
 use Rattle.cfi_report.specs.declared.line.Line.{Line}
 use Rattle.cfi_report.specs.declared.line.Line.TheVariants as line
-use Rattle.cfi_report.specs.Line.{Field, field_text, who_field, what_fields, line_words, bytes_text}
+use Rattle.cfi_report.specs.Line.{field_text, who_field, what_fields, line_words}
 use Rattle.cfi_report.specs.Report.{Each, IsField, IsLine}
-use Rattle.cfi_report.specs.Form.{number_in, address_in, bytes_in, who_in, what_two, loaded_three, what_three, loaded_four, what_four, loaded_five, what_five, entry_form, journal_form, lone_form, pair_form, stop_form, force_form, guest_form, pick_form, three_form, opened_form, four_form, module_form, seven_form, form_of}
+use Rattle.cfi_report.specs.Form.{number_in, who_in, what_two, loaded_three, what_three, loaded_four, what_four, loaded_five, what_five, journal_form, lone_form, pair_form, stop_form, force_form, guest_form, pick_form, three_form, opened_form, four_form, module_form, seven_form, form_of}
 use Rattle.cfi_report.proofs.WordLemmas.{number_in-back, address_in-back, bytes_in-back, differs}
 
 -- who asked

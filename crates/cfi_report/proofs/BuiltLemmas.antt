@@ -1,5 +1,5 @@
 -- The lines of a report say this report.
-use Rattle.std.proofs.Common.{◌≡◌, ℕ, List, [], ◌∷◌, ◌++◌, map, fold, refl, sym, ap, ◌∙◌, append_assoc}
+use Rattle.std.proofs.Common.{◌≡◌, ℕ, List, [], ◌∷◌, ◌++◌, map, refl, sym, ap, ◌∙◌, append_assoc}
 use Rattle.std.specs.List.{flat_map}
 use Rattle.std.proofs.lemmas.List.{append-nil}
 use Rattle.cfi_plan.specs.declared.journal.ModuleLine.{ModuleLine}
@@ -10,7 +10,7 @@ use Rattle.cfi_report.specs.declared.line.Line.TheVariants as line
 use Rattle.cfi_report.specs.declared.report.Report.{Report}
 use Rattle.cfi_report.specs.declared.report.GuestPart.{GuestPart}
 use Rattle.cfi_report.specs.Report.{ending_lines, guest_lines, lines_of}
-use Rattle.cfi_report.specs.Draft.{Draft, empty, report_of, with_line, part_of}
+use Rattle.cfi_report.specs.Draft.{Draft, empty, report_of, with_line}
 
 -- the draft after the lines
 abbrev pub with_lines : Draft → List Line → Draft

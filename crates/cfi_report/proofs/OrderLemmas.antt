@@ -1,5 +1,5 @@
 -- In which order the lines of a report stand.
-use Rattle.std.proofs.Common.{◌≡◌, ℕ, Bool, true, false, List, [], ◌∷◌, ◌++◌, map, Option, Some, None, refl, sym, ap, ◌∙◌, subst, append_assoc}
+use Rattle.std.proofs.Common.{◌≡◌, true, List, [], ◌∷◌, ◌++◌, map, Option, Some, None, refl, sym, subst, append_assoc}
 use Rattle.std.specs.Prelude.{⊤}
 use Rattle.std.specs.List.{flat_map}
 use Rattle.cfi_plan.specs.declared.journal.ModuleLine.{ModuleLine}
@@ -11,7 +11,7 @@ use Rattle.cfi_report.specs.declared.stage.Stage.{Stage}
 use Rattle.cfi_report.specs.declared.stage.Stage.TheVariants as stages
 use Rattle.cfi_report.specs.declared.report.Report.{Report}
 use Rattle.cfi_report.specs.declared.report.GuestPart.{GuestPart}
-use Rattle.cfi_report.specs.Report.{Each, differ, AreApart, ending_lines, guest_lines, lines_of}
+use Rattle.cfi_report.specs.Report.{Each, AreApart, ending_lines, guest_lines, lines_of}
 use Rattle.cfi_report.specs.Draft.{Draft, may_follow, takes_journal, takes_guests, with_line}
 
 -- what the last line is then

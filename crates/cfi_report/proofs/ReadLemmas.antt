@@ -1,5 +1,5 @@
 -- What is known while a text is read, and when it is a report.
-use Rattle.std.proofs.Common.{◌≡◌, ℕ, ◌+◌, ◌-◌, ◌^◌, ◌<◌, ◌≤◌, Bool, true, false, List, [], ◌∷◌, ◌++◌, length, take, drop, refl, sym, ap, ◌∙◌, subst, append_assoc, arith, length-append, length-take, take_all}
+use Rattle.std.proofs.Common.{◌≡◌, ℕ, ◌+◌, ◌-◌, ◌^◌, ◌<◌, ◌≤◌, true, false, List, [], ◌∷◌, ◌++◌, length, take, drop, refl, sym, ap, ◌∙◌, subst, append_assoc, arith, length-append, length-take, take_all}
 use Rattle.std.proofs.lemmas.List.{append-nil, take-append-le, take-append-drop}
 use Rattle.std.proofs.lemmas.Bool.{false≢true}
 use Rattle.std.proofs.lemmas.List.Concat.{flat_map-append}
@@ -9,7 +9,7 @@ use Rattle.cfi_report.specs.declared.stage.Stage.{Stage}
 use Rattle.cfi_report.specs.declared.stage.Stage.TheVariants as stages
 use Rattle.cfi_report.specs.declared.report.Report.{Report}
 use Rattle.cfi_report.specs.Line.{line_text}
-use Rattle.cfi_report.specs.Report.{Each, IsLine, lines_of, lines_text, text_of, IsReport, BeginsAs, CanBegin, IsFirstFault}
+use Rattle.cfi_report.specs.Report.{Each, IsLine, lines_of, lines_text, text_of, IsReport, CanBegin, IsFirstFault}
 use Rattle.cfi_report.specs.Draft.{Draft, empty, report_of, may_follow, is_whole, with_line}
 use Rattle.cfi_report.specs.Next.{IsNext, HasNoNext}
 use Rattle.cfi_report.proofs.BuiltLemmas.{with_lines, lines_of-built}

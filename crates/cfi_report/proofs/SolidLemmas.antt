@@ -1,13 +1,12 @@
 -- No word of a line has a space, and no line has a line feed but at its end.
-use Rattle.std.proofs.Common.{◌≡◌, ℕ, ◌+◌, ◌/◌, ◌%◌, ◌^◌, ◌<◌, ◌≤◌, ◌==◌, ◌&&◌, Bool, true, false, not, nat_eq, nat_lt, List, [], ◌∷◌, ◌++◌, length, map, Option, Some, None, refl, sym, ap, ◌∙◌, arith, length-append}
-use Rattle.std.specs.Prelude.{codes, All}
-use Rattle.std.specs.List.{list_all, join_with_byte, flat_map, slice_split}
+use Rattle.std.proofs.Common.{◌≡◌, ℕ, ◌/◌, ◌%◌, ◌<◌, ◌≤◌, Bool, true, false, nat_eq, nat_lt, List, [], ◌∷◌, length, map, Some, None, refl, ap, ◌∙◌, arith, length-append}
+use Rattle.std.specs.List.{list_all, join_with_byte}
 use Rattle.std.proofs.lemmas.Bool.{and_parts, and_from, lt-ltb, ltb-true, ne_eqb}
 use Rattle.std.proofs.lemmas.Bool.Decides.{nat_tests}
 use Rattle.std.proofs.lemmas.List.Elements.{All-nil, All-cons, All-append}
 use Rattle.std.proofs.lemmas.List.Splits.{slice_split_at, slice_split_none}
 use Rattle.cfi_text.specs.Decimal.{dec_text, AreDigits}
-use Rattle.cfi_text.specs.Hex.{hex_digit, hex_digits, hex8_text, hex_text}
+use Rattle.cfi_text.specs.Hex.{hex_digit, hex8_text, hex_text}
 use Rattle.cfi_text.proofs.DecimalLemmas.{IsDecimal-dec_text}
 use Rattle.cfi_plan.specs.Names.{is_name, is_name_byte}
 use Rattle.cfi_plan.specs.declared.journal.Who.{Who}

@@ -1,9 +1,8 @@
 -- The lines of a report, each by its words. The words of a line stand apart by single spaces, and a line feed ends it.
-use Rattle.std.specs.Prelude.{◌≡◌, ℕ, ◌^◌, ◌<◌, true, ⊤, List, [], ◌∷◌, ◌++◌, map, All, codes, Option, Some, None}
+use Rattle.std.specs.Prelude.{ℕ, List, [], ◌∷◌, ◌++◌, map, codes, Option, Some, None}
 use Rattle.std.specs.List.{flat_map, join_with_byte}
 use Rattle.cfi_text.specs.Decimal.{dec_text}
 use Rattle.cfi_text.specs.Hex.{hex8_text, hex_text}
-use Rattle.cfi_plan.specs.Names.{is_name}
 use Rattle.cfi_plan.specs.declared.journal.Who.{Who}
 use Rattle.cfi_plan.specs.declared.journal.Who.TheVariants.{Script, Guest}
 use Rattle.cfi_plan.specs.declared.journal.JournalLine.{JournalLine}

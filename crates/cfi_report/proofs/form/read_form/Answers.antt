@@ -1,5 +1,4 @@
-use Rattle.std.proofs.Common.{◌≡◌, ◌∷◌, sym}
-use Rattle.cfi_report.specs.Form.{words_in}
+use Rattle.std.proofs.Common.{sym}
 use Rattle.cfi_report.proofs.WordLemmas.{too_many}
 use Rattle.cfi_report.proofs.form.read_form.Goals as goal
 

@@ -1,4 +1,4 @@
-use Rattle.std.proofs.Common.{◌≡◌, ◌+◌, ◌<◌, true, false, length, sym, ◌∙◌, subst, arith, rules}
+use Rattle.std.proofs.Common.{◌≡◌, ◌+◌, ◌<◌, true, false, length, sym, ◌∙◌, subst, rules}
 use Rattle.cfi_report.specs.Draft.{Draft, is_whole}
 use Rattle.cfi_report.proofs.ReadLemmas.{IsRead, read-next, fault-wanted, fault-left, read-whole}
 use Rattle.cfi_report.proofs.reader.read_report.Goals as goal

@@ -1,5 +1,4 @@
 use Rattle.std.proofs.Common.{map}
-use Rattle.cfi_plan.specs.declared.journal.ModuleLine.{ModuleLine}
 use Rattle.cfi_report.specs.declared.line.Line.TheVariants as line
 use Rattle.cfi_report.specs.Report.{lines_text}
 use Rattle.cfi_report.proofs.WriterLemmas.{IsWritten}
