@@ -10,7 +10,7 @@ use Rattle.cfi_report.specs.Report.{lines_of, lines_text, text_of, IsReport, Beg
 use Rattle.cfi_report.specs.Draft.{empty, report_of}
 use Rattle.cfi_report.proofs.BuiltLemmas.{with_lines, lines_of-built}
 use Rattle.cfi_report.proofs.NextLemmas.{whole_follows}
-use Rattle.cfi_report.proofs.ReachedLemmas.{title-IsLine, force-IsLine, end-IsLine}
+use Rattle.cfi_report.proofs.ClosingLemmas.{title-IsLine, force-IsLine, end-IsLine}
 use Rattle.cfi_report.proofs.SolidLemmas.{line_text-long}
 
 -- the report of no module, no call and no guest
@@ -31,7 +31,8 @@ pub same_text : (one other : Report) → IsReport one → IsReport other → tex
 same_text one other h g same =
     let next = whole_follows (lines_of one) (lines_of other) [] h.lines g.lines (append-nil (text_of one) ∙ same) in
     let end = no_lines next.0 next.1.1 in
-    let lines : lines_of other ≡ lines_of one = next.1.0 ∙ ap (λ (l : List Line). lines_of one ++ l) end ∙ append-nil (lines_of one) in
+    let lines : lines_of other ≡ lines_of one = next.1.0 ∙ ap (λ (l : List Line). lines_of one ++ l) end
+    ∙ append-nil (lines_of one) in
     sym (lines_of-built one) ∙ ap (λ (l : List Line). report_of (with_lines empty l)) (sym lines) ∙ lines_of-built other
 
 -- the first lines of the first lines
@@ -45,7 +46,9 @@ fewer text n m report few h =
       within = omega (arith, h.within);
       rest = lines_text (drop m firsts) ++ h.rest;
       begins = h.begins
-          ∙ ap (λ (l : List ℕ). l ++ h.rest) (ap lines_text (sym parts) ∙ flat_map-append line_text (take m firsts) (drop m firsts) ∙ ap (λ (l : List Line). lines_text l ++ lines_text (drop m firsts)) front)
+          ∙ ap (λ (l : List ℕ). l ++ h.rest) (ap lines_text (sym parts)
+          ∙ flat_map-append line_text (take m firsts) (drop m firsts)
+          ∙ ap (λ (l : List Line). lines_text l ++ lines_text (drop m firsts)) front)
           ∙ append_assoc (lines_text (take m lines)) (lines_text (drop m firsts)) h.rest;
     }
 

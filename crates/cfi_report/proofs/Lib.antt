@@ -1,5 +1,6 @@
 pub mod BackLemmas
 pub mod BuiltLemmas
+pub mod ClosingLemmas
 pub mod LawLemmas
 pub mod NextLemmas
 pub mod OrderLemmas

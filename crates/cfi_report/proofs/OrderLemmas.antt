@@ -61,11 +61,13 @@ Follows-rest at (one ∷ xs) ys h = Follows-rest (stage_after one) xs ys h.1
 
 -- the parts of a report
 
-modules-follow : (modules : List ModuleLine) (rest : List Line) → Follows stages.Modules rest → Follows stages.Modules (map line.Module modules ++ rest)
+modules-follow : (modules : List ModuleLine) (rest : List Line) → Follows stages.Modules rest
+    → Follows stages.Modules (map line.Module modules ++ rest)
 modules-follow [] rest h = h
 modules-follow (one ∷ modules) rest h = (refl, modules-follow modules rest h)
 
-journal-follow : (journal : List Entry) (rest : List Line) (at : Stage) → takes_journal at ≡ true → ((to : Stage) → takes_journal to ≡ true → Follows to rest) → Follows at (map line.Journal journal ++ rest)
+journal-follow : (journal : List Entry) (rest : List Line) (at : Stage) → takes_journal at ≡ true
+    → ((to : Stage) → takes_journal to ≡ true → Follows to rest) → Follows at (map line.Journal journal ++ rest)
 journal-follow [] rest at takes h = h at takes
 journal-follow (entry ∷ journal) rest at takes h = (takes, journal-follow journal rest stages.Journal refl h)
 
@@ -74,26 +76,33 @@ abbrev AreApartFrom : Option Log → List Log → Type 0
 AreApartFrom None log = AreApart log
 AreApartFrom (Some last) log = AreApart (last ∷ log)
 
-first_apart : (last : Option Log) (entry : Log) (log : List Log) → AreApartFrom last (entry ∷ log) → (may_follow (stages.Log last) (line.Log entry) ≡ true) × AreApart (entry ∷ log)
+first_apart : (last : Option Log) (entry : Log) (log : List Log) → AreApartFrom last (entry ∷ log)
+    → (may_follow (stages.Log last) (line.Log entry) ≡ true) × AreApart (entry ∷ log)
 first_apart None entry log h = (refl, h)
 first_apart (Some last) entry log h = (h.0, h.1)
 
-log-follow : (log : List Log) (rest : List Line) (last : Option Log) → AreApartFrom last log → ((to : Option Log) → Follows (stages.Log to) rest) → Follows (stages.Log last) (map line.Log log ++ rest)
+log-follow : (log : List Log) (rest : List Line) (last : Option Log) → AreApartFrom last log
+    → ((to : Option Log) → Follows (stages.Log to) rest) → Follows (stages.Log last) (map line.Log log ++ rest)
 log-follow [] rest last apart h = h last
 log-follow (entry ∷ log) rest last apart h =
     let first = first_apart last entry log apart in
     (first.0, log-follow log rest (Some entry) first.1 h)
 
-ending-follow : (guest : GuestPart) (rest : List Line) (last : Option Log) → Follows stages.Guests rest → Follows (stages.Log last) (ending_lines guest ++ rest)
+ending-follow : (guest : GuestPart) (rest : List Line) (last : Option Log) → Follows stages.Guests rest
+    → Follows (stages.Log last) (ending_lines guest ++ rest)
 ending-follow guest rest last h = (refl, (refl, (refl, (refl, h))))
 
-guests-follow : (guests : List GuestPart) (rest : List Line) (at : Stage) → takes_guests at ≡ true → Each (λ (guest : GuestPart). AreApart guest.log) guests → ((to : Stage) → takes_guests to ≡ true → Follows to rest) → Follows at (flat_map guest_lines guests ++ rest)
+guests-follow : (guests : List GuestPart) (rest : List Line) (at : Stage) → takes_guests at ≡ true
+    → Each (λ (guest : GuestPart). AreApart guest.log) guests
+    → ((to : Stage) → takes_guests to ≡ true → Follows to rest) → Follows at (flat_map guest_lines guests ++ rest)
 guests-follow [] rest at takes apart h = h at takes
 guests-follow (guest ∷ guests) rest at takes apart h =
     let more = flat_map guest_lines guests ++ rest in
     let others = guests-follow guests rest stages.Guests refl apart.1 h in
-    let log = log-follow guest.log (ending_lines guest ++ more) None apart.0 (λ to. ending-follow guest more to others) in
-    let same : flat_map guest_lines (guest ∷ guests) ++ rest ≡ line.Guest guest.number guest.entry ∷ (map line.Log guest.log ++ (ending_lines guest ++ more)) = simp append_assoc in
+    let log = log-follow guest.log (ending_lines guest ++ more) None apart.0
+    (λ to. ending-follow guest more to others) in
+    let same : flat_map guest_lines (guest ∷ guests) ++ rest ≡ line.Guest guest.number guest.entry ∷
+    (map line.Log guest.log ++ (ending_lines guest ++ more)) = simp append_assoc in
     subst (Follows at) (sym same) (takes, log)
 
 journal_then_guests : (at : Stage) → takes_journal at ≡ true → takes_guests at ≡ true
@@ -102,15 +111,18 @@ journal_then_guests stages.Journal h = refl
 journal_then_guests _ h = cc
 
 -- the lines of a report stand in order
-pub lines_of-Follows : (report : Report) → Each (λ (guest : GuestPart). AreApart guest.log) report.guests → Follows stages.Start (lines_of report)
+pub lines_of-Follows : (report : Report) → Each (λ (guest : GuestPart). AreApart guest.log) report.guests
+    → Follows stages.Start (lines_of report)
 lines_of-Follows report apart =
     let last : List Line = line.End ∷ [] in
     let guests = flat_map guest_lines report.guests ++ last in
     let journal = map line.Journal report.journal ++ guests in
     let all_guests = λ (at : Stage) (takes : takes_journal at ≡ true).
     guests-follow report.guests last at (journal_then_guests at takes) apart (λ to takes. (takes, tt)) in
-    let all = modules-follow report.modules journal (journal-follow report.journal guests stages.Modules refl all_guests) in
-    let same : lines_of report ≡ line.Title ∷ line.Force report.epoch report.policy ∷ (map line.Module report.modules ++ journal) = simp append_assoc in
+    let all = modules-follow report.modules journal
+    (journal-follow report.journal guests stages.Modules refl all_guests) in
+    let same : lines_of report ≡ line.Title ∷ line.Force report.epoch report.policy ∷
+    (map line.Module report.modules ++ journal) = simp append_assoc in
     subst (Follows stages.Start) (sym same) (refl, (refl, all))
 
 pub last_stage-lines_of : (report : Report) → last_stage stages.Start (lines_of report) ≡ stages.Ended

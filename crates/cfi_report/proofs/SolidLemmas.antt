@@ -31,7 +31,8 @@ digits-solid (byte ∷ bytes) h = and_from _ _ (lt-ltb 32 byte (omega (arith, h.
 
 names-solid : (word : List ℕ) → list_all is_name_byte word ≡ true → solid word ≡ true
 names-solid [] h = refl
-names-solid (byte ∷ bytes) h = let parts = and_parts _ _ h in and_from _ _ (lt-ltb 32 byte (name_byte byte parts.0)) (names-solid bytes parts.1)
+names-solid (byte ∷ bytes) h =
+    let parts = and_parts _ _ h in and_from _ _ (lt-ltb 32 byte (name_byte byte parts.0)) (names-solid bytes parts.1)
   where
     name_byte : (byte : ℕ) → is_name_byte byte ≡ true → 32 < byte
     name_byte byte h = grind (arith, nat_tests)
@@ -45,7 +46,8 @@ digit-solid d = grind (arith, nat_tests)
 
 hex-solid : (bytes : List ℕ) → solid (hex_text bytes) ≡ true
 hex-solid [] = refl
-hex-solid (byte ∷ bytes) = and_from _ _ (digit-solid (byte / 16 % 16)) (and_from _ _ (digit-solid (byte % 16)) (hex-solid bytes))
+hex-solid (byte ∷ bytes) =
+    and_from _ _ (digit-solid (byte / 16 % 16)) (and_from _ _ (digit-solid (byte % 16)) (hex-solid bytes))
 
 bytes-solid : (bytes : List ℕ) → solid (bytes_text bytes) ≡ true
 bytes-solid [] = refl
@@ -53,7 +55,17 @@ bytes-solid (byte ∷ bytes) = hex-solid (byte ∷ bytes)
 
 address-solid : (n : ℕ) → solid (hex8_text n) ≡ true
 address-solid n =
-    rw (digit-solid (n / 16 / 16 / 16 / 16 / 16 / 16 / 16 % 16), digit-solid (n / 16 / 16 / 16 / 16 / 16 / 16 % 16), digit-solid (n / 16 / 16 / 16 / 16 / 16 % 16), digit-solid (n / 16 / 16 / 16 / 16 % 16), digit-solid (n / 16 / 16 / 16 % 16), digit-solid (n / 16 / 16 % 16), digit-solid (n / 16 % 16), digit-solid (n % 16)) refl
+    rw (
+      digit-solid (n / 16 / 16 / 16 / 16 / 16 / 16 / 16 % 16),
+      digit-solid (n / 16 / 16 / 16 / 16 / 16 / 16 % 16),
+      digit-solid (n / 16 / 16 / 16 / 16 / 16 % 16),
+      digit-solid (n / 16 / 16 / 16 / 16 % 16),
+      digit-solid
+          (n / 16 / 16 / 16 % 16),
+      digit-solid (n / 16 / 16 % 16),
+      digit-solid (n / 16 % 16),
+      digit-solid (n % 16),
+    ) refl
 
 -- a fixed word is solid
 abbrev fixed : Field → Bool
@@ -105,9 +117,11 @@ line-fixed line.End = refl
 abbrev IsSolid : List ℕ → Type 0
 IsSolid word = solid word ≡ true
 
-fields-solid : (fields : List Field) → Each IsField fields → list_all fixed fields ≡ true → Each IsSolid (map field_text fields)
+fields-solid : (fields : List Field) → Each IsField fields → list_all fixed fields ≡ true
+    → Each IsSolid (map field_text fields)
 fields-solid [] h f = tt
-fields-solid (field ∷ fields) h f = let parts = and_parts _ _ f in (field-solid field h.0 parts.0, fields-solid fields h.1 parts.1)
+fields-solid (field ∷ fields) h f =
+    let parts = and_parts _ _ f in (field-solid field h.0 parts.0, fields-solid fields h.1 parts.1)
 
 words-solid : (one : Line) → IsLine one → Each IsSolid (line_words one)
 words-solid one h = fields-solid (line_fields one) h.0 (line-fixed one)
@@ -121,16 +135,20 @@ lacks byte low (first ∷ word) h =
     All-cons (λ other. nat_eq other byte ≡ false) first word other (lacks byte low word parts.1)
 
 -- words that spaces part
-parted : (word : List ℕ) (words : List (List ℕ)) → Each IsSolid (word ∷ words) → words_in (join_with_byte 32 (word ∷ words)) ≡ word ∷ words
+parted : (word : List ℕ) (words : List (List ℕ)) → Each IsSolid (word ∷ words)
+    → words_in (join_with_byte 32 (word ∷ words)) ≡ word ∷ words
 unfolding words_in
 parted word [] h = slice_split_none _ word (lacks 32 (omega arith) word h.0)
 parted word (next ∷ words) h =
-    slice_split_at _ word 32 (join_with_byte 32 (next ∷ words)) (lacks 32 (omega arith) word h.0) refl ∙ ap (λ (l : List (List ℕ)). word ∷ l) (parted next words h.1)
+    slice_split_at _ word 32 (join_with_byte 32 (next ∷ words)) (lacks 32 (omega arith) word h.0) refl
+    ∙ ap (λ (l : List (List ℕ)). word ∷ l) (parted next words h.1)
 
-no_end : (word : List ℕ) (words : List (List ℕ)) → Each IsSolid (word ∷ words) → Lacks 10 (join_with_byte 32 (word ∷ words))
+no_end : (word : List ℕ) (words : List (List ℕ)) → Each IsSolid (word ∷ words)
+    → Lacks 10 (join_with_byte 32 (word ∷ words))
 no_end word [] h = lacks 10 (omega arith) word h.0
 no_end word (next ∷ words) h =
-    All-append (λ other. nat_eq other 10 ≡ false) word _ (lacks 10 (omega arith) word h.0) (All-cons (λ other. nat_eq other 10 ≡ false) 32 _ refl (no_end next words h.1))
+    All-append (λ other. nat_eq other 10 ≡ false) word _ (lacks 10 (omega arith) word h.0)
+    (All-cons (λ other. nat_eq other 10 ≡ false) 32 _ refl (no_end next words h.1))
 
 -- the same of a line, whose first word has a byte
 
@@ -150,10 +168,14 @@ some_words P h (line.Steps n) = h _ _ _
 some_words P h line.End = h _ _ _
 
 pub line_words-parted : (one : Line) → IsLine one → words_in (join_with_byte 32 (line_words one)) ≡ line_words one
-line_words-parted one h = some_words (λ words. Each IsSolid words → words_in (join_with_byte 32 words) ≡ words) (λ byte word words. parted (byte ∷ word) words) one (words-solid one h)
+line_words-parted one h =
+    some_words (λ words. Each IsSolid words → words_in (join_with_byte 32 words) ≡ words)
+    (λ byte word words. parted (byte ∷ word) words) one (words-solid one h)
 
 pub line_words-no_end : (one : Line) → IsLine one → Lacks 10 (join_with_byte 32 (line_words one))
-line_words-no_end one h = some_words (λ words. Each IsSolid words → Lacks 10 (join_with_byte 32 words)) (λ byte word words. no_end (byte ∷ word) words) one (words-solid one h)
+line_words-no_end one h =
+    some_words (λ words. Each IsSolid words → Lacks 10 (join_with_byte 32 words))
+    (λ byte word words. no_end (byte ∷ word) words) one (words-solid one h)
 
 long : (byte : ℕ) (word : List ℕ) (words : List (List ℕ)) → 1 ≤ length (join_with_byte 32 ((byte ∷ word) ∷ words))
 long byte word [] = omega arith

@@ -136,10 +136,18 @@ with_line draft line.Title = record draft { stage = stages.Titled }
 with_line draft (line.Force epoch policy) = record draft { stage = stages.Modules; epoch = epoch; policy = policy }
 with_line draft (line.Module one) = record draft { stage = stages.Modules; modules = draft.modules ++ one ∷ [] }
 with_line draft (line.Journal entry) = record draft { stage = stages.Journal; journal = draft.journal ++ entry ∷ [] }
-with_line draft (line.Guest number entry) = record draft { stage = stages.Log None; number = number; entry = entry; log = [] }
+with_line draft (line.Guest number entry) =
+    record draft { stage = stages.Log None; number = number; entry = entry; log = [] }
 with_line draft (line.Log entry) = record draft { stage = stages.Log (Some entry); log = draft.log ++ entry ∷ [] }
 with_line draft (line.Out bytes) = record draft { stage = stages.Out; out = bytes }
 with_line draft (line.Stop stop) = record draft { stage = stages.Stop; stop = stop }
 with_line draft (line.Units units) = record draft { stage = stages.Units; units = units }
-with_line draft (line.Steps steps) = record draft { stage = stages.Guests; guests = draft.guests ++ part_of draft steps ∷ []; entry = []; log = []; out = [] }
+with_line draft (line.Steps steps) =
+    record draft {
+      stage = stages.Guests;
+      guests = draft.guests ++ part_of draft steps ∷ [];
+      entry = [];
+      log = [];
+      out = [];
+    }
 with_line draft line.End = record draft { stage = stages.Ended }

@@ -137,7 +137,8 @@ unfoldable pub stop_form : (word end : List ℕ) → Option Line
 stop_form word end =
     if bytes_eq word (codes "exit") then option_map (λ code. line.Stop (Some (Exit code))) (number_in end)
     else (if bytes_eq word (codes "halt") then option_map (λ address. line.Stop (Some (Halt address))) (address_in end)
-    else (if bytes_eq word (codes "align") then option_map (λ address. line.Stop (Some (Align address))) (address_in end)
+    else (if bytes_eq word (codes "align")
+    then option_map (λ address. line.Stop (Some (Align address))) (address_in end)
     else None))
 
 unfoldable pub force_form : (epoch policy : List ℕ) → Option Line

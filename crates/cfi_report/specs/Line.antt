@@ -40,15 +40,20 @@ who_field Script = Word (codes "script")
 who_field (Guest number) = Decimal number
 
 abbrev pub what_fields : JournalLine → List Field
-what_fields (LoadOk number epoch policy) = Word (codes "load") ∷ Decimal number ∷ Word (codes "ok") ∷ Decimal epoch ∷ Decimal policy ∷ []
-what_fields (LoadAgain number policy) = Word (codes "load") ∷ Decimal number ∷ Word (codes "again") ∷ Decimal policy ∷ []
+what_fields (LoadOk number epoch policy) =
+    Word (codes "load") ∷ Decimal number ∷ Word (codes "ok") ∷ Decimal epoch ∷ Decimal policy ∷ []
+what_fields (LoadAgain number policy) =
+    Word (codes "load") ∷ Decimal number ∷ Word (codes "again") ∷ Decimal policy ∷ []
 what_fields (LoadFull number) = Word (codes "load") ∷ Decimal number ∷ Word (codes "full") ∷ []
 what_fields (LoadPlace number fault) = Word (codes "load") ∷ Decimal number ∷ Word (codes "place") ∷ Decimal fault ∷ []
-what_fields (LoadVerify number fault place) = Word (codes "load") ∷ Decimal number ∷ Word (codes "verify") ∷ Decimal fault ∷ Decimal place ∷ []
-what_fields (LoadVersions number guest quiet) = Word (codes "load") ∷ Decimal number ∷ Word (codes "versions") ∷ Decimal guest ∷ Decimal quiet ∷ []
+what_fields (LoadVerify number fault place) =
+    Word (codes "load") ∷ Decimal number ∷ Word (codes "verify") ∷ Decimal fault ∷ Decimal place ∷ []
+what_fields (LoadVersions number guest quiet) =
+    Word (codes "load") ∷ Decimal number ∷ Word (codes "versions") ∷ Decimal guest ∷ Decimal quiet ∷ []
 what_fields (LoadEpochs number) = Word (codes "load") ∷ Decimal number ∷ Word (codes "epochs") ∷ []
 what_fields (RefreshOk epoch) = Word (codes "refresh") ∷ Word (codes "ok") ∷ Decimal epoch ∷ []
-what_fields (RefreshVersions guest quiet) = Word (codes "refresh") ∷ Word (codes "versions") ∷ Decimal guest ∷ Decimal quiet ∷ []
+what_fields (RefreshVersions guest quiet) =
+    Word (codes "refresh") ∷ Word (codes "versions") ∷ Decimal guest ∷ Decimal quiet ∷ []
 what_fields RefreshEpochs = Word (codes "refresh") ∷ Word (codes "epochs") ∷ []
 
 abbrev pub log_fields : Log → List Field
@@ -66,7 +71,9 @@ stop_fields None = Word (codes "none") ∷ []
 abbrev pub line_fields : Line → List Field
 line_fields line.Title = Word (codes "report") ∷ Word (codes "1") ∷ []
 line_fields (line.Force epoch policy) = Word (codes "force") ∷ Decimal epoch ∷ Decimal policy ∷ []
-line_fields (line.Module one) = Word (codes "module") ∷ Decimal one.number ∷ Name one.name ∷ Decimal one.base ∷ Decimal one.slot ∷ Address one.data_base ∷ Decimal one.policy ∷ []
+line_fields (line.Module one) =
+    Word (codes "module") ∷ Decimal one.number ∷ Name one.name ∷ Decimal one.base ∷ Decimal one.slot
+    ∷ Address one.data_base ∷ Decimal one.policy ∷ []
 line_fields (line.Journal entry) = Word (codes "journal") ∷ who_field entry.who ∷ what_fields entry.what
 line_fields (line.Guest number entry) = Word (codes "guest") ∷ Decimal number ∷ Name entry ∷ []
 line_fields (line.Log entry) = log_fields entry

@@ -1,8 +1,8 @@
 //! Reports: what a run has come to, as a value and as a text.
 //!
-//! Stands on `cfi_text`, `cfi_unit` and `cfi_plan`. Proved: `write_report` gives the text of `specs/Report.antt`, and
-//! `read_report` takes exactly such texts of reports, or names the first line that no report has there. Only tested: the
-//! texts of faults, and that memory suffices. Open: nothing.
+//! Stands on `cfi_text`, `cfi_unit` and `cfi_plan`. Proved: `write_report` gives the text of `specs/Report.antt`;
+//! `read_report` takes exactly the texts of reports, and of each other text names the first line up to which no report
+//! goes. Only tested: the texts of faults, and that memory suffices. Open: nothing.
 #![tactic(auto)]
 
 mod draft;

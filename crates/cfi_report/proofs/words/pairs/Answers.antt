@@ -4,7 +4,8 @@ use Rattle.cfi_report.proofs.words.pairs.Goals as goal
 
 pub returns-in_default-pair : goal.returns-in_default-pair
 returns-in_default-pair c =
-    let never = no_pair c.loop-rest.rest.now (omega arith) (λ byte fits digits. c.in_default-pair.not-Some byte (c.pair.ensures.only byte fits digits)) in
+    let never = no_pair c.loop-rest.rest.now (omega arith)
+    (λ byte fits digits. c.in_default-pair.not-Some byte (c.pair.ensures.only byte fits digits)) in
     rw (pairs_in-stop c.args.word.now c.loop-rest.bytes.items c.loop-rest.rest.now c.loop-rest.invariant never)
 
 pub returns-then-not-is_empty : goal.returns-then-not-is_empty

@@ -5,4 +5,5 @@ use Rattle.cfi_report.proofs.writer.put_guests.Given as goal
 
 -- the guests before this one are written
 abbrev pub invariant-loop-guest : goal.invariant-loop-guest
-invariant-loop-guest l = IsWritten (λ guests. lines_text (flat_map guest_lines guests)) l.fn.out.items l.out.items l.guests l.guest-index
+invariant-loop-guest l =
+    IsWritten (λ guests. lines_text (flat_map guest_lines guests)) l.fn.out.items l.out.items l.guests l.guest-index

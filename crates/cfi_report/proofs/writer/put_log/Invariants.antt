@@ -6,4 +6,5 @@ use Rattle.cfi_report.proofs.writer.put_log.Given as goal
 
 -- the entries before this one are written
 abbrev pub invariant-loop-entry : goal.invariant-loop-entry
-invariant-loop-entry l = IsWritten (λ entries. lines_text (map line.Log entries)) l.fn.out.items l.out.items l.log l.entry-index
+invariant-loop-entry l =
+    IsWritten (λ entries. lines_text (map line.Log entries)) l.fn.out.items l.out.items l.log l.entry-index

@@ -6,4 +6,5 @@ use Rattle.cfi_report.proofs.writer.put_modules.Given as goal
 
 -- the modules before this one are written
 abbrev pub invariant-loop-module : goal.invariant-loop-module
-invariant-loop-module l = IsWritten (λ modules. lines_text (map line.Module modules)) l.fn.out.items l.out.items l.modules l.module-index
+invariant-loop-module l =
+    IsWritten (λ modules. lines_text (map line.Module modules)) l.fn.out.items l.out.items l.modules l.module-index
