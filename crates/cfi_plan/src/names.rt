@@ -20,7 +20,7 @@ pub fn name_of(alloc: Global, word: &[u8]) -> Result<Option<Text>, AllocError>
     }
 }
 
-// The text of a word that may be the name of a file.
+/// The text of a word that may be the name of a file. `None` where it is none.
 #[tactic(auto, unfolding(crate::specs::Names::is_file))]
 pub fn file_of(alloc: Global, word: &[u8]) -> Result<Option<Text>, AllocError>
     ensures { IfOk result (λ found. found ≡ file_in word.now) }

@@ -61,8 +61,7 @@ closing-Closes stages.Start =
     record {
       follow = (refl, (refl, (refl, tt)));
       lines = (title-IsLine, (force-IsLine, (end-IsLine, tt)));
-      last =
-          refl;
+      last = refl;
     }
 closing-Closes stages.Titled =
     record { follow = (refl, (refl, tt)); lines = (force-IsLine, (end-IsLine, tt)); last = refl }
@@ -72,23 +71,20 @@ closing-Closes stages.Guests = record { follow = (refl, tt); lines = (end-IsLine
 closing-Closes (stages.Log last) =
     record {
       follow = (refl, (refl, (refl, (refl, (refl, tt)))));
-      lines =
-          (out-IsLine, (fuel-IsLine, (units-IsLine, (steps-IsLine, (end-IsLine, tt)))));
+      lines = (out-IsLine, (fuel-IsLine, (units-IsLine, (steps-IsLine, (end-IsLine, tt)))));
       last = refl;
     }
 closing-Closes stages.Out =
     record {
       follow = (refl, (refl, (refl, (refl, tt))));
-      lines =
-          (fuel-IsLine, (units-IsLine, (steps-IsLine, (end-IsLine, tt))));
+      lines = (fuel-IsLine, (units-IsLine, (steps-IsLine, (end-IsLine, tt))));
       last = refl;
     }
 closing-Closes stages.Stop =
     record {
       follow = (refl, (refl, (refl, tt)));
       lines = (units-IsLine, (steps-IsLine, (end-IsLine, tt)));
-      last =
-          refl;
+      last = refl;
     }
 closing-Closes stages.Units =
     record { follow = (refl, (refl, tt)); lines = (steps-IsLine, (end-IsLine, tt)); last = refl }
