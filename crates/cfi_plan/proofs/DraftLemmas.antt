@@ -14,7 +14,8 @@ position_or_len-le : (p : PlanModule → Bool) (xs : List PlanModule) → positi
 position_or_len-le p xs = prefix_len-le-length (λ (x : PlanModule). not (p x)) xs
 
 -- an item that fails changes no first place
-position-push_no : (p : PlanModule → Bool) (xs : List PlanModule) (y : PlanModule) → p y ≡ false → position p (xs ++ y ∷ []) ≡ position p xs
+position-push_no : (p : PlanModule → Bool) (xs : List PlanModule) (y : PlanModule) → p y ≡ false
+    → position p (xs ++ y ∷ []) ≡ position p xs
 position-push_no p xs y e =
     let push = rw e at (position_or_len_push p xs y) in
     let most = position_or_len-le p xs in
@@ -22,7 +23,8 @@ position-push_no p xs y e =
     grind (arith, nat_tests)
 
 -- an item that passes is the first, where none before it does
-position-push_yes : (p : PlanModule → Bool) (xs : List PlanModule) (y : PlanModule) → p y ≡ true → position p xs ≡ None → position p (xs ++ y ∷ []) ≡ Some (length xs)
+position-push_yes : (p : PlanModule → Bool) (xs : List PlanModule) (y : PlanModule) → p y ≡ true → position p xs ≡ None
+    → position p (xs ++ y ∷ []) ≡ Some (length xs)
 position-push_yes p xs y e none =
     let push = rw e at (position_or_len_push p xs y) in
     let most = position_or_len-le p xs in
@@ -30,17 +32,21 @@ position-push_yes p xs y e none =
     grind (arith, nat_tests)
 
 -- a module of a new name takes the next number
-pub module_of-push : (modules : List PlanModule) (one : PlanModule) (name : List ℕ) → module_of modules one.name ≡ None → module_of (modules ++ one ∷ []) name ≡ cond (bytes_eq one.name name) (Some (length modules)) (module_of modules name)
+pub module_of-push : (modules : List PlanModule) (one : PlanModule) (name : List ℕ) → module_of modules one.name ≡ None
+    → module_of (modules ++ one ∷ []) name ≡ cond (bytes_eq one.name name) (Some (length modules)) (module_of modules
+    name)
 module_of-push modules one name none =
     let p : PlanModule → Bool = λ other. bytes_eq other.name name in
     let found = λ (same : bytes_eq one.name name ≡ true).
-    let absent = subst (λ (other : List ℕ). module_of modules other ≡ None) ((bytes_eq-Decides one.name name).0 same) none in
+    let absent = subst (λ (other : List ℕ). module_of modules other ≡ None) ((bytes_eq-Decides one.name name).0 same)
+    none in
     position-push_yes p modules one same absent ∙ sym (cond-true (bytes_eq one.name name) _ _ same) in
     let missed = λ (other : bytes_eq one.name name ≡ false).
     position-push_no p modules one other ∙ sym (cond-false (bytes_eq one.name name) _ _ other) in
     ⊎_elim found missed (cases_Bool (bytes_eq one.name name))
 
-pub starts-push : (modules : List PlanModule) (one : PlanModule) → starts (modules ++ one ∷ []) ≡ starts modules + one_if one.start
+pub starts-push : (modules : List PlanModule) (one : PlanModule)
+    → starts (modules ++ one ∷ []) ≡ starts modules + one_if one.start
 starts-push modules one = sum_by-append (λ (x : PlanModule). one_if x.start) modules (one ∷ []) ∙ omega arith
 
 -- what is not there

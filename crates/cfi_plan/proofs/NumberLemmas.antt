@@ -13,15 +13,18 @@ is_spelled word = nat_lt (place_value word) (2 ^ 64) && bytes_eq word (dec_text 
 both : (a b : Bool) → a ≡ true → b ≡ true → (a && b) ≡ true
 both a b x y = rw (x, y) refl
 
-pub number_in-some : (word : List ℕ) (value : ℕ) → value < 2 ^ 64 → IsDecimal word value → word ≡ dec_text value → number_in word ≡ Some value
+pub number_in-some : (word : List ℕ) (value : ℕ) → value < 2 ^ 64 → IsDecimal word value → word ≡ dec_text value
+    → number_in word ≡ Some value
 unfolding number_in
 number_in-some word value fits decimal text =
     let small : place_value word < 2 ^ 64 = omega (arith, decimal.same) in
     let text : word ≡ dec_text (place_value word) = rw decimal.same text in
-    let spelled = both _ _ (lt-ltb (place_value word) (2 ^ 64) small) ((bytes_eq-Decides word (dec_text (place_value word))).1 text) in
+    let spelled = both _ _ (lt-ltb (place_value word) (2 ^ 64) small) ((bytes_eq-Decides word (dec_text (place_value
+    word))).1 text) in
     cond-true (is_spelled word) _ _ spelled ∙ ap Some decimal.same
 
-pub number_in-none : (word : List ℕ) → ((value : ℕ) → value < 2 ^ 64 → word ≡ dec_text value → ⊥) → number_in word ≡ None
+pub number_in-none : (word : List ℕ) → ((value : ℕ) → value < 2 ^ 64 → word ≡ dec_text value → ⊥)
+    → number_in word ≡ None
 unfolding number_in
 number_in-none word never =
     let spelled = λ (h : is_spelled word ≡ true).

@@ -55,7 +55,11 @@ empty-IsSound = record {
 -- tests of limits
 
 code_size : (number : ℕ) → (eqb (number % 1024) 0 && leb 1024 number && leb number 65536) ≡ true → IsCodeSize number
-code_size number h = record { multiple = grind (arith, nat_tests); least = grind (arith, nat_tests); most = grind (arith, nat_tests) }
+code_size number h = record {
+  multiple = grind (arith, nat_tests);
+  least = grind (arith, nat_tests);
+  most = grind (arith, nat_tests);
+}
 
 between : (low high number : ℕ) → (leb low number && leb number high) ≡ true → (low ≤ number) × (number ≤ high)
 between low high number h = (grind (arith, nat_tests), grind (arith, nat_tests))
@@ -69,17 +73,21 @@ below high number h = grind (arith, nat_tests)
 -- modules
 
 -- no module has a name that is not found
-absent : (p : PlanModule → Bool) (modules : List PlanModule) → is_some (position p modules) ≡ false → length modules ≤ position_or_len p modules
+absent : (p : PlanModule → Bool) (modules : List PlanModule) → is_some (position p modules) ≡ false
+    → length modules ≤ position_or_len p modules
 absent p modules h = grind (arith, nat_tests)
 
-others : (modules : List PlanModule) (one : PlanModule) → is_some (module_of modules one.name) ≡ false → (k : ℕ) (d : PlanModule) → k < length modules → AreApart (get_or modules k d) one
+others : (modules : List PlanModule) (one : PlanModule) → is_some (module_of modules one.name) ≡ false
+    → (k : ℕ) (d : PlanModule) → k < length modules → AreApart (get_or modules k d) one
 others modules one h k d within same =
     let p : PlanModule → Bool = λ other. bytes_eq other.name one.name in
     let past = absent p modules h in
     let differs = fails_before_first p modules k d (omega arith) in
     false≢true (sym differs ∙ (bytes_eq-Decides (get_or modules k d).name one.name).1 same)
 
-modules-push : (modules : List PlanModule) (one : PlanModule) → AreModules modules → IsNamed one → is_some (module_of modules one.name) ≡ false → (ltb (length modules) 128 && leb (starts modules + one_if one.start) 64) ≡ true → AreModules (modules ++ one ∷ [])
+modules-push : (modules : List PlanModule) (one : PlanModule) → AreModules modules → IsNamed one
+    → is_some (module_of modules one.name) ≡ false
+    → (ltb (length modules) 128 && leb (starts modules + one_if one.start) 64) ≡ true → AreModules (modules ++ one ∷ [])
 modules-push modules one s named new within =
     let parts = and_parts _ _ within in
     let room = below 128 (length modules) parts.0 in
@@ -104,10 +112,13 @@ script-more few many lines h s = record {
   lines = λ k d within. wider few many (get_or lines k d) h (s.lines k d within);
 }
 
-refreshes-push : (lines : List ScriptLine) (line : ScriptLine) → refreshes (lines ++ line ∷ []) ≡ refreshes lines + refreshes_of line
+refreshes-push : (lines : List ScriptLine) (line : ScriptLine)
+    → refreshes (lines ++ line ∷ []) ≡ refreshes lines + refreshes_of line
 refreshes-push lines line = sum_by-append refreshes_of lines (line ∷ []) ∙ omega arith
 
-script-push : (modules : ℕ) (lines : List ScriptLine) (line : ScriptLine) → IsScript modules lines → IsScriptLine modules line → length lines < 1000 → refreshes lines + refreshes_of line ≤ 10000 → IsScript modules (lines ++ line ∷ [])
+script-push : (modules : ℕ) (lines : List ScriptLine) (line : ScriptLine) → IsScript modules lines
+    → IsScriptLine modules line → length lines < 1000 → refreshes lines + refreshes_of line ≤ 10000
+    → IsScript modules (lines ++ line ∷ [])
 script-push modules lines line s l room most = record {
   most = omega (arith, length-append lines (line ∷ []));
   most_refreshes = omega (arith, refreshes-push lines line);
@@ -115,23 +126,92 @@ script-push modules lines line s l room most = record {
 }
 
 -- a module that is found is there
-found : (p : PlanModule → Bool) (modules : List PlanModule) → is_none (position p modules) ≡ false → unwrap_or (position p modules) 0 < length modules
+found : (p : PlanModule → Bool) (modules : List PlanModule) → is_none (position p modules) ≡ false
+    → unwrap_or (position p modules) 0 < length modules
 found p modules h = grind (arith, nat_tests)
 
-guests-push : (guests : List (List ℕ)) (entry : List ℕ) → AreGuests guests → is_name entry ≡ true → length guests < 16 → AreGuests (guests ++ entry ∷ [])
+guests-push : (guests : List (List ℕ)) (entry : List ℕ) → AreGuests guests → is_name entry ≡ true → length guests < 16
+    → AreGuests (guests ++ entry ∷ [])
 guests-push guests entry s named room = record {
   most = omega (arith, length-append guests (entry ∷ []));
   named = All-push (λ one. is_name one ≡ true) guests entry s.named named;
 }
 
 -- a line leaves a draft within the limits
-pub line-IsSound : (draft : Draft) (line : Line) → IsSound draft → IsLine line → is_astray draft line ≡ false → is_within draft line ≡ true → IsSound (with_line draft line)
+pub line-IsSound : (draft : Draft) (line : Line) → IsSound draft → IsLine line → is_astray draft line ≡ false
+    → is_within draft line ≡ true → IsSound (with_line draft line)
 line-IsSound draft Blank s l a w = s
-line-IsSound draft (Code number) s l a w = record { code = code_size number w; versions = s.versions; first = s.first; fuel = s.fuel; modules = s.modules; guests = s.guests; script = s.script }
-line-IsSound draft (Versions number) s l a w = record { code = s.code; versions = between 3 16384 number w; first = s.first; fuel = s.fuel; modules = s.modules; guests = s.guests; script = s.script }
-line-IsSound draft (Epoch number) s l a w = record { code = s.code; versions = s.versions; first = at_most 16777215 number w; fuel = s.fuel; modules = s.modules; guests = s.guests; script = s.script }
-line-IsSound draft (Fuel number) s l a w = record { code = s.code; versions = s.versions; first = s.first; fuel = between 1 10000000 number w; modules = s.modules; guests = s.guests; script = s.script }
-line-IsSound draft (Module one) s l a w = record { code = s.code; versions = s.versions; first = s.first; fuel = s.fuel; modules = modules-push draft.modules one s.modules l a w; guests = s.guests; script = script-more _ _ draft.script (omega (arith, length-append draft.modules (one ∷ []))) s.script }
-line-IsSound draft (Guest entry) s l a w = record { code = s.code; versions = s.versions; first = s.first; fuel = s.fuel; modules = s.modules; guests = guests-push draft.guests entry s.guests l (below 16 _ w); script = s.script }
-line-IsSound draft (Load name) s l a w = record { code = s.code; versions = s.versions; first = s.first; fuel = s.fuel; modules = s.modules; guests = s.guests; script = script-push _ draft.script _ s.script (found _ draft.modules a) (below 1000 _ w) (omega (arith, s.script.most_refreshes)) }
-line-IsSound draft (Refresh count) s l a w = let parts = and_parts _ _ w in record { code = s.code; versions = s.versions; first = s.first; fuel = s.fuel; modules = s.modules; guests = s.guests; script = script-push _ draft.script _ s.script l (below 1000 _ parts.0) (at_most 10000 _ parts.1) }
+line-IsSound draft (Code number) s l a w = record {
+  code = code_size number w;
+  versions = s.versions;
+  first = s.first;
+  fuel = s.fuel;
+  modules = s.modules;
+  guests = s.guests;
+  script = s.script;
+}
+line-IsSound draft (Versions number) s l a w = record {
+  code = s.code;
+  versions = between 3 16384 number w;
+  first = s.first;
+  fuel = s.fuel;
+  modules = s.modules;
+  guests = s.guests;
+  script = s.script;
+}
+line-IsSound draft (Epoch number) s l a w = record {
+  code = s.code;
+  versions = s.versions;
+  first = at_most 16777215 number w;
+  fuel = s.fuel;
+  modules = s.modules;
+  guests = s.guests;
+  script = s.script;
+}
+line-IsSound draft (Fuel number) s l a w = record {
+  code = s.code;
+  versions = s.versions;
+  first = s.first;
+  fuel = between 1 10000000 number w;
+  modules = s.modules;
+  guests = s.guests;
+  script = s.script;
+}
+line-IsSound draft (Module one) s l a w = record {
+  code = s.code;
+  versions = s.versions;
+  first = s.first;
+  fuel = s.fuel;
+  modules = modules-push draft.modules one s.modules l a w;
+  guests = s.guests;
+  script = script-more _ _ draft.script (omega (arith, length-append draft.modules (one ∷ []))) s.script;
+}
+line-IsSound draft (Guest entry) s l a w = record {
+  code = s.code;
+  versions = s.versions;
+  first = s.first;
+  fuel = s.fuel;
+  modules = s.modules;
+  guests = guests-push draft.guests entry s.guests l (below 16 _ w);
+  script = s.script;
+}
+line-IsSound draft (Load name) s l a w = record {
+  code = s.code;
+  versions = s.versions;
+  first = s.first;
+  fuel = s.fuel;
+  modules = s.modules;
+  guests = s.guests;
+  script =
+      script-push _ draft.script _ s.script (found _ draft.modules a) (below 1000 _ w)
+      (omega (arith, s.script.most_refreshes));
+}
+line-IsSound draft (Refresh count) s l a w = let parts = and_parts _ _ w in record {
+  code = s.code;
+  versions = s.versions;
+  first = s.first;
+  fuel = s.fuel;
+  modules = s.modules;
+  guests = s.guests;
+  script = script-push _ draft.script _ s.script l (below 1000 _ parts.0) (at_most 10000 _ parts.1);
+}

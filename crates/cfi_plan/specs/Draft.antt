@@ -65,14 +65,17 @@ is_astray draft (Refresh count) = false
 -- the line is within the limits
 abbrev pub is_within : Draft → Line → Bool
 is_within draft Blank = true
-is_within draft (Code number) = number % MIN_CODE_WORDS == 0 && nat_le MIN_CODE_WORDS number && nat_le number MAX_CODE_WORDS
+is_within draft (Code number) =
+    number % MIN_CODE_WORDS == 0 && nat_le MIN_CODE_WORDS number && nat_le number MAX_CODE_WORDS
 is_within draft (Versions number) = nat_le MIN_VERSIONS number && nat_le number MAX_VERSIONS
 is_within draft (Epoch number) = nat_le number MAX_EPOCH
 is_within draft (Fuel number) = nat_le 1 number && nat_le number MAX_FUEL
-is_within draft (Module one) = nat_lt (length draft.modules) MAX_MODULES && nat_le (starts draft.modules + one_if one.start) MAX_STARTS
+is_within draft (Module one) = nat_lt (length draft.modules) MAX_MODULES
+    && nat_le (starts draft.modules + one_if one.start) MAX_STARTS
 is_within draft (Guest entry) = nat_lt (length draft.guests) MAX_GUESTS
 is_within draft (Load name) = nat_lt (length draft.script) MAX_SCRIPT
-is_within draft (Refresh count) = nat_lt (length draft.script) MAX_SCRIPT && nat_le (refreshes draft.script + count) MAX_REFRESHES
+is_within draft (Refresh count) =
+    nat_lt (length draft.script) MAX_SCRIPT && nat_le (refreshes draft.script + count) MAX_REFRESHES
 
 -- the draft with the line
 abbrev pub with_line : Draft → Line → Draft
@@ -83,7 +86,9 @@ with_line draft (Epoch number) = record draft { first = Some number }
 with_line draft (Fuel number) = record draft { fuel = Some number }
 with_line draft (Module one) = record draft { modules = draft.modules ++ one ∷ [] }
 with_line draft (Guest entry) = record draft { guests = draft.guests ++ entry ∷ [] }
-with_line draft (Load name) = record draft { script = draft.script ++ script.Load (unwrap_or (module_of draft.modules name) 0) ∷ [] }
+with_line draft (Load name) = record draft {
+  script = draft.script ++ script.Load (unwrap_or (module_of draft.modules name) 0) ∷ [];
+}
 with_line draft (Refresh count) = record draft { script = draft.script ++ script.Refresh count ∷ [] }
 
 -- what comes of the line of this number

@@ -52,5 +52,6 @@ form_of [] = Some Blank
 form_of (keyword ∷ []) = None
 form_of (keyword ∷ word ∷ []) = pair_form keyword word
 form_of (keyword ∷ name ∷ file ∷ []) = None
-form_of (keyword ∷ name ∷ file ∷ when ∷ []) = if bytes_eq keyword (codes "module") then module_form name file when else None
+form_of (keyword ∷ name ∷ file ∷ when ∷ []) =
+    if bytes_eq keyword (codes "module") then module_form name file when else None
 form_of (keyword ∷ name ∷ file ∷ when ∷ word ∷ words) = None

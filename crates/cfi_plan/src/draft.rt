@@ -15,7 +15,7 @@ use std::alloc::Global;
 use std::collections::BTreeMap;
 use std::marker::Model;
 
-// A plan as far as its lines have been read.
+/// A plan as far as its lines have been read.
 #[derive(Drop)]
 pub struct Draft {
     code: Option<u32>,
@@ -44,6 +44,7 @@ impl Model for Draft {
 }
 
 impl Draft {
+    /// The draft before any line.
     pub fn new(alloc: Global) -> Draft
         ensures { result ≡ empty }
     {
@@ -60,6 +61,7 @@ impl Draft {
             refreshes: 0,
         }
     }
+
     /// Adds the line of this number.
     pub fn take_line(&mut self, alloc: Global, number: u32, line: Line) -> Result<(), PlanFault>
         ensures { Gives result self.new (taken number self.old line) }

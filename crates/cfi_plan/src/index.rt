@@ -6,14 +6,14 @@ use crate::text::Text;
 use std::alloc::{AllocError, Global};
 use std::collections::BTreeMap;
 
-// The number under the name.
+/// The number under the name.
 pub fn number_of(names: &BTreeMap<String, u32>, name: &Text) -> Option<u32>
     ensures { result ≡ get_by_text names.now name.now }
 {
     names.get(name.as_str()).copied()
 }
 
-// Puts the number under the name.
+/// Puts the number under the name.
 pub fn give_number(
     alloc: Global,
     names: &mut BTreeMap<String, u32>,

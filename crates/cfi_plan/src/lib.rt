@@ -26,7 +26,7 @@ pub use limits::{
     FUEL, MAX_CODE_WORDS, MAX_EPOCH, MAX_FUEL, MAX_GUESTS, MAX_MODULES, MAX_REFRESHES, MAX_SCRIPT,
     MAX_STARTS, MAX_VERSIONS, MIN_CODE_WORDS, MIN_VERSIONS,
 };
-pub use names::MAX_NAME;
+pub use names::{MAX_NAME, name_of};
 pub use plan::{Plan, PlanModule, ScriptLine};
 pub use reading::read_plan;
 pub use text::Text;

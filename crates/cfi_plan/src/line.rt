@@ -32,7 +32,7 @@ pub enum Line {
     Refresh(u64),
 }
 
-// The line that the statement says. `None` where it says none.
+/// The line that the statement says. `None` where it says none.
 pub fn read_line(alloc: Global, statement: &[u8]) -> Result<Option<Line>, AllocError>
     ensures { IfOk result (λ found. found ≡ form_of (words_in statement.now)) }
 {

@@ -9,7 +9,7 @@ use std::alloc::{AllocError, Global};
 /// The greatest number of bytes of a name, and of the name of a file.
 pub const MAX_NAME: usize = 255;
 
-// The text of a word that is a name.
+/// The text of a word that is a name. `None` where it is none.
 pub fn name_of(alloc: Global, word: &[u8]) -> Result<Option<Text>, AllocError>
     ensures { IfOk result (λ found. found ≡ name_in word.now) }
 {
@@ -20,7 +20,7 @@ pub fn name_of(alloc: Global, word: &[u8]) -> Result<Option<Text>, AllocError>
     }
 }
 
-// The text of a word that may be the name of a file.
+/// The text of a word that may be the name of a file. `None` where it is none.
 #[tactic(auto, unfolding(crate::specs::Names::is_file))]
 pub fn file_of(alloc: Global, word: &[u8]) -> Result<Option<Text>, AllocError>
     ensures { IfOk result (λ found. found ≡ file_in word.now) }

@@ -2,7 +2,7 @@ ghost use Rattle.std.specs.Prelude.{◌≡◌, ℕ, ◌+◌, ◌<◌, ◌≤◌,
 ghost use Rattle.std.specs.List.{position_or_len};
 ghost use Rattle.cfi_plan.specs.Words.{words_in, is_blank, is_solid};
 
-// The first word, and what comes after it. `None` where no word is left.
+/// The first word, and what comes after it. `None` where no word is left.
 pub fn next_word(statement: &[u8]) -> Option<(&[u8], &[u8])>
     ensures { MatchOption result (words_in statement.now ≡ [])
         (λ found. words_in statement.now ≡ found.0.now ∷ words_in found.1.now) }

@@ -1,0 +1,12 @@
+pub mod BackLemmas
+pub mod BuiltLemmas
+pub mod ClosingLemmas
+pub mod LawLemmas
+pub mod NextLemmas
+pub mod OrderLemmas
+pub mod ReachedLemmas
+pub mod ReadLemmas
+pub mod SaidLemmas
+pub mod SolidLemmas
+pub mod WordLemmas
+pub mod WriterLemmas

@@ -1,0 +1,19 @@
+-- How the code keeps a draft.
+use Rattle.cfi_report.specs.declared.draft.Draft.TheInside.{Inside}
+use Rattle.cfi_report.specs.Draft.{Draft}
+
+abbrev pub view_of : Inside → Draft
+view_of a = record {
+  stage = a.stage;
+  epoch = a.epoch;
+  policy = a.policy;
+  modules = a.modules.items;
+  journal = a.journal.items;
+  guests = a.guests.items;
+  number = a.number;
+  entry = a.entry;
+  log = a.log.items;
+  out = a.out;
+  stop = a.stop;
+  units = a.units;
+}

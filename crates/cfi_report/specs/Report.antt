@@ -1,0 +1,103 @@
+-- A report's text: its lines in order. Which reports there are, and the first line of a text from which on it is none.
+use Rattle.std.specs.Prelude.{◌≡◌, ℕ, ◌-◌, ◌^◌, ◌<◌, ◌≤◌, Bool, true, not, ◌==◌, ⊤, List, [], ◌∷◌, ◌++◌, length, take, map, None, Result, Ok, Err}
+use Rattle.std.specs.List.{flat_map}
+use Rattle.cfi_plan.specs.Names.{is_name}
+use Rattle.cfi_unit.specs.declared.log.Log.{Log}
+use Rattle.cfi_unit.specs.declared.log.Log.TheVariants.{Pick}
+use Rattle.cfi_report.specs.declared.line.Line.{Line}
+use Rattle.cfi_report.specs.declared.line.Line.TheVariants as line
+use Rattle.cfi_report.specs.declared.report.Report.{Report}
+use Rattle.cfi_report.specs.declared.report.GuestPart.{GuestPart}
+use Rattle.cfi_report.specs.declared.fault.ReportFault.{ReportFault}
+use Rattle.cfi_report.specs.declared.fault.ReportFault.TheVariants.{Syntax, Memory}
+use Rattle.cfi_report.specs.Line.{Field, Word, Decimal, Address, Name, Bytes, line_fields, line_text}
+
+-- what a guest has come to
+abbrev pub ending_lines : GuestPart → List Line
+ending_lines guest = line.Out guest.out ∷ line.Stop guest.stop ∷ line.Units guest.units ∷ line.Steps guest.steps ∷ []
+
+-- a guest's lines
+abbrev pub guest_lines : GuestPart → List Line
+guest_lines guest = line.Guest guest.number guest.entry ∷ map line.Log guest.log ++ ending_lines guest
+
+-- a report's lines
+abbrev pub lines_of : Report → List Line
+lines_of report =
+    line.Title ∷ line.Force report.epoch report.policy ∷ map line.Module report.modules
+    ++ map line.Journal report.journal
+    ++ flat_map guest_lines report.guests
+    ++ line.End ∷ []
+
+-- the text of lines
+abbrev pub lines_text : List Line → List ℕ
+lines_text lines = flat_map line_text lines
+
+-- a report's text
+abbrev pub text_of : Report → List ℕ
+text_of report = lines_text (lines_of report)
+
+-- the fact holds of each item
+abbrev pub Each : {A : Type 0} → (A → Type 0) → List A → Type 0
+Each P [] = ⊤
+Each P (item ∷ items) = P item × Each P items
+
+-- a number has 32 bits, a byte has 8, and a name is one
+abbrev pub IsField : Field → Type 0
+IsField (Word word) = ⊤
+IsField (Decimal number) = number < 2 ^ 32
+IsField (Address address) = address < 2 ^ 32
+IsField (Name name) = is_name name ≡ true
+IsField (Bytes bytes) = Each (λ byte. byte < 256) bytes
+
+-- a pick counts one check or more, and a guest has stopped
+abbrev pub MayStand : Line → Type 0
+MayStand (line.Log (Pick policy count)) = 0 < count
+MayStand (line.Stop None) = ⊥
+MayStand _ = ⊤
+
+-- what may stand on a line
+abbrev pub IsLine : Line → Type 0
+IsLine one = Each IsField (line_fields one) × MayStand one
+
+-- two picks of one policy are one
+abbrev pub differ : Log → Log → Bool
+differ (Pick policy count) (Pick other more) = not (policy == other)
+differ _ _ = true
+
+-- adjacent picks differ in policy
+abbrev pub AreApart : List Log → Type 0
+AreApart [] = ⊤
+AreApart (entry ∷ []) = ⊤
+AreApart (entry ∷ next ∷ log) = (differ entry next ≡ true) × AreApart (next ∷ log)
+
+-- a report that is written so, and read: what its lines say may stand there, and adjacent picks of a guest differ
+pub record IsReport (report : Report) : Type 0 where
+  pub lines : Each IsLine (lines_of report)
+  pub apart : Each (λ (guest : GuestPart). AreApart guest.log) report.guests
+
+-- the text begins with the report's first n lines, of which there are so many
+pub record BeginsAs (text : List ℕ) (n : ℕ) (report : Report) : Type 0 where
+  pub within : n ≤ length (lines_of report)
+  pub rest : List ℕ
+  pub begins : text ≡ lines_text (take n (lines_of report)) ++ rest
+
+-- the first n lines of the text are those of some report
+abbrev pub CanBegin : (text : List ℕ) → (n : ℕ) → Type 0
+CanBegin text n = (report : Report) × IsReport report × BeginsAs text n report
+
+-- The text is no report's, and n is the number of the first line, from 1, up to which no report has its lines.
+pub record IsFirstFault (text : List ℕ) (n : ℕ) : Type 0 where
+  pub no_report : (report : Report) → IsReport report → text ≡ text_of report → ⊥
+  pub before : CanBegin text (n - 1)
+  pub here : CanBegin text n → ⊥
+
+-- when each fault comes
+abbrev pub IsCause : (text : List ℕ) → ReportFault → Type 0
+IsCause text (Syntax number) = IsFirstFault text number
+IsCause text Memory = ⊤
+
+-- the answer is this report, unless memory ran out
+abbrev pub Gives : Result Report ReportFault → Report → Type 0
+Gives (Ok given) report = given ≡ report
+Gives (Err Memory) report = ⊤
+Gives (Err (Syntax number)) report = ⊥

@@ -1,0 +1,153 @@
+ghost use Rattle.std.specs.Prelude.{◌≡◌};
+ghost use Rattle.cfi_report.specs.Form.{who_in, what_two, what_three, what_four, what_five, loaded_three, loaded_four, loaded_five, journal_form};
+
+use crate::line::Line;
+use crate::words::number;
+use cfi_plan::{Entry, JournalLine, Who};
+
+/// The line of the journal, of which this came.
+#[tactic(auto, unfolding(crate::specs::Form::journal_form))]
+pub fn journal(keyword: &[u8], who: &[u8], what: Option<JournalLine>) -> Option<Line>
+    ensures { result ≡ journal_form keyword.now who.now what }
+{
+    if keyword != b"journal".as_slice() {
+        return None;
+    }
+    let who = who_of(who)?;
+    let what = what?;
+    Some(Line::Journal(Entry { who, what }))
+}
+
+#[tactic(auto, unfolding(crate::specs::Form::who_in))]
+fn who_of(word: &[u8]) -> Option<Who>
+    ensures { result ≡ who_in word.now }
+{
+    if word == b"script".as_slice() {
+        return Some(Who::Script);
+    }
+    number(word).map(Who::Guest)
+}
+
+/// What came of a call, in two words.
+#[tactic(auto, unfolding(crate::specs::Form::what_two))]
+pub fn what_two(verb: &[u8], end: &[u8]) -> Option<JournalLine>
+    ensures { result ≡ what_two verb.now end.now }
+{
+    if verb == b"refresh".as_slice() && end == b"epochs".as_slice() {
+        return Some(JournalLine::RefreshEpochs);
+    }
+    None
+}
+
+/// What came of a call, in three words.
+#[tactic(auto, unfolding(crate::specs::Form::what_three))]
+pub fn what_three(verb: &[u8], word: &[u8], end: &[u8]) -> Option<JournalLine>
+    ensures { result ≡ what_three verb.now word.now end.now }
+{
+    if verb == b"load".as_slice() {
+        let module = number(word)?;
+        return loaded_three(end, module);
+    }
+    if verb == b"refresh".as_slice() && word == b"ok".as_slice() {
+        return number(end).map(|epoch| JournalLine::RefreshOk { epoch });
+    }
+    None
+}
+
+#[tactic(auto, unfolding(crate::specs::Form::loaded_three))]
+fn loaded_three(end: &[u8], module: u32) -> Option<JournalLine>
+    ensures { result ≡ loaded_three end.now «module» }
+{
+    if end == b"full".as_slice() {
+        return Some(JournalLine::LoadFull { module });
+    }
+    if end == b"epochs".as_slice() {
+        return Some(JournalLine::LoadEpochs { module });
+    }
+    None
+}
+
+/// What came of a call, in four words.
+#[tactic(auto, unfolding(crate::specs::Form::what_four))]
+pub fn what_four(verb: &[u8], word: &[u8], other: &[u8], end: &[u8]) -> Option<JournalLine>
+    ensures { result ≡ what_four verb.now word.now other.now end.now }
+{
+    if verb == b"load".as_slice() {
+        let module = number(word)?;
+        let last = number(end)?;
+        return loaded_four(other, module, last);
+    }
+    if verb == b"refresh".as_slice() && word == b"versions".as_slice() {
+        let guest = number(other)?;
+        let quiet = number(end)?;
+        return Some(JournalLine::RefreshVersions { guest, quiet });
+    }
+    None
+}
+
+#[tactic(auto, unfolding(crate::specs::Form::loaded_four))]
+fn loaded_four(word: &[u8], module: u32, last: u32) -> Option<JournalLine>
+    ensures { result ≡ loaded_four word.now «module» last }
+{
+    if word == b"again".as_slice() {
+        return Some(JournalLine::LoadAgain {
+            module,
+            policy: last,
+        });
+    }
+    if word == b"place".as_slice() {
+        return Some(JournalLine::LoadPlace {
+            module,
+            number: last,
+        });
+    }
+    None
+}
+
+/// What came of a call, in five words.
+#[tactic(auto, unfolding(crate::specs::Form::what_five))]
+pub fn what_five(
+    verb: &[u8],
+    word: &[u8],
+    other: &[u8],
+    first: &[u8],
+    last: &[u8],
+) -> Option<JournalLine>
+    ensures { result ≡ what_five verb.now word.now other.now first.now last.now }
+{
+    if verb != b"load".as_slice() {
+        return None;
+    }
+    let module = number(word)?;
+    let first = number(first)?;
+    let last = number(last)?;
+    loaded_five(other, module, first, last)
+}
+
+#[tactic(auto, unfolding(crate::specs::Form::loaded_five))]
+fn loaded_five(word: &[u8], module: u32, first: u32, last: u32) -> Option<JournalLine>
+    ensures { result ≡ loaded_five word.now «module» first last }
+{
+    if word == b"ok".as_slice() {
+        return Some(JournalLine::LoadOk {
+            module,
+            epoch: first,
+            policy: last,
+        });
+    }
+    if word == b"verify".as_slice() {
+        return Some(JournalLine::LoadVerify {
+            module,
+            number: first,
+            place: last,
+        });
+    }
+    if word == b"versions".as_slice() {
+        return Some(JournalLine::LoadVersions {
+            module,
+            guest: first,
+            quiet: last,
+        });
+    }
+    None
+}

@@ -1,0 +1,21 @@
+//! What reports and their texts owe one another.
+
+ghost use Rattle.std.specs.Prelude.{◌≡◌, ℕ, List};
+ghost use Rattle.cfi_report.specs.declared.report.Report.{Report};
+ghost use Rattle.cfi_report.specs.Report.{IsReport, IsFirstFault, text_of};
+
+/// Some value is a report that can be read.
+pub fn some_value_is_a_report()
+    ensures { (report : Report) × IsReport report }
+{}
+
+/// A text is the text of at most one report.
+pub fn one_report()
+    ensures { (one other : Report) → IsReport one → IsReport other →
+        text_of one ≡ text_of other → one ≡ other }
+{}
+
+/// A text has at most one first faulty line.
+pub fn one_first_fault()
+    ensures { (text : List ℕ) (n m : ℕ) → IsFirstFault text n → IsFirstFault text m → n ≡ m }
+{}
