@@ -1,0 +1,4 @@
+pub mod PlaceLemmas
+pub mod ReadLemmas
+pub mod JudgeLemmas
+pub mod ImageLemmas
