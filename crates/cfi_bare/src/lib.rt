@@ -1,8 +1,8 @@
 //! Bare files: the words of one function, which are accepted where they can run, and the image that runs them.
 //!
 //! Stands on `cfi_unit`, `cfi_word`, `cfi_model`, `rv_insn` and `byteorder`; `cfi_top` calls it. Proved: a file is
-//! accepted exactly where no fault stands, else the first is answered; the image of a file is closed. Only tested: that
-//! memory is there where it is asked for. Open: nothing.
+//! accepted where its units can run as one function, else refused for its first fault, and never both; the image of a
+//! file is closed. Only tested: that memory is there where it is asked for. Open: nothing.
 #![tactic(auto)]
 
 mod code;
@@ -10,6 +10,7 @@ mod fault;
 mod file;
 mod image;
 mod judge;
+pub mod laws;
 mod reader;
 mod sizes;
 mod target;
