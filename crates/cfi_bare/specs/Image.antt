@@ -1,0 +1,31 @@
+-- The image that runs a bare file.
+use Rattle.std.specs.Prelude.{◌≡◌, ℕ, ◌-◌, ◌*◌, List, ◌++◌, length, replicate}
+use Rattle.cfi_unit.specs.declared.unit.Unit.{Unit as CodeUnit}
+use Rattle.cfi_unit.specs.Code.{UnitCode}
+use Rattle.cfi_word.specs.declared.lists.Image.{Image}
+use Rattle.cfi_word.specs.declared.ids.TheConstants.{FIELD_MAX}
+use Rattle.cfi_word.specs.declared.layout.TheConstants.{MAX_CODE_WORDS}
+use Rattle.cfi_word.specs.Table.{slots_of}
+use Rattle.cfi_model.specs.declared.places.TheConstants.{BASE}
+use Rattle.cfi_model.specs.Closed.{IsClosedBy, IsStartOf}
+
+-- so many copies of a value
+unfoldable pub copies : (count value : ℕ) → List ℕ
+copies count value = replicate count value
+
+-- the code area with a file's words: 0 below the first module's place, the words, and 0 after them
+abbrev pub code_with : (words : List ℕ) → List ℕ
+code_with words = (copies BASE 0 ++ words) ++ copies (MAX_CODE_WORDS - BASE - length words) 0
+
+-- the image of a file: no address has a class, and no slot may go anywhere
+pub record IsImageOf (words : List ℕ) (image : Image) : Type 0 where
+  pub tary : image.tary ≡ copies MAX_CODE_WORDS 0
+  pub bary : image.bary ≡ copies (slots_of MAX_CODE_WORDS) FIELD_MAX
+  pub code : image.code ≡ code_with words
+
+-- the image is closed, and read as the file's units; the first module's place is a start
+pub record IsClosedFile (words : List ℕ) (image : Image) : Type 0 where
+  pub body : List CodeUnit
+  pub units : UnitCode words body
+  pub closed : IsClosedBy MAX_CODE_WORDS image body
+  pub entry : IsStartOf body (4 * BASE)

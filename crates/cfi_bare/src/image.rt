@@ -1,0 +1,46 @@
+ghost use Rattle.std.specs.Prelude.{◌≡◌, ◌≤◌, length, IfOk};
+ghost use Rattle.cfi_bare.specs.Image.{copies as copies_of, code_with, IsImageOf, IsClosedFile};
+ghost use Rattle.cfi_bare.specs.Verify.{IsVerified};
+ghost use Rattle.cfi_bare.specs.declared.sizes.TheConstants.{MAX_WORDS};
+
+use crate::sizes::CHECK_WORDS;
+use cfi_model::BASE;
+use cfi_word::{FIELD_MAX, Image, MAX_CODE_WORDS, Numbers};
+use std::alloc::{AllocError, Global};
+
+// So many copies of a value.
+#[tactic(auto, unfolding(crate::specs::Image::copies))]
+fn copies(alloc: Global, count: u32, value: u32) -> Result<Vec<u32>, AllocError>
+    ensures { IfOk result (λ list. list.items ≡ copies_of count value) }
+{
+    vec![in alloc; value; count as usize]
+}
+
+// The code of an image: the first words are left to no module, then come the file's.
+fn code_of(alloc: Global, words: &[u32]) -> Result<Vec<u32>, AllocError>
+    requires { length words.now ≤ MAX_WORDS }
+    ensures { IfOk result (λ code. code.items ≡ code_with words.now) }
+{
+    let mut code = copies(alloc, BASE, 0)?;
+    let rest = copies(alloc, MAX_CODE_WORDS - BASE - words.len() as u32, 0)?;
+    code.extend_from_slice(words)?;
+    code.extend_from_slice(&rest)?;
+    Ok(code)
+}
+
+/// The image that runs verified words. `Err` where memory is out.
+pub fn image_of_words(alloc: Global, words: &[u32]) -> Result<Image, AllocError>
+    requires fits { length words.now ≤ MAX_WORDS }
+    requires verified { IsVerified words.now }
+    ensures ok { IfOk result (λ image. IsImageOf words.now image) }
+    ensures closed { IfOk result (λ image. IsClosedFile words.now image) }
+{
+    let code = code_of(alloc, words)?;
+    let tary = copies(alloc, MAX_CODE_WORDS, 0)?;
+    let bary = copies(alloc, MAX_CODE_WORDS / CHECK_WORDS + 1, FIELD_MAX)?;
+    Ok(Image {
+        tary: Numbers::from_vec(tary),
+        bary: Numbers::from_vec(bary),
+        code: Numbers::from_vec(code),
+    })
+}
