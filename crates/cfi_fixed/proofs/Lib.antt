@@ -1,0 +1,4 @@
+pub mod ActLemmas
+pub mod LowLemmas
+pub mod WayLemmas
+pub mod OverLemmas
