@@ -45,5 +45,6 @@ pub fn run_bare<G: Gate>(
 {
     let mut machine = Machine::open(alloc, BARE_GUEST, code.entry())?;
     run_machine(&mut machine, code, gate, fuel);
-    machine.into_part(alloc)
+    let part = machine.into_part(alloc)?;
+    Ok(part)
 }
