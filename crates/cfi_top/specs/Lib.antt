@@ -1,6 +1,5 @@
 pub mod Machine
 pub mod Target
-pub mod Part
 pub mod Text
 pub mod Verify
 pub mod Closed

@@ -9,7 +9,7 @@ use Rattle.cfi_top.specs.declared.answer.Answer.{Answer}
 use Rattle.cfi_top.specs.declared.answer.Answer.TheVariants as answers
 use Rattle.cfi_top.specs.declared.answer.TheConstants.{WRITE_FAULT, MEMORY}
 use Rattle.cfi_top.specs.declared.program.TheConstants.{FUEL}
-use Rattle.cfi_top.specs.Part.{Part}
+use Rattle.cfi_report.specs.declared.report.GuestPart.{GuestPart}
 use Rattle.cfi_top.specs.Bare.{IsAccepted, IsFirstRefusal}
 use Rattle.cfi_top.specs.Run.{IsRun}
 use Rattle.cfi_top.specs.declared.bare.Refusal.{Refusal}
@@ -18,7 +18,7 @@ use Rattle.cfi_top.specs.Answer.{status_of, text_of}
 use Rattle.cfi_top.specs.Words.{FitsRun}
 
 -- the bytes are accepted as these words, whose run is what the part says
-pub record Justifies (bytes : List ℕ) (part : Part) : Type 0 where
+pub record Justifies (bytes : List ℕ) (part : GuestPart) : Type 0 where
   pub words : List ℕ
   pub accepted : IsAccepted bytes words
   pub run : IsRun words FUEL part
@@ -84,7 +84,7 @@ pub record HasRun (words : List (List ℕ)) (files : Option Files) (old new : Op
   pub fits : Fits words
   pub bytes : List ℕ
   pub held : Holds files (name_of words) bytes
-  pub part : Part
+  pub part : GuestPart
   pub justified : Justifies bytes part
   pub text : Appends old new (report_text part)
 

@@ -3,9 +3,9 @@ ghost use Rattle.cfi_top.specs.Text.{report_text};
 ghost use Rattle.cfi_top.specs.Answer.{fault_text, refusal_text, text_of, status_of};
 
 use crate::bare::Refusal;
-use crate::part::GuestPart;
 use crate::text::report_text;
 use crate::verifier::VerifyFault;
+use cfi_report::GuestPart;
 use std::alloc::{AllocError, Global};
 
 /// What a command comes to, whatever the sink does.
@@ -96,23 +96,29 @@ fn push_refusal(text: &mut String, refusal: Refusal) -> Result<(), AllocError>
     }
 }
 
-/// The text of an answer about the file of this name.
-pub fn text_of(alloc: Global, name: &str, answer: &Answer) -> Result<String, AllocError>
-    ensures { IfOk result (λ text. string_bytes text ≡ text_of name.now answer.now) }
+// The text of a refusal of the file of this name.
+fn refused_text(alloc: Global, name: &str, refusal: Refusal) -> Result<String, AllocError>
+    ensures { IfOk result (λ text. string_bytes text ≡ text_of name.now (Answer.Refused refusal)) }
 {
-    match answer {
-        Answer::Ran(part) => report_text(alloc, part),
+    let mut text = format!(in alloc; "refused {name} ")?;
+    push_refusal(&mut text, refusal)?;
+    text.push_str("\n")?;
+    Ok(text)
+}
+
+/// The text of an answer about the file of this name.
+pub fn text_of(alloc: Global, name: &str, answer: Answer) -> Result<Vec<u8>, AllocError>
+    ensures { IfOk result (λ text. text.items ≡ text_of name.now answer) }
+{
+    let text = match answer {
+        Answer::Ran(part) => return report_text(alloc, part),
         Answer::Usage => "usage: cfi asm|list|instrument|link|verify|graph|sim|run|gen\n".to_string(
             alloc,
-        ),
-        Answer::ReadFault => format!(in alloc; "failed read {name}\n"),
-        Answer::Absent => format!(in alloc; "absent {name}\n"),
-        Answer::TooLong => format!(in alloc; "toolong {name}\n"),
-        Answer::Refused(refusal) => {
-            let mut text = format!(in alloc; "refused {name} ")?;
-            push_refusal(&mut text, *refusal)?;
-            text.push_str("\n")?;
-            Ok(text)
-        }
-    }
+        )?,
+        Answer::ReadFault => format!(in alloc; "failed read {name}\n")?,
+        Answer::Absent => format!(in alloc; "absent {name}\n")?,
+        Answer::TooLong => format!(in alloc; "toolong {name}\n")?,
+        Answer::Refused(refusal) => refused_text(alloc, name, refusal)?,
+    };
+    Ok(text.into_bytes())
 }

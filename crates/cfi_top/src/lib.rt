@@ -1,6 +1,6 @@
 //! The program as one public call: `top` takes the words, a shelf, a sink and a gate.
 //!
-//! Stands on `cfi_io`, `cfi_unit`, `rv_alu` and `rv_insn`; `cfi` calls it. Proved: what is reported was run by the
+//! Stands on `cfi_io`, `cfi_unit`, `cfi_report`, `rv_alu` and `rv_insn`; `cfi` calls it. Proved: what is reported was run by the
 //! policy machine, unit by unit; each status and its text, with its cause; that valid input gives 0 or 6. Only tested:
 //! that memory is there where it is asked for. Open: nothing.
 #![tactic(auto)]
@@ -10,7 +10,6 @@ mod bare;
 mod code;
 pub mod laws;
 mod machine;
-mod part;
 mod program;
 mod run;
 mod single;
@@ -25,7 +24,6 @@ pub use answer::{Answer, MEMORY, NO_FILE, RAN, READ_FAULT, REFUSED, USAGE, WRITE
 pub use bare::{Refusal, accept};
 pub use code::BareCode;
 pub use machine::Machine;
-pub use part::{GuestPart, Stop};
 pub use program::{Ended, FUEL, top};
 pub use run::run_bare;
 pub use target::{MAX_WORDS, target_of};

@@ -1,7 +1,10 @@
 ghost use Rattle.std.specs.Prelude.{◌≡◌, ◌<◌, ◌≤◌, ◌^◌, ◌+◌, IfOk, ℕ};
 
-use crate::part::{GuestPart, Stop};
-use cfi_unit::Unit;
+use crate::run::BARE_GUEST;
+use crate::text::bare_name;
+use cfi_plan::Items;
+use cfi_report::GuestPart;
+use cfi_unit::{Bytes, Stop, Unit};
 use rv_alu::{imm_op_value, is_taken, op_value};
 use rv_insn::Insn;
 use std::alloc::{AllocError, Global};
@@ -250,13 +253,22 @@ impl Machine {
     }
 
     /// What a report says of this guest.
-    pub fn into_part(self) -> GuestPart
-        ensures { result ≡ part_of self }
+    pub fn into_part(self, alloc: Global) -> Result<GuestPart, AllocError>
+        ensures { IfOk result (λ part. part ≡ part_of self) }
     {
         let stop = match self.exit {
             Some(code) => Stop::Exit(code),
             None => Stop::Fuel,
         };
-        GuestPart::new(self.output, stop, self.units, self.steps)
+        let entry = bare_name(alloc)?;
+        Ok(GuestPart {
+            number: BARE_GUEST,
+            entry,
+            log: Items::from_vec(Vec::new(alloc)),
+            out: Bytes::from_vec(self.output),
+            stop: Some(stop),
+            units: self.units,
+            steps: self.steps,
+        })
     }
 }

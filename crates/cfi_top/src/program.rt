@@ -72,9 +72,8 @@ fn answer_words<F: Shelf, G: Gate>(
 }
 
 // The text of what the words came to.
-fn words_text(alloc: Global, words: &[String], answer: &Answer) -> Result<String, AllocError>
-    ensures { IfOk result (λ text.
-        string_bytes text ≡ text_of (name_of (texts words.now)) answer.now) }
+fn words_text(alloc: Global, words: &[String], answer: Answer) -> Result<Vec<u8>, AllocError>
+    ensures { IfOk result (λ text. text.items ≡ text_of (name_of (texts words.now)) answer) }
 {
     match words {
         [_, name, ..] => text_of(alloc, name.as_str(), answer),
@@ -83,11 +82,11 @@ fn words_text(alloc: Global, words: &[String], answer: &Answer) -> Result<String
 }
 
 // Writes a text, and answers the status that the program ends with.
-fn deliver<S: Sink>(sink: &mut S, wanted: u8, text: &str) -> u8
+fn deliver<S: Sink>(sink: &mut S, wanted: u8, text: &[u8]) -> u8
     ensures { Delivers wanted text.now result (S.written sink.old) (S.written sink.new)
         (S.faults sink.old) (S.faults sink.new) }
 {
-    match sink.write(text.as_bytes()) {
+    match sink.write(text) {
         Ok(()) => wanted,
         Err(SinkFault::Failed) => WRITE_FAULT,
         Err(SinkFault::Memory) => MEMORY,
@@ -110,10 +109,11 @@ fn run_words<F: Shelf, S: Sink, G: Gate>(
     let Ok(answer) = answer_words(alloc, words, shelf, gate) else {
         return MEMORY;
     };
-    let Ok(text) = words_text(alloc, words, &answer) else {
+    let status = answer.status();
+    let Ok(text) = words_text(alloc, words, answer) else {
         return MEMORY;
     };
-    deliver(sink, answer.status(), text.as_str())
+    deliver(sink, status, text.as_slice())
 }
 
 /// Runs the program: its words after its own name, over a shelf, a sink and a gate.

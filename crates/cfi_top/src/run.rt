@@ -5,8 +5,8 @@ ghost use Rattle.cfi_top.specs.Run.{IsRun};
 
 use crate::code::BareCode;
 use crate::machine::Machine;
-use crate::part::GuestPart;
 use cfi_io::Gate;
+use cfi_report::GuestPart;
 use cfi_unit::Unit;
 use std::alloc::{AllocError, Global};
 
@@ -45,5 +45,6 @@ pub fn run_bare<G: Gate>(
 {
     let mut machine = Machine::open(alloc, BARE_GUEST, code.entry())?;
     run_machine(&mut machine, code, gate, fuel);
-    Ok(machine.into_part())
+    let part = machine.into_part(alloc)?;
+    Ok(part)
 }

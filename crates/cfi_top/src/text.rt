@@ -1,62 +1,57 @@
-ghost use Rattle.std.specs.Prelude.{◌≡◌, ◌++◌, ◌<◌, IfOk, OnOk, string_bytes};
-ghost use Rattle.cfi_top.specs.Text.{report_text, out_text, stop_text, hex_digit, hex_pair};
-ghost use Rattle.std.specs.List.{flat_map};
+ghost use Rattle.std.specs.Prelude.{◌≡◌, IfOk, codes};
+ghost use Rattle.cfi_top.specs.Text.{bare_module, bare_report, report_text};
 
-use crate::part::{GuestPart, Stop};
+use crate::machine::BASE;
+use cfi_plan::{Items, ModuleLine, Text};
+use cfi_report::{GuestPart, Report, write_report};
 use std::alloc::{AllocError, Global};
 
-fn hex_digit(value: u8) -> char
-    requires { value < 16 }
-    ensures value { result ≡ hex_digit value }
-    ensures ascii { result < 128 }
+/// Where the data of the first module lies.
+pub const DATA: u32 = 0x4000_0000;
+
+/// The name of a bare file's module, and of its guest's entry.
+pub fn bare_name(alloc: Global) -> Result<Text, AllocError>
+    ensures { IfOk result (λ name. name ≡ codes "bare") }
 {
-    if value < 10 {
-        (b'0' + value) as char
-    } else {
-        (b'a' + (value - 10)) as char
-    }
+    let name = "bare".to_string(alloc)?;
+    Ok(Text::from_string(name))
 }
 
-fn push_hex(text: &mut String, bytes: &[u8]) -> Result<(), AllocError>
-    ensures ok { OnOk result
-        (string_bytes text.new ≡ string_bytes text.old ++ flat_map hex_pair bytes.now) }
+fn bare_module(alloc: Global) -> Result<ModuleLine, AllocError>
+    ensures { IfOk result (λ one. one ≡ bare_module) }
 {
-    for byte in bytes {
-        text.push(hex_digit(*byte / 16))?;
-        text.push(hex_digit(*byte % 16))?;
-    }
-    Ok(())
+    let name = bare_name(alloc)?;
+    Ok(ModuleLine {
+        number: 0,
+        name,
+        base: BASE,
+        slot: 0,
+        data_base: DATA,
+        policy: 0,
+    })
 }
 
-fn push_out(text: &mut String, out: &[u8]) -> Result<(), AllocError>
-    ensures ok { OnOk result (string_bytes text.new ≡ string_bytes text.old ++ out_text out.now) }
+// The report of a bare file, of which this is said of its guest.
+fn bare_report(alloc: Global, part: GuestPart) -> Result<Report, AllocError>
+    ensures { IfOk result (λ report. report ≡ bare_report part) }
 {
-    match out {
-        [] => text.push_str("-"),
-        _ => push_hex(text, out),
-    }
+    let mut modules = Vec::new(alloc);
+    modules.push(bare_module(alloc)?)?;
+    let mut guests = Vec::new(alloc);
+    guests.push(part)?;
+    Ok(Report {
+        epoch: 0,
+        policy: 0,
+        modules: Items::from_vec(modules),
+        journal: Items::from_vec(Vec::new(alloc)),
+        guests: Items::from_vec(guests),
+    })
 }
 
-fn push_stop(text: &mut String, stop: Stop) -> Result<(), AllocError>
-    ensures ok { OnOk result (string_bytes text.new ≡ string_bytes text.old ++ stop_text stop) }
+/// The text of the report of a bare file, of which this is said of its guest.
+pub fn report_text(alloc: Global, part: GuestPart) -> Result<Vec<u8>, AllocError>
+    ensures { IfOk result (λ text. text.items ≡ report_text part) }
 {
-    match stop {
-        Stop::Exit(code) => write!(text, "exit {code}"),
-        Stop::Fuel => text.push_str("fuel"),
-    }
-}
-
-/// The text of a report of a bare file.
-pub fn report_text(alloc: Global, part: &GuestPart) -> Result<String, AllocError>
-    ensures { IfOk result (λ text. string_bytes text ≡ report_text part.now) }
-{
-    let mut text =
-        "report 1\nforce 0 0\nmodule 0 bare 16 0 40000000 0\nguest 0 bare\nout ".to_string(alloc)?;
-    push_out(&mut text, part.out())?;
-    text.push_str("\nstop ")?;
-    push_stop(&mut text, part.stop())?;
-    let units = part.units();
-    let steps = part.steps();
-    write!(text, "\nunits {units}\nsteps {steps}\nend\n")?;
-    Ok(text)
+    let report = bare_report(alloc, part)?;
+    write_report(alloc, &report)
 }
