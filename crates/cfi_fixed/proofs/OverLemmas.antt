@@ -36,10 +36,10 @@ module _ (image : Image) (fuel : ℕ) (old : Raw) (can : CanRunOver image fuel o
   abbrev code : List ℕ
   code = image.code
 
-  known : IsHistory h code
+  pub known : IsHistory h code
   known = fixed_history image can.size can.closed
 
-  between : IsBetween 0 old.base old
+  pub between : IsBetween 0 old.base old
   between =
       let same : old.base.steps ≡ old.base.steps + 0 = omega arith in
       record {
