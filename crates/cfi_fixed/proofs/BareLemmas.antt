@@ -1,11 +1,15 @@
 -- A run over one image goes on from service to service.
-use Rattle.std.proofs.Common.{◌≡◌, ◌≢◌, ℕ, ◌≤◌, ◌==◌, nat_lt, Bool, true, false, cond, Option, Some, None, List, [], ◌∷◌, ◌++◌, refl, sym, ap, subst, ◌∙◌, arith, rules, inl}
+use Rattle.std.proofs.Common.{◌≡◌, ◌≢◌, ℕ, ◌≤◌, ◌==◌, nat_lt, Bool, true, false, cond, Option, Some, None, List, [], ◌∷◌, ◌++◌, refl, sym, ap, subst, ◌∙◌, arith, rules, inl, length}
 use Rattle.std.specs.List.{AllByRecursion}
 use Rattle.cfi_word.specs.declared.lists.Image.{Image}
+use Rattle.cfi_unit.specs.declared.fill.Fill.{Fill}
+use Rattle.cfi_word.specs.Table.{IsSize}
+use Rattle.cfi_model.proofs.FixedLemmas.{opened_ready}
+use Rattle.cfi_model.specs.Closed.{IsClosed, IsStartIn}
 use Rattle.cfi_model.specs.declared.places.TheConstants.{MAX_OPENS, TOO_MANY}
 use Rattle.cfi_model.specs.Log.{opens, last_policy}
 use Rattle.cfi_model.specs.State.{State, register}
-use Rattle.cfi_model.specs.Raw.{Raw}
+use Rattle.cfi_model.specs.Raw.{Raw, raw_opened}
 use Rattle.cfi_unit.specs.declared.log.Log.TheVariants.{Open, Cause}
 use Rattle.cfi_model.specs.Service.{Reply, Service, Ends, Puts, Quiets, Opens, Unknown, service_of, served_log, succeeds, argument}
 use Rattle.cfi_model.proofs.LogLemmas.{policy_push}
@@ -19,6 +23,26 @@ use Rattle.cfi_fixed.specs.Fixed.{IsWordTake, IsRunOver, CanRunOver, HasRunOver}
 use Rattle.cfi_fixed.specs.Bare.{bare_cause, bare_reply, AreBareTakes, IsBarePath, IsResting, IsAsking, ComesTo}
 use Rattle.cfi_fixed.proofs.WayLemmas.{run_snoc, along_snoc}
 use Rattle.cfi_fixed.proofs.PathLemmas.{running_after, serves}
+
+-- a guest that is opened at a start can run
+pub opened_can : (image : Image) → IsSize (length image.code) → IsClosed (length image.code) image
+    → (number entry : ℕ) (fills : List Fill) → IsStartIn image entry → (fuel : ℕ)
+    → CanRunOver image fuel (raw_opened number entry fills)
+opened_can image size closed number entry fills start fuel =
+    let first : IsStart (fixed image) entry = record {
+      epoch = 0;
+      known = record { least = omega arith; most = omega arith };
+      starts = start;
+    } in
+    record {
+      size = size;
+      closed = closed;
+      ready = (opened_ready (fixed image) number entry fills first).0;
+      idle = refl;
+      fresh = λ going. (refl, refl);
+      unlogged = refl;
+      fuel_most = omega arith;
+    }
 
 -- two lists of accesses, one after the other
 run_append : (a b : List Take) (r : Raw) → run_of r (a ++ b) ≡ run_of (run_of r a) b
