@@ -1,9 +1,9 @@
 //! The program as one public call: `top` takes the words, a shelf, a sink and a gate.
 //!
-//! Stands on `cfi_io`, `cfi_bare`, `cfi_fixed`, `rv_guest` and `cfi_report`; `cfi` calls it. Proved: what is reported was
-//! run by a guest of the raw machine, which shows the policy machine, unit by unit; each status and its text, with its
-//! cause; that valid input gives 0 or 6. Only tested: that memory is there where it is asked for, and that the gate is
-//! passed once in each service. Open: nothing.
+//! Stands on `cfi_io`, `cfi_bare`, `cfi_fixed`, `rv_guest` and `cfi_report`; `cfi` calls it. Proved: what is reported
+//! was run by a guest of the raw machine, which shows the policy machine, unit by unit; each status and its text, with
+//! its cause; that valid input gives 0 or 6. Only tested: that memory is there where it is asked for, and that the gate
+//! is passed once in each service. Open: nothing.
 #![tactic(auto)]
 
 mod answer;
