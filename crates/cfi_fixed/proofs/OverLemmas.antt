@@ -1,5 +1,5 @@
 -- A guest on its way over one image.
-use Rattle.std.proofs.Common.{◌≡◌, ◌≢◌, ℕ, ◌+◌, ◌/◌, ◌<◌, is_some, true, cond, Option, Some, None, List, [], ◌∷◌, ◌++◌, length, slice_index, refl, sym, ap, subst, ◌∙◌, arith, inl, inr}
+use Rattle.std.proofs.Common.{◌≡◌, ◌≤◌, ◌≢◌, ℕ, ◌+◌, ◌/◌, ◌<◌, is_some, true, cond, Option, Some, None, List, [], ◌∷◌, ◌++◌, length, slice_index, refl, sym, ap, subst, ◌∙◌, arith, inl, inr}
 use Rattle.std.proofs.lemmas.Bool.{cases_lt}
 use Rattle.std.proofs.lemmas.List.{get_or_past}
 use Rattle.rv_insn.specs.InsnOf.{insn_of}
@@ -36,10 +36,10 @@ module _ (image : Image) (fuel : ℕ) (old : Raw) (can : CanRunOver image fuel o
   abbrev code : List ℕ
   code = image.code
 
-  known : IsHistory h code
+  pub known : IsHistory h code
   known = fixed_history image can.size can.closed
 
-  between : IsBetween 0 old.base old
+  pub between : IsBetween 0 old.base old
   between =
       let same : old.base.steps ≡ old.base.steps + 0 = omega arith in
       record {
@@ -193,8 +193,9 @@ module _ (image : Image) (fuel : ℕ) (old : Raw) (can : CanRunOver image fuel o
   -- the guest asks for a service
   pub asks : (now : Raw) (word : ℕ) → HasBegun image old now word → (number : ℕ)
       → act_of now word ≡ acts.Service number
-      → now.base.steps < fuel → HasRunOver image fuel old (begin_of now word) (Some number)
-  asks now word begun number asked below =
+      → old.base.steps ≤ now.base.steps → now.base.steps < fuel
+      → HasRunOver image fuel old (begin_of now word) (Some number)
+  asks now word begun number asked above below =
       let tells : Tells (acts.Service number) (begin_of now word) =
       subst (λ a. Tells a (begin_of now word)) asked begun.tells in
       record {
@@ -203,6 +204,7 @@ module _ (image : Image) (fuel : ℕ) (old : Raw) (can : CanRunOver image fuel o
         ends = refl;
         asks = tells;
         within = omega (arith, begun.steps);
+        moves = λ some. omega (arith, begun.steps, above);
         fuel_is = λ going stop. absurd (some_stop _ _ tells.1 stop);
         unlogged = begun.low.unlogged;
         shows = shown (begin_of now word) begun.over;
@@ -218,6 +220,7 @@ module _ (image : Image) (fuel : ℕ) (old : Raw) (can : CanRunOver image fuel o
     ends = unspent fuel (begin_of now word) stop stopped;
     asks = (idle, λ going. some_stop _ _ going stopped);
     within = omega (arith, begun.steps);
+    moves = λ some. absurd (some refl);
     fuel_is = λ going spent. absurd (other (same_stop _ _ _ stopped spent));
     unlogged = begun.low.unlogged;
     shows = shown (begin_of now word) begun.over;
@@ -252,6 +255,7 @@ module _ (image : Image) (fuel : ℕ) (old : Raw) (can : CanRunOver image fuel o
         ends = refl;
         asks = (way.idle, λ going. some_stop _ _ going stop);
         within = omega (arith, steps);
+        moves = λ some. absurd (some refl);
         fuel_is = λ going spent. steps;
         unlogged = way.low.unlogged;
         shows = shown now way.over;
@@ -267,6 +271,7 @@ module _ (image : Image) (fuel : ℕ) (old : Raw) (can : CanRunOver image fuel o
         ends = unspent fuel old stop stopped;
         asks = (can.idle, λ going. some_stop _ _ going stopped);
         within = can.fuel_most;
+        moves = λ some. absurd (some refl);
         fuel_is = λ going spent. absurd (some_stop _ _ going stopped);
         unlogged = can.unlogged;
         shows = shown old over;

@@ -1,5 +1,5 @@
 -- A guest of the raw machine over one image, whose words never change.
-use Rattle.std.specs.Prelude.{◌≡◌, ◌≢◌, ℕ, ◌/◌, ◌≤◌, List, length, slice_index, Option, Some, None, ⊤}
+use Rattle.std.specs.Prelude.{◌≡◌, ◌≢◌, ℕ, ◌/◌, ◌<◌, ◌≤◌, List, length, slice_index, Option, Some, None, ⊤}
 use Rattle.std.specs.List.{AllByRecursion}
 use Rattle.cfi_unit.specs.declared.log.Stop.TheVariants.{Fuel}
 use Rattle.cfi_word.specs.declared.lists.Image.{Image}
@@ -58,6 +58,7 @@ pub record HasRunOver (image : Image) (fuel : ℕ) (old new : Raw) (asked : Opti
   pub ends : Ends asked fuel last new
   pub asks : Asks asked new
   pub within : new.base.steps ≤ fuel
+  pub moves : asked ≢ None → old.base.steps < new.base.steps
   pub fuel_is : old.base.stop ≡ None → new.base.stop ≡ Some Fuel → new.base.steps ≡ fuel
   pub unlogged : last_policy new.base.log ≡ 0
   pub shows : IsShown (fixed image) image.code 0 old.base last

@@ -1,6 +1,4 @@
-pub mod ClosedLemmas
 pub mod WordsLemmas
-pub mod VerifyLemmas
+pub mod RunLemmas
 pub mod TopLemmas
-pub mod SingleLemmas
 pub mod ValidLemmas

@@ -2,7 +2,7 @@
 use Rattle.std.proofs.Common.{◌≡◌, ℕ, List, [], ◌∷◌, length, get_or, arith}
 use Rattle.std.specs.Prelude.{String, string_bytes}
 use Rattle.std.specs.declared.alloc.Global.{Global}
-use Rattle.cfi_top.specs.Words.{texts, FitsRun, IsOperand}
+use Rattle.cfi_top.specs.Words.{texts}
 
 -- a list of two words is its items
 pub two_texts : (words : List (String Global)) (a b : String Global) (x y : List ℕ) → length words ≡ 2

@@ -4,10 +4,10 @@ use Rattle.std.specs.Fmt.{decimal}
 use Rattle.cfi_top.specs.declared.answer.Answer.{Answer}
 use Rattle.cfi_top.specs.declared.answer.Answer.TheVariants as answers
 use Rattle.cfi_top.specs.declared.answer.TheConstants as statuses
-use Rattle.cfi_top.specs.declared.bare.Refusal.{Refusal}
-use Rattle.cfi_top.specs.declared.bare.Refusal.TheVariants.{Plan, Length, CodeFull, Verify}
-use Rattle.cfi_top.specs.declared.verifier.VerifyFault.{VerifyFault}
-use Rattle.cfi_top.specs.declared.verifier.VerifyFault.TheVariants.{Empty, Illegal, NotUnit, FallsThrough, Target}
+use Rattle.cfi_bare.specs.declared.fault.Refusal.{Refusal}
+use Rattle.cfi_bare.specs.declared.fault.Refusal.TheVariants.{Plan, Length, CodeFull, Verify}
+use Rattle.cfi_bare.specs.declared.fault.VerifyFault.{VerifyFault}
+use Rattle.cfi_bare.specs.declared.fault.VerifyFault.TheVariants.{Empty, Illegal, NotUnit, FallsThrough, Target, Kinds}
 use Rattle.cfi_top.specs.Text.{report_text}
 
 abbrev pub status_of : Answer → ℕ
@@ -25,6 +25,7 @@ fault_text (Illegal at) = codes "Illegal " ++ decimal (4 * at)
 fault_text (NotUnit at) = codes "NotUnit " ++ decimal (4 * at)
 fault_text (FallsThrough function) = codes "FallsThrough " ++ decimal function
 fault_text (Target at) = codes "Target " ++ decimal (4 * at)
+fault_text (Kinds at) = codes "Kinds " ++ decimal (4 * at)
 
 -- the layer that refuses, and why
 abbrev pub refusal_text : Refusal → List ℕ

@@ -1,11 +1,5 @@
-pub mod Machine
-pub mod Target
 pub mod Text
-pub mod Verify
-pub mod Closed
 pub mod Run
-pub mod Bare
 pub mod Answer
 pub mod Words
 pub mod Top
-pub mod Single

@@ -1,33 +1,42 @@
--- What the report of a bare file says, and that the policy machine did it.
-use Rattle.std.specs.Prelude.{◌≡◌, ◌≤◌, ℕ, Option, Some, None, IfNone, List, [], codes}
-use Rattle.cfi_unit.specs.declared.log.Stop.{Stop}
-use Rattle.cfi_unit.specs.declared.log.Stop.TheVariants.{Exit, Fuel}
+-- What the report of a bare file says, and that its guest did what the policy machine does.
+use Rattle.std.specs.Prelude.{◌≡◌, ℕ, ◌*◌, List, [], codes}
+use Rattle.cfi_word.specs.declared.lists.Image.{Image}
 use Rattle.cfi_report.specs.declared.report.GuestPart.{GuestPart}
+use Rattle.cfi_model.specs.declared.places.TheConstants.{BASE}
+use Rattle.cfi_model.specs.State.{State}
+use Rattle.cfi_model.specs.Raw.{Raw, raw_opened}
+use Rattle.cfi_model.specs.History.{fixed}
+use Rattle.cfi_model.specs.Shows.{Runs, Shows}
+use Rattle.cfi_bare.specs.Image.{IsImageOf, IsClosedFile}
+use Rattle.cfi_fixed.specs.Bare.{HasEnded}
 use Rattle.cfi_top.specs.declared.run.TheConstants.{BARE_GUEST}
-use Rattle.cfi_top.specs.Machine.{State, Runs, bare_start}
 
--- why a guest that ended so, or has not ended, is run no further
-abbrev pub stop_of : Option ℕ → Stop
-stop_of (Some code) = Exit code
-stop_of None = Fuel
+-- the guest of a bare file at its start
+abbrev pub bare_start : Raw
+bare_start = raw_opened BARE_GUEST (4 * BASE) []
 
 -- what a report says of a guest in this state
-abbrev pub part_of : State → GuestPart
-part_of s = record {
+abbrev pub part_of : Raw → GuestPart
+part_of r = record {
   number = BARE_GUEST;
   entry = codes "bare";
-  log = [];
-  out = s.output;
-  stop = Some (stop_of s.exit);
-  units = s.units;
-  steps = s.steps;
+  log = r.base.log;
+  out = r.base.output;
+  stop = r.base.stop;
+  units = r.base.units;
+  steps = r.base.steps;
 }
 
--- The guest is run for so many units as its part says, and the part says the state that it is then in. Its
--- instructions are at most the fuel, and as many as the fuel where it has not ended.
+-- The file's image is closed. The guest was run over it until it stopped, with at most the fuel, and the part says the
+-- state that it is then in. Until the fuel stopped it, it shows the policy machine after as many units as the part says,
+-- each under the pairs of the image's classes.
 pub record IsRun (words : List ℕ) (fuel : ℕ) (part : GuestPart) : Type 0 where
-  pub last : State
-  pub runs : Runs words bare_start part.units last
-  pub says : part ≡ part_of last
-  pub within : part.steps ≤ fuel
-  pub ended : IfNone last.exit (part.steps ≡ fuel)
+  pub image : Image
+  pub placed : IsImageOf words image
+  pub closed : IsClosedFile words image
+  pub guest : Raw
+  pub ended : HasEnded image fuel bare_start guest
+  pub says : part ≡ part_of guest
+  pub state : State
+  pub runs : Runs (fixed image) image.code part.units bare_start.base state
+  pub shows : Shows (fixed image) image.code 0 state ended.last

@@ -4,8 +4,7 @@ use Rattle.cfi_plan.specs.declared.journal.ModuleLine.{ModuleLine}
 use Rattle.cfi_report.specs.declared.report.Report.{Report}
 use Rattle.cfi_report.specs.declared.report.GuestPart.{GuestPart}
 use Rattle.cfi_report.specs.Report.{text_of}
-use Rattle.cfi_top.specs.declared.machine.TheConstants.{BASE}
-use Rattle.cfi_top.specs.declared.text.TheConstants.{DATA}
+use Rattle.cfi_model.specs.declared.places.TheConstants.{BASE, DATA}
 
 -- where the file's words lie
 abbrev pub bare_module : ModuleLine

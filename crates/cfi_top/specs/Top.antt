@@ -10,9 +10,9 @@ use Rattle.cfi_top.specs.declared.answer.Answer.TheVariants as answers
 use Rattle.cfi_top.specs.declared.answer.TheConstants.{WRITE_FAULT, MEMORY}
 use Rattle.cfi_top.specs.declared.program.TheConstants.{FUEL}
 use Rattle.cfi_report.specs.declared.report.GuestPart.{GuestPart}
-use Rattle.cfi_top.specs.Bare.{IsAccepted, IsFirstRefusal}
+use Rattle.cfi_bare.specs.File.{IsAccepted, IsFirstRefusal}
 use Rattle.cfi_top.specs.Run.{IsRun}
-use Rattle.cfi_top.specs.declared.bare.Refusal.{Refusal}
+use Rattle.cfi_bare.specs.declared.fault.Refusal.{Refusal}
 use Rattle.cfi_top.specs.Text.{report_text}
 use Rattle.cfi_top.specs.Answer.{status_of, text_of}
 use Rattle.cfi_top.specs.Words.{FitsRun}
@@ -78,8 +78,8 @@ Ends words files faults faults' misses misses' status old new sink_faults sink_f
     ⊎ ((answer : Answer) × IsAnswer words files faults faults' misses misses' answer
     × Delivers (status_of answer) (text_of (name_of words) answer) status old new sink_faults sink_faults')
 
--- The file that the words name was accepted and run by the policy machine, and the sink has the text of the run's
--- report.
+-- The file that the words name was accepted and run, as the policy machine runs it, and the sink has the text of the
+-- run's report.
 pub record HasRun (words : List (List ℕ)) (files : Option Files) (old new : Option (List ℕ)) : Type 0 where
   pub fits : Fits words
   pub bytes : List ℕ

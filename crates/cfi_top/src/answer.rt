@@ -2,9 +2,8 @@ ghost use Rattle.std.specs.Prelude.{◌≡◌, ◌++◌, ℕ, IfOk, OnOk, string
 ghost use Rattle.cfi_top.specs.Text.{report_text};
 ghost use Rattle.cfi_top.specs.Answer.{fault_text, refusal_text, text_of, status_of};
 
-use crate::bare::Refusal;
 use crate::text::report_text;
-use crate::verifier::VerifyFault;
+use cfi_bare::{Refusal, VerifyFault};
 use cfi_report::GuestPart;
 use std::alloc::{AllocError, Global};
 
@@ -78,6 +77,10 @@ fn push_fault(text: &mut String, fault: VerifyFault) -> Result<(), AllocError>
         VerifyFault::Target(at) => {
             let offset = 4 * u64::from(at);
             write!(text, "Target {offset}")
+        }
+        VerifyFault::Kinds(at) => {
+            let offset = 4 * u64::from(at);
+            write!(text, "Kinds {offset}")
         }
     }
 }

@@ -8,9 +8,9 @@ ghost use Rattle.cfi_top.specs.Top.{name_of, IsBytesAnswer, IsFileAnswer, IsAnsw
 ghost use Rattle.cfi_top.specs.declared.answer.TheConstants.{RAN, USAGE, READ_FAULT, NO_FILE, WRITE_FAULT, REFUSED, MEMORY};
 
 use crate::answer::{Answer, MEMORY, WRITE_FAULT, text_of};
-use crate::bare::accept;
 use crate::run::run_bare;
 use crate::words::file_of;
+use cfi_bare::accept;
 use cfi_io::{Gate, Shelf, ShelfFault, Sink, SinkFault};
 use std::alloc::{AllocError, Global};
 

@@ -1,39 +1,53 @@
-ghost use Rattle.std.specs.Prelude.{◌≡◌, ◌≤◌, ◌<◌, IfNone, IfOk};
-ghost use Rattle.cfi_top.specs.Machine.{Runs};
-ghost use Rattle.cfi_top.specs.Closed.{IsStart};
-ghost use Rattle.cfi_top.specs.Run.{IsRun};
+ghost use Rattle.std.specs.Prelude.{◌≡◌, ◌≤◌, ◌<◌, ◌*◌, IfOk};
+ghost use Rattle.cfi_model.specs.declared.places.TheConstants.{BASE};
+ghost use Rattle.cfi_fixed.specs.Fixed.{CanRunOver};
+ghost use Rattle.cfi_fixed.specs.Bare.{HasEnded};
+ghost use Rattle.cfi_top.specs.Run.{IsRun, part_of};
 
-use crate::code::BareCode;
-use crate::machine::Machine;
+use crate::text::bare_name;
+use cfi_bare::{BareCode, image_of};
+use cfi_fixed::{run_fixed, serve_bare};
 use cfi_io::Gate;
+use cfi_model::BASE;
+use cfi_plan::Items;
 use cfi_report::GuestPart;
-use cfi_unit::Unit;
+use cfi_unit::Bytes;
+use cfi_word::Image;
+use rv_guest::Guest;
 use std::alloc::{AllocError, Global};
 
 /// The number of the guest that runs a bare file.
 pub const BARE_GUEST: u32 = 0;
 
-// Runs a guest until it has ended, or has run `fuel` instructions. The gate is passed once in each service, before the
+// Runs a guest from service to service until it has stopped. The gate is passed once in each service, before the
 // service's work.
-fn run_machine<G: Gate>(machine: &mut Machine, code: &BareCode, gate: &G, fuel: u32)
-    requires start { IsStart code.now machine.old.pc }
-    requires units { machine.old.units ≡ 0 }
-    requires steps { machine.old.steps ≡ 0 }
+fn run_guest<G: Gate>(guest: &mut Guest, image: &Image, gate: &G, fuel: u32)
+    requires can { CanRunOver image.now fuel guest.old }
     requires fuel { fuel < u32.MAX }
-    ensures runs { Runs code.now machine.old machine.new.units machine.new }
-    ensures ended { IfNone machine.new.exit (machine.new.steps ≡ fuel) }
-    ensures within { machine.new.steps ≤ fuel }
+    ensures { HasEnded image.now fuel guest.old guest.new }
 {
-    while machine.steps() < fuel && machine.exit().is_none() {
-        let unit = code.unit_at(machine.pc());
-        if unit == Unit::Service {
-            gate.pass(BARE_GUEST, machine.service());
-        }
-        machine.unit(unit);
+    while let Some(number) = run_fixed(guest, image, fuel) {
+        gate.pass(BARE_GUEST, number);
+        serve_bare(guest, number);
     }
 }
 
-/// Runs the one guest of a bare file, until it has ended or has run `fuel` instructions.
+// What a report says of a guest.
+fn part_of(alloc: Global, guest: &Guest) -> Result<GuestPart, AllocError>
+    ensures { IfOk result (λ part. part ≡ part_of guest.now) }
+{
+    Ok(GuestPart {
+        number: BARE_GUEST,
+        entry: bare_name(alloc)?,
+        log: Items::from_vec(guest.log().to_vec(alloc)?),
+        out: Bytes::from_vec(guest.output().to_vec(alloc)?),
+        stop: guest.stop(),
+        units: guest.units(),
+        steps: guest.steps(),
+    })
+}
+
+/// Runs the one guest of a bare file, until it has stopped or has run `fuel` instructions.
 pub fn run_bare<G: Gate>(
     alloc: Global,
     code: &BareCode,
@@ -43,8 +57,8 @@ pub fn run_bare<G: Gate>(
     requires { fuel < u32.MAX }
     ensures { IfOk result (IsRun code.now fuel) }
 {
-    let mut machine = Machine::open(alloc, BARE_GUEST, code.entry())?;
-    run_machine(&mut machine, code, gate, fuel);
-    let part = machine.into_part(alloc)?;
-    Ok(part)
+    let image = image_of(alloc, code)?;
+    let mut guest = Guest::open(alloc, BARE_GUEST, 4 * BASE, &[])?;
+    run_guest(&mut guest, &image, gate, fuel);
+    part_of(alloc, &guest)
 }

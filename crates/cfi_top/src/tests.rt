@@ -14,6 +14,23 @@ const HELLO: [u8; 28] = [
 const HELLO_REPORT: &str =
     "report 1\nforce 0 0\nmodule 0 bare 16 0 40000000 0\nguest 0 bare\nout 48\nstop exit 7\nunits 6\nsteps 6\nend\n";
 
+// addi x5,x0,2; a masked lw x5,0(x5), which is misaligned; j .
+const MISALIGNED: [u8; 32] = [
+    0x93, 0x02, 0x20, 0x00, 0x93, 0x8f, 0x02, 0x00, 0x93, 0x9f, 0xcf, 0x00, 0x93, 0xdf, 0xcf, 0x00,
+    0x37, 0x0f, 0x00, 0x40, 0xb3, 0xef, 0xef, 0x01, 0x83, 0xa2, 0x0f, 0x00, 0x6f, 0x00, 0x00, 0x00,
+];
+
+const MISALIGNED_REPORT: &str =
+    "report 1\nforce 0 0\nmodule 0 bare 16 0 40000000 0\nguest 0 bare\nout -\nstop align 40000002\nunits 2\nsteps 7\nend\n";
+
+// The check of jalr x0,0(x1) at slot 0.
+const CHECK: [u8; 56] = [
+    0x93, 0x8f, 0x00, 0x00, 0x13, 0xdf, 0x2f, 0x01, 0x63, 0x14, 0x0f, 0x02, 0x37, 0x0e, 0x00, 0x20,
+    0x83, 0x2e, 0x0e, 0x00, 0x37, 0x0f, 0x00, 0x10, 0x33, 0x0f, 0xff, 0x01, 0x03, 0x2f, 0x0f, 0x00,
+    0x63, 0x8a, 0xee, 0x01, 0x33, 0x4f, 0xdf, 0x01, 0x13, 0x1f, 0x0f, 0x01, 0xe3, 0x10, 0x0f, 0xfe,
+    0x73, 0x00, 0x10, 0x00, 0x67, 0x80, 0x0f, 0x00,
+];
+
 const USAGE: &str = "usage: cfi asm|list|instrument|link|verify|graph|sim|run|gen\n";
 
 // `top` over a shelf with one file, and a sink; the calls with these numbers fail.
@@ -74,12 +91,21 @@ fn reports(rt: HostRuntime) -> Result<(), Fail> {
         (&[], &[]),
         0,
         fuel,
+    )?;
+    expect(
+        &rt,
+        rt.alloc(),
+        "run a.bin",
+        &MISALIGNED,
+        (&[], &[]),
+        0,
+        MISALIGNED_REPORT,
     )
 }
 
 #[test]
 fn refusals(rt: HostRuntime) -> Result<(), Fail> {
-    let rows: [(&[u8], &str); 7] = [
+    let rows: [(&[u8], &str); 8] = [
         (b"\x00\x00\x00\x00", "refused a.bin verify Illegal 0\n"),
         (b"", "refused a.bin verify Empty\n"),
         (b"\x00\x00\x00", "refused a.bin bare Length 3\n"),
@@ -87,6 +113,7 @@ fn refusals(rt: HostRuntime) -> Result<(), Fail> {
         (b"\x6f\x00\x80\x00", "refused a.bin verify Target 0\n"),
         (b"\x73\x00\x10\x00", "refused a.bin verify NotUnit 0\n"),
         (b"plan 1\n", "refused a.bin bare Plan\n"),
+        (&CHECK, "refused a.bin verify Kinds 0\n"),
     ];
     for (file, text) in rows {
         expect(&rt, rt.alloc(), "run a.bin", file, (&[], &[]), 5, text)?;

@@ -1,13 +1,10 @@
 ghost use Rattle.std.specs.Prelude.{◌≡◌, IfOk, codes};
 ghost use Rattle.cfi_top.specs.Text.{bare_module, bare_report, report_text};
 
-use crate::machine::BASE;
+use cfi_model::{BASE, DATA};
 use cfi_plan::{Items, ModuleLine, Text};
 use cfi_report::{GuestPart, Report, write_report};
 use std::alloc::{AllocError, Global};
-
-/// Where the data of the first module lies.
-pub const DATA: u32 = 0x4000_0000;
 
 /// The name of a bare file's module, and of its guest's entry.
 pub fn bare_name(alloc: Global) -> Result<Text, AllocError>

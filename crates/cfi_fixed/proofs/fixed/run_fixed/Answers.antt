@@ -24,11 +24,13 @@ pub returns-in-Service : goal.returns-in-Service
 returns-in-Service c =
     let begun = begins_by c.args.image.now c.args.fuel c.args.guest.now c.requires.can c.loop.guest
     c.loop.invariant.way c.as_slice-code.result.now c.pc.result (search rules) (search rules) in
+    let above : c.args.guest.now.base.steps ≤ c.loop.guest.base.steps =
+    omega (arith, c.loop.auto.counter, c.steps-counter.ensures, c.loop.invariant.counted) in
     let below : c.loop.guest.base.steps < c.args.fuel = omega (arith, c.loop.invariant.counted, c.loop-test.true) in
     subst (λ r. HasRunOver c.args.image.now c.args.fuel c.args.guest.now r (Some c.in-Service.number))
     (sym c.begin.ensures.state)
     (asks c.args.image.now c.args.fuel c.args.guest.now c.requires.can c.loop.guest _ begun c.in-Service.number
-    (sym c.begin.ensures.act ∙ c.in-Service.is) below)
+    (sym c.begin.ensures.act ∙ c.in-Service.is) above below)
 
 -- it has halted
 pub returns-in-Halt : goal.returns-in-Halt

@@ -1,4 +1,4 @@
-use Rattle.std.proofs.Common.{◌≡◌, length, arith, rules, sym, refl, ◌∙◌}
+use Rattle.std.proofs.Common.{◌≡◌, length, arith, rules, sym, ◌∙◌}
 use Rattle.cfi_top.proofs.WordsLemmas.{two_texts}
 use Rattle.cfi_top.proofs.words.file_of.Goals as goal
 
