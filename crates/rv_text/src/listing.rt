@@ -56,7 +56,8 @@ fn put_piece(
     requires some { 0 < size }
     requires within { at + size ≤ length words.now }
     requires fits { 4 * length words.now < 2 ^ 32 }
-    ensures { OnOk result (out.new.items ≡ out.old.items ++ marked_lines words.now at mark.now size) }
+    ensures { OnOk result
+        (out.new.items ≡ out.old.items ++ marked_lines words.now at mark.now size) }
 {
     put_line(out, words[at as usize], 4 * at, mark)?;
     put_plain(out, words, at + 1, size - 1)

@@ -35,7 +35,8 @@ impl fmt::Display for Target {
 
 // The forms of the operands: each appends a mnemonic and them.
 fn put_upper(text: &mut String, name: &str, rd: u32, imm: u32) -> Result<(), AllocError>
-    ensures { OnOk result (string_bytes text.new ≡ string_bytes text.old ++ upper_text name.now rd imm) }
+    ensures { OnOk result
+        (string_bytes text.new ≡ string_bytes text.old ++ upper_text name.now rd imm) }
 {
     write!(text, "{name} x{rd},0x{imm:x}")
 }
@@ -48,7 +49,8 @@ fn put_jump(text: &mut String, rd: u32, off: i32) -> Result<(), AllocError>
 }
 
 fn put_branch(text: &mut String, name: &str, rs1: u32, rs2: u32, off: i32) -> Result<(), AllocError>
-    ensures { OnOk result (string_bytes text.new ≡ string_bytes text.old ++ branch_text name.now rs1 rs2 off) }
+    ensures { OnOk result
+        (string_bytes text.new ≡ string_bytes text.old ++ branch_text name.now rs1 rs2 off) }
 {
     let target = Target(off);
     write!(text, "{name} x{rs1},x{rs2},{target}")
@@ -61,7 +63,8 @@ fn put_place(
     base: u32,
     imm: i32,
 ) -> Result<(), AllocError>
-    ensures { OnOk result (string_bytes text.new ≡ string_bytes text.old ++ place_text name.now register base imm) }
+    ensures { OnOk result
+        (string_bytes text.new ≡ string_bytes text.old ++ place_text name.now register base imm) }
 {
     write!(text, "{name} x{register},{imm}(x{base})")
 }
@@ -73,7 +76,8 @@ fn put_immediate(
     rs1: u32,
     imm: i32,
 ) -> Result<(), AllocError>
-    ensures { OnOk result (string_bytes text.new ≡ string_bytes text.old ++ immediate_text name.now rd rs1 imm) }
+    ensures { OnOk result
+        (string_bytes text.new ≡ string_bytes text.old ++ immediate_text name.now rd rs1 imm) }
 {
     write!(text, "{name} x{rd},x{rs1},{imm}")
 }
@@ -85,7 +89,8 @@ fn put_registers(
     rs1: u32,
     rs2: u32,
 ) -> Result<(), AllocError>
-    ensures { OnOk result (string_bytes text.new ≡ string_bytes text.old ++ registers_text name.now rd rs1 rs2) }
+    ensures { OnOk result
+        (string_bytes text.new ≡ string_bytes text.old ++ registers_text name.now rd rs1 rs2) }
 {
     write!(text, "{name} x{rd},x{rs1},x{rs2}")
 }
@@ -165,9 +170,9 @@ pub fn put_word(out: &mut Vec<u8>, word: u32) -> Result<(), AllocError>
 
 /// Appends the text of an instruction whose fields are in range, as the RISC-V manual spells it.
 ///
-/// Registers are x0 to x31, immediates signed decimal, upper immediates `0x` and hexadecimal, offsets `.+N` or `.-N`.
-/// A fence other than `fence iorw,iorw` is `.word 0x` and the eight digits of its word. Where memory is wanting, nothing
-/// is appended.
+/// Registers are x0 to x31, immediates signed decimal, upper immediates `0x` and hexadecimal, offsets
+/// `.+N` or `.-N`. A fence other than `fence iorw,iorw` is `.word 0x` and the eight digits of its
+/// word. Where memory is wanting, nothing is appended.
 pub fn print(insn: &Insn, out: &mut Vec<u8>) -> Result<(), AllocError>
     requires { InRange insn.now }
     ensures ok { OnOk result (out.new.items ≡ out.old.items ++ text_of insn.now) }
