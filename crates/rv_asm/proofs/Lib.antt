@@ -1,0 +1,4 @@
+pub mod WordsLemmas
+pub mod NamesLemmas
+pub mod NumberLemmas
+pub mod AllLemmas

@@ -1,0 +1,10 @@
+use Rattle.std.proofs.Common.{rules}
+use Rattle.rv_asm.specs.Words.{is_blank}
+use Rattle.rv_asm.proofs.WordsLemmas.{first_place, no_place}
+use Rattle.rv_asm.proofs.words.word_end.Goals as goal
+
+pub returns-then-is_blank-clause-place : goal.returns-then-is_blank-clause-place
+returns-then-is_blank-clause-place c = first_place is_blank _ _ c.loop-at-test.true c.loop-at.invariant (search rules)
+
+pub returns-clause-place : goal.returns-clause-place
+returns-clause-place c = no_place is_blank _ (λ k h. c.loop-at.invariant k (search rules))

@@ -1,0 +1,8 @@
+pub mod Words
+pub mod Names
+pub mod Number
+pub mod Register
+pub mod Operand
+pub mod Called
+pub mod Statement
+pub mod Line

@@ -1,0 +1,26 @@
+//! The assembler's sources, line by line.
+//!
+//! Stands on `rv_insn`, `rv_text`, `cfi_text` and `elf_read`. Proved: `read_line` gives the line that
+//! bytes say, exactly as `specs/Line.antt` has it, and none where they say none. Only tested: nothing.
+//! Open: sizes, labels, words and relocations, which make an object of the lines.
+#![tactic(auto)]
+
+mod called;
+mod directives;
+mod forms;
+mod items;
+mod line;
+mod names;
+mod number;
+mod operand;
+mod register;
+mod short;
+mod statement;
+#[cfg(test)]
+mod tests;
+mod words;
+
+pub use items::Items;
+pub use line::{Line, read_line};
+pub use names::MAX_NAME;
+pub use statement::{Datum, High, Low, NodeKind, Statement, Target};
