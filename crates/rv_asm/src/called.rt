@@ -65,7 +65,7 @@ pub enum Keyword {
     Kind,
 }
 
-// The operation on two registers of this mnemonic.
+/// The operation on two registers of this mnemonic.
 pub fn op_called(word: &[u8]) -> Option<Op>
     ensures { result ≡ op_called word.now }
 {
@@ -86,7 +86,7 @@ pub fn op_called(word: &[u8]) -> Option<Op>
         .find(|op| op_name(*op).as_bytes() == word)
 }
 
-// The operation on an immediate of this mnemonic.
+/// The operation on an immediate of this mnemonic.
 pub fn imm_op_called(word: &[u8]) -> Option<ImmOp>
     ensures { result ≡ imm_op_called word.now }
 {
@@ -106,7 +106,7 @@ pub fn imm_op_called(word: &[u8]) -> Option<ImmOp>
         .find(|op| imm_op_name(*op).as_bytes() == word)
 }
 
-// The load of this mnemonic.
+/// The load of this mnemonic.
 pub fn load_called(word: &[u8]) -> Option<LoadKind>
     ensures { result ≡ load_called word.now }
 {
@@ -122,7 +122,7 @@ pub fn load_called(word: &[u8]) -> Option<LoadKind>
         .find(|kind| load_name(*kind).as_bytes() == word)
 }
 
-// The store of this mnemonic.
+/// The store of this mnemonic.
 pub fn store_called(word: &[u8]) -> Option<StoreKind>
     ensures { result ≡ store_called word.now }
 {
@@ -132,7 +132,7 @@ pub fn store_called(word: &[u8]) -> Option<StoreKind>
         .find(|kind| store_name(*kind).as_bytes() == word)
 }
 
-// The condition of a branch of this mnemonic.
+/// The condition of a branch of this mnemonic.
 pub fn cond_called(word: &[u8]) -> Option<Cond>
     ensures { result ≡ cond_called word.now }
 {
@@ -248,7 +248,7 @@ fn directive_called(word: &[u8]) -> Option<Keyword>
     None
 }
 
-// The keyword that a word is.
+/// The keyword that a word is.
 pub fn keyword_called(word: &[u8]) -> Option<Keyword>
     ensures { result ≡ keyword_called word.now }
 {
@@ -261,7 +261,7 @@ pub fn keyword_called(word: &[u8]) -> Option<Keyword>
     directive_called(word)
 }
 
-// The kind of a type node.
+/// The kind of a type node.
 #[tactic(auto, unfolding(crate::specs::Called::node_kind_called))]
 pub fn node_kind_called(word: &[u8]) -> Option<NodeKind>
     ensures { result ≡ node_kind_called word.now }

@@ -60,7 +60,7 @@ fn has_count(kind: NodeKind, count: usize) -> bool
     }
 }
 
-// `.node KIND FIELDS`.
+/// `.node KIND FIELDS`.
 pub fn node_form(alloc: Global, rest: &[u8]) -> Result<Option<Statement>, AllocError>
     ensures { IfOk result (λ found. found ≡ node_words (words_in rest.now)) }
 {
@@ -98,7 +98,7 @@ fn func_by(
     }
 }
 
-// `.func NAME NODE` and `.func NAME NODE taken`.
+/// `.func NAME NODE` and `.func NAME NODE taken`.
 pub fn func_form(alloc: Global, rest: &[u8]) -> Result<Option<Statement>, AllocError>
     ensures { IfOk result (λ found. found ≡ func_words (words_in rest.now)) }
 {
@@ -166,7 +166,7 @@ fn kind_by(alloc: Global, kind: &[u8], rest: &[u8]) -> Result<Option<Statement>,
     Ok(None)
 }
 
-// `.kind call NODE`, `.kind tail NODE`, `.kind return` and `.kind switch NAME..`.
+/// `.kind call NODE`, `.kind tail NODE`, `.kind return` and `.kind switch NAME..`.
 pub fn kind_form(alloc: Global, rest: &[u8]) -> Result<Option<Statement>, AllocError>
     ensures { IfOk result (λ found. found ≡ kind_words (words_in rest.now)) }
 {

@@ -9,7 +9,7 @@ use crate::statement::{High, Low, Statement};
 use rv_insn::{Cond, ImmOp, LoadKind, Op, StoreKind};
 use std::alloc::{AllocError, Global};
 
-// `add rd,rs1,rs2` and its kin.
+/// `add rd,rs1,rs2` and its kin.
 #[tactic(auto, unfolding(crate::specs::Statement::op_form))]
 pub fn op_form(op: Op, rest: &[u8]) -> Option<Statement>
     ensures { result ≡ op_form op rest.now }
@@ -42,7 +42,7 @@ fn is_number(imm: &Low) -> bool
     }
 }
 
-// `addi rd,rs1,I` and its kin.
+/// `addi rd,rs1,I` and its kin.
 #[tactic(auto, unfolding(crate::specs::Statement::imm_op_form))]
 pub fn imm_op_form(alloc: Global, op: ImmOp, rest: &[u8]) -> Result<Option<Statement>, AllocError>
     ensures { IfOk result (λ found. found ≡ imm_op_form op rest.now) }
@@ -83,7 +83,7 @@ fn register_and_place(alloc: Global, rest: &[u8]) -> Result<Option<(u32, Low, u3
     }
 }
 
-// `lw rd,I(rs1)` and its kin.
+/// `lw rd,I(rs1)` and its kin.
 pub fn load_form(
     alloc: Global,
     kind: LoadKind,
@@ -97,7 +97,7 @@ pub fn load_form(
     }
 }
 
-// `sw rs2,I(rs1)` and its kin.
+/// `sw rs2,I(rs1)` and its kin.
 pub fn store_form(
     alloc: Global,
     kind: StoreKind,
@@ -116,7 +116,7 @@ pub fn store_form(
     }
 }
 
-// `jalr rd,I(rs1)`.
+/// `jalr rd,I(rs1)`.
 pub fn jalr_form(alloc: Global, rest: &[u8]) -> Result<Option<Statement>, AllocError>
     ensures { IfOk result (λ found. found ≡ jalr_form rest.now) }
 {
@@ -126,7 +126,7 @@ pub fn jalr_form(alloc: Global, rest: &[u8]) -> Result<Option<Statement>, AllocE
     }
 }
 
-// `beq rs1,rs2,T` and its kin.
+/// `beq rs1,rs2,T` and its kin.
 #[tactic(auto, unfolding(crate::specs::Statement::branch_form))]
 pub fn branch_form(alloc: Global, cond: Cond, rest: &[u8]) -> Result<Option<Statement>, AllocError>
     ensures { IfOk result (λ found. found ≡ branch_form cond rest.now) }
@@ -168,7 +168,7 @@ fn register_and_high(alloc: Global, rest: &[u8]) -> Result<Option<(u32, High)>, 
     }
 }
 
-// `lui rd,U`.
+/// `lui rd,U`.
 pub fn lui_form(alloc: Global, rest: &[u8]) -> Result<Option<Statement>, AllocError>
     ensures { IfOk result (λ found. found ≡ lui_form rest.now) }
 {
@@ -181,7 +181,7 @@ pub fn lui_form(alloc: Global, rest: &[u8]) -> Result<Option<Statement>, AllocEr
     }
 }
 
-// `auipc rd,U`.
+/// `auipc rd,U`.
 pub fn auipc_form(alloc: Global, rest: &[u8]) -> Result<Option<Statement>, AllocError>
     ensures { IfOk result (λ found. found ≡ auipc_form rest.now) }
 {
@@ -191,7 +191,7 @@ pub fn auipc_form(alloc: Global, rest: &[u8]) -> Result<Option<Statement>, Alloc
     }
 }
 
-// `jal rd,T`.
+/// `jal rd,T`.
 #[tactic(auto, unfolding(crate::specs::Statement::jal_form))]
 pub fn jal_form(alloc: Global, rest: &[u8]) -> Result<Option<Statement>, AllocError>
     ensures { IfOk result (λ found. found ≡ jal_form rest.now) }

@@ -9,7 +9,7 @@ use std::alloc::{AllocError, Global};
 /// The greatest number of bytes of a name.
 pub const MAX_NAME: usize = 255;
 
-// The name that a word is. `None` where it is none.
+/// The name that a word is. `None` where it is none.
 pub fn name_of(alloc: Global, word: &[u8]) -> Result<Option<Name>, AllocError>
     ensures { IfOk result (λ found. found ≡ name_in word.now) }
 {

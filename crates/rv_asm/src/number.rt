@@ -11,7 +11,7 @@ const MAX: u64 = 4_294_967_295;
 /// One more than the greatest number below which a source may go.
 const LEAST: u64 = 2_147_483_648;
 
-// The decimal number of 64 bits that a word spells.
+/// The decimal number of 64 bits that a word spells.
 pub fn decimal_of(word: &[u8]) -> Option<u64>
     ensures { result ≡ number_in word.now }
 {
@@ -21,7 +21,7 @@ pub fn decimal_of(word: &[u8]) -> Option<u64>
     }
 }
 
-// The decimal number of 32 bits that a word spells.
+/// The decimal number of 32 bits that a word spells.
 pub fn small_number_of(word: &[u8]) -> Option<u32>
     ensures { result ≡ small_number_in word.now }
 {

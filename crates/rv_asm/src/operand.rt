@@ -11,7 +11,7 @@ use crate::words::next_word;
 use elf_read::Name;
 use std::alloc::{AllocError, Global};
 
-// The only word of a text.
+/// The only word of a text.
 pub fn word_of(text: &[u8]) -> Option<&[u8]>
     ensures { MatchOption result (word_in text.now ≡ None) (λ word. word_in text.now ≡ Some word.now) }
 {
@@ -24,7 +24,7 @@ pub fn word_of(text: &[u8]) -> Option<&[u8]>
     Some(word)
 }
 
-// What stands before the first such byte, and what after it.
+/// What stands before the first such byte, and what after it.
 #[tactic(auto, unfolding(crate::specs::Operand::cut))]
 pub fn cut_at(text: &[u8], byte: u8) -> Option<(&[u8], &[u8])>
     ensures { MatchOption result (cut byte text.now ≡ None)
@@ -44,7 +44,7 @@ fn place_of(text: &[u8], byte: u8) -> Option<usize>
     text.iter().position(|other| *other == byte)
 }
 
-// Two operands.
+/// Two operands.
 #[tactic(auto, unfolding(crate::specs::Operand::two_in))]
 pub fn two_of(text: &[u8]) -> Option<(&[u8], &[u8])>
     ensures { MatchOption result (two_in text.now ≡ None)
@@ -62,7 +62,7 @@ pub fn two_of(text: &[u8]) -> Option<(&[u8], &[u8])>
     Some((first, second))
 }
 
-// Three operands.
+/// Three operands.
 #[tactic(auto, unfolding(crate::specs::Operand::three_in))]
 pub fn three_of(text: &[u8]) -> Option<(&[u8], &[u8], &[u8])>
     ensures { MatchOption result (three_in text.now ≡ None)
@@ -146,7 +146,7 @@ fn closed_of(word: &[u8]) -> Option<&[u8]>
     }
 }
 
-// An immediate of an operation.
+/// An immediate of an operation.
 #[tactic(auto, unfolding(crate::specs::Operand::low_in))]
 pub fn low_of(alloc: Global, word: &[u8]) -> Result<Option<Low>, AllocError>
     ensures { IfOk result (λ found. found ≡ low_in word.now) }
@@ -160,7 +160,7 @@ pub fn low_of(alloc: Global, word: &[u8]) -> Result<Option<Low>, AllocError>
     }
 }
 
-// An upper immediate.
+/// An upper immediate.
 #[tactic(auto, unfolding(crate::specs::Operand::high_in))]
 pub fn high_of(alloc: Global, word: &[u8]) -> Result<Option<High>, AllocError>
     ensures { IfOk result (λ found. found ≡ high_in word.now) }
@@ -224,7 +224,7 @@ fn reference_place_of(
     }
 }
 
-// The place of an access or a jump: an immediate and a register in parentheses.
+/// The place of an access or a jump: an immediate and a register in parentheses.
 #[tactic(auto, unfolding(crate::specs::Operand::place_in))]
 pub fn place_of_access(alloc: Global, word: &[u8]) -> Result<Option<(Low, u32)>, AllocError>
     ensures { IfOk result (λ found. found ≡ place_in word.now) }
@@ -238,7 +238,7 @@ pub fn place_of_access(alloc: Global, word: &[u8]) -> Result<Option<(Low, u32)>,
     }
 }
 
-// Where a jump or a branch leads.
+/// Where a jump or a branch leads.
 #[tactic(auto, unfolding(crate::specs::Operand::target_in))]
 pub fn target_of(alloc: Global, word: &[u8]) -> Result<Option<Target>, AllocError>
     ensures { IfOk result (λ found. found ≡ target_in word.now) }
@@ -252,7 +252,7 @@ pub fn target_of(alloc: Global, word: &[u8]) -> Result<Option<Target>, AllocErro
     Ok(name_of(alloc, word)?.map(Target::Name))
 }
 
-// A number or a name.
+/// A number or a name.
 #[tactic(auto, unfolding(crate::specs::Operand::datum_in))]
 pub fn datum_of(alloc: Global, word: &[u8]) -> Result<Option<Datum>, AllocError>
     ensures { IfOk result (λ found. found ≡ datum_in word.now) }

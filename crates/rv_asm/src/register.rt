@@ -53,7 +53,7 @@ fn lettered_register(word: &[u8]) -> Option<u32>
     }
 }
 
-// The register that a word names. `None` where it names none.
+/// The register that a word names. `None` where it names none.
 pub fn register_of(word: &[u8]) -> Option<u32>
     ensures { result ≡ register_in word.now }
 {

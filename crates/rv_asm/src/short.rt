@@ -13,7 +13,7 @@ use elf_read::Name;
 use rv_insn::ImmOp;
 use std::alloc::{AllocError, Global};
 
-// A statement without operands.
+/// A statement without operands.
 pub fn bare_form(statement: Statement, rest: &[u8]) -> Option<Statement>
     ensures { result ≡ bare_form statement rest.now }
 {
@@ -24,7 +24,7 @@ pub fn bare_form(statement: Statement, rest: &[u8]) -> Option<Statement>
     }
 }
 
-// `mv rd,rs`.
+/// `mv rd,rs`.
 #[tactic(auto, unfolding(crate::specs::Statement::mv_form))]
 pub fn mv_form(rest: &[u8]) -> Option<Statement>
     ensures { result ≡ mv_form rest.now }
@@ -42,7 +42,7 @@ pub fn mv_form(rest: &[u8]) -> Option<Statement>
     })
 }
 
-// `li rd,N`.
+/// `li rd,N`.
 #[tactic(auto, unfolding(crate::specs::Statement::li_form))]
 pub fn li_form(rest: &[u8]) -> Option<Statement>
     ensures { result ≡ li_form rest.now }
@@ -55,7 +55,7 @@ pub fn li_form(rest: &[u8]) -> Option<Statement>
     Some(Statement::Li { rd, number })
 }
 
-// `la rd,NAME`.
+/// `la rd,NAME`.
 #[tactic(auto, unfolding(crate::specs::Statement::la_form))]
 pub fn la_form(alloc: Global, rest: &[u8]) -> Result<Option<Statement>, AllocError>
     ensures { IfOk result (λ found. found ≡ la_form rest.now) }
@@ -72,7 +72,7 @@ pub fn la_form(alloc: Global, rest: &[u8]) -> Result<Option<Statement>, AllocErr
     }
 }
 
-// `j T`.
+/// `j T`.
 #[tactic(auto, unfolding(crate::specs::Statement::j_form))]
 pub fn j_form(alloc: Global, rest: &[u8]) -> Result<Option<Statement>, AllocError>
     ensures { IfOk result (λ found. found ≡ j_form rest.now) }
@@ -86,7 +86,7 @@ pub fn j_form(alloc: Global, rest: &[u8]) -> Result<Option<Statement>, AllocErro
     }
 }
 
-// `jr rs`.
+/// `jr rs`.
 #[tactic(auto, unfolding(crate::specs::Statement::jr_form))]
 pub fn jr_form(rest: &[u8]) -> Option<Statement>
     ensures { result ≡ jr_form rest.now }
@@ -102,7 +102,7 @@ pub fn jr_form(rest: &[u8]) -> Option<Statement>
     })
 }
 
-// A name alone.
+/// A name alone.
 #[tactic(auto, unfolding(crate::specs::Statement::name_form))]
 pub fn name_form(alloc: Global, rest: &[u8]) -> Result<Option<Name>, AllocError>
     ensures { IfOk result (λ found. found ≡ name_form rest.now) }
@@ -113,7 +113,7 @@ pub fn name_form(alloc: Global, rest: &[u8]) -> Result<Option<Name>, AllocError>
     }
 }
 
-// `.word N` and `.word NAME`.
+/// `.word N` and `.word NAME`.
 #[tactic(auto, unfolding(crate::specs::Statement::word_form))]
 pub fn word_form(alloc: Global, rest: &[u8]) -> Result<Option<Statement>, AllocError>
     ensures { IfOk result (λ found. found ≡ word_form rest.now) }
@@ -127,7 +127,7 @@ pub fn word_form(alloc: Global, rest: &[u8]) -> Result<Option<Statement>, AllocE
     }
 }
 
-// `.zero N`.
+/// `.zero N`.
 #[tactic(auto, unfolding(crate::specs::Statement::zero_form))]
 pub fn zero_form(rest: &[u8]) -> Option<Statement>
     ensures { result ≡ zero_form rest.now }

@@ -16,14 +16,14 @@ pub fn next_word(statement: &[u8]) -> Option<(&[u8], &[u8])>
     }
 }
 
-// The text without the blanks at its front.
+/// The text without the blanks at its front.
 pub fn unblanked(text: &[u8]) -> &[u8]
     ensures { result.now ≡ unblanked text.now }
 {
     &text[blanks(text)..]
 }
 
-// The first word of a text, and what comes after it; the word is empty where there is none.
+/// The first word of a text, and what comes after it; the word is empty where there is none.
 pub fn split_word(text: &[u8]) -> (&[u8], &[u8])
     ensures word { result.0.now ≡ first_word text.now }
     ensures rest { result.1.now ≡ after_word text.now }
