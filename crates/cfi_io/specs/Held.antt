@@ -23,6 +23,13 @@ shelf_calls shelf = shelf.calls.made
 abbrev pub shelf_fails : MemShelf → List ℕ
 shelf_fails shelf = shelf.calls.fails.items
 
+-- how many faults of the shelf there were, and how many misses
+abbrev pub shelf_faults : MemShelf → ℕ
+shelf_faults shelf = shelf.calls.faults
+
+abbrev pub shelf_misses : MemShelf → ℕ
+shelf_misses shelf = shelf.misses
+
 -- the bytes that the sink holds
 abbrev pub bytes_held : MemSink → List ℕ
 bytes_held sink = sink.bytes.items
@@ -34,3 +41,7 @@ sink_calls sink = sink.calls.made
 -- the numbers of the sink's calls that fail
 abbrev pub sink_fails : MemSink → List ℕ
 sink_fails sink = sink.calls.fails.items
+
+-- how many faults of the sink there were
+abbrev pub sink_faults : MemSink → ℕ
+sink_faults sink = sink.calls.faults

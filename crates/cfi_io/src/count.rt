@@ -2,7 +2,7 @@
 ghost use Rattle.std.specs.Prelude.{◌≤◌, ◌≡◌, ◌↔◌, IsTrue, IsFalse, Contains};
 ghost use Rattle.cfi_io.specs.Count.{Rose, next_count};
 
-// Counts one more.
+/// Counts one more.
 pub fn raise(count: &mut u64)
     ensures rose { Rose count.old count.new }
     ensures kept { count.old ≤ count.new }
@@ -22,7 +22,7 @@ pub struct Calls {
 }
 
 impl Calls {
-    // No call was made yet.
+    /// No call was made yet.
     pub fn new(fails: Vec<u32>) -> Self
         ensures { result ≡ record { fails = fails; made = 0; faults = 0 } }
     {
@@ -33,7 +33,7 @@ impl Calls {
         }
     }
 
-    // Counts a call, and says whether it fails.
+    /// Counts a call, and says whether it fails.
     pub fn fails_now(&mut self) -> bool
         ensures fails { IsTrue result ↔ Contains self.old.fails.items self.old.made }
         ensures rose { IsTrue result → Rose self.old.faults self.new.faults }

@@ -5,7 +5,7 @@ ghost use Rattle.cfi_io.specs.declared.shelf.TheConstants.{MAX_FILE_BYTES};
 ghost use Rattle.cfi_io.specs.declared.fault.ShelfFault.TheVariants.{Failed, Absent, TooLong, Memory};
 ghost use Rattle.cfi_io.specs.Count.{Rose, next_count};
 ghost use Rattle.cfi_io.specs.Files.{Puts, PutsPart};
-ghost use Rattle.cfi_io.specs.Held.{files_of, files_held, shelf_calls, shelf_fails};
+ghost use Rattle.cfi_io.specs.Held.{files_of, files_held, shelf_calls, shelf_fails, shelf_faults, shelf_misses};
 
 use crate::count::{Calls, raise};
 use crate::{MAX_FILE_BYTES, Shelf, ShelfFault};
@@ -64,25 +64,25 @@ fn last_of<'a>(files: &'a [(String, Vec<u8>)], name: &str) -> Option<&'a Vec<u8>
 impl Shelf for MemShelf {
     ghost files = { λ shelf. Some (files_held shelf) };
 
-    ghost faults = { λ shelf. shelf.calls.faults };
+    ghost faults = { shelf_faults };
 
-    ghost misses = { λ shelf. shelf.misses };
+    ghost misses = { shelf_misses };
 
     fn read(&mut self, name: &str) -> Result<Vec<u8>, ShelfFault>
         ensures within { IfOk result (λ bytes. vec_len bytes ≤ MAX_FILE_BYTES) }
         ensures ok { IfOk result (λ bytes. files_held self.old name.now ≡ Some bytes.items) }
-        ensures failed { IsErrOf result Failed → Rose self.old.calls.faults self.new.calls.faults }
+        ensures failed { IsErrOf result Failed → Rose (shelf_faults self.old) (shelf_faults self.new) }
         ensures numbered { IsErrOf result Failed → Contains (shelf_fails self.old) (shelf_calls self.old) }
         ensures fails { Contains (shelf_fails self.old) (shelf_calls self.old) → result ≡ Err Failed }
-        ensures absent { IsErrOf result Absent → Rose self.old.misses self.new.misses }
+        ensures absent { IsErrOf result Absent → Rose (shelf_misses self.old) (shelf_misses self.new) }
         ensures lacks { IsErrOf result Absent → files_held self.old name.now ≡ None }
-        ensures too_long { IsErrOf result TooLong → Rose self.old.misses self.new.misses }
+        ensures too_long { IsErrOf result TooLong → Rose (shelf_misses self.old) (shelf_misses self.new) }
         ensures exceeds { IsErrOf result TooLong →
             IsSomeAnd (files_held self.old name.now) (λ bytes. MAX_FILE_BYTES < length bytes) }
         ensures same { Some (files_held self.new) ≡ Some (files_held self.old) }
-        ensures faults { self.old.calls.faults ≤ self.new.calls.faults }
-        ensures still { (result ≢ Err Failed) → self.new.calls.faults ≡ self.old.calls.faults }
-        ensures misses { self.old.misses ≤ self.new.misses }
+        ensures faults { shelf_faults self.old ≤ shelf_faults self.new }
+        ensures still { (result ≢ Err Failed) → shelf_faults self.new ≡ shelf_faults self.old }
+        ensures misses { shelf_misses self.old ≤ shelf_misses self.new }
         ensures counted { shelf_calls self.new ≡ next_count (shelf_calls self.old) }
         ensures same_fails { shelf_fails self.new ≡ shelf_fails self.old }
     {
@@ -102,7 +102,7 @@ impl Shelf for MemShelf {
 
     fn write(&mut self, name: &str, bytes: &[u8]) -> Result<(), ShelfFault>
         ensures ok { OnOk result (Puts name.now bytes.now (files_held self.old) (files_held self.new)) }
-        ensures failed { IsErrOf result Failed → Rose self.old.calls.faults self.new.calls.faults }
+        ensures failed { IsErrOf result Failed → Rose (shelf_faults self.old) (shelf_faults self.new) }
         ensures numbered { IsErrOf result Failed → Contains (shelf_fails self.old) (shelf_calls self.old) }
         ensures fails { Contains (shelf_fails self.old) (shelf_calls self.old) → result ≡ Err Failed }
         ensures part { IsErrOf result Failed → PutsPart name.now bytes.now (files_held self.old) (files_held self.new) }
@@ -110,9 +110,9 @@ impl Shelf for MemShelf {
         ensures memory { IsErrOf result Memory → Some (files_held self.new) ≡ Some (files_held self.old) }
         ensures no_absent { IsErrOf result Absent → ⊥ }
         ensures no_too_long { IsErrOf result TooLong → ⊥ }
-        ensures faults { self.old.calls.faults ≤ self.new.calls.faults }
-        ensures still { (result ≢ Err Failed) → self.new.calls.faults ≡ self.old.calls.faults }
-        ensures misses { self.old.misses ≤ self.new.misses }
+        ensures faults { shelf_faults self.old ≤ shelf_faults self.new }
+        ensures still { (result ≢ Err Failed) → shelf_faults self.new ≡ shelf_faults self.old }
+        ensures misses { shelf_misses self.old ≤ shelf_misses self.new }
         ensures counted { shelf_calls self.new ≡ next_count (shelf_calls self.old) }
         ensures same_fails { shelf_fails self.new ≡ shelf_fails self.old }
     {

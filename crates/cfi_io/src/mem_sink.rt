@@ -4,7 +4,7 @@ ghost use Rattle.std.specs.Io.KnownBytes.{Appends};
 ghost use Rattle.cfi_io.specs.declared.fault.SinkFault.TheVariants.{Failed, Memory};
 ghost use Rattle.cfi_io.specs.Count.{Rose, next_count};
 ghost use Rattle.cfi_io.specs.Told.{AppendsPrefix};
-ghost use Rattle.cfi_io.specs.Held.{bytes_held, sink_calls, sink_fails};
+ghost use Rattle.cfi_io.specs.Held.{bytes_held, sink_calls, sink_fails, sink_faults};
 
 use crate::count::Calls;
 use crate::{Sink, SinkFault};
@@ -44,19 +44,19 @@ impl MemSink {
 impl Sink for MemSink {
     ghost written = { λ sink. Some (bytes_held sink) };
 
-    ghost faults = { λ sink. sink.calls.faults };
+    ghost faults = { sink_faults };
 
     fn write(&mut self, bytes: &[u8]) -> Result<(), SinkFault>
         ensures ok { OnOk result (bytes_held self.new ≡ bytes_held self.old ++ bytes.now) }
-        ensures failed { IsErrOf result Failed → Rose self.old.calls.faults self.new.calls.faults }
+        ensures failed { IsErrOf result Failed → Rose (sink_faults self.old) (sink_faults self.new) }
         ensures numbered { IsErrOf result Failed → Contains (sink_fails self.old) (sink_calls self.old) }
         ensures fails { Contains (sink_fails self.old) (sink_calls self.old) → result ≡ Err Failed }
         ensures part { IsErrOf result Failed →
             AppendsPrefix (Some (bytes_held self.old)) (Some (bytes_held self.new)) bytes.now }
         ensures err { OnErr result (bytes_held self.new ≡ bytes_held self.old) }
         ensures memory { IsErrOf result Memory → Some (bytes_held self.new) ≡ Some (bytes_held self.old) }
-        ensures faults { self.old.calls.faults ≤ self.new.calls.faults }
-        ensures still { (result ≢ Err Failed) → self.new.calls.faults ≡ self.old.calls.faults }
+        ensures faults { sink_faults self.old ≤ sink_faults self.new }
+        ensures still { (result ≢ Err Failed) → sink_faults self.new ≡ sink_faults self.old }
         ensures counted { sink_calls self.new ≡ next_count (sink_calls self.old) }
         ensures same_fails { sink_fails self.new ≡ sink_fails self.old }
     {

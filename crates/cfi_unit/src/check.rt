@@ -14,8 +14,8 @@ use rv_insn::{ImmOp, Insn, encode};
 /// The number of words of a check.
 pub const WORDS: usize = 14;
 
-// The words of a check: the target into x31, its range test, the two IDs and their comparison, the retry, the halt, the
-// jump.
+/// The words of a check: the target into x31, its range test, the two IDs and their comparison, the retry, the halt, the
+/// jump.
 pub fn words_by(link: bool, rs1: u32, imm: i32, slot: u32) -> [u32; WORDS]
     requires fits { IsUnit (units.Check link rs1 imm slot) }
     ensures { result ≡ words_of (units.Check link rs1 imm slot) }
@@ -63,7 +63,7 @@ fn link_of(last: u32) -> bool
     (last >> 7) % 2 == 1
 }
 
-// The check of a register and an immediate that the words begin with.
+/// The check of a register and an immediate that the words begin with.
 pub fn unit_of(words: &[u32], rs1: u32, imm: i32) -> Option<Unit>
     requires free { IsFree rs1 }
     requires short { IsSigned (2 ^ 11) imm }

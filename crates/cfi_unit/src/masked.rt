@@ -24,7 +24,7 @@ const DATA: u32 = 0x40000f37; // lui x30,0x40000
 
 const JOIN: u32 = 0x01efefb3; // or x31,x31,x30
 
-// The words of an access at a register and an immediate.
+/// The words of an access at a register and an immediate.
 pub fn words_by(rs1: u32, imm: i32, access: Insn) -> [u32; WORDS]
     requires free { IsFree rs1 }
     requires short { IsSigned (2 ^ 11) imm }
@@ -80,7 +80,7 @@ fn access_of(access: Insn, rs1: u32, imm: i32) -> Option<Unit>
     }
 }
 
-// The masked access at a register and an immediate that the words begin with.
+/// The masked access at a register and an immediate that the words begin with.
 pub fn unit_of(words: &[u32], rs1: u32, imm: i32) -> Option<Unit>
     requires free { IsFree rs1 }
     requires short { IsSigned (2 ^ 11) imm }

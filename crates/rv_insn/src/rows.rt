@@ -6,7 +6,7 @@ ghost use Rattle.rv_insn.specs.InsnOf.{cond_at, load_at, store_at, imm_op_at, op
 
 use crate::insn::{Cond, ImmOp, LoadKind, Op, StoreKind};
 
-// funct3 of a branch.
+/// funct3 of a branch.
 pub fn cond_funct3(cond: Cond) -> u32
     ensures row { result ≡ cond_funct3 cond }
     ensures fits { result < 8 }
@@ -37,7 +37,7 @@ pub fn cond_of(funct3: u32) -> Option<Cond>
     }
 }
 
-// funct3 of a load.
+/// funct3 of a load.
 pub fn load_funct3(kind: LoadKind) -> u32
     ensures row { result ≡ load_funct3 kind }
     ensures fits { result < 8 }
@@ -66,7 +66,7 @@ pub fn load_of(funct3: u32) -> Option<LoadKind>
     }
 }
 
-// funct3 of a store.
+/// funct3 of a store.
 pub fn store_funct3(kind: StoreKind) -> u32
     ensures row { result ≡ store_funct3 kind }
     ensures fits { result < 8 }
@@ -91,7 +91,7 @@ pub fn store_of(funct3: u32) -> Option<StoreKind>
     }
 }
 
-// funct3 of an operation with an immediate.
+/// funct3 of an operation with an immediate.
 pub fn imm_funct3(op: ImmOp) -> u32
     ensures row { result ≡ imm_funct3 op }
     ensures fits { result < 8 }
@@ -127,7 +127,7 @@ pub fn imm_op_of(funct3: u32, funct7: u32) -> Option<ImmOp>
     }
 }
 
-// funct3 of an operation with two registers.
+/// funct3 of an operation with two registers.
 pub fn op_funct3(op: Op) -> u32
     ensures row { result ≡ op_funct3 op }
     ensures fits { result < 8 }
@@ -144,7 +144,7 @@ pub fn op_funct3(op: Op) -> u32
     }
 }
 
-// funct7 of an operation with two registers.
+/// funct7 of an operation with two registers.
 pub fn op_funct7(op: Op) -> u32
     ensures row { result ≡ op_funct7 op }
     ensures fits { result < 2 ^ 7 }
