@@ -1,3 +1,4 @@
+pub mod Chain
 pub mod Ids
 pub mod Word
 pub mod Table
