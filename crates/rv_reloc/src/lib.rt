@@ -16,5 +16,6 @@ mod table;
 mod tests;
 
 pub use applied::apply;
+pub use bytes::word_at;
 pub use fault::RelocFault;
 pub use formula::displacement;

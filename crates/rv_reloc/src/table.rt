@@ -81,6 +81,7 @@ fn immediate(formula: Formula, form: Form) -> Rule
 /// The row of a kind.
 ///
 /// `None` where relocations of the kind change nothing.
+#[tactic(auto, unfolding(crate::specs::Table::rule_of, elf_read::specs::Relocation::field_size))]
 pub fn rule_of(kind: u32) -> Option<Rule>
     ensures rule { result ≡ rule_of kind }
     ensures size { IfSome result (λ rule. size_of rule ≡ field_size kind) }

@@ -30,13 +30,52 @@ fn words(rt: HostRuntime) -> Result<(), Fail> {
         (BRANCH, 0x00629063, 0x100004, 0x00101002, None, 0x7e629fe3),
         (JAL, 0x000000ef, 0x100008, 0x00000008, None, 0x800000ef),
         (JAL, 0x0000006f, 0x10000c, 0x0020000a, None, 0x7ffff06f),
-        (PCREL_HI20, 0x00000297, 0x100028, 0x00100810, None, 0x00000297),
-        (PCREL_LO12_I, 0x00028293, 0x10002c, 0x00100028, near, 0x7e828293),
-        (PCREL_LO12_I, 0x0002a303, 0x100030, 0x00100028, near, 0x7e82a303),
-        (PCREL_LO12_S, 0x0062a023, 0x100034, 0x00100028, near, 0x7e62a423),
-        (PCREL_HI20, 0x00000297, 0x100038, 0x80100017, None, 0x80000297),
-        (PCREL_LO12_I, 0x00028293, 0x10003c, 0x00100038, far, 0xfdf28293),
-        (PCREL_LO12_S, 0x00628023, 0x100040, 0x00100038, far, 0xfc628fa3),
+        (
+            PCREL_HI20, 0x00000297, 0x100028, 0x00100810, None, 0x00000297,
+        ),
+        (
+            PCREL_LO12_I,
+            0x00028293,
+            0x10002c,
+            0x00100028,
+            near,
+            0x7e828293,
+        ),
+        (
+            PCREL_LO12_I,
+            0x0002a303,
+            0x100030,
+            0x00100028,
+            near,
+            0x7e82a303,
+        ),
+        (
+            PCREL_LO12_S,
+            0x0062a023,
+            0x100034,
+            0x00100028,
+            near,
+            0x7e62a423,
+        ),
+        (
+            PCREL_HI20, 0x00000297, 0x100038, 0x80100017, None, 0x80000297,
+        ),
+        (
+            PCREL_LO12_I,
+            0x00028293,
+            0x10003c,
+            0x00100038,
+            far,
+            0xfdf28293,
+        ),
+        (
+            PCREL_LO12_S,
+            0x00628023,
+            0x100040,
+            0x00100038,
+            far,
+            0xfc628fa3,
+        ),
         (HI20, 0x000002b7, 0x100044, 0x40000800, None, 0x400012b7),
         (LO12_I, 0x00028293, 0x100048, 0x40000800, None, 0x80028293),
         (LO12_S, 0x0062a023, 0x10004c, 0x40000800, None, 0x8062a023),
@@ -105,7 +144,13 @@ fn faults(rt: HostRuntime) -> Result<(), Fail> {
     ];
     for (kind, word, addend, partner, fault) in rows {
         let mut bytes = u32::to_le_bytes(word);
-        let answer = apply(&mut bytes, &reloc(kind, addend), 0x100000, 0x100000, partner);
+        let answer = apply(
+            &mut bytes,
+            &reloc(kind, addend),
+            0x100000,
+            0x100000,
+            partner,
+        );
         assert_eq!(rt; answer, Err(fault), "kind {kind} by {addend}");
         assert_eq!(rt; u32::from_le_bytes(bytes), word);
     }
