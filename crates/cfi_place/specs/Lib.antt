@@ -1,6 +1,0 @@
-pub mod Names
-pub mod Value
-pub mod Relocated
-pub mod Slots
-pub mod Functions
-pub mod Placed
