@@ -24,8 +24,8 @@ module _ (joins : (slot address : ℕ) → Type 0) (slots code_words : ℕ) (par
       elim (cases_lt slot slots) [
         | inl lower ↦ lower
         | inr higher ↦
-        let len = used.len in
-        absurd (false≢true (sym (get_or_past marks slot false (omega arith)) ∙ marked))
+            let len = used.len in
+            absurd (false≢true (sym (get_or_past marks slot false (omega arith)) ∙ marked))
       ]
 
   -- the root of a slot with an edge has one too
@@ -57,52 +57,52 @@ module _ (joins : (slot address : ℕ) → Type 0) (slots code_words : ℕ) (par
   word_joined slot word edge = forest.joined slot (4 * word) edge ∙ ap (root_of parents) (word_node word)
 
   module _ (inside : (slot address : ℕ) → joins slot address → slot < slots) (word : ℕ) (there : word < code_words)
-      where
-    -- a code word that is reached has a slot as its root
-    root_from_reached : IsReached joins (4 * word) → root_of parents (slots + word) < slots
-    root_from_reached (slot, edge) =
-        let len = forest.len in
-        let within = inside slot (4 * word) edge in
-        let same = word_joined slot word edge in
-        let low = root_of-low parents slot forest.forest (omega arith) in
-        omega arith
+    where
+      -- a code word that is reached has a slot as its root
+      root_from_reached : IsReached joins (4 * word) → root_of parents (slots + word) < slots
+      root_from_reached (slot, edge) =
+          let len = forest.len in
+          let within = inside slot (4 * word) edge in
+          let same = word_joined slot word edge in
+          let low = root_of-low parents slot forest.forest (omega arith) in
+          omega arith
 
-    root_linked : root_of parents (slots + word) < slots
-        → Linked joins (Slot (root_of parents (slots + word))) (Address (4 * word))
-    root_linked lower =
-        let len = forest.len in
-        let aligned : 4 * word % 4 ≡ 0 = omega arith in
-        forest.linked (Slot (root_of parents (slots + word))) (Address (4 * word)) lower (aligned, omega arith)
-        (root_of-root_of parents (slots + word) forest.forest (omega arith)
-        ∙ ap (root_of parents) (sym (word_node word)))
+      root_linked : root_of parents (slots + word) < slots
+          → Linked joins (Slot (root_of parents (slots + word))) (Address (4 * word))
+      root_linked lower =
+          let len = forest.len in
+          let aligned : 4 * word % 4 ≡ 0 = omega arith in
+          forest.linked (Slot (root_of parents (slots + word))) (Address (4 * word)) lower (aligned, omega arith)
+          (root_of-root_of parents (slots + word) forest.forest (omega arith)
+          ∙ ap (root_of parents) (sym (word_node word)))
 
-    reached_from_root : root_of parents (slots + word) < slots → IsReached joins (4 * word)
-    reached_from_root lower =
-        elim (last_edge joins (root_linked lower)) [
-          | inl is ↦ absurd cc
-          | inr reached ↦ reached
-        ]
+      reached_from_root : root_of parents (slots + word) < slots → IsReached joins (4 * word)
+      reached_from_root lower =
+          elim (last_edge joins (root_linked lower)) [
+            | inl is ↦ absurd cc
+            | inr reached ↦ reached
+          ]
 
-    word_root_marked : root_of parents (slots + word) < slots → IsMarked marks (root_of parents (slots + word))
-    word_root_marked lower =
-        elim (first_edge joins (root_linked lower)) [
-          | inl is ↦ absurd cc
-          | inr edge ↦ used.marked (root_of parents (slots + word)) edge.0 edge.1
-        ]
+      word_root_marked : root_of parents (slots + word) < slots → IsMarked marks (root_of parents (slots + word))
+      word_root_marked lower =
+          elim (first_edge joins (root_linked lower)) [
+            | inl is ↦ absurd cc
+            | inr edge ↦ used.marked (root_of parents (slots + word)) edge.0 edge.1
+          ]
 
-    -- a slot and a code word of one root are joined by a chain, and no others
-    chain_from_root : (slot : ℕ) → slot < slots → root_of parents slot ≡ root_of parents (slots + word)
-        → Chain joins slot (4 * word)
-    chain_from_root slot within equal =
-        let aligned : 4 * word % 4 ≡ 0 = omega arith in
-        let way = chain_from_Linked joins (forest.linked (Slot slot) (Address (4 * word)) within (aligned, omega arith)
-        (equal ∙ ap (root_of parents) (sym (word_node word)))) in
-        record { more = way.0; chain = way.1 }
+      -- a slot and a code word of one root are joined by a chain, and no others
+      chain_from_root : (slot : ℕ) → slot < slots → root_of parents slot ≡ root_of parents (slots + word)
+          → Chain joins slot (4 * word)
+      chain_from_root slot within equal =
+          let aligned : 4 * word % 4 ≡ 0 = omega arith in
+          let way = chain_from_Linked joins (forest.linked (Slot slot) (Address (4 * word)) within (aligned, omega arith)
+          (equal ∙ ap (root_of parents) (sym (word_node word)))) in
+          record { more = way.0; chain = way.1 }
 
-    root_from_chain : (slot : ℕ) → Chain joins slot (4 * word)
-        → root_of parents slot ≡ root_of parents (slots + word)
-    root_from_chain slot chain =
-        chain_root chain.more slot (4 * word) chain.chain ∙ ap (root_of parents) (word_node word)
+      root_from_chain : (slot : ℕ) → Chain joins slot (4 * word)
+          → root_of parents slot ≡ root_of parents (slots + word)
+      root_from_chain slot chain =
+          chain_root chain.more slot (4 * word) chain.chain ∙ ap (root_of parents) (word_node word)
 
 -- ---- the labels
 
@@ -135,15 +135,15 @@ module _ (joins : (slot address : ℕ) → Type 0) (slots code_words : ℕ) (par
         | inl lower ↦ inl (
           reached_from_root joins slots code_words parents forest marks used inside word there lower,
           subst IsClass (sym (tary_at word there)) (slot_numbers.class (root_of parents (slots + word))
-          (word_root_marked joins slots code_words parents forest marks used inside word there lower)),
+              (word_root_marked joins slots code_words parents forest marks used inside word there lower)),
         )
         | inr higher ↦
-        let len = numbers_len in
-        inr (
-          λ reached. let lower = root_from_reached joins slots code_words parents forest marks used inside word there
-          reached in omega arith,
-          tary_at word there ∙ get_or_past numbers (root_of parents (slots + word)) 0 (omega arith),
-        )
+            let len = numbers_len in
+            inr (
+              λ reached. let lower = root_from_reached joins slots code_words parents forest marks used inside word there
+                  reached in omega arith,
+              tary_at word there ∙ get_or_past numbers (root_of parents (slots + word)) 0 (omega arith),
+            )
       ]
 
   branch_label : (slot : ℕ) → slot < slots_of code_words
@@ -151,14 +151,17 @@ module _ (joins : (slot address : ℕ) → Type 0) (slots code_words : ℕ) (par
   branch_label slot there =
       elim (cases_lt slot slots) [
         | inl lower ↦ elim (cases_Bool (get_or marks slot false)) [
-          | inl marked ↦ inl (used.only slot marked, subst IsClass (sym (fills.kept slot lower))
-          (slot_numbers.class slot marked))
-          | inr unmarked ↦
-          let len = used.len in
-          inr (
-            λ edge. absurd (false≢true (sym unmarked ∙ used.marked slot edge.0 edge.1)),
-            fills.kept slot lower ∙ slot_numbers.idle slot (omega arith) unmarked,
+          | inl marked ↦ inl (
+            used.only slot marked,
+            subst IsClass (sym (fills.kept slot lower))
+                (slot_numbers.class slot marked),
           )
+          | inr unmarked ↦
+              let len = used.len in
+              inr (
+                λ edge. absurd (false≢true (sym unmarked ∙ used.marked slot edge.0 edge.1)),
+                fills.kept slot lower ∙ slot_numbers.idle slot (omega arith) unmarked,
+              )
         ]
         | inr higher ↦ inr (
           λ edge. let lower = inside slot edge.0 edge.1 in omega arith,
@@ -174,14 +177,13 @@ module _ (joins : (slot address : ℕ) → Type 0) (slots code_words : ℕ) (par
       let root_lower = root_from_reached joins slots code_words parents forest marks used inside word there reached in
       let top = root_of-root_of parents (slots + word) forest.forest (omega arith) in
       let alike = slot_numbers.same slot (root_of parents (slots + word)) (used.marked slot edge.0 edge.1)
-      (word_root_marked joins slots code_words parents forest marks used inside word there root_lower) in
-      (
+      (word_root_marked joins slots code_words parents forest marks used inside word there root_lower) in (
         λ equal. chain_from_root joins slots code_words parents forest marks used inside word there slot lower
-        (alike.0 (sym (fills.kept slot lower) ∙ equal ∙ tary_at word there) ∙ top),
+            (alike.0 (sym (fills.kept slot lower) ∙ equal ∙ tary_at word there) ∙ top),
         λ chain. fills.kept slot lower
-        ∙ alike.1 (root_from_chain joins slots code_words parents forest marks used inside word there slot chain
-        ∙ sym top)
-        ∙ sym (tary_at word there),
+            ∙ alike.1 (root_from_chain joins slots code_words parents forest marks used inside word there slot chain
+            ∙ sym top)
+            ∙ sym (tary_at word there),
       )
 
   pub are_labels : AreLabels joins code_words tary bary

@@ -7,11 +7,7 @@ use std::alloc::{AllocError, Global};
 use std::test::Fail;
 
 // Those edges of these slots and addresses that lie within a table of 1,024 code words: all, in each row below.
-fn edges_of(
-    alloc: Global,
-    pairs: &[(u32, u32)],
-    slots: u32,
-) -> Result<Vec<Edge>, AllocError>
+fn edges_of(alloc: Global, pairs: &[(u32, u32)], slots: u32) -> Result<Vec<Edge>, AllocError>
     ensures { IfOk result (λ edges. All (IsWithin slots 1024) edges.items) }
 {
     let mut edges = Vec::new(alloc);
@@ -62,7 +58,14 @@ fn labels(rt: HostRuntime) -> Result<(), Fail> {
         ),
         // An indirect call of two functions, and the returns of both.
         (
-            &[(0, 0x84), (0, 0xbc), (1, 0x44), (1, 0x80), (2, 0x48), (2, 0x80)],
+            &[
+                (0, 0x84),
+                (0, 0xbc),
+                (1, 0x44),
+                (1, 0x80),
+                (2, 0x48),
+                (2, 0x80),
+            ],
             3,
             &[(0, 1), (1, 2), (2, 2)],
             &[(33, 1), (47, 1), (17, 2), (18, 2), (32, 2)],
