@@ -187,20 +187,6 @@ module _ (edges : List Edge) (slots code_words : ℕ) (within : All (IsWithin sl
 
 -- ---- marks
 
-unmarked : (slots slot : ℕ) → get_or (replicate slots false) slot false ≡ false
-unmarked slots slot =
-    elim (cases_lt slot slots) [
-      | inl lower ↦ get_or-replicate slots slot false false lower
-      | inr higher ↦ get_or_past (replicate slots false) slot false (rw length-replicate higher)
-    ]
-
-pub no_marks : (edges : List Edge) (slots : ℕ) → MarksUsed (HasFirst edges 0) slots (replicate slots false)
-no_marks edges slots = record {
-  len = length-replicate slots false;
-  marked = λ slot address (place, lower, is). absurd (omega arith);
-  only = λ slot is. absurd (false≢true (sym (unmarked slots slot) ∙ is));
-}
-
 module _ (edges : List Edge) (slots code_words : ℕ) (within : All (IsWithin slots code_words) edges) (count : ℕ)
     (there : count < length edges) (marks : List Bool) (old : MarksUsed (HasFirst edges count) slots marks) where
   branch_within : (edge_at edges count).branch < length marks

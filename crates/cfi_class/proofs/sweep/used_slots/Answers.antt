@@ -1,7 +1,7 @@
 use Rattle.std.proofs.Common.{◌≡◌, ℕ, ◌+◌, ◌<◌, ◌/◌, length, ap, subst, arith}
 use Rattle.cfi_class.specs.Numbering.{MarksUsed}
 use Rattle.cfi_class.proofs.EdgeLemmas.{HasFirst, edge_at, edge_at-within}
-use Rattle.cfi_class.proofs.SweepLemmas.{no_marks, one_more_mark}
+use Rattle.cfi_class.proofs.SweepLemmas.{one_more_mark}
 use Rattle.cfi_class.proofs.sweep.used_slots.Goals as goal
 
 pub loop-edge-preserved : goal.loop-edge-preserved
