@@ -30,9 +30,9 @@ module _ (modules : List Placed) (code_words : ℕ) (apart : AreApart modules co
       elim (cases_lt j count) [
         | inl earlier ↦ earlier_placed j d earlier
         | inr later ↦
-        let here : count ≡ j = omega arith in
-        subst (λ n. HasWords new (get_or modules n d)) here
-        (subst (HasWords new) (is ∙ get_or_default modules count item d there) placed)
+            let here : count ≡ j = omega arith in
+            subst (λ n. HasWords new (get_or modules n d)) here
+            (subst (HasWords new) (is ∙ get_or_default modules count item d there) placed)
       ]
 
   elsewhere_free : (word : ℕ) → word < code_words
