@@ -31,10 +31,10 @@ module _ (edges : List Edge) (count : ℕ) (there : count < length edges) where
       elim (cases_lt place count) [
         | inl before ↦ inl (place, before, is)
         | inr after ↦
-        let here : place ≡ count = omega arith in
-        let at : get_or edges count (edge_of slot address) ≡ edge_of slot address =
-        subst (λ n. get_or edges n (edge_of slot address) ≡ edge_of slot address) here is in
-        inr (get_or_default edges count (edge_of 0 0) (edge_of slot address) there ∙ at)
+            let here : place ≡ count = omega arith in
+            let at : get_or edges count (edge_of slot address) ≡ edge_of slot address =
+            subst (λ n. get_or edges n (edge_of slot address) ≡ edge_of slot address) here is in
+            inr (get_or_default edges count (edge_of 0 0) (edge_of slot address) there ∙ at)
       ]
 
 module _ (edges : List Edge) (slots code_words : ℕ) (within : All (IsWithin slots code_words) edges) where

@@ -31,11 +31,11 @@ ancestor_of-enough (suc bound) parents (suc steps) (suc node) forest within low 
     let least : get_or parents (suc node) 0 ≤ suc node = forest (suc node) within in
     elim (cases_eq (get_or parents (suc node) 0) (suc node)) [
       | inl own ↦ ancestor_of-root (suc steps) parents (suc node) own
-      ∙ sym (ancestor_of-root (suc node) parents (suc node) own)
+          ∙ sym (ancestor_of-root (suc node) parents (suc node) own)
       | inr lower ↦ ancestor_of-enough bound parents steps (get_or parents (suc node) 0) forest (omega arith)
-      (omega arith) (omega arith)
-      ∙ sym (ancestor_of-enough bound parents node (get_or parents (suc node) 0) forest (omega arith)
-      (omega arith) (omega arith))
+          (omega arith) (omega arith)
+          ∙ sym (ancestor_of-enough bound parents node (get_or parents (suc node) 0) forest (omega arith)
+          (omega arith) (omega arith))
     ]
 
 -- a root is its own
@@ -69,8 +69,8 @@ roots_are (suc bound) parents roots node forest are within low =
     elim (cases_eq (get_or parents node 0) node) [
       | inl own ↦ root_of-root parents node own ∙ sym (are.own node within own)
       | inr lower ↦ sym (root_of-parent parents node forest within)
-      ∙ roots_are bound parents roots (get_or parents node 0) forest are (omega arith) (omega arith)
-      ∙ are.shared node within
+          ∙ roots_are bound parents roots (get_or parents node 0) forest are (omega arith) (omega arith)
+          ∙ are.shared node within
     ]
 
 pub root_of-unique : (parents : List ℕ) (roots : ℕ → ℕ) (node : ℕ) → IsForest parents → AreRoots parents roots
@@ -98,14 +98,14 @@ tops_of (suc bound) parents node forest within low =
     elim (cases_eq (get_or parents node 0) node) [
       | inl own ↦ top_of-own parents node own
       | inr lower ↦
-      let same : root_of parents (get_or parents node 0) ≡ root_of parents node =
-      root_of-parent parents node forest within in
-      let tops : Tops parents (get_or parents node 0) =
-      tops_of bound parents (get_or parents node 0) forest (omega arith) (omega arith) in
-      record {
-        low = let below = tops.low in omega arith;
-        top = ap (λ n. get_or parents n 0) (sym same) ∙ tops.top ∙ same;
-      }
+          let same : root_of parents (get_or parents node 0) ≡ root_of parents node =
+          root_of-parent parents node forest within in
+          let tops : Tops parents (get_or parents node 0) =
+          tops_of bound parents (get_or parents node 0) forest (omega arith) (omega arith) in
+          record {
+            low = let below = tops.low in omega arith;
+            top = ap (λ n. get_or parents n 0) (sym same) ∙ tops.top ∙ same;
+          }
     ]
 
 pub root_of-low : (parents : List ℕ) (node : ℕ) → IsForest parents → node < length parents
@@ -139,7 +139,7 @@ module _ (parents : List ℕ) (node next : ℕ) (forest : IsForest parents) (wit
       let lower = next_low in
       elim (cases_eq other node) [
         | inl same ↦ subst (λ n. get_or (set parents node next) n 0 ≤ n)
-        (sym same) (rw get_or-set_same (omega arith))
+            (sym same) (rw get_or-set_same (omega arith))
         | inr differ ↦ rw get_or-set_other (forest other there')
       ]
 
@@ -157,12 +157,12 @@ module _ (parents : List ℕ) (node next : ℕ) (forest : IsForest parents) (wit
       let there' : other < length parents = omega (arith, length-set {A = ℕ}) in
       elim (cases_eq other node) [
         | inl same ↦
-        ap (λ n. root_of parents (get_or (set parents node next) n 0)) same
-        ∙ ap (root_of parents) (get_or-set_same parents node next 0 within)
-        ∙ halved_way ∙ ap (root_of parents) (sym same)
+            ap (λ n. root_of parents (get_or (set parents node next) n 0)) same
+            ∙ ap (root_of parents) (get_or-set_same parents node next 0 within)
+            ∙ halved_way ∙ ap (root_of parents) (sym same)
         | inr differ ↦
-        ap (root_of parents) (get_or-set_other parents node other next 0 differ)
-        ∙ root_of-parent parents other forest there'
+            ap (root_of parents) (get_or-set_other parents node other next 0 differ)
+            ∙ root_of-parent parents other forest there'
       ]
 
   halved_own : (other : ℕ) → other < length (set parents node next)
@@ -173,13 +173,13 @@ module _ (parents : List ℕ) (node next : ℕ) (forest : IsForest parents) (wit
       let lower = next_low in
       elim (cases_eq other node) [
         | inl same ↦
-        let at : get_or (set parents node next) node 0 ≡ node =
-        subst (λ n. get_or (set parents node next) n 0 ≡ n) same own in
-        let is = get_or-set_same parents node next 0 within in
-        let parent : get_or parents node 0 ≡ node = omega arith in
-        ap (root_of parents) same ∙ root_of-root parents node parent ∙ sym same
+            let at : get_or (set parents node next) node 0 ≡ node =
+            subst (λ n. get_or (set parents node next) n 0 ≡ n) same own in
+            let is = get_or-set_same parents node next 0 within in
+            let parent : get_or parents node 0 ≡ node = omega arith in
+            ap (root_of parents) same ∙ root_of-root parents node parent ∙ sym same
         | inr differ ↦ root_of-root parents other
-        (sym (get_or-set_other parents node other next 0 differ) ∙ own)
+            (sym (get_or-set_other parents node other next 0 differ) ∙ own)
       ]
 
   -- each node keeps its root
@@ -211,22 +211,22 @@ module _ (parents : List ℕ) (one other : ℕ) (forest : IsForest parents) (one
   least_root =
       elim (cases_lt one other) [
         | inl lower ↦
-        let is : min one other ≡ one = omega arith in
-        ap (root_of parents) is ∙ root_of-root parents one one_own ∙ sym is
+            let is : min one other ≡ one = omega arith in
+            ap (root_of parents) is ∙ root_of-root parents one one_own ∙ sym is
         | inr higher ↦
-        let is : min one other ≡ other = omega arith in
-        ap (root_of parents) is ∙ root_of-root parents other other_own ∙ sym is
+            let is : min one other ≡ other = omega arith in
+            ap (root_of parents) is ∙ root_of-root parents other other_own ∙ sym is
       ]
 
   most_root : root_of parents (max one other) ≡ max one other
   most_root =
       elim (cases_lt one other) [
         | inl lower ↦
-        let is : max one other ≡ other = omega arith in
-        ap (root_of parents) is ∙ root_of-root parents other other_own ∙ sym is
+            let is : max one other ≡ other = omega arith in
+            ap (root_of parents) is ∙ root_of-root parents other other_own ∙ sym is
         | inr higher ↦
-        let is : max one other ≡ one = omega arith in
-        ap (root_of parents) is ∙ root_of-root parents one one_own ∙ sym is
+            let is : max one other ≡ one = omega arith in
+            ap (root_of parents) is ∙ root_of-root parents one one_own ∙ sym is
       ]
 
   pub joined_forest : IsForest (set parents (max one other) (min one other))
@@ -235,7 +235,7 @@ module _ (parents : List ℕ) (one other : ℕ) (forest : IsForest parents) (one
       let most_within : max one other < length parents = omega arith in
       elim (cases_eq node (max one other)) [
         | inl same ↦ subst (λ n. get_or (set parents (max one other) (min one other)) n 0 ≤ n) (sym same)
-        (rw get_or-set_same (omega arith))
+            (rw get_or-set_same (omega arith))
         | inr differ ↦ rw get_or-set_other (forest node within)
       ]
 
@@ -247,17 +247,17 @@ module _ (parents : List ℕ) (one other : ℕ) (forest : IsForest parents) (one
       let most_within : max one other < length parents = omega arith in
       elim (cases_eq node (max one other)) [
         | inl same ↦
-        ap (λ n. joined_root one other (root_of parents (get_or (set parents (max one other) (min one other)) n 0)))
-        same
-        ∙ ap (λ n. joined_root one other (root_of parents n))
-        (get_or-set_same parents (max one other) (min one other) 0 most_within)
-        ∙ ap (joined_root one other) least_root
-        ∙ joined_root-least one other
-        ∙ sym (joined_root-most one other (root_of parents node) (ap (root_of parents) same ∙ most_root))
+            ap (λ n. joined_root one other (root_of parents (get_or (set parents (max one other) (min one other)) n 0)))
+            same
+            ∙ ap (λ n. joined_root one other (root_of parents n))
+            (get_or-set_same parents (max one other) (min one other) 0 most_within)
+            ∙ ap (joined_root one other) least_root
+            ∙ joined_root-least one other
+            ∙ sym (joined_root-most one other (root_of parents node) (ap (root_of parents) same ∙ most_root))
         | inr differ ↦
-        ap (λ n. joined_root one other (root_of parents n))
-        (get_or-set_other parents (max one other) node (min one other) 0 differ)
-        ∙ ap (joined_root one other) (root_of-parent parents node forest within)
+            ap (λ n. joined_root one other (root_of parents n))
+            (get_or-set_other parents (max one other) node (min one other) 0 differ)
+            ∙ ap (joined_root one other) (root_of-parent parents node forest within)
       ]
 
   joined_own : (node : ℕ) → node < length (set parents (max one other) (min one other))
@@ -267,14 +267,14 @@ module _ (parents : List ℕ) (one other : ℕ) (forest : IsForest parents) (one
       let most_within : max one other < length parents = omega arith in
       elim (cases_eq node (max one other)) [
         | inl same ↦
-        joined_root-most one other (root_of parents node) (ap (root_of parents) same ∙ most_root)
-        ∙ sym (get_or-set_same parents (max one other) (min one other) 0 most_within)
-        ∙ ap (λ n. get_or (set parents (max one other) (min one other)) n 0) (sym same)
-        ∙ own
+            joined_root-most one other (root_of parents node) (ap (root_of parents) same ∙ most_root)
+            ∙ sym (get_or-set_same parents (max one other) (min one other) 0 most_within)
+            ∙ ap (λ n. get_or (set parents (max one other) (min one other)) n 0) (sym same)
+            ∙ own
         | inr differ ↦
-        let root : root_of parents node ≡ node = root_of-root parents node
-        (sym (get_or-set_other parents (max one other) node (min one other) 0 differ) ∙ own) in
-        ap (joined_root one other) root ∙ joined_root-other one other node differ
+            let root : root_of parents node ≡ node = root_of-root parents node
+            (sym (get_or-set_other parents (max one other) node (min one other) 0 differ) ∙ own) in
+            ap (joined_root one other) root ∙ joined_root-other one other node differ
       ]
 
   -- the nodes of the higher one get the lower one

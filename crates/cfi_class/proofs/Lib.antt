@@ -1,5 +1,6 @@
 mod EdgeLemmas
 mod ForestLemmas
+mod JoinedLemmas
 mod LabelsLemmas
 mod LinkedLemmas
 mod NumberingLemmas

@@ -47,22 +47,22 @@ module _ (parents : List ℕ) (marks : List Bool) (numbers : List ℕ) (count nu
       elim (cases_lt one (length numbers)) [
         | inl one_lower ↦ elim (cases_lt other (length numbers)) [
           | inl other_lower ↦
-          rw (before one one_lower, before other other_lower)
-          (old.same one other one_lower other_lower one_marked other_marked)
+              rw (before one one_lower, before other other_lower)
+              (old.same one other one_lower other_lower one_marked other_marked)
           | inr other_higher ↦
-          let last = last_or other other_within other_higher in
-          rw (before one one_lower, here other last, ← last)
-          (is.same (rw last other_marked) one one_lower one_marked)
+              let last = last_or other other_within other_higher in
+              rw (before one one_lower, here other last, ← last)
+              (is.same (rw last other_marked) one one_lower one_marked)
         ]
         | inr one_higher ↦ elim (cases_lt other (length numbers)) [
           | inl other_lower ↦
-          let last = last_or one one_within one_higher in
-          let alike = is.same (rw last one_marked) other other_lower other_marked in
-          rw (before other other_lower, here one last, ← last)
-          (λ equal. sym (alike.0 (sym equal)), λ equal. sym (alike.1 (sym equal)))
+              let last = last_or one one_within one_higher in
+              let alike = is.same (rw last one_marked) other other_lower other_marked in
+              rw (before other other_lower, here one last, ← last)
+              (λ equal. sym (alike.0 (sym equal)), λ equal. sym (alike.1 (sym equal)))
           | inr other_higher ↦
-          let both : one ≡ other = sym (last_or one one_within one_higher) ∙ last_or other other_within other_higher in
-          (λ equal. ap (root_of parents) both, λ equal. ap (λ n. get_or (numbers ++ number ∷ []) n 0) both)
+              let both : one ≡ other = sym (last_or one one_within one_higher) ∙ last_or other other_within other_higher in
+              (λ equal. ap (root_of parents) both, λ equal. ap (λ n. get_or (numbers ++ number ∷ []) n 0) both)
         ]
       ]
 
@@ -74,8 +74,8 @@ module _ (parents : List ℕ) (marks : List Bool) (numbers : List ℕ) (count nu
       elim (cases_lt slot (length numbers)) [
         | inl lower ↦ subst (P slot) (sym (before slot lower)) (earlier slot lower)
         | inr higher ↦
-        let at = last_or slot within higher in
-        subst (P slot) (sym (here slot at)) (subst (λ n. P n number) at last)
+            let at = last_or slot within higher in
+            subst (P slot) (sym (here slot at)) (subst (λ n. P n number) at last)
       ]
 
   pub pushed : NumbersSoFar parents marks (numbers ++ number ∷ []) next
@@ -147,9 +147,9 @@ module _ (parents : List ℕ) (marks : List Bool) (numbers : List ℕ) (count : 
     number_pushed number chosen low root_marked own =
         elim (cases_lt root (length numbers)) [
           | inl within ↦ subst (λ n. NumbersSoFar parents marks (numbers ++ n ∷ []) (max count n))
-          (sym (chosen ∙ cond-true (ltb root (length numbers)) _ _ (lt-ltb root (length numbers) within)))
-          (other_pushed within root_marked own)
+              (sym (chosen ∙ cond-true (ltb root (length numbers)) _ _ (lt-ltb root (length numbers) within)))
+              (other_pushed within root_marked own)
           | inr above ↦ subst (λ n. NumbersSoFar parents marks (numbers ++ n ∷ []) (max count n))
-          (sym (chosen ∙ cond-false (ltb root (length numbers)) _ _ (le-ltb root (length numbers) above)))
-          (root_pushed (omega arith))
+              (sym (chosen ∙ cond-false (ltb root (length numbers)) _ _ (le-ltb root (length numbers) above)))
+              (root_pushed (omega arith))
         ]

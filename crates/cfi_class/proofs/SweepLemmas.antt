@@ -71,23 +71,23 @@ joined_root-cases one other first second equal =
       | inl first_most ↦ elim (cases_eq second (max one other)) [
         | inl second_most ↦ inl (first_most ∙ sym second_most)
         | inr second_not ↦
-        let is : min one other ≡ second = sym (joined_root-most one other first first_most) ∙ equal
-        ∙ joined_root-other one other second second_not in
-        elim (cases_lt one other) [
-          | inl lower ↦ inr (inr (omega arith, omega arith))
-          | inr higher ↦ inr (inl (omega arith, omega arith))
-        ]
+            let is : min one other ≡ second = sym (joined_root-most one other first first_most) ∙ equal
+            ∙ joined_root-other one other second second_not in
+            elim (cases_lt one other) [
+              | inl lower ↦ inr (inr (omega arith, omega arith))
+              | inr higher ↦ inr (inl (omega arith, omega arith))
+            ]
       ]
       | inr first_not ↦ elim (cases_eq second (max one other)) [
         | inl second_most ↦
-        let is : first ≡ min one other = sym (joined_root-other one other first first_not) ∙ equal
-        ∙ joined_root-most one other second second_most in
-        elim (cases_lt one other) [
-          | inl lower ↦ inr (inl (omega arith, omega arith))
-          | inr higher ↦ inr (inr (omega arith, omega arith))
-        ]
+            let is : first ≡ min one other = sym (joined_root-other one other first first_not) ∙ equal
+            ∙ joined_root-most one other second second_most in
+            elim (cases_lt one other) [
+              | inl lower ↦ inr (inl (omega arith, omega arith))
+              | inr higher ↦ inr (inr (omega arith, omega arith))
+            ]
         | inr second_not ↦ inl (sym (joined_root-other one other first first_not) ∙ equal
-        ∙ joined_root-other one other second second_not)
+            ∙ joined_root-other one other second second_not)
       ]
     ]
 
@@ -126,10 +126,10 @@ module _ (old new : (slot address : ℕ) → Type 0) (slots code_words slot addr
       elim (adds.cases other_slot other_address edge) [
         | inl earlier ↦ left ∙ ap (joined_root from to) (forest.joined other_slot other_address earlier) ∙ sym right
         | inr here ↦ left
-        ∙ ap (λ n. joined_root from to (root_of before n)) here.0
-        ∙ joined_root-one from to ∙ sym (joined_root-two from to)
-        ∙ ap (λ n. joined_root from to (root_of before (node_of slots (Address n)))) (sym here.1)
-        ∙ sym right
+            ∙ ap (λ n. joined_root from to (root_of before n)) here.0
+            ∙ joined_root-one from to ∙ sym (joined_root-two from to)
+            ∙ ap (λ n. joined_root from to (root_of before (node_of slots (Address n)))) (sym here.1)
+            ∙ sym right
       ]
 
   step_linked : (one other : End) → IsEnd slots code_words one → IsEnd slots code_words other
@@ -141,13 +141,13 @@ module _ (old new : (slot address : ℕ) → Type 0) (slots code_words slot addr
         | inl together ↦ Linked-map old new adds.kept (forest.linked one other is_one is_other together)
         | inr apart ↦ elim apart [
           | inl along ↦ Linked-append new
-          (Linked-map old new adds.kept (forest.linked one (Slot slot) is_one adds.is_slot along.0))
-          (to_address adds.here
-          (Linked-map old new adds.kept (forest.linked (Address address) other adds.is_address is_other (sym along.1))))
+              (Linked-map old new adds.kept (forest.linked one (Slot slot) is_one adds.is_slot along.0))
+              (to_address adds.here
+              (Linked-map old new adds.kept (forest.linked (Address address) other adds.is_address is_other (sym along.1))))
           | inr back ↦ Linked-append new
-          (Linked-map old new adds.kept (forest.linked one (Address address) is_one adds.is_address back.0))
-          (to_slot adds.here
-          (Linked-map old new adds.kept (forest.linked (Slot slot) other adds.is_slot is_other (sym back.1))))
+              (Linked-map old new adds.kept (forest.linked one (Address address) is_one adds.is_address back.0))
+              (to_slot adds.here
+              (Linked-map old new adds.kept (forest.linked (Slot slot) other adds.is_slot is_other (sym back.1))))
         ]
       ]
 
@@ -218,8 +218,8 @@ module _ (edges : List Edge) (slots code_words : ℕ) (within : All (IsWithin sl
       elim (cases_eq slot (edge_at edges count).branch) [
         | inl here ↦ subst (IsUsed (HasFirst edges (count + 1))) (sym here) (_, HasFirst-here edges count there)
         | inr differs ↦
-        let used = old.only slot (sym (mark_elsewhere slot differs) ∙ is) in
-        (used.0, HasFirst-before edges count there slot used.0 used.1)
+            let used = old.only slot (sym (mark_elsewhere slot differs) ∙ is) in
+            (used.0, HasFirst-before edges count there slot used.0 used.1)
       ]
 
   -- the marks after one more edge

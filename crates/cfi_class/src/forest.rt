@@ -65,7 +65,7 @@ impl Forest {
         ensures len { length self.new ≡ length self.old }
         ensures roots { (node : ℕ) → node < length self.old
             → root_of self.new node
-                ≡ joined_root (root_of self.old one) (root_of self.old other) (root_of self.old node) }
+            ≡ joined_root (root_of self.old one) (root_of self.old other) (root_of self.old node) }
     {
         let one = self.root(one);
         let other = self.root(other);

@@ -8,5 +8,5 @@ invariant-loop-slot l = record {
   place : length l.numbers.items ≡ l.slot;
   len : length l.forest ≡ length l.initial.forest;
   roots : HasSameRoots l.initial.forest l.forest;
-  numbers : NumbersSoFar l.initial.forest l.used l.numbers.items l.count
+  numbers : NumbersSoFar l.initial.forest l.used l.numbers.items l.count;
 }

@@ -8,5 +8,5 @@ invariant-loop-word l = record {
   len : length l.forest ≡ length l.initial.forest;
   roots : HasSameRoots l.initial.forest l.forest;
   root : (word : ℕ) → word < l.word
-      → get_or l.numbers.items word 0 ≡ get_or l.slots (root_of l.initial.forest (length l.slots + word)) 0
+      → get_or l.numbers.items word 0 ≡ get_or l.slots (root_of l.initial.forest (length l.slots + word)) 0;
 }

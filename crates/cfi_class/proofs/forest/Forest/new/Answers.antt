@@ -6,9 +6,9 @@ use Rattle.cfi_class.proofs.ForestLemmas.{first_forest, first_roots}
 use Rattle.cfi_class.proofs.forest.Forest.new.Goals as goal
 
 numbers : (c : goal.In_ok-collect) → c.in_ok-collect.field-0.items ≡ range_with_len 0 c.args.nodes
-numbers c = 
-   let h = items_from_collect _ c.collect.ensures.ran (YieldsList-from_range 0 c.args.nodes c.args.nodes refl (omega arith)) in
-   let was = c.in_ok-collect.was in rw was at h
+numbers c =
+    let h = items_from_collect _ c.collect.ensures.ran (YieldsList-from_range 0 c.args.nodes c.args.nodes refl (omega arith)) in
+    let was = c.in_ok-collect.was in rw was at h
 
 pub invariant_of-result : goal.invariant_of-result
 invariant_of-result c = subst IsForest (sym (numbers c)) (first_forest c.args.nodes)

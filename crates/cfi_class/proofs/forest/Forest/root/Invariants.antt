@@ -8,7 +8,7 @@ invariant-loop-at l = record {
   len : length l.self-inside.parents.items ≡ length l.initial.self-inside.parents.items;
   low : l.at ≤ l.node;
   way : root_of l.initial.self-inside.parents.items l.at ≡ root_of l.initial.self-inside.parents.items l.node;
-  roots : HasSameRoots l.initial.self-inside.parents.items l.self-inside.parents.items
+  roots : HasSameRoots l.initial.self-inside.parents.items l.self-inside.parents.items;
 }
 
 abbrev pub decreases-loop-at : goal.decreases-loop-at
