@@ -1,10 +1,10 @@
 -- A chain joins a slot and an address exactly where their nodes have one root.
-use Rattle.std.proofs.Common.{◌≡◌, ◌↔◌, ℕ, zero, suc, ◌+◌, ◌*◌, ◌/◌, ◌%◌, ◌<◌, List, All, refl, sym, subst, ◌∙◌, arith}
+use Rattle.std.proofs.Common.{◌≡◌, ℕ, zero, suc, ◌<◌, List, All, sym, subst, ◌∙◌}
 use Rattle.cfi_word.specs.declared.lists.Edge.{Edge}
 use Rattle.cfi_word.specs.Chain.{ChainOf, Chain}
 use Rattle.cfi_class.specs.Forest.{root_of}
 use Rattle.cfi_class.specs.Labels.{HasEdge, IsWithin, IsReached, IsUsed}
-use Rattle.cfi_class.specs.Linked.{End, Linked, IsEnd, node_of, IsForestOf}
+use Rattle.cfi_class.specs.Linked.{IsEnd, node_of, IsForestOf}
 use Rattle.cfi_class.specs.Linked.End.{Slot, Address}
 use Rattle.cfi_class.proofs.LinkedLemmas.{chain_from_Linked}
 

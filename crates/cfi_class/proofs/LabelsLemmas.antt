@@ -1,14 +1,13 @@
 -- Numbers that follow the trees of a forest of edges are the labels of these edges.
-use Rattle.std.proofs.Common.{◌≡◌, ◌↔◌, ◌⊎◌, ℕ, zero, suc, ◌+◌, ◌*◌, ◌/◌, ◌%◌, ◌<◌, ◌≤◌, Bool, true, false, List, length, get_or, All, refl, sym, ap, subst, ◌∙◌, inl, inr, arith}
+use Rattle.std.proofs.Common.{◌≡◌, ◌↔◌, ℕ, ◌+◌, ◌*◌, ◌/◌, ◌%◌, ◌<◌, ◌≤◌, Bool, false, List, length, get_or, sym, ap, subst, ◌∙◌, inl, inr, arith}
 use Rattle.std.proofs.lemmas.Bool.{cases_lt, cases_Bool, false≢true}
 use Rattle.std.proofs.lemmas.List.{get_or_past}
 use Rattle.cfi_word.specs.declared.ids.TheConstants.{FIELD_MAX}
-use Rattle.cfi_word.specs.declared.lists.Edge.{Edge}
-use Rattle.cfi_word.specs.Chain.{ChainOf, Chain}
+use Rattle.cfi_word.specs.Chain.{Chain}
 use Rattle.cfi_word.specs.Table.{slots_of}
 use Rattle.cfi_class.specs.Forest.{HasSameRoots, root_of}
-use Rattle.cfi_class.specs.Labels.{HasEdge, IsWithin, IsReached, IsUsed, IsClass, IsClassWhere, AreLabels}
-use Rattle.cfi_class.specs.Linked.{End, Linked, node_of, IsForestOf}
+use Rattle.cfi_class.specs.Labels.{IsReached, IsUsed, IsClass, IsClassWhere, AreLabels}
+use Rattle.cfi_class.specs.Linked.{Linked, node_of, IsForestOf}
 use Rattle.cfi_class.specs.Linked.End.{Slot, Address}
 use Rattle.cfi_class.specs.Numbering.{IsMarked, MarksUsed, AreSlotNumbers, AreWordNumbers}
 use Rattle.cfi_class.proofs.ForestLemmas.{root_of-low, root_of-root_of}

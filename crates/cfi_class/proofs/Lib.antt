@@ -1,7 +1,8 @@
 mod EdgeLemmas
 mod ForestLemmas
-mod JoinedLemmas
+mod JoinLemmas
+pub mod JoinedLemmas
 mod LabelsLemmas
-mod LinkedLemmas
+pub mod LinkedLemmas
 mod NumberingLemmas
 mod SweepLemmas

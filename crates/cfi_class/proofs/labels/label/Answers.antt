@@ -1,5 +1,4 @@
 use Rattle.std.proofs.Common.{◌≡◌, ◌≤◌, length, refl, subst, ◌∙◌, arith}
-use Rattle.cfi_word.specs.declared.ids.TheConstants.{FIELD_MAX}
 use Rattle.cfi_word.specs.Table.{slots_of}
 use Rattle.cfi_class.specs.Forest.{HasSameRoots}
 use Rattle.cfi_class.specs.Labels.{HasEdge, AreLabels}
