@@ -1,9 +1,9 @@
 -- The edges of a list up to a place, one more at a time.
-use Rattle.std.proofs.Common.{◌≡◌, ◌⊎◌, ℕ, ◌+◌, ◌*◌, ◌/◌, ◌%◌, ◌<◌, ◌≤◌, List, length, get_or, All, refl, sym, ap, subst, ◌∙◌, inl, inr, arith}
+use Rattle.std.proofs.Common.{◌≡◌, ◌⊎◌, ℕ, ◌+◌, ◌<◌, ◌≤◌, List, length, get_or, All, subst, ◌∙◌, inl, inr, arith}
 use Rattle.std.proofs.lemmas.Bool.{cases_lt}
 use Rattle.std.proofs.lemmas.List.{get_or_default}
 use Rattle.cfi_word.specs.declared.lists.Edge.{Edge}
-use Rattle.cfi_class.specs.Labels.{HasEdge, IsWithin}
+use Rattle.cfi_class.specs.Labels.{IsWithin}
 
 -- the edge of these parts
 abbrev pub edge_of : (slot address : ℕ) → Edge

@@ -1,18 +1,18 @@
 -- Numbers that follow the trees of a forest of edges are the labels of these edges.
-use Rattle.std.proofs.Common.{◌≡◌, ◌↔◌, ◌⊎◌, ℕ, zero, suc, ◌+◌, ◌*◌, ◌/◌, ◌%◌, ◌<◌, ◌≤◌, Bool, true, false, List, length, get_or, All, refl, sym, ap, subst, ◌∙◌, inl, inr, arith}
+use Rattle.std.proofs.Common.{◌≡◌, ◌↔◌, ℕ, ◌+◌, ◌*◌, ◌/◌, ◌%◌, ◌<◌, ◌≤◌, Bool, false, List, length, get_or, sym, ap, subst, ◌∙◌, inl, inr, arith}
 use Rattle.std.proofs.lemmas.Bool.{cases_lt, cases_Bool, false≢true}
 use Rattle.std.proofs.lemmas.List.{get_or_past}
 use Rattle.cfi_word.specs.declared.ids.TheConstants.{FIELD_MAX}
-use Rattle.cfi_word.specs.declared.lists.Edge.{Edge}
-use Rattle.cfi_word.specs.Chain.{ChainOf, Chain}
+use Rattle.cfi_word.specs.Chain.{Chain}
 use Rattle.cfi_word.specs.Table.{slots_of}
 use Rattle.cfi_class.specs.Forest.{HasSameRoots, root_of}
-use Rattle.cfi_class.specs.Labels.{HasEdge, IsWithin, IsReached, IsUsed, IsClass, IsClassWhere, AreLabels}
-use Rattle.cfi_class.specs.Linked.{End, Linked, node_of, IsForestOf}
+use Rattle.cfi_class.specs.Labels.{IsReached, IsUsed, IsClass, IsClassWhere, AreLabels}
+use Rattle.cfi_class.specs.Linked.{Linked, node_of, IsForestOf}
 use Rattle.cfi_class.specs.Linked.End.{Slot, Address}
 use Rattle.cfi_class.specs.Numbering.{IsMarked, MarksUsed, AreSlotNumbers, AreWordNumbers}
 use Rattle.cfi_class.proofs.ForestLemmas.{root_of-low, root_of-root_of}
 use Rattle.cfi_class.proofs.LinkedLemmas.{first_edge, last_edge, chain_from_Linked}
+use Rattle.cfi_class.proofs.JoinedLemmas.{chain_root}
 
 slot_of : {one other : ℕ} → Slot one ≡ Slot other → one ≡ other
 slot_of is = cc
@@ -39,13 +39,6 @@ module _ (joins : (slot address : ℕ) → Type 0) (slots code_words : ℕ) (par
         | inl itself ↦ subst (IsMarked marks) (sym (slot_of itself)) marked
         | inr edge ↦ used.marked (root_of parents slot) edge.0 edge.1
       ]
-
-  -- a chain stays in one tree
-  chain_root : (more slot address : ℕ) → ChainOf joins more slot address
-      → root_of parents slot ≡ root_of parents (node_of slots (Address address))
-  chain_root zero slot address edge = forest.joined slot address edge
-  chain_root (suc more) slot address (shared, other, edge, back, rest) =
-      forest.joined slot shared edge ∙ sym (forest.joined other shared back) ∙ chain_root more other address rest
 
   -- ---- code words
 
@@ -102,7 +95,7 @@ module _ (joins : (slot address : ℕ) → Type 0) (slots code_words : ℕ) (par
       root_from_chain : (slot : ℕ) → Chain joins slot (4 * word)
           → root_of parents slot ≡ root_of parents (slots + word)
       root_from_chain slot chain =
-          chain_root chain.more slot (4 * word) chain.chain ∙ ap (root_of parents) (word_node word)
+          chain_root joins slots code_words parents forest chain.more slot (4 * word) chain.chain ∙ ap (root_of parents) (word_node word)
 
 -- ---- the labels
 
@@ -194,10 +187,3 @@ module _ (joins : (slot address : ℕ) → Type 0) (slots code_words : ℕ) (par
     branches = branch_label;
     classes = class_label;
   }
-
--- the branch of an edge of the list is one of the slots
-pub branch_within : (edges : List Edge) (slots code_words : ℕ) → All (IsWithin slots code_words) edges
-    → (slot address : ℕ) → HasEdge edges slot address → slot < slots
-branch_within edges slots code_words within slot address (place, there, is) =
-    let edge : Edge = record { branch = slot; target = address } in
-    (subst (IsWithin slots code_words) is (within place edge there)).branch

@@ -1,6 +1,8 @@
 mod EdgeLemmas
 mod ForestLemmas
+mod JoinLemmas
+pub mod JoinedLemmas
 mod LabelsLemmas
-mod LinkedLemmas
+pub mod LinkedLemmas
 mod NumberingLemmas
 mod SweepLemmas

@@ -1,8 +1,8 @@
 -- Ends that are linked: along the edges on from one to the next, and what the first and the last edge tell.
-use Rattle.std.proofs.Common.{◌≡◌, ◌⊎◌, ℕ, zero, suc, ◌+◌, ◌*◌, ◌/◌, ◌%◌, ◌<◌, refl, sym, ap, subst, ◌∙◌, inl, inr, arith}
-use Rattle.cfi_word.specs.Chain.{ChainOf, Chain}
+use Rattle.std.proofs.Common.{◌≡◌, ◌⊎◌, ℕ, suc, refl, subst, inl, inr}
+use Rattle.cfi_word.specs.Chain.{ChainOf}
 use Rattle.cfi_class.specs.Labels.{IsReached, IsUsed}
-use Rattle.cfi_class.specs.Linked.{End, Linked, IsEnd, node_of}
+use Rattle.cfi_class.specs.Linked.{End, Linked}
 use Rattle.cfi_class.specs.Linked.End.{Slot, Address}
 use Rattle.cfi_class.specs.Linked.Linked.{same, to_address, to_slot}
 

@@ -1,17 +1,17 @@
 -- A forest keeps the trees of what is linked, one more edge at a time; and so do the marks of slots that have edges.
-use Rattle.std.proofs.Common.{◌≡◌, ◌⊎◌, ℕ, zero, suc, ◌+◌, ◌*◌, ◌/◌, ◌%◌, ◌<◌, ◌≤◌, min, max, Bool, true, false, List, length, get_or, set, replicate, All, refl, sym, ap, subst, ◌∙◌, inl, inr, arith}
-use Rattle.std.proofs.lemmas.Bool.{cases_eq, cases_lt, false≢true}
-use Rattle.std.proofs.lemmas.List.{length-set, length-replicate, get_or-replicate, get_or-set_same, get_or-set_other, get_or_past}
+use Rattle.std.proofs.Common.{◌≡◌, ◌⊎◌, ℕ, ◌+◌, ◌*◌, ◌/◌, ◌%◌, ◌<◌, Bool, true, false, List, length, get_or, set, All, sym, ap, subst, ◌∙◌, inl, inr, arith}
+use Rattle.std.proofs.lemmas.Bool.{cases_eq}
+use Rattle.std.proofs.lemmas.List.{length-set, get_or-set_same, get_or-set_other}
 use Rattle.cfi_word.specs.declared.lists.Edge.{Edge}
-use Rattle.cfi_class.specs.Labels.{HasEdge, IsWithin, IsUsed}
+use Rattle.cfi_class.specs.Labels.{IsWithin, IsUsed}
 use Rattle.cfi_class.specs.Forest.{IsForest, root_of, joined_root}
 use Rattle.cfi_class.specs.Linked.{End, Linked, IsEnd, node_of, IsForestOf}
 use Rattle.cfi_class.specs.Linked.End.{Slot, Address}
 use Rattle.cfi_class.specs.Linked.Linked.{same, to_address, to_slot}
 use Rattle.cfi_class.specs.Numbering.{IsMarked, MarksUsed}
-use Rattle.cfi_class.proofs.ForestLemmas.{joined_root-most, joined_root-other}
+use Rattle.cfi_class.proofs.JoinLemmas.{joined_root-one, joined_root-two, joined_root-cases}
 use Rattle.cfi_class.proofs.LinkedLemmas.{Linked-append, Linked-map}
-use Rattle.cfi_class.proofs.EdgeLemmas.{edge_of, HasFirst, edge_at, HasFirst-before, HasFirst-here, HasFirst-cases, HasFirst-within, edge_at-within}
+use Rattle.cfi_class.proofs.EdgeLemmas.{HasFirst, edge_at, HasFirst-before, HasFirst-here, HasFirst-cases, HasFirst-within, edge_at-within}
 
 -- ---- at first
 
@@ -48,48 +48,6 @@ no_edges edges slots code_words parents forest len roots = record {
 }
 
 -- ---- one more edge
-
-joined_root-one : (one other : ℕ) → joined_root one other one ≡ min one other
-joined_root-one one other =
-    elim (cases_lt one other) [
-      | inl lower ↦ joined_root-other one other one (λ is. absurd (omega arith)) ∙ omega arith
-      | inr higher ↦ joined_root-most one other one (omega arith)
-    ]
-
-joined_root-two : (one other : ℕ) → joined_root one other other ≡ min one other
-joined_root-two one other =
-    elim (cases_lt other one) [
-      | inl lower ↦ joined_root-other one other other (λ is. absurd (omega arith)) ∙ omega arith
-      | inr higher ↦ joined_root-most one other other (omega arith)
-    ]
-
--- roots that become one were one, or the two that were joined
-joined_root-cases : (one other first second : ℕ) → joined_root one other first ≡ joined_root one other second
-    → (first ≡ second) ⊎ (((first ≡ one) × (second ≡ other)) ⊎ ((first ≡ other) × (second ≡ one)))
-joined_root-cases one other first second equal =
-    elim (cases_eq first (max one other)) [
-      | inl first_most ↦ elim (cases_eq second (max one other)) [
-        | inl second_most ↦ inl (first_most ∙ sym second_most)
-        | inr second_not ↦
-            let is : min one other ≡ second = sym (joined_root-most one other first first_most) ∙ equal
-            ∙ joined_root-other one other second second_not in
-            elim (cases_lt one other) [
-              | inl lower ↦ inr (inr (omega arith, omega arith))
-              | inr higher ↦ inr (inl (omega arith, omega arith))
-            ]
-      ]
-      | inr first_not ↦ elim (cases_eq second (max one other)) [
-        | inl second_most ↦
-            let is : first ≡ min one other = sym (joined_root-other one other first first_not) ∙ equal
-            ∙ joined_root-most one other second second_most in
-            elim (cases_lt one other) [
-              | inl lower ↦ inr (inl (omega arith, omega arith))
-              | inr higher ↦ inr (inr (omega arith, omega arith))
-            ]
-        | inr second_not ↦ inl (sym (joined_root-other one other first first_not) ∙ equal
-            ∙ joined_root-other one other second second_not)
-      ]
-    ]
 
 -- the step over relations: what holds of the edges so far, and of one more
 record AddsEdge (old new : (slot address : ℕ) → Type 0) (slots code_words slot address : ℕ) : Type 0 where

@@ -1,14 +1,16 @@
 ghost use Rattle.std.specs.Prelude.{All, IfOk};
+ghost use Rattle.cfi_word.specs.declared.layout.TheConstants.{MAX_CODE_WORDS};
 ghost use Rattle.cfi_class.specs.Labels.{IsWithin};
 
-use crate::label;
+use crate::{are_joined, label};
 use cfi_word::{Edge, Layout};
 use std::alloc::{AllocError, Global};
 use std::test::Fail;
 
 // Those edges of these slots and addresses that lie within a table of 1,024 code words: all, in each row below.
 fn edges_of(alloc: Global, pairs: &[(u32, u32)], slots: u32) -> Result<Vec<Edge>, AllocError>
-    ensures { IfOk result (λ edges. All (IsWithin slots 1024) edges.items) }
+    ensures label { IfOk result (λ edges. All (IsWithin slots 1024) edges.items) }
+    ensures join { IfOk result (λ edges. All (IsWithin slots MAX_CODE_WORDS) edges.items) }
 {
     let mut edges = Vec::new(alloc);
     for (branch, target) in pairs {
@@ -96,6 +98,37 @@ fn labels(rt: HostRuntime) -> Result<(), Fail> {
         assert_eq!(rt; labels.tary.as_slice(), words.as_slice());
         let branches = numbers_of(rt.alloc(), 74, 16383, bary)?;
         assert_eq!(rt; labels.bary.as_slice(), branches.as_slice());
+    }
+    Ok(())
+}
+
+#[test]
+fn joined(rt: HostRuntime) -> Result<(), Fail> {
+    // An indirect call of two functions, and the returns of both: slots 1 and 2 share the address 0x80.
+    let pairs = [
+        (0, 0x84),
+        (0, 0xbc),
+        (1, 0x44),
+        (1, 0x80),
+        (2, 0x48),
+        (2, 0x80),
+    ];
+    let rows = [
+        (1, 0x48, true),
+        (2, 0x44, true),
+        (0, 0xbc, true),
+        (1, 0x84, false),
+        (0, 0x48, false),
+        (3, 0x44, false),
+        (1, 0x46, false),
+        (1, 0x4c, false),
+        (1, 0xfffffffc, false),
+    ];
+    let edges = edges_of(rt.alloc(), &pairs, 3)?;
+    assert_eq!(rt; edges.len(), 6);
+    for (branch, target, joined) in rows {
+        let answer = are_joined(rt.alloc(), &edges, 3, branch, target)?;
+        assert_eq!(rt; answer, joined, "{branch} to {target}");
     }
     Ok(())
 }

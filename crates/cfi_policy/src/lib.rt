@@ -7,6 +7,8 @@
 
 mod code;
 mod image;
+#[cfg(test)]
+mod tests;
 
 pub use code::code_of;
 pub use image::image_from;

@@ -1,11 +1,11 @@
 use Rattle.std.proofs.Common.{◌≡◌, ◌≤◌, length, refl, subst, ◌∙◌, arith}
-use Rattle.cfi_word.specs.declared.ids.TheConstants.{FIELD_MAX}
 use Rattle.cfi_word.specs.Table.{slots_of}
 use Rattle.cfi_class.specs.Forest.{HasSameRoots}
 use Rattle.cfi_class.specs.Labels.{HasEdge, AreLabels}
 use Rattle.cfi_class.specs.Linked.{IsForestOf}
 use Rattle.cfi_class.specs.Numbering.{MarksUsed, AreSlotNumbers, AreWordNumbers}
-use Rattle.cfi_class.proofs.LabelsLemmas.{FillsUp, root_marked, are_labels, branch_within}
+use Rattle.cfi_class.proofs.JoinedLemmas.{branch_within}
+use Rattle.cfi_class.proofs.LabelsLemmas.{FillsUp, root_marked, are_labels}
 use Rattle.cfi_class.proofs.labels.label.Goals as goal
 
 pub number_slots-requires-clause-roots : goal.number_slots-requires-clause-roots

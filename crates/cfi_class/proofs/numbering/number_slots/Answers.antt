@@ -1,9 +1,9 @@
-use Rattle.std.proofs.Common.{◌≡◌, ℕ, ◌+◌, ◌<◌, ◌≤◌, cond, ltb, List, [], ◌∷◌, ◌++◌, length, get_or, sym, ap, subst, ◌∙◌, arith}
+use Rattle.std.proofs.Common.{◌≡◌, ℕ, ◌+◌, ◌<◌, ◌≤◌, cond, ltb, [], ◌∷◌, ◌++◌, length, get_or, sym, ap, subst, ◌∙◌, arith}
 use Rattle.std.proofs.lemmas.List.{length_push}
 use Rattle.cfi_class.specs.Forest.{HasSameRoots, root_of}
 use Rattle.cfi_class.specs.Numbering.{IsMarked}
 use Rattle.cfi_class.proofs.ForestLemmas.{root_of-low, root_of-root_of}
-use Rattle.cfi_class.proofs.NumberingLemmas.{NumbersSoFar, number_pushed}
+use Rattle.cfi_class.proofs.NumberingLemmas.{number_pushed}
 use Rattle.cfi_class.proofs.numbering.number_slots.Goals as goal
 
 -- one more slot with an edge has the number of its root

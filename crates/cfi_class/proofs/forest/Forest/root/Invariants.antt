@@ -1,4 +1,4 @@
-use Rattle.std.proofs.Common.{◌≡◌, ℕ, ◌<◌, ◌≤◌, length}
+use Rattle.std.proofs.Common.{◌≡◌, ◌≤◌, length}
 use Rattle.cfi_class.specs.Forest.{IsForest, HasSameRoots, root_of}
 use Rattle.cfi_class.proofs.forest.Forest.root.Given as goal
 
