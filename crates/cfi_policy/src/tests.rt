@@ -64,7 +64,10 @@ fn image(rt: HostRuntime) -> Result<(), Fail> {
     let code = image.code.as_slice();
     assert_eq!(rt; code.len(), 1024);
     let found: [u32; 6] = [code[15], code[16], code[17], code[18], code[19], code[1023]];
-    assert_eq!(rt; found, [0, 0x008000ef, 0x0000006f, 0x0040006f, 0, 0x00000013]);
+    assert_eq!(rt;
+        found,
+        [0, 0x008000ef, 0x0000006f, 0x0040006f, 0, 0x00000013]
+    );
     assert_eq!(rt; image.tary.as_slice().get(17).copied(), Some(1));
     assert_eq!(rt; image.bary.as_slice().get(1).copied(), Some(1));
     assert_eq!(rt; image.bary.as_slice().get(0).copied(), Some(16383));

@@ -6,5 +6,5 @@ abbrev pub invariant-loop-base : goal.invariant-loop-base
 invariant-loop-base l = record {
   apart : AreApart l.modules.items 1024;
   ends : All (λ placed. placed.base + length placed.words ≤ l.end) l.modules.items;
-  end : l.end ≤ 1024
+  end : l.end ≤ 1024;
 }
