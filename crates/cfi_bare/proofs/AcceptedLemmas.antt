@@ -39,12 +39,11 @@ unchecked unit here =
 verified : IsVerified code
 verified = record {
   body = body;
-  code = record { fit = ((omega arith, refl), tt); spelled = refl };
-  sound = record {
-    ends = (jump, refl, refl);
-    leads = below_one (LeadsWell body) leads;
-    unchecked = below_one (IsNoCheck body) unchecked;
+  runs = record {
+    code = record { fit = ((omega arith, refl), tt); spelled = refl };
+    sound = record { ends = (jump, refl, refl); leads = below_one (LeadsWell body) leads };
   };
+  unchecked = below_one (IsNoCheck body) unchecked;
 }
 
 reads : HasWords bytes code

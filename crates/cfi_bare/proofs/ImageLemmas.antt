@@ -1,23 +1,26 @@
--- The image of a verified file is closed.
-use Rattle.std.proofs.Common.{◌≡◌, ◌≢◌, ℕ, ◌+◌, ◌-◌, ◌*◌, ◌<◌, ◌≤◌, ℤ, pos, negsuc, true, false, List, ◌++◌, length, drop, replicate, get_or, Some, refl, ap, sym, subst, ◌∙◌, ⊎_elim, arith, length-append, append_assoc}
+-- The image of words that can run is closed.
+use Rattle.std.proofs.Common.{◌≡◌, ◌≢◌, ℕ, ◌+◌, ◌-◌, ◌*◌, ◌<◌, ◌≤◌, ℤ, pos, negsuc, Bool, not, true, false, List, ◌++◌, length, drop, replicate, get_or, Some, refl, ap, sym, subst, ◌∙◌, ⊎_elim, arith, length-append, append_assoc}
 use Rattle.std.specs.List.{slice_get}
 use Rattle.std.proofs.Math.Seq.{drop-append_seam}
 use Rattle.std.proofs.lemmas.Bool.{cases_lt, cases_eq, false≢true}
 use Rattle.std.proofs.lemmas.List.{append-nil, length-replicate, get_or-replicate, get_or_past}
-use Rattle.std.proofs.lemmas.Option.{slice_get_within}
+use Rattle.std.proofs.lemmas.List.Elements.{All-get_or, All-from_recursion}
+use Rattle.std.proofs.lemmas.Option.{slice_get_within, get_or_from_slice_get}
 use Rattle.cfi_unit.specs.declared.unit.Unit.{Unit as CodeUnit}
 use Rattle.cfi_unit.specs.declared.unit.Unit.TheVariants as units
-use Rattle.cfi_unit.specs.Unit.{size_of}
+use Rattle.cfi_unit.specs.Unit.{IsUnit, size_of}
+use Rattle.cfi_unit.specs.Code.{UnitCode}
+use Rattle.cfi_unit.specs.declared.unit.TheConstants.{SLOTS}
 use Rattle.cfi_word.specs.declared.lists.Image.{Image}
 use Rattle.cfi_word.specs.declared.ids.TheConstants.{FIELD_MAX}
 use Rattle.cfi_word.specs.declared.layout.TheConstants.{MAX_CODE_WORDS}
 use Rattle.cfi_word.specs.Table.{slots_of}
 use Rattle.cfi_model.specs.declared.places.TheConstants.{BASE}
-use Rattle.cfi_model.specs.Closed.{idle, code_of, StandsIn, IsStartOf, LeadsToStart, StaysInside}
+use Rattle.cfi_model.specs.Closed.{idle, code_of, StandsIn, IsStartOf, LeadsToStart, ReturnsToStart, StaysInside}
 use Rattle.cfi_bare.specs.declared.sizes.TheConstants.{MAX_WORDS}
 use Rattle.cfi_bare.specs.Places.{place_in}
 use Rattle.cfi_bare.specs.Target.{LeadsTo, LeadsToUnit}
-use Rattle.cfi_bare.specs.Verify.{may_be_last, EndsUnlinked, IsSound, IsVerified}
+use Rattle.cfi_bare.specs.Verify.{may_be_last, EndsUnlinked, CanRun, IsRunnable}
 use Rattle.cfi_bare.specs.Image.{copies, code_with, IsImageOf, IsClosedFile}
 use Rattle.cfi_bare.proofs.PlaceLemmas.{place_more}
 
@@ -108,35 +111,52 @@ first_unit body at number unit off here leads =
     let within : number < length body = slice_get_within body number unit here in
     (0, leads, (0, omega arith, refl))
 
+-- each unit of the words is one
+unit_fits : (words : List ℕ) (body : List CodeUnit) (address : ℕ) (unit : CodeUnit) → UnitCode words body →
+    StandsIn body address unit → IsUnit unit
+unit_fits words body address unit code stands =
+    let within : stands.0 < length body = slice_get_within body stands.0 unit stands.1 in
+    subst IsUnit (get_or_from_slice_get body stands.0 unit unit stands.1)
+    (All-get_or IsUnit body stands.0 unit within (All-from_recursion IsUnit body code.fit))
+
+-- after a unit that links control goes on
+returns : (body : List CodeUnit) (address size : ℕ) (unit : CodeUnit) (link : Bool) → EndsUnlinked body →
+    StandsIn body address unit → may_be_last unit ≡ not link → size ≡ 4 * size_of unit →
+    ReturnsToStart body link (address + size)
+returns body address size unit true ends stands goes_on whole =
+    subst (λ n. IsStartOf body (address + n)) (sym whole) (next_start body address unit ends stands goes_on)
+returns body address size unit false ends stands goes_on whole = tt
+
 -- each unit leads to starts
-stays_inside : (body : List CodeUnit) (slots address : ℕ) (unit : CodeUnit) → IsSound body →
-    StandsIn body address unit → StaysInside body slots address unit
-stays_inside body slots address (units.Plain insn) sound stands =
-    next_start body address (units.Plain insn) sound.ends stands refl
-stays_inside body slots address (units.Load kind rd rs1 imm) sound stands =
-    next_start body address (units.Load kind rd rs1 imm) sound.ends stands refl
-stays_inside body slots address (units.Store kind rs1 rs2 imm) sound stands =
-    next_start body address (units.Store kind rs1 rs2 imm) sound.ends stands refl
-stays_inside body slots address (units.Branch cond rs1 rs2 off) sound stands =
+stays_inside : (words : List ℕ) (body : List CodeUnit) (slots address : ℕ) (unit : CodeUnit) → CanRun words body →
+    SLOTS ≤ slots → StandsIn body address unit → StaysInside body slots address unit
+stays_inside words body slots address (units.Plain insn) runs most stands =
+    next_start body address (units.Plain insn) runs.sound.ends stands refl
+stays_inside words body slots address (units.Load kind rd rs1 imm) runs most stands =
+    next_start body address (units.Load kind rd rs1 imm) runs.sound.ends stands refl
+stays_inside words body slots address (units.Store kind rs1 rs2 imm) runs most stands =
+    next_start body address (units.Store kind rs1 rs2 imm) runs.sound.ends stands refl
+stays_inside words body slots address (units.Branch cond rs1 rs2 off) runs most stands =
     let within : stands.0 < length body = slice_get_within body stands.0 _ stands.1 in (
-      next_start body address (units.Branch cond rs1 rs2 off) sound.ends stands refl,
-      far_start body address (place_in body stands.0) off stands.2 (sound.leads stands.0 within _ stands.1),
+      next_start body address (units.Branch cond rs1 rs2 off) runs.sound.ends stands refl,
+      far_start body address (place_in body stands.0) off stands.2 (runs.sound.leads stands.0 within _ stands.1),
     )
-stays_inside body slots address (units.Jump true off) sound stands =
+stays_inside words body slots address (units.Jump true off) runs most stands =
     let within : stands.0 < length body = slice_get_within body stands.0 _ stands.1 in (
-      next_start body address (units.Jump true off) sound.ends stands refl,
+      next_start body address (units.Jump true off) runs.sound.ends stands refl,
       far_start body address (place_in body stands.0) off stands.2
           (first_unit body (place_in body stands.0) stands.0 (units.Jump true off) off stands.1
-          (sound.leads stands.0 within _ stands.1)),
+          (runs.sound.leads stands.0 within _ stands.1)),
     )
-stays_inside body slots address (units.Jump false off) sound stands =
+stays_inside words body slots address (units.Jump false off) runs most stands =
     let within : stands.0 < length body = slice_get_within body stands.0 _ stands.1 in
-    (tt, far_start body address (place_in body stands.0) off stands.2 (sound.leads stands.0 within _ stands.1))
-stays_inside body slots address (units.Check link rs1 imm slot) sound stands =
-    let within : stands.0 < length body = slice_get_within body stands.0 _ stands.1 in
-    absurd (sound.unchecked stands.0 within _ stands.1)
-stays_inside body slots address units.Service sound stands =
-    next_start body address units.Service sound.ends stands refl
+    (tt, far_start body address (place_in body stands.0) off stands.2 (runs.sound.leads stands.0 within _ stands.1))
+stays_inside words body slots address (units.Check link rs1 imm slot) runs most stands =
+    let unit : CodeUnit = units.Check link rs1 imm slot in
+    let fits : IsUnit unit = unit_fits words body address unit runs.code stands in
+    (returns body address 56 unit link runs.sound.ends stands refl refl, omega (arith, fits.2))
+stays_inside words body slots address units.Service runs most stands =
+    next_start body address units.Service runs.sound.ends stands refl
 
 -- the last unit is not an idle one
 busy : (body : List CodeUnit) → EndsUnlinked body → slice_get body (length body - 1) ≢ Some idle
@@ -145,17 +165,20 @@ busy body ends is =
     let same : idle ≡ ends.0 = cc in
     false≢true (ap may_be_last same ∙ ends.2)
 
--- the image of a verified file is closed
-pub closed_file : (words : List ℕ) (image : Image) → length words ≤ MAX_WORDS → IsVerified words →
+-- the image of words that can run is closed
+pub closed_file : (words : List ℕ) (image : Image) → length words ≤ MAX_WORDS → IsRunnable words →
     IsImageOf words image → IsClosedFile words image
-closed_file words image fits verified is =
-    let body = verified.body in
-    let ends = verified.sound.ends in
+closed_file words image fits runnable is =
+    let body = runnable.0 in
+    let runs = runnable.1 in
+    let ends = runs.sound.ends in
     let some : length body - 1 < length body = slice_get_within body (length body - 1) ends.0 ends.1 in
     let rest = MAX_CODE_WORDS - BASE - length words in
+    let slots : SLOTS ≤ length image.bary =
+    omega (arith, ap length is.bary, length-copies (slots_of MAX_CODE_WORDS) FIELD_MAX) in
     record {
       body = body;
-      units = verified.code;
+      units = runs.code;
       closed = record {
         classes = record {
           tary_length = ap length is.tary ∙ length-copies MAX_CODE_WORDS 0;
@@ -177,13 +200,13 @@ closed_file words image fits verified is =
         idles = 0;
         zeros = rest;
         code = record {
-          fit = verified.code.fit;
+          fit = runs.code.fit;
           spelled = ap (drop BASE) is.code ∙ drop-code_with words
               ∙ ap (λ (ws : List ℕ). ws ++ replicate rest 0)
-              (verified.code.spelled ∙ sym (append-nil (code_of body)));
+              (runs.code.spelled ∙ sym (append-nil (code_of body)));
           busy = busy body ends;
         };
-        inside = λ address unit stands. stays_inside body (length image.bary) address unit verified.sound stands;
+        inside = λ address unit stands. stays_inside words body (length image.bary) address unit runs slots stands;
         targets = λ k classed.
             absurd (classed (
             let none : get_or (copies MAX_CODE_WORDS 0) k 0 ≤ 0 =

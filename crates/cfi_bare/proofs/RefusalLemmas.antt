@@ -14,7 +14,7 @@ use Rattle.cfi_bare.specs.declared.fault.Refusal.{Refusal}
 use Rattle.cfi_bare.specs.declared.fault.Refusal.TheVariants.{Plan, Length, CodeFull, Verify}
 use Rattle.cfi_bare.specs.declared.fault.VerifyFault.{VerifyFault}
 use Rattle.cfi_bare.specs.declared.fault.VerifyFault.TheVariants.{Empty, Illegal, NotUnit, FallsThrough, Target, Kinds}
-use Rattle.cfi_bare.specs.Verify.{Below, IsInsnAt, IsSound, IsVerified, IsFirstFault}
+use Rattle.cfi_bare.specs.Verify.{Below, Each, IsInsnAt, IsNoCheck, IsSound, CanRun, IsVerified, IsFirstBar, IsFirstFault}
 use Rattle.cfi_bare.specs.File.{HasWords, IsAccepted, IsFirstRefusal}
 use Rattle.cfi_bare.proofs.PlaceLemmas.{place_within}
 
@@ -72,35 +72,43 @@ goes_on words (u ∷ us) (v ∷ vs) at code front within =
     drop-drop (at - size) size words ∙ ap (λ (n : ℕ). drop n words) whole in
     (next.0, subst (λ (ws : List ℕ). Spells next.0 (take (size_of next.0) ws)) after next.1)
 
--- words that can run have no fault
-no_fault : (words : List ℕ) → IsVerified words → (fault : VerifyFault) → IsFirstFault words fault → ⊥
-no_fault words verified Empty first =
-    let body = verified.body in
-    let unit = verified.sound.ends.0 in
+-- words that can run have no fault but for checks
+no_bar : (words : List ℕ) (body : List CodeUnit) → CanRun words body → (fault : VerifyFault) → IsFirstBar words fault → ⊥
+no_bar words body runs Empty first =
+    let unit = runs.sound.ends.0 in
     omega (
       arith,
-      place_within body (length body - 1) unit verified.sound.ends.1,
+      place_within body (length body - 1) unit runs.sound.ends.1,
       size_pos unit,
-      ap length verified.code.spelled,
+      ap length runs.code.spelled,
       ap length first,
     )
-no_fault words verified (Illegal at) first =
-    first.fails (code_insns words verified.body verified.code at first.within)
-no_fault words verified (NotUnit at) first =
+no_bar words body runs (Illegal at) first = first.fails (code_insns words body runs.code at first.within)
+no_bar words body runs (NotUnit at) first =
     let stop = first.1 in
-    let next = goes_on words verified.body stop.body at verified.code stop.units stop.within in
+    let next = goes_on words body stop.body at runs.code stop.units stop.within in
     stop.stops next.0 next.1
-no_fault words verified (FallsThrough function) first =
-    let same = UnitCode-one words verified.body first.1 verified.code first.2 in
-    first.3.0 (subst IsSound same verified.sound).ends
-no_fault words verified (Target at) first =
-    let same = UnitCode-one words verified.body first.1 verified.code first.2 in
+no_bar words body runs (FallsThrough function) first =
+    let same = UnitCode-one words body first.1 runs.code first.2 in
+    first.3.0 (subst IsSound same runs.sound).ends
+no_bar words body runs (Target at) first =
+    let same = UnitCode-one words body first.1 runs.code first.2 in
     let failure = first.3.1.1 in
-    failure.fails ((subst IsSound same verified.sound).leads first.3.1.0 failure.within)
+    failure.fails ((subst IsSound same runs.sound).leads first.3.1.0 failure.within)
+no_bar words body runs (Kinds at) first = first.3
+
+-- a verified file has no fault
+no_fault : (words : List ℕ) → IsVerified words → (fault : VerifyFault) → IsFirstFault words fault → ⊥
+no_fault words verified Empty first = no_bar words verified.body verified.runs Empty first
+no_fault words verified (Illegal at) first = no_bar words verified.body verified.runs (Illegal at) first
+no_fault words verified (NotUnit at) first = no_bar words verified.body verified.runs (NotUnit at) first
+no_fault words verified (FallsThrough function) first =
+    no_bar words verified.body verified.runs (FallsThrough function) first
+no_fault words verified (Target at) first = no_bar words verified.body verified.runs (Target at) first
 no_fault words verified (Kinds at) first =
-    let same = UnitCode-one words verified.body first.1 verified.code first.2 in
-    let failure = first.3.2.1 in
-    failure.fails ((subst IsSound same verified.sound).unchecked first.3.2.0 failure.within)
+    let same = UnitCode-one words verified.body first.0 verified.runs.code first.1.code in
+    let failure = first.2.1 in
+    failure.fails (subst (λ us. Each us (IsNoCheck us)) same verified.unchecked first.2.0 failure.within)
 
 -- the words of a file are determined by its bytes
 one_reading : (bytes a b : List ℕ) → HasWords bytes a → HasWords bytes b → a ≡ b

@@ -1,4 +1,4 @@
--- The image that runs a bare file.
+-- The image that runs the words of a bare file, or of any one function.
 use Rattle.std.specs.Prelude.{◌≡◌, ℕ, ◌-◌, ◌*◌, List, ◌++◌, length, replicate}
 use Rattle.cfi_unit.specs.declared.unit.Unit.{Unit as CodeUnit}
 use Rattle.cfi_unit.specs.Code.{UnitCode}
@@ -13,17 +13,17 @@ use Rattle.cfi_model.specs.Closed.{IsClosedBy, IsStartOf}
 unfoldable pub copies : (count value : ℕ) → List ℕ
 copies count value = replicate count value
 
--- the code area with a file's words: 0 below the first module's place, the words, and 0 after them
+-- the code area with these words: 0 below the first module's place, the words, and 0 after them
 abbrev pub code_with : (words : List ℕ) → List ℕ
 code_with words = (copies BASE 0 ++ words) ++ copies (MAX_CODE_WORDS - BASE - length words) 0
 
--- the image of a file: no address has a class, and no slot may go anywhere
+-- the image of words: no address has a class, and no slot may go anywhere
 pub record IsImageOf (words : List ℕ) (image : Image) : Type 0 where
   pub tary : image.tary ≡ copies MAX_CODE_WORDS 0
   pub bary : image.bary ≡ copies (slots_of MAX_CODE_WORDS) FIELD_MAX
   pub code : image.code ≡ code_with words
 
--- the image is closed, and read as the file's units; the first module's place is a start
+-- the image is closed, and read as the words' units; the first module's place is a start
 pub record IsClosedFile (words : List ℕ) (image : Image) : Type 0 where
   pub body : List CodeUnit
   pub units : UnitCode words body

@@ -58,33 +58,48 @@ abbrev pub EndsUnlinked : (body : List CodeUnit) → Type 0
 EndsUnlinked body =
     (unit : CodeUnit) × (slice_get body (length body - 1) ≡ Some unit) × (may_be_last unit ≡ true)
 
--- the units can run as one function: control does not run off the end, each leads where it may, and none is a check
+-- the units can run as one function: control does not run off the end, and each leads where it may
 pub record IsSound (body : List CodeUnit) : Type 0 where
   pub ends : EndsUnlinked body
   pub leads : Each body (LeadsWell body)
-  pub unchecked : Each body (IsNoCheck body)
 
--- the words are units that can run as one function
-pub record IsVerified (words : List ℕ) : Type 0 where
-  pub body : List CodeUnit
+-- the words are these units, and can run as one function
+pub record CanRun (words : List ℕ) (body : List CodeUnit) : Type 0 where
   pub code : UnitCode words body
   pub sound : IsSound body
 
--- the first fault of units, in the order of the variants
+-- the words can run as one function
+abbrev pub IsRunnable : (words : List ℕ) → Type 0
+IsRunnable words = (body : List CodeUnit) × CanRun words body
+
+-- they can run, and none of the units is a check
+pub record IsVerified (words : List ℕ) : Type 0 where
+  pub body : List CodeUnit
+  pub runs : CanRun words body
+  pub unchecked : Each body (IsNoCheck body)
+
+-- the first flaw of units that cannot run as one function, in the order of the variants
 abbrev pub IsFirstFlaw : (body : List CodeUnit) → VerifyFault → Type 0
 IsFirstFlaw body (FallsThrough function) = ¬ EndsUnlinked body × (function ≡ 0)
 IsFirstFlaw body (Target at) = EndsUnlinked body × IsFirstUnit body (LeadsWell body) at
-IsFirstFlaw body (Kinds at) =
-    EndsUnlinked body × Each body (LeadsWell body) × IsFirstUnit body (IsNoCheck body) at
 IsFirstFlaw body fault = ⊥
 
--- the words are units with this first fault
+-- the words are units with this first flaw
 abbrev pub HasFlaw : (words : List ℕ) → VerifyFault → Type 0
 HasFlaw words fault = (words ≢ []) × (body : List CodeUnit) × UnitCode words body × IsFirstFlaw body fault
 
--- the first fault, in the order of the variants
+-- the first fault of words that cannot run as one function, in the order of the variants; that one is a check is none
+abbrev pub IsFirstBar : (words : List ℕ) → VerifyFault → Type 0
+IsFirstBar words Empty = words ≡ []
+IsFirstBar words (Illegal at) = IsFirstFailure (length words) (IsInsnAt words) at
+IsFirstBar words (NotUnit at) = Below (length words) (IsInsnAt words) × StopsAt words at
+IsFirstBar words fault = HasFlaw words fault
+
+-- the words can run, and the first check stands at this place
+abbrev pub IsFirstCheck : (words : List ℕ) → (at : ℕ) → Type 0
+IsFirstCheck words at = (body : List CodeUnit) × CanRun words body × IsFirstUnit body (IsNoCheck body) at
+
+-- the first fault of a bare file's words, in the order of the variants
 abbrev pub IsFirstFault : (words : List ℕ) → VerifyFault → Type 0
-IsFirstFault words Empty = words ≡ []
-IsFirstFault words (Illegal at) = IsFirstFailure (length words) (IsInsnAt words) at
-IsFirstFault words (NotUnit at) = Below (length words) (IsInsnAt words) × StopsAt words at
-IsFirstFault words fault = HasFlaw words fault
+IsFirstFault words (Kinds at) = IsFirstCheck words at
+IsFirstFault words fault = IsFirstBar words fault

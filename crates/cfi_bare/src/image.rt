@@ -1,6 +1,6 @@
 ghost use Rattle.std.specs.Prelude.{◌≡◌, ◌≤◌, length, IfOk};
 ghost use Rattle.cfi_bare.specs.Image.{copies as copies_of, code_with, IsImageOf, IsClosedFile};
-ghost use Rattle.cfi_bare.specs.Verify.{IsVerified};
+ghost use Rattle.cfi_bare.specs.Verify.{IsRunnable};
 ghost use Rattle.cfi_bare.specs.declared.sizes.TheConstants.{MAX_WORDS};
 
 use crate::sizes::CHECK_WORDS;
@@ -16,7 +16,7 @@ fn copies(alloc: Global, count: u32, value: u32) -> Result<Vec<u32>, AllocError>
     vec![in alloc; value; count as usize]
 }
 
-// The code of an image: the first words are left to no module, then come the file's.
+// The code of an image: the first words are left to no module, then come these.
 fn code_of(alloc: Global, words: &[u32]) -> Result<Vec<u32>, AllocError>
     requires { length words.now ≤ MAX_WORDS }
     ensures { IfOk result (λ code. code.items ≡ code_with words.now) }
@@ -28,10 +28,10 @@ fn code_of(alloc: Global, words: &[u32]) -> Result<Vec<u32>, AllocError>
     Ok(code)
 }
 
-/// The image that runs verified words. `Err` where memory is out.
+/// The image that runs words of one function. `Err` where memory is out.
 pub fn image_of_words(alloc: Global, words: &[u32]) -> Result<Image, AllocError>
     requires fits { length words.now ≤ MAX_WORDS }
-    requires verified { IsVerified words.now }
+    requires runnable { IsRunnable words.now }
     ensures ok { IfOk result (λ image. IsImageOf words.now image) }
     ensures closed { IfOk result (λ image. IsClosedFile words.now image) }
 {

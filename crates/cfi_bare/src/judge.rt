@@ -1,10 +1,11 @@
-ghost use Rattle.std.specs.Prelude.{◌≡◌, ◌≤◌, length, OnOk, IfErr, IfSome, IfNone, IsTrue, ◌↔◌};
+ghost use Rattle.std.specs.Prelude.{◌≡◌, ◌≤◌, length, IfOk, OnOk, IfErr, IfSome, IfNone, IsTrue, ◌↔◌};
 ghost use Rattle.cfi_model.specs.Closed.{code_of};
 ghost use Rattle.cfi_bare.specs.Marks.{IsMarked};
 ghost use Rattle.cfi_bare.specs.Verify.{may_be_last, EndsUnlinked, LeadsWell, IsOther, IsNoCheck, Each, IsFirstUnit, IsSound, IsFirstFlaw};
 ghost use Rattle.cfi_bare.specs.declared.sizes.TheConstants.{MAX_WORDS};
 
 use crate::fault::VerifyFault;
+use crate::reader::Units;
 use crate::sizes::words_in;
 use crate::target::may_lead;
 use cfi_unit::Unit;
@@ -53,8 +54,8 @@ fn is_other(unit: Unit) -> bool
     !matches!(unit, Unit::Check { .. })
 }
 
-// The first unit that is a check.
-fn first_check(body: &[Unit]) -> Option<u32>
+/// The first unit that is a check.
+pub fn first_check(body: &[Unit]) -> Option<u32>
     requires { length (code_of body.now) ≤ MAX_WORDS }
     ensures some { IfSome result (IsFirstUnit body.now (IsNoCheck body.now)) }
     ensures none { IfNone result (Each body.now (IsNoCheck body.now)) }
@@ -69,23 +70,19 @@ fn first_check(body: &[Unit]) -> Option<u32>
     None
 }
 
-/// Whether units can run as one function, or their first flaw.
-///
-/// `starts` marks the words at which they begin.
-pub fn judge(body: &[Unit], starts: &[bool]) -> Result<(), VerifyFault>
-    requires fits { length (code_of body.now) ≤ MAX_WORDS }
-    requires marked { IsMarked body.now starts.now }
-    ensures ok { OnOk result (IsSound body.now) }
-    ensures fault { IfErr result (IsFirstFlaw body.now) }
+/// The units, where they can run as one function, or their first flaw.
+pub fn judge(units: Units) -> Result<Units, VerifyFault>
+    requires fits { length (code_of units.body.items) ≤ MAX_WORDS }
+    requires marked { IsMarked units.body.items units.starts.items }
+    ensures ok { OnOk result (IsSound units.body.items) }
+    ensures same { IfOk result (λ found. found ≡ units) }
+    ensures fault { IfErr result (IsFirstFlaw units.body.items) }
 {
-    if !ends_unlinked(body) {
+    if !ends_unlinked(&units.body) {
         return Err(VerifyFault::FallsThrough(0));
     }
-    if let Some(at) = first_stray(body, starts) {
+    if let Some(at) = first_stray(&units.body, &units.starts) {
         return Err(VerifyFault::Target(at));
     }
-    if let Some(at) = first_check(body) {
-        return Err(VerifyFault::Kinds(at));
-    }
-    Ok(())
+    Ok(units)
 }

@@ -5,6 +5,8 @@ use std::process::Abort;
 use std::sync::atomic::{AtomicU32, Ordering};
 use std::test::Fail;
 
+mod checks;
+
 // What a user reads of `hello.bin`: it puts `H` and exits with 7.
 const HELLO: [u8; 28] = [
     0x93, 0x08, 0x20, 0x00, 0x13, 0x05, 0x80, 0x04, 0x73, 0x00, 0x00, 0x00, 0x93, 0x08, 0x10, 0x00,
