@@ -11,8 +11,8 @@ use Rattle.cfi_class.specs.Linked.{Linked, node_of, IsForestOf}
 use Rattle.cfi_class.specs.Linked.End.{Slot, Address}
 use Rattle.cfi_class.specs.Numbering.{IsMarked, MarksUsed, AreSlotNumbers, AreWordNumbers}
 use Rattle.cfi_class.proofs.ForestLemmas.{root_of-low, root_of-root_of}
-use Rattle.cfi_class.proofs.LinkedLemmas.{first_edge, last_edge, chain_from_Linked}
-use Rattle.cfi_class.proofs.JoinedLemmas.{chain_root}
+use Rattle.cfi_class.proofs.LinkedLemmas.{first_edge, last_edge}
+use Rattle.cfi_class.proofs.JoinedLemmas.{chain_root, chain_from_roots}
 
 slot_of : {one other : ℕ} → Slot one ≡ Slot other → one ≡ other
 slot_of is = cc
@@ -88,14 +88,14 @@ module _ (joins : (slot address : ℕ) → Type 0) (slots code_words : ℕ) (par
           → Chain joins slot (4 * word)
       chain_from_root slot within equal =
           let aligned : 4 * word % 4 ≡ 0 = omega arith in
-          let way = chain_from_Linked joins (forest.linked (Slot slot) (Address (4 * word)) within (aligned, omega arith)
-          (equal ∙ ap (root_of parents) (sym (word_node word)))) in
-          record { more = way.0; chain = way.1 }
+          chain_from_roots joins slots code_words parents forest slot (4 * word) within (aligned, omega arith)
+          (equal ∙ ap (root_of parents) (sym (word_node word)))
 
       root_from_chain : (slot : ℕ) → Chain joins slot (4 * word)
           → root_of parents slot ≡ root_of parents (slots + word)
       root_from_chain slot chain =
-          chain_root joins slots code_words parents forest chain.more slot (4 * word) chain.chain ∙ ap (root_of parents) (word_node word)
+          chain_root joins slots code_words parents forest chain.more slot (4 * word) chain.chain
+          ∙ ap (root_of parents) (word_node word)
 
 -- ---- the labels
 
@@ -133,7 +133,8 @@ module _ (joins : (slot address : ℕ) → Type 0) (slots code_words : ℕ) (par
         | inr higher ↦
             let len = numbers_len in
             inr (
-              λ reached. let lower = root_from_reached joins slots code_words parents forest marks used inside word there
+              λ reached.
+                  let lower = root_from_reached joins slots code_words parents forest marks used inside word there
                   reached in omega arith,
               tary_at word there ∙ get_or_past numbers (root_of parents (slots + word)) 0 (omega arith),
             )

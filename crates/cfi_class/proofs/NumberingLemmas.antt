@@ -61,7 +61,8 @@ module _ (parents : List ℕ) (marks : List Bool) (numbers : List ℕ) (count nu
               rw (before other other_lower, here one last, ← last)
               (λ equal. sym (alike.0 (sym equal)), λ equal. sym (alike.1 (sym equal)))
           | inr other_higher ↦
-              let both : one ≡ other = sym (last_or one one_within one_higher) ∙ last_or other other_within other_higher in
+              let both : one ≡ other = sym (last_or one one_within one_higher)
+              ∙ last_or other other_within other_higher in
               (λ equal. ap (root_of parents) both, λ equal. ap (λ n. get_or (numbers ++ number ∷ []) n 0) both)
         ]
       ]

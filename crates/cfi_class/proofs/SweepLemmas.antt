@@ -101,7 +101,8 @@ module _ (old new : (slot address : ℕ) → Type 0) (slots code_words slot addr
           | inl along ↦ Linked-append new
               (Linked-map old new adds.kept (forest.linked one (Slot slot) is_one adds.is_slot along.0))
               (to_address adds.here
-              (Linked-map old new adds.kept (forest.linked (Address address) other adds.is_address is_other (sym along.1))))
+              (Linked-map old new adds.kept
+              (forest.linked (Address address) other adds.is_address is_other (sym along.1))))
           | inr back ↦ Linked-append new
               (Linked-map old new adds.kept (forest.linked one (Address address) is_one adds.is_address back.0))
               (to_slot adds.here

@@ -1,4 +1,4 @@
--- Slots and addresses that edges link, in whatever direction, as nodes of one forest: slots come first, then code words.
+-- Slots and addresses that edges link, in whatever direction, as nodes of one forest: slots first, then code words.
 use Rattle.std.specs.Prelude.{◌≡◌, ℕ, ◌+◌, ◌*◌, ◌/◌, ◌%◌, ◌<◌, List, length}
 use Rattle.cfi_class.specs.Forest.{IsForest, root_of}
 

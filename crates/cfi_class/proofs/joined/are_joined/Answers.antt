@@ -39,6 +39,7 @@ returns c =
           (sym slot_root.value ∙ eqb-true c.root-slot_root.result c.root-word_root.result equal ∙ word),
       λ chain. eq-eqb c.root-slot_root.result c.root-word_root.result
           (slot_root.value
-          ∙ chain_root joins c.args.slots MAX_CODE_WORDS parents forest chain.more c.args.branch c.args.target chain.chain
+          ∙ chain_root joins c.args.slots MAX_CODE_WORDS parents forest chain.more c.args.branch c.args.target
+          chain.chain
           ∙ sym word),
     )

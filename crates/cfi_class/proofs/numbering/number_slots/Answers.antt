@@ -19,7 +19,8 @@ loop-slot-preserved c =
     let place = old.place in
     let len : length after ≡ length parents = r.len ∙ old.len in
     let there : slot < length parents = omega (arith, c.requires.nodes) in
-    let same : HasSameRoots parents after = λ node within. r.roots node (omega (arith, old.len)) ∙ old.roots node within in
+    let same : HasSameRoots parents after = λ node within.
+    r.roots node (omega (arith, old.len)) ∙ old.roots node within in
     let is_root : root ≡ root_of parents slot = r.value ∙ old.roots slot there in
     let is_root_after = is_root ∙ sym (same slot there) in
     let low : (node : ℕ) → node < length numbers → root_of parents node ≤ node = λ node within.
@@ -31,7 +32,8 @@ loop-slot-preserved c =
     subst (IsMarked c.args.used.now) (sym place) c.if-not-is_used.false in
     let root_marked : IsMarked c.args.used.now root =
     subst (IsMarked c.args.used.now) (sym is_root) (c.requires.roots slot c.if-not-is_used.false) in
-    let chosen : c.number_of-number.result ≡ cond (ltb root (length numbers)) (get_or numbers root 0) (c.loop-slot.count + 1) =
+    let chosen : c.number_of-number.result
+    ≡ cond (ltb root (length numbers)) (get_or numbers root 0) (c.loop-slot.count + 1) =
     rw c.as_slice.ensures.value at c.number_of-number.ensures in
     let pushed : c.push-in-loop-slot.new.self.items ≡ numbers ++ c.number_of-number.result ∷ [] =
     c.in_ok-push-2.ensures.items in
