@@ -15,6 +15,7 @@ pub struct Symbols {
 
 impl Symbols {
     /// No names.
+    #[tactic(auto, unfolding(crate::specs::Names::find_in))]
     pub fn new(alloc: Global) -> Symbols
         ensures { (name : List ℕ) → find_in result name ≡ None }
     {
@@ -25,6 +26,7 @@ impl Symbols {
     }
 
     /// Adds a name with its address; one that is there keeps its own.
+    #[tactic(auto, unfolding(crate::specs::Names::find_in), using(std::proofs::lemmas::Map::Text::text_keys))]
     pub fn add(&mut self, name: &str, address: u32) -> Result<(), AllocError>
         ensures ok { OnOk result ((other : List ℕ) →
             find_in self.new other ≡ with_name name.now address (find_in self.old) other) }
@@ -40,6 +42,7 @@ impl Symbols {
     }
 
     /// The address of a name, none where the name is not there.
+    #[tactic(auto, unfolding(crate::specs::Names::find_in))]
     pub fn find(&self, name: &str) -> Option<u32>
         ensures { result ≡ find_in self.now name.now }
     {
