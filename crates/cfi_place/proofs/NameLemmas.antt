@@ -12,18 +12,18 @@ pub lookup-push : {K X : Type 0} (test : K → Bool) (es : List (K × X)) (e : K
     → lookup test (es ++ e ∷ []) ≡ option_or (lookup test es) (cond (test e.0) (Some e.1) None)
 lookup-push test [] e = refl
 lookup-push test (x ∷ xs) e = elim (cases_Bool (test x.0)) [
-    | inl here ↦ rw here refl
-    | inr there ↦ rw there (lookup-push test xs e)
-  ]
+  | inl here ↦ rw here refl
+  | inr there ↦ rw there (lookup-push test xs e)
+]
 
 pub bytes_eq-sym : (xs ys : List ℕ) → bytes_eq xs ys ≡ bytes_eq ys xs
 bytes_eq-sym xs ys = elim (cases_Bool (bytes_eq xs ys)) [
-    | inl same ↦ same ∙ sym ((bytes_eq-Decides ys xs).1 (sym ((bytes_eq-Decides xs ys).0 same)))
-    | inr other ↦ elim (cases_Bool (bytes_eq ys xs)) [
-      | inl same ↦ (bytes_eq-Decides xs ys).1 (sym ((bytes_eq-Decides ys xs).0 same)) ∙ sym same
-      | inr both ↦ other ∙ sym both
-    ]
+  | inl same ↦ same ∙ sym ((bytes_eq-Decides ys xs).1 (sym ((bytes_eq-Decides xs ys).0 same)))
+  | inr other ↦ elim (cases_Bool (bytes_eq ys xs)) [
+    | inl same ↦ (bytes_eq-Decides xs ys).1 (sym ((bytes_eq-Decides ys xs).0 same)) ∙ sym same
+    | inr both ↦ other ∙ sym both
   ]
+]
 
 kept : (found : Option ℕ) (n : ℕ) → option_or found (Some n) ≡ cond (not (is_some found)) (Some n) found
 kept None n = refl

@@ -48,8 +48,8 @@ reads_more source first start at slot words unit before begins within = record {
   within = within;
   small = omega (arith, before.small, length-check_at at unit);
   joins = λ code read.
-    let old = before.joins (unit ∷ code) (begins, read) in
-    (old.0, old.1, old.2 ∙ with_slots-append slot (check_at at unit) (checks_from (at + size_of unit) code) words);
+      let old = before.joins (unit ∷ code) (begins, read) in
+      (old.0, old.1, old.2 ∙ with_slots-append slot (check_at at unit) (checks_from (at + size_of unit) code) words);
 }
 
 pub reads_all : (source : List ℕ) (first : ℕ) (start : List ℕ) (at slot : ℕ) (words : List ℕ)

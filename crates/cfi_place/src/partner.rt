@@ -41,11 +41,7 @@ fn high_part(room: &Room, values: &[Option<u32>], reloc: &Reloc) -> (u32, u32)
 }
 
 // Adds a displacement at an address; one that is there stays.
-fn add_partner(
-    partners: &mut BTreeMap<u32, u32>,
-    at: u32,
-    number: u32,
-) -> Result<(), AllocError>
+fn add_partner(partners: &mut BTreeMap<u32, u32>, at: u32, number: u32) -> Result<(), AllocError>
     ensures { OnOk result ((address : ℕ) → get nat_cmp partners.new address
         ≡ with_partner at number (get nat_cmp partners.old address) address) }
 {

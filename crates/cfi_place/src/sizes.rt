@@ -18,7 +18,7 @@ pub fn check_sizes(object: &Object, room: &Room) -> Result<(), PlaceFault>
     ensures bytes { OnOk result (data_fits object.now room.now ≡ true) }
     ensures fault { IfErr result (λ fault. (next : Result Areas PlaceFault) →
         IsFault fault (where_fits (code_fits object.now room.now) faults.CodeFull
-            (where_fits (data_fits object.now room.now) faults.DataFull next))) }
+        (where_fits (data_fits object.now room.now) faults.DataFull next))) }
 {
     if object.text.len() / 4 + room.base as usize > room.code_words as usize {
         return Err(PlaceFault::CodeFull);
