@@ -1,0 +1,5 @@
+pub mod NameLemmas
+pub mod FunctionLemmas
+pub mod RelocatedLemmas
+pub mod SlotLemmas
+pub mod PlacingLemmas

@@ -1,0 +1,115 @@
+-- What a sound module and a room give to the steps of placing.
+use Rattle.std.proofs.Common.{◌≡◌, ℕ, ◌+◌, ◌*◌, ◌/◌, ◌^◌, ◌<◌, ◌≤◌, Bool, true, List, [], ◌∷◌, map, All, length, get_or, Option, None, Result, Ok, refl, sym, ap, ◌∙◌, subst, ⊎_elim, arith}
+use Rattle.std.proofs.lemmas.Bool.{cases_lt}
+use Rattle.std.proofs.lemmas.List.{get_or_read}
+use Rattle.std.proofs.lemmas.List.FromFn.{length-map-range_with_len}
+use Rattle.elf_read.specs.declared.object.Object.{Object}
+use Rattle.elf_read.specs.declared.object.Symbol.{Symbol}
+use Rattle.elf_read.specs.declared.object.Reloc.{Reloc}
+use Rattle.elf_read.specs.declared.object.Area.{Area}
+use Rattle.elf_read.specs.declared.object.Area.TheVariants as areas
+use Rattle.elf_read.specs.declared.object.Place.{Place}
+use Rattle.elf_read.specs.declared.object.Place.TheVariants as places
+use Rattle.elf_read.specs.Relocation.{field_size}
+use Rattle.cfi_aux.specs.Sound.{IsInside, IsSoundSymbol, HasField, IsSoundReloc}
+use Rattle.cfi_aux.specs.declared.records.Function.{Function}
+use Rattle.cfi_aux.specs.declared.placed.PlacedFunction.{PlacedFunction}
+use Rattle.cfi_aux.specs.Placed.{address_of, exports_of}
+use Rattle.cfi_aux.specs.Placed as aux
+use Rattle.rv_reloc.specs.Bytes.{word_at}
+use Rattle.cfi_place.specs.declared.room.Room.{Room}
+use Rattle.cfi_place.specs.declared.fault.PlaceFault.{PlaceFault}
+use Rattle.cfi_place.specs.Names.{Names, first_in}
+use Rattle.cfi_place.specs.Value.{own_in, value_by, value_of, values_by, undefined_in}
+use Rattle.cfi_place.specs.Relocated.{Areas, size_in, address_in, IsReady}
+use Rattle.cfi_place.specs.Slots.{HasSlots}
+use Rattle.cfi_place.specs.Functions.{placed_functions}
+use Rattle.cfi_place.specs.Placed.{words_in, values_in, unless_undefined, where_fits, code_fits, data_fits, relocated, placed_by}
+
+-- the addresses of a module that fits into 32 bits
+pub record FitsAt (object : Object) (room : Room) : Type 0 where
+  pub text : 4 * room.base + length object.text < 2 ^ 32
+  pub static_data : room.data_base + length object.static_data < 2 ^ 32
+
+address-fits : (object : Object) (room : Room) (place : Place) (value : ℕ) → FitsAt object room
+    → IsInside object place value → value < 2 ^ 32 → aux.address_in room.base room.data_base place value < 2 ^ 32
+address-fits object room places.Undefined value at inside small = small
+address-fits object room places.Absolute value at inside small = small
+address-fits object room places.Text value at inside small = omega (arith, at.text, inside)
+address-fits object room places.Data value at inside small = omega (arith, at.static_data, inside)
+
+-- one value more that has 32 bits
+pub values-more : (symbols : List Symbol) (i : ℕ) (item : Symbol) → i < length symbols
+    → item ≡ get_or symbols i item → item.value < 2 ^ 32
+    → ((k : ℕ) (d : Symbol) → k < i → (get_or symbols k d).value < 2 ^ 32)
+    → (k : ℕ) (d : Symbol) → k < i + 1 → (get_or symbols k d).value < 2 ^ 32
+values-more symbols i item within is fits before k d lt = ⊎_elim
+    (λ below. before k d below)
+    (λ above.
+    let same : k ≡ i = omega arith in
+    let at : get_or symbols k d ≡ item =
+    ap (λ (n : ℕ). get_or symbols n d) same ∙ sym (get_or_read symbols i item within is d) in
+    subst (λ (s : Symbol). s.value < 2 ^ 32) (sym at) fits)
+    (cases_lt k i)
+
+pub addresses-fit : (object : Object) (room : Room) → FitsAt object room → All (IsSoundSymbol object) object.symbols
+    → All (λ (s : Symbol). s.value < 2 ^ 32) object.symbols
+    → All (λ s. address_of room.base room.data_base s < 2 ^ 32) object.symbols
+addresses-fit object room at sound small = λ i d lt.
+    let symbol = get_or object.symbols i d in
+    address-fits object room symbol.place symbol.value at (sound i d lt).inside (small i d lt)
+
+field-fits : (object : Object) (room : Room) (area : Area) (kind offset : ℕ) → FitsAt object room
+    → HasField object area kind offset
+    → (offset + field_size kind ≤ size_in area (length object.text) (length object.static_data))
+    × (address_in area room offset < 2 ^ 32)
+field-fits object room areas.Text kind offset at has = (has.0, omega (arith, at.text, has.0))
+field-fits object room areas.Data kind offset at has = (has.0, omega (arith, at.static_data, has.0))
+
+pub relocs-ready : (object : Object) (room : Room) → FitsAt object room → All (IsSoundReloc object) object.relocs
+    → All (IsReady room (length object.text) (length object.static_data)) object.relocs
+relocs-ready object room at sound = λ i d lt.
+    let reloc = get_or object.relocs i d in
+    let one = sound i d lt in
+    let fits = field-fits object room reloc.area reloc.kind reloc.offset at one.field in
+    record { known = one.known; within = fits.0; address = fits.1 }
+
+-- ---- words
+
+pub length-words_in : (bytes : List ℕ) → length (words_in bytes) ≡ length bytes / 4
+length-words_in bytes = length-map-range_with_len (λ k. word_at (4 * k) bytes) 0 (length bytes / 4)
+
+-- ---- the steps joined
+
+pub placed-ok : (object : Object) (room : Room) (values : List (Option ℕ)) (bytes : Areas)
+    → undefined_in object.symbols values object.relocs ≡ None → code_fits object room ≡ true
+    → data_fits object room ≡ true → relocated object room values ≡ Ok bytes → placed_by object room values ≡ Ok bytes
+placed-ok object room values bytes none code data_is done = rw (none, code, data_is) done
+
+pub placed-on : (object : Object) (room : Room) (values : List (Option ℕ))
+    → undefined_in object.symbols values object.relocs ≡ None → code_fits object room ≡ true
+    → data_fits object room ≡ true → placed_by object room values ≡ relocated object room values
+placed-on object room values none code data_is = rw (none, code, data_is) refl
+
+pub values-are : (object : Object) (room : Room) (names : Names) (exports : List (List ℕ × ℕ)) (symbols : List Symbol)
+    (values : List (Option ℕ)) → exports ≡ exports_of room.base room.data_base object.symbols
+    → symbols ≡ object.symbols → values ≡ values_by room (first_in exports) names symbols
+    → values ≡ values_in object room names
+values-are object room names exports symbols values e s v =
+    v ∙ ap (λ (x : List (List ℕ × ℕ)). values_by room (first_in x) names symbols) e
+    ∙ ap (λ (x : List Symbol). values_by room (own_in room object.symbols) names x) s
+
+pub slots-are : (source source_is text text_is words words_is : List ℕ) (slot : ℕ) → source ≡ source_is → text ≡ text_is
+    → words ≡ words_is → HasSlots (words_in source_is) slot (words_in text_is) words_is
+    → HasSlots (words_in source) slot (words_in text) words
+slots-are source source_is text text_is words words_is slot s t w h =
+    subst (λ (x : List ℕ). HasSlots (words_in x) slot (words_in text) words) (sym s)
+    (subst (λ (x : List ℕ). HasSlots (words_in source_is) slot (words_in x) words) (sym t)
+    (subst (λ (x : List ℕ). HasSlots (words_in source_is) slot (words_in text_is) x) (sym w) h))
+
+pub functions-are : (symbols symbols_is : List Symbol) (functions functions_is : List Function)
+    (placed : List PlacedFunction) → symbols_is ≡ symbols → functions_is ≡ functions
+    → placed ≡ placed_functions symbols_is functions_is → placed ≡ placed_functions symbols functions
+functions-are symbols symbols_is functions functions_is placed s f h =
+    h ∙ ap (λ (x : List Symbol). placed_functions x functions_is) s
+    ∙ ap (λ (x : List Function). placed_functions symbols x) f

@@ -1,0 +1,26 @@
+//! Modules at their places in the code and the data: addresses, relocations, slots of checks.
+//!
+//! Stands on `rv_reloc`, `cfi_aux`, `cfi_unit`, `elf_read`, `cfi_types`, `cfi_word`, `rv_insn` and `thiserror`. Proved:
+//! `place` answers exactly what `specs/Placed.antt` says, or the first fault. Only tested: the texts of faults, and that
+//! ample memory is enough. Open: nothing.
+#![tactic(auto)]
+
+mod bytes;
+mod copies;
+mod defined;
+mod fault;
+mod functions;
+mod partner;
+mod placing;
+mod relocate;
+mod room;
+mod sizes;
+mod slots;
+mod symbols;
+mod value;
+mod words;
+
+pub use fault::PlaceFault;
+pub use placing::place;
+pub use room::{DATA_END, DATA_START, Room};
+pub use symbols::Symbols;

@@ -1,0 +1,20 @@
+//! Where a module goes.
+
+/// The least address of private data.
+pub const DATA_START: u32 = 0x4000_0000;
+
+/// The address at or before which all static data of modules ends.
+pub const DATA_END: u32 = 0x4008_0000;
+
+/// Where a module goes: the next free places.
+#[derive(Clone, Copy, Debug, PartialEq, Eq)]
+pub struct Room {
+    /// Where its text begins, in words of the code, at most `code_words`.
+    pub base: u32,
+    /// The slot of its first check, at most `base / 14`.
+    pub slot_base: u32,
+    /// The address at which its data begins, a multiple of 16 from `DATA_START` to `DATA_END`.
+    pub data_base: u32,
+    /// How many words the code has, as a `Layout` has them.
+    pub code_words: u32,
+}
