@@ -10,7 +10,6 @@ mod branch;
 mod fault;
 mod format;
 mod function;
-mod items;
 mod laws;
 mod modules;
 mod name;
@@ -24,7 +23,6 @@ pub use fault::AuxFault;
 pub use format::{
     CALL, MAX_BRANCHES, MAX_ENTRIES, MAX_FUNCTIONS, MAX_NAME, RETURN, SWITCH, TAIL, VERSION,
 };
-pub use items::Items;
 pub use laws::{some_object_is_sound, what_is_read_is_sound};
 pub use modules::{Module, module_of};
 pub use placed::{Placed, PlacedFunction, address_of, exports, is_global};

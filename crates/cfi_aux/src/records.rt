@@ -1,6 +1,6 @@
 //! The records of a module.
 
-use crate::items::Items;
+use cfi_list::Items;
 use elf_read::Name;
 
 /// A function of a module.

@@ -2,6 +2,7 @@ ghost use Rattle.std.specs.Prelude.{◌<◌, ◌^◌, All, IfOk, OnOk};
 ghost use Rattle.cfi_aux.specs.Placed.{address_of};
 
 use super::*;
+use cfi_list::Items;
 use cfi_types::{TypeFault, read_types};
 use elf_read::{Binding, Bytes, Name, Object, Place, Relocs, Symbol, Symbols};
 use std::alloc::{AllocError, Global};

@@ -1,5 +1,3 @@
-pub mod WordsLemmas
-pub mod NamesLemmas
 pub mod DraftLemmas
 pub mod NumberLemmas
 pub mod PlanLemmas

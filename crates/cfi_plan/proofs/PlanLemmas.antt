@@ -15,7 +15,7 @@ use Rattle.cfi_plan.specs.declared.plan.ScriptLine.{ScriptLine}
 use Rattle.cfi_plan.specs.declared.plan.ScriptLine.TheVariants as script
 use Rattle.cfi_plan.specs.declared.limits.TheConstants.{MAX_EPOCH}
 use Rattle.cfi_plan.specs.Draft.{Draft, empty, module_of, starts, one_if, refreshes, refreshes_of, is_astray, is_within, with_line}
-use Rattle.cfi_plan.specs.Names.{is_name}
+use Rattle.cfi_text.specs.Names.{is_name}
 use Rattle.cfi_plan.specs.Plan.{IsCodeSize, IsVersions, IsFuel, IsNamed, AreApart, AreModules, AreGuests, IsScriptLine, IsScript}
 use Rattle.cfi_plan.proofs.DraftLemmas.{starts-push}
 

@@ -1,8 +1,7 @@
 pub mod Draft
 pub mod Kept
 pub mod Line
-pub mod Names
+pub mod Files
 pub mod Number
 pub mod Plan
 pub mod Reading
-pub mod Words

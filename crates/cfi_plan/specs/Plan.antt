@@ -7,7 +7,8 @@ use Rattle.cfi_plan.specs.declared.plan.ScriptLine.{ScriptLine}
 use Rattle.cfi_plan.specs.declared.plan.ScriptLine.TheVariants.{Load, Refresh}
 use Rattle.cfi_plan.specs.declared.limits.TheConstants.{MIN_CODE_WORDS, MAX_CODE_WORDS, MIN_VERSIONS, MAX_VERSIONS, MAX_EPOCH, MAX_FUEL, MAX_MODULES, MAX_STARTS, MAX_GUESTS, MAX_SCRIPT, MAX_REFRESHES}
 use Rattle.cfi_plan.specs.Draft.{starts, refreshes}
-use Rattle.cfi_plan.specs.Names.{is_name, is_file}
+use Rattle.cfi_text.specs.Names.{is_name}
+use Rattle.cfi_plan.specs.Files.{is_file}
 
 -- a number of code words
 pub record IsCodeSize (number : ℕ) : Type 0 where

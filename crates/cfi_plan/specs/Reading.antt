@@ -8,7 +8,7 @@ use Rattle.cfi_plan.specs.declared.fault.PlanFault.{PlanFault}
 use Rattle.cfi_plan.specs.declared.fault.PlanFault.TheVariants.{Syntax}
 use Rattle.cfi_plan.specs.Draft.{Draft, empty, taken, plan_of}
 use Rattle.cfi_plan.specs.Line.{form_of}
-use Rattle.cfi_plan.specs.Words.{words_in}
+use Rattle.cfi_text.specs.Words.{words_in}
 use Rattle.cfi_text.specs.Lines.{numbered_lines, statement_of}
 
 infixl 10 ◌>>=◌

@@ -3,7 +3,7 @@ ghost use Rattle.cfi_plan.specs.Draft.{Draft as Said, empty, taken, one_if, plan
 
 use crate::fault::PlanFault;
 use crate::index::{give_number, number_of};
-use crate::items::Items;
+use cfi_list::Items;
 use crate::limits::{
     FUEL, MAX_CODE_WORDS, MAX_EPOCH, MAX_FUEL, MAX_GUESTS, MAX_MODULES, MAX_REFRESHES, MAX_SCRIPT,
     MAX_STARTS, MAX_VERSIONS, MIN_CODE_WORDS, MIN_VERSIONS,

@@ -7,7 +7,6 @@
 mod draft;
 mod fault;
 mod index;
-mod items;
 mod journal;
 mod limits;
 mod line;
@@ -17,16 +16,14 @@ mod reading;
 #[cfg(test)]
 mod tests;
 mod text;
-mod words;
 
 pub use fault::PlanFault;
-pub use items::Items;
 pub use journal::{Entry, JournalLine, ModuleLine, Who};
 pub use limits::{
     FUEL, MAX_CODE_WORDS, MAX_EPOCH, MAX_FUEL, MAX_GUESTS, MAX_MODULES, MAX_REFRESHES, MAX_SCRIPT,
     MAX_STARTS, MAX_VERSIONS, MIN_CODE_WORDS, MIN_VERSIONS,
 };
-pub use names::{MAX_NAME, name_of};
+pub use names::name_of;
 pub use plan::{Plan, PlanModule, ScriptLine};
 pub use reading::read_plan;
 pub use text::Text;

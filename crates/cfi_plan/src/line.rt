@@ -1,12 +1,11 @@
 ghost use Rattle.std.specs.Prelude.{◌≡◌, IfOk};
 ghost use Rattle.cfi_plan.specs.Line.{form_of, pair_form, numbered_form, counted_form, module_form, start_in};
-ghost use Rattle.cfi_plan.specs.Words.{words_in};
+ghost use Rattle.cfi_text.specs.Words.{words_in};
 
 use crate::names::{file_of, name_of};
 use crate::plan::PlanModule;
 use crate::text::Text;
-use crate::words::next_word;
-use cfi_text::read_dec;
+use cfi_text::{next_word, read_dec};
 use std::alloc::{AllocError, Global};
 
 /// A line of a plan after the first.

@@ -1,27 +1,25 @@
-ghost use Rattle.std.specs.Prelude.{◌≡◌, MatchOption, IfOk, length, ◌≤◌, ◌==◌, if◌then◌else◌, Some, None, Option, List, ℕ};
+//! The texts of names, and of the names of files.
+ghost use Rattle.std.specs.Prelude.{◌≡◌, IfOk, if◌then◌else◌, Some, None};
 ghost use Rattle.std.specs.Str.{is_utf8};
-ghost use Rattle.std.specs.List.{list_all, starts_with};
-ghost use Rattle.cfi_plan.specs.Names.{is_name, name_in, file_in, is_name_byte, begins_name};
+ghost use Rattle.cfi_text.specs.Names.{name_in};
+ghost use Rattle.cfi_plan.specs.Files.{file_in};
 
 use crate::text::Text;
+use cfi_text::MAX_NAME;
 use std::alloc::{AllocError, Global};
-
-/// The greatest number of bytes of a name, and of the name of a file.
-pub const MAX_NAME: usize = 255;
 
 /// The text of a word that is a name. `None` where it is none.
 pub fn name_of(alloc: Global, word: &[u8]) -> Result<Option<Text>, AllocError>
     ensures { IfOk result (λ found. found ≡ name_in word.now) }
 {
-    if is_name(word) {
-        text_of(alloc, word)
-    } else {
-        Ok(None)
+    match cfi_text::name_of(word) {
+        Some(name) => Ok(Some(Text::from_string(String::from_str(alloc, name)?))),
+        None => Ok(None),
     }
 }
 
 /// The text of a word that may be the name of a file. `None` where it is none.
-#[tactic(auto, unfolding(crate::specs::Names::is_file))]
+#[tactic(auto, unfolding(crate::specs::Files::is_file))]
 pub fn file_of(alloc: Global, word: &[u8]) -> Result<Option<Text>, AllocError>
     ensures { IfOk result (λ found. found ≡ file_in word.now) }
 {
@@ -43,35 +41,4 @@ fn text_of(alloc: Global, word: &[u8]) -> Result<Option<Text>, AllocError>
         }
         Err(_) => Ok(None),
     }
-}
-
-#[tactic(auto, unfolding(crate::specs::Names::is_name))]
-fn is_name(word: &[u8]) -> bool
-    ensures { result ≡ is_name word.now }
-{
-    begins_name(word)
-        && word.len() <= MAX_NAME
-        && has_name_bytes(word)
-        && !word.starts_with(b".Lpc".as_slice())
-}
-
-fn begins_name(word: &[u8]) -> bool
-    ensures { result ≡ begins_name word.now }
-{
-    match word {
-        [] => false,
-        [first, ..] => !first.is_ascii_digit(),
-    }
-}
-
-fn has_name_bytes(word: &[u8]) -> bool
-    ensures { result ≡ list_all is_name_byte word.now }
-{
-    word.iter().all(|byte| is_name_byte(*byte))
-}
-
-fn is_name_byte(byte: u8) -> bool
-    ensures { result ≡ is_name_byte byte }
-{
-    byte.is_ascii_alphanumeric() || byte == b'_' || byte == b'.' || byte == b'$'
 }

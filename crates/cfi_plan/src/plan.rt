@@ -1,4 +1,4 @@
-use crate::items::Items;
+use cfi_list::Items;
 use crate::text::Text;
 
 /// A module of a plan.

@@ -2,15 +2,14 @@ ghost use Rattle.std.specs.Prelude.{◌≡◌, ℕ, ◌+◌, ◌^◌, ◌<◌, �
 ghost use Rattle.cfi_plan.specs.Draft.{empty, Gives, IsDue};
 ghost use Rattle.cfi_plan.specs.Plan.{IsPlan};
 ghost use Rattle.cfi_plan.specs.Reading.{is_head, with_text, with_lines, plan_in};
-ghost use Rattle.cfi_plan.specs.Words.{words_in};
+ghost use Rattle.cfi_text.specs.Words.{words_in};
 ghost use Rattle.cfi_text.specs.Lines.{statement_of};
 
 use crate::draft::Draft;
 use crate::fault::PlanFault;
 use crate::line::read_line;
 use crate::plan::Plan;
-use crate::words::next_word;
-use cfi_text::{Lines, statement};
+use cfi_text::{Lines, next_word, statement};
 use std::alloc::Global;
 
 /// The plan that a text says, or its first fault.

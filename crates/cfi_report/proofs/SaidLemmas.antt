@@ -8,7 +8,7 @@ use Rattle.std.proofs.lemmas.Bool.Decides.{nat_tests}
 use Rattle.std.proofs.lemmas.Slice.Eq.{bytes_eq-Decides}
 use Rattle.cfi_text.specs.Decimal.{dec_text}
 use Rattle.cfi_text.specs.Hex.{hex8_text}
-use Rattle.cfi_plan.specs.Names.{is_name, name_in}
+use Rattle.cfi_text.specs.Names.{is_name, name_in}
 use Rattle.cfi_plan.specs.declared.journal.Who.{Who}
 use Rattle.cfi_plan.specs.declared.journal.Who.TheVariants.{Script, Guest}
 use Rattle.cfi_plan.specs.declared.journal.JournalLine.{JournalLine}

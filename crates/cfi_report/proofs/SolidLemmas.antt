@@ -8,7 +8,7 @@ use Rattle.std.proofs.lemmas.List.Splits.{slice_split_at, slice_split_none}
 use Rattle.cfi_text.specs.Decimal.{dec_text, AreDigits}
 use Rattle.cfi_text.specs.Hex.{hex_digit, hex8_text, hex_text}
 use Rattle.cfi_text.proofs.DecimalLemmas.{IsDecimal-dec_text}
-use Rattle.cfi_plan.specs.Names.{is_name, is_name_byte}
+use Rattle.cfi_text.specs.Names.{is_name, is_name_byte}
 use Rattle.cfi_plan.specs.declared.journal.Who.{Who}
 use Rattle.cfi_plan.specs.declared.journal.Who.TheVariants.{Script, Guest}
 use Rattle.cfi_plan.specs.declared.journal.JournalLine.{JournalLine}

@@ -1,7 +1,7 @@
 -- A report's text: its lines in order. Which reports there are, and the first line of a text from which on it is none.
 use Rattle.std.specs.Prelude.{◌≡◌, ℕ, ◌-◌, ◌^◌, ◌<◌, ◌≤◌, Bool, true, not, ◌==◌, ⊤, List, [], ◌∷◌, ◌++◌, length, take, map, None, Result, Ok, Err}
 use Rattle.std.specs.List.{flat_map}
-use Rattle.cfi_plan.specs.Names.{is_name}
+use Rattle.cfi_text.specs.Names.{is_name}
 use Rattle.cfi_unit.specs.declared.log.Log.{Log}
 use Rattle.cfi_unit.specs.declared.log.Log.TheVariants.{Pick}
 use Rattle.cfi_report.specs.declared.line.Line.{Line}

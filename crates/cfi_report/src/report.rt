@@ -1,4 +1,5 @@
-use cfi_plan::{Entry, Items, ModuleLine, Text};
+use cfi_list::Items;
+use cfi_plan::{Entry, ModuleLine, Text};
 use cfi_unit::{Bytes, Log, Stop};
 
 /// What a run has come to.

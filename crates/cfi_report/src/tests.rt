@@ -1,5 +1,6 @@
 use crate::{GuestPart, Report, ReportFault, read_report, write_report};
-use cfi_plan::{Entry, Items, JournalLine, ModuleLine, Text, Who};
+use cfi_list::Items;
+use cfi_plan::{Entry, JournalLine, ModuleLine, Text, Who};
 use cfi_unit::{Bytes, Log, Stop};
 use std::alloc::{AllocError, Global};
 use std::process::Abort;

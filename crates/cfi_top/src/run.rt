@@ -9,7 +9,7 @@ use cfi_bare::{BareCode, image_of};
 use cfi_fixed::{run_fixed, serve_bare};
 use cfi_io::Gate;
 use cfi_model::BASE;
-use cfi_plan::Items;
+use cfi_list::Items;
 use cfi_report::GuestPart;
 use cfi_unit::Bytes;
 use cfi_word::Image;

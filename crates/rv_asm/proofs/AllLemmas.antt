@@ -1,7 +1,7 @@
 -- The words of a text, read one after the other.
 use Rattle.std.proofs.Common.{◌≡◌, ℕ, List, [], ◌∷◌, ◌++◌, Option, Some, None, refl, ap, sym, ◌∙◌, append_assoc, append-nil}
 use Rattle.std.specs.Option.{option_map}
-use Rattle.rv_asm.specs.Words.{words_in}
+use Rattle.cfi_text.specs.Words.{words_in}
 use Rattle.rv_asm.specs.Statement.{onto, all_in}
 
 -- what was read stands before what the rest says

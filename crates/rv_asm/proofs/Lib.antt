@@ -1,4 +1,2 @@
-pub mod WordsLemmas
-pub mod NamesLemmas
 pub mod NumberLemmas
 pub mod AllLemmas

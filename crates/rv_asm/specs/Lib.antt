@@ -1,5 +1,3 @@
-pub mod Words
-pub mod Names
 pub mod Number
 pub mod Register
 pub mod Operand

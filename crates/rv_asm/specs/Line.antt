@@ -5,8 +5,8 @@ use Rattle.cfi_text.specs.Lines.{statement_of}
 use Rattle.rv_asm.specs.declared.statement.Statement.{Statement}
 use Rattle.rv_asm.specs.declared.statement.Statement.TheVariants.{Blank}
 use Rattle.rv_asm.specs.declared.line.Line.{Line}
-use Rattle.rv_asm.specs.Words.{unblanked, first_word, after_word}
-use Rattle.rv_asm.specs.Names.{name_in}
+use Rattle.cfi_text.specs.Words.{unblanked, first_word, after_word}
+use Rattle.cfi_text.specs.Names.{name_in}
 use Rattle.rv_asm.specs.Operand.{◌>>=◌, cut}
 use Rattle.rv_asm.specs.Statement.{form_of}
 

@@ -10,8 +10,8 @@ use Rattle.rv_asm.specs.declared.statement.Target.{Target}
 use Rattle.rv_asm.specs.declared.statement.Target.TheVariants as targets
 use Rattle.rv_asm.specs.declared.statement.Datum.{Datum}
 use Rattle.rv_asm.specs.declared.statement.Datum.TheVariants as data_words
-use Rattle.rv_asm.specs.Words.{words_in}
-use Rattle.rv_asm.specs.Names.{name_in}
+use Rattle.cfi_text.specs.Words.{words_in}
+use Rattle.cfi_text.specs.Names.{name_in}
 use Rattle.rv_asm.specs.Number.{integer_in, small_number_in, negated}
 use Rattle.rv_asm.specs.Register.{register_in}
 

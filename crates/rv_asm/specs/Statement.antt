@@ -18,8 +18,8 @@ use Rattle.rv_asm.specs.declared.statement.NodeKind.{NodeKind}
 use Rattle.rv_asm.specs.declared.statement.NodeKind.TheVariants as nodes
 use Rattle.rv_asm.specs.declared.statement.Statement.{Statement}
 use Rattle.rv_asm.specs.declared.statement.Statement.TheVariants as statements
-use Rattle.rv_asm.specs.Words.{words_in}
-use Rattle.rv_asm.specs.Names.{name_in}
+use Rattle.cfi_text.specs.Words.{words_in}
+use Rattle.cfi_text.specs.Names.{name_in}
 use Rattle.rv_asm.specs.Number.{integer_in}
 use Rattle.rv_asm.specs.Register.{register_in}
 use Rattle.rv_asm.specs.Called.{op_called, imm_op_called, load_called, store_called, cond_called, keyword_called, node_kind_called}

@@ -2,16 +2,16 @@
 
 ghost use Rattle.std.specs.Prelude.{◌≡◌, IfOk, option_map, option_and_then};
 ghost use Rattle.rv_asm.specs.Statement.{integers_in, names_in, has_count, node_words, func_by, func_words, only_integer, switch_of, kind_by, kind_words};
-ghost use Rattle.rv_asm.specs.Words.{words_in};
+ghost use Rattle.cfi_text.specs.Words.{words_in};
 
 use crate::called::node_kind_called;
-use crate::items::Items;
+use cfi_list::Items;
 use crate::names::name_of;
 use crate::number::integer_of;
 use crate::operand::word_of;
 use crate::short::bare_form;
 use crate::statement::{NodeKind, Statement};
-use crate::words::next_word;
+use cfi_text::next_word;
 use elf_read::Name;
 use std::alloc::{AllocError, Global};
 

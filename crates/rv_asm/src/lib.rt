@@ -8,7 +8,6 @@
 mod called;
 mod directives;
 mod forms;
-mod items;
 mod line;
 mod names;
 mod number;
@@ -18,9 +17,6 @@ mod short;
 mod statement;
 #[cfg(test)]
 mod tests;
-mod words;
 
-pub use items::Items;
 pub use line::{Line, read_line};
-pub use names::MAX_NAME;
 pub use statement::{Datum, High, Low, NodeKind, Statement, Target};

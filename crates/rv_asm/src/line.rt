@@ -21,8 +21,7 @@ use crate::short::{
     bare_form, j_form, jr_form, la_form, li_form, mv_form, name_form, word_form, zero_form,
 };
 use crate::statement::{Low, Statement};
-use crate::words::{split_word, unblanked};
-use cfi_text::statement;
+use cfi_text::{split_word, statement, unblanked};
 use elf_read::Name;
 use rv_insn::ImmOp;
 use std::alloc::{AllocError, Global};

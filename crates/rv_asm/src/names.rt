@@ -1,65 +1,16 @@
-ghost use Rattle.std.specs.Prelude.{◌≡◌, IfOk, length, ◌≤◌, ◌==◌, if◌then◌else◌, Some, None, Option, List, ℕ};
-ghost use Rattle.std.specs.Str.{is_utf8};
-ghost use Rattle.std.specs.List.{list_all, starts_with};
-ghost use Rattle.rv_asm.specs.Names.{is_name, name_in, is_name_byte, begins_name};
+//! The names of a source.
+ghost use Rattle.std.specs.Prelude.{◌≡◌, IfOk};
+ghost use Rattle.cfi_text.specs.Names.{name_in};
 
 use elf_read::Name;
 use std::alloc::{AllocError, Global};
-
-/// The greatest number of bytes of a name.
-pub const MAX_NAME: usize = 255;
 
 /// The name that a word is. `None` where it is none.
 pub fn name_of(alloc: Global, word: &[u8]) -> Result<Option<Name>, AllocError>
     ensures { IfOk result (λ found. found ≡ name_in word.now) }
 {
-    if is_name(word) {
-        text_of(alloc, word)
-    } else {
-        Ok(None)
+    match cfi_text::name_of(word) {
+        Some(name) => Ok(Some(Name::from_string(String::from_str(alloc, name)?))),
+        None => Ok(None),
     }
-}
-
-// The text of a word that is UTF-8.
-fn text_of(alloc: Global, word: &[u8]) -> Result<Option<Name>, AllocError>
-    ensures { IfOk result (λ found. found ≡ (if is_utf8 word.now then Some word.now else None)) }
-{
-    match str::from_utf8(word) {
-        Ok(text) => {
-            let text = String::from_str(alloc, text)?;
-            Ok(Some(Name::from_string(text)))
-        }
-        Err(_) => Ok(None),
-    }
-}
-
-#[tactic(auto, unfolding(crate::specs::Names::is_name))]
-fn is_name(word: &[u8]) -> bool
-    ensures { result ≡ is_name word.now }
-{
-    begins_name(word)
-        && word.len() <= MAX_NAME
-        && has_name_bytes(word)
-        && !word.starts_with(b".Lpc".as_slice())
-}
-
-fn begins_name(word: &[u8]) -> bool
-    ensures { result ≡ begins_name word.now }
-{
-    match word {
-        [] => false,
-        [first, ..] => !first.is_ascii_digit(),
-    }
-}
-
-fn has_name_bytes(word: &[u8]) -> bool
-    ensures { result ≡ list_all is_name_byte word.now }
-{
-    word.iter().all(|byte| is_name_byte(*byte))
-}
-
-fn is_name_byte(byte: u8) -> bool
-    ensures { result ≡ is_name_byte byte }
-{
-    byte.is_ascii_alphanumeric() || byte == b'_' || byte == b'.' || byte == b'$'
 }

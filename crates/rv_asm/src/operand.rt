@@ -7,7 +7,7 @@ use crate::names::name_of;
 use crate::number::{integer_of, small_number_of};
 use crate::register::register_of;
 use crate::statement::{Datum, High, Low, Target};
-use crate::words::next_word;
+use cfi_text::next_word;
 use elf_read::Name;
 use std::alloc::{AllocError, Global};
 

@@ -8,7 +8,7 @@ use crate::number::integer_of;
 use crate::operand::{datum_of, target_of, two_of, word_of};
 use crate::register::register_of;
 use crate::statement::{Low, Statement};
-use crate::words::next_word;
+use cfi_text::next_word;
 use elf_read::Name;
 use rv_insn::ImmOp;
 use std::alloc::{AllocError, Global};

@@ -1,6 +1,6 @@
 //! What a line of a source says.
 
-use crate::items::Items;
+use cfi_list::Items;
 use elf_read::Name;
 use rv_insn::{Cond, ImmOp, LoadKind, Op, StoreKind};
 

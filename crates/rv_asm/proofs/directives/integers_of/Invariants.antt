@@ -1,6 +1,6 @@
 use Rattle.std.proofs.Common.{length}
 use Rattle.rv_asm.specs.Number.{integer_in}
-use Rattle.rv_asm.specs.Words.{words_in}
+use Rattle.cfi_text.specs.Words.{words_in}
 use Rattle.rv_asm.proofs.AllLemmas.{AllRead}
 use Rattle.rv_asm.proofs.directives.integers_of.Given as goal
 

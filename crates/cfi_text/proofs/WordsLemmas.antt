@@ -3,7 +3,7 @@ use Rattle.std.proofs.Common.{◌≡◌, ℕ, suc, ◌+◌, ◌<◌, ◌≤◌, 
 use Rattle.std.proofs.lemmas.List.Sums.{position_or_len_is}
 use Rattle.std.proofs.Math.Seq.{take-length}
 use Rattle.std.specs.List.{slice_split, onto_first, position_or_len}
-use Rattle.cfi_plan.specs.Words.{is_blank, is_solid, has_byte, words_in}
+use Rattle.cfi_text.specs.Words.{is_blank, is_solid, has_byte, words_in}
 
 -- a place that passes, where none before it does, is the first
 pub first_place : (p : ℕ → Bool) (xs : List ℕ) (i : ℕ) → i < length xs → ((k : ℕ) → k < i → p (get_or xs k 0) ≡ false)

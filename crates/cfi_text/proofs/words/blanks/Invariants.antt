@@ -1,6 +1,6 @@
 use Rattle.std.proofs.Common.{◌≡◌, ℕ, ◌<◌, false, get_or}
-use Rattle.cfi_plan.specs.Words.{is_solid}
-use Rattle.cfi_plan.proofs.words.blanks.Given as goal
+use Rattle.cfi_text.specs.Words.{is_solid}
+use Rattle.cfi_text.proofs.words.blanks.Given as goal
 
 -- no byte before this one passes
 abbrev pub invariant-loop-at : goal.invariant-loop-at

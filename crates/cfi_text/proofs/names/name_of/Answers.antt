@@ -1,6 +1,6 @@
 use Rattle.std.proofs.Common.{sym, ◌∙◌}
-use Rattle.rv_asm.proofs.NamesLemmas.{is_utf8-name}
-use Rattle.rv_asm.proofs.names.name_of.Goals as goal
+use Rattle.cfi_text.proofs.NamesLemmas.{is_utf8-name}
+use Rattle.cfi_text.proofs.names.name_of.Goals as goal
 
 pub returns-then-is_name : goal.returns-then-is_name
 returns-then-is_name c =

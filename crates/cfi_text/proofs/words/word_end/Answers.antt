@@ -1,7 +1,7 @@
 use Rattle.std.proofs.Common.{rules}
-use Rattle.rv_asm.specs.Words.{is_blank}
-use Rattle.rv_asm.proofs.WordsLemmas.{first_place, no_place}
-use Rattle.rv_asm.proofs.words.word_end.Goals as goal
+use Rattle.cfi_text.specs.Words.{is_blank}
+use Rattle.cfi_text.proofs.WordsLemmas.{first_place, no_place}
+use Rattle.cfi_text.proofs.words.word_end.Goals as goal
 
 pub returns-then-is_blank-clause-place : goal.returns-then-is_blank-clause-place
 returns-then-is_blank-clause-place c = first_place is_blank _ _ c.loop-at-test.true c.loop-at.invariant (search rules)

@@ -1,6 +1,6 @@
 use Rattle.std.proofs.Common.{drop, sym, ◌∙◌, arith}
-use Rattle.cfi_plan.proofs.WordsLemmas.{words_in-word, words_in-blanks, words_in-none, take-rest}
-use Rattle.cfi_plan.proofs.words.next_word.Goals as goal
+use Rattle.cfi_text.proofs.WordsLemmas.{words_in-word, words_in-blanks, words_in-none, take-rest}
+use Rattle.cfi_text.proofs.words.next_word.Goals as goal
 
 pub returns-then-end-eq0 : goal.returns-then-end-eq0
 returns-then-end-eq0 c =

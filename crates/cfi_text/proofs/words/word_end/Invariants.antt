@@ -1,6 +1,6 @@
 use Rattle.std.proofs.Common.{◌≡◌, ℕ, ◌<◌, false, get_or}
-use Rattle.cfi_plan.specs.Words.{is_blank}
-use Rattle.cfi_plan.proofs.words.word_end.Given as goal
+use Rattle.cfi_text.specs.Words.{is_blank}
+use Rattle.cfi_text.proofs.words.word_end.Given as goal
 
 -- no byte before this one passes
 abbrev pub invariant-loop-at : goal.invariant-loop-at

@@ -1,7 +1,7 @@
 use Rattle.std.proofs.Common.{rules}
-use Rattle.cfi_plan.specs.Words.{is_solid}
-use Rattle.cfi_plan.proofs.WordsLemmas.{first_place, no_place}
-use Rattle.cfi_plan.proofs.words.blanks.Goals as goal
+use Rattle.cfi_text.specs.Words.{is_solid}
+use Rattle.cfi_text.proofs.WordsLemmas.{first_place, no_place}
+use Rattle.cfi_text.proofs.words.blanks.Goals as goal
 
 pub returns-then-not-is_blank-clause-place : goal.returns-then-not-is_blank-clause-place
 returns-then-not-is_blank-clause-place c =

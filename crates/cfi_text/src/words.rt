@@ -1,6 +1,6 @@
 ghost use Rattle.std.specs.Prelude.{◌≡◌, ℕ, ◌+◌, ◌<◌, ◌≤◌, [], ◌∷◌, length, MatchOption, true, false, take, drop, not};
 ghost use Rattle.std.specs.List.{position_or_len};
-ghost use Rattle.rv_asm.specs.Words.{words_in, is_blank, is_solid, unblanked, first_word, after_word};
+ghost use Rattle.cfi_text.specs.Words.{words_in, is_blank, is_solid, unblanked, first_word, after_word};
 
 /// The first word, and what comes after it. `None` where no word is left.
 pub fn next_word(statement: &[u8]) -> Option<(&[u8], &[u8])>

@@ -6,7 +6,7 @@ use Rattle.std.proofs.lemmas.Str.{is_utf8-from_IsUtf8, IsUtf8-from_ascii}
 use Rattle.std.proofs.lemmas.Str.Ascii.{IsAscii-nil, IsAscii-cons}
 use Rattle.std.specs.List.{list_all}
 use Rattle.std.specs.Str.{IsAscii, is_utf8}
-use Rattle.cfi_plan.specs.Names.{is_name, is_name_byte}
+use Rattle.cfi_text.specs.Names.{is_name, is_name_byte}
 
 -- a byte of a name is of ASCII
 name_byte-lt : (byte : ℕ) → is_name_byte byte ≡ true → byte < 128

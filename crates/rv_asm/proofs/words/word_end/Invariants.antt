@@ -1,7 +1,0 @@
-use Rattle.std.proofs.Common.{◌≡◌, ℕ, ◌<◌, false, get_or}
-use Rattle.rv_asm.specs.Words.{is_blank}
-use Rattle.rv_asm.proofs.words.word_end.Given as goal
-
--- no byte before this one passes
-abbrev pub invariant-loop-at : goal.invariant-loop-at
-invariant-loop-at l = (k : ℕ) → k < l.at → is_blank (get_or l.statement k 0) ≡ false
