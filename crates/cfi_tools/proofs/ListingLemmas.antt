@@ -1,5 +1,5 @@
 -- The text of an object that was read: whole words, few enough to be listed.
-use Rattle.std.proofs.Common.{◌≡◌, ◌%◌, ◌*◌, ◌≤◌, ℕ, List, length, ap, ◌∙◌, arith}
+use Rattle.std.proofs.Common.{◌≡◌, ◌+◌, ◌%◌, ◌*◌, ◌≤◌, ℕ, List, length, ap, ◌∙◌, arith}
 use Rattle.elf_read.specs.Header.{section_count}
 use Rattle.elf_read.specs.Fault.{IsObject}
 use Rattle.elf_read.specs.declared.object.Object.{Object}

@@ -32,13 +32,13 @@ module _ (words : List (List ℕ)) (shelf shelf' : ShelfView) (sink sink' : Sink
   pub done_of : Ends words shelf shelf' sink sink' status → Fits words
   done_of (inl memory) = absurd (omega (arith, e, memory.0))
   done_of (inr (answers.Usage, is, inl d)) = absurd (omega (arith, e, d.0))
-  done_of (inr (answers.Ran part, is, inl d)) = (is.0, is.1.0)
-  done_of (inr (answers.Print text, is, inl d)) = (is.0, is.1.0)
-  done_of (inr (answers.Save name bytes, is, inl d)) = (is.0, is.1.0)
-  done_of (inr (answers.ReadFault name, is, inl d)) = (is.0, is.1.0)
-  done_of (inr (answers.Absent name, is, inl d)) = (is.0, is.1.0)
-  done_of (inr (answers.TooLong name, is, inl d)) = (is.0, is.1.0)
-  done_of (inr (answers.Refused name refusal, is, inl d)) = (is.0, is.1.0)
+  done_of (inr (answers.Ran part, is, inl d)) = (is.0, is.1)
+  done_of (inr (answers.Print text, is, inl d)) = (is.0, is.1)
+  done_of (inr (answers.Save name bytes, is, inl d)) = (is.0, is.1)
+  done_of (inr (answers.ReadFault name, is, inl d)) = (is.0, is.1)
+  done_of (inr (answers.Absent name, is, inl d)) = (is.0, is.1)
+  done_of (inr (answers.TooLong name, is, inl d)) = (is.0, is.1)
+  done_of (inr (answers.Refused name refusal, is, inl d)) = (is.0, is.1)
   done_of (inr (answer, is, inr d)) = absurd (omega (arith, e, d.0))
 
   -- the command that the words are was done
@@ -47,14 +47,14 @@ module _ (words : List (List ℕ)) (shelf shelf' : ShelfView) (sink sink' : Sink
   command_done command fits (inl memory) = absurd (omega (arith, e, memory.0))
   command_done command fits (inr (answers.Usage, is, inl d)) = absurd (omega (arith, e, d.0))
   command_done command fits (inr (answers.Ran part, is, inl d)) =
-      let same = worked_as words is.0 command shelf is.1.1.0 (answers.Ran part) is.1.0 fits is.1.1.1.0 is.1.1.1.1 in
-      record { answer = answers.Ran part; bytes = is.1.1.0; held = same.0; made = same.1; delivered = d.1 }
+      let same = worked_as words is.0 command shelf is.2.0 (answers.Ran part) is.1 fits is.2.1 is.2.2 in
+      record { answer = answers.Ran part; bytes = is.2.0; held = same.0; made = same.1; delivered = d.1 }
   command_done command fits (inr (answers.Print text, is, inl d)) =
-      let same = worked_as words is.0 command shelf is.1.1.0 (answers.Print text) is.1.0 fits is.1.1.1.0 is.1.1.1.1 in
-      record { answer = answers.Print text; bytes = is.1.1.0; held = same.0; made = same.1; delivered = d.1 }
+      let same = worked_as words is.0 command shelf is.2.0 (answers.Print text) is.1 fits is.2.1 is.2.2 in
+      record { answer = answers.Print text; bytes = is.2.0; held = same.0; made = same.1; delivered = d.1 }
   command_done command fits (inr (answers.Save name file, is, inl d)) =
-      let same = worked_as words is.0 command shelf is.1.1.0 (answers.Save name file) is.1.0 fits is.1.1.1.0 is.1.1.1.1 in
-      record { answer = answers.Save name file; bytes = is.1.1.0; held = same.0; made = same.1; delivered = d.1 }
+      let same = worked_as words is.0 command shelf is.2.0 (answers.Save name file) is.1 fits is.2.1 is.2.2 in
+      record { answer = answers.Save name file; bytes = is.2.0; held = same.0; made = same.1; delivered = d.1 }
   command_done command fits (inr (answers.ReadFault name, is, inl d)) = absurd (omega (arith, e, d.0))
   command_done command fits (inr (answers.Absent name, is, inl d)) = absurd (omega (arith, e, d.0))
   command_done command fits (inr (answers.TooLong name, is, inl d)) = absurd (omega (arith, e, d.0))

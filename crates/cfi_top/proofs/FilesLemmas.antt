@@ -41,20 +41,20 @@ module _ (words : List (List ℕ)) (sink sink' : SinkView) (status : ℕ) where
   valid_of told faults misses shelf' (inr (answers.Ran part, is, inl d)) v steady = inl d.0
   valid_of told faults misses shelf' (inr (answers.Print text, is, inl d)) v steady = inl d.0
   valid_of told faults misses shelf' (inr (answers.Save name file, is, inl d)) v steady = inl d.0
-  valid_of told faults misses shelf' (inr (answers.ReadFault name, is, inl d)) v steady = absurd (steady.read is.1.1.1)
-  valid_of told faults misses shelf' (inr (answers.Absent name, is, inl d)) v steady = absurd (steady.found is.1.1.1.0)
-  valid_of told faults misses shelf' (inr (answers.TooLong name, is, inl d)) v steady = absurd (steady.found is.1.1.1.0)
+  valid_of told faults misses shelf' (inr (answers.ReadFault name, is, inl d)) v steady = absurd (steady.read is.2.1)
+  valid_of told faults misses shelf' (inr (answers.Absent name, is, inl d)) v steady = absurd (steady.found is.2.1)
+  valid_of told faults misses shelf' (inr (answers.TooLong name, is, inl d)) v steady = absurd (steady.found is.2.1)
   valid_of told faults misses shelf' (inr (answers.Refused name refusal, is, inl d)) v steady =
-      absurd (refused_valid words told is.0 is.1.1.0 refusal v is.1.0 is.1.1.1.0 is.1.1.1.1.1)
-  valid_of told faults misses shelf' (inr (answers.Save name file, is, inr d)) v steady = absurd (steady.read d.1.1.0)
-  valid_of told faults misses shelf' (inr (answers.Usage, is, inr d)) v steady = absurd (steady.written d.1.1.0)
-  valid_of told faults misses shelf' (inr (answers.Ran part, is, inr d)) v steady = absurd (steady.written d.1.1.0)
-  valid_of told faults misses shelf' (inr (answers.Print text, is, inr d)) v steady = absurd (steady.written d.1.1.0)
-  valid_of told faults misses shelf' (inr (answers.ReadFault name, is, inr d)) v steady = absurd (steady.written d.1.1.0)
-  valid_of told faults misses shelf' (inr (answers.Absent name, is, inr d)) v steady = absurd (steady.written d.1.1.0)
-  valid_of told faults misses shelf' (inr (answers.TooLong name, is, inr d)) v steady = absurd (steady.written d.1.1.0)
+      absurd (refused_valid words told is.0 is.2.0 refusal v is.1 is.2.1 is.2.2.1)
+  valid_of told faults misses shelf' (inr (answers.Save name file, is, inr d)) v steady = absurd (steady.read d.1.1)
+  valid_of told faults misses shelf' (inr (answers.Usage, is, inr d)) v steady = absurd (steady.written d.1.1)
+  valid_of told faults misses shelf' (inr (answers.Ran part, is, inr d)) v steady = absurd (steady.written d.1.1)
+  valid_of told faults misses shelf' (inr (answers.Print text, is, inr d)) v steady = absurd (steady.written d.1.1)
+  valid_of told faults misses shelf' (inr (answers.ReadFault name, is, inr d)) v steady = absurd (steady.written d.1.1)
+  valid_of told faults misses shelf' (inr (answers.Absent name, is, inr d)) v steady = absurd (steady.written d.1.1)
+  valid_of told faults misses shelf' (inr (answers.TooLong name, is, inr d)) v steady = absurd (steady.written d.1.1)
   valid_of told faults misses shelf' (inr (answers.Refused name refusal, is, inr d)) v steady =
-      absurd (steady.written d.1.1.0)
+      absurd (steady.written d.1.1)
 
   -- the same, where the shelf may tell nothing
   pub valid_if : (files : Option Files) (faults misses : ℕ) (shelf' : ShelfView)
@@ -66,7 +66,7 @@ module _ (words : List (List ℕ)) (sink sink' : SinkView) (status : ℕ) where
 
 module _ (words : List (List ℕ)) (shelf shelf' : ShelfView) (sink sink' : SinkView) (status : ℕ) where
   -- names that no command saves
-  Stay : Type 0
+  abbrev pub Stay : Type 0
   Stay = WhereKeptTold shelf.files shelf'.files (λ told told'.
       (name : List ℕ) → ¬ IsSavedBy words name → told' name ≡ told name)
 
@@ -89,7 +89,7 @@ module _ (words : List (List ℕ)) (shelf shelf' : ShelfView) (sink sink' : Sink
   broken_stays : (answer : Answer) → IsAnswer words shelf shelf' answer
       → IsBroken (output_of answer) shelf shelf' sink sink' → Stay
   broken_stays (answers.Save name file) is broken =
-      kept_part shelf.files shelf'.files _ name file (apart name (saves_of words shelf shelf' name file is)) broken.1.1
+      kept_part shelf.files shelf'.files _ name file (apart name (saves_of words shelf shelf' name file is)) broken.2
   broken_stays answers.Usage is broken = kept_same shelf.files shelf'.files _ broken.0
   broken_stays (answers.Ran part) is broken = kept_same shelf.files shelf'.files _ broken.0
   broken_stays (answers.Print text) is broken = kept_same shelf.files shelf'.files _ broken.0
@@ -99,12 +99,12 @@ module _ (words : List (List ℕ)) (shelf shelf' : ShelfView) (sink sink' : Sink
   broken_stays (answers.Refused name refusal) is broken = kept_same shelf.files shelf'.files _ broken.0
 
   pub elsewhere_of : Ends words shelf shelf' sink sink' status → Stay
-  elsewhere_of (inl memory) = kept_same shelf.files shelf'.files _ memory.1.0
+  elsewhere_of (inl memory) = kept_same shelf.files shelf'.files _ memory.1
   elsewhere_of (inr (answer, is, inl d)) = whole_stays answer is d.1
   elsewhere_of (inr (answer, is, inr d)) = broken_stays answer is d.1
 
   -- the files are the same, or one was saved, whole or in part
-  Keeps : Type 0
+  abbrev pub Keeps : Type 0
   Keeps = (shelf'.files ≡ shelf.files) ⊎ (Saves words
       × ((status ≡ DONE) ⊎ ((status ≡ WRITE_FAULT) × Rose shelf.faults shelf'.faults)))
 
@@ -122,7 +122,7 @@ module _ (words : List (List ℕ)) (shelf shelf' : ShelfView) (sink sink' : Sink
   broken_keeps : (answer : Answer) → IsAnswer words shelf shelf' answer → status ≡ WRITE_FAULT
       → IsBroken (output_of answer) shelf shelf' sink sink' → Keeps
   broken_keeps (answers.Save name file) is e broken =
-      inr ((name, saves_of words shelf shelf' name file is), inr (e, broken.1.0))
+      inr ((name, saves_of words shelf shelf' name file is), inr (e, broken.1))
   broken_keeps answers.Usage is e broken = inl broken.0
   broken_keeps (answers.Ran part) is e broken = inl broken.0
   broken_keeps (answers.Print text) is e broken = inl broken.0
@@ -132,7 +132,7 @@ module _ (words : List (List ℕ)) (shelf shelf' : ShelfView) (sink sink' : Sink
   broken_keeps (answers.Refused name refusal) is e broken = inl broken.0
 
   pub same_of : Ends words shelf shelf' sink sink' status → Keeps
-  same_of (inl memory) = inl memory.1.0
+  same_of (inl memory) = inl memory.1
   same_of (inr (answer, is, inl d)) = whole_keeps answer is d.0 d.1
   same_of (inr (answer, is, inr d)) = broken_keeps answer is d.0 d.1
 

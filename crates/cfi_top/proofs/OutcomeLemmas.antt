@@ -13,6 +13,7 @@ use Rattle.cfi_top.specs.declared.command.Command.TheVariants as commands
 use Rattle.cfi_top.specs.declared.answer.Answer.{Answer}
 use Rattle.cfi_top.specs.declared.answer.Answer.TheVariants as answers
 use Rattle.cfi_top.specs.Command.{saved_name}
+use Rattle.cfi_top.specs.declared.answer.Output.{Output}
 use Rattle.cfi_top.specs.Answer.{output_of}
 use Rattle.cfi_top.specs.Outside.{ShelfView, SinkView, IsStarved, IsDelivered}
 use Rattle.cfi_top.specs.Outcome.{IsMade, Refuses, Takes, IsAnswer}
@@ -28,11 +29,11 @@ answer_later words shelf mid shelf' (answers.Ran part) a b c d is = is
 answer_later words shelf mid shelf' (answers.Print text) a b c d is = is
 answer_later words shelf mid shelf' (answers.Save name bytes) a b c d is = is
 answer_later words shelf mid shelf' (answers.ReadFault name) a b c d is =
-    (is.0, is.1.0, is.1.1.0, rose_later _ _ _ a b is.1.1.1)
+    (is.0, is.1, (is.2.0, rose_later _ _ _ a b is.2.1))
 answer_later words shelf mid shelf' (answers.Absent name) a b c d is =
-    (is.0, is.1.0, is.1.1.0, rose_later _ _ _ c d is.1.1.1.0, is.1.1.1.1)
+    (is.0, is.1, (is.2.0, rose_later _ _ _ c d is.2.1, is.2.2))
 answer_later words shelf mid shelf' (answers.TooLong name) a b c d is =
-    (is.0, is.1.0, is.1.1.0, rose_later _ _ _ c d is.1.1.1.0, is.1.1.1.1)
+    (is.0, is.1, (is.2.0, rose_later _ _ _ c d is.2.1, is.2.2))
 answer_later words shelf mid shelf' (answers.Refused name refusal) a b c d is = is
 
 -- bytes that a command takes are not refused
@@ -72,11 +73,16 @@ exceeded (Some told) name input same long =
 
 -- an answer that was delivered ends the program
 pub ends_of : (words : List (List ℕ)) (shelf mid shelf' : ShelfView) (sink sink' : SinkView) (status : ℕ) (answer : Answer)
-    → IsLater shelf mid → mid.faults ≤ shelf'.faults → mid.misses ≤ shelf'.misses → IsAnswer words shelf mid answer
-    → IsStarved mid shelf' sink sink' status ⊎ IsDelivered (output_of answer) mid shelf' sink sink' status
+    → (output : Output) → output ≡ output_of answer → IsLater shelf mid → mid.faults ≤ shelf'.faults
+    → mid.misses ≤ shelf'.misses → IsAnswer words shelf mid answer
+    → IsStarved mid shelf' sink sink' status ⊎ IsDelivered output mid shelf' sink sink' status
     → Ends words shelf shelf' sink sink' status
-ends_of words shelf mid shelf' sink sink' status answer later faults misses is (inl memory) =
-    inl (memory.0, memory.1.0 ∙ later.files, memory.1.1)
-ends_of words shelf mid shelf' sink sink' status answer later faults misses is (inr delivered) =
-    inr (answer, answer_later words shelf mid shelf' answer later.faults faults later.misses misses is,
-    delivered_since (output_of answer) shelf mid shelf' sink sink' status later delivered)
+ends_of words shelf mid shelf' sink sink' status answer output same later faults misses is (inl memory) =
+    inl (memory.0, memory.1 ∙ later.files, memory.2)
+ends_of words shelf mid shelf' sink sink' status answer output same later faults misses is (inr delivered) =
+    let said = subst (λ (o : Output). IsDelivered o mid shelf' sink sink' status) same delivered in
+    inr (
+      answer,
+      answer_later words shelf mid shelf' answer later.faults faults later.misses misses is,
+      delivered_since (output_of answer) shelf mid shelf' sink sink' status later said,
+    )

@@ -32,10 +32,12 @@ whole_since (outputs.Save name bytes) shelf mid shelf' sink sink' later is =
 
 broken_since : (output : Output) (shelf mid shelf' : ShelfView) (sink sink' : SinkView) → IsLater shelf mid
     → IsBroken output mid shelf' sink sink' → IsBroken output shelf shelf' sink sink'
-broken_since (outputs.Print status text) shelf mid shelf' sink sink' later is = (is.0 ∙ later.files, is.1)
-broken_since (outputs.Save name bytes) shelf mid shelf' sink sink' later is =
-    (is.0, rose_earlier _ _ _ later.faults is.1.0,
-    subst (λ (files : Option Files). WhereKeptTold files shelf'.files (PutsPart name bytes)) later.files is.1.1)
+broken_since (outputs.Print status text) shelf mid shelf' sink sink' later is = (is.0 ∙ later.files, is.1, is.2)
+broken_since (outputs.Save name bytes) shelf mid shelf' sink sink' later is = (
+  is.0,
+  rose_earlier _ _ _ later.faults is.1,
+  subst (λ (files : Option Files). WhereKeptTold files shelf'.files (PutsPart name bytes)) later.files is.2,
+)
 
 pub delivered_since : (output : Output) (shelf mid shelf' : ShelfView) (sink sink' : SinkView) (status : ℕ)
     → IsLater shelf mid → IsDelivered output mid shelf' sink sink' status

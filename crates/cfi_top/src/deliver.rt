@@ -6,8 +6,7 @@ use cfi_io::{Shelf, ShelfFault, Sink, SinkFault};
 
 /// Hands an output to the sink or the shelf, and answers the status that the program ends with.
 pub fn deliver<F: Shelf, S: Sink>(shelf: &mut F, sink: &mut S, output: &Output) -> u8
-    ensures delivered {
-        let shelf_old = shelf_view (F.files shelf.old) (F.faults shelf.old) (F.misses shelf.old) in
+    ensures delivered { let shelf_old = shelf_view (F.files shelf.old) (F.faults shelf.old) (F.misses shelf.old) in
         let shelf_new = shelf_view (F.files shelf.new) (F.faults shelf.new) (F.misses shelf.new) in
         let sink_old = sink_view (S.written sink.old) (S.faults sink.old) in
         let sink_new = sink_view (S.written sink.new) (S.faults sink.new) in

@@ -1,8 +1,8 @@
 ghost use Rattle.std.specs.Prelude.{◌≡◌, IfOk, codes};
 ghost use Rattle.cfi_top.specs.Text.{bare_module, bare_report, report_text};
 
-use cfi_model::{BASE, DATA};
 use cfi_list::Items;
+use cfi_model::{BASE, DATA};
 use cfi_plan::{ModuleLine, Text};
 use cfi_report::{GuestPart, Report, write_report};
 use std::alloc::{AllocError, Global};

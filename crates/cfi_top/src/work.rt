@@ -31,12 +31,7 @@ fn list(alloc: Global, input: Text, bytes: &[u8]) -> Result<Answer, AllocError>
 }
 
 // Runs a bare file.
-fn run<G: Gate>(
-    alloc: Global,
-    input: Text,
-    bytes: &[u8],
-    gate: &G,
-) -> Result<Answer, AllocError>
+fn run<G: Gate>(alloc: Global, input: Text, bytes: &[u8], gate: &G) -> Result<Answer, AllocError>
     ensures { IfOk result (IsWorked (commands.Run input) bytes.now) }
 {
     match accept(alloc, bytes)? {
