@@ -3,8 +3,8 @@
 ghost use Rattle.std.specs.Prelude.{◌≡◌, ◌<◌, ◌^◌, All, IfOk};
 ghost use Rattle.cfi_aux.specs.Placed.{names_function, is_global, is_export, address_of, exports_of};
 
-use cfi_list::Items;
 use crate::records::{Function, Kind};
+use cfi_list::Items;
 use cfi_types::TypeTable;
 use elf_read::{Binding, Bytes, Name, Place, Symbol, Symbols};
 use std::alloc::{AllocError, Global};

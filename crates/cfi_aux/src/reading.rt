@@ -10,9 +10,9 @@ use crate::branch::branches_from;
 use crate::fault::AuxFault;
 use crate::format::{MAX_BRANCHES, MAX_FUNCTIONS};
 use crate::function::functions_from;
-use cfi_list::Items;
 use crate::records::Records;
 use crate::word::{after_version, count_from};
+use cfi_list::Items;
 use cfi_types::TypeTable;
 use std::alloc::Global;
 

@@ -18,11 +18,12 @@ use Rattle.cfi_model.specs.Run.{Take, Word, Served, take_one, run_of, serve_of, 
 use Rattle.cfi_model.specs.History.{History, IsStart, fixed}
 use Rattle.cfi_model.specs.Fits.{Fits, FitsReply, FitsOpen, Along}
 use Rattle.cfi_model.proofs.AdvanceLemmas.{Running}
+use Rattle.cfi_model.proofs.ShownLemmas.{reached}
 use Rattle.cfi_fixed.specs.declared.serve.TheConstants.{NO_MODULE, NO_FUNCTION}
 use Rattle.cfi_fixed.specs.Fixed.{IsWordTake, IsRunOver, CanRunOver, HasRunOver}
 use Rattle.cfi_fixed.specs.Bare.{bare_cause, bare_reply, AreBareTakes, IsBarePath, IsResting, IsAsking, ComesTo}
 use Rattle.cfi_fixed.proofs.WayLemmas.{run_snoc, along_snoc}
-use Rattle.cfi_fixed.proofs.PathLemmas.{running_after, serves}
+use Rattle.cfi_fixed.proofs.PathLemmas.{serves}
 
 -- a guest that is opened at a start can run
 pub opened_can : (image : Image) → IsSize (length image.code) → IsClosed (length image.code) image
@@ -165,12 +166,13 @@ module _ (image : Image) (fuel : ℕ) (start : Raw) (from : CanRunOver image fue
       let path = asking.path in
       let reply : Reply = bare_reply r.base in
       let history = known image fuel start from in
-      let there = running_after h code history path.takes start.base 0 start
+      let there = reached h code history path.takes start.base 0 start
       (inl (from.ready, between image fuel start from)) path.along in
-      let running : Running h code there.0 there.1 r = subst (Running h code there.0 there.1) (sym path.is) there.2 in
+      let running : Running h code there.new there.settled r =
+      subst (Running h code there.new there.settled) (sym path.is) there.running in
       let fits : Fits h code r (Served reply) =
       subst (λ w. FitsReply w r reply) (sym asking.waiting) (λ is. bare_fits r.base) in
-      let e = serves h code there.0 there.1 r running number asking.waiting reply fits in
+      let e = serves h code there.new there.settled r running number asking.waiting reply fits in
       let base = e.between.base in
       let still = λ (going : (serve_of r reply).base.stop ≡ None). sym (ap (λ b. b.stop) base) ∙ going in
       record {

@@ -13,6 +13,7 @@ use Rattle.cfi_word.proofs.WordLemmas.{policy_in-packed, epoch_in-packed}
 use Rattle.cfi_model.specs.declared.act.Act.TheVariants as acts
 use Rattle.cfi_model.specs.declared.act.Wait.{Wait}
 use Rattle.cfi_model.specs.declared.act.Wait.TheVariants as waits
+use Rattle.cfi_model.specs.State.{State}
 use Rattle.cfi_model.specs.Raw.{Raw}
 use Rattle.cfi_model.specs.Begin.{HasStepBy, begin_as, begin_by, begin_of, act_by, act_of}
 use Rattle.cfi_model.specs.Run.{Word, take_word, take_one, run_of, finish_as, finish_of}
@@ -185,10 +186,11 @@ module _ (image : Image) (fuel : ℕ) (old : Raw) (can : CanRunOver image fuel o
       record { over = begun.over; idle = tells.0; going = tells.1; low = begun.low }
 
   -- what was run shows the policy machine
-  shown : (now : Raw) → IsRunOver image old now → IsShown h code 0 old.base now
+  shown : (now : Raw) (over : IsRunOver image old now)
+      → (state : State) × IsShown h code 0 old.base old over.takes 0 state
   shown now over =
-      subst (IsShown h code 0 old.base) (sym over.is)
-      (raw_shows h code known old.base can.ready 0 old between over.takes over.along)
+      let all = raw_shows h code known old.base can.ready 0 old between over.takes over.along in
+      (all.1, subst (λ n. IsShown h code 0 old.base old over.takes n all.1) (all.2.single refl) all.2)
 
   -- the guest asks for a service
   pub asks : (now : Raw) (word : ℕ) → HasBegun image old now word → (number : ℕ)
@@ -227,8 +229,7 @@ module _ (image : Image) (fuel : ℕ) (old : Raw) (can : CanRunOver image fuel o
   }
 
   pub halts : (now : Raw) (word : ℕ) → HasBegun image old now word → (target : ℕ)
-      → act_of now word ≡ acts.Halt target
-      → now.base.steps < fuel → HasRunOver image fuel old (begin_of now word) None
+      → act_of now word ≡ acts.Halt target → now.base.steps < fuel → HasRunOver image fuel old (begin_of now word) None
   halts now word begun target halted below =
       let tells : Tells (acts.Halt target) (begin_of now word) =
       subst (λ a. Tells a (begin_of now word)) halted begun.tells in
@@ -277,8 +278,7 @@ module _ (image : Image) (fuel : ℕ) (old : Raw) (can : CanRunOver image fuel o
         shows = shown old over;
       }
 
-  pub had_ended : (o : Option Stop) → o ≡ old.base.stop → true ≡ is_some o
-      → HasRunOver image fuel old old None
+  pub had_ended : (o : Option Stop) → o ≡ old.base.stop → true ≡ is_some o → HasRunOver image fuel old old None
   had_ended None same some = absurd (cc)
   had_ended (Some stop) same some = had_stopped stop (sym same)
 

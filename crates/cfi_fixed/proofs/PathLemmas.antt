@@ -1,5 +1,5 @@
 -- A guest that asks for a service stands at the end of a service unit, and its answer ends the unit.
-use Rattle.std.proofs.Common.{◌≡◌, ℕ, ◌+◌, Option, Some, None, List, [], ◌∷◌, sym, ap, subst, ◌∙◌, inl, inr}
+use Rattle.std.proofs.Common.{◌≡◌, ℕ, ◌+◌, Option, Some, None, List, sym, ap, subst, ◌∙◌, inl, inr}
 use Rattle.cfi_unit.specs.declared.unit.Unit.{Unit as CodeUnit}
 use Rattle.cfi_unit.specs.declared.unit.Unit.TheVariants as units
 use Rattle.cfi_model.specs.declared.act.Wait.{Wait}
@@ -7,13 +7,13 @@ use Rattle.cfi_model.specs.declared.act.Wait.TheVariants as waits
 use Rattle.cfi_model.specs.State.{State}
 use Rattle.cfi_model.specs.Raw.{Raw}
 use Rattle.cfi_model.specs.Service.{Reply}
-use Rattle.cfi_model.specs.Run.{Take, Served, take_one, run_of}
-use Rattle.cfi_model.specs.History.{History, IsHistory}
-use Rattle.cfi_model.specs.Fits.{Fits, Along}
+use Rattle.cfi_model.specs.Run.{Served, take_one}
+use Rattle.cfi_model.specs.History.{History}
+use Rattle.cfi_model.specs.Fits.{Fits}
 use Rattle.cfi_model.proofs.MaskedLemmas as masked
 use Rattle.cfi_model.proofs.CheckPlaces as check
 use Rattle.cfi_model.proofs.LawLemmas.{Ended, Begun, At}
-use Rattle.cfi_model.proofs.AdvanceLemmas.{Running, advance, next_access}
+use Rattle.cfi_model.proofs.AdvanceLemmas.{Running, next_access}
 
 -- the wait of a raw state
 abbrev IsService : Option Wait → Type 0
@@ -53,7 +53,7 @@ check_waits p n slot target v check.Allowed is = is
 serve_within : (h : History) (code : List ℕ) (p : State) (n : ℕ) (unit : CodeUnit) → At h code p unit
     → (r : Raw)
     → Begun h p unit n r → IsService r.waits → (reply : Reply) → Fits h code r (Served reply)
-    → Ended h code n p (take_one r (Served reply))
+    → Ended h code n r.tary p (take_one r (Served reply))
 serve_within h code p n (units.Plain insn) at r begun is reply fits = absurd begun
 serve_within h code p n (units.Branch c rs1 rs2 off) at r begun is reply fits = absurd begun
 serve_within h code p n (units.Jump link off) at r begun is reply fits = absurd begun
@@ -71,22 +71,10 @@ serve_within h code p n units.Service at r begun is reply fits =
       | inr ended ↦ ended
     ]
 
--- the machine after any accesses
-pub running_after : (h : History) (code : List ℕ) → IsHistory h code → (takes : List Take) (p : State)
-    (n : ℕ) (r : Raw)
-    → Running h code p n r → Along h code r takes
-    → (new : State) × (settled : ℕ) × Running h code new settled (run_of r takes)
-running_after h code known [] p n r running along = (p, n, running)
-running_after h code known (t ∷ takes) p n r running along =
-    elim (advance h code p n known r running t along.0) [
-      | inl within ↦ running_after h code known takes p n (take_one r t) (inr within) along.1
-      | inr e ↦ running_after h code known takes e.new (n + e.more) (take_one r t) (inl (e.ready, e.between)) along.1
-    ]
-
 -- a running machine that waits in a service stands in its unit
 pub serves : (h : History) (code : List ℕ) (p : State) (n : ℕ) (r : Raw) → Running h code p n r → (number : ℕ)
     → r.waits ≡ Some (waits.Service number) → (reply : Reply) → Fits h code r (Served reply)
-    → Ended h code n p (take_one r (Served reply))
+    → Ended h code n r.tary p (take_one r (Served reply))
 serves h code p n r (inl rests) number is reply fits =
     absurd (subst IsService (sym is ∙ rests.1.idle) tt)
 serves h code p n r (inr within) number is reply fits =

@@ -11,6 +11,7 @@ use Rattle.cfi_model.specs.declared.act.Wait.{Wait}
 use Rattle.cfi_model.specs.declared.act.Wait.TheVariants as waits
 use Rattle.cfi_model.specs.Closed.{IsClosed}
 use Rattle.cfi_model.specs.Log.{last_policy}
+use Rattle.cfi_model.specs.State.{State}
 use Rattle.cfi_model.specs.Raw.{Raw}
 use Rattle.cfi_model.specs.Run.{Take, Word, Served, run_of}
 use Rattle.cfi_model.specs.History.{fixed}
@@ -61,7 +62,7 @@ pub record HasRunOver (image : Image) (fuel : ℕ) (old new : Raw) (asked : Opti
   pub moves : asked ≢ None → old.base.steps < new.base.steps
   pub fuel_is : old.base.stop ≡ None → new.base.stop ≡ Some Fuel → new.base.steps ≡ fuel
   pub unlogged : last_policy new.base.log ≡ 0
-  pub shows : IsShown (fixed image) image.code 0 old.base last
+  pub shows : (state : State) × IsShown (fixed image) image.code 0 old.base old over.takes 0 state
 
 -- the class of the place whose word a guest waits for
 abbrev pub awaited_class : Image → Option Wait → ℕ

@@ -23,8 +23,8 @@ use Rattle.cfi_model.proofs.SingleLemmas.{plain_ends, branch_ends, jump_ends, se
 use Rattle.cfi_model.proofs.LawLemmas.{Ended, Begun, At, target_starts, ends_as, plainly}
 
 -- after an access: within the unit, or past it
-abbrev pub Next : History → (code : List ℕ) → (retries : ℕ) → State → CodeUnit → Raw → Type 0
-Next h code retries p unit r = Begun h p unit retries r ⊎ Ended h code retries p r
+abbrev pub Next : History → (code : List ℕ) → (retries : ℕ) → State → CodeUnit → (old new : Raw) → Type 0
+Next h code retries p unit old new = Begun h p unit retries new ⊎ Ended h code retries old.tary p new
 
 -- an answer fits the policy state where it fits the raw one
 fits_open : (reply : Reply) (p : State) (pc units steps : ℕ)
@@ -43,25 +43,25 @@ module _ (h : History) (code : List ℕ) (p : State) (retries : ℕ) where
   -- the first access of a unit
   pub first_access : (unit : CodeUnit) → At h code p unit → (x28 x29 x30 x31 : ℕ) (r : Raw)
       → r ≡ start_raw p retries x28 x29 x30 x31 → (t : Take) → Fits h code r t
-      → Next h code retries p unit (take_one r t)
+      → Next h code retries p unit r (take_one r t)
   first_access (units.Plain insn) at x28 x29 x30 x31 r is t fits =
       let unit : CodeUnit = units.Plain insn in
       let new = first_walks h code p unit at.here (insn ∷ []) refl (omega arith) retries x28 x29 x30 x31 r is t fits in
-      inr (plainly h code retries p unit at too_many tt tt tt (take_one r t)
+      inr (plainly h code retries p unit at r.tary tt too_many tt tt tt (take_one r t)
       (subst (IsBetween retries (effect unit (h.policy at.epoch) (allows_at h at.epoch) too_many p)) (sym new)
       (plain_ends p retries x28 x29 x30 x31 at.here.going (h.policy at.epoch) (allows_at h at.epoch) too_many insn
       at.here.stands.begins.fits)))
   first_access (units.Branch c rs1 rs2 off) at x28 x29 x30 x31 r is t fits =
       let unit : CodeUnit = units.Branch c rs1 rs2 off in
       let new = first_walks h code p unit at.here _ refl (omega arith) retries x28 x29 x30 x31 r is t fits in
-      inr (plainly h code retries p unit at too_many tt tt tt (take_one r t)
+      inr (plainly h code retries p unit at r.tary tt too_many tt tt tt (take_one r t)
       (subst (IsBetween retries (effect unit (h.policy at.epoch) (allows_at h at.epoch) too_many p)) (sym new)
       (branch_ends p retries x28 x29 x30 x31 at.here.going (h.policy at.epoch) (allows_at h at.epoch) too_many c rs1 rs2
       off at.here.stands.begins.fits.0 at.here.stands.begins.fits.1)))
   first_access (units.Jump link off) at x28 x29 x30 x31 r is t fits =
       let unit : CodeUnit = units.Jump link off in
       let new = first_walks h code p unit at.here _ refl (omega arith) retries x28 x29 x30 x31 r is t fits in
-      inr (plainly h code retries p unit at too_many tt tt tt (take_one r t)
+      inr (plainly h code retries p unit at r.tary tt too_many tt tt tt (take_one r t)
       (subst (IsBetween retries (effect unit (h.policy at.epoch) (allows_at h at.epoch) too_many p)) (sym new)
       (jump_ends p retries x28 x29 x30 x31 at.here.going (h.policy at.epoch) (allows_at h at.epoch) too_many link off)))
   first_access (units.Load kind rd rs1 imm) at x28 x29 x30 x31 r is t fits =
@@ -91,7 +91,7 @@ module _ (h : History) (code : List ℕ) (p : State) (retries : ℕ) where
 
   -- each further access of a unit
   pub next_access : (unit : CodeUnit) → At h code p unit → (r : Raw) → Begun h p unit retries r
-      → (t : Take) → Fits h code r t → Next h code retries p unit (take_one r t)
+      → (t : Take) → Fits h code r t → Next h code retries p unit r (take_one r t)
   next_access (units.Plain insn) at r begun t fits = absurd begun
   next_access (units.Branch c rs1 rs2 off) at r begun t fits = absurd begun
   next_access (units.Jump link off) at r begun t fits = absurd begun
@@ -102,7 +102,7 @@ module _ (h : History) (code : List ℕ) (p : State) (retries : ℕ) where
       begun.is t fits) [
         | inl next ↦ inl next
         | inr new ↦
-            inr (plainly h code retries p unit at too_many tt tt tt (take_one r t)
+            inr (plainly h code retries p unit at r.tary tt too_many tt tt tt (take_one r t)
             (subst (IsBetween retries (effect unit (h.policy at.epoch) (allows_at h at.epoch) too_many p)) (sym new)
             (load_ends p retries begun.x28 begun.x29 begun.x30 kind rd rs1 imm (h.policy at.epoch)
             (allows_at h at.epoch) too_many at.here.stands.begins.fits.0 (omega arith) at.here.going)))
@@ -114,7 +114,7 @@ module _ (h : History) (code : List ℕ) (p : State) (retries : ℕ) where
       begun.is t fits) [
         | inl next ↦ inl next
         | inr new ↦
-            inr (plainly h code retries p unit at too_many tt tt tt (take_one r t)
+            inr (plainly h code retries p unit at r.tary tt too_many tt tt tt (take_one r t)
             (subst (IsBetween retries (effect unit (h.policy at.epoch) (allows_at h at.epoch) too_many p)) (sym new)
             (store_ends p retries begun.x28 begun.x29 begun.x30 kind rs1 rs2 imm (h.policy at.epoch)
             (allows_at h at.epoch) too_many at.here.stands.begins.fits.1 (omega arith) at.here.going)))
@@ -126,7 +126,7 @@ module _ (h : History) (code : List ℕ) (p : State) (retries : ℕ) where
       r begun.is begun.holds t fits) [
         | inl next ↦ inl next
         | inr e ↦
-            inr (ends_as h code retries e.more p unit at e.epoch e.known too_many tt e.rises
+            inr (ends_as h code retries e.more p unit at e.epoch e.known r.tary e.under too_many tt e.rises
             (target_starts h code at.here.known e.epoch slot target e.known
             (slot_within at.here.known at.epoch e.epoch slot at.is e.known at.inside.1))
             e.two
@@ -138,7 +138,7 @@ module _ (h : History) (code : List ℕ) (p : State) (retries : ℕ) where
       let given : asked p ≡ OPEN → FitsOpen reply (service_raw p retries begun.x28 begun.x29 begun.x30 begun.x31).base =
       subst (λ x. Fits h code x (Served reply)) begun.is fits in
       let new = ap (λ x. take_one x (Served reply)) begun.is in
-      inr (plainly h code retries p units.Service at reply (λ is. fits_open reply p _ _ _ (given is)) tt tt
+      inr (plainly h code retries p units.Service at r.tary tt reply (λ is. fits_open reply p _ _ _ (given is)) tt tt
       (take_one r (Served reply))
       (subst (IsBetween retries (effect units.Service (h.policy at.epoch) (allows_at h at.epoch) reply p)) (sym new)
       (serve_ends p retries begun.x28 begun.x29 begun.x30 begun.x31 (h.policy at.epoch) (allows_at h at.epoch) reply)))
@@ -199,7 +199,7 @@ module _ (h : History) (code : List ℕ) (p : State) (retries : ℕ) where
   -- one access of a running machine
   pub advance : IsHistory h code → (r : Raw) → Running r → (t : Take) → Fits h code r t
       → ((unit : CodeUnit) × At h code p unit × Begun h p unit retries (take_one r t))
-      ⊎ Ended h code retries p (take_one r t)
+      ⊎ Ended h code retries r.tary p (take_one r t)
   advance known r (inl rests) t fits =
       let going = goes_on r rests.1 t fits in
       let at = at_start known rests.0 going in

@@ -1,5 +1,5 @@
 -- What is said of a check that has ended.
-use Rattle.std.proofs.Common.{◌≡◌, ◌≢◌, ℕ, ◌+◌, ◌%◌, ◌^◌, ◌<◌, ◌≤◌, ℤ, List, subst, arith, Bool, true}
+use Rattle.std.proofs.Common.{◌≡◌, ◌≢◌, ℕ, ◌+◌, ◌%◌, ◌^◌, ◌<◌, ◌≤◌, ℤ, List, Option, Some, ap, ◌∙◌, subst, arith, Bool, true}
 use Rattle.std.proofs.lemmas.Bool.Decides.{nat_tests}
 use Rattle.cfi_unit.specs.declared.unit.Unit.TheVariants as units
 use Rattle.cfi_word.specs.Word.{policy_in}
@@ -26,11 +26,12 @@ whole_in_code target low whole = grind (arith, nat_tests)
 module _ (h : History) (code : List ℕ) (p : State) (link : Bool) (rs1 : ℕ) (imm : ℤ) (slot : ℕ)
     (here : Here h code p (units.Check link rs1 imm slot)) (retries : ℕ) where
   -- a check has ended that picks a policy
-  pub judged : (more : ℕ) → HasTwo h more → (to bary tary : ℕ) (tried : IsTried h p slot to bary tary) (r : Raw)
+  pub judged : (more : ℕ) → HasTwo h more → (to bary tary : ℕ) (tried : IsTried h p slot to bary tary)
+      → (kept : Option ℕ) → kept ≡ Some tary → (r : Raw)
       → IsBetween (retries + more)
       (checked (policy_in tary) (allows_at h tried.words.goal.epoch slot to) link to p) r
-      → CheckEnded h p retries slot to link r
-  judged more two to bary tary tried r ends =
+      → CheckEnded h p retries slot to link kept r
+  judged more two to bary tary tried kept is r ends =
       let word = tary_parts h code slot to bary tary here.known tried.words in
       let epoch : ℕ = tried.words.goal.epoch in
       record {
@@ -38,6 +39,7 @@ module _ (h : History) (code : List ℕ) (p : State) (link : Bool) (rs1 : ℕ) (
         two = two;
         epoch = epoch;
         known = tried.words.goal.known;
+        under = λ inside. is ∙ ap Some tried.words.goal.is;
         ends = subst (λ pick. IsBetween (retries + more) (checked pick (allows_at h epoch slot to) link to p) r)
             word.policy ends;
         logged = λ again. whole_in_code to tried.low tried.whole;
@@ -51,15 +53,17 @@ module _ (h : History) (code : List ℕ) (p : State) (link : Bool) (rs1 : ℕ) (
       checked (h.policy start.epoch) (allows_at h start.epoch slot to) link to p
 
   -- a check has ended that picks none
-  pub unpicked : (more : ℕ) → HasTwo h more → (to : ℕ) → (is_in_code to ≡ true → ⊥) → (more ≢ 0 → ⊥) → (r : Raw)
-      → IsBetween (retries + more) (unpicked_state to) r → CheckEnded h p retries slot to link r
-  unpicked more two to outside once r ends =
+  pub unpicked : (more : ℕ) → HasTwo h more → (to : ℕ) → (is_in_code to ≡ true → ⊥) → (more ≢ 0 → ⊥)
+      → (kept : Option ℕ) (r : Raw) → IsBetween (retries + more) (unpicked_state to) r
+      → CheckEnded h p retries slot to link kept r
+  unpicked more two to outside once kept r ends =
       let start = here.ready.start here.going in
       record {
         more = more;
         two = two;
         epoch = start.epoch;
         known = start.known;
+        under = λ inside. absurd (outside inside);
         ends = ends;
         logged = λ again. absurd (once again);
         rises = λ inside. absurd (outside inside);

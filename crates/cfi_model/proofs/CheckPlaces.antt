@@ -6,7 +6,7 @@ use Rattle.cfi_model.specs.declared.act.Wait.TheVariants as waits
 use Rattle.cfi_model.specs.Log.{last_policy}
 use Rattle.cfi_model.specs.State.{State}
 use Rattle.cfi_model.specs.Raw.{Raw}
-use Rattle.cfi_model.specs.History.{History, IsEpoch, IsTableWord, slot_class, allows_at}
+use Rattle.cfi_model.specs.History.{History, IsEpoch, IsTableWord, slot_class, target_class, word_of, allows_at}
 use Rattle.cfi_model.specs.Shows.{IsBetween}
 use Rattle.cfi_model.specs.Effect.{checked, is_in_code}
 use Rattle.cfi_model.proofs.InnerLemmas.{inner}
@@ -134,12 +134,14 @@ pub record CheckAt (h : History) (p : State) (retries slot target : ℕ) (r : Ra
   pub is : r ≡ check_raw p (retries + more) slot target values place
   pub holds : CheckHolds h p more slot target values place
 
--- a check has ended, under the policy of an epoch
-pub record CheckEnded (h : History) (p : State) (retries slot target : ℕ) (link : Bool) (r : Raw) : Type 0 where
+-- a check has ended, under the policy of an epoch, that of the kept Tary word
+pub record CheckEnded (h : History) (p : State) (retries slot target : ℕ) (link : Bool) (kept : Option ℕ) (r : Raw)
+    : Type 0 where
   pub more : ℕ
   pub two : HasTwo h more
   pub epoch : ℕ
   pub known : IsEpoch h epoch
+  pub under : is_in_code target ≡ true → kept ≡ Some (word_of h epoch (target_class h epoch target))
   pub ends : IsBetween (retries + more) (checked (h.policy epoch) (allows_at h epoch slot target) link target p) r
   pub logged : more ≢ 0 → is_in_code target ≡ true
   pub rises : is_in_code target ≡ true → last_policy p.log ≤ h.policy epoch

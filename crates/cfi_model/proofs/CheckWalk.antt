@@ -55,7 +55,7 @@ module _ (h : History) (code : List ℕ) (p : State) (link : Bool) (rs1 : ℕ) (
   pub check_goes_on : (more : ℕ) → HasTwo h more → (v : Values) (to : ℕ) (place : CheckPlace) (r : Raw)
       → r ≡ check_raw p (retries + more) slot to v place → CheckHolds h p more slot to v place
       → (t : Take) → Fits h code r t
-      → CheckAt h p retries slot to (take_one r t) ⊎ CheckEnded h p retries slot to link (take_one r t)
+      → CheckAt h p retries slot to (take_one r t) ⊎ CheckEnded h p retries slot to link r.tary (take_one r t)
   check_goes_on more two v to Aimed r is holds t fits =
       let small = here.small in
       inl (record {
@@ -170,7 +170,7 @@ module _ (h : History) (code : List ℕ) (p : State) (link : Bool) (rs1 : ℕ) (
               holds = (holds.0.low, whole, holds.1);
             })
         | inr odd ↦
-            inr (finish.unpicked h code p link rs1 imm slot here retries more two to (λ inside. odd (in_code_whole to inside)) (λ some. odd (holds.0.whole some))
+            inr (finish.unpicked h code p link rs1 imm slot here retries more two to (λ inside. odd (in_code_whole to inside)) (λ some. odd (holds.0.whole some)) r.tary
             (take_one r t) (subst (IsBetween (retries + more) (unpicked_state to))
             (sym (walks h code p unit here all refl 7 (omega arith) _ _ _ _ _ _ _ _ r is refl t fits))
             (odd_ends p (retries + more) v.x28 (id_in v.bary) to (Some v.bary) v.last (h.policy start.epoch)
@@ -277,8 +277,8 @@ module _ (h : History) (code : List ℕ) (p : State) (link : Bool) (rs1 : ℕ) (
       let epoch : ℕ = holds.0.words.goal.epoch in
       let apart = apart-refuses h code slot to v.bary v.tary here.known holds.0.words holds.2 holds.1 in
       let refused : allows_at h epoch slot to ≡ false = search (rules, arith) in
-      inr (finish.judged h code p link rs1 imm slot here retries more two to v.bary v.tary holds.0 (take_one r t)
-      (subst (IsBetween (retries + more) (checked (policy_in v.tary) (allows_at h epoch slot to) link to p))
+      inr (finish.judged h code p link rs1 imm slot here retries more two to v.bary v.tary holds.0 r.tary (ap (λ x. x.tary) is)
+      (take_one r t) (subst (IsBetween (retries + more) (checked (policy_in v.tary) (allows_at h epoch slot to) link to p))
       (sym (walks h code p unit here all refl 12 (omega arith) _ _ _ _ _ _ _ _ r is refl t fits))
       (not_ends p (retries + more) v.x28 v.x29 v.x30 to v.tary (Some v.bary) (allows_at h epoch slot to) link
       holds.0.low holds.0.whole refused)))
@@ -286,15 +286,15 @@ module _ (h : History) (code : List ℕ) (p : State) (link : Bool) (rs1 : ℕ) (
       let epoch : ℕ = holds.0.words.goal.epoch in
       let same = equal-allows h code slot to v.bary v.tary here.known holds.0.words holds.1 in
       let granted : allows_at h epoch slot to ≡ true = search (rules, arith) in
-      inr (finish.judged h code p link rs1 imm slot here retries more two to v.bary v.tary holds.0 (take_one r t)
-      (subst (IsBetween (retries + more) (checked (policy_in v.tary) (allows_at h epoch slot to) link to p))
+      inr (finish.judged h code p link rs1 imm slot here retries more two to v.bary v.tary holds.0 r.tary (ap (λ x. x.tary) is)
+      (take_one r t) (subst (IsBetween (retries + more) (checked (policy_in v.tary) (allows_at h epoch slot to) link to p))
       (sym (walks h code p unit here all refl 13 (omega arith) _ _ _ _ _ _ _ _ r is refl t fits))
       (jump_ends p (retries + more) v.x28 v.x29 v.x30 to v.tary (Some v.bary) (allows_at h epoch slot to) link
       holds.0.low holds.0.whole granted here.going)))
   check_goes_on more two v to Far r is holds t fits =
       let start = here.ready.start here.going in
       inr (finish.unpicked h code p link rs1 imm slot here retries more two to (λ inside. in_code_low to inside holds.1) (λ some. some holds.0)
-      (take_one r t) (subst (IsBetween (retries + more) (unpicked_state to))
+      r.tary (take_one r t) (subst (IsBetween (retries + more) (unpicked_state to))
       (sym (walks h code p unit here all refl 12 (omega arith) _ _ _ _ _ _ _ _ r is refl t fits))
       (far_ends p (retries + more) v.x28 v.x29 v.x30 to None (h.policy start.epoch) (allows_at h start.epoch slot to)
       link holds.1)))

@@ -17,6 +17,8 @@ pub mod PickLemmas
 pub mod SingleLemmas
 pub mod LawLemmas
 pub mod AdvanceLemmas
+pub mod InsideLemmas
+pub mod KeptLemmas
 pub mod ShownLemmas
 pub mod StepLemmas
 pub mod StuckLemmas

@@ -1,148 +1,46 @@
 -- What the raw machine shows after a list of accesses.
-use Rattle.std.proofs.Common.{◌≡◌, ◌≢◌, ℕ, zero, suc, ◌+◌, ◌*◌, ◌%◌, ◌^◌, ◌≤◌, ℤ, Bool, Option, Some, None, List, [], ◌∷◌, refl, ◌∙◌, ap, arith, inl, inr}
-use Rattle.cfi_unit.specs.declared.unit.Unit.{Unit as CodeUnit}
-use Rattle.cfi_unit.specs.declared.unit.Unit.TheVariants as units
-use Rattle.cfi_unit.specs.Unit.{size_of}
-use Rattle.cfi_model.specs.declared.act.Wait.{Wait}
-use Rattle.cfi_model.specs.declared.act.Wait.TheVariants as waits
-use Rattle.cfi_model.specs.Service.{asked}
+use Rattle.std.proofs.Common.{◌≡◌, ◌≢◌, ℕ, zero, suc, ◌+◌, ◌%◌, List, [], ◌∷◌, ◌++◌, refl, sym, ◌∙◌, ap, subst, arith, inl, inr}
 use Rattle.cfi_model.specs.State.{State}
 use Rattle.cfi_model.specs.Raw.{Raw}
 use Rattle.cfi_model.specs.Run.{Take, take_one, run_of}
 use Rattle.cfi_model.specs.History.{History, IsHistory, IsEpoch}
-use Rattle.cfi_model.specs.Fits.{Along}
-use Rattle.cfi_model.specs.Shows.{IsReady, IsBetween, IsInside, IsRetried, IsShown, Shows, few_of}
-use Rattle.cfi_model.proofs.InnerLemmas.{inner}
-use Rattle.cfi_model.proofs.MaskedLemmas as masked
-use Rattle.cfi_model.proofs.CheckPlaces as check
-use Rattle.cfi_model.proofs.LawLemmas.{Ended, Begun, At}
+use Rattle.cfi_model.specs.Fits.{Fits, Along}
+use Rattle.cfi_model.specs.Shows.{IsReady, IsBetween, IsShown, StaysOrEnds, Runs, Shows, kept_along}
+use Rattle.cfi_model.proofs.CheckPlaces.{HasTwo}
+use Rattle.cfi_model.proofs.KeptLemmas.{effect_units, none_kept, one_kept}
+use Rattle.cfi_model.proofs.LawLemmas.{Ended}
+use Rattle.cfi_model.proofs.InsideLemmas.{shown_within}
 use Rattle.cfi_model.proofs.AdvanceLemmas.{Running, advance}
 
--- within a unit
-inside : (h : History) (code : List ℕ) (p : State) (unit : CodeUnit) (retries : ℕ) → At h code p unit
-    → (at more few x28 x29 x30 x31 : ℕ) (bary tary : Option ℕ) (wait : Option Wait) (r : Raw)
-    → r ≡ inner p p.units (p.pc + 4 * at) (p.steps + 9 * (retries + more) + few) x28 x29 x30 x31 bary tary wait
-    → at ≤ size_of unit → few ≤ few_of unit → (more ≢ 0 → IsRetried h unit) → IsInside h code retries p r
-inside h code p unit retries a at more few x28 x29 x30 x31 bary tary wait r is within most retried =
-    let steps : p.steps + 9 * (retries + more) + few ≡ p.steps + (9 * (retries + more) + few) = omega arith in
-    record {
-      going = a.here.going;
-      unit = unit;
-      stands = a.here.stands;
-      at = at;
-      within = within;
-      more = more;
-      retried = retried;
-      few = few;
-      few_most = most;
-      base = ap (λ x. x.base) is ∙ ap (λ s. record p { pc = p.pc + 4 * at; steps = s }) steps;
-    }
+-- a running machine shows its state
+shows_running : (h : History) (code : List ℕ) (p : State) (retries : ℕ) (r : Raw) → Running h code p retries r
+    → Shows h code retries p r
+shows_running h code p retries r (inl rests) = inl rests.1
+shows_running h code p retries r (inr within) = inr (shown_within h code p within.0 retries r within.1 within.2)
 
--- the count of steps where no try is repeated
-again : (p : State) (n few pc x28 x29 x30 x31 : ℕ) (bary tary : Option ℕ) (wait : Option Wait)
-    → inner p p.units pc (p.steps + 9 * n + few) x28 x29 x30 x31 bary tary wait
-    ≡ inner p p.units pc (p.steps + 9 * (n + 0) + few) x28 x29 x30 x31 bary tary wait
-again p n few pc x28 x29 x30 x31 bary tary wait =
-    let same : p.steps + 9 * n + few ≡ p.steps + 9 * (n + 0) + few = omega arith in
-    ap (λ s. inner p p.units pc s x28 x29 x30 x31 bary tary wait) same
+-- and has its units
+pub shows_units : (h : History) (code : List ℕ) (retries : ℕ) (s : State) (r : Raw) → Shows h code retries s r
+    → r.base.units ≡ s.units
+shows_units h code retries s r (inl between) = ap (λ b. b.units) between.base
+shows_units h code retries s r (inr inside) = ap (λ b. b.units) inside.base
 
--- within a masked access
-inside_masked : (h : History) (code : List ℕ) (p : State) (unit : CodeUnit) (retries address : ℕ) → At h code p unit
-    → size_of unit ≡ 6 → few_of unit ≡ 5
-    → (x28 x29 x30 : ℕ) (place : masked.MaskedPlace) (r : Raw)
-    → r ≡ masked.masked_raw p retries address x28 x29 x30 place → IsInside h code retries p r
-inside_masked h code p unit n address a size few x28 x29 x30 masked.Aimed r is =
-    inside h code p unit n a 1 0 1 _ _ _ _ _ _ _ r (is ∙ again p n 1 (p.pc + 4 * 1) _ _ _ _ _ _ _) (omega arith) (omega arith)
-    (λ some. absurd (some refl))
-inside_masked h code p unit n address a size few x28 x29 x30 masked.Shifted r is =
-    inside h code p unit n a 2 0 2 _ _ _ _ _ _ _ r (is ∙ again p n 2 (p.pc + 4 * 2) _ _ _ _ _ _ _) (omega arith) (omega arith)
-    (λ some. absurd (some refl))
-inside_masked h code p unit n address a size few x28 x29 x30 masked.Cut r is =
-    inside h code p unit n a 3 0 3 _ _ _ _ _ _ _ r (is ∙ again p n 3 (p.pc + 4 * 3) _ _ _ _ _ _ _) (omega arith) (omega arith)
-    (λ some. absurd (some refl))
-inside_masked h code p unit n address a size few x28 x29 x30 masked.Based r is =
-    inside h code p unit n a 4 0 4 _ _ _ _ _ _ _ r (is ∙ again p n 4 (p.pc + 4 * 4) _ _ _ _ _ _ _) (omega arith) (omega arith)
-    (λ some. absurd (some refl))
-inside_masked h code p unit n address a size few x28 x29 x30 masked.Merged r is =
-    inside h code p unit n a 5 0 5 _ _ _ _ _ _ _ r (is ∙ again p n 5 (p.pc + 4 * 5) _ _ _ _ _ _ _) (omega arith) (omega arith)
-    (λ some. absurd (some refl))
-
--- within a check
-inside_check : (h : History) (code : List ℕ) (p : State) (retries slot target : ℕ) (link : Bool) (rs1 : ℕ) (imm : ℤ)
-    → At h code p (units.Check link rs1 imm slot) → (more : ℕ) → (more ≢ 0 → IsRetried h (units.Check link rs1 imm slot))
-    → (v : check.Values) (place : check.CheckPlace) (r : Raw)
-    → r ≡ check.check_raw p (retries + more) slot target v place → IsInside h code retries p r
-inside_check h code p retries slot target link rs1 imm a more two v check.Aimed r is =
-    inside h code p _ retries a 1 more 1 _ _ _ _ _ _ _ r is (omega arith) (omega arith) two
-inside_check h code p retries slot target link rs1 imm a more two v check.Split r is =
-    inside h code p _ retries a 2 more 2 _ _ _ _ _ _ _ r is (omega arith) (omega arith) two
-inside_check h code p retries slot target link rs1 imm a more two v check.Far r is =
-    inside h code p _ retries a 12 more 3 _ _ _ _ _ _ _ r is (omega arith) (omega arith) two
-inside_check h code p retries slot target link rs1 imm a more two v check.Trying r is =
-    inside h code p _ retries a 3 more 3 _ _ _ _ _ _ _ r is (omega arith) (omega arith) two
-inside_check h code p retries slot target link rs1 imm a more two v check.Pointed r is =
-    inside h code p _ retries a 4 more 4 _ _ _ _ _ _ _ r is (omega arith) (omega arith) two
-inside_check h code p retries slot target link rs1 imm a more two v check.AskedBary r is =
-    inside h code p _ retries a 5 more 5 _ _ _ _ _ _ _ r is (omega arith) (omega arith) two
-inside_check h code p retries slot target link rs1 imm a more two v check.FoundBary r is =
-    inside h code p _ retries a 5 more 5 _ _ _ _ _ _ _ r is (omega arith) (omega arith) two
-inside_check h code p retries slot target link rs1 imm a more two v check.Tabled r is =
-    inside h code p _ retries a 6 more 6 _ _ _ _ _ _ _ r is (omega arith) (omega arith) two
-inside_check h code p retries slot target link rs1 imm a more two v check.Added r is =
-    inside h code p _ retries a 7 more 7 _ _ _ _ _ _ _ r is (omega arith) (omega arith) two
-inside_check h code p retries slot target link rs1 imm a more two v check.AskedTary r is =
-    inside h code p _ retries a 8 more 8 _ _ _ _ _ _ _ r is (omega arith) (omega arith) two
-inside_check h code p retries slot target link rs1 imm a more two v check.FoundTary r is =
-    inside h code p _ retries a 8 more 8 _ _ _ _ _ _ _ r is (omega arith) (omega arith) two
-inside_check h code p retries slot target link rs1 imm a more two v check.Differed r is =
-    inside h code p _ retries a 9 more 9 _ _ _ _ _ _ _ r is (omega arith) (omega arith) two
-inside_check h code p retries slot target link rs1 imm a more two v check.Compared r is =
-    inside h code p _ retries a 10 more 10 _ _ _ _ _ _ _ r is (omega arith) (omega arith) two
-inside_check h code p retries slot target link rs1 imm a more two v check.Lowered r is =
-    inside h code p _ retries a 11 more 11 _ _ _ _ _ _ _ r is (omega arith) (omega arith) two
-inside_check h code p retries slot target link rs1 imm a more two v check.Refused r is =
-    inside h code p _ retries a 12 more 12 _ _ _ _ _ _ _ r is (omega arith) (omega arith) two
-inside_check h code p retries slot target link rs1 imm a more two v check.Allowed r is =
-    inside h code p _ retries a 13 more 9 _ _ _ _ _ _ _ r is (omega arith) (omega arith) two
-
-shown_within : (h : History) (code : List ℕ) (p : State) (unit : CodeUnit) (retries : ℕ) (r : Raw) → At h code p unit
-    → Begun h p unit retries r → IsInside h code retries p r
-shown_within h code p (units.Plain insn) retries r a begun = absurd begun
-shown_within h code p (units.Branch c rs1 rs2 off) retries r a begun = absurd begun
-shown_within h code p (units.Jump link off) retries r a begun = absurd begun
-shown_within h code p (units.Load kind rd rs1 imm) retries r a begun =
-    inside_masked h code p (units.Load kind rd rs1 imm) retries _ a refl refl begun.x28 begun.x29 begun.x30 begun.place r
-    begun.is
-shown_within h code p (units.Store kind rs1 rs2 imm) retries r a begun =
-    inside_masked h code p (units.Store kind rs1 rs2 imm) retries _ a refl refl begun.x28 begun.x29 begun.x30 begun.place
-    r begun.is
-shown_within h code p (units.Check link rs1 imm slot) retries r a begun =
-    inside_check h code p retries slot _ link rs1 imm a begun.more begun.two begun.values begun.place r begun.is
-shown_within h code p units.Service retries r a begun =
-    let small = a.here.small in
-    let place : (p.pc + 4) % 2 ^ 32 ≡ p.pc + 4 * 1 = omega arith in
-    let steps : p.steps + 9 * retries + 1 ≡ p.steps + 9 * (retries + 0) + 1 = omega arith in
-    let wait : Option Wait = Some (waits.Service (asked p)) in
-    inside h code p units.Service retries a 1 0 1 begun.x28 begun.x29 begun.x30 begun.x31 None None wait r
-    (begun.is
-    ∙ ap (λ pc. inner p p.units pc (p.steps + 9 * retries + 1) begun.x28 begun.x29 begun.x30 begun.x31 None None wait) place
-    ∙ ap (λ s. inner p p.units (p.pc + 4 * 1) s begun.x28 begun.x29 begun.x30 begun.x31 None None wait) steps)
-    (omega arith) (omega arith) (λ some. absurd (some refl))
+-- and is ready
+ready_running : (h : History) (code : List ℕ) (p : State) (retries : ℕ) (r : Raw) → Running h code p retries r
+    → IsReady h p
+ready_running h code p retries r (inl rests) = rests.0
+ready_running h code p retries r (inr within) = within.1.here.ready
 
 -- nothing has come
-at_rest : (h : History) (code : List ℕ) (p : State) (retries : ℕ) (r : Raw) → IsReady h p → Shows h code retries p r
-    → IsShown h code retries p r
-at_rest h code p retries r ready shows = record {
-  count = 0;
-  new = p;
+at_rest : (h : History) (code : List ℕ) (p : State) (retries : ℕ) (r : Raw) → Running h code p retries r
+    → IsShown h code retries p r [] retries p
+at_rest h code p retries r running = record {
   runs = refl;
-  ready = ready;
-  settled = retries;
+  ready = ready_running h code p retries r running;
   least = omega arith;
   picks = omega arith;
   picked = λ none. refl;
   single = λ one. refl;
-  shows = shows;
+  shows = shows_running h code p retries r running;
 }
 
 -- a history of one epoch has no other
@@ -150,7 +48,7 @@ only : (h : History) (one other : ℕ) → h.count ≡ 1 → IsEpoch h one → I
 only h one other count a b = omega (arith, a.least, a.most, b.least, b.most)
 
 -- one epoch has one version
-never_two : (h : History) (more : ℕ) → h.count ≡ 1 → check.HasTwo h more → more ≡ 0
+never_two : (h : History) (more : ℕ) → h.count ≡ 1 → HasTwo h more → more ≡ 0
 never_two h zero one two = refl
 never_two h (suc more) one two =
     let some : suc more ≢ 0 = λ e. omega arith in
@@ -164,37 +62,114 @@ no_more (suc more) retries none =
     let some : suc more ≢ 0 = λ e. omega arith in
     absurd (none some)
 
--- one unit more before the others
-one_more : (h : History) (code : List ℕ) (retries : ℕ) (p : State) (mid r : Raw) → (e : Ended h code retries p mid)
-    → IsShown h code (retries + e.more) e.new r → IsShown h code retries p r
-one_more h code retries p mid r e s = record {
-  count = suc s.count;
-  new = s.new;
-  runs = (e.new, e.step, s.runs);
-  ready = s.ready;
-  settled = s.settled;
-  least = omega (arith, s.least);
-  picks = omega (arith, e.picks, s.picks);
-  picked = λ none. s.picked none ∙ no_more e.more retries (λ some. omega (arith, e.logged some, s.picks));
-  single = λ one. s.single one ∙ ap (λ m. retries + m) (never_two h e.more one e.two) ∙ omega arith;
-  shows = s.shows;
-}
+module _ (h : History) (code : List ℕ) (retries : ℕ) (p : State) (r : Raw) (t : Take) (takes : List Take) where
+  -- an access within a unit, before the others
+  within_unit : (settled : ℕ) (new : State) → (take_one r t).base.units ≡ r.base.units
+      → IsShown h code retries p (take_one r t) takes settled new → IsShown h code retries p r (t ∷ takes) settled new
+  within_unit settled new same s =
+      let kept = ap (λ ks. ks ++ kept_along (take_one r t) takes) (none_kept r (take_one r t) same) in
+      record {
+        runs = subst (λ ks. Runs h code ks p new) (sym kept) s.runs;
+        ready = s.ready;
+        least = s.least;
+        picks = s.picks;
+        picked = s.picked;
+        single = s.single;
+        shows = s.shows;
+      }
 
--- the machine shows a later state of the policy machine after all that came
-shown : (h : History) (code : List ℕ) → IsHistory h code → (takes : List Take) (p : State) (retries : ℕ) (r : Raw)
-    → Running h code p retries r → Along h code r takes → IsShown h code retries p (run_of r takes)
-shown h code known [] p retries r (inl rests) along = at_rest h code p retries r rests.0 (inl rests.1)
-shown h code known [] p retries r (inr within) along =
-    at_rest h code p retries r within.1.here.ready (inr (shown_within h code p within.0 retries r within.1 within.2))
-shown h code known (t ∷ takes) p retries r running along =
+  -- the last access of a unit, before the others
+  one_more : (e : Ended h code retries r.tary p (take_one r t)) → r.base.units ≡ p.units
+      → (settled : ℕ) (new : State) → IsShown h code (retries + e.more) e.new (take_one r t) takes settled new
+      → IsShown h code retries p r (t ∷ takes) settled new
+  one_more e before settled new s =
+      let counts = effect_units e.step.unit _ _ e.step.reply p in
+      let ended : (take_one r t).base.units ≡ r.base.units + 1 =
+      ap (λ b. b.units) e.between.base ∙ ap (λ x. x.units) e.step.is ∙ counts ∙ ap (λ n. n + 1) (sym before) in
+      let kept = ap (λ ks. ks ++ kept_along (take_one r t) takes) (one_kept r (take_one r t) ended) in
+      record {
+        runs = subst (λ ks. Runs h code ks p new) (sym kept) (e.new, e.step, s.runs);
+        ready = s.ready;
+        least = omega (arith, s.least);
+        picks = omega (arith, e.picks, s.picks);
+        picked = λ none. s.picked none ∙ no_more e.more retries (λ some. omega (arith, e.logged some, s.picks));
+        single = λ one. s.single one ∙ ap (λ m. retries + m) (never_two h e.more one e.two) ∙ omega arith;
+        shows = s.shows;
+      }
+
+-- the machine runs after the accesses, and shows a later state of the policy machine
+pub record IsReached (h : History) (code : List ℕ) (retries : ℕ) (old : State) (r : Raw) (takes : List Take) : Type 0
+  where
+    pub settled : ℕ
+    pub new : State
+    pub shown : IsShown h code retries old r takes settled new
+    pub running : Running h code new settled (run_of r takes)
+
+pub reached : (h : History) (code : List ℕ) → IsHistory h code → (takes : List Take) (p : State) (retries : ℕ) (r : Raw)
+    → Running h code p retries r → Along h code r takes → IsReached h code retries p r takes
+reached h code known [] p retries r running along = record {
+  settled = retries;
+  new = p;
+  shown = at_rest h code p retries r running;
+  running = running;
+}
+reached h code known (t ∷ takes) p retries r running along =
+    let before = shows_units h code retries p r (shows_running h code p retries r running) in
     elim (advance h code p retries known r running t along.0) [
-      | inl within ↦ shown h code known takes p retries (take_one r t) (inr within) along.1
+      | inl within ↦
+          let after = shows_units h code retries p (take_one r t)
+          (shows_running h code p retries (take_one r t) (inr within)) in
+          let rest = reached h code known takes p retries (take_one r t) (inr within) along.1 in
+          record {
+            settled = rest.settled;
+            new = rest.new;
+            shown = within_unit h code retries p r t takes rest.settled rest.new (after ∙ sym before) rest.shown;
+            running = rest.running;
+          }
       | inr e ↦
-          one_more h code retries p (take_one r t) (run_of (take_one r t) takes) e
-          (shown h code known takes e.new (retries + e.more) (take_one r t) (inl (e.ready, e.between)) along.1)
+          let rest = reached h code known takes e.new (retries + e.more) (take_one r t) (inl (e.ready, e.between))
+          along.1 in
+          record {
+            settled = rest.settled;
+            new = rest.new;
+            shown = one_more h code retries p r t takes e before rest.settled rest.new rest.shown;
+            running = rest.running;
+          }
     ]
 
 pub raw_shows : (h : History) (code : List ℕ) → IsHistory h code → (old : State) → IsReady h old → (retries : ℕ) (r : Raw)
-    → IsBetween retries old r → (takes : List Take) → Along h code r takes → IsShown h code retries old (run_of r takes)
+    → IsBetween retries old r → (takes : List Take) → Along h code r takes
+    → (settled : ℕ) × (new : State) × IsShown h code retries old r takes settled new
 raw_shows h code known old ready retries r between takes along =
-    shown h code known takes old retries r (inl (ready, between)) along
+    let now = reached h code known takes old retries r (inl (ready, between)) along in
+    (now.settled, now.new, now.shown)
+
+-- one more access
+pub raw_follows : (h : History) (code : List ℕ) → IsHistory h code → (old : State) → IsReady h old
+    → (retries : ℕ) (r : Raw) → IsBetween retries old r → (takes : List Take) → Along h code r takes
+    → (t : Take) → Fits h code (run_of r takes) t
+    → (settled : ℕ) × (new : State) × IsShown h code retries old r takes settled new
+    × StaysOrEnds h code settled new (run_of r takes) (take_one (run_of r takes) t)
+raw_follows h code known old ready retries r between takes along t fits =
+    let now = reached h code known takes old retries r (inl (ready, between)) along in
+    elim (advance h code now.new now.settled known (run_of r takes) now.running t fits) [
+      | inl within ↦ (
+        now.settled,
+        now.new,
+        now.shown,
+        inl (inr (shown_within h code now.new within.0 now.settled _ within.1
+            within.2)),
+      )
+      | inr e ↦ (
+        now.settled,
+        now.new,
+        now.shown,
+        inr (record {
+          more = e.more;
+          after = e.new;
+          step = e.step;
+          ready = e.ready;
+          between = e.between;
+        }),
+      )
+    ]

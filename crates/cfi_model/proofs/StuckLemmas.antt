@@ -1,5 +1,5 @@
 -- A running raw machine that waits for nothing has a step for what it fetches.
-use Rattle.std.proofs.Common.{◌≡◌, ℕ, ◌+◌, ◌*◌, ◌/◌, ◌%◌, ◌^◌, ◌<◌, ℤ, Bool, Option, Some, None, List, [], ◌∷◌, length, get_or, slice_index, refl, sym, ◌∙◌, ap, subst, arith, inl, inr}
+use Rattle.std.proofs.Common.{◌≡◌, ℕ, ◌+◌, ◌*◌, ◌/◌, ◌%◌, ◌^◌, ◌<◌, ℤ, Bool, Option, Some, None, List, length, get_or, slice_index, refl, sym, ◌∙◌, ap, subst, arith, inl, inr}
 use Rattle.rv_insn.specs.declared.insn.Insn.{Insn}
 use Rattle.rv_insn.specs.declared.insn.Insn.TheVariants as insns
 use Rattle.rv_insn.specs.InsnOf.{insn_of}
@@ -13,7 +13,7 @@ use Rattle.cfi_unit.proofs.CodeLemmas.{BeginsAt-insn}
 use Rattle.cfi_model.specs.State.{State, register, displaced}
 use Rattle.cfi_model.specs.Raw.{Raw}
 use Rattle.cfi_model.specs.Begin.{HasLoad, HasStore, HasStep, HasStepBy, area_of}
-use Rattle.cfi_model.specs.Run.{Take, Word, take_one, run_of}
+use Rattle.cfi_model.specs.Run.{Take, Word, run_of}
 use Rattle.cfi_model.specs.History.{History, IsHistory}
 use Rattle.cfi_model.specs.Fits.{Fits, Along}
 use Rattle.cfi_model.specs.Shows.{IsReady, IsBetween}
@@ -24,7 +24,8 @@ use Rattle.cfi_model.proofs.FetchLemmas.{Here, start_raw, first_place}
 use Rattle.cfi_model.proofs.MaskedLemmas as masked
 use Rattle.cfi_model.proofs.CheckPlaces as check
 use Rattle.cfi_model.proofs.LawLemmas.{Begun, At}
-use Rattle.cfi_model.proofs.AdvanceLemmas.{Running, advance, goes_on, start_is, at_start}
+use Rattle.cfi_model.proofs.AdvanceLemmas.{Running, goes_on, start_is, at_start}
+use Rattle.cfi_model.proofs.ShownLemmas.{reached}
 
 -- nothing is no wait
 some_none : {X : Type 0} (x : X) → Some x ≡ None → ⊥
@@ -184,21 +185,11 @@ module _ (h : History) (code : List ℕ) (p : State) (retries : ℕ) where
       first_has at.0 at.1 r (start_is h code p retries r rests.1 going) word fits
   running_has known r (inr within) idle word fits = begun_has within.0 within.1 r within.2 idle word fits
 
--- after any accesses the machine runs
-reached : (h : History) (code : List ℕ) → IsHistory h code → (takes : List Take) (p : State) (retries : ℕ) (r : Raw)
-    → Running h code p retries r → Along h code r takes
-    → (new : State) × (settled : ℕ) × Running h code new settled (run_of r takes)
-reached h code known [] p retries r running along = (p, retries, running)
-reached h code known (t ∷ takes) p retries r running along =
-    elim (advance h code p retries known r running t along.0) [
-      | inl within ↦ reached h code known takes p retries (take_one r t) (inr within) along.1
-      | inr e ↦ reached h code known takes e.new (retries + e.more) (take_one r t) (inl (e.ready, e.between)) along.1
-    ]
-
+-- and so after any accesses
 pub raw_has_steps : (h : History) (code : List ℕ) → IsHistory h code → (old : State) → IsReady h old
     → (retries : ℕ) (r : Raw) → IsBetween retries old r → (takes : List Take) → Along h code r takes
     → (run_of r takes).waits ≡ None → (word : ℕ) → Fits h code (run_of r takes) (Word word)
     → HasStepBy (insn_of word) (run_of r takes)
 raw_has_steps h code known old ready retries r between takes along idle word fits =
     let now = reached h code known takes old retries r (inl (ready, between)) along in
-    running_has h code now.0 now.1 known (run_of r takes) now.2 idle word fits
+    running_has h code now.new now.settled known (run_of r takes) now.running idle word fits

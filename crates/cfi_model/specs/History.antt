@@ -42,11 +42,15 @@ pub record IsStart (h : History) (address : ℕ) : Type 0 where
   pub known : IsEpoch h epoch
   pub starts : IsStartIn (h.image epoch) address
 
+-- the table word of an epoch with this class
+abbrev pub word_of : History → (epoch class : ℕ) → ℕ
+word_of h epoch class = packed epoch (h.policy epoch) class h.versions
+
 -- the word is some epoch's table word, with the class that its place has in that epoch
 pub record IsTableWord (h : History) (class_of : ℕ → ℕ) (found : ℕ) : Type 0 where
   pub epoch : ℕ
   pub known : IsEpoch h epoch
-  pub is : found ≡ packed epoch (h.policy epoch) (class_of epoch) h.versions
+  pub is : found ≡ word_of h epoch (class_of epoch)
 
 -- a word that is found after the kept one is fair: equal versions are equal epochs
 abbrev pub IsFair : History → (kept : Option ℕ) → (found : ℕ) → Type 0

@@ -1,6 +1,6 @@
 -- The raw machine shows the policy machine: the same registers x0 to x27, private data, output, log, units and stop.
 -- A raw state within a unit shows the policy state at that unit's start.
-use Rattle.std.specs.Prelude.{◌≡◌, ◌≢◌, ℕ, zero, suc, ◌+◌, ◌*◌, ◌/◌, ◌%◌, ◌≤◌, ◌⊎◌, length, List, None, ⊤}
+use Rattle.std.specs.Prelude.{◌≡◌, ◌≢◌, ℕ, ◌+◌, ◌*◌, ◌/◌, ◌%◌, ◌≤◌, nat_lt, if◌then◌else◌, true, ◌⊎◌, length, List, [], ◌∷◌, ◌++◌, Option, Some, None, ⊤}
 use Rattle.rv_insn.specs.InsnOf.{insn_of}
 use Rattle.cfi_unit.specs.declared.fill.Fill.{Fill}
 use Rattle.cfi_unit.specs.declared.unit.Unit.{Unit as CodeUnit}
@@ -11,14 +11,14 @@ use Rattle.cfi_word.specs.declared.lists.Image.{Image}
 use Rattle.cfi_word.specs.Table.{IsSize}
 use Rattle.cfi_model.specs.declared.places.TheConstants.{OPEN}
 use Rattle.cfi_model.specs.Log.{last_policy, pick_entries}
-use Rattle.cfi_model.specs.State.{State, register, opened}
+use Rattle.cfi_model.specs.State.{State, register, displaced, opened}
 use Rattle.cfi_model.specs.Service.{Reply, asked}
-use Rattle.cfi_model.specs.Effect.{effect}
+use Rattle.cfi_model.specs.Effect.{effect, is_in_code}
 use Rattle.cfi_model.specs.Raw.{Raw, raw_opened}
-use Rattle.cfi_model.specs.Run.{Take, Word, run_of}
+use Rattle.cfi_model.specs.Run.{Take, Word, take_one, run_of}
 use Rattle.cfi_model.specs.Begin.{HasStepBy}
 use Rattle.cfi_model.specs.Closed.{IsClosed}
-use Rattle.cfi_model.specs.History.{History, IsEpoch, IsStart, IsHistory, allows_at, fixed}
+use Rattle.cfi_model.specs.History.{History, IsEpoch, IsStart, IsHistory, target_class, word_of, allows_at, fixed}
 use Rattle.cfi_model.specs.Fits.{FitsOpen, Fits, Along}
 
 -- the unit stands at the address
@@ -31,22 +31,40 @@ abbrev pub IsAnswered : CodeUnit → Reply → State → Type 0
 IsAnswered units.Service reply s = asked s ≡ OPEN → FitsOpen reply s
 IsAnswered _ reply s = ⊤
 
--- the policy machine runs a unit, under the policy of some epoch; the policies that are logged never fall
-pub record IsStep (h : History) (code : List ℕ) (old new : State) : Type 0 where
+-- where a check asks the policy, the Tary word that is kept is that of its target in the epoch
+abbrev pub AsksUnder : History → (epoch : ℕ) → (kept : Option ℕ) → CodeUnit → State → Type 0
+AsksUnder h epoch kept (units.Check link rs1 imm slot) s =
+    let target = displaced (register s rs1) imm in
+    is_in_code target ≡ true → kept ≡ Some (word_of h epoch (target_class h epoch target))
+AsksUnder h epoch kept _ s = ⊤
+
+-- the policy machine runs a unit, under the policy of an epoch: where a check asks the policy, that of the kept Tary
+-- word; the policies that are logged never fall
+pub record IsStep (h : History) (code : List ℕ) (kept : Option ℕ) (old new : State) : Type 0 where
   pub going : old.stop ≡ None
   pub unit : CodeUnit
   pub stands : Stands code old.pc unit
   pub epoch : ℕ
   pub known : IsEpoch h epoch
+  pub under : AsksUnder h epoch kept unit old
   pub reply : Reply
   pub answered : IsAnswered unit reply old
   pub is : new ≡ effect unit (h.policy epoch) (allows_at h epoch) reply old
   pub rises : last_policy old.log ≤ last_policy new.log
 
--- the policy machine runs so many units
-abbrev pub Runs : History → (code : List ℕ) → (count : ℕ) → (old new : State) → Type 0
-Runs h code zero old new = new ≡ old
-Runs h code (suc count) old new = (mid : State) × IsStep h code old mid × Runs h code count mid new
+-- the policy machine runs one unit for each of these, the Tary words that were kept at the units' ends
+abbrev pub Runs : History → (code : List ℕ) → (kept : List (Option ℕ)) → (old new : State) → Type 0
+Runs h code [] old new = new ≡ old
+Runs h code (word ∷ kept) old new = (mid : State) × IsStep h code word old mid × Runs h code kept mid new
+
+-- the Tary word that is kept before an access, where a unit ends with it
+abbrev pub kept_before : (old new : Raw) → List (Option ℕ)
+kept_before old new = if nat_lt old.base.units new.base.units then old.tary ∷ [] else []
+
+-- those of all units that end with one of the accesses, from first to last
+abbrev pub kept_along : Raw → List Take → List (Option ℕ)
+kept_along r [] = []
+kept_along r (t ∷ takes) = kept_before r (take_one r t) ++ kept_along (take_one r t) takes
 
 -- a policy state between two units of the code: x0 is 0, and a guest that has not stopped stands at a start
 pub record IsReady (h : History) (s : State) : Type 0 where
@@ -93,19 +111,29 @@ pub record IsInside (h : History) (code : List ℕ) (retries : ℕ) (s : State) 
 abbrev pub Shows : History → (code : List ℕ) → (retries : ℕ) → State → Raw → Type 0
 Shows h code retries s r = IsBetween retries s r ⊎ IsInside h code retries s r
 
--- the raw state shows a state that the policy machine reaches; tries are repeated only where picks are logged and two
--- epochs are known
-pub record IsShown (h : History) (code : List ℕ) (retries : ℕ) (old : State) (r : Raw) : Type 0 where
-  pub count : ℕ
-  pub new : State
-  pub runs : Runs h code count old new
+-- after the accesses the raw state shows a state that the policy machine has reached, a unit for each that has ended;
+-- tries are repeated only where picks are logged and two epochs are known
+pub record IsShown (h : History) (code : List ℕ) (retries : ℕ) (old : State) (r : Raw) (takes : List Take)
+    (settled : ℕ) (new : State) : Type 0 where
+  pub runs : Runs h code (kept_along r takes) old new
   pub ready : IsReady h new
-  pub settled : ℕ
   pub least : retries ≤ settled
   pub picks : pick_entries old.log ≤ pick_entries new.log
   pub picked : pick_entries new.log ≡ 0 → settled ≡ retries
   pub single : h.count ≡ 1 → settled ≡ retries
-  pub shows : Shows h code settled new r
+  pub shows : Shows h code settled new (run_of r takes)
+
+-- an access has ended a unit, which the policy machine has run under the Tary word that was kept before the access
+pub record EndsUnit (h : History) (code : List ℕ) (retries : ℕ) (s : State) (old new : Raw) : Type 0 where
+  pub more : ℕ
+  pub after : State
+  pub step : IsStep h code old.tary s after
+  pub ready : IsReady h after
+  pub between : IsBetween (retries + more) after new
+
+-- an access leaves what is shown as it was, or ends a unit
+abbrev pub StaysOrEnds : History → (code : List ℕ) → (retries : ℕ) → State → (old new : Raw) → Type 0
+StaysOrEnds h code retries s old new = Shows h code retries s new ⊎ EndsUnit h code retries s old new
 
 -- from a state that shows the policy machine's, the raw machine shows a later one, whatever fits comes
 abbrev pub RawShowsPolicy : Type 0
@@ -113,7 +141,19 @@ RawShowsPolicy =
     (h : History) (code : List ℕ) → IsHistory h code →
     (old : State) → IsReady h old →
     (retries : ℕ) (r : Raw) → IsBetween retries old r →
-    (takes : List Take) → Along h code r takes → IsShown h code retries old (run_of r takes)
+    (takes : List Take) → Along h code r takes →
+    (settled : ℕ) × (new : State) × IsShown h code retries old r takes settled new
+
+-- and one more access leaves that state shown, or ends its unit
+abbrev pub RawFollowsPolicy : Type 0
+RawFollowsPolicy =
+    (h : History) (code : List ℕ) → IsHistory h code →
+    (old : State) → IsReady h old →
+    (retries : ℕ) (r : Raw) → IsBetween retries old r →
+    (takes : List Take) → Along h code r takes →
+    (t : Take) → Fits h code (run_of r takes) t →
+    (settled : ℕ) × (new : State) × IsShown h code retries old r takes settled new
+    × StaysOrEnds h code settled new (run_of r takes) (take_one (run_of r takes) t)
 
 -- a raw machine that waits for nothing always has a step for the code's word
 abbrev pub RawHasSteps : Type 0

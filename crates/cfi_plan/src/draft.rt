@@ -3,7 +3,6 @@ ghost use Rattle.cfi_plan.specs.Draft.{Draft as Said, empty, taken, one_if, plan
 
 use crate::fault::PlanFault;
 use crate::index::{give_number, number_of};
-use cfi_list::Items;
 use crate::limits::{
     FUEL, MAX_CODE_WORDS, MAX_EPOCH, MAX_FUEL, MAX_GUESTS, MAX_MODULES, MAX_REFRESHES, MAX_SCRIPT,
     MAX_STARTS, MAX_VERSIONS, MIN_CODE_WORDS, MIN_VERSIONS,
@@ -11,6 +10,7 @@ use crate::limits::{
 use crate::line::Line;
 use crate::plan::{Plan, PlanModule, ScriptLine};
 use crate::text::Text;
+use cfi_list::Items;
 use std::alloc::Global;
 use std::collections::BTreeMap;
 use std::marker::Model;

@@ -1,5 +1,5 @@
-use cfi_list::Items;
 use crate::text::Text;
+use cfi_list::Items;
 
 /// A module of a plan.
 #[derive(Debug, PartialEq, Eq, Drop)]

@@ -12,11 +12,7 @@ pub const MAX_NAME: usize = 255;
 pub fn name_of(word: &[u8]) -> Option<&str>
     ensures { option_map (λ name. name.now) result ≡ name_in word.now }
 {
-    if is_name(word) {
-        text_of(word)
-    } else {
-        None
-    }
+    if is_name(word) { text_of(word) } else { None }
 }
 
 // The text of a word that is UTF-8.

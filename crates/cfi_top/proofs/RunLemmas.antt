@@ -1,8 +1,6 @@
 -- The run of a bare file.
-use Rattle.std.proofs.Common.{◌≡◌, ℕ, zero, suc, ◌+◌, ◌*◌, Option, Some, None, List, [], length, refl, sym, ap, subst, ◌∙◌, arith, inl, inr}
+use Rattle.std.proofs.Common.{◌≡◌, ℕ, ◌+◌, ◌*◌, Option, Some, None, List, [], ◌∷◌, length, refl, sym, ap, subst, ◌∙◌, arith}
 use Rattle.std.specs.Prelude.{Result, Ok, Err, IfOk}
-use Rattle.cfi_unit.specs.declared.unit.Unit.{Unit as CodeUnit}
-use Rattle.cfi_unit.specs.declared.unit.Unit.TheVariants as units
 use Rattle.cfi_word.specs.declared.lists.Image.{Image}
 use Rattle.cfi_word.specs.declared.layout.TheConstants.{MAX_CODE_WORDS}
 use Rattle.cfi_word.specs.Table.{IsSize}
@@ -11,14 +9,14 @@ use Rattle.cfi_model.specs.declared.act.Wait.{Wait}
 use Rattle.cfi_model.specs.declared.act.Wait.TheVariants as waits
 use Rattle.cfi_model.specs.declared.places.TheConstants.{BASE}
 use Rattle.cfi_model.specs.Closed.{IsClosed, IsClosedBy, IsStartIn}
-use Rattle.cfi_model.specs.Effect.{effect}
 use Rattle.cfi_model.specs.Service.{Reply}
 use Rattle.cfi_model.specs.State.{State}
 use Rattle.cfi_model.specs.Raw.{Raw}
-use Rattle.cfi_model.specs.Run.{serve_as, serve_of}
+use Rattle.cfi_model.specs.Run.{run_of, serve_as, serve_of}
 use Rattle.cfi_model.specs.History.{History, fixed}
-use Rattle.cfi_model.specs.Shows.{IsShown, Runs, Shows}
-use Rattle.cfi_model.proofs.ShownLemmas.{raw_shows}
+use Rattle.cfi_model.specs.Shows.{Runs, Shows, kept_along}
+use Rattle.cfi_model.proofs.KeptLemmas.{effect_units}
+use Rattle.cfi_model.proofs.ShownLemmas.{raw_shows, shows_units}
 use Rattle.cfi_bare.specs.Image.{IsImageOf, IsClosedFile}
 use Rattle.cfi_fixed.specs.Fixed.{CanRunOver}
 use Rattle.cfi_fixed.specs.Bare.{HasEnded, ComesTo}
@@ -26,32 +24,16 @@ use Rattle.cfi_fixed.proofs.OverLemmas.{known, between}
 use Rattle.cfi_fixed.proofs.BareLemmas.{opened_can}
 use Rattle.cfi_top.specs.Run.{IsRun, bare_start, part_of}
 
--- a unit counts one
-effect_units : (unit : CodeUnit) (pick : ℕ) (allows : _) (reply : Reply) (s : State)
-    → (effect unit pick allows reply s).units ≡ s.units + 1
-effect_units (units.Plain insn) pick allows reply s = refl
-effect_units (units.Load kind rd rs1 imm) pick allows reply s = refl
-effect_units (units.Store kind rs1 rs2 imm) pick allows reply s = refl
-effect_units (units.Branch c rs1 rs2 off) pick allows reply s = refl
-effect_units (units.Jump link off) pick allows reply s = refl
-effect_units (units.Check link rs1 imm slot) pick allows reply s = refl
-effect_units units.Service pick allows reply s = refl
-
-runs_units : (h : History) (code : List ℕ) (count : ℕ) (old new : State) → Runs h code count old new
-    → new.units ≡ old.units + count
-runs_units h code zero old new runs = ap (λ s. s.units) runs ∙ omega arith
-runs_units h code (suc count) old new runs =
+-- the policy machine counts the units that it runs
+runs_units : (h : History) (code : List ℕ) (kept : List (Option ℕ)) (old new : State) → Runs h code kept old new
+    → new.units ≡ old.units + length kept
+runs_units h code [] old new runs = ap (λ s. s.units) runs ∙ omega arith
+runs_units h code (word ∷ kept) old new runs =
     let step = runs.1 in
     let first : (runs.0).units ≡ old.units + 1 =
     ap (λ s. s.units) step.is ∙ effect_units step.unit _ _ step.reply old in
-    let rest = runs_units h code count runs.0 new runs.2 in
+    let rest = runs_units h code kept runs.0 new runs.2 in
     omega arith
-
--- a raw state has the units of the state that it shows
-shows_units : (h : History) (code : List ℕ) (retries : ℕ) (s : State) (r : Raw) → Shows h code retries s r
-    → r.base.units ≡ s.units
-shows_units h code retries s r (inl between) = ap (λ b. b.units) between.base
-shows_units h code retries s r (inr inside) = ap (λ b. b.units) inside.base
 
 -- the image's size is that of the greatest table
 size_is : (image : Image) → length image.code ≡ MAX_CODE_WORDS → IsSize (length image.code)
@@ -91,12 +73,11 @@ run_is words image fuel guest part placed file ended says =
     let path = ended.path in
     let shown = raw_shows (fixed image) image.code (known image fuel bare_start can) bare_start.base can.ready 0 bare_start
     (between image fuel bare_start can) path.takes path.along in
-    let last : IsShown (fixed image) image.code 0 bare_start.base ended.last =
-    subst (IsShown (fixed image) image.code 0 bare_start.base) (sym path.is) shown in
-    let counted = runs_units (fixed image) image.code last.count bare_start.base last.new last.runs in
-    let same = shows_units (fixed image) image.code last.settled last.new ended.last last.shows in
-    let units : last.count ≡ part.units =
-    omega (arith, ap (λ p. p.units) says, ap (λ r. r.base.units) ended.is) in
+    let last = shown.2 in
+    let counted = runs_units (fixed image) image.code (kept_along bare_start path.takes) bare_start.base shown.1 last.runs in
+    let same = shows_units (fixed image) image.code shown.0 shown.1 (run_of bare_start path.takes) last.shows in
+    let units : length (kept_along bare_start path.takes) ≡ part.units =
+    omega (arith, ap (λ p. p.units) says, ap (λ r. r.base.units) ended.is, ap (λ r. r.base.units) path.is) in
     record {
       image = image;
       placed = placed;
@@ -104,9 +85,12 @@ run_is words image fuel guest part placed file ended says =
       guest = guest;
       ended = ended;
       says = says;
-      state = last.new;
-      runs = subst (λ n. Runs (fixed image) image.code n bare_start.base last.new) units last.runs;
-      shows = subst (λ n. Shows (fixed image) image.code n last.new ended.last) (last.single refl) last.shows;
+      state = shown.1;
+      counted = units;
+      runs = last.runs;
+      shows = subst (Shows (fixed image) image.code 0 shown.1) (sym path.is)
+          (subst (λ n. Shows (fixed image) image.code n shown.1 (run_of bare_start path.takes)) (last.single refl)
+          last.shows);
     }
 
 -- what a run that asked for nothing has come to

@@ -1,12 +1,12 @@
 -- What the report of a bare file says, and that its guest did what the policy machine does.
-use Rattle.std.specs.Prelude.{◌≡◌, ℕ, ◌*◌, List, [], codes}
+use Rattle.std.specs.Prelude.{◌≡◌, ℕ, ◌*◌, List, [], length, codes}
 use Rattle.cfi_word.specs.declared.lists.Image.{Image}
 use Rattle.cfi_report.specs.declared.report.GuestPart.{GuestPart}
 use Rattle.cfi_model.specs.declared.places.TheConstants.{BASE}
 use Rattle.cfi_model.specs.State.{State}
 use Rattle.cfi_model.specs.Raw.{Raw, raw_opened}
 use Rattle.cfi_model.specs.History.{fixed}
-use Rattle.cfi_model.specs.Shows.{Runs, Shows}
+use Rattle.cfi_model.specs.Shows.{Runs, Shows, kept_along}
 use Rattle.cfi_bare.specs.Image.{IsImageOf, IsClosedFile}
 use Rattle.cfi_fixed.specs.Bare.{HasEnded}
 use Rattle.cfi_top.specs.declared.run.TheConstants.{BARE_GUEST}
@@ -38,5 +38,6 @@ pub record IsRun (words : List ℕ) (fuel : ℕ) (part : GuestPart) : Type 0 whe
   pub ended : HasEnded image fuel bare_start guest
   pub says : part ≡ part_of guest
   pub state : State
-  pub runs : Runs (fixed image) image.code part.units bare_start.base state
+  pub counted : length (kept_along bare_start ended.path.takes) ≡ part.units
+  pub runs : Runs (fixed image) image.code (kept_along bare_start ended.path.takes) bare_start.base state
   pub shows : Shows (fixed image) image.code 0 state ended.last

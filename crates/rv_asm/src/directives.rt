@@ -5,12 +5,12 @@ ghost use Rattle.rv_asm.specs.Statement.{integers_in, names_in, has_count, node_
 ghost use Rattle.cfi_text.specs.Words.{words_in};
 
 use crate::called::node_kind_called;
-use cfi_list::Items;
 use crate::names::name_of;
 use crate::number::integer_of;
 use crate::operand::word_of;
 use crate::short::bare_form;
 use crate::statement::{NodeKind, Statement};
+use cfi_list::Items;
 use cfi_text::next_word;
 use elf_read::Name;
 use std::alloc::{AllocError, Global};

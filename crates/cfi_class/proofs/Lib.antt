@@ -1,0 +1,6 @@
+mod EdgeLemmas
+mod ForestLemmas
+mod LabelsLemmas
+mod LinkedLemmas
+mod NumberingLemmas
+mod SweepLemmas

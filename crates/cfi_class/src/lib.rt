@@ -1,0 +1,15 @@
+//! Class numbers of branch slots and code addresses: what chains of edges join has one class.
+//!
+//! Stands on `cfi_word`; `cfi_policy` calls it. Proved: a slot and a code address get one number exactly where a chain of
+//! edges joins them, and exactly those without an edge get the number that says so. Only tested: that classes are
+//! numbered in the order of their least slots. Open: nothing.
+#![tactic(auto)]
+
+mod forest;
+mod labels;
+mod numbering;
+mod sweep;
+#[cfg(test)]
+mod tests;
+
+pub use labels::label;

@@ -1,0 +1,30 @@
+ghost use Rattle.std.specs.Prelude.{IfOk};
+ghost use Rattle.cfi_class.specs.Labels.{HasEdge, CanBeLabelled};
+ghost use Rattle.cfi_policy.specs.Code.{AreApart};
+ghost use Rattle.cfi_policy.specs.Image.{IsImage};
+
+use crate::code::code_of;
+use cfi_aux::Placed;
+use cfi_class::label;
+use cfi_word::{Edge, Image, Labels, Layout};
+use std::alloc::{AllocError, Global};
+
+/// The image of the modules where these edges lead from their branches: its classes and its code.
+///
+/// The modules lie apart, in the order of their places, and end within the layout. Edges and `slots` are as `label` of
+/// `cfi_class` takes them.
+pub fn image_from(
+    alloc: Global,
+    edges: &[Edge],
+    slots: u32,
+    modules: &[Placed],
+    layout: &Layout,
+) -> Result<Image, AllocError>
+    requires edges { CanBeLabelled edges.now slots layout.now }
+    requires modules { AreApart modules.now layout.now }
+    ensures { IfOk result (IsImage (HasEdge edges.now) modules.now layout.now) }
+{
+    let Labels { tary, bary } = label(alloc, edges, slots, layout)?;
+    let code = code_of(alloc, modules, layout)?;
+    Ok(Image { tary, bary, code })
+}

@@ -1,0 +1,6 @@
+pub mod Table
+pub mod Form
+pub mod Field
+pub mod Formula
+pub mod Bytes
+pub mod Applied
