@@ -28,7 +28,8 @@ worked_as words a b shelf bytes answer is_a is_b held worked =
     subst (λ (c : Command). Holds shelf (input_of c) bytes × IsWorked c bytes answer) (one_command words a b is_a is_b)
     (held, worked)
 
-module _ (words : List (List ℕ)) (shelf shelf' : ShelfView) (sink sink' : SinkView) (status : ℕ) (e : status ≡ DONE) where
+module _ (words : List (List ℕ)) (shelf shelf' : ShelfView) (sink sink' : SinkView) (status : ℕ)
+    (e : status ≡ DONE) where
   pub done_of : Ends words shelf shelf' sink sink' status → Fits words
   done_of (inl memory) = absurd (omega (arith, e, memory.0))
   done_of (inr (answers.Usage, is, inl d)) = absurd (omega (arith, e, d.0))
@@ -63,9 +64,10 @@ module _ (words : List (List ℕ)) (shelf shelf' : ShelfView) (sink sink' : Sink
 
 -- ---- what each command has done
 
-module _ (input bytes : List ℕ) (shelf shelf' : ShelfView) (sink sink' : SinkView) (held : Holds shelf input bytes) where
-  run_done : (answer : Answer) → IsMade (commands.Run input) bytes answer → IsWhole (output_of answer) shelf shelf' sink sink'
-      → HasRun input shelf sink sink'
+module _ (input bytes : List ℕ) (shelf shelf' : ShelfView) (sink sink' : SinkView)
+    (held : Holds shelf input bytes) where
+  run_done : (answer : Answer) → IsMade (commands.Run input) bytes answer
+      → IsWhole (output_of answer) shelf shelf' sink sink' → HasRun input shelf sink sink'
   run_done (answers.Ran part) made whole =
       record { bytes = bytes; held = held; part = part; justified = made; text = whole.1 }
   run_done (answers.Print text) made whole = absurd made
@@ -76,8 +78,8 @@ module _ (input bytes : List ℕ) (shelf shelf' : ShelfView) (sink sink' : SinkV
   run_done (answers.TooLong name) made whole = absurd made
   run_done (answers.Refused name refusal) made whole = absurd made
 
-  list_done : (answer : Answer) → IsMade (commands.List input) bytes answer → IsWhole (output_of answer) shelf shelf' sink sink'
-      → HasListed input shelf sink sink'
+  list_done : (answer : Answer) → IsMade (commands.List input) bytes answer
+      → IsWhole (output_of answer) shelf shelf' sink sink' → HasListed input shelf sink sink'
   list_done (answers.Print text) made whole =
       record { bytes = bytes; held = held; text = text; listing = made; printed = whole.1 }
   list_done (answers.Ran part) made whole = absurd made
@@ -89,15 +91,15 @@ module _ (input bytes : List ℕ) (shelf shelf' : ShelfView) (sink sink' : SinkV
   list_done (answers.Refused name refusal) made whole = absurd made
 
 pub ran_of : (words : List (List ℕ)) (shelf shelf' : ShelfView) (sink sink' : SinkView) (status : ℕ)
-    → Ends words shelf shelf' sink sink' status → (input : List ℕ) → IsCommand words (commands.Run input) → status ≡ DONE
-    → HasRun input shelf sink sink'
+    → Ends words shelf shelf' sink sink' status → (input : List ℕ)
+    → IsCommand words (commands.Run input) → status ≡ DONE → HasRun input shelf sink sink'
 ran_of words shelf shelf' sink sink' status ends input fits e =
     let done = command_done words shelf shelf' sink sink' status e (commands.Run input) fits ends in
     run_done input done.bytes shelf shelf' sink sink' done.held done.answer done.made done.delivered
 
 pub listed_of : (words : List (List ℕ)) (shelf shelf' : ShelfView) (sink sink' : SinkView) (status : ℕ)
-    → Ends words shelf shelf' sink sink' status → (input : List ℕ) → IsCommand words (commands.List input) → status ≡ DONE
-    → HasListed input shelf sink sink'
+    → Ends words shelf shelf' sink sink' status → (input : List ℕ)
+    → IsCommand words (commands.List input) → status ≡ DONE → HasListed input shelf sink sink'
 listed_of words shelf shelf' sink sink' status ends input fits e =
     let done = command_done words shelf shelf' sink sink' status e (commands.List input) fits ends in
     list_done input done.bytes shelf shelf' sink sink' done.held done.answer done.made done.delivered

@@ -72,8 +72,8 @@ exceeded (Some told) name input same long =
     subst (λ (n : List ℕ). IsMissing (told n)) same (long_missing (told name) long)
 
 -- an answer that was delivered ends the program
-pub ends_of : (words : List (List ℕ)) (shelf mid shelf' : ShelfView) (sink sink' : SinkView) (status : ℕ) (answer : Answer)
-    → (output : Output) → output ≡ output_of answer → IsLater shelf mid → mid.faults ≤ shelf'.faults
+pub ends_of : (words : List (List ℕ)) (shelf mid shelf' : ShelfView) (sink sink' : SinkView) (status : ℕ)
+    (answer : Answer) (output : Output) → output ≡ output_of answer → IsLater shelf mid → mid.faults ≤ shelf'.faults
     → mid.misses ≤ shelf'.misses → IsAnswer words shelf mid answer
     → IsStarved mid shelf' sink sink' status ⊎ IsDelivered output mid shelf' sink sink' status
     → Ends words shelf shelf' sink sink' status

@@ -52,7 +52,8 @@ pub kept_same : (files files' : Option Files) (Q : List ℕ → Type 0) → file
     → WhereKeptTold files files' (λ told told'. (name : List ℕ) → Q name → told' name ≡ told name)
 kept_same None files' Q same = tt
 kept_same (Some told) files' Q same =
-    subst (λ (f : Option Files). WhereKeptTold (Some told) f (λ told told'. (name : List ℕ) → Q name → told' name ≡ told name))
+    subst (λ (f : Option Files). WhereKeptTold (Some told) f
+    (λ told told'. (name : List ℕ) → Q name → told' name ≡ told name))
     (sym same) (λ name q. refl)
 
 -- names other than that of a file that was saved stay

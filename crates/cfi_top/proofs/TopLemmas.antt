@@ -93,7 +93,8 @@ module _ (words : List (List ℕ)) (shelf shelf' : ShelfView) (sink sink' : Sink
   refused_of (inr (answer, is, inr d)) e = absurd (omega (arith, e, d.0))
 
   -- why something was delivered in part
-  broken_of : (answer : Answer) → IsAnswer words shelf shelf' answer → IsBroken (output_of answer) shelf shelf' sink sink'
+  broken_of : (answer : Answer) → IsAnswer words shelf shelf' answer
+      → IsBroken (output_of answer) shelf shelf' sink sink'
       → Rose sink.faults sink'.faults ⊎ (Saves words × Rose shelf.faults shelf'.faults)
   broken_of (answers.Save name file) is broken = inr ((name, saves_of words shelf shelf' name file is), broken.1)
   broken_of answers.Usage is broken = inl broken.1

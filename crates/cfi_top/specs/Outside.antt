@@ -34,15 +34,16 @@ abbrev pub status_of : Output → ℕ
 status_of (outputs.Print status text) = status
 status_of (outputs.Save name bytes) = DONE
 
--- the text is printed whole, and all files stay; or the file has the bytes, all other files stay, and nothing is printed
+-- the text is printed whole, and all files stay; or the file has the bytes, all other files stay, and nothing is
+-- printed
 abbrev pub IsWhole : Output → (shelf shelf' : ShelfView) → (sink sink' : SinkView) → Type 0
 IsWhole (outputs.Print status text) shelf shelf' sink sink' =
     (shelf'.files ≡ shelf.files) × Appends sink.written sink'.written text
 IsWhole (outputs.Save name bytes) shelf shelf' sink sink' =
     (sink'.written ≡ sink.written) × WhereKeptTold shelf.files shelf'.files (Puts name bytes)
 
--- The sink failed and has a part of the text, and all files stay. Or the shelf failed and the file has what it had, or a
--- part of the bytes, all other files stay, and nothing is printed.
+-- The sink failed and has a part of the text, and all files stay. Or the shelf failed and the file has what it had, or
+-- a part of the bytes, all other files stay, and nothing is printed.
 abbrev pub IsBroken : Output → (shelf shelf' : ShelfView) → (sink sink' : SinkView) → Type 0
 IsBroken (outputs.Print status text) shelf shelf' sink sink' =
     (shelf'.files ≡ shelf.files) × Rose sink.faults sink'.faults × AppendsPrefix sink.written sink'.written text

@@ -121,8 +121,8 @@ fn refusals(rt: HostRuntime) -> Result<(), Fail> {
     Ok(())
 }
 
-// A relocatable ELF32 file for RISC-V by hand: its header, the text, the names of sections from 56 on, and from 76 on the
-// headers of the sections: none, `.text`, `.shstrtab` (System V ELF, "ELF Header" and "Sections").
+// A relocatable ELF32 file for RISC-V by hand: its header, the text, the names of sections from 56 on, and from 76 on
+// the headers of the sections: none, `.text`, `.shstrtab` (System V ELF, "ELF Header" and "Sections").
 const OBJECT_HEADER: &[u8; 52] =
     b"\x7fELF\x01\x01\x01\0\0\0\0\0\0\0\0\0\x01\0\xf3\0\x01\0\0\0\0\0\0\0\0\0\0\0\x4c\0\0\0\0\0\0\0\x34\0\0\0\0\0\x28\0\x03\0\x02\0";
 
