@@ -1,5 +1,9 @@
-pub mod WordsLemmas
-pub mod RunLemmas
+pub mod CommandLemmas
+pub mod OutsideLemmas
+pub mod OutcomeLemmas
+pub mod DoneLemmas
 pub mod TopLemmas
+pub mod FilesLemmas
+pub mod RunLemmas
 pub mod ValidLemmas
 pub mod EntryImageLemmas

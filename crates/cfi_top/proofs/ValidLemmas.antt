@@ -3,7 +3,9 @@ use Rattle.std.proofs.Common.{ℕ, List, [], ◌∷◌, Some, refl, arith}
 use Rattle.std.specs.Prelude.{codes}
 use Rattle.cfi_io.specs.Files.{Files}
 use Rattle.cfi_bare.proofs.AcceptedLemmas.{accepted}
+use Rattle.cfi_top.specs.declared.command.Command.TheVariants.{Run}
 use Rattle.cfi_top.specs.Top.{IsValid}
+use Rattle.cfi_top.proofs.CommandLemmas.{all_of_one}
 
 -- the bytes of the word `j .`
 abbrev bytes : List ℕ
@@ -15,10 +17,10 @@ files name = Some bytes
 
 pub valid : IsValid (codes "run" ∷ codes "a" ∷ []) files
 valid = record {
-  fits = record { shape = refl; operand = λ e. absurd (omega (arith, e)) };
+  command = Run (codes "a");
+  fits = record { spelled = refl; operands = all_of_one (codes "a") (λ e. absurd (omega (arith, e))) };
   bytes = bytes;
   held = refl;
   short = omega arith;
-  code = 111 ∷ [];
-  accepted = accepted;
+  taken = (111 ∷ [], accepted);
 }

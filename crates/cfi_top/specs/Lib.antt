@@ -1,5 +1,7 @@
 pub mod Text
 pub mod Run
 pub mod Answer
-pub mod Words
+pub mod Command
+pub mod Outside
+pub mod Outcome
 pub mod Top

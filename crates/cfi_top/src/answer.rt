@@ -1,48 +1,48 @@
-ghost use Rattle.std.specs.Prelude.{◌≡◌, ◌++◌, ℕ, IfOk, OnOk, string_bytes};
-ghost use Rattle.cfi_top.specs.Text.{report_text};
-ghost use Rattle.cfi_top.specs.Answer.{fault_text, refusal_text, text_of, status_of};
+ghost use Rattle.std.specs.Prelude.{◌≡◌, IfOk, string_bytes};
+ghost use Rattle.cfi_top.specs.declared.answer.Output.TheVariants as outputs;
+ghost use Rattle.cfi_top.specs.Answer.{output_of, refused_line};
 
 use crate::text::report_text;
-use cfi_bare::{Refusal, VerifyFault};
+use cfi_plan::Text;
+use cfi_refusal::{Refusal, put_refusal};
 use cfi_report::GuestPart;
+use cfi_unit::Bytes;
 use std::alloc::{AllocError, Global};
 
-/// What a command comes to, whatever the sink does.
+/// What a command comes to, whatever the shelf and the sink do with it.
 #[derive(Debug, Drop)]
 pub enum Answer {
-    /// The file was run.
+    /// The bare file was run, and this is said of its guest.
     Ran(GuestPart),
-    /// The words fit no command.
+    /// The command prints this text.
+    Print(Bytes),
+    /// The command saves a file of this name with these bytes.
+    Save(Text, Bytes),
+    /// The words are no command.
     Usage,
-    /// The shelf failed.
-    ReadFault,
-    /// The file is not there.
-    Absent,
-    /// The file is too long to be read.
-    TooLong,
-    /// The file was refused.
-    Refused(Refusal),
+    /// The shelf failed when this file was read.
+    ReadFault(Text),
+    /// This file is not there.
+    Absent(Text),
+    /// This file is too long to be read.
+    TooLong(Text),
+    /// This file was refused.
+    Refused(Text, Refusal),
 }
 
-impl Answer {
-    /// The status that the program ends with, where the text is written.
-    pub fn status(&self) -> u8
-        ensures { result ≡ status_of self.now }
-    {
-        match self {
-            Answer::Ran(_) => RAN,
-            Answer::Usage => USAGE,
-            Answer::ReadFault => READ_FAULT,
-            Answer::Absent | Answer::TooLong => NO_FILE,
-            Answer::Refused(_) => REFUSED,
-        }
-    }
+/// What is to be delivered: a text to the sink with the status that it makes, or a file to the shelf.
+#[derive(Debug, Drop)]
+pub enum Output {
+    /// A text, and the status where it was written whole.
+    Print(u8, Bytes),
+    /// The name of a file, and its bytes.
+    Save(Text, Bytes),
 }
 
-/// The command's text was written whole.
-pub const RAN: u8 = 0;
+/// The command's bytes were written whole.
+pub const DONE: u8 = 0;
 
-/// The words fit no command.
+/// The words are no command.
 pub const USAGE: u8 = 1;
 
 /// The shelf failed.
@@ -51,7 +51,7 @@ pub const READ_FAULT: u8 = 2;
 /// A file is not there, or too long.
 pub const NO_FILE: u8 = 3;
 
-/// The sink failed.
+/// The sink failed, or the shelf where a file was saved.
 pub const WRITE_FAULT: u8 = 4;
 
 /// A file was refused.
@@ -60,68 +60,52 @@ pub const REFUSED: u8 = 5;
 /// No memory is left.
 pub const MEMORY: u8 = 6;
 
-fn push_fault(text: &mut String, fault: VerifyFault) -> Result<(), AllocError>
-    ensures { OnOk result (string_bytes text.new ≡ string_bytes text.old ++ fault_text fault) }
+// The line of a refusal of the file of this name.
+fn refused_line(alloc: Global, name: &str, refusal: Refusal) -> Result<String, AllocError>
+    ensures { IfOk result (λ line. string_bytes line ≡ refused_line name.now refusal) }
 {
-    match fault {
-        VerifyFault::Empty => text.push_str("Empty"),
-        VerifyFault::Illegal(at) => {
-            let offset = 4 * u64::from(at);
-            write!(text, "Illegal {offset}")
+    let mut line = format!(in alloc; "refused {name} ")?;
+    put_refusal(&mut line, refusal)?;
+    line.push_str("\n")?;
+    Ok(line)
+}
+
+// A line for the sink.
+fn line_of(status: u8, line: String) -> Output
+    ensures { result ≡ outputs.Print status (string_bytes line) }
+{
+    Output::Print(status, Bytes::from_vec(line.into_bytes()))
+}
+
+/// What is to be delivered of an answer.
+pub fn output_of(alloc: Global, answer: Answer) -> Result<Output, AllocError>
+    ensures { IfOk result (λ output. output ≡ output_of answer) }
+{
+    match answer {
+        Answer::Ran(part) => {
+            let text = report_text(alloc, part)?;
+            Ok(Output::Print(DONE, Bytes::from_vec(text)))
         }
-        VerifyFault::NotUnit(at) => {
-            let offset = 4 * u64::from(at);
-            write!(text, "NotUnit {offset}")
+        Answer::Print(text) => Ok(Output::Print(DONE, text)),
+        Answer::Save(name, bytes) => Ok(Output::Save(name, bytes)),
+        Answer::Usage => {
+            let line = "usage: cfi asm|list|instrument|link|verify|graph|sim|run|gen\n";
+            Ok(line_of(USAGE, line.to_string(alloc)?))
         }
-        VerifyFault::FallsThrough(function) => write!(text, "FallsThrough {function}"),
-        VerifyFault::Target(at) => {
-            let offset = 4 * u64::from(at);
-            write!(text, "Target {offset}")
+        Answer::ReadFault(name) => {
+            let name = name.as_str();
+            Ok(line_of(READ_FAULT, format!(in alloc; "failed read {name}\n")?))
         }
-        VerifyFault::Kinds(at) => {
-            let offset = 4 * u64::from(at);
-            write!(text, "Kinds {offset}")
+        Answer::Absent(name) => {
+            let name = name.as_str();
+            Ok(line_of(NO_FILE, format!(in alloc; "absent {name}\n")?))
+        }
+        Answer::TooLong(name) => {
+            let name = name.as_str();
+            Ok(line_of(NO_FILE, format!(in alloc; "toolong {name}\n")?))
+        }
+        Answer::Refused(name, refusal) => {
+            Ok(line_of(REFUSED, refused_line(alloc, name.as_str(), refusal)?))
         }
     }
-}
-
-fn push_refusal(text: &mut String, refusal: Refusal) -> Result<(), AllocError>
-    ensures { OnOk result (string_bytes text.new ≡ string_bytes text.old ++ refusal_text refusal) }
-{
-    match refusal {
-        Refusal::Plan => text.push_str("bare Plan"),
-        Refusal::Length(count) => write!(text, "bare Length {count}"),
-        Refusal::CodeFull => text.push_str("place CodeFull"),
-        Refusal::Verify(fault) => {
-            text.push_str("verify ")?;
-            push_fault(text, fault)
-        }
-    }
-}
-
-// The text of a refusal of the file of this name.
-fn refused_text(alloc: Global, name: &str, refusal: Refusal) -> Result<String, AllocError>
-    ensures { IfOk result (λ text. string_bytes text ≡ text_of name.now (Answer.Refused refusal)) }
-{
-    let mut text = format!(in alloc; "refused {name} ")?;
-    push_refusal(&mut text, refusal)?;
-    text.push_str("\n")?;
-    Ok(text)
-}
-
-/// The text of an answer about the file of this name.
-pub fn text_of(alloc: Global, name: &str, answer: Answer) -> Result<Vec<u8>, AllocError>
-    ensures { IfOk result (λ text. text.items ≡ text_of name.now answer) }
-{
-    let text = match answer {
-        Answer::Ran(part) => return report_text(alloc, part),
-        Answer::Usage => "usage: cfi asm|list|instrument|link|verify|graph|sim|run|gen\n".to_string(
-            alloc,
-        )?,
-        Answer::ReadFault => format!(in alloc; "failed read {name}\n")?,
-        Answer::Absent => format!(in alloc; "absent {name}\n")?,
-        Answer::TooLong => format!(in alloc; "toolong {name}\n")?,
-        Answer::Refused(refusal) => refused_text(alloc, name, refusal)?,
-    };
-    Ok(text.into_bytes())
 }

@@ -1,22 +1,25 @@
 //! The program as one public call: `top` takes the words, a shelf, a sink and a gate.
 //!
-//! Stands on `cfi_io`, `cfi_bare`, `cfi_fixed`, `rv_guest` and `cfi_report`; `cfi` calls it. Proved: what is reported
-//! was run by a guest of the raw machine, which shows the policy machine, unit by unit; each status and its text, with
-//! its cause; that valid input gives 0 or 6. Only tested: that memory is there where it is asked for, and that the gate
-//! is passed once in each service. Open: nothing.
+//! Stands on `cfi_io`, `cfi_tools`, `cfi_refusal`, `cfi_bare`, `cfi_fixed`, `rv_guest` and `cfi_report`; `cfi` calls
+//! it. Proved: what is reported was run by a guest of the raw machine, which shows the policy machine, unit by unit;
+//! what is listed is the listing of the object's text; each status and its text, with its cause; that valid input gives
+//! 0 or 6; which files stay. Only tested: that memory is there where it is asked for, and that the gate is passed once
+//! in each service. Open: nothing.
 #![tactic(auto)]
 
 mod answer;
+mod command;
+mod deliver;
 pub mod laws;
 mod program;
 mod run;
 #[cfg(test)]
 mod tests;
 mod text;
-mod words;
+mod work;
 
-pub use answer::{Answer, MEMORY, NO_FILE, RAN, READ_FAULT, REFUSED, USAGE, WRITE_FAULT};
-pub use cfi_bare::{BareCode, Refusal, VerifyFault, accept};
+pub use answer::{DONE, MEMORY, NO_FILE, READ_FAULT, REFUSED, USAGE, WRITE_FAULT};
+pub use cfi_bare::{BareCode, accept};
 pub use cfi_fixed::run_fixed;
 pub use program::{Ended, FUEL, top};
 pub use run::run_bare;

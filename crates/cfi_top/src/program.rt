@@ -1,17 +1,18 @@
-ghost use Rattle.std.specs.Prelude.{◌≡◌, ◌≤◌, ℕ, List, IfOk, IfSome, ◌⊎◌, string_bytes};
-ghost use Rattle.std.specs.Io.KnownBytes.{Appends};
+ghost use Rattle.std.specs.Prelude.{◌≡◌, ◌≤◌, IfOk, IfSome, ◌⊎◌, ℕ, List};
 ghost use Rattle.cfi_io.specs.Count.{Rose};
-ghost use Rattle.cfi_top.specs.declared.answer.Answer.{Answer};
-ghost use Rattle.cfi_top.specs.Words.{texts};
-ghost use Rattle.cfi_top.specs.Answer.{text_of, status_of};
-ghost use Rattle.cfi_top.specs.Top.{name_of, IsBytesAnswer, IsFileAnswer, IsAnswer, Delivers, Ends, Fits, HasRun, IsRefused, IsNotThere, IsValid};
-ghost use Rattle.cfi_top.specs.declared.answer.TheConstants.{RAN, USAGE, READ_FAULT, NO_FILE, WRITE_FAULT, REFUSED, MEMORY};
+ghost use Rattle.cfi_io.specs.Told.{WhereKeptTold};
+ghost use Rattle.cfi_top.specs.declared.command.Command.TheVariants as commands;
+ghost use Rattle.cfi_top.specs.declared.answer.TheConstants.{DONE, USAGE, READ_FAULT, NO_FILE, WRITE_FAULT, REFUSED, MEMORY};
+ghost use Rattle.cfi_top.specs.Command.{texts, IsCommand, Fits};
+ghost use Rattle.cfi_top.specs.Outside.{shelf_view, sink_view};
+ghost use Rattle.cfi_top.specs.Outcome.{IsAnswer};
+ghost use Rattle.cfi_top.specs.Top.{Ends, HasRun, HasListed, IsRefused, IsNotThere, IsSavedBy, Saves, IsValid, IsSteady};
 
-use crate::answer::{Answer, MEMORY, WRITE_FAULT, text_of};
-use crate::run::run_bare;
-use crate::words::file_of;
-use cfi_bare::accept;
-use cfi_io::{Gate, Shelf, ShelfFault, Sink, SinkFault};
+use crate::answer::{Answer, MEMORY, output_of};
+use crate::command::command_of;
+use crate::deliver::deliver;
+use crate::work::outcome_of;
+use cfi_io::{Gate, Shelf, Sink};
 use std::alloc::{AllocError, Global};
 
 /// The most instructions that the guest of a bare file runs.
@@ -24,72 +25,23 @@ pub struct Ended {
     pub status: u8,
 }
 
-// Runs what was read.
-fn answer_bytes<G: Gate>(alloc: Global, bytes: &[u8], gate: &G) -> Result<Answer, AllocError>
-    ensures { IfOk result (IsBytesAnswer bytes.now) }
-{
-    match accept(alloc, bytes)? {
-        Ok(code) => Ok(Answer::Ran(run_bare(alloc, &code, gate, FUEL)?)),
-        Err(refusal) => Ok(Answer::Refused(refusal)),
-    }
-}
-
-// Reads a file and runs it.
-fn answer_file<F: Shelf, G: Gate>(
-    alloc: Global,
-    name: &str,
-    shelf: &mut F,
-    gate: &G,
-) -> Result<Answer, AllocError>
-    ensures answer { IfOk result (IsFileAnswer name.now (F.files shelf.old)
-        (F.faults shelf.old) (F.faults shelf.new) (F.misses shelf.old) (F.misses shelf.new)) }
-    ensures same { F.files shelf.new ≡ F.files shelf.old }
-{
-    match shelf.read(name) {
-        Ok(bytes) => answer_bytes(alloc, &bytes, gate),
-        Err(ShelfFault::Failed) => Ok(Answer::ReadFault),
-        Err(ShelfFault::Absent) => Ok(Answer::Absent),
-        Err(ShelfFault::TooLong) => Ok(Answer::TooLong),
-        Err(ShelfFault::Memory) => Err(AllocError),
-    }
-}
-
 // What the words come to.
-fn answer_words<F: Shelf, G: Gate>(
+fn answer_of<F: Shelf, G: Gate>(
     alloc: Global,
     words: &[String],
     shelf: &mut F,
     gate: &G,
 ) -> Result<Answer, AllocError>
-    ensures answer { IfOk result (IsAnswer (texts words.now) (F.files shelf.old)
-        (F.faults shelf.old) (F.faults shelf.new) (F.misses shelf.old) (F.misses shelf.new)) }
+    ensures answer { IfOk result (IsAnswer (texts words.now)
+        (shelf_view (F.files shelf.old) (F.faults shelf.old) (F.misses shelf.old))
+        (shelf_view (F.files shelf.new) (F.faults shelf.new) (F.misses shelf.new))) }
     ensures same { F.files shelf.new ≡ F.files shelf.old }
+    ensures faults { F.faults shelf.old ≤ F.faults shelf.new }
+    ensures misses { F.misses shelf.old ≤ F.misses shelf.new }
 {
-    match file_of(words) {
-        Some(name) => answer_file(alloc, name, shelf, gate),
+    match command_of(alloc, words)? {
+        Some(command) => outcome_of(alloc, command, shelf, gate),
         None => Ok(Answer::Usage),
-    }
-}
-
-// The text of what the words came to.
-fn words_text(alloc: Global, words: &[String], answer: Answer) -> Result<Vec<u8>, AllocError>
-    ensures { IfOk result (λ text. text.items ≡ text_of (name_of (texts words.now)) answer) }
-{
-    match words {
-        [_, name, ..] => text_of(alloc, name.as_str(), answer),
-        _ => text_of(alloc, "", answer),
-    }
-}
-
-// Writes a text, and answers the status that the program ends with.
-fn deliver<S: Sink>(sink: &mut S, wanted: u8, text: &[u8]) -> u8
-    ensures { Delivers wanted text.now result (S.written sink.old) (S.written sink.new)
-        (S.faults sink.old) (S.faults sink.new) }
-{
-    match sink.write(text) {
-        Ok(()) => wanted,
-        Err(SinkFault::Failed) => WRITE_FAULT,
-        Err(SinkFault::Memory) => MEMORY,
     }
 }
 
@@ -101,26 +53,27 @@ fn run_words<F: Shelf, S: Sink, G: Gate>(
     sink: &mut S,
     gate: &G,
 ) -> u8
-    ensures ends { Ends (texts words.now) (F.files shelf.old)
-        (F.faults shelf.old) (F.faults shelf.new) (F.misses shelf.old) (F.misses shelf.new)
-        result (S.written sink.old) (S.written sink.new) (S.faults sink.old) (S.faults sink.new) }
-    ensures same { F.files shelf.new ≡ F.files shelf.old }
+    ensures ends { Ends (texts words.now)
+        (shelf_view (F.files shelf.old) (F.faults shelf.old) (F.misses shelf.old))
+        (shelf_view (F.files shelf.new) (F.faults shelf.new) (F.misses shelf.new))
+        (sink_view (S.written sink.old) (S.faults sink.old))
+        (sink_view (S.written sink.new) (S.faults sink.new)) result }
 {
-    let Ok(answer) = answer_words(alloc, words, shelf, gate) else {
+    let Ok(answer) = answer_of(alloc, words, shelf, gate) else {
         return MEMORY;
     };
-    let status = answer.status();
-    let Ok(text) = words_text(alloc, words, answer) else {
+    let Ok(output) = output_of(alloc, answer) else {
         return MEMORY;
     };
-    deliver(sink, status, text.as_slice())
+    deliver(shelf, sink, &output)
 }
 
 /// Runs the program: its words after its own name, over a shelf, a sink and a gate.
 ///
-/// `run FILE` verifies a bare file, runs it and writes its report. Status 0 where the report was written, 1 where the
-/// words fit no command, 2 where the shelf failed, 3 where the file is not there or too long, 4 where the sink failed,
-/// 5 where the file was refused, 6 where no memory was left.
+/// `list IN` prints the listing of an object's text. `run FILE` verifies a bare file, runs it and prints its report.
+/// Status 0 where the command's bytes were written whole, 1 where the words are no command, 2 where the shelf failed,
+/// 3 where a file is not there or too long, 4 where the sink failed, or the shelf where a file was saved, 5 where a
+/// file was refused, 6 where no memory was left.
 pub fn top<F: Shelf, S: Sink, G: Gate>(
     alloc: Global,
     words: &[String],
@@ -128,31 +81,57 @@ pub fn top<F: Shelf, S: Sink, G: Gate>(
     sink: &mut S,
     gate: &G,
 ) -> Ended
-    ensures ends { Ends (texts words.now) (F.files shelf.old)
-        (F.faults shelf.old) (F.faults shelf.new) (F.misses shelf.old) (F.misses shelf.new)
-        result.status (S.written sink.old) (S.written sink.new) (S.faults sink.old) (S.faults sink.new) }
+    ensures ends { Ends (texts words.now)
+        (shelf_view (F.files shelf.old) (F.faults shelf.old) (F.misses shelf.old))
+        (shelf_view (F.files shelf.new) (F.faults shelf.new) (F.misses shelf.new))
+        (sink_view (S.written sink.old) (S.faults sink.old))
+        (sink_view (S.written sink.new) (S.faults sink.new)) result.status }
+
     // The headline: what is reported was run by the policy machine, unit by unit.
-    ensures ran { result.status ≡ RAN →
-        HasRun (texts words.now) (F.files shelf.old) (S.written sink.old) (S.written sink.new) }
+    ensures ran { (input : List ℕ) → IsCommand (texts words.now) (commands.Run input) →
+        result.status ≡ DONE → HasRun input
+        (shelf_view (F.files shelf.old) (F.faults shelf.old) (F.misses shelf.old))
+        (sink_view (S.written sink.old) (S.faults sink.old))
+        (sink_view (S.written sink.new) (S.faults sink.new)) }
+    ensures listed { (input : List ℕ) → IsCommand (texts words.now) (commands.List input) →
+        result.status ≡ DONE → HasListed input
+        (shelf_view (F.files shelf.old) (F.faults shelf.old) (F.misses shelf.old))
+        (sink_view (S.written sink.old) (S.faults sink.old))
+        (sink_view (S.written sink.new) (S.faults sink.new)) }
+
+    // When each status comes.
+    ensures done { result.status ≡ DONE → Fits (texts words.now) }
     ensures usage { result.status ≡ USAGE → ¬ Fits (texts words.now) }
     ensures unfit { ¬ Fits (texts words.now) →
         (result.status ≡ USAGE) ⊎ (result.status ≡ WRITE_FAULT) ⊎ (result.status ≡ MEMORY) }
     ensures read_fault { result.status ≡ READ_FAULT →
         Rose (F.faults shelf.old) (F.faults shelf.new) }
     ensures missed { result.status ≡ NO_FILE → Rose (F.misses shelf.old) (F.misses shelf.new) }
-    ensures no_file { result.status ≡ NO_FILE → IsNotThere (texts words.now) (F.files shelf.old) }
+    ensures no_file { result.status ≡ NO_FILE → IsNotThere (texts words.now)
+        (shelf_view (F.files shelf.old) (F.faults shelf.old) (F.misses shelf.old)) }
     ensures write_fault { result.status ≡ WRITE_FAULT →
-        Rose (S.faults sink.old) (S.faults sink.new) }
-    ensures refused { result.status ≡ REFUSED →
-        IsRefused (texts words.now) (F.files shelf.old) (S.written sink.old) (S.written sink.new) }
+        Rose (S.faults sink.old) (S.faults sink.new)
+        ⊎ (Saves (texts words.now) × Rose (F.faults shelf.old) (F.faults shelf.new)) }
+    ensures refused { result.status ≡ REFUSED → IsRefused (texts words.now)
+        (shelf_view (F.files shelf.old) (F.faults shelf.old) (F.misses shelf.old))
+        (sink_view (S.written sink.old) (S.faults sink.old))
+        (sink_view (S.written sink.new) (S.faults sink.new)) }
     ensures within { result.status ≤ MEMORY }
+
     // Valid input gives 0 or 6, where no count rises.
-    ensures valid { IfSome (F.files shelf.old) (λ told. IsValid (texts words.now) told →
-        ¬ Rose (F.faults shelf.old) (F.faults shelf.new) →
-        ¬ Rose (F.misses shelf.old) (F.misses shelf.new) →
-        ¬ Rose (S.faults sink.old) (S.faults sink.new) →
-        (result.status ≡ RAN) ⊎ (result.status ≡ MEMORY)) }
-    ensures same { F.files shelf.new ≡ F.files shelf.old }
+    ensures valid { IfSome (F.files shelf.old) (λ told. IsValid (texts words.now) told → IsSteady
+        (shelf_view (F.files shelf.old) (F.faults shelf.old) (F.misses shelf.old))
+        (shelf_view (F.files shelf.new) (F.faults shelf.new) (F.misses shelf.new))
+        (sink_view (S.written sink.old) (S.faults sink.old))
+        (sink_view (S.written sink.new) (S.faults sink.new)) →
+        (result.status ≡ DONE) ⊎ (result.status ≡ MEMORY)) }
+
+    // All files stay but the one that the command saves, and that one too but at 0, and at 4 where the shelf failed.
+    ensures elsewhere { WhereKeptTold (F.files shelf.old) (F.files shelf.new) (λ told told'.
+        (name : List ℕ) → ¬ IsSavedBy (texts words.now) name → told' name ≡ told name) }
+    ensures same { (F.files shelf.new ≡ F.files shelf.old) ⊎ (Saves (texts words.now) ×
+        ((result.status ≡ DONE) ⊎ ((result.status ≡ WRITE_FAULT) ×
+        Rose (F.faults shelf.old) (F.faults shelf.new)))) }
 {
     let status = run_words(alloc, words, shelf, sink, gate);
     Ended { status }

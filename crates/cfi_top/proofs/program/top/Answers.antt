@@ -1,10 +1,46 @@
-use Rattle.cfi_top.proofs.TopLemmas.{refused_of, valid_if}
+use Rattle.cfi_top.proofs.DoneLemmas.{done_of, ran_of, listed_of}
+use Rattle.cfi_top.proofs.TopLemmas.{usage_of, unfit_of, read_fault_of, no_file_of, write_fault_of, refused_of}
+use Rattle.cfi_top.proofs.FilesLemmas.{valid_if, elsewhere_of, same_of, within_of}
 use Rattle.cfi_top.proofs.program.top.Goals as goal
 
--- status 5 says that the file was refused
-pub returns-clause-refused : goal.returns-clause-refused
-returns-clause-refused g c = refused_of _ _ _ _ _ _ _ _ _ _ _ c.run_words-status.ensures.ends
+pub returns-clause-ran : goal.returns-clause-ran
+returns-clause-ran g c = ran_of _ _ _ _ _ _ c.run_words-status.ensures.ends
 
--- valid input gives 0 or 6
+pub returns-clause-listed : goal.returns-clause-listed
+returns-clause-listed g c = listed_of _ _ _ _ _ _ c.run_words-status.ensures.ends
+
+pub returns-clause-done : goal.returns-clause-done
+returns-clause-done g c = λ e. done_of _ _ _ _ _ _ e c.run_words-status.ensures.ends
+
+pub returns-clause-usage : goal.returns-clause-usage
+returns-clause-usage g c = usage_of _ _ _ _ _ _ c.run_words-status.ensures.ends
+
+pub returns-clause-unfit : goal.returns-clause-unfit
+returns-clause-unfit g c = unfit_of _ _ _ _ _ _ c.run_words-status.ensures.ends
+
+pub returns-clause-read_fault : goal.returns-clause-read_fault
+returns-clause-read_fault g c = read_fault_of _ _ _ _ _ _ c.run_words-status.ensures.ends
+
+pub returns-clause-missed : goal.returns-clause-missed
+returns-clause-missed g c = λ e. (no_file_of _ _ _ _ _ _ c.run_words-status.ensures.ends e).0
+
+pub returns-clause-no_file : goal.returns-clause-no_file
+returns-clause-no_file g c = λ e. (no_file_of _ _ _ _ _ _ c.run_words-status.ensures.ends e).1
+
+pub returns-clause-write_fault : goal.returns-clause-write_fault
+returns-clause-write_fault g c = write_fault_of _ _ _ _ _ _ c.run_words-status.ensures.ends
+
+pub returns-clause-refused : goal.returns-clause-refused
+returns-clause-refused g c = refused_of _ _ _ _ _ _ c.run_words-status.ensures.ends
+
+pub returns-clause-within : goal.returns-clause-within
+returns-clause-within g c = within_of _ _ _ _ _ _ c.run_words-status.ensures.ends
+
 pub returns-clause-valid : goal.returns-clause-valid
-returns-clause-valid g c = valid_if _ _ _ _ _ _ _ _ _ _ _ c.run_words-status.ensures.ends
+returns-clause-valid g c = valid_if _ _ _ _ _ _ _ _ c.run_words-status.ensures.ends
+
+pub returns-clause-elsewhere : goal.returns-clause-elsewhere
+returns-clause-elsewhere g c = elsewhere_of _ _ _ _ _ _ c.run_words-status.ensures.ends
+
+pub returns-clause-same : goal.returns-clause-same
+returns-clause-same g c = same_of _ _ _ _ _ _ c.run_words-status.ensures.ends

@@ -1,0 +1,13 @@
+//! Why a file is refused, by the layer that refuses it, and the words that say so.
+//!
+//! Stands on the layers, `cfi_bare` and `elf_read`; `cfi_top` calls it. Proved: `put_refusal` writes the words of
+//! `specs/Refusal.antt`. Only tested: that ample memory is enough. Open: nothing.
+#![tactic(auto)]
+
+mod bare;
+mod elf;
+mod refusal;
+#[cfg(test)]
+mod tests;
+
+pub use refusal::{Refusal, put_refusal};

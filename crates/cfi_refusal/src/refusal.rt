@@ -1,0 +1,33 @@
+ghost use Rattle.std.specs.Prelude.{◌≡◌, ◌++◌, OnOk, string_bytes};
+ghost use Rattle.cfi_refusal.specs.Refusal.{refusal_text};
+
+use crate::bare::put_bare;
+use crate::elf::put_elf;
+use cfi_bare::Refusal as BareRefusal;
+use elf_read::ElfFault;
+use std::alloc::AllocError;
+
+/// Why a file is refused: a layer, and its first fault.
+#[derive(Clone, Copy, Debug, PartialEq, Eq)]
+pub enum Refusal {
+    /// As a bare file.
+    Bare(BareRefusal),
+    /// As an object.
+    Elf(ElfFault),
+}
+
+/// Appends the words of a refusal: the layer's name, the fault's name, and the fault's fields.
+///
+/// Single spaces stand between the words, numbers are decimal, and places of code are in bytes. Want of memory is no
+/// refusal: the fault of that name is written for completeness alone.
+pub fn put_refusal(text: &mut String, refusal: Refusal) -> Result<(), AllocError>
+    ensures { OnOk result (string_bytes text.new ≡ string_bytes text.old ++ refusal_text refusal) }
+{
+    match refusal {
+        Refusal::Bare(refusal) => put_bare(text, refusal),
+        Refusal::Elf(fault) => {
+            text.push_str("elf ")?;
+            put_elf(text, fault)
+        }
+    }
+}

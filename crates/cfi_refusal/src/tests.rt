@@ -1,0 +1,30 @@
+use crate::{Refusal, put_refusal};
+use cfi_bare::{Refusal as BareRefusal, VerifyFault};
+use elf_read::{ElfFault, Limit};
+use std::test::Fail;
+
+#[test]
+fn refusals(rt: HostRuntime) -> Result<(), Fail> {
+    let rows = [
+        (Refusal::Bare(BareRefusal::Length(3)), "bare Length 3"),
+        (
+            Refusal::Bare(BareRefusal::Verify(VerifyFault::Target(2))),
+            "verify Target 8",
+        ),
+        (Refusal::Elf(ElfFault::Short(0)), "elf Short 0"),
+        (
+            Refusal::Elf(ElfFault::UnknownReloc(1, 57)),
+            "elf UnknownReloc 1 57",
+        ),
+        (
+            Refusal::Elf(ElfFault::TooMany(Limit::Relocs)),
+            "elf TooMany Relocs",
+        ),
+    ];
+    for (refusal, words) in rows {
+        let mut text = String::new(rt.alloc());
+        put_refusal(&mut text, refusal)?;
+        assert_eq!(rt; text.as_str(), words, "the words of a refusal");
+    }
+    Ok(())
+}

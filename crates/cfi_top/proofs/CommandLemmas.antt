@@ -1,0 +1,32 @@
+-- Which words are which command.
+use Rattle.std.proofs.Common.{◌≡◌, ℕ, List, [], ◌∷◌, Option, Some, None, refl, sym, ap, ◌∙◌, if◌then◌else◌, unwrap_or}
+use Rattle.std.proofs.lemmas.List.Elements.{All-nil, All-cons}
+use Rattle.std.specs.Prelude.{codes, All}
+use Rattle.std.specs.Str.{bytes_eq}
+use Rattle.cfi_top.specs.declared.command.Command.{Command}
+use Rattle.cfi_top.specs.declared.command.Command.TheVariants as commands
+use Rattle.cfi_top.specs.Command.{name_of, operands_of, IsOperand, IsCommand}
+
+-- the command of words, read off their first
+abbrev command_from : List (List ℕ) → Option Command
+command_from [] = None
+command_from (name ∷ []) = None
+command_from (name ∷ input ∷ []) =
+    if bytes_eq name (codes "list") then Some (commands.List input)
+    else (if bytes_eq name (codes "run") then Some (commands.Run input) else None)
+command_from (name ∷ input ∷ output ∷ rest) = None
+
+from_spelled : (command : Command) → command_from (name_of command ∷ operands_of command) ≡ Some command
+from_spelled (commands.List input) = refl
+from_spelled (commands.Run input) = refl
+
+-- words are one command at most
+pub one_command : (words : List (List ℕ)) (a b : Command) → IsCommand words a → IsCommand words b → a ≡ b
+one_command words a b is_a is_b =
+    let same : Some a ≡ Some b =
+    sym (from_spelled a) ∙ ap command_from (sym is_a.spelled) ∙ ap command_from is_b.spelled ∙ from_spelled b in
+    ap (λ (found : Option Command). unwrap_or found a) same
+
+-- the operands of a command that has one
+pub all_of_one : (word : List ℕ) → IsOperand word → All IsOperand (word ∷ [])
+all_of_one word operand = All-cons IsOperand word [] operand (All-nil IsOperand)

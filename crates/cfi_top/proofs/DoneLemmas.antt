@@ -1,0 +1,105 @@
+-- What status 0 says.
+use Rattle.std.proofs.Common.{◌≡◌, ℕ, List, inl, inr, arith, subst}
+use Rattle.cfi_top.specs.declared.command.Command.{Command}
+use Rattle.cfi_top.specs.declared.command.Command.TheVariants as commands
+use Rattle.cfi_top.specs.declared.answer.Answer.{Answer}
+use Rattle.cfi_top.specs.declared.answer.Answer.TheVariants as answers
+use Rattle.cfi_top.specs.declared.answer.TheConstants.{DONE}
+use Rattle.cfi_top.specs.Answer.{output_of}
+use Rattle.cfi_top.specs.Command.{IsCommand, Fits, input_of}
+use Rattle.cfi_top.specs.Outside.{ShelfView, SinkView, Holds, IsWhole}
+use Rattle.cfi_top.specs.Outcome.{IsMade, IsWorked}
+use Rattle.cfi_top.specs.Top.{Ends, HasRun, HasListed}
+use Rattle.cfi_top.proofs.CommandLemmas.{one_command}
+
+-- a command was done: its input had these bytes, and what it makes of them was delivered whole
+pub record HasDone (command : Command) (shelf shelf' : ShelfView) (sink sink' : SinkView) : Type 0 where
+  pub answer : Answer
+  pub bytes : List ℕ
+  pub held : Holds shelf (input_of command) bytes
+  pub made : IsMade command bytes answer
+  pub delivered : IsWhole (output_of answer) shelf shelf' sink sink'
+
+-- what a command that the words are comes to, said of another that they are
+worked_as : (words : List (List ℕ)) (a b : Command) (shelf : ShelfView) (bytes : List ℕ) (answer : Answer)
+    → IsCommand words a → IsCommand words b → Holds shelf (input_of a) bytes → IsWorked a bytes answer
+    → Holds shelf (input_of b) bytes × IsWorked b bytes answer
+worked_as words a b shelf bytes answer is_a is_b held worked =
+    subst (λ (c : Command). Holds shelf (input_of c) bytes × IsWorked c bytes answer) (one_command words a b is_a is_b)
+    (held, worked)
+
+module _ (words : List (List ℕ)) (shelf shelf' : ShelfView) (sink sink' : SinkView) (status : ℕ)
+    (e : status ≡ DONE) where
+  pub done_of : Ends words shelf shelf' sink sink' status → Fits words
+  done_of (inl memory) = absurd (omega (arith, e, memory.0))
+  done_of (inr (answers.Usage, is, inl d)) = absurd (omega (arith, e, d.0))
+  done_of (inr (answers.Ran part, is, inl d)) = (is.0, is.1)
+  done_of (inr (answers.Print text, is, inl d)) = (is.0, is.1)
+  done_of (inr (answers.Save name bytes, is, inl d)) = (is.0, is.1)
+  done_of (inr (answers.ReadFault name, is, inl d)) = (is.0, is.1)
+  done_of (inr (answers.Absent name, is, inl d)) = (is.0, is.1)
+  done_of (inr (answers.TooLong name, is, inl d)) = (is.0, is.1)
+  done_of (inr (answers.Refused name refusal, is, inl d)) = (is.0, is.1)
+  done_of (inr (answer, is, inr d)) = absurd (omega (arith, e, d.0))
+
+  -- the command that the words are was done
+  pub command_done : (command : Command) → IsCommand words command → Ends words shelf shelf' sink sink' status
+      → HasDone command shelf shelf' sink sink'
+  command_done command fits (inl memory) = absurd (omega (arith, e, memory.0))
+  command_done command fits (inr (answers.Usage, is, inl d)) = absurd (omega (arith, e, d.0))
+  command_done command fits (inr (answers.Ran part, is, inl d)) =
+      let same = worked_as words is.0 command shelf is.2.0 (answers.Ran part) is.1 fits is.2.1 is.2.2 in
+      record { answer = answers.Ran part; bytes = is.2.0; held = same.0; made = same.1; delivered = d.1 }
+  command_done command fits (inr (answers.Print text, is, inl d)) =
+      let same = worked_as words is.0 command shelf is.2.0 (answers.Print text) is.1 fits is.2.1 is.2.2 in
+      record { answer = answers.Print text; bytes = is.2.0; held = same.0; made = same.1; delivered = d.1 }
+  command_done command fits (inr (answers.Save name file, is, inl d)) =
+      let same = worked_as words is.0 command shelf is.2.0 (answers.Save name file) is.1 fits is.2.1 is.2.2 in
+      record { answer = answers.Save name file; bytes = is.2.0; held = same.0; made = same.1; delivered = d.1 }
+  command_done command fits (inr (answers.ReadFault name, is, inl d)) = absurd (omega (arith, e, d.0))
+  command_done command fits (inr (answers.Absent name, is, inl d)) = absurd (omega (arith, e, d.0))
+  command_done command fits (inr (answers.TooLong name, is, inl d)) = absurd (omega (arith, e, d.0))
+  command_done command fits (inr (answers.Refused name refusal, is, inl d)) = absurd (omega (arith, e, d.0))
+  command_done command fits (inr (answer, is, inr d)) = absurd (omega (arith, e, d.0))
+
+-- ---- what each command has done
+
+module _ (input bytes : List ℕ) (shelf shelf' : ShelfView) (sink sink' : SinkView)
+    (held : Holds shelf input bytes) where
+  run_done : (answer : Answer) → IsMade (commands.Run input) bytes answer
+      → IsWhole (output_of answer) shelf shelf' sink sink' → HasRun input shelf sink sink'
+  run_done (answers.Ran part) made whole =
+      record { bytes = bytes; held = held; part = part; justified = made; text = whole.1 }
+  run_done (answers.Print text) made whole = absurd made
+  run_done (answers.Save name file) made whole = absurd made
+  run_done answers.Usage made whole = absurd made
+  run_done (answers.ReadFault name) made whole = absurd made
+  run_done (answers.Absent name) made whole = absurd made
+  run_done (answers.TooLong name) made whole = absurd made
+  run_done (answers.Refused name refusal) made whole = absurd made
+
+  list_done : (answer : Answer) → IsMade (commands.List input) bytes answer
+      → IsWhole (output_of answer) shelf shelf' sink sink' → HasListed input shelf sink sink'
+  list_done (answers.Print text) made whole =
+      record { bytes = bytes; held = held; text = text; listing = made; printed = whole.1 }
+  list_done (answers.Ran part) made whole = absurd made
+  list_done (answers.Save name file) made whole = absurd made
+  list_done answers.Usage made whole = absurd made
+  list_done (answers.ReadFault name) made whole = absurd made
+  list_done (answers.Absent name) made whole = absurd made
+  list_done (answers.TooLong name) made whole = absurd made
+  list_done (answers.Refused name refusal) made whole = absurd made
+
+pub ran_of : (words : List (List ℕ)) (shelf shelf' : ShelfView) (sink sink' : SinkView) (status : ℕ)
+    → Ends words shelf shelf' sink sink' status → (input : List ℕ)
+    → IsCommand words (commands.Run input) → status ≡ DONE → HasRun input shelf sink sink'
+ran_of words shelf shelf' sink sink' status ends input fits e =
+    let done = command_done words shelf shelf' sink sink' status e (commands.Run input) fits ends in
+    run_done input done.bytes shelf shelf' sink sink' done.held done.answer done.made done.delivered
+
+pub listed_of : (words : List (List ℕ)) (shelf shelf' : ShelfView) (sink sink' : SinkView) (status : ℕ)
+    → Ends words shelf shelf' sink sink' status → (input : List ℕ)
+    → IsCommand words (commands.List input) → status ≡ DONE → HasListed input shelf sink sink'
+listed_of words shelf shelf' sink sink' status ends input fits e =
+    let done = command_done words shelf shelf' sink sink' status e (commands.List input) fits ends in
+    list_done input done.bytes shelf shelf' sink sink' done.held done.answer done.made done.delivered

@@ -1,0 +1,152 @@
+-- Which files stay, and when valid input gives 0 or 6.
+use Rattle.std.proofs.Common.{◌≡◌, ℕ, ◌≤◌, ◌⊎◌, List, Option, Some, None, inl, inr, arith, sym, ap, subst, IfSome, ◌∙◌, unwrap_or}
+use Rattle.std.specs.Prelude.{◌≢◌}
+use Rattle.cfi_io.specs.Count.{Rose}
+use Rattle.cfi_io.specs.Files.{Files}
+use Rattle.cfi_io.specs.Told.{WhereKeptTold}
+use Rattle.cfi_refusal.specs.declared.refusal.Refusal.{Refusal}
+use Rattle.cfi_top.specs.declared.command.Command.{Command}
+use Rattle.cfi_top.specs.declared.answer.Answer.{Answer}
+use Rattle.cfi_top.specs.declared.answer.Answer.TheVariants as answers
+use Rattle.cfi_top.specs.declared.answer.TheConstants.{DONE, WRITE_FAULT, MEMORY}
+use Rattle.cfi_top.specs.Answer.{output_of}
+use Rattle.cfi_top.specs.Command.{IsCommand, input_of, saved_name}
+use Rattle.cfi_top.specs.Outside.{ShelfView, SinkView, shelf_view, IsWhole, IsBroken, status_of}
+use Rattle.cfi_top.specs.Outcome.{Refuses, Takes, IsAnswer}
+use Rattle.cfi_top.specs.Top.{Ends, IsSavedBy, Saves, IsValid, IsSteady}
+use Rattle.cfi_top.proofs.CommandLemmas.{one_command}
+use Rattle.cfi_top.proofs.OutsideLemmas.{kept_same, kept_puts, kept_part}
+use Rattle.cfi_top.proofs.OutcomeLemmas.{takes_or_refuses}
+use Rattle.cfi_top.proofs.TopLemmas.{saves_of}
+
+-- a file's bytes that a command does not take are not valid
+refused_valid : (words : List (List ℕ)) (told : Files) (command : Command) (bytes : List ℕ) (refusal : Refusal)
+    → IsValid words told → IsCommand words command → told (input_of command) ≡ Some bytes
+    → Refuses command bytes refusal → ⊥
+refused_valid words told command bytes refusal v fits held refuses =
+    let same = one_command words v.command command v.fits fits in
+    let there : told (input_of command) ≡ Some v.bytes =
+    subst (λ (c : Command). told (input_of c) ≡ Some v.bytes) same v.held in
+    let equal : v.bytes ≡ bytes = ap (λ (found : Option (List ℕ)). unwrap_or found bytes) (sym there ∙ held) in
+    let taken : Takes command v.bytes = subst (λ (c : Command). Takes c v.bytes) same v.taken in
+    takes_or_refuses command bytes refusal (subst (Takes command) equal taken) refuses
+
+module _ (words : List (List ℕ)) (sink sink' : SinkView) (status : ℕ) where
+  -- valid input over a shelf and a sink that do not fail gives 0 or 6
+  valid_of : (told : Files) (faults misses : ℕ) (shelf' : ShelfView)
+      → Ends words (shelf_view (Some told) faults misses) shelf' sink sink' status → IsValid words told
+      → IsSteady (shelf_view (Some told) faults misses) shelf' sink sink' → (status ≡ DONE) ⊎ (status ≡ MEMORY)
+  valid_of told faults misses shelf' (inl memory) v steady = inr memory.0
+  valid_of told faults misses shelf' (inr (answers.Usage, is, inl d)) v steady = absurd (is (v.command, v.fits))
+  valid_of told faults misses shelf' (inr (answers.Ran part, is, inl d)) v steady = inl d.0
+  valid_of told faults misses shelf' (inr (answers.Print text, is, inl d)) v steady = inl d.0
+  valid_of told faults misses shelf' (inr (answers.Save name file, is, inl d)) v steady = inl d.0
+  valid_of told faults misses shelf' (inr (answers.ReadFault name, is, inl d)) v steady = absurd (steady.read is.2.1)
+  valid_of told faults misses shelf' (inr (answers.Absent name, is, inl d)) v steady = absurd (steady.found is.2.1)
+  valid_of told faults misses shelf' (inr (answers.TooLong name, is, inl d)) v steady = absurd (steady.found is.2.1)
+  valid_of told faults misses shelf' (inr (answers.Refused name refusal, is, inl d)) v steady =
+      absurd (refused_valid words told is.0 is.2.0 refusal v is.1 is.2.1 is.2.2.1)
+  valid_of told faults misses shelf' (inr (answers.Save name file, is, inr d)) v steady = absurd (steady.read d.1.1)
+  valid_of told faults misses shelf' (inr (answers.Usage, is, inr d)) v steady = absurd (steady.written d.1.1)
+  valid_of told faults misses shelf' (inr (answers.Ran part, is, inr d)) v steady = absurd (steady.written d.1.1)
+  valid_of told faults misses shelf' (inr (answers.Print text, is, inr d)) v steady = absurd (steady.written d.1.1)
+  valid_of told faults misses shelf' (inr (answers.ReadFault name, is, inr d)) v steady = absurd (steady.written d.1.1)
+  valid_of told faults misses shelf' (inr (answers.Absent name, is, inr d)) v steady = absurd (steady.written d.1.1)
+  valid_of told faults misses shelf' (inr (answers.TooLong name, is, inr d)) v steady = absurd (steady.written d.1.1)
+  valid_of told faults misses shelf' (inr (answers.Refused name refusal, is, inr d)) v steady =
+      absurd (steady.written d.1.1)
+
+  -- the same, where the shelf may tell nothing
+  pub valid_if : (files : Option Files) (faults misses : ℕ) (shelf' : ShelfView)
+      → Ends words (shelf_view files faults misses) shelf' sink sink' status
+      → IfSome files (λ told. IsValid words told → IsSteady (shelf_view files faults misses) shelf' sink sink'
+      → (status ≡ DONE) ⊎ (status ≡ MEMORY))
+  valid_if None faults misses shelf' ends = tt
+  valid_if (Some told) faults misses shelf' ends = valid_of told faults misses shelf' ends
+
+module _ (words : List (List ℕ)) (shelf shelf' : ShelfView) (sink sink' : SinkView) (status : ℕ) where
+  -- names that no command saves
+  abbrev pub Stay : Type 0
+  Stay = WhereKeptTold shelf.files shelf'.files (λ told told'.
+      (name : List ℕ) → ¬ IsSavedBy words name → told' name ≡ told name)
+
+  -- a name that is saved is no other
+  apart : (here : List ℕ) → IsSavedBy words here → (name : List ℕ) → ¬ IsSavedBy words name → name ≢ here
+  apart here saved name unsaved same = unsaved (subst (IsSavedBy words) (sym same) saved)
+
+  whole_stays : (answer : Answer) → IsAnswer words shelf shelf' answer
+      → IsWhole (output_of answer) shelf shelf' sink sink' → Stay
+  whole_stays (answers.Save name file) is whole =
+      kept_puts shelf.files shelf'.files _ name file (apart name (saves_of words shelf shelf' name file is)) whole.1
+  whole_stays answers.Usage is whole = kept_same shelf.files shelf'.files _ whole.0
+  whole_stays (answers.Ran part) is whole = kept_same shelf.files shelf'.files _ whole.0
+  whole_stays (answers.Print text) is whole = kept_same shelf.files shelf'.files _ whole.0
+  whole_stays (answers.ReadFault name) is whole = kept_same shelf.files shelf'.files _ whole.0
+  whole_stays (answers.Absent name) is whole = kept_same shelf.files shelf'.files _ whole.0
+  whole_stays (answers.TooLong name) is whole = kept_same shelf.files shelf'.files _ whole.0
+  whole_stays (answers.Refused name refusal) is whole = kept_same shelf.files shelf'.files _ whole.0
+
+  broken_stays : (answer : Answer) → IsAnswer words shelf shelf' answer
+      → IsBroken (output_of answer) shelf shelf' sink sink' → Stay
+  broken_stays (answers.Save name file) is broken =
+      kept_part shelf.files shelf'.files _ name file (apart name (saves_of words shelf shelf' name file is)) broken.2
+  broken_stays answers.Usage is broken = kept_same shelf.files shelf'.files _ broken.0
+  broken_stays (answers.Ran part) is broken = kept_same shelf.files shelf'.files _ broken.0
+  broken_stays (answers.Print text) is broken = kept_same shelf.files shelf'.files _ broken.0
+  broken_stays (answers.ReadFault name) is broken = kept_same shelf.files shelf'.files _ broken.0
+  broken_stays (answers.Absent name) is broken = kept_same shelf.files shelf'.files _ broken.0
+  broken_stays (answers.TooLong name) is broken = kept_same shelf.files shelf'.files _ broken.0
+  broken_stays (answers.Refused name refusal) is broken = kept_same shelf.files shelf'.files _ broken.0
+
+  pub elsewhere_of : Ends words shelf shelf' sink sink' status → Stay
+  elsewhere_of (inl memory) = kept_same shelf.files shelf'.files _ memory.1
+  elsewhere_of (inr (answer, is, inl d)) = whole_stays answer is d.1
+  elsewhere_of (inr (answer, is, inr d)) = broken_stays answer is d.1
+
+  -- the files are the same, or one was saved, whole or in part
+  abbrev pub Keeps : Type 0
+  Keeps = (shelf'.files ≡ shelf.files) ⊎ (Saves words
+      × ((status ≡ DONE) ⊎ ((status ≡ WRITE_FAULT) × Rose shelf.faults shelf'.faults)))
+
+  whole_keeps : (answer : Answer) → IsAnswer words shelf shelf' answer → status ≡ status_of (output_of answer)
+      → IsWhole (output_of answer) shelf shelf' sink sink' → Keeps
+  whole_keeps (answers.Save name file) is e whole = inr ((name, saves_of words shelf shelf' name file is), inl e)
+  whole_keeps answers.Usage is e whole = inl whole.0
+  whole_keeps (answers.Ran part) is e whole = inl whole.0
+  whole_keeps (answers.Print text) is e whole = inl whole.0
+  whole_keeps (answers.ReadFault name) is e whole = inl whole.0
+  whole_keeps (answers.Absent name) is e whole = inl whole.0
+  whole_keeps (answers.TooLong name) is e whole = inl whole.0
+  whole_keeps (answers.Refused name refusal) is e whole = inl whole.0
+
+  broken_keeps : (answer : Answer) → IsAnswer words shelf shelf' answer → status ≡ WRITE_FAULT
+      → IsBroken (output_of answer) shelf shelf' sink sink' → Keeps
+  broken_keeps (answers.Save name file) is e broken =
+      inr ((name, saves_of words shelf shelf' name file is), inr (e, broken.1))
+  broken_keeps answers.Usage is e broken = inl broken.0
+  broken_keeps (answers.Ran part) is e broken = inl broken.0
+  broken_keeps (answers.Print text) is e broken = inl broken.0
+  broken_keeps (answers.ReadFault name) is e broken = inl broken.0
+  broken_keeps (answers.Absent name) is e broken = inl broken.0
+  broken_keeps (answers.TooLong name) is e broken = inl broken.0
+  broken_keeps (answers.Refused name refusal) is e broken = inl broken.0
+
+  pub same_of : Ends words shelf shelf' sink sink' status → Keeps
+  same_of (inl memory) = inl memory.1
+  same_of (inr (answer, is, inl d)) = whole_keeps answer is d.0 d.1
+  same_of (inr (answer, is, inr d)) = broken_keeps answer is d.0 d.1
+
+  status_within : (answer : Answer) → status_of (output_of answer) ≤ MEMORY
+  status_within answers.Usage = omega arith
+  status_within (answers.Ran part) = omega arith
+  status_within (answers.Print text) = omega arith
+  status_within (answers.Save name file) = omega arith
+  status_within (answers.ReadFault name) = omega arith
+  status_within (answers.Absent name) = omega arith
+  status_within (answers.TooLong name) = omega arith
+  status_within (answers.Refused name refusal) = omega arith
+
+  pub within_of : Ends words shelf shelf' sink sink' status → status ≤ MEMORY
+  within_of (inl memory) = omega (arith, memory.0)
+  within_of (inr (answer, is, inl d)) = omega (arith, d.0, status_within answer)
+  within_of (inr (answer, is, inr d)) = omega (arith, d.0)

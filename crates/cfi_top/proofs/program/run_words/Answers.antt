@@ -1,0 +1,18 @@
+use Rattle.cfi_top.specs.Outside.{shelf_view}
+use Rattle.cfi_top.proofs.OutsideLemmas.{IsLater}
+use Rattle.cfi_top.proofs.OutcomeLemmas.{ends_of}
+use Rattle.cfi_top.proofs.program.run_words.Goals as goal
+
+-- what was read and done was delivered
+pub returns : goal.returns
+returns g c =
+    let shelf = c.args.shelf.now in
+    let read = c.answer_of.new.shelf in
+    let old = shelf_view (g.F.Shelf.files shelf) (g.F.Shelf.faults shelf) (g.F.Shelf.misses shelf) in
+    let mid = shelf_view (g.F.Shelf.files read) (g.F.Shelf.faults read) (g.F.Shelf.misses read) in
+    let kept = c.answer_of.ensures in
+    let later : IsLater old mid = record { files = kept.same; faults = kept.faults; misses = kept.misses } in
+    record {
+      ends = ends_of _ old mid _ _ _ _ _ _ c.in-Ok-output_of.ensures later c.deliver.ensures.faults
+          c.deliver.ensures.misses c.in-Ok.ensures.answer c.deliver.ensures.delivered;
+    }

@@ -1,0 +1,63 @@
+-- What a shelf and a sink tell and count at one moment, and what becomes of them where something is delivered.
+use Rattle.std.specs.Prelude.{◌≡◌, ◌⊎◌, ℕ, List, Option, Some}
+use Rattle.std.specs.Io.KnownBytes.{Appends}
+use Rattle.cfi_io.specs.Count.{Rose}
+use Rattle.cfi_io.specs.Files.{Files, Puts, PutsPart}
+use Rattle.cfi_io.specs.Told.{WhereTold, WhereKeptTold, AppendsPrefix}
+use Rattle.cfi_top.specs.declared.answer.Output.{Output}
+use Rattle.cfi_top.specs.declared.answer.Output.TheVariants as outputs
+use Rattle.cfi_top.specs.declared.answer.TheConstants.{DONE, WRITE_FAULT, MEMORY}
+
+-- a shelf: its files, where it tells them, and how often it failed, and lacked a file
+pub record ShelfView : Type 0 where
+  pub files : Option Files
+  pub faults : ℕ
+  pub misses : ℕ
+
+abbrev pub shelf_view : Option Files → (faults misses : ℕ) → ShelfView
+shelf_view files faults misses = record { files = files; faults = faults; misses = misses }
+
+-- a sink: its bytes, where it tells them, and how often it failed
+pub record SinkView : Type 0 where
+  pub written : Option (List ℕ)
+  pub faults : ℕ
+
+abbrev pub sink_view : Option (List ℕ) → (faults : ℕ) → SinkView
+sink_view written faults = record { written = written; faults = faults }
+
+-- where the shelf tells its files, the file of this name has these bytes
+abbrev pub Holds : ShelfView → (name bytes : List ℕ) → Type 0
+Holds shelf name bytes = WhereTold shelf.files (λ told. told name ≡ Some bytes)
+
+-- the status where an output was delivered whole
+abbrev pub status_of : Output → ℕ
+status_of (outputs.Print status text) = status
+status_of (outputs.Save name bytes) = DONE
+
+-- the text is printed whole, and all files stay; or the file has the bytes, all other files stay, and nothing is
+-- printed
+abbrev pub IsWhole : Output → (shelf shelf' : ShelfView) → (sink sink' : SinkView) → Type 0
+IsWhole (outputs.Print status text) shelf shelf' sink sink' =
+    (shelf'.files ≡ shelf.files) × Appends sink.written sink'.written text
+IsWhole (outputs.Save name bytes) shelf shelf' sink sink' =
+    (sink'.written ≡ sink.written) × WhereKeptTold shelf.files shelf'.files (Puts name bytes)
+
+-- The sink failed and has a part of the text, and all files stay. Or the shelf failed and the file has what it had, or
+-- a part of the bytes, all other files stay, and nothing is printed.
+abbrev pub IsBroken : Output → (shelf shelf' : ShelfView) → (sink sink' : SinkView) → Type 0
+IsBroken (outputs.Print status text) shelf shelf' sink sink' =
+    (shelf'.files ≡ shelf.files) × Rose sink.faults sink'.faults × AppendsPrefix sink.written sink'.written text
+IsBroken (outputs.Save name bytes) shelf shelf' sink sink' =
+    (sink'.written ≡ sink.written) × Rose shelf.faults shelf'.faults
+    × WhereKeptTold shelf.files shelf'.files (PutsPart name bytes)
+
+-- no memory was left: all files stay, and nothing is printed
+abbrev pub IsStarved : (shelf shelf' : ShelfView) → (sink sink' : SinkView) → (status : ℕ) → Type 0
+IsStarved shelf shelf' sink sink' status =
+    (status ≡ MEMORY) × (shelf'.files ≡ shelf.files) × (sink'.written ≡ sink.written)
+
+-- an output was delivered, whole or in part, and the status says which
+abbrev pub IsDelivered : Output → (shelf shelf' : ShelfView) → (sink sink' : SinkView) → (status : ℕ) → Type 0
+IsDelivered output shelf shelf' sink sink' status =
+    ((status ≡ status_of output) × IsWhole output shelf shelf' sink sink')
+    ⊎ ((status ≡ WRITE_FAULT) × IsBroken output shelf shelf' sink sink')
