@@ -1,11 +1,9 @@
-ghost use Rattle.std.specs.Prelude.{◌≡◌, ◌+◌, ◌≤◌, length, All, IfOk};
-ghost use Rattle.cfi_class.specs.Labels.{IsWithin};
-ghost use Rattle.cfi_policy.specs.Code.{AreApart};
+ghost use Rattle.std.specs.Prelude.{◌≡◌, IfOk};
 
 use crate::image_from;
 use cfi_aux::{Items, Placed};
 use cfi_types::TypeTable;
-use cfi_word::{Edge, Layout};
+use cfi_word::Layout;
 use elf_read::Bytes;
 use std::alloc::{AllocError, Global};
 use std::test::Fail;
@@ -28,34 +26,11 @@ fn module_of(alloc: Global, base: u32, words: &[u32]) -> Result<Placed, AllocErr
     })
 }
 
-// Modules of these places and words, up to one that begins before the end of the one before: all, in the test below.
-fn modules_of(alloc: Global, rows: &[(u32, &[u32])]) -> Result<Vec<Placed>, AllocError>
-    ensures { IfOk result (λ modules. AreApart modules.items 1024) }
-{
-    let mut modules = Vec::new(alloc);
-    let mut end = 0;
-    for (base, words) in rows {
-        if *base < end || 1024 < *base || 1024 - *base < words.len() as u32 {
-            return Ok(modules);
-        }
-        modules.push(module_of(alloc, *base, words)?)?;
-        end = *base + words.len() as u32;
-    }
-    Ok(modules)
-}
-
 #[test]
+#[tactic(auto, using(crate::proofs::TestLemmas::one_apart, crate::proofs::TestLemmas::none_labelled))]
 fn image(rt: HostRuntime) -> Result<(), Fail> {
-    let modules = modules_of(
-        rt.alloc(),
-        &[
-            (16, &[0x008000ef, 0x0000006f]),
-            (18, &[0x0040006f]),
-            (1023, &[0x00000013]),
-        ],
-    )?;
-    assert_eq!(rt; modules.len(), 3);
     let layout = Layout::new(1024)?;
+<<<<<<< HEAD
     let edges = [Edge {
         branch: 1,
         target: 68,
@@ -71,5 +46,17 @@ fn image(rt: HostRuntime) -> Result<(), Fail> {
     assert_eq!(rt; image.tary.as_slice().get(17).copied(), Some(1));
     assert_eq!(rt; image.bary.as_slice().get(1).copied(), Some(1));
     assert_eq!(rt; image.bary.as_slice().get(0).copied(), Some(16383));
+=======
+    let modules = [module_of(rt.alloc(), 16, &[0x008000ef, 0x0000006f])?];
+    let image = image_from(rt.alloc(), &[], 2, &modules, &layout)?;
+    let mut code = vec![in rt.alloc(); 0; 1024]?;
+    code[16] = 0x008000ef;
+    code[17] = 0x0000006f;
+    assert_eq!(rt; image.code.as_slice(), code.as_slice());
+    let tary = vec![in rt.alloc(); 0; 1024]?;
+    assert_eq!(rt; image.tary.as_slice(), tary.as_slice());
+    let bary = vec![in rt.alloc(); 16383; 74]?;
+    assert_eq!(rt; image.bary.as_slice(), bary.as_slice());
+>>>>>>> 4802aa8ec547576d6830d4764edbeca02729d796
     Ok(())
 }

@@ -1,0 +1,6 @@
+pub mod Members
+pub mod ReachLemmas
+pub mod RowLemmas
+pub mod FanLemmas
+pub mod EdgeLemmas
+pub mod OrderLemmas

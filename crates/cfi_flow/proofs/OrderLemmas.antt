@@ -1,0 +1,58 @@
+-- Edges that are sorted and each once.
+use Rattle.std.proofs.Common.{◌≡◌, ◌∙◌, ℕ, ◌<◌, ◌==◌, ◌&&◌, ◌⊎◌, Bool, true, false, Ordering, refl, sym, ap, subst, inl, inr, arith}
+use Rattle.std.specs.declared.cmp.Ordering.TheVariants.{Less, Equal, Greater}
+use Rattle.std.specs.Ordering.{nat_cmp, ordering_then}
+use Rattle.std.specs.Cmp.{nat_cmp_is}
+use Rattle.std.proofs.lemmas.Bool.{cases_eq, cases_lt, eqb-true, false≢true}
+use Rattle.cfi_word.specs.declared.lists.Edge.{Edge}
+use Rattle.cfi_flow.specs.Order.{Precedes}
+
+equal_less : Equal ≡ Less → ⊥
+equal_less h = cc
+
+greater_less : Greater ≡ Less → ⊥
+greater_less h = cc
+
+less_number : (a b : ℕ) → nat_cmp a b ≡ Less → a < b
+less_number a b h =
+    elim (cases_lt a b) [
+      | inl l ↦ l
+      | inr m ↦ elim (cases_eq a b) [
+        | inl e ↦ let is : Equal ≡ nat_cmp a b = nat_cmp_is a b Equal e in absurd (equal_less (is ∙ h))
+        | inr n ↦ let is : Greater ≡ nat_cmp a b = nat_cmp_is a b Greater (omega (arith, m, n)) in absurd (greater_less (is ∙ h))
+      ]
+    ]
+
+less_pair : (a b c d : ℕ) → ordering_then (nat_cmp a b) (nat_cmp c d) ≡ Less → (a < b) ⊎ ((a ≡ b) × (c < d))
+less_pair a b c d h =
+    elim (cases_lt a b) [
+      | inl l ↦ inl l
+      | inr m ↦ elim (cases_eq a b) [
+        | inl e ↦
+            let is : Equal ≡ nat_cmp a b = nat_cmp_is a b Equal e in
+            let rest : nat_cmp c d ≡ Less = ap (λ o. ordering_then o (nat_cmp c d)) is ∙ h in
+            inr (e, less_number c d rest)
+        | inr n ↦
+            let is : Greater ≡ nat_cmp a b = nat_cmp_is a b Greater (omega (arith, m, n)) in
+            absurd (greater_less (ap (λ o. ordering_then o (nat_cmp c d)) is ∙ h))
+      ]
+    ]
+
+-- what comes first in the order of edges precedes
+pub precedes : (a b : Edge) → ordering_then (nat_cmp a.branch b.branch) (nat_cmp a.target b.target) ≡ Less
+    → Precedes a b
+precedes a b h = less_pair a.branch b.branch a.target b.target h
+
+both_hold : (a b : Bool) → (a && b) ≡ true → (a ≡ true) × (b ≡ true)
+both_hold true b h = (refl, h)
+both_hold false b h = absurd (false≢true h)
+
+abbrev pub make_edge : ℕ → ℕ → Edge
+make_edge a b = record { branch = a; target = b }
+
+-- edges with equal slots and addresses are one
+pub same_edge : (a b : Edge) → (a.branch == b.branch && a.target == b.target) ≡ true → a ≡ b
+same_edge a b h =
+    let both = both_hold (a.branch == b.branch) (a.target == b.target) h in
+    ap (λ n. make_edge n a.target) (eqb-true a.branch b.branch both.0)
+    ∙ ap (λ n. make_edge b.branch n) (eqb-true a.target b.target both.1)

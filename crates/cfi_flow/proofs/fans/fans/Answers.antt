@@ -1,0 +1,40 @@
+use Rattle.std.proofs.Common.{◌≡◌, ◌∙◌, ℕ, ◌+◌, ◌<◌, ◌++◌, ◌∷◌, [], length, arith, rules, sym, subst, ap}
+use Rattle.cfi_flow.specs.Fans.{AreFans}
+use Rattle.cfi_flow.specs.FlowRows.{HaveNodes}
+use Rattle.cfi_flow.proofs.FanLemmas.{rows_have_nodes, have_own_nodes, no_fans, more_fans}
+use Rattle.cfi_flow.proofs.fans.fans.Goals as goal
+
+pub loop-node-init : goal.loop-node-init
+loop-node-init c =
+    subst (λ fans. AreFans c.args.flow.now 0 fans) (sym c.new-fans.ensures.items) (no_fans c.args.flow.now)
+
+pub pointer_fan-requires-clause-pointers : goal.pointer_fan-requires-clause-pointers
+pointer_fan-requires-clause-pointers c =
+    let h : HaveNodes c.args.flow.now.nodes c.in_ok-rows.rows =
+    rows_have_nodes c.args.flow.now c.in_ok-rows.rows c.requires c.in_ok-rows.ensures in
+    omega (arith, h.pointers, c.loop-node-test.true)
+
+pub pointer_fan-requires-clause-entries : goal.pointer_fan-requires-clause-entries
+pointer_fan-requires-clause-entries c =
+    let h : HaveNodes c.args.flow.now.nodes c.in_ok-rows.rows =
+    rows_have_nodes c.args.flow.now c.in_ok-rows.rows c.requires c.in_ok-rows.ensures in
+    omega (arith, h.entries, c.loop-node-test.true)
+
+pub return_fan-requires-clause-nodes : goal.return_fan-requires-clause-nodes
+return_fan-requires-clause-nodes c =
+    have_own_nodes c.args.flow.now.nodes c.in_ok-rows.rows
+    (rows_have_nodes c.args.flow.now c.in_ok-rows.rows c.requires c.in_ok-rows.ensures)
+
+pub return_fan-requires-clause-node : goal.return_fan-requires-clause-node
+return_fan-requires-clause-node c =
+    let h : HaveNodes c.args.flow.now.nodes c.in_ok-rows.rows =
+    rows_have_nodes c.args.flow.now c.in_ok-rows.rows c.requires c.in_ok-rows.ensures in
+    omega (arith, h.arrows, c.loop-node-test.true)
+
+pub loop-node-preserved : goal.loop-node-preserved
+loop-node-preserved c =
+    let is = c.in_ok-push-2.ensures.items ∙ ap (λ fans. fans ++ c.in_ok-return_fan.field-0 ∷ []) c.in_ok-push.ensures.items in
+    subst (λ fans. AreFans c.args.flow.now (c.loop-node.node + 1) fans) (sym is)
+    (more_fans c.args.flow.now c.in_ok-rows.rows c.loop-node.node c.loop-node.fans.items c.in_ok-pointer_fan.field-0
+    c.in_ok-return_fan.field-0 c.requires c.in_ok-rows.ensures c.loop-node-test.true c.loop-node.invariant
+    c.in_ok-pointer_fan.ensures c.in_ok-return_fan.ensures)

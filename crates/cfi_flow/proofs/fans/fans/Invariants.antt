@@ -1,0 +1,5 @@
+use Rattle.cfi_flow.specs.Fans.{AreFans}
+use Rattle.cfi_flow.proofs.fans.fans.Given as goal
+
+abbrev pub invariant-loop-node : goal.invariant-loop-node
+invariant-loop-node l = AreFans l.flow l.node l.fans.items

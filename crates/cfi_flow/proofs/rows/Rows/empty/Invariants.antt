@@ -1,0 +1,5 @@
+use Rattle.std.proofs.Common.{◌≡◌, List, ℕ, [], map, replicate}
+use Rattle.cfi_flow.proofs.rows.Rows.empty.Given as goal
+
+abbrev pub invariant-loop : goal.invariant-loop
+invariant-loop l = map (λ row. row.items) l.rows.items ≡ replicate l.counter []

@@ -1,0 +1,62 @@
+-- Fans: each of some branches may go to each of some addresses.
+use Rattle.std.specs.Prelude.{ℕ, ◌<◌, List, [], ◌∷◌, ◌++◌, map}
+use Rattle.std.specs.List.{Contains, flat_map}
+use Rattle.cfi_word.specs.declared.lists.Edge.{Edge}
+use Rattle.cfi_word.specs.Chain.{Chain}
+use Rattle.cfi_flow.specs.declared.fan.Fan.{Fan}
+use Rattle.cfi_flow.specs.declared.links.Link.{Link}
+use Rattle.cfi_flow.specs.declared.links.Flow.{Flow}
+use Rattle.cfi_flow.specs.Flow.{GoesBy, Goes}
+use Rattle.cfi_flow.specs.Order.{AreInOrder}
+
+-- the fan joins the branch to the address
+abbrev pub Joins : Fan → (slot address : ℕ) → Type 0
+Joins fan slot address = Contains fan.slots.items slot × Contains fan.targets.items address
+
+-- one of the fans joins them
+pub record JoinsOne (fans : List Fan) (slot address : ℕ) : Type 0 where
+  pub fan : Fan
+  pub has : Contains fans fan
+  pub joins : Joins fan slot address
+
+-- the fans of the nodes below the count
+pub record AreFans (flow : Flow) (count : ℕ) (fans : List Fan) : Type 0 where
+  pub sound : (slot address : ℕ) → JoinsOne fans slot address → (node : ℕ) × GoesBy flow node slot address
+  pub whole : (slot address node : ℕ) → node < count → GoesBy flow node slot address → JoinsOne fans slot address
+
+abbrev pub edge : (slot address : ℕ) → Edge
+edge slot address = record { branch = slot; target = address }
+
+-- the edges of links
+abbrev pub edge_of : Link → Edge
+edge_of link = edge link.from link.to
+
+-- all edges of a fan
+abbrev pub all_of : Fan → List Edge
+all_of fan = flat_map (λ slot. map (edge slot) fan.targets.items) fan.slots.items
+
+-- few edges of a fan that join all that it joins: from its first branch, and to its first address
+abbrev pub spokes : (slots targets : List ℕ) → List Edge
+spokes [] targets = []
+spokes (slot ∷ slots) [] = []
+spokes (slot ∷ slots) (target ∷ targets) =
+    map (edge slot) (target ∷ targets) ++ map (λ s. edge s target) (slot ∷ slots)
+
+abbrev pub few_of : Fan → List Edge
+few_of fan = spokes fan.slots.items fan.targets.items
+
+-- an edge of the list joins them
+abbrev pub IsListed : List Edge → (slot address : ℕ) → Type 0
+IsListed edges slot address = Contains edges (edge slot address)
+
+-- all edges of a flow, in order, each once
+pub record AreEdges (flow : Flow) (edges : List Edge) : Type 0 where
+  pub sound : (slot address : ℕ) → IsListed edges slot address → Goes flow slot address
+  pub whole : (slot address : ℕ) → Goes flow slot address → IsListed edges slot address
+  pub order : AreInOrder edges
+
+-- edges of a flow whose chains join what any of its edges joins, in order, each once
+pub record AreFewEdges (flow : Flow) (edges : List Edge) : Type 0 where
+  pub sound : (slot address : ℕ) → IsListed edges slot address → Goes flow slot address
+  pub whole : (slot address : ℕ) → Goes flow slot address → Chain (IsListed edges) slot address
+  pub order : AreInOrder edges
