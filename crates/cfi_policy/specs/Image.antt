@@ -5,14 +5,7 @@ use Rattle.cfi_word.specs.declared.lists.Image.{Image}
 use Rattle.cfi_class.specs.Labels.{AreLabels}
 use Rattle.cfi_policy.specs.Code.{IsCodeOf}
 
-<<<<<<< HEAD
-pub record IsImage (joins : (slot address : ℕ) → Type 0) (modules : List Placed) (code_words : ℕ) (image : Image) : Type 0
-  where
-    pub labels : AreLabels joins code_words image.tary image.bary
-    pub code : IsCodeOf modules code_words image.code
-=======
 pub record IsImage (joins : (slot address : ℕ) → Type 0) (modules : List Placed) (code_words : ℕ)
     (image : Image) : Type 0 where
   pub labels : AreLabels joins code_words image.tary image.bary
   pub code : IsCodeOf modules code_words image.code
->>>>>>> 4802aa8ec547576d6830d4764edbeca02729d796

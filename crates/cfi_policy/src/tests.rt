@@ -30,23 +30,6 @@ fn module_of(alloc: Global, base: u32, words: &[u32]) -> Result<Placed, AllocErr
 #[tactic(auto, using(crate::proofs::TestLemmas::one_apart, crate::proofs::TestLemmas::none_labelled))]
 fn image(rt: HostRuntime) -> Result<(), Fail> {
     let layout = Layout::new(1024)?;
-<<<<<<< HEAD
-    let edges = [Edge {
-        branch: 1,
-        target: 68,
-    }];
-    let image = image_from(rt.alloc(), &edges, 2, &modules, &layout)?;
-    let code = image.code.as_slice();
-    assert_eq!(rt; code.len(), 1024);
-    let found: [u32; 6] = [code[15], code[16], code[17], code[18], code[19], code[1023]];
-    assert_eq!(rt;
-        found,
-        [0, 0x008000ef, 0x0000006f, 0x0040006f, 0, 0x00000013]
-    );
-    assert_eq!(rt; image.tary.as_slice().get(17).copied(), Some(1));
-    assert_eq!(rt; image.bary.as_slice().get(1).copied(), Some(1));
-    assert_eq!(rt; image.bary.as_slice().get(0).copied(), Some(16383));
-=======
     let modules = [module_of(rt.alloc(), 16, &[0x008000ef, 0x0000006f])?];
     let image = image_from(rt.alloc(), &[], 2, &modules, &layout)?;
     let mut code = vec![in rt.alloc(); 0; 1024]?;
@@ -57,6 +40,5 @@ fn image(rt: HostRuntime) -> Result<(), Fail> {
     assert_eq!(rt; image.tary.as_slice(), tary.as_slice());
     let bary = vec![in rt.alloc(); 16383; 74]?;
     assert_eq!(rt; image.bary.as_slice(), bary.as_slice());
->>>>>>> 4802aa8ec547576d6830d4764edbeca02729d796
     Ok(())
 }
