@@ -10,7 +10,7 @@ use Rattle.cfi_top.specs.declared.answer.Answer.{Answer}
 use Rattle.cfi_top.specs.declared.answer.Answer.TheVariants as answers
 use Rattle.cfi_top.specs.declared.answer.TheConstants.{DONE, WRITE_FAULT, MEMORY}
 use Rattle.cfi_top.specs.Answer.{output_of}
-use Rattle.cfi_top.specs.Command.{IsCommand, input_of, saved_name}
+use Rattle.cfi_top.specs.Command.{IsCommand, input_of}
 use Rattle.cfi_top.specs.Outside.{ShelfView, SinkView, shelf_view, IsWhole, IsBroken, status_of}
 use Rattle.cfi_top.specs.Outcome.{Refuses, Takes, IsAnswer}
 use Rattle.cfi_top.specs.Top.{Ends, IsSavedBy, Saves, IsValid, IsSteady}
