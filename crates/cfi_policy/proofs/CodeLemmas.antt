@@ -1,9 +1,9 @@
 -- The code of the first modules, one more module at a time.
-use Rattle.std.proofs.Common.{◌≡◌, ◌⊎◌, ℕ, ◌+◌, ◌<◌, ◌≤◌, List, length, get_or, replicate, refl, sym, ap, subst, ◌∙◌, inl, inr, arith}
+use Rattle.std.proofs.Common.{◌≡◌, ◌⊎◌, ℕ, ◌+◌, ◌<◌, ◌≤◌, List, length, get_or, sym, ap, subst, ◌∙◌, inl, inr, arith}
 use Rattle.std.proofs.lemmas.Bool.{cases_lt}
-use Rattle.std.proofs.lemmas.List.{get_or_default, length-replicate, get_or-replicate}
+use Rattle.std.proofs.lemmas.List.{get_or_default}
 use Rattle.cfi_aux.specs.declared.placed.Placed.{Placed}
-use Rattle.cfi_policy.specs.Code.{LiesIn, EndsBefore, AreApart, HasWords, IsCodeOf}
+use Rattle.cfi_policy.specs.Code.{LiesIn, EndsBefore, AreApart, HasWords}
 
 -- the code with the words of so many first modules
 pub record IsCodeSoFar (modules : List Placed) (count code_words : ℕ) (code : List ℕ) : Type 0 where
@@ -30,9 +30,9 @@ module _ (modules : List Placed) (code_words : ℕ) (apart : AreApart modules co
       elim (cases_lt j count) [
         | inl earlier ↦ earlier_placed j d earlier
         | inr later ↦
-        let here : count ≡ j = omega arith in
-        subst (λ n. HasWords new (get_or modules n d)) here
-        (subst (HasWords new) (is ∙ get_or_default modules count item d there) placed)
+            let here : count ≡ j = omega arith in
+            subst (λ n. HasWords new (get_or modules n d)) here
+            (subst (HasWords new) (is ∙ get_or_default modules count item d there) placed)
       ]
 
   elsewhere_free : (word : ℕ) → word < code_words

@@ -19,17 +19,17 @@ fn put(code: &mut [u32], place: usize, words: &[u32])
 /// The words of the modules at their places, and 0 elsewhere.
 ///
 /// The modules lie apart, in the order of their places, and end within the layout.
-pub fn code_of(
-    alloc: Global,
-    modules: &[Placed],
-    layout: &Layout,
-) -> Result<Numbers, AllocError>
+pub fn code_of(alloc: Global, modules: &[Placed], layout: &Layout) -> Result<Numbers, AllocError>
     requires { AreApart modules.now layout.now }
     ensures { IfOk result (IsCodeOf modules.now layout.now) }
 {
     let mut code = vec![in alloc; 0; layout.code_words() as usize]?;
     for placed in modules {
-        put(code.as_mut_slice(), placed.base as usize, placed.words.as_slice());
+        put(
+            code.as_mut_slice(),
+            placed.base as usize,
+            placed.words.as_slice(),
+        );
     }
     Ok(Numbers::from_vec(code))
 }
