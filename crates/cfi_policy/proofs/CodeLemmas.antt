@@ -1,9 +1,9 @@
 -- The code of the first modules, one more module at a time.
-use Rattle.std.proofs.Common.{◌≡◌, ◌⊎◌, ℕ, ◌+◌, ◌<◌, ◌≤◌, List, length, get_or, replicate, refl, sym, ap, subst, ◌∙◌, inl, inr, arith}
+use Rattle.std.proofs.Common.{◌≡◌, ◌⊎◌, ℕ, ◌+◌, ◌<◌, ◌≤◌, List, length, get_or, sym, ap, subst, ◌∙◌, inl, inr, arith}
 use Rattle.std.proofs.lemmas.Bool.{cases_lt}
-use Rattle.std.proofs.lemmas.List.{get_or_default, length-replicate, get_or-replicate}
+use Rattle.std.proofs.lemmas.List.{get_or_default}
 use Rattle.cfi_aux.specs.declared.placed.Placed.{Placed}
-use Rattle.cfi_policy.specs.Code.{LiesIn, EndsBefore, AreApart, HasWords, IsCodeOf}
+use Rattle.cfi_policy.specs.Code.{LiesIn, EndsBefore, AreApart, HasWords}
 
 -- the code with the words of so many first modules
 pub record IsCodeSoFar (modules : List Placed) (count code_words : ℕ) (code : List ℕ) : Type 0 where

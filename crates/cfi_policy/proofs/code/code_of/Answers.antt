@@ -1,4 +1,4 @@
-use Rattle.std.proofs.Common.{◌≡◌, ◌⊎◌, ℕ, ◌+◌, ◌<◌, ◌≤◌, length, drop, get_or, ap, sym, subst, ◌∙◌, arith}
+use Rattle.std.proofs.Common.{◌≡◌, ◌⊎◌, ℕ, ◌+◌, ◌<◌, ◌≤◌, length, drop, get_or, ap, sym, subst, arith}
 use Rattle.std.proofs.lemmas.List.{take_at}
 use Rattle.cfi_policy.specs.Code.{HasWords}
 use Rattle.cfi_policy.proofs.CodeLemmas.{IsCodeSoFar, one_more_module}
