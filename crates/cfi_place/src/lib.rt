@@ -1,8 +1,8 @@
 //! Modules at their places in the code and the data: addresses, relocations, slots of checks.
 //!
 //! Stands on `rv_reloc`, `cfi_aux`, `cfi_unit`, `elf_read`, `cfi_types`, `cfi_word`, `rv_insn` and `thiserror`. Proved:
-//! `place` answers exactly what `specs/Placed.antt` says, or the first fault. Only tested: the texts of faults, and that
-//! ample memory is enough. Open: nothing.
+//! `place` answers exactly what `specs/Placed.antt` says, or the first fault. Only tested: nothing. Open: tests, and
+//! that ample memory is enough.
 #![tactic(auto)]
 
 mod bytes;
