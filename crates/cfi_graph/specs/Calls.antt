@@ -1,0 +1,69 @@
+-- Calls and tail calls of placed modules (MCFI, Niu and Tan, PLDI 2014: an indirect call through a pointer may reach
+-- each function whose address is taken and whose type is equal).
+-- A function is told by its module and its record there, a branch by its module and its slot.
+use Rattle.std.specs.Prelude.{◌≡◌, ℕ, zero, suc, ◌+◌, ◌≤◌, ◌<◌, true, false, List, slice_get, Some, IsTrue}
+use Rattle.std.specs.List.{Contains}
+use Rattle.cfi_unit.specs.declared.unit.Unit.{Unit as CodeUnit}
+use Rattle.cfi_unit.specs.declared.unit.Unit.TheVariants as units
+use Rattle.cfi_unit.specs.Unit.{size_of}
+use Rattle.cfi_types.specs.Same.{Equal}
+use Rattle.cfi_aux.specs.declared.placed.Placed.{Placed}
+use Rattle.cfi_aux.specs.declared.placed.PlacedFunction.{PlacedFunction}
+use Rattle.cfi_aux.specs.declared.records.Kind.{Kind}
+use Rattle.cfi_aux.specs.declared.records.Kind.TheVariants.{Call, Tail}
+use Rattle.cfi_graph.specs.Code.{Stands, address_of, entry_of, Leads}
+
+-- the module's branch of the slot is of the kind
+abbrev pub HasKind : Placed → (slot : ℕ) → Kind → Type 0
+HasKind m slot kind = (number : ℕ) × (slot ≡ m.slot_base + number) × (slice_get m.branches number ≡ Some kind)
+
+-- f is a function of n, one of the modules
+pub record IsFunction (ms : List Placed) (n : Placed) (f : PlacedFunction) : Type 0 where
+  pub placed : Contains ms n
+  pub function : Contains n.functions f
+
+-- a pointer to the type of a node of m may lead to f of n
+pub record MayPoint (m : Placed) (node : ℕ) (n : Placed) (f : PlacedFunction) : Type 0 where
+  pub taken : IsTrue f.taken
+  pub equal : Equal m.types node n.types f.ty
+
+-- the unit at a word of m is a call that may enter f of n: a jump that links, or a branch of kind Call
+abbrev pub IsCall : (m : Placed) (at : ℕ) → CodeUnit → (n : Placed) → PlacedFunction → Type 0
+IsCall m at (units.Jump true off) n f = Leads (address_of m at) off (entry_of n f)
+IsCall m at (units.Check link rs1 imm slot) n f = (node : ℕ) × HasKind m slot (Call node) × MayPoint m node n f
+IsCall m at unit n f = ⊥
+
+-- the unit at a word of m is a tail call of f of n: a jump that does not link, or a branch of kind Tail
+abbrev pub IsTailCall : (m : Placed) (at : ℕ) → CodeUnit → (n : Placed) → PlacedFunction → Type 0
+IsTailCall m at (units.Jump false off) n f = Leads (address_of m at) off (entry_of n f)
+IsTailCall m at (units.Check link rs1 imm slot) n f = (node : ℕ) × HasKind m slot (Tail node) × MayPoint m node n f
+IsTailCall m at unit n f = ⊥
+
+-- the word lies in the function
+abbrev pub LiesIn : PlacedFunction → (at : ℕ) → Type 0
+LiesIn f at = (f.first ≤ at) × (at < f.first + f.count)
+
+-- some call of the modules may enter f of n, and the address after it is this one
+pub record ReturnsTo (ms : List Placed) (n : Placed) (f : PlacedFunction) (address : ℕ) : Type 0 where
+  pub caller : Placed
+  pub placed : Contains ms caller
+  pub at : ℕ
+  pub unit : CodeUnit
+  pub stands : Stands caller at unit
+  pub call : IsCall caller at unit n f
+  pub after : address ≡ address_of caller (at + size_of unit)
+
+-- f of m tail calls g of n
+pub record TailCalls (m : Placed) (f : PlacedFunction) (n : Placed) (g : PlacedFunction) : Type 0 where
+  pub at : ℕ
+  pub lies : LiesIn f at
+  pub unit : CodeUnit
+  pub stands : Stands m at unit
+  pub call : IsTailCall m at unit n g
+
+-- g of n is reached from f of m along so many tail calls
+abbrev pub IsReached : (ms : List Placed) → (steps : ℕ) → (m : Placed) → PlacedFunction
+    → (n : Placed) → PlacedFunction → Type 0
+IsReached ms zero m f n g = (m ≡ n) × (f ≡ g)
+IsReached ms (suc steps) m f n g =
+    (o : Placed) × (h : PlacedFunction) × IsFunction ms o h × TailCalls m f o h × IsReached ms steps o h n g

@@ -1,0 +1,5 @@
+pub mod Code
+pub mod Shaped
+pub mod Calls
+pub mod Direct
+pub mod Spots
