@@ -7,8 +7,10 @@
 
 mod code;
 mod image;
+mod laws;
 #[cfg(test)]
 mod tests;
 
 pub use code::code_of;
 pub use image::image_from;
+pub use laws::few_span_many;
