@@ -1,0 +1,10 @@
+pub mod Words
+pub mod Spot
+pub mod Reference
+pub mod Relocs
+pub mod Survey
+pub mod Node
+pub mod Draft
+pub mod Fault
+pub mod Assembled
+pub mod Kept

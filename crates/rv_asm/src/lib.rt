@@ -1,0 +1,31 @@
+//! The assembler: an object of a source.
+//!
+//! Stands on `rv_insn`, `rv_text`, `rv_line`, `rv_names`, `elf_read`, `cfi_types` and `cfi_aux`. Proved: `assemble` gives
+//! exactly the object that the lines make, as `specs/Assembled.antt` has it, or the first faulty line with the least of
+//! its faults. Only tested: that mnemonics and short forms are spelled as GNU as spells them. Open: nothing.
+#![tactic(auto)]
+
+mod adding;
+mod assembler;
+mod astray;
+mod check;
+mod code;
+mod draft;
+mod fault;
+mod file;
+mod node;
+mod object;
+mod records;
+mod reference;
+mod relocs;
+mod row;
+mod spot;
+mod survey;
+mod switch;
+mod words;
+
+pub use assembler::assemble;
+pub use fault::AsmFault;
+
+#[cfg(test)]
+mod tests;
