@@ -1,6 +1,10 @@
-pub mod Number
-pub mod Register
-pub mod Operand
-pub mod Called
-pub mod Statement
-pub mod Line
+pub mod Words
+pub mod Spot
+pub mod Reference
+pub mod Relocs
+pub mod Survey
+pub mod Node
+pub mod Draft
+pub mod Fault
+pub mod Assembled
+pub mod Kept

@@ -1,22 +1,31 @@
-//! The assembler's sources, line by line.
+//! The assembler: an object of a source.
 //!
-//! Stands on `rv_insn`, `rv_text`, `cfi_text` and `elf_read`. Proved: `read_line` gives the line that
-//! bytes say, exactly as `specs/Line.antt` has it, and none where they say none. Only tested: nothing.
-//! Open: sizes, labels, words and relocations, which make an object of the lines.
+//! Stands on `rv_insn`, `rv_text`, `rv_line`, `rv_names`, `elf_read`, `cfi_types` and `cfi_aux`. Proved: `assemble` gives
+//! exactly the object that the lines make, as `specs/Assembled.antt` has it, or the first faulty line with the least of
+//! its faults. Only tested: that mnemonics and short forms are spelled as GNU as spells them. Open: nothing.
 #![tactic(auto)]
 
-mod called;
-mod directives;
-mod forms;
-mod line;
-mod names;
-mod number;
-mod operand;
-mod register;
-mod short;
-mod statement;
+mod adding;
+mod assembler;
+mod astray;
+mod check;
+mod code;
+mod draft;
+mod fault;
+mod file;
+mod node;
+mod object;
+mod records;
+mod reference;
+mod relocs;
+mod row;
+mod spot;
+mod survey;
+mod switch;
+mod words;
+
+pub use assembler::assemble;
+pub use fault::AsmFault;
+
 #[cfg(test)]
 mod tests;
-
-pub use line::{Line, read_line};
-pub use statement::{Datum, High, Low, NodeKind, Statement, Target};

@@ -1,0 +1,10 @@
+use Rattle.std.proofs.Common.{◌≡◌, length}
+use Rattle.rv_names.specs.Names.{with_names}
+use Rattle.rv_asm.proofs.survey.add_names.Given as goal
+
+-- the names that are left lead to what all lead to
+abbrev pub invariant-loop-added : goal.invariant-loop-added
+invariant-loop-added l = with_names l.names l.added ≡ with_names l.fn.names l.fn.added
+
+abbrev pub decreases-loop-added : goal.decreases-loop-added
+decreases-loop-added l = length l.added

@@ -1,0 +1,8 @@
+use Rattle.std.proofs.Common.{◌≡◌}
+use Rattle.cfi_text.specs.Lines.{numbered_lines}
+use Rattle.rv_asm.specs.Survey.{nothing, with_lines}
+use Rattle.rv_asm.proofs.survey.read_all.Given as goal
+
+-- what is left leads to what all lead to
+abbrev pub invariant-loop-number : goal.invariant-loop-number
+invariant-loop-number l = with_lines l.survey l.number-iterator ≡ with_lines nothing (numbered_lines l.fn.text)

@@ -1,0 +1,86 @@
+-- Where a line of a source stands: in text or data, after so many bytes of each, and after so many `la`. An end past
+-- 2^32 - 1 counts as that number: a limit was passed long before.
+use Rattle.std.specs.Prelude.{ℕ, ◌+◌, ◌-◌, ◌^◌, min, Bool, true, false, ℤ, pos, negsuc, List, ◌++◌, codes, if◌then◌else◌, Option, Some, None}
+use Rattle.std.specs.Fmt.{decimal}
+use Rattle.elf_read.specs.declared.object.Area.{Area}
+use Rattle.elf_read.specs.declared.object.Area.TheVariants as areas
+use Rattle.rv_line.specs.declared.statement.Statement.{Statement}
+use Rattle.rv_line.specs.declared.statement.Statement.TheVariants as statements
+use Rattle.rv_line.specs.declared.statement.Datum.{Datum}
+use Rattle.rv_line.specs.declared.statement.Datum.TheVariants as data_words
+use Rattle.rv_asm.specs.declared.spot.Spot.{Spot}
+use Rattle.rv_asm.specs.Words.{size_of, low_word, li_words}
+
+-- before the first line
+abbrev pub start : Spot
+start = record { area = areas.Text; text_end = 0; data_end = 0; pairs = 0 }
+
+-- a sum, at most 2^32 - 1
+abbrev pub plus : (end size : ℕ) → ℕ
+plus end size = min (end + size) (2 ^ 32 - 1)
+
+-- the bytes that a number adds to the text, where a name has no place
+abbrev pub number_size : Datum → ℕ
+number_size (data_words.Number number) = 4
+number_size (data_words.Name name) = 0
+
+-- the bytes that a statement adds to the text
+abbrev pub text_size : Statement → ℕ
+text_size statements.Blank = 0
+text_size (statements.Li rd number) = size_of (li_words rd (low_word number))
+text_size (statements.La rd name) = 8
+text_size (statements.Call name) = 8
+text_size (statements.Tail name) = 8
+text_size statements.Text = 0
+text_size statements.Data = 0
+text_size (statements.Globl name) = 0
+text_size (statements.Word datum) = number_size datum
+text_size (statements.Zero number) = 0
+text_size (statements.Node kind fields) = 0
+text_size (statements.Func name node taken) = 0
+text_size statements.EndFunc = 0
+text_size (statements.KindCall node) = 0
+text_size (statements.KindTail node) = 0
+text_size statements.KindReturn = 0
+text_size (statements.KindSwitch names) = 0
+text_size instruction = 4
+
+-- how many zeros a number asks for, at most 2^32 - 1
+abbrev pub zero_size : ℤ → ℕ
+zero_size (pos n) = min n (2 ^ 32 - 1)
+zero_size (negsuc n) = 0
+
+-- the bytes that it adds to data
+abbrev pub data_size : Statement → ℕ
+data_size (statements.Word datum) = 4
+data_size (statements.Zero number) = zero_size number
+data_size other = 0
+
+-- where the next line stands
+abbrev pub beyond : Spot → (area : Area) → Statement → Spot
+beyond spot areas.Text statement = record spot { text_end = plus spot.text_end (text_size statement) }
+beyond spot areas.Data statement = record spot { data_end = plus spot.data_end (data_size statement) }
+
+abbrev pub after : Spot → Statement → Spot
+after spot statements.Text = record spot { area = areas.Text }
+after spot statements.Data = record spot { area = areas.Data }
+after spot (statements.La rd name) =
+    beyond (record spot { pairs = plus spot.pairs 1 }) spot.area (statements.La rd name)
+after spot statement = beyond spot spot.area statement
+
+-- a line that says nothing adds nothing
+abbrev pub after_line : Spot → Option Statement → Spot
+after_line spot None = spot
+after_line spot (Some statement) = after spot statement
+
+-- how much of an area stands before the line
+abbrev pub end_in : Spot → (area : Area) → ℕ
+end_in spot areas.Text = spot.text_end
+end_in spot areas.Data = spot.data_end
+
+abbrev pub end_of : Spot → ℕ
+end_of spot = end_in spot spot.area
+
+-- the label of the `la` of this number, from 0
+abbrev pub pair_label : (number : ℕ) → List ℕ
+pair_label number = codes ".Lpc" ++ decimal number

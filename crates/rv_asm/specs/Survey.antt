@@ -1,0 +1,85 @@
+-- What a first reading of a source gives: where each line stands, the names in the order in which they first occur with
+-- their definitions, the kinds of its type nodes, and whether it has records.
+use Rattle.std.specs.Prelude.{ℕ, ◌+◌, Bool, false, ◌||◌, List, [], ◌∷◌, ◌++◌, length, Option, Some, None}
+use Rattle.rv_line.specs.declared.statement.NodeKind.{NodeKind}
+use Rattle.rv_line.specs.declared.statement.Statement.{Statement}
+use Rattle.rv_line.specs.declared.statement.Statement.TheVariants as statements
+use Rattle.rv_line.specs.declared.line.Line.{Line}
+use Rattle.rv_line.specs.Line.{line_in}
+use Rattle.rv_names.specs.declared.names.Definition.{Definition}
+use Rattle.rv_names.specs.declared.names.Entry.{Entry}
+use Rattle.rv_asm.specs.declared.spot.Spot.{Spot}
+use Rattle.rv_asm.specs.declared.row.Row.{Row}
+use Rattle.rv_names.specs.Names.{with_name, with_definition, with_export, with_names}
+use Rattle.rv_asm.specs.Reference.{reference_of}
+use Rattle.rv_asm.specs.Spot.{start, after_line, end_of, pair_label}
+
+-- a label of a line, which is the offset of its statement
+abbrev pub definition_at : (number : ℕ) → Spot → Definition
+definition_at number spot = record { line = number; area = spot.area; value = end_of spot }
+
+-- the names with those of a statement
+abbrev pub with_reference : (table : List Entry) → Option (ℕ × List ℕ) → List Entry
+with_reference table None = table
+with_reference table (Some reference) = with_name table reference.1
+
+abbrev pub with_statement : (table : List Entry) → (number : ℕ) → Spot → Statement → List Entry
+with_statement table number spot (statements.La rd name) =
+    with_name (with_definition table (pair_label spot.pairs) (definition_at number spot)) name
+with_statement table number spot (statements.Globl name) = with_export table name
+with_statement table number spot (statements.Func name node taken) =
+    with_definition table name (definition_at number spot)
+with_statement table number spot (statements.KindSwitch names) = with_names table names
+with_statement table number spot statement = with_reference table (reference_of statement)
+
+abbrev pub with_said : (table : List Entry) → (number : ℕ) → Spot → Option Statement → List Entry
+with_said table number spot None = table
+with_said table number spot (Some statement) = with_statement table number spot statement
+
+-- and with its label before them
+abbrev pub with_label : (table : List Entry) → (number : ℕ) → Spot → Option (List ℕ) → List Entry
+with_label table number spot None = table
+with_label table number spot (Some name) = with_definition table name (definition_at number spot)
+
+abbrev pub names_of : (table : List Entry) → (number : ℕ) → Spot → Line → List Entry
+names_of table number spot line =
+    with_said (with_label table number spot line.label) number spot line.statement
+
+-- the kinds of nodes with that of a line
+abbrev pub with_kind : (kinds : List NodeKind) → Option Statement → List NodeKind
+with_kind kinds (Some (statements.Node kind fields)) = kinds ++ kind ∷ []
+with_kind kinds other = kinds
+
+-- what the lines so far have said
+pub record Survey : Type 0 where
+  pub spot : Spot
+  pub names : List Entry
+  pub kinds : List NodeKind
+  pub records : Bool
+  pub rows : List Row
+
+abbrev pub nothing : Survey
+nothing = record { spot = start; names = []; kinds = []; records = false; rows = [] }
+
+-- a line with where it stands, and how many names there are by then
+abbrev pub row_of : Survey → (number : ℕ) → Line → Row
+row_of survey number line = record {
+  number = number;
+  label = line.label;
+  statement = line.statement;
+  spot = survey.spot;
+  names = length (names_of survey.names number survey.spot line);
+}
+
+abbrev pub with_line : Survey → (number : ℕ) → Line → Survey
+with_line survey number line = record {
+  spot = after_line survey.spot line.statement;
+  names = names_of survey.names number survey.spot line;
+  kinds = with_kind survey.kinds line.statement;
+  records = survey.records || line.records;
+  rows = survey.rows ++ row_of survey number line ∷ [];
+}
+
+abbrev pub with_lines : Survey → (lines : List (ℕ × List ℕ)) → Survey
+with_lines survey [] = survey
+with_lines survey (line ∷ lines) = with_lines (with_line survey line.0 (line_in line.1)) lines

@@ -1,0 +1,87 @@
+//! The assembler.
+
+ghost use Rattle.std.specs.Prelude.{◌≡◌, ◌+◌, ◌^◌, ◌<◌, length, IfOk, map};
+ghost use Rattle.rv_asm.specs.Assembled.{within, with_said, with_row, with_rows, object_of, ended, object_by, object_in, file_of, Gives, IsDue};
+ghost use Rattle.rv_asm.specs.Draft.{empty};
+ghost use Rattle.rv_names.specs.Names.{symbol_of};
+
+use crate::check::{is_twice, is_unknown};
+use crate::draft::Draft;
+use crate::fault::AsmFault;
+use crate::file::File;
+use crate::row::Row;
+use crate::survey::survey_of;
+use elf_read::{MAX_SYMBOLS, Object};
+use rv_line::Statement;
+use std::alloc::Global;
+
+// Adds a line that has a statement, or answers the least of its faults.
+fn add_said(
+    alloc: Global,
+    draft: &mut Draft,
+    file: &File,
+    rest: &[Row],
+    row: &Row,
+    statement: &Statement,
+) -> Result<(), AsmFault>
+    ensures { Gives result draft.new (with_said file.now draft.old rest.now row.now statement.now) }
+{
+    if draft.is_astray(file, rest, row.spot, statement) {
+        return Err(AsmFault::Syntax(row.number));
+    }
+    if is_unknown(&file.names, statement) {
+        return Err(AsmFault::UnknownName(row.number));
+    }
+    if is_twice(&file.names, row, statement) {
+        return Err(AsmFault::Twice(row.number));
+    }
+    if row.names as usize > MAX_SYMBOLS {
+        return Err(AsmFault::Range(row.number));
+    }
+    draft.add(alloc, row.number, file, row.spot, statement)
+}
+
+fn add_row(
+    alloc: Global,
+    draft: &mut Draft,
+    file: &File,
+    rest: &[Row],
+    row: &Row,
+) -> Result<(), AsmFault>
+    ensures { Gives result draft.new (with_row file.now draft.old rest.now row.now row.now.statement) }
+{
+    match &row.statement {
+        Some(statement) => add_said(alloc, draft, file, rest, row, statement),
+        None => Err(AsmFault::Syntax(row.number)),
+    }
+}
+
+// What the lines make, or the first faulty one.
+fn draft_of(alloc: Global, file: &File, rows: &[Row]) -> Result<Draft, AsmFault>
+    ensures { IsDue result (with_rows file.now empty rows.now) }
+{
+    let mut draft = Draft::new(alloc);
+    let mut rows = rows;
+    while let [row, rest @ ..] = rows {
+        add_row(alloc, &mut draft, file, rest, row)?;
+        rows = rest;
+    }
+    Ok(draft)
+}
+
+/// The object that a source makes, or its first faulty line.
+///
+/// `text` is the source, of lines that end at 0x0a. The least faulty line decides, then the least of its faults in the
+/// order of the variants; `Memory` is the one further answer. RISC-V Unprivileged ISA 20191213, chapter 25, and RISC-V
+/// ELF psABI: mnemonics, operands and relocations.
+pub fn assemble(alloc: Global, text: &[u8]) -> Result<Object, AsmFault>
+    requires { length text.now + 1 < 2 ^ 32 }
+    ensures { IsDue result (object_in text.now) }
+{
+    let (file, rows) = survey_of(alloc, text)?.into_file(alloc)?;
+    let draft = draft_of(alloc, &file, rows.as_slice())?;
+    if draft.is_open() {
+        return Err(AsmFault::Syntax(rows.len() as u32 + 1));
+    }
+    Ok(draft.into_object(alloc, file)?)
+}

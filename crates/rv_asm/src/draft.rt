@@ -1,0 +1,194 @@
+//! What the lines of a source have made so far: its text and data.
+
+ghost use Rattle.std.specs.Prelude.{◌≡◌, ◌≤◌, length};
+ghost use Rattle.rv_line.specs.declared.statement.Statement.TheVariants as statements;
+ghost use Rattle.rv_asm.specs.Draft.{empty, has_relocs, with_words, with_code, with_jump, with_data, with_datum, with_zeros, with_word};
+ghost use Rattle.rv_asm.specs.Assembled.{or_range, Gives};
+
+use crate::code::words_of;
+use crate::fault::AsmFault;
+use crate::file::File;
+use crate::relocs::{reloc_by, relocs_of};
+use crate::spot::Spot;
+use crate::words::{Words, low_word};
+use cfi_aux::{Function, Kind, MAX_BRANCHES};
+use cfi_types::TypeNode;
+use elf_read::relocation::WORD;
+use elf_read::{Area, MAX_DATA, MAX_RELOCS, MAX_WORDS, Reloc};
+use rv_line::{Datum, Statement};
+use std::alloc::Global;
+use std::marker::Model;
+
+/// What the lines of a source have made so far.
+#[derive(Drop)]
+pub struct Draft {
+    pub(crate) text: Vec<u8>,
+    pub(crate) data_bytes: Vec<u8>,
+    pub(crate) text_relocs: Vec<Reloc>,
+    pub(crate) data_relocs: Vec<Reloc>,
+    pub(crate) nodes: Vec<TypeNode>,
+    pub(crate) functions: Vec<Function>,
+    pub(crate) branches: Vec<Kind>,
+    // The kind that is set for the next indirect jump.
+    pub(crate) kind: Option<Kind>,
+    // The function that is open, of length 0.
+    pub(crate) function: Option<Function>,
+}
+
+impl Model for Draft {
+    ghost use Rattle.rv_asm.specs.Draft.{Draft as Made};
+
+    ghost Value = { Made };
+
+    ghost use Rattle.rv_asm.specs.Kept.{draft_of, IsWritable};
+
+    ghost view = { draft_of };
+
+    ghost invariant = { IsWritable };
+}
+
+impl Draft {
+    /// Before the first line.
+    pub fn new(alloc: Global) -> Draft
+        ensures { result ≡ empty }
+    {
+        Draft {
+            text: Vec::new(alloc),
+            data_bytes: Vec::new(alloc),
+            text_relocs: Vec::new(alloc),
+            data_relocs: Vec::new(alloc),
+            nodes: Vec::new(alloc),
+            functions: Vec::new(alloc),
+            branches: Vec::new(alloc),
+            kind: None,
+            function: None,
+        }
+    }
+
+    fn has_relocs(&self, count: usize) -> bool
+        requires { count ≤ 2 }
+        ensures { result ≡ has_relocs self.now count }
+    {
+        self.text_relocs.len() + self.data_relocs.len() <= MAX_RELOCS - count
+    }
+
+    // Adds words of text with their relocations.
+    fn add_words(
+        &mut self,
+        number: u32,
+        spot: Spot,
+        added: &[Reloc],
+        words: Words,
+    ) -> Result<(), AsmFault>
+        requires { length added.now ≤ 2 }
+        ensures { Gives result self.new (or_range number (with_words spot self.old added.now words)) }
+    {
+        let end = spot.text_end as usize + words.size() as usize;
+        if end > 4 * MAX_WORDS || !self.has_relocs(added.len()) {
+            return Err(AsmFault::Range(number));
+        }
+        self.text_relocs.extend_from_slice(added)?;
+        words.put(&mut self.text)?;
+        Ok(())
+    }
+
+    // Adds the words of a statement.
+    pub(crate) fn add_code(
+        &mut self,
+        alloc: Global,
+        number: u32,
+        file: &File,
+        spot: Spot,
+        statement: &Statement,
+    ) -> Result<(), AsmFault>
+        ensures { Gives result self.new (or_range number (with_code file.now spot self.old statement.now)) }
+    {
+        let Some(words) = words_of(&file.names, spot.text_end, statement) else {
+            return Err(AsmFault::Range(number));
+        };
+        let added = relocs_of(alloc, &file.names, spot, statement)?;
+        self.add_words(number, spot, added.as_slice(), words)
+    }
+
+    // Gives the next indirect jump its kind.
+    pub(crate) fn add_jump(&mut self, number: u32, records: bool) -> Result<(), AsmFault>
+        ensures { Gives result self.new (or_range number (with_jump records self.old)) }
+    {
+        if !records {
+            return Ok(());
+        }
+        if self.branches.len() >= MAX_BRANCHES as usize {
+            return Err(AsmFault::Range(number));
+        }
+        let kind = self.kind.take().unwrap_or(Kind::Return);
+        self.branches.push(kind)?;
+        Ok(())
+    }
+
+    // Adds a word of data with its relocations.
+    fn add_data(
+        &mut self,
+        number: u32,
+        spot: Spot,
+        word: u32,
+        added: &[Reloc],
+    ) -> Result<(), AsmFault>
+        requires { length added.now ≤ 2 }
+        ensures { Gives result self.new (or_range number (with_data spot self.old word added.now)) }
+    {
+        let end = spot.data_end as usize + 4;
+        if end > MAX_DATA || !self.has_relocs(added.len()) {
+            return Err(AsmFault::Range(number));
+        }
+        self.data_relocs.extend_from_slice(added)?;
+        self.data_bytes.extend_from_slice(&word.to_le_bytes())?;
+        Ok(())
+    }
+
+    fn add_datum(
+        &mut self,
+        number: u32,
+        file: &File,
+        spot: Spot,
+        datum: &Datum,
+    ) -> Result<(), AsmFault>
+        ensures { Gives result self.new (or_range number (with_datum file.now.names spot self.old datum.now)) }
+    {
+        match datum {
+            Datum::Number(value) => self.add_data(number, spot, low_word(*value), &[]),
+            Datum::Name(name) => {
+                let reloc = reloc_by(&file.names, Area::Data, spot.data_end, WORD, name.as_str());
+                self.add_data(number, spot, 0, &[reloc])
+            }
+        }
+    }
+
+    pub(crate) fn add_zeros(&mut self, number: u32, spot: Spot, count: i64) -> Result<(), AsmFault>
+        ensures { Gives result self.new (or_range number (with_zeros spot self.old count)) }
+    {
+        if count < 0 || count > (MAX_DATA as i64) - i64::from(spot.data_end) {
+            return Err(AsmFault::Range(number));
+        }
+        let length = self.data_bytes.len() + count as usize;
+        self.data_bytes.resize(length, 0)?;
+        Ok(())
+    }
+
+    pub(crate) fn add_word(
+        &mut self,
+        alloc: Global,
+        number: u32,
+        file: &File,
+        spot: Spot,
+        statement: &Statement,
+        datum: &Datum,
+    ) -> Result<(), AsmFault>
+        requires { statement.now ≡ statements.Word datum.now }
+        ensures { Gives result self.new (or_range number (with_word spot.area file.now spot self.old datum.now)) }
+    {
+        match spot.area {
+            Area::Text => self.add_code(alloc, number, file, spot, statement),
+            Area::Data => self.add_datum(number, file, spot, datum),
+        }
+    }
+}

@@ -1,0 +1,64 @@
+//! The object of a source.
+
+ghost use Rattle.std.specs.Prelude.{◌≡◌, ◌<◌, ◌^◌, length, All, IfOk};
+ghost use Rattle.cfi_types.specs.Spelling.{spelling as types_spelling};
+ghost use Rattle.cfi_aux.specs.Records.{CanBeWritten, spelling as records_spelling};
+ghost use Rattle.rv_asm.specs.Assembled.{only_if, object_of};
+
+use crate::draft::Draft;
+use crate::file::File;
+use cfi_aux::{Records, write_records};
+use cfi_list::Items;
+use cfi_types::{TypeTable, write_types};
+use elf_read::{Bytes, Object, Relocs};
+use std::alloc::{AllocError, Global};
+
+// The bytes of a type table, where the source has records.
+fn types_of(alloc: Global, wanted: bool, table: &TypeTable) -> Result<Option<Bytes>, AllocError>
+    requires nodes { length table.now < 2 ^ 32 }
+    requires fields { All (λ node. length node.fields < 2 ^ 32) table.now }
+    ensures { IfOk result (λ bytes. bytes ≡ only_if wanted (types_spelling table.now)) }
+{
+    if wanted {
+        Ok(Some(Bytes::from_vec(write_types(alloc, table)?)))
+    } else {
+        Ok(None)
+    }
+}
+
+// The bytes of records, where the source has them.
+fn records_of(alloc: Global, wanted: bool, records: &Records) -> Result<Option<Bytes>, AllocError>
+    requires { CanBeWritten records.now }
+    ensures { IfOk result (λ bytes. bytes ≡ only_if wanted (records_spelling records.now)) }
+{
+    if wanted {
+        Ok(Some(Bytes::from_vec(write_records(alloc, records)?)))
+    } else {
+        Ok(None)
+    }
+}
+
+impl Draft {
+    /// The object.
+    pub fn into_object(self, alloc: Global, file: File) -> Result<Object, AllocError>
+        ensures { IfOk result (λ object. object ≡ object_of file self) }
+    {
+        let mut relocs = self.text_relocs;
+        relocs.extend_from_slice(self.data_relocs.as_slice())?;
+        let table = TypeTable::from_vec(self.nodes);
+        let records = Records {
+            functions: Items::from_vec(self.functions),
+            branches: Items::from_vec(self.branches),
+        };
+        let types = types_of(alloc, file.records, &table)?;
+        let records = records_of(alloc, file.records, &records)?;
+        Ok(Object {
+            text: Bytes::from_vec(self.text),
+            static_data: Bytes::from_vec(self.data_bytes),
+            symbols: file.names.into_symbols(alloc)?,
+            relocs: Relocs::from_vec(relocs),
+            types,
+            records,
+        })
+    }
+}

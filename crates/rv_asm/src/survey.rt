@@ -1,0 +1,203 @@
+//! The first reading of a source: where its lines stand, and its names.
+
+ghost use Rattle.std.specs.Prelude.{◌≡◌, ◌+◌, ◌<◌, ◌≤◌, ◌^◌, length, IfOk, OnOk, Option, Some, None};
+ghost use Rattle.std.specs.Option.{option_map};
+ghost use Rattle.cfi_text.specs.Lines.{numbered_lines};
+ghost use Rattle.rv_line.specs.declared.statement.Statement.TheVariants as statements;
+ghost use Rattle.rv_names.specs.Names.{with_name, with_definition, with_names};
+ghost use Rattle.rv_asm.specs.Assembled.{file_of};
+ghost use Rattle.rv_asm.specs.Reference.{reference_of};
+ghost use Rattle.rv_asm.specs.Spot.{pair_label};
+ghost use Rattle.rv_asm.specs.Survey.{Survey as Said, definition_at, with_reference, with_statement, with_said, with_label, names_of, with_kind, nothing, row_of, with_line, with_lines};
+
+use crate::file::File;
+use crate::reference::reference_of;
+use crate::row::Row;
+use crate::spot::{Spot, pair_label};
+use cfi_list::Items;
+use cfi_text::Lines;
+use elf_read::Name;
+use rv_line::{Line, NodeKind, Statement, read_line};
+use rv_names::{Definition, Names};
+use std::alloc::{AllocError, Global};
+use std::marker::Model;
+
+/// What the lines so far have said.
+#[derive(Drop)]
+pub struct Survey {
+    spot: Spot,
+    names: Names,
+    kinds: Vec<NodeKind>,
+    records: bool,
+    rows: Vec<Row>,
+}
+
+impl Model for Survey {
+    ghost use Rattle.rv_asm.specs.Assembled.{file_of};
+    ghost use Rattle.rv_asm.specs.Reference.{reference_of};
+    ghost use Rattle.rv_asm.specs.Spot.{pair_label};
+    ghost use Rattle.rv_asm.specs.Survey.{Survey as Said};
+
+    ghost Value = { Said };
+
+    ghost use Rattle.rv_asm.specs.Kept.{survey_of};
+
+    ghost view = { survey_of };
+}
+
+// A label of a line.
+fn definition_at(number: u32, spot: Spot) -> Definition
+    ensures { result ≡ definition_at number spot }
+{
+    Definition {
+        line: number,
+        area: spot.area,
+        value: spot.end(),
+    }
+}
+
+fn add_pair(
+    alloc: Global,
+    names: &mut Names,
+    number: u32,
+    spot: Spot,
+    name: &Name,
+) -> Result<(), AllocError>
+    ensures { OnOk result (names.new ≡ with_name (with_definition names.old (pair_label spot.pairs) (definition_at number spot)) name.now) }
+{
+    let label = pair_label(alloc, spot.pairs)?;
+    names.define(alloc, label.as_str(), definition_at(number, spot))?;
+    names.mention(alloc, name.as_str())
+}
+
+fn add_names(alloc: Global, names: &mut Names, added: &[Name]) -> Result<(), AllocError>
+    ensures { OnOk result (names.new ≡ with_names names.old added.now) }
+{
+    let mut added = added;
+    while let [name, rest @ ..] = added {
+        names.mention(alloc, name.as_str())?;
+        added = rest;
+    }
+    Ok(())
+}
+
+// Adds the names of a statement.
+fn add_statement(
+    alloc: Global,
+    names: &mut Names,
+    number: u32,
+    spot: Spot,
+    statement: &Statement,
+) -> Result<(), AllocError>
+    ensures { OnOk result (names.new ≡ with_statement names.old number spot statement.now) }
+{
+    match statement {
+        Statement::La { name, .. } => add_pair(alloc, names, number, spot, name),
+        Statement::Globl(name) => names.export(alloc, name.as_str()),
+        Statement::Func { name, .. } => names.define(
+            alloc,
+            name.as_str(),
+            definition_at(number, spot),
+        ),
+        Statement::KindSwitch(added) => add_names(alloc, names, added.as_slice()),
+        _ => add_reference(alloc, names, statement),
+    }
+}
+
+fn add_reference(alloc: Global, names: &mut Names, statement: &Statement) -> Result<(), AllocError>
+    ensures { OnOk result (names.new ≡ with_reference names.old (reference_of statement.now)) }
+{
+    match reference_of(statement) {
+        Some(reference) => names.mention(alloc, reference.name.as_str()),
+        None => Ok(()),
+    }
+}
+
+// Adds the names of a line: its label, then those of its statement.
+fn add_line(
+    alloc: Global,
+    names: &mut Names,
+    number: u32,
+    spot: Spot,
+    line: &Line,
+) -> Result<(), AllocError>
+    ensures { OnOk result (names.new ≡ names_of names.old number spot line.now) }
+{
+    if let Some(label) = &line.label {
+        names.define(alloc, label.as_str(), definition_at(number, spot))?;
+    }
+    match &line.statement {
+        Some(statement) => add_statement(alloc, names, number, spot, statement),
+        None => Ok(()),
+    }
+}
+
+impl Survey {
+    /// Before the first line.
+    pub fn new(alloc: Global) -> Survey
+        ensures { result ≡ nothing }
+    {
+        Survey {
+            spot: Spot::start(),
+            names: Names::new(alloc),
+            kinds: Vec::new(alloc),
+            records: false,
+            rows: Vec::new(alloc),
+        }
+    }
+
+    /// Takes the line of this number.
+    pub fn take(&mut self, alloc: Global, number: u32, line: Line) -> Result<(), AllocError>
+        ensures { OnOk result (self.new ≡ with_line self.old number line) }
+    {
+        add_line(alloc, &mut self.names, number, self.spot, &line)?;
+        if let Some(Statement::Node { kind, .. }) = &line.statement {
+            self.kinds.push(*kind)?;
+        }
+        self.records |= line.records;
+        let spot = self.spot;
+        self.spot = spot.after(line.statement.as_ref());
+        let names = self.names.count();
+        self.rows.push(Row {
+            number,
+            label: line.label,
+            statement: line.statement,
+            spot,
+            names,
+        })?;
+        Ok(())
+    }
+
+    /// What all lines know of the whole, and the lines.
+    pub fn into_file(self, alloc: Global) -> Result<(File, Vec<Row>), AllocError>
+        ensures file { IfOk result (λ parts. parts.0 ≡ file_of self) }
+        ensures rows { IfOk result (λ parts. parts.1.items ≡ self.rows) }
+    {
+        let file = File {
+            names: self.names.in_order(alloc)?,
+            kinds: Items::from_vec(self.kinds),
+            records: self.records,
+        };
+        Ok((file, self.rows))
+    }
+}
+
+/// What all lines of a text say; it has at most as many lines as bytes.
+pub fn survey_of(alloc: Global, text: &[u8]) -> Result<Survey, AllocError>
+    requires { length text.now < 2 ^ 32 }
+    ensures same { IfOk result (λ survey. survey ≡ with_lines nothing (numbered_lines text.now)) }
+    ensures few { IfOk result (λ survey. length survey.rows ≤ length text.now) }
+{
+    read_all(alloc, text)
+}
+
+fn read_all(alloc: Global, text: &[u8]) -> Result<Survey, AllocError>
+    requires { length text.now < 2 ^ 32 }
+    ensures { IfOk result (λ survey. survey ≡ with_lines nothing (numbered_lines text.now)) }
+{
+    let mut survey = Survey::new(alloc);
+    for (number, line) in Lines::new(text) {
+        survey.take(alloc, number, read_line(alloc, line)?)?;
+    }
+    Ok(survey)
+}

@@ -1,0 +1,6 @@
+pub mod Number
+pub mod Register
+pub mod Operand
+pub mod Called
+pub mod Statement
+pub mod Line

@@ -1,0 +1,22 @@
+//! The assembler's sources, line by line.
+//!
+//! Stands on `rv_insn`, `rv_text`, `cfi_list`, `cfi_text` and `elf_read`. Proved:
+//! `read_line` gives the line that bytes say, exactly as `specs/Line.antt` has it. Only tested: nothing. Open: nothing.
+#![tactic(auto)]
+
+mod called;
+mod directives;
+mod forms;
+mod line;
+mod names;
+mod number;
+mod operand;
+mod register;
+mod short;
+mod statement;
+#[cfg(test)]
+mod tests;
+
+pub use line::{Line, read_line};
+pub use register::Register;
+pub use statement::{Datum, High, Low, NodeKind, Statement, Target};

@@ -1,0 +1,12 @@
+use Rattle.std.proofs.Common.{◌≡◌, ◌++◌, filter}
+use Rattle.rv_names.specs.Names.{is_local, is_seen, in_order}
+use Rattle.rv_names.proofs.names.Names.in_order.Given as goal
+
+-- what was kept stands before what is left to keep
+abbrev pub invariant-loop-entry : goal.invariant-loop-entry
+invariant-loop-entry l =
+    (l.names ++ filter is_local l.entry-iterator.rest.items ≡ filter is_local l.fn.self)
+    × (l.seen.items ++ filter is_seen l.entry-iterator.rest.items ≡ filter is_seen l.fn.self)
+
+abbrev pub invariant-loop-entry-2 : goal.invariant-loop-entry-2
+invariant-loop-entry-2 l = l.names ++ l.entry-iterator.rest.items ≡ in_order l.fn.self
