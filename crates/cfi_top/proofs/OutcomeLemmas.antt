@@ -1,6 +1,7 @@
 -- What the outcome of a command says.
-use Rattle.std.proofs.Common.{◌≡◌, ℕ, ◌⊎◌, List, Option, Some, None, inl, inr, sym, ap, subst, ◌∙◌}
-use Rattle.std.specs.Prelude.{◌<◌, ◌≤◌, length, IsSomeAnd, Result, Ok, Err, IsTrue, is_ok}
+use Rattle.std.proofs.Common.{◌≡◌, ℕ, ◌⊎◌, List, Option, Some, None, inl, inr, refl, sym, ap, subst, ◌∙◌}
+use Rattle.std.specs.Prelude.{◌<◌, ◌≤◌, length, IsSomeAnd, Result, Ok, Err, false, is_ok}
+use Rattle.std.proofs.lemmas.Bool.{both_ways}
 use Rattle.cfi_io.specs.Files.{Files}
 use Rattle.cfi_io.specs.Told.{WhereTold}
 use Rattle.cfi_io.specs.declared.shelf.TheConstants.{MAX_FILE_BYTES}
@@ -38,7 +39,7 @@ answer_later words shelf mid shelf' (answers.Refused name refusal) a b c d is = 
 
 -- an answer is no fault
 ok_or_err : {X E : Type 0} {x : X} {e : E} → Ok x ≡ Err e → ⊥
-ok_or_err {X} {E} same = subst (λ (r : Result X E). IsTrue (is_ok r)) same tt
+ok_or_err {X} {E} same = both_ways false refl (sym (ap (λ (r : Result X E). is_ok r) same))
 
 -- bytes that a command takes are not refused
 pub takes_or_refuses : (command : Command) (bytes : List ℕ) (refusal : Refusal) → Takes command bytes
