@@ -1,3 +1,4 @@
+pub mod Asm
 pub mod Bare
 pub mod Elf
 pub mod Refusal

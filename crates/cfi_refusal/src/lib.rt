@@ -1,9 +1,10 @@
 //! Why a file is refused, by the layer that refuses it, and the words that say so.
 //!
-//! Stands on the layers, `cfi_bare` and `elf_read`; `cfi_top` calls it. Proved: `put_refusal` writes the words of
+//! Stands on the layers, `cfi_bare`, `elf_read` and `rv_asm`; `cfi_top` calls it. Proved: `put_refusal` writes the words of
 //! `specs/Refusal.antt`. Only tested: that ample memory is enough. Open: nothing.
 #![tactic(auto)]
 
+mod asm;
 mod bare;
 mod elf;
 mod refusal;

@@ -1,10 +1,12 @@
 ghost use Rattle.std.specs.Prelude.{◌≡◌, ◌++◌, OnOk, string_bytes};
 ghost use Rattle.cfi_refusal.specs.Refusal.{refusal_text};
 
+use crate::asm::put_asm;
 use crate::bare::put_bare;
 use crate::elf::put_elf;
 use cfi_bare::Refusal as BareRefusal;
 use elf_read::ElfFault;
+use rv_asm::AsmFault;
 use std::alloc::AllocError;
 
 /// Why a file is refused: a layer, and its first fault.
@@ -14,6 +16,8 @@ pub enum Refusal {
     Bare(BareRefusal),
     /// As an object.
     Elf(ElfFault),
+    /// As a source.
+    Asm(AsmFault),
 }
 
 /// Appends the words of a refusal: the layer's name, the fault's name, and the fault's fields.
@@ -28,6 +32,10 @@ pub fn put_refusal(text: &mut String, refusal: Refusal) -> Result<(), AllocError
         Refusal::Elf(fault) => {
             text.push_str("elf ")?;
             put_elf(text, fault)
+        }
+        Refusal::Asm(fault) => {
+            text.push_str("asm ")?;
+            put_asm(text, fault)
         }
     }
 }

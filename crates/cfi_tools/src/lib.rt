@@ -1,12 +1,15 @@
 //! What the commands on files make of the bytes that they read.
 //!
-//! Stands on the formats, `elf_read` and `rv_text`; `cfi_top` calls it. Proved: `listing_of` gives the listing of an
-//! object's text, or the object's first fault, by `specs/Listing.antt`. Only tested: that ample memory is enough.
+//! Stands on the formats, `elf_read`, `elf_write`, `rv_text` and `rv_asm`; `cfi_top` calls it. Proved: `listing_of` gives the listing of an
+//! object's text, or the object's first fault, by `specs/Listing.antt`; `assembled` the file of the object that a source
+//! makes, or its first faulty line, by `specs/Assembling.antt`. Only tested: that ample memory is enough.
 //! Open: when memory runs out.
 #![tactic(auto)]
 
+mod assembling;
 mod listing;
 #[cfg(test)]
 mod tests;
 
+pub use assembling::assembled;
 pub use listing::listing_of;

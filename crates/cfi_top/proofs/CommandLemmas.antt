@@ -14,9 +14,12 @@ command_from (name ∷ []) = None
 command_from (name ∷ input ∷ []) =
     if bytes_eq name (codes "list") then Some (commands.List input)
     else (if bytes_eq name (codes "run") then Some (commands.Run input) else None)
-command_from (name ∷ input ∷ output ∷ rest) = None
+command_from (name ∷ input ∷ output ∷ []) =
+    if bytes_eq name (codes "asm") then Some (commands.Asm input output) else None
+command_from (name ∷ input ∷ output ∷ more ∷ rest) = None
 
 from_spelled : (command : Command) → command_from (name_of command ∷ operands_of command) ≡ Some command
+from_spelled (commands.Asm input output) = refl
 from_spelled (commands.List input) = refl
 from_spelled (commands.Run input) = refl
 
@@ -30,3 +33,6 @@ one_command words a b is_a is_b =
 -- the operands of a command that has one
 pub all_of_one : (word : List ℕ) → IsOperand word → All IsOperand (word ∷ [])
 all_of_one word operand = All-cons IsOperand word [] operand (All-nil IsOperand)
+
+pub all_of_two : (first second : List ℕ) → IsOperand first → IsOperand second → All IsOperand (first ∷ second ∷ [])
+all_of_two first second one two = All-cons IsOperand first (second ∷ []) one (all_of_one second two)

@@ -1,5 +1,7 @@
 -- What status 0 says.
 use Rattle.std.proofs.Common.{◌≡◌, ℕ, List, inl, inr, arith, subst}
+use Rattle.cfi_io.specs.Files.{Puts}
+use Rattle.cfi_io.specs.Told.{WhereKeptTold}
 use Rattle.cfi_top.specs.declared.command.Command.{Command}
 use Rattle.cfi_top.specs.declared.command.Command.TheVariants as commands
 use Rattle.cfi_top.specs.declared.answer.Answer.{Answer}
@@ -9,7 +11,7 @@ use Rattle.cfi_top.specs.Answer.{output_of}
 use Rattle.cfi_top.specs.Command.{IsCommand, Fits, input_of}
 use Rattle.cfi_top.specs.Outside.{ShelfView, SinkView, Holds, IsWhole}
 use Rattle.cfi_top.specs.Outcome.{IsMade, IsWorked}
-use Rattle.cfi_top.specs.Top.{Ends, HasRun, HasListed}
+use Rattle.cfi_top.specs.Top.{Ends, HasRun, HasListed, HasAssembled}
 use Rattle.cfi_top.proofs.CommandLemmas.{one_command}
 
 -- a command was done: its input had these bytes, and what it makes of them was delivered whole
@@ -78,6 +80,24 @@ module _ (input bytes : List ℕ) (shelf shelf' : ShelfView) (sink sink' : SinkV
   run_done (answers.TooLong name) made whole = absurd made
   run_done (answers.Refused name refusal) made whole = absurd made
 
+  asm_done : (output : List ℕ) (answer : Answer) → IsMade (commands.Asm input output) bytes answer
+      → IsWhole (output_of answer) shelf shelf' sink sink' → HasAssembled input output shelf shelf' sink sink'
+  asm_done output (answers.Save name file) made whole = record {
+    bytes = bytes;
+    held = held;
+    file = file;
+    assembled = made.1;
+    saved = subst (λ (n : List ℕ). WhereKeptTold shelf.files shelf'.files (Puts n file)) made.0 whole.1;
+    silent = whole.0;
+  }
+  asm_done output (answers.Print text) made whole = absurd made
+  asm_done output (answers.Ran part) made whole = absurd made
+  asm_done output answers.Usage made whole = absurd made
+  asm_done output (answers.ReadFault name) made whole = absurd made
+  asm_done output (answers.Absent name) made whole = absurd made
+  asm_done output (answers.TooLong name) made whole = absurd made
+  asm_done output (answers.Refused name refusal) made whole = absurd made
+
   list_done : (answer : Answer) → IsMade (commands.List input) bytes answer
       → IsWhole (output_of answer) shelf shelf' sink sink' → HasListed input shelf sink sink'
   list_done (answers.Print text) made whole =
@@ -89,6 +109,14 @@ module _ (input bytes : List ℕ) (shelf shelf' : ShelfView) (sink sink' : SinkV
   list_done (answers.Absent name) made whole = absurd made
   list_done (answers.TooLong name) made whole = absurd made
   list_done (answers.Refused name refusal) made whole = absurd made
+
+pub assembled_of : (words : List (List ℕ)) (shelf shelf' : ShelfView) (sink sink' : SinkView) (status : ℕ)
+    → Ends words shelf shelf' sink sink' status → (input output : List ℕ)
+    → IsCommand words (commands.Asm input output) → status ≡ DONE
+    → HasAssembled input output shelf shelf' sink sink'
+assembled_of words shelf shelf' sink sink' status ends input output fits e =
+    let done = command_done words shelf shelf' sink sink' status e (commands.Asm input output) fits ends in
+    asm_done input done.bytes shelf shelf' sink sink' done.held output done.answer done.made done.delivered
 
 pub ran_of : (words : List (List ℕ)) (shelf shelf' : ShelfView) (sink sink' : SinkView) (status : ℕ)
     → Ends words shelf shelf' sink sink' status → (input : List ℕ)

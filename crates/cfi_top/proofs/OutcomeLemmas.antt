@@ -1,13 +1,14 @@
 -- What the outcome of a command says.
-use Rattle.std.proofs.Common.{◌≡◌, ℕ, ◌⊎◌, List, Option, Some, None, inl, inr, sym, subst, ◌∙◌}
-use Rattle.std.specs.Prelude.{◌<◌, ◌≤◌, length, IsSomeAnd}
+use Rattle.std.proofs.Common.{◌≡◌, ℕ, ◌⊎◌, List, Option, Some, None, inl, inr, refl, sym, ap, subst, ◌∙◌}
+use Rattle.std.specs.Prelude.{◌<◌, ◌≤◌, length, IsSomeAnd, Result, Ok, Err, false, is_ok}
+use Rattle.std.proofs.lemmas.Bool.{both_ways}
 use Rattle.cfi_io.specs.Files.{Files}
 use Rattle.cfi_io.specs.Told.{WhereTold}
 use Rattle.cfi_io.specs.declared.shelf.TheConstants.{MAX_FILE_BYTES}
 use Rattle.elf_read.proofs.FaultLemmas.{only_memory}
 use Rattle.cfi_bare.proofs.RefusalLemmas.{not_both}
 use Rattle.cfi_refusal.specs.declared.refusal.Refusal.{Refusal}
-use Rattle.cfi_refusal.specs.declared.refusal.Refusal.TheVariants.{Bare, Elf}
+use Rattle.cfi_refusal.specs.declared.refusal.Refusal.TheVariants.{Bare, Elf, Asm}
 use Rattle.cfi_top.specs.declared.command.Command.{Command}
 use Rattle.cfi_top.specs.declared.command.Command.TheVariants as commands
 use Rattle.cfi_top.specs.declared.answer.Answer.{Answer}
@@ -36,9 +37,19 @@ answer_later words shelf mid shelf' (answers.TooLong name) a b c d is =
     (is.0, is.1, (is.2.0, rose_later _ _ _ c d is.2.1, is.2.2))
 answer_later words shelf mid shelf' (answers.Refused name refusal) a b c d is = is
 
+-- an answer is no fault
+ok_or_err : {X E : Type 0} {x : X} {e : E} → Ok x ≡ Err e → ⊥
+ok_or_err {X} {E} same = both_ways false refl (sym (ap (λ (r : Result X E). is_ok r) same))
+
 -- bytes that a command takes are not refused
 pub takes_or_refuses : (command : Command) (bytes : List ℕ) (refusal : Refusal) → Takes command bytes
     → Refuses command bytes refusal → ⊥
+takes_or_refuses (commands.Asm input output) bytes (Asm fault) takes refuses =
+    ok_or_err (sym takes.1 ∙ refuses.0)
+takes_or_refuses (commands.Asm input output) bytes (Elf fault) takes refuses = refuses
+takes_or_refuses (commands.Asm input output) bytes (Bare refusal) takes refuses = refuses
+takes_or_refuses (commands.List input) bytes (Asm fault) takes refuses = refuses
+takes_or_refuses (commands.Run input) bytes (Asm fault) takes refuses = refuses
 takes_or_refuses (commands.List input) bytes (Elf fault) takes refuses =
     refuses.1 (only_memory bytes fault takes.1.sound refuses.0)
 takes_or_refuses (commands.List input) bytes (Bare refusal) takes refuses = refuses
@@ -49,6 +60,7 @@ takes_or_refuses (commands.Run input) bytes (Bare refusal) takes refuses =
 -- a file that a command saves is its output
 pub saved_is_output : (command : Command) (bytes name file : List ℕ) → IsMade command bytes (answers.Save name file)
     → saved_name command ≡ Some name
+saved_is_output (commands.Asm input output) bytes name file made = ap (λ (n : List ℕ). Some n) (sym made.0)
 saved_is_output (commands.List input) bytes name file made = absurd made
 saved_is_output (commands.Run input) bytes name file made = absurd made
 

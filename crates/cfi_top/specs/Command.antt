@@ -19,10 +19,12 @@ IsOperand (first ∷ rest) = first ≢ dash
 
 -- the word that names a command, and the words after it
 abbrev pub name_of : Command → List ℕ
+name_of (commands.Asm input output) = codes "asm"
 name_of (commands.List input) = codes "list"
 name_of (commands.Run input) = codes "run"
 
 abbrev pub operands_of : Command → List (List ℕ)
+operands_of (commands.Asm input output) = input ∷ output ∷ []
 operands_of (commands.List input) = input ∷ []
 operands_of (commands.Run input) = input ∷ []
 
@@ -42,10 +44,12 @@ IsReading words (Some command) = IsCommand words command
 
 -- the file that a command reads
 abbrev pub input_of : Command → List ℕ
+input_of (commands.Asm input output) = input
 input_of (commands.List input) = input
 input_of (commands.Run input) = input
 
 -- the file that a command saves, where it saves one
 abbrev pub saved_name : Command → Option (List ℕ)
+saved_name (commands.Asm input output) = Some output
 saved_name (commands.List input) = None
 saved_name (commands.Run input) = None

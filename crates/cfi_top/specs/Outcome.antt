@@ -1,15 +1,18 @@
 -- What each command comes to, by what the shelf tells and counts before and after.
-use Rattle.std.specs.Prelude.{◌≡◌, ◌≢◌, ℕ, ◌<◌, List, length, None, IsSomeAnd}
+use Rattle.std.specs.Prelude.{◌≡◌, ◌≢◌, ℕ, ◌<◌, List, length, None, IsSomeAnd, Ok, Err}
 use Rattle.cfi_io.specs.Count.{Rose}
 use Rattle.cfi_io.specs.Told.{WhereTold}
 use Rattle.cfi_io.specs.declared.shelf.TheConstants.{MAX_FILE_BYTES}
 use Rattle.elf_read.specs.declared.object.Object.{Object}
-use Rattle.elf_read.specs.declared.fault.ElfFault.TheVariants.{Memory}
+use Rattle.elf_read.specs.declared.fault.ElfFault.TheVariants as elf_faults
+use Rattle.rv_asm.specs.declared.fault.AsmFault.TheVariants as asm_faults
+use Rattle.rv_asm.specs.Assembled.{object_in}
 use Rattle.elf_read.specs.Fault.{IsObject, IsFirstFault}
 use Rattle.cfi_bare.specs.File.{IsAccepted, IsFirstRefusal}
 use Rattle.cfi_refusal.specs.declared.refusal.Refusal.{Refusal}
-use Rattle.cfi_refusal.specs.declared.refusal.Refusal.TheVariants.{Bare, Elf}
+use Rattle.cfi_refusal.specs.declared.refusal.Refusal.TheVariants.{Bare, Elf, Asm}
 use Rattle.cfi_report.specs.declared.report.GuestPart.{GuestPart}
+use Rattle.cfi_tools.specs.Assembling.{IsAssembled}
 use Rattle.cfi_tools.specs.Listing.{IsObjectListing}
 use Rattle.cfi_top.specs.declared.command.Command.{Command}
 use Rattle.cfi_top.specs.declared.command.Command.TheVariants as commands
@@ -28,18 +31,22 @@ pub record Justifies (bytes : List ℕ) (part : GuestPart) : Type 0 where
 
 -- what a command makes of the bytes of its input
 abbrev pub IsMade : Command → (bytes : List ℕ) → Answer → Type 0
+IsMade (commands.Asm input output) bytes (answers.Save name file) = (name ≡ output) × IsAssembled bytes file
 IsMade (commands.List input) bytes (answers.Print text) = IsObjectListing bytes text
 IsMade (commands.Run input) bytes (answers.Ran part) = Justifies bytes part
 IsMade command bytes answer = ⊥
 
 -- why a command refuses the bytes of its input: the first of the faults
 abbrev pub Refuses : Command → (bytes : List ℕ) → Refusal → Type 0
-Refuses (commands.List input) bytes (Elf fault) = IsFirstFault bytes fault × (fault ≢ Memory)
+Refuses (commands.Asm input output) bytes (Asm fault) =
+    (object_in bytes ≡ Err fault) × (fault ≢ asm_faults.Memory)
+Refuses (commands.List input) bytes (Elf fault) = IsFirstFault bytes fault × (fault ≢ elf_faults.Memory)
 Refuses (commands.Run input) bytes (Bare refusal) = IsFirstRefusal bytes refusal
 Refuses command bytes refusal = ⊥
 
 -- a command takes the bytes of its input
 abbrev pub Takes : Command → (bytes : List ℕ) → Type 0
+Takes (commands.Asm input output) bytes = (object : Object) × (object_in bytes ≡ Ok object)
 Takes (commands.List input) bytes = (object : Object) × IsObject bytes object
 Takes (commands.Run input) bytes = (words : List ℕ) × IsAccepted bytes words
 

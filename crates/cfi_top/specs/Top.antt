@@ -2,11 +2,12 @@
 use Rattle.std.specs.Prelude.{◌≡◌, ℕ, ◌<◌, ◌≤◌, ◌⊎◌, ⊤, List, length, Option, Some, None}
 use Rattle.std.specs.Io.KnownBytes.{Appends}
 use Rattle.cfi_io.specs.Count.{Rose}
-use Rattle.cfi_io.specs.Files.{Files}
-use Rattle.cfi_io.specs.Told.{WhereTold}
+use Rattle.cfi_io.specs.Files.{Files, Puts}
+use Rattle.cfi_io.specs.Told.{WhereTold, WhereKeptTold}
 use Rattle.cfi_io.specs.declared.shelf.TheConstants.{MAX_FILE_BYTES}
 use Rattle.cfi_report.specs.declared.report.GuestPart.{GuestPart}
 use Rattle.cfi_refusal.specs.declared.refusal.Refusal.{Refusal}
+use Rattle.cfi_tools.specs.Assembling.{IsAssembled}
 use Rattle.cfi_tools.specs.Listing.{IsObjectListing}
 use Rattle.cfi_top.specs.declared.command.Command.{Command}
 use Rattle.cfi_top.specs.declared.answer.Answer.{Answer}
@@ -39,6 +40,15 @@ pub record HasListed (input : List ℕ) (shelf : ShelfView) (sink sink' : SinkVi
   pub text : List ℕ
   pub listing : IsObjectListing bytes text
   pub printed : Appends sink.written sink'.written text
+
+-- the file `input` is a source, the file `output` is the written object that it makes, and nothing is printed
+pub record HasAssembled (input output : List ℕ) (shelf shelf' : ShelfView) (sink sink' : SinkView) : Type 0 where
+  pub bytes : List ℕ
+  pub held : Holds shelf input bytes
+  pub file : List ℕ
+  pub assembled : IsAssembled bytes file
+  pub saved : WhereKeptTold shelf.files shelf'.files (Puts output file)
+  pub silent : sink'.written ≡ sink.written
 
 -- the command's input was refused for its first fault, and the sink has the line that says so
 pub record IsRefused (words : List (List ℕ)) (shelf : ShelfView) (sink sink' : SinkView) : Type 0 where

@@ -56,8 +56,8 @@ fn top_over<G: Gate>(
     Ok((ended, text))
 }
 
-// Asks `top` for this status and this text.
-fn expect(
+/// Asks `top` for this status and this text.
+pub fn expect(
     rt: &impl Abort,
     alloc: Global,
     line: &str,
@@ -123,61 +123,6 @@ fn refusals(rt: HostRuntime) -> Result<(), Fail> {
     Ok(())
 }
 
-// A relocatable ELF32 file for RISC-V by hand: its header, the text, the names of sections from 56 on, and from 76 on
-// the headers of the sections: none, `.text`, `.shstrtab` (System V ELF, "ELF Header" and "Sections").
-const OBJECT_HEADER: &[u8; 52] =
-    b"\x7fELF\x01\x01\x01\0\0\0\0\0\0\0\0\0\x01\0\xf3\0\x01\0\0\0\0\0\0\0\0\0\0\0\x4c\0\0\0\0\0\0\0\x34\0\0\0\0\0\x28\0\x03\0\x02\0";
-
-const OBJECT_NAMES: &[u8; 20] = b"\0.text\0.shstrtab\0\0\0\0";
-
-const TEXT_SECTION: &[u8; 40] =
-    b"\x01\0\0\0\x01\0\0\0\x06\0\0\0\0\0\0\0\x34\0\0\0\x04\0\0\0\0\0\0\0\0\0\0\0\x04\0\0\0\0\0\0\0";
-
-const NAMES_SECTION: &[u8; 40] =
-    b"\x07\0\0\0\x03\0\0\0\0\0\0\0\0\0\0\0\x38\0\0\0\x11\0\0\0\0\0\0\0\0\0\0\0\x01\0\0\0\0\0\0\0";
-
-// The object whose text is the one word `addi x17,x0,2`.
-fn object_file(alloc: Global) -> Result<Vec<u8>, AllocError> {
-    let mut file = Vec::new(alloc);
-    file.extend_from_slice(OBJECT_HEADER.as_slice())?;
-    file.extend_from_slice(b"\x93\x08\x20\0")?;
-    file.extend_from_slice(OBJECT_NAMES.as_slice())?;
-    file.extend_from_slice(&[0; 40])?;
-    file.extend_from_slice(TEXT_SECTION.as_slice())?;
-    file.extend_from_slice(NAMES_SECTION.as_slice())?;
-    Ok(file)
-}
-
-#[test]
-fn listings(rt: HostRuntime) -> Result<(), Fail> {
-    let file = object_file(rt.alloc())?;
-    let listing = ".text\naddi x17,x0,2 # 00000000\n";
-    expect(&rt, rt.alloc(), "list a.bin", &file, (&[], &[]), 0, listing)?;
-    expect(&rt, rt.alloc(), "list a.bin", &file, (&[], &[0]), 4, "")?;
-    let short = file.get(..51).unwrap_or(&[]);
-    expect(
-        &rt,
-        rt.alloc(),
-        "list a.bin",
-        short,
-        (&[], &[]),
-        5,
-        "refused a.bin elf Short 0\n",
-    )?;
-    let rows = [
-        (4, 2, "refused a.bin elf NotElf32\n"),
-        (18, 62, "refused a.bin elf NotRiscv\n"),
-    ];
-    for (at, byte, text) in rows {
-        let mut other = file.clone()?;
-        if let Some(place) = other.get_mut(at) {
-            *place = byte;
-        }
-        expect(&rt, rt.alloc(), "list a.bin", &other, (&[], &[]), 5, text)?;
-    }
-    Ok(())
-}
-
 #[test]
 fn long_files(rt: HostRuntime) -> Result<(), Fail> {
     let mut full = Vec::new(rt.alloc());
@@ -214,6 +159,8 @@ fn usage(rt: HostRuntime) -> Result<(), Fail> {
         "run a.bin b.bin",
         "list",
         "list -x",
+        "asm a.bin",
+        "asm a.bin -x",
         "",
     ] {
         expect(&rt, rt.alloc(), line, &HELLO, (&[], &[]), 1, USAGE)?;

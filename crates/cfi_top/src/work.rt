@@ -13,10 +13,23 @@ use cfi_bare::accept;
 use cfi_io::{Gate, Shelf, ShelfFault};
 use cfi_plan::Text;
 use cfi_refusal::Refusal;
-use cfi_tools::listing_of;
+use cfi_tools::{assembled, listing_of};
 use cfi_unit::Bytes;
 use elf_read::ElfFault;
+use rv_asm::AsmFault;
 use std::alloc::{AllocError, Global};
+
+// Assembles a source.
+fn asm(alloc: Global, input: Text, output: Text, bytes: &[u8]) -> Result<Answer, AllocError>
+    requires short { length bytes.now ≤ MAX_FILE_BYTES }
+    ensures { IfOk result (IsWorked (commands.Asm input output) bytes.now) }
+{
+    match assembled(alloc, bytes) {
+        Ok(file) => Ok(Answer::Save(output, Bytes::from_vec(file))),
+        Err(AsmFault::Memory) => Err(AllocError),
+        Err(fault) => Ok(Answer::Refused(input, Refusal::Asm(fault))),
+    }
+}
 
 // Lists an object.
 fn list(alloc: Global, input: Text, bytes: &[u8]) -> Result<Answer, AllocError>
@@ -51,6 +64,7 @@ fn work<G: Gate>(
     ensures { IfOk result (IsWorked command bytes.now) }
 {
     match command {
+        Command::Asm { input, output } => asm(alloc, input, output, bytes),
         Command::List { input } => list(alloc, input, bytes),
         Command::Run { input } => run(alloc, input, bytes, gate),
     }
