@@ -57,22 +57,22 @@ pub all_sound : (flow : Flow) (fans : List Fan) → AreFans flow flow.nodes fans
     → IsListed (map edge_of flow.listed.items ++ flat_map all_of fans) slot address → Goes flow slot address
 all_sound flow fans are slot address h =
     elim (Contains-append_cases (map edge_of flow.listed.items) (flat_map all_of fans) (edge slot address) h) [
-      inl a ↦ inl (listed_link flow.listed.items slot address a)
-    | inr b ↦
-      let m = from_flat all_of fans (edge slot address) b in
-      inr (are.sound slot address (record { fan = m.0; has = m.1; joins = all_joined m.0 slot address m.2 }))
+      | inl a ↦ inl (listed_link flow.listed.items slot address a)
+      | inr b ↦
+          let m = from_flat all_of fans (edge slot address) b in
+          inr (are.sound slot address (record { fan = m.0; has = m.1; joins = all_joined m.0 slot address m.2 }))
     ]
 
 pub all_whole : (flow : Flow) (fans : List Fan) → IsSound flow → AreFans flow flow.nodes fans → (slot address : ℕ)
     → Goes flow slot address → IsListed (map edge_of flow.listed.items ++ flat_map all_of fans) slot address
 all_whole flow fans sound are slot address g =
     elim g [
-      inl a ↦ Contains-append_left (map edge_of flow.listed.items) (flat_map all_of fans) (edge slot address)
-        (link_listed flow.listed.items slot address a)
-    | inr b ↦
-      let j = are.whole slot address b.0 (below_nodes flow b.0 slot address sound b.1) b.1 in
-      Contains-append_right (map edge_of flow.listed.items) (flat_map all_of fans) (edge slot address)
-      (member_flat all_of fans j.fan (edge slot address) j.has (joined_all j.fan slot address j.joins))
+      | inl a ↦ Contains-append_left (map edge_of flow.listed.items) (flat_map all_of fans) (edge slot address)
+          (link_listed flow.listed.items slot address a)
+      | inr b ↦
+          let j = are.whole slot address b.0 (below_nodes flow b.0 slot address sound b.1) b.1 in
+          Contains-append_right (map edge_of flow.listed.items) (flat_map all_of fans) (edge slot address)
+          (member_flat all_of fans j.fan (edge slot address) j.has (joined_all j.fan slot address j.joins))
     ]
 
 -- ---- few edges of a fan
@@ -83,12 +83,12 @@ spokes_sound [] targets slot address h = absurd (no_member (edge slot address) h
 spokes_sound (s ∷ slots) [] slot address h = absurd (no_member (edge slot address) h)
 spokes_sound (s ∷ slots) (t ∷ targets) slot address h =
     elim (Contains-append_cases (map (edge s) (t ∷ targets)) (map (λ b. edge b t) (s ∷ slots)) (edge slot address) h) [
-      inl a ↦
-        let e = from_edge (t ∷ targets) s slot address a in
-        (subst (λ b. Contains (s ∷ slots) b) e.0 (member_first s slots), e.1)
-    | inr a ↦
-        let e = to_edge (s ∷ slots) t slot address a in
-        (e.0, subst (λ b. Contains (t ∷ targets) b) e.1 (member_first t targets))
+      | inl a ↦
+          let e = from_edge (t ∷ targets) s slot address a in
+          (subst (λ b. Contains (s ∷ slots) b) e.0 (member_first s slots), e.1)
+      | inr a ↦
+          let e = to_edge (s ∷ slots) t slot address a in
+          (e.0, subst (λ b. Contains (t ∷ targets) b) e.1 (member_first t targets))
     ]
 
 spokes_join : (slots targets : List ℕ) (slot address : ℕ) → Contains slots slot → Contains targets address
@@ -97,11 +97,13 @@ spokes_join [] targets slot address h k = absurd (no_member slot h)
 spokes_join (s ∷ slots) [] slot address h k = absurd (no_member address k)
 spokes_join (s ∷ slots) (t ∷ targets) slot address h k =
     let out = map (edge s) (t ∷ targets) in
-    let back = map (λ b. edge b t) (s ∷ slots) in
-    (t, s,
-    Contains-append_right out back (edge slot t) (member_map (λ b. edge b t) (s ∷ slots) slot h),
-    Contains-append_left out back (edge s t) (member_map (edge s) (t ∷ targets) t (member_first t targets)),
-    Contains-append_left out back (edge s address) (member_map (edge s) (t ∷ targets) address k))
+    let back = map (λ b. edge b t) (s ∷ slots) in (
+      t,
+      s,
+      Contains-append_right out back (edge slot t) (member_map (λ b. edge b t) (s ∷ slots) slot h),
+      Contains-append_left out back (edge s t) (member_map (edge s) (t ∷ targets) t (member_first t targets)),
+      Contains-append_left out back (edge s address) (member_map (edge s) (t ∷ targets) address k),
+    )
 
 chain_up : (R S : (slot address : ℕ) → Type 0) → ((slot address : ℕ) → R slot address → S slot address)
     → (more slot address : ℕ) → ChainOf R more slot address → ChainOf S more slot address
@@ -113,11 +115,11 @@ pub few_sound : (flow : Flow) (fans : List Fan) → AreFans flow flow.nodes fans
     → IsListed (map edge_of flow.listed.items ++ flat_map few_of fans) slot address → Goes flow slot address
 few_sound flow fans are slot address h =
     elim (Contains-append_cases (map edge_of flow.listed.items) (flat_map few_of fans) (edge slot address) h) [
-      inl a ↦ inl (listed_link flow.listed.items slot address a)
-    | inr b ↦
-      let m = from_flat few_of fans (edge slot address) b in
-      let j = spokes_sound m.0.slots.items m.0.targets.items slot address m.2 in
-      inr (are.sound slot address (record { fan = m.0; has = m.1; joins = j }))
+      | inl a ↦ inl (listed_link flow.listed.items slot address a)
+      | inr b ↦
+          let m = from_flat few_of fans (edge slot address) b in
+          let j = spokes_sound m.0.slots.items m.0.targets.items slot address m.2 in
+          inr (are.sound slot address (record { fan = m.0; has = m.1; joins = j }))
     ]
 
 pub few_whole : (flow : Flow) (fans : List Fan) → IsSound flow → AreFans flow flow.nodes fans → (slot address : ℕ)
@@ -126,19 +128,19 @@ few_whole flow fans sound are slot address g =
     let here = map edge_of flow.listed.items in
     let there = flat_map few_of fans in
     elim g [
-      inl a ↦ record {
+      | inl a ↦ record {
         more = 0;
         chain = Contains-append_left here there (edge slot address) (link_listed flow.listed.items slot address a);
       }
-    | inr b ↦
-      let j = are.whole slot address b.0 (below_nodes flow b.0 slot address sound b.1) b.1 in
-      record {
-        more = 1;
-        chain = chain_up (IsListed (few_of j.fan)) (IsListed (here ++ there))
-          (λ s t m. Contains-append_right here there (edge s t) (member_flat few_of fans j.fan (edge s t) j.has m))
-          1 slot address
-          (spokes_join j.fan.slots.items j.fan.targets.items slot address j.joins.0 j.joins.1);
-      }
+      | inr b ↦
+          let j = are.whole slot address b.0 (below_nodes flow b.0 slot address sound b.1) b.1 in
+          record {
+            more = 1;
+            chain = chain_up (IsListed (few_of j.fan)) (IsListed (here ++ there))
+                (λ s t m. Contains-append_right here there (edge s t) (member_flat few_of fans j.fan (edge s t) j.has m))
+                1 slot address
+                (spokes_join j.fan.slots.items j.fan.targets.items slot address j.joins.0 j.joins.1);
+          }
     ]
 
 -- ---- spokes as they are made
@@ -165,6 +167,6 @@ no_spokes (s ∷ slots) (t ∷ targets) h = absurd (elim h [ inl a ↦ suc_not_z
 pub chain_kept : (xs ys : List Edge) → ((e : Edge) → Contains xs e → Contains ys e) → (slot address : ℕ)
     → Chain (IsListed xs) slot address → Chain (IsListed ys) slot address
 chain_kept xs ys kept slot address c = record {
-    more = c.more;
-    chain = chain_up (IsListed xs) (IsListed ys) (λ s t m. kept (edge s t) m) c.more slot address c.chain;
-  }
+  more = c.more;
+  chain = chain_up (IsListed xs) (IsListed ys) (λ s t m. kept (edge s t) m) c.more slot address c.chain;
+}

@@ -43,23 +43,23 @@ row_inside : (flow : Flow) (rows : FlowRows) → IsSound flow → AreFlowRows fl
 row_inside flow rows s r i h =
     let within : i < flow.nodes = omega (arith, h, r.arrows.len) in
     All-from_get_or (λ k. k < flow.nodes) (row_of rows.arrows i) 0 (λ j lt.
-      let end = get_or (row_of rows.arrows i) j 0 in
-      ends flow.nodes flow.arrows.items i end s.arrows
-      (row_link flow.nodes flow.arrows.items rows.arrows i end r.arrows within
-      (Contains-get_or (row_of rows.arrows i) j 0 lt)))
+    let end = get_or (row_of rows.arrows i) j 0 in
+    ends flow.nodes flow.arrows.items i end s.arrows
+    (row_link flow.nodes flow.arrows.items rows.arrows i end r.arrows within
+    (Contains-get_or (row_of rows.arrows i) j 0 lt)))
 
 -- rows of a sound flow have its nodes
 pub rows_have_nodes : (flow : Flow) (rows : FlowRows) → IsSound flow → AreFlowRows flow rows
     → HaveNodes flow.nodes rows
 rows_have_nodes flow rows s r = record {
-    arrows = r.arrows.len;
-    sites = r.sites.len;
-    returns = r.returns.len;
-    pointers = r.pointers.len;
-    entries = r.entries.len;
-    inside = recursion_from_All (All (λ k. k < flow.nodes)) rows.arrows
+  arrows = r.arrows.len;
+  sites = r.sites.len;
+  returns = r.returns.len;
+  pointers = r.pointers.len;
+  entries = r.entries.len;
+  inside = recursion_from_All (All (λ k. k < flow.nodes)) rows.arrows
       (All-from_get_or (All (λ k. k < flow.nodes)) rows.arrows [] (λ i h. row_inside flow rows s r i h));
-  }
+}
 
 -- a walk along rows is a path along arrows
 walk_path : (count : ℕ) (links : List Link) (rows : List (List ℕ)) → AreBelow count links → AreRows count links rows
@@ -72,28 +72,31 @@ walk_path count links rows all r (suc steps) a b h w =
 path_walk : (count : ℕ) (links : List Link) (rows : List (List ℕ)) → AreBelow count links → AreRows count links rows
     → (steps a b : ℕ) → IsPath links steps a b → IsWalk rows steps a b
 path_walk count links rows all r zero a b w = w
-path_walk count links rows all r (suc steps) a b w =
-    (w.0, link_row count links rows a w.0 r (starts count links a w.0 all w.1) w.1,
-    path_walk count links rows all r steps w.0 b w.2)
+path_walk count links rows all r (suc steps) a b w = (
+  w.0,
+  link_row count links rows a w.0 r (starts count links a w.0 all w.1) w.1,
+  path_walk count links rows all r steps w.0 b w.2,
+)
 
 -- ---- the fans of a node
 
 pub pointer_sound : (flow : Flow) (rows : FlowRows) (node : ℕ) (fan : Fan) (slot address : ℕ) → AreFlowRows flow rows
     → node < flow.nodes → IsPointerFan rows node fan → Joins fan slot address → PointsAt flow node slot address
 pointer_sound flow rows node fan slot address r h f j = record {
-    pointer = row_link flow.nodes flow.pointers.items rows.pointers node slot r.pointers h
+  pointer = row_link flow.nodes flow.pointers.items rows.pointers node slot r.pointers h
       (subst (λ ys. Contains ys slot) f.slots j.0);
-    entry = row_link flow.nodes flow.entries.items rows.entries node address r.entries h
+  entry = row_link flow.nodes flow.entries.items rows.entries node address r.entries h
       (subst (λ ys. Contains ys address) f.targets j.1);
-  }
+}
 
 pub pointer_whole : (flow : Flow) (rows : FlowRows) (node : ℕ) (fan : Fan) (slot address : ℕ) → AreFlowRows flow rows
     → node < flow.nodes → IsPointerFan rows node fan → PointsAt flow node slot address → Joins fan slot address
-pointer_whole flow rows node fan slot address r h f p =
-    (subst (λ ys. Contains ys slot) (sym f.slots)
+pointer_whole flow rows node fan slot address r h f p = (
+  subst (λ ys. Contains ys slot) (sym f.slots)
       (link_row flow.nodes flow.pointers.items rows.pointers node slot r.pointers h p.pointer),
-    subst (λ ys. Contains ys address) (sym f.targets)
-      (link_row flow.nodes flow.entries.items rows.entries node address r.entries h p.entry))
+  subst (λ ys. Contains ys address) (sym f.targets)
+      (link_row flow.nodes flow.entries.items rows.entries node address r.entries h p.entry),
+)
 
 some_member : (xs : List ℕ) (x : ℕ) → Contains xs x → 0 < length xs
 some_member xs x h = omega (arith, h.1)
@@ -108,7 +111,7 @@ return_sound flow rows node fan slot address s r h f j =
     let walk = all.sound from.0 from.1 in
     record {
       site = row_link flow.nodes flow.sites.items rows.sites node address r.sites h
-        (subst (λ ys. Contains ys address) f.targets j.1);
+          (subst (λ ys. Contains ys address) f.targets j.1);
       returning = from.0;
       reached = (walk.0, walk_path flow.nodes flow.arrows.items rows.arrows s.arrows r.arrows walk.0 node from.0 h walk.1);
       back = row_link flow.nodes flow.returns.items rows.returns from.0 slot r.returns within from.2;
@@ -125,19 +128,20 @@ return_whole flow rows node fan slot address s r h f p =
     let in_order : Contains f.order p.returning =
     all.whole p.returning p.reached.0
     (path_walk flow.nodes flow.arrows.items rows.arrows s.arrows r.arrows p.reached.0 node p.returning p.reached.1) in
-    let below : p.returning < flow.nodes = begins flow.nodes flow.returns.items p.returning slot s.returns p.back in
-    (subst (λ ys. Contains ys slot) (sym f.slots)
-      (member_flat (row_of rows.returns) f.order p.returning slot in_order
-      (link_row flow.nodes flow.returns.items rows.returns p.returning slot r.returns below p.back)),
-    here)
+    let below : p.returning < flow.nodes = begins flow.nodes flow.returns.items p.returning slot s.returns p.back in (
+      subst (λ ys. Contains ys slot) (sym f.slots)
+          (member_flat (row_of rows.returns) f.order p.returning slot in_order
+          (link_row flow.nodes flow.returns.items rows.returns p.returning slot r.returns below p.back)),
+      here,
+    )
 
 -- ---- the fans of the nodes below a count
 
 pub no_fans : (flow : Flow) → AreFans flow 0 []
 no_fans flow = record {
-    sound = λ slot address j. absurd (no_member j.fan j.has);
-    whole = λ slot address node h. absurd (omega (arith, h));
-  }
+  sound = λ slot address j. absurd (no_member j.fan j.has);
+  whole = λ slot address node h. absurd (omega (arith, h));
+}
 
 joins_more : (fans : List Fan) (fan : Fan) (slot address : ℕ) → JoinsOne fans slot address
     → JoinsOne (fans ++ fan ∷ []) slot address
@@ -152,8 +156,8 @@ joins_cases : (fans : List Fan) (fan : Fan) (slot address : ℕ) → JoinsOne (f
     → JoinsOne fans slot address ⊎ Joins fan slot address
 joins_cases fans fan slot address j =
     elim (Contains-push_cases fans fan j.fan j.has) [
-      inl a ↦ inl (record { fan = j.fan; has = a; joins = j.joins })
-    | inr e ↦ inr (subst (λ f. Joins f slot address) (sym e) j.joins)
+      | inl a ↦ inl (record { fan = j.fan; has = a; joins = j.joins })
+      | inr e ↦ inr (subst (λ f. Joins f slot address) (sym e) j.joins)
     ]
 
 this_node : (flow : Flow) (rows : FlowRows) (node : ℕ) (fans : List Fan) (p r : Fan) → IsSound flow
@@ -161,40 +165,39 @@ this_node : (flow : Flow) (rows : FlowRows) (node : ℕ) (fans : List Fan) (p r 
     → (slot address : ℕ) → GoesBy flow node slot address → JoinsOne ((fans ++ p ∷ []) ++ r ∷ []) slot address
 this_node flow rows node fans p r s are h pointers returns slot address g =
     elim g [
-      inl a ↦ joins_more (fans ++ p ∷ []) r slot address
-        (joins_last fans p slot address (pointer_whole flow rows node p slot address are h pointers a))
-    | inr a ↦ joins_last (fans ++ p ∷ []) r slot address (return_whole flow rows node r slot address s are h returns a)
+      | inl a ↦ joins_more (fans ++ p ∷ []) r slot address
+          (joins_last fans p slot address (pointer_whole flow rows node p slot address are h pointers a))
+      | inr a ↦ joins_last (fans ++ p ∷ []) r slot address (return_whole flow rows node r slot address s are h returns a)
     ]
 
 pub more_fans : (flow : Flow) (rows : FlowRows) (node : ℕ) (fans : List Fan) (p r : Fan) → IsSound flow
     → AreFlowRows flow rows → node < flow.nodes → AreFans flow node fans → IsPointerFan rows node p
     → IsReturnFan rows node r → AreFans flow (node + 1) ((fans ++ p ∷ []) ++ r ∷ [])
 more_fans flow rows node fans p r s are h before pointers returns = record {
-    sound = λ slot address j. elim (joins_cases (fans ++ p ∷ []) r slot address j) [
-        inl k ↦ elim (joins_cases fans p slot address k) [
-            inl a ↦ before.sound slot address a
-          | inr a ↦ (node, inl (pointer_sound flow rows node p slot address are h pointers a))
-          ]
-      | inr a ↦ (node, inr (return_sound flow rows node r slot address s are h returns a))
-      ];
-    whole = λ slot address n below g. elim (cases_lt n node) [
-        inl less ↦
-          joins_more (fans ++ p ∷ []) r slot address (joins_more fans p slot address (before.whole slot address n less g))
-      | inr more ↦
-          let same : n ≡ node = omega (arith, below, more) in
-          this_node flow rows node fans p r s are h pointers returns slot address
-          (subst (λ k. GoesBy flow k slot address) same g)
-      ];
-  }
-
+  sound = λ slot address j. elim (joins_cases (fans ++ p ∷ []) r slot address j) [
+    | inl k ↦ elim (joins_cases fans p slot address k) [
+      | inl a ↦ before.sound slot address a
+      | inr a ↦ (node, inl (pointer_sound flow rows node p slot address are h pointers a))
+    ]
+    | inr a ↦ (node, inr (return_sound flow rows node r slot address s are h returns a))
+  ];
+  whole = λ slot address n below g. elim (cases_lt n node) [
+    | inl less ↦
+        joins_more (fans ++ p ∷ []) r slot address (joins_more fans p slot address (before.whole slot address n less g))
+    | inr more ↦
+        let same : n ≡ node = omega (arith, below, more) in
+        this_node flow rows node fans p r s are h pointers returns slot address
+        (subst (λ k. GoesBy flow k slot address) same g)
+  ];
+}
 
 -- control goes by nodes that are there
 pub below_nodes : (flow : Flow) (node slot address : ℕ) → IsSound flow → GoesBy flow node slot address
     → node < flow.nodes
 below_nodes flow node slot address s g =
     elim g [
-      inl p ↦ begins flow.nodes flow.pointers.items node slot s.pointers p.pointer
-    | inr r ↦ begins flow.nodes flow.sites.items node address s.sites r.site
+      | inl p ↦ begins flow.nodes flow.pointers.items node slot s.pointers p.pointer
+      | inr r ↦ begins flow.nodes flow.sites.items node address s.sites r.site
     ]
 
 pub have_own_nodes : (nodes : ℕ) (rows : FlowRows) → HaveNodes nodes rows → HaveNodes (length rows.arrows) rows

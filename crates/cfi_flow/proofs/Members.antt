@@ -28,8 +28,8 @@ pub member_map : {X Y : Type 0} (f : X → Y) (xs : List X) (x : X) → Contains
 member_map f [] x h = absurd (no_member x h)
 member_map f (y ∷ ys) x h =
     elim (member_cases y ys x h) [
-      inl e ↦ subst (λ z. Contains (map f (y ∷ ys)) (f z)) e (member_first (f y) (map f ys))
-    | inr t ↦ member_later (f y) (map f ys) (f x) (member_map f ys x t)
+      | inl e ↦ subst (λ z. Contains (map f (y ∷ ys)) (f z)) e (member_first (f y) (map f ys))
+      | inr t ↦ member_later (f y) (map f ys) (f x) (member_map f ys x t)
     ]
 
 pub from_map : {X Y : Type 0} (f : X → Y) (xs : List X) (y : Y) → Contains (map f xs) y
@@ -37,8 +37,8 @@ pub from_map : {X Y : Type 0} (f : X → Y) (xs : List X) (y : Y) → Contains (
 from_map f [] y h = absurd (no_member y h)
 from_map f (x ∷ xs) y h =
     elim (member_cases (f x) (map f xs) y h) [
-      inl e ↦ (x, member_first x xs, e)
-    | inr t ↦ let r = from_map f xs y t in (r.0, member_later x xs r.0 r.1, r.2)
+      | inl e ↦ (x, member_first x xs, e)
+      | inr t ↦ let r = from_map f xs y t in (r.0, member_later x xs r.0 r.1, r.2)
     ]
 
 -- ---- filter
@@ -47,8 +47,8 @@ kept_later : {X : Type 0} (p : X → Bool) (y : X) (ys : List X) (x : X) → Con
     → Contains (filter p (y ∷ ys)) x
 kept_later p y ys x h =
     elim (p y) as (λ b. Contains (cond b (y ∷ filter p ys) (filter p ys)) x) [
-      true ↦ member_later y (filter p ys) x h
-    | false ↦ h
+      | true ↦ member_later y (filter p ys) x h
+      | false ↦ h
     ]
 
 kept_first : {X : Type 0} (p : X → Bool) (y : X) (ys : List X) → p y ≡ true → Contains (filter p (y ∷ ys)) y
@@ -61,9 +61,9 @@ pub member_filter : {X : Type 0} (p : X → Bool) (xs : List X) (x : X) → Cont
 member_filter p [] x h t = absurd (no_member x h)
 member_filter p (y ∷ ys) x h t =
     elim (member_cases y ys x h) [
-      inl e ↦
-        subst (λ z. Contains (filter p (y ∷ ys)) z) e (kept_first p y ys (ap p e ∙ t))
-    | inr r ↦ kept_later p y ys x (member_filter p ys x r t)
+      | inl e ↦
+          subst (λ z. Contains (filter p (y ∷ ys)) z) e (kept_first p y ys (ap p e ∙ t))
+      | inr r ↦ kept_later p y ys x (member_filter p ys x r t)
     ]
 
 from_kept : {X : Type 0} (p : X → Bool) (y : X) (ys : List X) (x : X) (b : Bool) → p y ≡ b
@@ -77,8 +77,8 @@ pub from_filter : {X : Type 0} (p : X → Bool) (xs : List X) (x : X) → Contai
 from_filter p [] x h = absurd (no_member x h)
 from_filter p (y ∷ ys) x h =
     elim (from_kept p y ys x (p y) refl h) [
-      inl s ↦ (subst (λ z. Contains (y ∷ ys) z) s.0 (member_first y ys), s.1)
-    | inr t ↦ let r = from_filter p ys x t in (member_later y ys x r.0, r.1)
+      | inl s ↦ (subst (λ z. Contains (y ∷ ys) z) s.0 (member_first y ys), s.1)
+      | inr t ↦ let r = from_filter p ys x t in (member_later y ys x r.0, r.1)
     ]
 
 -- ---- flat_map
@@ -88,8 +88,8 @@ pub member_flat : {X Y : Type 0} (f : X → List Y) (xs : List X) (x : X) (y : Y
 member_flat f [] x y h t = absurd (no_member x h)
 member_flat f (z ∷ zs) x y h t =
     elim (member_cases z zs x h) [
-      inl e ↦ Contains-append_left (f z) (flat_map f zs) y (subst (λ w. Contains (f w) y) (sym e) t)
-    | inr r ↦ Contains-append_right (f z) (flat_map f zs) y (member_flat f zs x y r t)
+      | inl e ↦ Contains-append_left (f z) (flat_map f zs) y (subst (λ w. Contains (f w) y) (sym e) t)
+      | inr r ↦ Contains-append_right (f z) (flat_map f zs) y (member_flat f zs x y r t)
     ]
 
 pub from_flat : {X Y : Type 0} (f : X → List Y) (xs : List X) (y : Y) → Contains (flat_map f xs) y
@@ -97,6 +97,6 @@ pub from_flat : {X Y : Type 0} (f : X → List Y) (xs : List X) (y : Y) → Cont
 from_flat f [] y h = absurd (no_member y h)
 from_flat f (z ∷ zs) y h =
     elim (Contains-append_cases (f z) (flat_map f zs) y h) [
-      inl a ↦ (z, member_first z zs, a)
-    | inr b ↦ let r = from_flat f zs y b in (r.0, member_later z zs r.0 r.1, r.2)
+      | inl a ↦ (z, member_first z zs, a)
+      | inr b ↦ let r = from_flat f zs y b in (r.0, member_later z zs r.0 r.1, r.2)
     ]

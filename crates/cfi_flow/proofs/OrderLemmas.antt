@@ -16,25 +16,25 @@ greater_less h = cc
 less_number : (a b : ℕ) → nat_cmp a b ≡ Less → a < b
 less_number a b h =
     elim (cases_lt a b) [
-      inl l ↦ l
-    | inr m ↦ elim (cases_eq a b) [
-        inl e ↦ let is : Equal ≡ nat_cmp a b = nat_cmp_is a b Equal e in absurd (equal_less (is ∙ h))
-      | inr n ↦ let is : Greater ≡ nat_cmp a b = nat_cmp_is a b Greater (omega (arith, m, n)) in absurd (greater_less (is ∙ h))
+      | inl l ↦ l
+      | inr m ↦ elim (cases_eq a b) [
+        | inl e ↦ let is : Equal ≡ nat_cmp a b = nat_cmp_is a b Equal e in absurd (equal_less (is ∙ h))
+        | inr n ↦ let is : Greater ≡ nat_cmp a b = nat_cmp_is a b Greater (omega (arith, m, n)) in absurd (greater_less (is ∙ h))
       ]
     ]
 
 less_pair : (a b c d : ℕ) → ordering_then (nat_cmp a b) (nat_cmp c d) ≡ Less → (a < b) ⊎ ((a ≡ b) × (c < d))
 less_pair a b c d h =
     elim (cases_lt a b) [
-      inl l ↦ inl l
-    | inr m ↦ elim (cases_eq a b) [
-        inl e ↦
-          let is : Equal ≡ nat_cmp a b = nat_cmp_is a b Equal e in
-          let rest : nat_cmp c d ≡ Less = ap (λ o. ordering_then o (nat_cmp c d)) is ∙ h in
-          inr (e, less_number c d rest)
-      | inr n ↦
-          let is : Greater ≡ nat_cmp a b = nat_cmp_is a b Greater (omega (arith, m, n)) in
-          absurd (greater_less (ap (λ o. ordering_then o (nat_cmp c d)) is ∙ h))
+      | inl l ↦ inl l
+      | inr m ↦ elim (cases_eq a b) [
+        | inl e ↦
+            let is : Equal ≡ nat_cmp a b = nat_cmp_is a b Equal e in
+            let rest : nat_cmp c d ≡ Less = ap (λ o. ordering_then o (nat_cmp c d)) is ∙ h in
+            inr (e, less_number c d rest)
+        | inr n ↦
+            let is : Greater ≡ nat_cmp a b = nat_cmp_is a b Greater (omega (arith, m, n)) in
+            absurd (greater_less (ap (λ o. ordering_then o (nat_cmp c d)) is ∙ h))
       ]
     ]
 

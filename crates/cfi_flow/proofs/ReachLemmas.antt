@@ -10,15 +10,15 @@ use Rattle.cfi_flow.proofs.Members.{no_member, member_first, member_of_one}
 -- no node was visited yet
 pub visited_none : (marks : List Bool) (order : List ℕ) → IsVisited marks order [] marks order
 visited_none marks order = record {
-    len = refl;
-    longer = omega arith;
-    stays = λ j h. refl;
-    kept = λ k h. h;
-    done = λ k h. absurd (no_member k h);
-    fresh = λ k h. inl h;
-    listed = λ k h. inl h;
-    count = refl;
-  }
+  len = refl;
+  longer = omega arith;
+  stays = λ j h. refl;
+  kept = λ k h. h;
+  done = λ k h. absurd (no_member k h);
+  fresh = λ k h. inl h;
+  listed = λ k h. inl h;
+  count = refl;
+}
 
 -- one mark fewer is missing
 pub count_marked : (marks : List Bool) (x : ℕ) → x < length marks → (IsMarked marks x → ⊥)
@@ -34,62 +34,62 @@ count_marked (false ∷ marks) (suc x) h fresh =
 mark_set : (marks : List Bool) (x k : ℕ) → x < length marks → IsMarked marks k → IsMarked (set marks x true) k
 mark_set marks x k h m =
     elim (cases_eq k x) [
-      inl e ↦ subst (λ j. IsMarked (set marks x true) j) (sym e) (get_or-set_same marks x true false h)
-    | inr n ↦ get_or-set_other marks x k true false n ∙ m
+      | inl e ↦ subst (λ j. IsMarked (set marks x true) j) (sym e) (get_or-set_same marks x true false h)
+      | inr n ↦ get_or-set_other marks x k true false n ∙ m
     ]
 
 mark_from : (marks : List Bool) (x k : ℕ) → IsMarked (set marks x true) k → (k ≡ x) ⊎ IsMarked marks k
 mark_from marks x k m =
     elim (cases_eq k x) [
-      inl e ↦ inl e
-    | inr n ↦ inr (sym (get_or-set_other marks x k true false n) ∙ m)
+      | inl e ↦ inl e
+      | inr n ↦ inr (sym (get_or-set_other marks x k true false n) ∙ m)
     ]
 
 -- the next node of the row is marked already
 pub visited_seen : (marks : List Bool) (order row : List ℕ) (m : List Bool) (o : List ℕ) (x : ℕ)
     → IsVisited marks order row m o → IsMarked m x → IsVisited marks order (row ++ x ∷ []) m o
 visited_seen marks order row m o x v seen = record {
-    len = v.len;
-    longer = v.longer;
-    stays = v.stays;
-    kept = v.kept;
-    done = λ k h. elim (Contains-push_cases row x k h) [
-        inl a ↦ v.done k a
-      | inr e ↦ subst (λ j. IsMarked m j) e seen
-      ];
-    fresh = λ k h. elim (v.fresh k h) [ inl a ↦ inl a | inr b ↦ inr (Contains-append_left row (x ∷ []) k b) ];
-    listed = v.listed;
-    count = v.count;
-  }
+  len = v.len;
+  longer = v.longer;
+  stays = v.stays;
+  kept = v.kept;
+  done = λ k h. elim (Contains-push_cases row x k h) [
+    | inl a ↦ v.done k a
+    | inr e ↦ subst (λ j. IsMarked m j) e seen
+  ];
+  fresh = λ k h. elim (v.fresh k h) [ inl a ↦ inl a | inr b ↦ inr (Contains-append_left row (x ∷ []) k b) ];
+  listed = v.listed;
+  count = v.count;
+}
 
 -- the next node of the row is marked now
 pub visited_new : (marks : List Bool) (order row : List ℕ) (m : List Bool) (o : List ℕ) (x : ℕ)
     → IsVisited marks order row m o → x < length m → (IsMarked m x → ⊥)
     → IsVisited marks order (row ++ x ∷ []) (set m x true) (o ++ x ∷ [])
 visited_new marks order row m o x v below new = record {
-    len = length-set m x true ∙ v.len;
-    longer = let l : length (o ++ x ∷ []) ≡ length o + 1 = length-append o (x ∷ []) in omega (arith, v.longer, l);
-    stays = λ j h.
+  len = length-set m x true ∙ v.len;
+  longer = let l : length (o ++ x ∷ []) ≡ length o + 1 = length-append o (x ∷ []) in omega (arith, v.longer, l);
+  stays = λ j h.
       let lt : j < length o = omega (arith, v.longer) in
       get_or_append_left o (x ∷ []) 0 j lt ∙ v.stays j h;
-    kept = λ k h. mark_set m x k below (v.kept k h);
-    done = λ k h. elim (Contains-push_cases row x k h) [
-        inl a ↦ mark_set m x k below (v.done k a)
-      | inr e ↦ subst (λ j. IsMarked (set m x true) j) e (get_or-set_same m x true false below)
-      ];
-    fresh = λ k h. elim (Contains-push_cases o x k h) [
-        inl a ↦ elim (v.fresh k a) [ inl b ↦ inl b | inr b ↦ inr (Contains-append_left row (x ∷ []) k b) ]
-      | inr e ↦ inr (subst (λ j. Contains (row ++ x ∷ []) j) e (Contains-push row x))
-      ];
-    listed = λ k h. elim (mark_from m x k h) [
-        inl e ↦ inr (subst (λ j. Contains (o ++ x ∷ []) j) (sym e) (Contains-push o x))
-      | inr a ↦ elim (v.listed k a) [ inl b ↦ inl b | inr b ↦ inr (Contains-append_left o (x ∷ []) k b) ]
-      ];
-    count =
+  kept = λ k h. mark_set m x k below (v.kept k h);
+  done = λ k h. elim (Contains-push_cases row x k h) [
+    | inl a ↦ mark_set m x k below (v.done k a)
+    | inr e ↦ subst (λ j. IsMarked (set m x true) j) e (get_or-set_same m x true false below)
+  ];
+  fresh = λ k h. elim (Contains-push_cases o x k h) [
+    | inl a ↦ elim (v.fresh k a) [ inl b ↦ inl b | inr b ↦ inr (Contains-append_left row (x ∷ []) k b) ]
+    | inr e ↦ inr (subst (λ j. Contains (row ++ x ∷ []) j) e (Contains-push row x))
+  ];
+  listed = λ k h. elim (mark_from m x k h) [
+    | inl e ↦ inr (subst (λ j. Contains (o ++ x ∷ []) j) (sym e) (Contains-push o x))
+    | inr a ↦ elim (v.listed k a) [ inl b ↦ inl b | inr b ↦ inr (Contains-append_left o (x ∷ []) k b) ]
+  ];
+  count =
       let l : length (o ++ x ∷ []) ≡ length o + 1 = length-append o (x ∷ []) in
       let u : unmarked (set m x true) + 1 ≡ unmarked m = count_marked m x below new in
       omega (arith, v.count, l, u);
-  }
+}
 
 -- a search from a node: `i` nodes of the order have their rows marked
 pub record IsSearch (rows : List (List ℕ)) (from : ℕ) (marks : List Bool) (order : List ℕ) (i : ℕ) : Type 0 where
@@ -109,10 +109,10 @@ unmarked_all (suc n) = let rest : unmarked (replicate n false) ≡ n = unmarked_
 none_marked : (n k : ℕ) → IsMarked (replicate n false) k → ⊥
 none_marked n k h =
     elim (cases_lt k n) [
-      inl a ↦ let is : false ≡ true = sym (get_or-replicate n k false false a) ∙ h in absurd (false≢true is)
-    | inr b ↦
-      let past : length (replicate n false) ≤ k = omega (arith, length-replicate n false) in
-      let is : false ≡ true = sym (get_or_past (replicate n false) k false past) ∙ h in absurd (false≢true is)
+      | inl a ↦ let is : false ≡ true = sym (get_or-replicate n k false false a) ∙ h in absurd (false≢true is)
+      | inr b ↦
+          let past : length (replicate n false) ≤ k = omega (arith, length-replicate n false) in
+          let is : false ≡ true = sym (get_or_past (replicate n false) k false past) ∙ h in absurd (false≢true is)
     ]
 
 -- the search begins
@@ -130,11 +130,11 @@ search_begins rows from marks h e =
       count = let l : length (from ∷ []) ≡ 1 = refl in omega (arith, one, all, l);
       at = omega arith;
       marked = λ k m.
-        subst (λ j. IsMarked (set marks from true) j) (member_of_one from k m) (get_or-set_same marks from true false below);
+          subst (λ j. IsMarked (set marks from true) j) (member_of_one from k m) (get_or-set_same marks from true false below);
       listed = λ k m. elim (mark_from marks from k m) [
-          inl s ↦ subst (λ j. Contains (from ∷ []) j) (sym s) (member_first from [])
+        | inl s ↦ subst (λ j. Contains (from ∷ []) j) (sym s) (member_first from [])
         | inr a ↦ absurd (none_marked (length rows) k (subst (λ b. IsMarked b k) e a))
-        ];
+      ];
       start = member_first from [];
       sound = λ k m. (0, member_of_one from k m);
       closed = λ j lt. absurd (omega arith);
@@ -160,15 +160,15 @@ closed_more rows from marks order i m o s lt v j below k h =
     let old : Contains (slice_index_or rows (slice_index order j) []) k =
     subst (λ n. Contains (slice_index_or rows n []) k) (v.stays j within) h in
     elim (cases_eq j i) [
-      inl e ↦ v.done k (subst (λ n. Contains (slice_index_or rows (slice_index order n) []) k) e old)
-    | inr n ↦ let less : j < i = omega arith in v.kept k (s.closed j less k old)
+      | inl e ↦ v.done k (subst (λ n. Contains (slice_index_or rows (slice_index order n) []) k) e old)
+      | inr n ↦ let less : j < i = omega arith in v.kept k (s.closed j less k old)
     ]
 
 marked_within : (marks : List Bool) (k : ℕ) → IsMarked marks k → k < length marks
 marked_within marks k m =
     elim (cases_lt k (length marks)) [
-      inl a ↦ a
-    | inr b ↦ let is : false ≡ true = sym (get_or_past marks k false b) ∙ m in absurd (false≢true is)
+      | inl a ↦ a
+      | inr b ↦ let is : false ≡ true = sym (get_or_past marks k false b) ∙ m in absurd (false≢true is)
     ]
 
 walked : (rows : List (List ℕ)) (from : ℕ) (marks : List Bool) (order : List ℕ) (i : ℕ)
@@ -198,11 +198,11 @@ search_goes_on rows from marks order i m o s lt v =
       listed = λ k h. elim (v.listed k h) [ inl a ↦ in_order k (s.listed k a) | inr b ↦ b ];
       start = in_order from s.start;
       sound = λ k h. elim (v.fresh k h) [
-          inl a ↦ s.sound k a
+        | inl a ↦ s.sound k a
         | inr b ↦
-          let w = s.sound node (Contains-get_or order i 0 lt) in
-          (suc w.0, walk_on rows w.0 from node k w.1 b)
-        ];
+            let w = s.sound node (Contains-get_or order i 0 lt) in
+            (suc w.0, walk_on rows w.0 from node k w.1 b)
+      ];
       closed = closed_more rows from marks order i m o s lt v;
     }
 
@@ -210,10 +210,10 @@ search_goes_on rows from marks order i m o s lt v =
 pub search_ends : (rows : List (List ℕ)) (from : ℕ) (marks : List Bool) (order : List ℕ) (i : ℕ)
     → IsSearch rows from marks order i → length order ≤ i → AreReached rows from order
 search_ends rows from marks order i s past = record {
-    within = λ k h. let m : k < length marks = marked_within marks k (s.marked k h) in omega (arith, m, s.len);
-    sound = s.sound;
-    whole = λ k steps w. walked rows from marks order i s past steps from k s.start w;
-  }
+  within = λ k h. let m : k < length marks = marked_within marks k (s.marked k h) in omega (arith, m, s.len);
+  sound = s.sound;
+  whole = λ k steps w. walked rows from marks order i s past steps from k s.start w;
+}
 
 -- each node of the order has a row
 pub search_within : (rows : List (List ℕ)) (from : ℕ) (marks : List Bool) (order : List ℕ) (i j : ℕ)

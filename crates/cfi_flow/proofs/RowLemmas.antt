@@ -11,9 +11,9 @@ use Rattle.cfi_flow.proofs.Members.{member_map, from_map, member_filter, from_fi
 -- no link, no end
 pub no_rows : (count : ℕ) (rows : List (List ℕ)) → rows ≡ replicate count [] → AreRows count [] rows
 no_rows count rows e = record {
-    len = ap length e ∙ length-replicate count [];
-    row = λ k h. ap (λ r. slice_index_or r k []) e ∙ get_or-replicate count k [] [] h;
-  }
+  len = ap length e ∙ length-replicate count [];
+  row = λ k h. ap (λ r. slice_index_or r k []) e ∙ get_or-replicate count k [] [] h;
+}
 
 own : (k : ℕ) → (k == k) ≡ true
 own k = eq-eqb k k refl
@@ -29,9 +29,9 @@ ends_same k [] link e =
 ends_same k (x ∷ xs) link e =
     let rest : ends_from k (xs ++ link ∷ []) ≡ ends_from k xs ++ link.to ∷ [] = ends_same k xs link e in
     elim (x.from == k) as (λ b. map (λ l. l.to) (cond b (x ∷ filter (λ l. l.from == k) (xs ++ link ∷ [])) (filter (λ l. l.from == k) (xs ++ link ∷ [])))
-        ≡ map (λ l. l.to) (cond b (x ∷ filter (λ l. l.from == k) xs) (filter (λ l. l.from == k) xs)) ++ link.to ∷ []) [
-      true ↦ ap (λ ys. x.to ∷ ys) rest
-    | false ↦ rest
+    ≡ map (λ l. l.to) (cond b (x ∷ filter (λ l. l.from == k) xs) (filter (λ l. l.from == k) xs)) ++ link.to ∷ []) [
+      | true ↦ ap (λ ys. x.to ∷ ys) rest
+      | false ↦ rest
     ]
 
 ends_other : (k : ℕ) (links : List Link) (link : Link) → (link.from ≡ k → ⊥)
@@ -42,9 +42,9 @@ ends_other k [] link n =
 ends_other k (x ∷ xs) link n =
     let rest : ends_from k (xs ++ link ∷ []) ≡ ends_from k xs = ends_other k xs link n in
     elim (x.from == k) as (λ b. map (λ l. l.to) (cond b (x ∷ filter (λ l. l.from == k) (xs ++ link ∷ [])) (filter (λ l. l.from == k) (xs ++ link ∷ [])))
-        ≡ map (λ l. l.to) (cond b (x ∷ filter (λ l. l.from == k) xs) (filter (λ l. l.from == k) xs))) [
-      true ↦ ap (λ ys. x.to ∷ ys) rest
-    | false ↦ rest
+    ≡ map (λ l. l.to) (cond b (x ∷ filter (λ l. l.from == k) xs) (filter (λ l. l.from == k) xs))) [
+      | true ↦ ap (λ ys. x.to ∷ ys) rest
+      | false ↦ rest
     ]
 
 -- one link more is added to its row
@@ -57,7 +57,7 @@ more_rows count links rows link r h =
     record {
       len = length-set rows link.from row ∙ r.len;
       row = λ k below. elim (cases_eq k link.from) [
-          inl e ↦
+        | inl e ↦
             subst (λ j. slice_index_or (set rows link.from row) j [] ≡ ends_from j (links ++ link ∷ [])) (sym e)
             (get_or-set_same rows link.from row [] within
             ∙ ap (λ ys. ys ++ link.to ∷ []) (r.row link.from h)
@@ -66,7 +66,7 @@ more_rows count links rows link r h =
             get_or-set_other rows link.from k row [] n
             ∙ r.row k below
             ∙ sym (ends_other k links link (λ e. n (sym e)))
-        ];
+      ];
     }
 
 abbrev pub make_link : ℕ → ℕ → Link

@@ -78,10 +78,8 @@ fn flow_of(
 
 fn edges_are(edges: &[Edge], expected: &[(u32, u32)]) -> bool {
     edges.len() == expected.len()
-        && edges
-            .iter()
-            .zip(expected)
-            .all(|(edge, pair)| edge.branch == pair.0 && edge.target == pair.1)
+        && edges.iter().zip(expected).all(|(edge, pair)| edge.branch == pair.0
+            && edge.target == pair.1)
 }
 
 // Two functions of one type, nodes 1 and 2, that node 3 stands for; each is called by name and by a pointer.
@@ -102,8 +100,14 @@ fn edges_of_two_functions(rt: HostRuntime) -> Result<(), Fail> {
         (2, 0x48),
         (2, 0x80),
     ];
-    assert!(rt; edges_are(all_edges(rt.alloc(), &flow)?.as_slice(), &expected), "all");
-    assert!(rt; edges_are(few_edges(rt.alloc(), &flow)?.as_slice(), &expected), "few");
+    assert!(rt;
+        edges_are(all_edges(rt.alloc(), &flow)?.as_slice(), &expected),
+        "all"
+    );
+    assert!(rt;
+        edges_are(few_edges(rt.alloc(), &flow)?.as_slice(), &expected),
+        "few"
+    );
     Ok(())
 }
 
@@ -119,7 +123,13 @@ fn edges_of_tail_calls(rt: HostRuntime) -> Result<(), Fail> {
     )?;
     let all = [(1, 0x44), (1, 0x48), (2, 0x44), (2, 0x48)];
     let few = [(1, 0x44), (1, 0x48), (2, 0x44)];
-    assert!(rt; edges_are(all_edges(rt.alloc(), &flow)?.as_slice(), &all), "all");
-    assert!(rt; edges_are(few_edges(rt.alloc(), &flow)?.as_slice(), &few), "few");
+    assert!(rt;
+        edges_are(all_edges(rt.alloc(), &flow)?.as_slice(), &all),
+        "all"
+    );
+    assert!(rt;
+        edges_are(few_edges(rt.alloc(), &flow)?.as_slice(), &few),
+        "few"
+    );
     Ok(())
 }

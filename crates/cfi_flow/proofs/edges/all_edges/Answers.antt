@@ -16,10 +16,10 @@ returns c =
     c.loop-fan.invariant ∙ ap (λ fs. map edge_of flow.listed.items ++ flat_map all_of fs) done in
     record {
       sound = λ slot address h.
-        all_sound flow fans c.in_ok-fans.ensures slot address
-        (subst (λ es. IsListed es slot address) list (c.in_order.ensures.only (edge slot address) h));
+          all_sound flow fans c.in_ok-fans.ensures slot address
+          (subst (λ es. IsListed es slot address) list (c.in_order.ensures.only (edge slot address) h));
       whole = λ slot address g.
-      c.in_order.ensures.kept (edge slot address)
-      (subst (λ es. IsListed es slot address) (sym list) (all_whole flow fans c.requires c.in_ok-fans.ensures slot address g));
+          c.in_order.ensures.kept (edge slot address)
+          (subst (λ es. IsListed es slot address) (sym list) (all_whole flow fans c.requires c.in_ok-fans.ensures slot address g));
       order = c.in_order.ensures.order;
     }

@@ -17,11 +17,11 @@ returns c =
     c.loop-fan.invariant ∙ ap (λ fs. map edge_of flow.listed.items ++ flat_map few_of fs) done in
     record {
       sound = λ slot address h.
-        few_sound flow fans c.in_ok-fans.ensures slot address
-        (subst (λ es. IsListed es slot address) list (c.in_order.ensures.only (edge slot address) h));
+          few_sound flow fans c.in_ok-fans.ensures slot address
+          (subst (λ es. IsListed es slot address) list (c.in_order.ensures.only (edge slot address) h));
       whole = λ slot address g.
-      chain_kept c.loop-fan.edges.items c.in_order.result.items c.in_order.ensures.kept slot address
-      (subst (λ es. Chain (IsListed es) slot address) (sym list)
-      (few_whole flow fans c.requires c.in_ok-fans.ensures slot address g));
+          chain_kept c.loop-fan.edges.items c.in_order.result.items c.in_order.ensures.kept slot address
+          (subst (λ es. Chain (IsListed es) slot address) (sym list)
+          (few_whole flow fans c.requires c.in_ok-fans.ensures slot address g));
       order = c.in_order.ensures.order;
     }

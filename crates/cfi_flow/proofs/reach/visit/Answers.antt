@@ -19,17 +19,17 @@ loop-node-preserved c =
     let below : x < length m = omega (arith, named, count, c.loop-node.invariant.len) in
     let read : c.index.result.now ≡ get_or m x false = get_or_read m x c.index.result.now below c.index.ensures false in
     elim c.if-not-index.branch [
-      then-not-index+in_ok-push w ↦
-        let new : IsMarked m x → ⊥ = λ h. false≢true (sym w.if-not-index.true ∙ read ∙ h) in
-        let marks_is : c.if-not-index.marks.items ≡ set m x true = ap (λ v. v.items) w.marks-is in
-        let order_is : c.if-not-index.order.items ≡ o ++ x ∷ [] =
-        ap (λ v. v.items) w.order-is ∙ w.in_ok-push.ensures.items in
-        visited_is _ _ _ _ _ _ _ _ more marks_is order_is
-        (visited_new _ _ _ m o x c.loop-node.invariant below new)
-    | else-not-index w ↦
-        let seen : IsMarked m x = sym read ∙ w.if-not-index.false in
-        let marks_is : c.if-not-index.marks.items ≡ m = ap (λ v. v.items) w.marks-is in
-        let order_is : c.if-not-index.order.items ≡ o = ap (λ v. v.items) w.order-is in
-        visited_is _ _ _ _ _ _ _ _ more marks_is order_is
-        (visited_seen _ _ _ m o x c.loop-node.invariant seen)
+      | then-not-index+in_ok-push w ↦
+          let new : IsMarked m x → ⊥ = λ h. false≢true (sym w.if-not-index.true ∙ read ∙ h) in
+          let marks_is : c.if-not-index.marks.items ≡ set m x true = ap (λ v. v.items) w.marks-is in
+          let order_is : c.if-not-index.order.items ≡ o ++ x ∷ [] =
+          ap (λ v. v.items) w.order-is ∙ w.in_ok-push.ensures.items in
+          visited_is _ _ _ _ _ _ _ _ more marks_is order_is
+          (visited_new _ _ _ m o x c.loop-node.invariant below new)
+      | else-not-index w ↦
+          let seen : IsMarked m x = sym read ∙ w.if-not-index.false in
+          let marks_is : c.if-not-index.marks.items ≡ m = ap (λ v. v.items) w.marks-is in
+          let order_is : c.if-not-index.order.items ≡ o = ap (λ v. v.items) w.order-is in
+          visited_is _ _ _ _ _ _ _ _ more marks_is order_is
+          (visited_seen _ _ _ m o x c.loop-node.invariant seen)
     ]
