@@ -2,7 +2,8 @@
 
 ghost use Rattle.std.specs.Prelude.{◌≡◌, IfOk};
 
-use cfi_aux::{Items, Kind};
+use cfi_aux::Kind;
+use cfi_list::Items;
 use cfi_types::{TypeNode, TypeTable};
 use std::alloc::{AllocError, Global};
 

@@ -13,7 +13,8 @@ use crate::room::Room;
 use crate::symbols::Symbols;
 use crate::value::{see_values, values};
 use crate::words::placed_words;
-use cfi_aux::{Items, Module, Placed, exports};
+use cfi_aux::{Module, Placed, exports};
+use cfi_list::Items;
 use elf_read::Bytes;
 use std::alloc::Global;
 

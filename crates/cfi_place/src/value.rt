@@ -7,7 +7,8 @@ ghost use Rattle.cfi_place.specs.Value.{named_value, value_of, values_by};
 
 use crate::room::Room;
 use crate::symbols::Symbols;
-use cfi_aux::{Items, address_of};
+use cfi_aux::address_of;
+use cfi_list::Items;
 use elf_read::{Binding, Name, Place, Symbol};
 use std::alloc::{AllocError, Global};
 
