@@ -1,0 +1,13 @@
+pub mod ByteLemmas
+pub mod CutLemmas
+pub mod OperandLemmas
+pub mod SpelledLemmas
+pub mod HexLemmas
+pub mod PartLemmas
+pub mod LineLemmas
+pub mod KeywordLemmas
+pub mod FormLemmas
+pub mod SayLemmas
+pub mod ListingLemmas
+pub mod WordsLemmas
+pub mod AssembleLemmas

@@ -1,0 +1,74 @@
+-- The numbers and registers of a listing are read back.
+use Rattle.std.proofs.Common.{◌≡◌, ℕ, suc, ◌-◌, ◌^◌, ◌<◌, ◌≤◌, Bool, true, false, ◌&&◌, Some, List, [], ◌∷◌, ℤ, pos, negsuc, refl, ap, ◌∙◌, arith}
+use Rattle.std.specs.Prelude.{nat_eq, nat_le, nat_lt, codes, option_map, option_and_then}
+use Rattle.std.specs.Int.{IsInRange}
+use Rattle.std.specs.List.{starts_with}
+use Rattle.std.specs.Fmt.{decimal, signed_decimal}
+use Rattle.std.proofs.lemmas.Bool.{cond-true, cond-false, lt-ltb, le-leb}
+use Rattle.std.proofs.lemmas.Bool.Decides.{nat_tests}
+use Rattle.cfi_text.specs.Decimal.{AreDigits, dec_text}
+use Rattle.cfi_text.proofs.DecimalLemmas.{IsDecimal-dec_text}
+use Rattle.rv_insn.specs.Word.{IsSigned}
+use Rattle.rv_text.specs.Text.{offset_text}
+use Rattle.rv_line.specs.declared.statement.Target.TheVariants as targets
+use Rattle.rv_line.specs.Number.{number_in, at_most, negated, integer_in}
+use Rattle.rv_line.specs.Register.{named_register, numbered_register, register_in}
+use Rattle.rv_line.specs.Operand.{target_in}
+use Rattle.rv_line.proofs.NumberLemmas.{number_in-some}
+
+pub number_in-text : (n : ℕ) → n < 2 ^ 64 → number_in (dec_text n) ≡ Some n
+number_in-text n small = number_in-some (dec_text n) n small (IsDecimal-dec_text n small) refl
+
+at_most-text : (most n : ℕ) → n ≤ most → most < 2 ^ 64 → at_most most (number_in (dec_text n)) ≡ Some n
+at_most-text most n within small =
+    ap (at_most most) (number_in-text n (omega arith)) ∙ cond-true (nat_le n most) _ _ (le-leb n most within)
+
+-- digits do not begin as other numbers do
+and-false : (x : Bool) → (x && false) ≡ false
+and-false true = refl
+and-false false = refl
+
+not_hex : (ds : List ℕ) → AreDigits ds → starts_with nat_eq ds (codes "0x") ≡ false
+not_hex [] h = refl
+not_hex (c ∷ []) h = and-false (nat_eq 48 c)
+not_hex (c ∷ d ∷ ds) h =
+    let other : nat_eq 120 d ≡ false = differs d h.1.0 in
+    ap (λ t. nat_eq 48 c && (t && true)) other ∙ and-false (nat_eq 48 c)
+  where
+    differs : (d : ℕ) → IsInRange 48 57 d → nat_eq 120 d ≡ false
+    differs d k = grind (arith, nat_tests)
+
+not_negative : (ds : List ℕ) → AreDigits ds → starts_with nat_eq ds (codes "-") ≡ false
+not_negative [] h = refl
+not_negative (c ∷ ds) h = ap (λ t. t && true) (differs c h.0)
+  where
+    differs : (d : ℕ) → IsInRange 48 57 d → nat_eq 45 d ≡ false
+    differs d k = grind (arith, nat_tests)
+
+-- signed decimals
+pub integer_in-signed : (imm : ℤ) → IsSigned (2 ^ 11) imm → integer_in (signed_decimal imm) ≡ Some imm
+unfolding integer_in
+integer_in-signed (pos n) h =
+    let ds = dec_text n in
+    let are = (IsDecimal-dec_text n (omega (arith, h))).digits in
+    cond-false (starts_with nat_eq ds (codes "0x")) _ _ (not_hex ds are)
+    ∙ cond-false (starts_with nat_eq ds (codes "-")) _ _ (not_negative ds are)
+    ∙ ap (option_map pos) (at_most-text (2 ^ 32 - 1) n (omega (arith, h)) (omega arith))
+integer_in-signed (negsuc n) h =
+    ap (option_map negated) (at_most-text (2 ^ 31) (suc n) (omega (arith, h)) (omega arith))
+
+-- registers
+pub register_in-text : (r : ℕ) → r < 32 → register_in (120 ∷ decimal r) ≡ Some r
+unfolding named_register
+register_in-text r small =
+    ap (option_and_then (numbered_register 120)) (number_in-text r (omega arith))
+    ∙ cond-true (nat_lt r 32) _ _ (lt-ltb r 32 small)
+
+-- offsets
+pub target_in-text : (off : ℤ) → IsSigned (2 ^ 20) off → target_in (offset_text off) ≡ Some (targets.Offset off)
+unfolding target_in
+target_in-text (pos n) h =
+    ap (option_map (λ n. targets.Offset (pos n))) (at_most-text (2 ^ 32 - 1) n (omega (arith, h)) (omega arith))
+target_in-text (negsuc n) h =
+    ap (option_map (λ n. targets.Offset (negated n)))
+    (at_most-text (2 ^ 32 - 1) (suc n) (omega (arith, h)) (omega arith))
