@@ -1,7 +1,8 @@
 ghost use Rattle.std.specs.Prelude.{◌≡◌, IfOk};
 
 use crate::image_from;
-use cfi_aux::{Items, Placed};
+use cfi_aux::Placed;
+use cfi_list::Items;
 use cfi_types::TypeTable;
 use cfi_word::Layout;
 use elf_read::Bytes;
