@@ -7,7 +7,7 @@ use Rattle.std.proofs.lemmas.Bool.Decides.{nat_tests}
 use Rattle.std.proofs.lemmas.List.Folds.{list_all-append}
 use Rattle.cfi_text.specs.Decimal.{AreDigits, dec_text}
 use Rattle.cfi_text.specs.Hex.{hex_digit, hex_digits}
-use Rattle.cfi_text.specs.Words.{is_blank}
+use Rattle.cfi_text.specs.Words.{is_solid}
 use Rattle.cfi_text.proofs.DecimalLemmas.{IsDecimal-dec_text}
 use Rattle.rv_line.specs.Operand.{is_byte}
 
@@ -27,9 +27,6 @@ AllPass-more p q h (x ∷ xs) all =
 -- a byte that is not this one
 abbrev pub differs : (byte other : ℕ) → Bool
 differs byte other = not (is_byte byte other)
-
-abbrev pub is_solid : (byte : ℕ) → Bool
-is_solid byte = not (is_blank byte)
 
 -- a byte that ends no line, begins no comment and ends no label
 abbrev pub is_clear : (byte : ℕ) → Bool

@@ -3,9 +3,9 @@ use Rattle.std.proofs.Common.{◌≡◌, ℕ, ◌<◌, Bool, true, false, not, S
 use Rattle.std.specs.Prelude.{filter}
 use Rattle.std.specs.List.{slice_split, onto_first}
 use Rattle.std.proofs.lemmas.Bool.{cond-true, cond-false, and_parts}
-use Rattle.cfi_text.specs.Words.{is_blank, has_byte, words_in}
+use Rattle.cfi_text.specs.Words.{is_blank, has_byte, words_in, is_solid}
 use Rattle.rv_line.specs.Operand.{only_word, word_in, two_in, three_in}
-use Rattle.rv_back.proofs.ByteLemmas.{AllPass, AllPass-append, differs, is_solid, is_clear}
+use Rattle.rv_back.proofs.ByteLemmas.{AllPass, AllPass-append, differs, is_clear}
 use Rattle.rv_back.proofs.CutLemmas.{cut-at}
 
 pub not_passed : (v : Bool) → not v ≡ true → v ≡ false

@@ -3,7 +3,7 @@ use Rattle.std.proofs.Common.{◌≡◌, ℕ, suc, ◌^◌, ◌<◌, Bool, true,
 use Rattle.std.specs.Fmt.{decimal, signed_decimal}
 use Rattle.std.proofs.lemmas.Bool.{and_from}
 use Rattle.std.proofs.lemmas.Fmt.{decimal_nonempty}
-use Rattle.cfi_text.specs.Words.{has_byte}
+use Rattle.cfi_text.specs.Words.{has_byte, is_solid}
 use Rattle.cfi_text.specs.Hex.{hex8_text}
 use Rattle.rv_insn.specs.Word.{IsSigned}
 use Rattle.rv_text.specs.Text.{hex, offset_text}
@@ -11,7 +11,7 @@ use Rattle.rv_line.specs.declared.statement.Low.TheVariants as lows
 use Rattle.rv_line.specs.declared.statement.High.TheVariants as highs
 use Rattle.rv_line.specs.declared.statement.Datum.TheVariants as data_words
 use Rattle.rv_line.specs.Operand.{low_or, low_in, high_or, high_in, datum_or, datum_in, number_place_in, place_in}
-use Rattle.rv_back.proofs.ByteLemmas.{AllPass, AllPass-append, is_plain, is_solid, differs, plain-decimal, plain-hex_digits, is_clear, solid-all, opening-all, closing-all, comma-all, clear-all}
+use Rattle.rv_back.proofs.ByteLemmas.{AllPass, AllPass-append, is_plain, differs, plain-decimal, plain-hex_digits, is_clear, solid-all, opening-all, closing-all, comma-all, clear-all}
 use Rattle.rv_back.proofs.CutLemmas.{cut-at}
 use Rattle.rv_back.proofs.OperandLemmas.{IsOperand, has_byte-some}
 use Rattle.rv_back.proofs.SpelledLemmas.{integer_in-signed, register_in-text}
