@@ -21,7 +21,7 @@ pub fn cond_funct3(cond: Cond) -> u32
     }
 }
 
-// The condition of a branch's row.
+/// The condition of a branch's row.
 #[inline(always)]
 pub fn cond_of(funct3: u32) -> Option<Cond>
     ensures { result ≡ cond_at funct3 }
@@ -51,7 +51,7 @@ pub fn load_funct3(kind: LoadKind) -> u32
     }
 }
 
-// The kind of a load's row.
+/// The kind of a load's row.
 #[inline(always)]
 pub fn load_of(funct3: u32) -> Option<LoadKind>
     ensures { result ≡ load_at funct3 }
@@ -78,7 +78,7 @@ pub fn store_funct3(kind: StoreKind) -> u32
     }
 }
 
-// The kind of a store's row.
+/// The kind of a store's row.
 #[inline(always)]
 pub fn store_of(funct3: u32) -> Option<StoreKind>
     ensures { result ≡ store_at funct3 }
@@ -108,7 +108,7 @@ pub fn imm_funct3(op: ImmOp) -> u32
     }
 }
 
-// The operation of a row with an immediate; only a shift looks at funct7.
+/// The operation of a row with an immediate; only a shift looks at funct7.
 #[inline(always)]
 pub fn imm_op_of(funct3: u32, funct7: u32) -> Option<ImmOp>
     ensures { result ≡ imm_op_at funct3 funct7 }
@@ -155,7 +155,7 @@ pub fn op_funct7(op: Op) -> u32
     }
 }
 
-// The operation of a row with two registers.
+/// The operation of a row with two registers.
 #[inline(always)]
 pub fn op_of(funct3: u32, funct7: u32) -> Option<Op>
     ensures { result ≡ op_at funct3 funct7 }
