@@ -42,10 +42,13 @@ abbrev pub lacks_kind : Words → List Kind → (w : ℕ) → Bool
 lacks_kind t branches w =
     if w == count_of t then has_rest branches (ordinal_of t w) else lacks_kind_by t branches w (ordinal_of t w)
 
--- an entry of a switch is no item of the function that has the jump
+-- an entry is no item of the function that has the jump
+abbrev pub lead_out : Words → List Function → (at : ℕ) → (entries : List ℕ) → Bool
+lead_out t functions at entries = list_any (λ entry. not (is_own_item t functions at entry)) entries
+
+-- a switch has such an entry
 abbrev pub switches_astray : Words → List Function → (at : ℕ) → Kind → Bool
-switches_astray t functions at (kinds.Switch entries) =
-    list_any (λ entry. not (is_own_item t functions at entry)) entries
+switches_astray t functions at (kinds.Switch entries) = lead_out t functions at entries
 switches_astray t functions at (kinds.Call node) = false
 switches_astray t functions at (kinds.Tail node) = false
 switches_astray t functions at kinds.Return = false

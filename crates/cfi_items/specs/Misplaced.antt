@@ -1,5 +1,5 @@
 -- Which relocations are misplaced (RISC-V ELF psABI, "Relocations", for the form of each kind).
-use Rattle.std.specs.Prelude.{ℕ, ◌*◌, ◌/◌, Bool, true, false, not, ◌&&◌, ◌||◌, ◌==◌, ℤ, List, take, Option, Some, None, if◌then◌else◌, slice_index_or}
+use Rattle.std.specs.Prelude.{ℕ, ◌*◌, ◌/◌, Bool, true, false, not, ◌&&◌, ◌||◌, ◌==◌, nat_lt, ℤ, List, take, Option, Some, None, if◌then◌else◌, slice_index_or}
 use Rattle.std.specs.List.{list_any, slice_get}
 use Rattle.elf_read.specs.declared.object.Symbol.{Symbol}
 use Rattle.elf_read.specs.declared.object.Reloc.{Reloc}
@@ -9,7 +9,7 @@ use Rattle.elf_read.specs.declared.relocation.TheConstants.{BRANCH, JAL, PCREL_H
 use Rattle.elf_read.specs.Relocation.{is_of_pair}
 use Rattle.rv_insn.specs.declared.insn.Insn.{Insn}
 use Rattle.cfi_aux.specs.declared.records.Function.{Function}
-use Rattle.cfi_items.specs.Words.{Words, insn_at, is_of_text}
+use Rattle.cfi_items.specs.Words.{Words, insn_at, is_of_text, count_of}
 use Rattle.cfi_items.specs.Insns.{holds, is_lui, is_auipc, is_jal, is_branch, is_store, has_low}
 use Rattle.cfi_items.specs.Items.{is_pair, is_bound_at, item_of}
 use Rattle.cfi_items.specs.Target.{offset_from, symbol_of}
@@ -31,7 +31,7 @@ fits_on t kind w = if is_of_pair kind then is_pair t w else holds (has_form kind
 
 -- the relocation is on the item that begins at the word
 abbrev pub is_on : Words → (w : ℕ) → Reloc → Bool
-is_on t w reloc = is_of_text reloc.area && item_of t (reloc.offset / 4) == w
+is_on t w reloc = is_of_text reloc.area && item_of t (reloc.offset / 4) == w && nat_lt w (count_of t)
 
 -- it sits well in the text: on its form, in a function, on an item on which no earlier one is
 abbrev pub sits_by : Words → List Function → (earlier : Bool) → Reloc → Bool

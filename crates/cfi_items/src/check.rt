@@ -80,13 +80,28 @@ fn check_ends(source: &Source, unplaced: &Module) -> Result<(), InstrFault>
 {
     let functions = unplaced.records.functions.as_slice();
     let branches = unplaced.records.branches.as_slice();
-    if let Some(k) = source.first_bad_switch(functions, branches) {
-        return Err(InstrFault::Switch(k as u32));
+    match source.first_bad_switch(functions, branches) {
+        Some(k) => return Err(InstrFault::Switch(k as u32)),
+        None => (),
     }
-    if let Some(k) = source.first_falling(functions) {
-        return Err(InstrFault::FallsThrough(k as u32));
+    match source.first_falling(functions) {
+        Some(k) => Err(InstrFault::FallsThrough(k as u32)),
+        None => Ok(()),
     }
-    Ok(())
+}
+
+// No row has a fault, in the words that are read of a module.
+fn check(alloc: Global, source: &Source, unplaced: &Module) -> Result<(), InstrFault>
+    requires count { 4 * count_of source.now < 2 ^ 32 }
+    requires relocs { length unplaced.now.object.relocs ≤ 2 ^ 32 }
+    requires functions { length unplaced.now.records.functions < 2 ^ 32 }
+    ensures ok { OnOk result (AreSound (parts_by source.now unplaced.now)) }
+    ensures fault { IfErr result (IsFirstFlaw (parts_by source.now unplaced.now)) }
+{
+    check_words(source)?;
+    check_shape(alloc, source, unplaced)?;
+    check_jumps(source, unplaced)?;
+    check_ends(source, unplaced)
 }
 
 /// What is read of a module's text, where the module can be instrumented, but for the length of the output.
@@ -98,13 +113,11 @@ pub fn read_items(alloc: Global, unplaced: &Module) -> Result<Source, InstrFault
     requires relocs { length unplaced.now.object.relocs ≤ 2 ^ 32 }
     requires functions { length unplaced.now.records.functions < 2 ^ 32 }
     ensures ok { IfOk result (λ source. source ≡ words_in unplaced.now.object) }
+    ensures count { IfOk result (λ source. 4 * count_of source < 2 ^ 32) }
     ensures sound { OnOk result (AreSound (parts_of unplaced.now)) }
     ensures fault { IfErr result (IsFirstFlaw (parts_of unplaced.now)) }
 {
     let source = read_source(alloc, &unplaced.object)?;
-    check_words(&source)?;
-    check_shape(alloc, &source, unplaced)?;
-    check_jumps(&source, unplaced)?;
-    check_ends(&source, unplaced)?;
+    check(alloc, &source, unplaced)?;
     Ok(source)
 }

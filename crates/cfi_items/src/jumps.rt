@@ -4,7 +4,7 @@ ghost use Rattle.std.specs.Prelude.{◌≡◌, ◌+◌, ◌*◌, ◌<◌, ◌^�
 ghost use Rattle.std.specs.Option.{option_copied};
 ghost use Rattle.elf_read.specs.Places.{IsFirst, IsNone};
 ghost use Rattle.cfi_items.specs.Words.{count_of};
-ghost use Rattle.cfi_items.specs.Jumps.{is_call, has_kind, lacks_kind_by, lacks_kind, switches_astray, has_bad_switch_by, has_bad_switch, IsBadSwitch};
+ghost use Rattle.cfi_items.specs.Jumps.{is_call, has_kind, lacks_kind_by, lacks_kind, switches_astray, lead_out, has_bad_switch_by, has_bad_switch, IsBadSwitch};
 
 use crate::insns::is_linked;
 use crate::source::Source;
@@ -69,15 +69,24 @@ impl Source {
         None
     }
 
-    // Whether an entry of a switch is no item of the function that has the jump at the offset.
+    // Whether an entry is no item of the function that has the jump at the offset.
+    fn lead_out(&self, functions: &[Function], at: usize, entries: &[u32]) -> bool
+        ensures { result ≡ lead_out self.now functions.now at entries.now }
+    {
+        for entry in entries {
+            if !self.is_own_item(functions, at, *entry as usize) {
+                return true;
+            }
+        }
+        false
+    }
+
+    // Whether a switch has such an entry.
     fn switches_astray(&self, functions: &[Function], at: usize, kind: &Kind) -> bool
         ensures { result ≡ switches_astray self.now functions.now at kind.now }
     {
         match kind {
-            Kind::Switch(entries) => entries
-                .as_slice()
-                .iter()
-                .any(|entry| !self.is_own_item(functions, at, *entry as usize)),
+            Kind::Switch(entries) => self.lead_out(functions, at, entries.as_slice()),
             Kind::Call(_) | Kind::Tail(_) | Kind::Return => false,
         }
     }
@@ -104,6 +113,7 @@ impl Source {
     pub fn first_bad_switch(&self, functions: &[Function], branches: &[Kind]) -> Option<usize>
         requires { 4 * count_of self.now < 2 ^ 32 }
         ensures some { IfSome result (IsBadSwitch self.now functions.now branches.now) }
+        ensures small { IfSome result (λ k. k < 2 ^ 32) }
         ensures none { IfNone result
             (IsNone (has_bad_switch self.now functions.now branches.now) (count_of self.now)) }
     {

@@ -18,4 +18,4 @@ mod words;
 pub use check::read_items;
 pub use fault::InstrFault;
 pub use source::{Source, is_of_text, read_source};
-pub use target::{Aim, aim_of, offset_from};
+pub use target::{Aim, aim_of, offset_from, symbol_of};

@@ -13,7 +13,7 @@ ghost use Rattle.cfi_items.specs.Misplaced.{has_form, fits_on, is_on, sits_by, i
 use crate::functions::is_covered;
 use crate::insns::{has_low, is_auipc, is_branch, is_jal, is_lui, is_store};
 use crate::source::{Source, is_of_text};
-use crate::target::offset_from;
+use crate::target::{offset_from, symbol_of};
 use cfi_aux::Function;
 use elf_read::relocation::{
     BRANCH, HI20, JAL, LO12_I, LO12_S, PCREL_HI20, PCREL_LO12_I, PCREL_LO12_S, is_of_pair,
@@ -78,10 +78,7 @@ impl Source {
     fn names_well(&self, symbols: &[Symbol], reloc: &Reloc) -> bool
         ensures { result ≡ names_well self.now (symbol_of symbols.now reloc.now) reloc.now.addend }
     {
-        let Some(k) = reloc.symbol else {
-            return true;
-        };
-        match symbols.get(k as usize) {
+        match symbol_of(symbols, reloc) {
             Some(symbol) => self.leads_to_bound(symbol.place, symbol.value, reloc.addend),
             None => true,
         }
@@ -103,10 +100,11 @@ impl Source {
     }
 
     // Marks the item that a relocation of the text is on.
-    fn mark(&self, marked: &mut [bool], reloc: &Reloc)
-        ensures len { length marked.new ≡ length marked.old }
-        ensures marks { (w : ℕ) → w < length marked.old → slice_index_or marked.new w false
-            ≡ (slice_index_or marked.old w false || is_on self.now w reloc.now) }
+    fn mark(&self, marked: &mut Vec<bool>, reloc: &Reloc)
+        requires { length marked.old.items ≡ count_of self.now }
+        ensures len { length marked.new.items ≡ length marked.old.items }
+        ensures marks { (w : ℕ) → slice_index_or marked.new.items w false
+            ≡ (slice_index_or marked.old.items w false || is_on self.now w reloc.now) }
     {
         let w = self.item_of((reloc.offset / 4) as usize);
         if is_of_text(reloc.area) && w < marked.len() {

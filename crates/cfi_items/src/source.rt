@@ -74,7 +74,8 @@ pub fn is_of_text(area: Area) -> bool
 
 // The instructions of a text's words.
 fn insns_in(alloc: Global, text: &[u8]) -> Result<Vec<Option<Insn>>, AllocError>
-    ensures { IfOk result (λ insns. insns.items ≡ insns_in text.now) }
+    ensures same { IfOk result (λ insns. insns.items ≡ insns_in text.now) }
+    ensures len { IfOk result (λ insns. length insns.items ≡ length text.now / 4) }
 {
     let count = text.len() / 4;
     let mut insns = Vec::with_capacity(alloc, count)?;
@@ -85,10 +86,10 @@ fn insns_in(alloc: Global, text: &[u8]) -> Result<Vec<Option<Insn>>, AllocError>
 }
 
 // Notes a relocation at its word, where none is noted yet.
-fn note(table: &mut [Option<Reloc>], calling: bool, reloc: Reloc)
-    ensures len { length table.new ≡ length table.old }
-    ensures noted { (w : ℕ) → w < length table.old → slice_index_or table.new w None
-        ≡ noted (sits_on calling w reloc) reloc (slice_index_or table.old w None) }
+fn note(table: &mut Vec<Option<Reloc>>, calling: bool, reloc: Reloc)
+    ensures len { length table.new.items ≡ length table.old.items }
+    ensures noted { (w : ℕ) → w < length table.old.items → slice_index_or table.new.items w None
+        ≡ noted (sits_on calling w reloc) reloc (slice_index_or table.old.items w None) }
 {
     let w = (reloc.offset / 4) as usize;
     if !is_of_text(reloc.area) || reloc.offset % 4 != 0 || w >= table.len() {
@@ -117,7 +118,8 @@ fn firsts_on(
 
 /// What is read of an object's text.
 pub fn read_source(alloc: Global, object: &Object) -> Result<Source, AllocError>
-    ensures { IfOk result (λ source. source ≡ words_in object.now) }
+    ensures same { IfOk result (λ source. source ≡ words_in object.now) }
+    ensures count { IfOk result (λ source. count_of source ≡ length object.now.text / 4) }
 {
     let count = object.text.len() / 4;
     let relocs = object.relocs.as_slice();

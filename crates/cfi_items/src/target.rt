@@ -1,6 +1,7 @@
 //! Where direct jumps and relocations lead.
 
-ghost use Rattle.std.specs.Prelude.{◌≡◌, ◌+◌, ◌*◌, ◌<◌, ◌^◌, ℤ, option_copied};
+ghost use Rattle.std.specs.Prelude.{◌≡◌, ◌+◌, ◌*◌, ◌<◌, ◌^◌};
+ghost use Rattle.std.specs.Option.{option_copied};
 ghost use Rattle.cfi_items.specs.Target.{offset_from, aim_by, symbol_of, aim_at_name, aim_at_symbol, aim_of, aim_of_jump, aim_of_pair};
 
 use crate::insns::is_zero;
@@ -53,14 +54,21 @@ fn aim_at_symbol(place: Place, value: u32, addend: i32) -> Aim
     }
 }
 
+/// The symbol that a relocation names.
+pub fn symbol_of<'a>(symbols: &'a [Symbol], reloc: &Reloc) -> Option<&'a Symbol>
+    ensures { option_copied result ≡ symbol_of symbols.now reloc.now }
+{
+    match reloc.symbol {
+        Some(k) => symbols.get(k as usize),
+        None => None,
+    }
+}
+
 /// Where a relocation leads.
 pub fn aim_of(symbols: &[Symbol], reloc: &Reloc) -> Aim
     ensures { result ≡ aim_of symbols.now reloc.now }
 {
-    let Some(k) = reloc.symbol else {
-        return Aim::Astray;
-    };
-    match symbols.get(k as usize) {
+    match symbol_of(symbols, reloc) {
         Some(symbol) => aim_at_symbol(symbol.place, symbol.value, reloc.addend),
         None => Aim::Astray,
     }

@@ -14,7 +14,7 @@ pub record AreSeen (t : Words) (symbols : List Symbol) (functions : List Functio
     (marked : List Bool) : Type 0 where
   pub none : IsNone (is_misplaced t symbols functions relocs) k
   pub size : length marked ≡ count_of t
-  pub marks : (w : ℕ) → w < count_of t → slice_index_or marked w false ≡ list_any (is_on t w) (take k relocs)
+  pub marks : (w : ℕ) → slice_index_or marked w false ≡ list_any (is_on t w) (take k relocs)
 
 abbrev pub invariant-loop-k : goal.invariant-loop-k
 invariant-loop-k l = AreSeen l.self l.symbols l.functions l.relocs l.k l.marked.items
