@@ -7,7 +7,7 @@ ghost use Rattle.cfi_instr.specs.Moves.{value_in, moved_symbol, addend_to, adden
 
 use crate::sizes::{is_long, moved};
 use crate::units::distance;
-use cfi_items::{Source, is_of_text, offset_from};
+use cfi_items::{Source, is_of_text, offset_from, symbol_of};
 use elf_read::relocation::{
     BRANCH, JAL, LO12_I, LO12_S, PCREL_LO12_I, PCREL_LO12_S, is_of_pair,
 };
@@ -87,10 +87,7 @@ fn addend_of(source: &Source, symbols: &[Symbol], offsets: &[u32], reloc: &Reloc
     ensures { result ≡ addend_by source.now offsets.now
         (symbol_of symbols.now reloc.now) reloc.now.addend }
 {
-    let Some(k) = reloc.symbol else {
-        return reloc.addend;
-    };
-    match symbols.get(k as usize) {
+    match symbol_of(symbols, reloc) {
         Some(symbol) => addend_in(source, offsets, symbol.place, symbol.value, reloc.addend),
         None => reloc.addend,
     }

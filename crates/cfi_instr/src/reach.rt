@@ -1,11 +1,11 @@
 //! The branches that must be long.
 
-ghost use Rattle.std.specs.Prelude.{◌≡◌, ◌+◌, ◌*◌, ◌<◌, ◌≤◌, ◌^◌, ℕ, Bool, not, ◌||◌, count_by, length, IfOk, IfErr};
+ghost use Rattle.std.specs.Prelude.{◌≡◌, ◌+◌, ◌*◌, ◌<◌, ◌≤◌, ◌^◌, ℕ, Bool, not, ◌||◌, ◌&&◌, length, slice_set, IfOk, IfErr};
 ghost use Rattle.std.specs.Bool.{OnTrue, OnFalse};
 ghost use Rattle.cfi_items.specs.Words.{count_of};
 ghost use Rattle.cfi_instr.specs.declared.sizes.TheConstants.{MAX_WORDS};
 ghost use Rattle.cfi_instr.specs.Sizes.{is_long, place_of, offsets_of, AreSmall};
-ghost use Rattle.cfi_instr.specs.Reach.{target_of, is_near, reaches, branch_reaches, word_reaches, IsLeast, IsPassed};
+ghost use Rattle.cfi_instr.specs.Reach.{target_of, is_near, reaches, branch_reaches, word_reaches, IsLeast, IsPassed, shorts};
 
 use crate::sizes::{REACH_BACK, REACH_ON, is_long, offset_at, offsets_of};
 use cfi_items::{Aim, InstrFault, Source};
@@ -66,20 +66,41 @@ fn word_reaches(source: &Source, symbols: &[Symbol], offsets: &[u32], w: usize) 
     }
 }
 
+// Makes the branch at the word long where it does not reach its target; answers whether it was not long yet.
+fn widen_at(
+    source: &Source,
+    symbols: &[Symbol],
+    offsets: &[u32],
+    long: &mut Vec<bool>,
+    w: usize,
+) -> bool
+    requires word { 4 * w < 2 ^ 32 }
+    requires within { w < length long.old.items }
+    ensures wider { let reaches = word_reaches source.now symbols.now offsets.now w in
+        long.new.items ≡ slice_set long.old.items w (is_long long.old.items w || not reaches) }
+    ensures grew { let reaches = word_reaches source.now symbols.now offsets.now w in
+        result ≡ (not (is_long long.old.items w) && not reaches) }
+{
+    let grows = !is_long(long, w) && !word_reaches(source, symbols, offsets, w);
+    if grows {
+        long[w] = true;
+    }
+    grows
+}
+
 // Makes each branch long that does not reach its target; answers whether one was not yet.
-fn widen(source: &Source, symbols: &[Symbol], offsets: &[u32], long: &mut [bool]) -> bool
+fn widen(source: &Source, symbols: &[Symbol], offsets: &[u32], long: &mut Vec<bool>) -> bool
     requires count { 4 * count_of source.now < 2 ^ 32 }
-    requires size { length long.old ≡ count_of source.now }
-    ensures size { length long.new ≡ count_of source.now }
-    ensures each { (w : ℕ) → w < count_of source.now → is_long long.new w
-        ≡ (is_long long.old w || not (word_reaches source.now symbols.now offsets.now w)) }
-    ensures same { OnFalse result (long.new ≡ long.old) }
-    ensures fewer { OnTrue result (count_by not long.new < count_by not long.old) }
+    requires size { length long.old.items ≡ count_of source.now }
+    ensures size { length long.new.items ≡ count_of source.now }
+    ensures each { (w : ℕ) → w < count_of source.now → is_long long.new.items w
+        ≡ (is_long long.old.items w || not (word_reaches source.now symbols.now offsets.now w)) }
+    ensures same { OnFalse result (long.new.items ≡ long.old.items) }
+    ensures fewer { OnTrue result (shorts long.new.items < shorts long.old.items) }
 {
     let mut grew = false;
     for w in 0..source.count() {
-        if !long[w] && !word_reaches(source, symbols, offsets, w) {
-            long[w] = true;
+        if widen_at(source, symbols, offsets, long, w) {
             grew = true;
         }
     }
@@ -105,7 +126,7 @@ pub fn least_long(
 {
     let mut long = vec![in alloc; false; source.count()]?;
     let mut offsets = offsets_of(alloc, source, &long)?;
-    while widen(source, symbols, &offsets, &mut long) {
+    'rounds: while widen(source, symbols, &offsets, &mut long) {
         offsets = offsets_of(alloc, source, &long)?;
     }
     Ok((long, offsets))

@@ -1,6 +1,6 @@
 -- What is read of a module's text: the instruction of each word, and the relocations that sit on it. A word's number
 -- counts from 0; a relocation's offset is in bytes.
-use Rattle.std.specs.Prelude.{ℕ, ◌*◌, ◌/◌, Bool, true, false, not, ◌&&◌, ◌||◌, ◌==◌, List, length, map, find, Option, Some, None, slice_index_or, if◌then◌else◌}
+use Rattle.std.specs.Prelude.{ℕ, ◌*◌, ◌/◌, Bool, true, false, not, ◌&&◌, ◌||◌, ◌==◌, List, length, map, find, Option, Some, None, slice_index_or, All, IfSome, if◌then◌else◌}
 use Rattle.std.specs.List.{range_with_len}
 use Rattle.elf_read.specs.declared.object.Object.{Object}
 use Rattle.elf_read.specs.declared.object.Reloc.{Reloc}
@@ -8,6 +8,7 @@ use Rattle.elf_read.specs.declared.object.Area.{Area}
 use Rattle.elf_read.specs.declared.object.Area.TheVariants as areas
 use Rattle.elf_read.specs.Relocation.{is_of_pair}
 use Rattle.rv_insn.specs.declared.insn.Insn.{Insn}
+use Rattle.rv_insn.specs.Insn.{InRange}
 use Rattle.rv_insn.specs.InsnOf.{insn_of}
 use Rattle.rv_reloc.specs.Bytes.{word_at}
 
@@ -44,6 +45,10 @@ firsts_on calling relocs count = map (first_on calling relocs) (range_with_len 0
 -- the instructions of a text's words
 abbrev pub insns_in : (text : List ℕ) → List (Option Insn)
 insns_in text = map (λ w. insn_of (word_at (4 * w) text)) (range_with_len 0 (length text / 4))
+
+-- the fields of each are in range
+abbrev pub AreInRange : List (Option Insn) → Type 0
+AreInRange insns = All (λ insn. IfSome insn InRange) insns
 
 -- what is read of an object
 abbrev pub words_in : Object → Words

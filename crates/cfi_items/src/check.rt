@@ -2,7 +2,7 @@
 
 ghost use Rattle.std.specs.Prelude.{◌≡◌, ◌*◌, ◌<◌, ◌≤◌, ◌^◌, length, IfOk, OnOk, IfErr};
 ghost use Rattle.cfi_aux.specs.declared.modules.Module.{Module};
-ghost use Rattle.cfi_items.specs.Words.{words_in, count_of};
+ghost use Rattle.cfi_items.specs.Words.{AreInRange, words_in, count_of};
 ghost use Rattle.cfi_items.specs.Fault.{parts_by, parts_of, AreLegal, AreShaped, AreLinked, AreSound, IsFirstFlaw};
 
 use crate::fault::InstrFault;
@@ -114,6 +114,7 @@ pub fn read_items(alloc: Global, unplaced: &Module) -> Result<Source, InstrFault
     requires functions { length unplaced.now.records.functions < 2 ^ 32 }
     ensures ok { IfOk result (λ source. source ≡ words_in unplaced.now.object) }
     ensures count { IfOk result (λ source. 4 * count_of source < 2 ^ 32) }
+    ensures range { IfOk result (λ source. AreInRange source.insns) }
     ensures sound { OnOk result (AreSound (parts_of unplaced.now)) }
     ensures fault { IfErr result (IsFirstFlaw (parts_of unplaced.now)) }
 {

@@ -1,7 +1,9 @@
 //! What is read of a module's text.
 
-ghost use Rattle.std.specs.Prelude.{◌≡◌, ◌/◌, ◌<◌, ℕ, length, None, IfOk, slice_index_or, nat_lt, if◌then◌else◌};
-ghost use Rattle.cfi_items.specs.Words.{is_of_text, sits_on, firsts_on, noted, insns_in, words_in, insn_at, reloc_at, call_at, count_of};
+ghost use Rattle.std.specs.Prelude.{◌≡◌, ◌/◌, ◌<◌, ℕ, length, None, IfOk, IfSome, slice_index_or};
+ghost use Rattle.rv_insn.specs.Insn.{InRange};
+ghost use Rattle.rv_insn.specs.InsnOf.{insn_of};
+ghost use Rattle.cfi_items.specs.Words.{is_of_text, sits_on, firsts_on, noted, insns_in, AreInRange, words_in, insn_at, reloc_at, call_at, count_of};
 
 use elf_read::relocation::is_of_pair;
 use elf_read::{Area, Object, Reloc};
@@ -72,15 +74,27 @@ pub fn is_of_text(area: Area) -> bool
     matches!(area, Area::Text)
 }
 
+// The instruction that a word is.
+fn insn_of(word: u32) -> Option<Insn>
+    ensures same { result ≡ insn_of word }
+    ensures range { IfSome result InRange }
+{
+    match decode(word) {
+        Some(insn) => Some(insn),
+        None => None,
+    }
+}
+
 // The instructions of a text's words.
 fn insns_in(alloc: Global, text: &[u8]) -> Result<Vec<Option<Insn>>, AllocError>
     ensures same { IfOk result (λ insns. insns.items ≡ insns_in text.now) }
     ensures len { IfOk result (λ insns. length insns.items ≡ length text.now / 4) }
+    ensures range { IfOk result (λ insns. AreInRange insns.items) }
 {
     let count = text.len() / 4;
     let mut insns = Vec::with_capacity(alloc, count)?;
     for w in 0..count {
-        insns.push(decode(word_at(text, 4 * w)))?;
+        insns.push(insn_of(word_at(text, 4 * w)))?;
     }
     Ok(insns)
 }
@@ -120,6 +134,7 @@ fn firsts_on(
 pub fn read_source(alloc: Global, object: &Object) -> Result<Source, AllocError>
     ensures same { IfOk result (λ source. source ≡ words_in object.now) }
     ensures count { IfOk result (λ source. count_of source ≡ length object.now.text / 4) }
+    ensures range { IfOk result (λ source. AreInRange source.insns) }
 {
     let count = object.text.len() / 4;
     let relocs = object.relocs.as_slice();
