@@ -1,5 +1,5 @@
 -- The parts of the output joined.
-use Rattle.std.proofs.Common.{◌≡◌, ℕ, zero, suc, ◌<◌, ◌≤◌, ◌^◌, Bool, List, [], ◌∷◌, ◌++◌, map, All, length, get_or, refl, sym, ap, ◌∙◌, subst, ⊎_elim, arith}
+use Rattle.std.proofs.Common.{◌≡◌, ℕ, zero, suc, ◌<◌, ◌≤◌, ◌^◌, Bool, List, [], ◌∷◌, ◌++◌, map, All, length, get_or, refl, sym, ap, ◌∙◌, subst, arith}
 use Rattle.std.specs.List.{flat_map, AllByRecursion}
 use Rattle.std.proofs.lemmas.List.{length-map}
 use Rattle.std.proofs.lemmas.List.Elements.{All-map}
@@ -24,7 +24,7 @@ use Rattle.cfi_instr.specs.Reach.{IsEnough, IsLeast}
 use Rattle.cfi_instr.specs.Units.{units_at, units_of, AllSpell}
 use Rattle.cfi_instr.specs.Moves.{moved_symbol, moved_reloc, moved_function, moved_kind}
 use Rattle.cfi_instr.specs.Output.{IsPlan, IsText, AreMoved}
-use Rattle.cfi_instr.proofs.SpellLemmas.{IsSpelled, all-spelled}
+use Rattle.cfi_instr.proofs.SpellLemmas.{all-spelled}
 
 -- ---- text
 

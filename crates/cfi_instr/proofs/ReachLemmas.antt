@@ -1,7 +1,6 @@
 -- A branch that reaches its target with more long branches does so with fewer.
-use Rattle.std.proofs.Common.{◌≡◌, ℕ, ◌+◌, ◌*◌, ◌/◌, ◌<◌, ◌≤◌, ◌||◌, not, Bool, true, false, List, length, get_or, Option, Some, None, refl, sym, ap, ◌∙◌, inl, inr, ⊎_elim, arith}
-use Rattle.std.proofs.lemmas.Bool.{cases_Bool, cases_lt, false≢true, and_parts, and_from, leb-true, le-leb}
-use Rattle.std.proofs.lemmas.List.{get_or_past}
+use Rattle.std.proofs.Common.{◌≡◌, ℕ, ◌+◌, ◌*◌, ◌/◌, ◌<◌, ◌≤◌, Bool, true, List, Option, Some, None, refl, ⊎_elim, arith}
+use Rattle.std.proofs.lemmas.Bool.{cases_lt, and_parts, and_from, leb-true, le-leb}
 use Rattle.elf_read.specs.declared.object.Symbol.{Symbol}
 use Rattle.rv_insn.specs.declared.insn.Insn.{Insn}
 use Rattle.rv_insn.specs.declared.insn.Insn.TheVariants as insns
@@ -9,8 +8,8 @@ use Rattle.cfi_items.specs.declared.target.Aim.{Aim}
 use Rattle.cfi_items.specs.declared.target.Aim.TheVariants as aims
 use Rattle.cfi_items.specs.Words.{Words, insn_at, count_of}
 use Rattle.cfi_items.specs.Target.{aim_of_jump}
-use Rattle.cfi_instr.specs.Sizes.{is_long, size_at, place_of, offsets_of}
-use Rattle.cfi_instr.specs.Reach.{is_near, target_of, reaches, insn_reaches, word_reaches, IsEnough, IsWithin}
+use Rattle.cfi_instr.specs.Sizes.{size_at, place_of, offsets_of}
+use Rattle.cfi_instr.specs.Reach.{is_near, reaches, insn_reaches, word_reaches, IsWithin}
 use Rattle.cfi_instr.proofs.SizeLemmas.{total-grows, place-grows, place-part, offset-read, offset-past}
 
 -- what near says, and what says it

@@ -1,6 +1,5 @@
 -- Sizes and places of units, with more or fewer long branches.
-use Rattle.std.proofs.Common.{◌≡◌, ℕ, zero, suc, ◌+◌, ◌*◌, ◌<◌, ◌≤◌, Bool, true, false, cond, List, map, length, get_or, Option, Some, None, refl, sym, ap, ◌∙◌, inl, inr, ⊎_elim, add-one, arith}
-use Rattle.std.specs.List.{range_with_len}
+use Rattle.std.proofs.Common.{◌≡◌, ℕ, zero, suc, ◌+◌, ◌*◌, ◌<◌, ◌≤◌, Bool, true, false, cond, List, length, get_or, Option, Some, None, refl, ap, inl, inr, ⊎_elim, add-one, arith}
 use Rattle.std.proofs.lemmas.Bool.{cases_Bool, cases_lt, false≢true}
 use Rattle.std.proofs.lemmas.List.{get_or_past}
 use Rattle.std.proofs.lemmas.List.FromFn.{get_or-map-range_with_len, length-map-range_with_len}
@@ -9,7 +8,7 @@ use Rattle.rv_insn.specs.declared.insn.Insn.{Insn}
 use Rattle.rv_insn.specs.declared.insn.Insn.TheVariants as insns
 use Rattle.cfi_items.specs.Words.{Words, insn_at, count_of}
 use Rattle.cfi_items.specs.Items.{is_inner}
-use Rattle.cfi_instr.specs.declared.sizes.TheConstants.{MAX_WORDS, MAX_BYTES}
+use Rattle.cfi_instr.specs.declared.sizes.TheConstants.{MAX_WORDS}
 use Rattle.cfi_instr.specs.Sizes.{is_long, size_of, size_by, size_at, place_of, offset_of, offsets_of, AreSmall}
 use Rattle.cfi_instr.specs.Reach.{IsWithin}
 

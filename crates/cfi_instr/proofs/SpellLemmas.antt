@@ -1,9 +1,8 @@
 -- The units that a module without faults becomes have spellings.
-use Rattle.std.proofs.Common.{◌≡◌, ℕ, zero, suc, ◌+◌, ◌*◌, ◌/◌, ◌%◌, ◌^◌, ◌<◌, ◌≤◌, ◌&&◌, not, ℤ, pos, Bool, true, false, List, [], ◌∷◌, length, get_or, All, Option, Some, None, is_some, refl, sym, ap, ◌∙◌, subst, inl, inr, ⊎_elim, arith}
+use Rattle.std.proofs.Common.{◌≡◌, ℕ, zero, suc, ◌+◌, ◌*◌, ◌/◌, ◌^◌, ◌<◌, ◌≤◌, ◌&&◌, not, ℤ, pos, Bool, true, false, List, get_or, Option, Some, None, is_some, refl, sym, ap, ◌∙◌, subst, inl, inr, ⊎_elim, arith}
 use Rattle.std.specs.List.{slice_index}
 use Rattle.std.specs.Option.{IfSome}
 use Rattle.std.proofs.lemmas.Bool.{cases_Bool, cases_lt, false≢true, and_parts}
-use Rattle.elf_read.specs.Places.{IsNone, count_where}
 use Rattle.elf_read.specs.declared.object.Symbol.{Symbol}
 use Rattle.rv_insn.specs.declared.insn.Insn.{Insn}
 use Rattle.rv_insn.specs.declared.insn.Insn.TheVariants as insns
@@ -19,10 +18,10 @@ use Rattle.cfi_items.specs.Items.{is_inner, is_pair, is_item, is_indirect}
 use Rattle.cfi_items.specs.Target.{aim_of_jump}
 use Rattle.cfi_items.specs.Jumps.{ordinal_of}
 use Rattle.cfi_items.specs.Fault.{AreLegal}
-use Rattle.cfi_instr.specs.declared.sizes.TheConstants.{MAX_WORDS, MAX_BYTES}
+use Rattle.cfi_instr.specs.declared.sizes.TheConstants.{MAX_WORDS}
 use Rattle.cfi_instr.specs.Sizes.{is_long, size_by, size_at, place_of, offsets_of, AreSmall}
-use Rattle.cfi_instr.specs.Reach.{target_of, is_near, word_reaches, insn_reaches, IsEnough, IsLeast}
-use Rattle.cfi_instr.specs.Units.{distance, displacement_from, off_of, unit_of, short_unit, over, long_jump, is_wide, insn_units, pair_unit, units_at, AreUnits, AllSpell}
+use Rattle.cfi_instr.specs.Reach.{target_of, is_near, insn_reaches, IsEnough}
+use Rattle.cfi_instr.specs.Units.{distance, displacement_from, off_of, long_jump, is_wide, insn_units, units_at, AreUnits, AllSpell}
 use Rattle.cfi_instr.proofs.SizeLemmas.{total-grows, offset-read, offset-past}
 use Rattle.cfi_instr.proofs.ReachLemmas.{near-is}
 use Rattle.cfi_instr.proofs.UnitLemmas.{IsReady, FitsOff, unit-fits, over-fits, signed-distance, even-distance}
@@ -107,9 +106,10 @@ branch-off t symbols long w aim near =
     let to = target_of (offsets_of t long) aim in
     let far = near-is from to near in
     let x = quarter t long w in
-    let y = target-quarter t long aim in
-    (signed-distance (2 ^ 12) from to (omega (arith, far.0)) (omega (arith, far.1)),
-    even-distance from to x.0 y.0 x.1 y.1)
+    let y = target-quarter t long aim in (
+      signed-distance (2 ^ 12) from to (omega (arith, far.0)) (omega (arith, far.1)),
+      even-distance from to x.0 y.0 x.1 y.1,
+    )
 
 -- the way of a jump, from a word's offset or the next word
 jump-off : (t : Words) (long : List Bool) (from x : ℕ) (aim : Aim) → AreSmall (offsets_of t long)
@@ -177,11 +177,13 @@ insn-spelled t symbols long w (Some insn) is lt here =
           let branch = (and_parts (is_long long w) (is_branch insn) wide).1 in
           rw wide (over-fits insn good branch, (long-off t symbols long w insn is, tt))
       | inr narrow ↦
-          rw narrow
-          (unit-fits insn (ordinal_of t w)
-          (displacement_from t symbols (offsets_of t long) w (slice_index (offsets_of t long) w) (off_of insn)
-          (off_of insn))
-          good (few-jumps t symbols long w is lt) (short-off t symbols long w insn is lt here good.range narrow), tt)
+          rw narrow (
+            unit-fits insn (ordinal_of t w)
+                (displacement_from t symbols (offsets_of t long) w (slice_index (offsets_of t long) w) (off_of insn)
+                (off_of insn))
+                good (few-jumps t symbols long w is lt) (short-off t symbols long w insn is lt here good.range narrow),
+            tt,
+          )
     ]
 
 pub all-spelled : (t : Words) (symbols : List Symbol) (long : List Bool) → IsSpelled t symbols long

@@ -1,5 +1,5 @@
 -- How the set of long branches grows.
-use Rattle.std.proofs.Common.{◌≡◌, ℕ, ◌+◌, ◌<◌, ◌≤◌, ◌≢◌, ◌||◌, ◌&&◌, not, Bool, true, false, cond, List, length, get_or, get_or-set_same, get_or-set_other, replicate, below_more, refl, sym, ap, ◌∙◌, subst, inl, inr, ⊎_elim, arith}
+use Rattle.std.proofs.Common.{◌≡◌, ℕ, ◌+◌, ◌<◌, ◌≤◌, ◌≢◌, ◌||◌, ◌&&◌, not, Bool, true, false, cond, List, length, get_or-set_same, get_or-set_other, replicate, below_more, refl, sym, ap, ◌∙◌, inl, inr, ⊎_elim, arith}
 use Rattle.std.proofs.lemmas.Bool.{cases_Bool, cases_lt, false≢true}
 use Rattle.std.proofs.Math.ListN.{set, length-set}
 use Rattle.std.proofs.lemmas.List.{get_or_past, set-get_or, get_or-replicate, length-replicate}
@@ -8,7 +8,7 @@ use Rattle.elf_read.specs.declared.object.Symbol.{Symbol}
 use Rattle.cfi_items.specs.Words.{Words, count_of}
 use Rattle.cfi_items.specs.declared.fault.InstrFault.{InstrFault}
 use Rattle.cfi_items.specs.declared.fault.InstrFault.TheVariants as faults
-use Rattle.cfi_instr.specs.Sizes.{is_long, place_of, offsets_of, IsOver}
+use Rattle.cfi_instr.specs.Sizes.{is_long, offsets_of, IsOver}
 use Rattle.cfi_instr.specs.Reach.{word_reaches, IsEnough, IsWithin, shorts, IsPassed}
 use Rattle.cfi_instr.proofs.SizeLemmas.{place-grows}
 use Rattle.cfi_instr.proofs.ReachLemmas.{word-shrinks}

@@ -1,6 +1,6 @@
 -- Where the symbols, relocations, functions and switch entries of a module go. `offsets` has the offset of each word's
 -- unit in the output.
-use Rattle.std.specs.Prelude.{ℕ, ◌+◌, ◌-◌, ◌*◌, ◌/◌, ◌==◌, ◌&&◌, ◌||◌, ℤ, Bool, if◌then◌else◌, List, map, Option, Some, None}
+use Rattle.std.specs.Prelude.{ℕ, ◌+◌, ◌-◌, ◌/◌, ◌==◌, ◌&&◌, ◌||◌, ℤ, Bool, if◌then◌else◌, List, map, Option, Some, None}
 use Rattle.elf_read.specs.declared.object.Symbol.{Symbol}
 use Rattle.elf_read.specs.declared.object.Reloc.{Reloc}
 use Rattle.elf_read.specs.declared.object.Area.{Area}
@@ -13,7 +13,6 @@ use Rattle.cfi_aux.specs.declared.records.Function.{Function}
 use Rattle.cfi_aux.specs.declared.records.Kind.{Kind}
 use Rattle.cfi_aux.specs.declared.records.Kind.TheVariants as kinds
 use Rattle.cfi_items.specs.Words.{Words}
-use Rattle.cfi_items.specs.Items.{item_of}
 use Rattle.cfi_items.specs.Functions.{end_of}
 use Rattle.cfi_items.specs.Target.{offset_from, symbol_of}
 use Rattle.cfi_instr.specs.Sizes.{is_long, moved}

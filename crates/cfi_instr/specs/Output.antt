@@ -1,5 +1,5 @@
 -- What the instrumented module of a module is, and the first fault of a module that has none.
-use Rattle.std.specs.Prelude.{◌≡◌, ℕ, ◌<◌, ◌≤◌, List, Bool, map, Some, length}
+use Rattle.std.specs.Prelude.{◌≡◌, ℕ, ◌<◌, ◌≤◌, List, Bool, map, Some}
 use Rattle.std.specs.List.{flat_map}
 use Rattle.elf_read.specs.declared.object.Object.{Object}
 use Rattle.cfi_unit.specs.Code.{UnitCode}

@@ -1,6 +1,6 @@
 -- How many words the unit of each item has, and where it begins in the output. `long` says of each word of the input
 -- whether it is a long branch; offsets are in bytes.
-use Rattle.std.specs.Prelude.{ℕ, ◌+◌, ◌*◌, ◌/◌, ◌<◌, ◌≤◌, Bool, true, false, if◌then◌else◌, List, map, Option, Some, None, slice_index, slice_index_or}
+use Rattle.std.specs.Prelude.{ℕ, ◌+◌, ◌*◌, ◌/◌, ◌<◌, ◌≤◌, Bool, false, if◌then◌else◌, List, map, Option, Some, None, slice_index, slice_index_or}
 use Rattle.std.specs.List.{range_with_len}
 use Rattle.elf_read.specs.Places.{total_of}
 use Rattle.rv_insn.specs.declared.insn.Insn.{Insn}

@@ -8,9 +8,7 @@ ghost use Rattle.cfi_instr.specs.Moves.{value_in, moved_symbol, addend_to, adden
 use crate::sizes::{is_long, moved};
 use crate::units::distance;
 use cfi_items::{Source, is_of_text, offset_from, symbol_of};
-use elf_read::relocation::{
-    BRANCH, JAL, LO12_I, LO12_S, PCREL_LO12_I, PCREL_LO12_S, is_of_pair,
-};
+use elf_read::relocation::{BRANCH, JAL, LO12_I, LO12_S, PCREL_LO12_I, PCREL_LO12_S, is_of_pair};
 use elf_read::{Name, Place, Reloc, Symbol};
 use std::alloc::{AllocError, Global};
 
@@ -58,7 +56,13 @@ pub fn moved_symbols(
 }
 
 // The mapped target less the mapped symbol of text.
-fn addend_to(source: &Source, offsets: &[u32], value: u32, target: Option<usize>, addend: i32) -> i32
+fn addend_to(
+    source: &Source,
+    offsets: &[u32],
+    value: u32,
+    target: Option<usize>,
+    addend: i32,
+) -> i32
     requires { AreSmall offsets.now }
     ensures { result ≡ addend_to source.now offsets.now value target addend }
 {

@@ -21,7 +21,11 @@ fn moved_function(
     ensures { IfOk result (λ found. found ≡ moved_function source.now offsets.now function.now) }
 {
     let offset = moved(source, offsets, function.offset as usize);
-    let end = moved(source, offsets, function.offset as usize + function.length as usize);
+    let end = moved(
+        source,
+        offsets,
+        function.offset as usize + function.length as usize,
+    );
     let name = String::from_str(alloc, function.name.as_str())?;
     Ok(Function {
         offset,

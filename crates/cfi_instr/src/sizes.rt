@@ -48,13 +48,7 @@ fn size_of(long: bool, insn: Insn) -> u32
     match insn {
         Insn::Load { .. } | Insn::Store { .. } => ACCESS_WORDS,
         Insn::Jalr { .. } => CHECK_WORDS,
-        Insn::Branch { .. } => {
-            if long {
-                LONG_WORDS
-            } else {
-                1
-            }
-        }
+        Insn::Branch { .. } => { if long { LONG_WORDS } else { 1 } }
         _ => 1,
     }
 }

@@ -9,8 +9,8 @@ ghost use Rattle.cfi_instr.specs.Units.{inverse, distance, displacement_from, un
 
 use crate::reach::target_of;
 use crate::sizes::{is_long, offset_at};
-use cfi_items::insns::{is_branch, is_linked};
 use cfi_items::Source;
+use cfi_items::insns::{is_branch, is_linked};
 use cfi_unit::Unit;
 use elf_read::Symbol;
 use rv_insn::{Cond, Insn};
@@ -71,7 +71,10 @@ fn displacement_from(
     if source.reloc_at(w).is_some() {
         return under;
     }
-    distance(from, target_of(offsets, source.aim_of_jump(symbols, w, off)))
+    distance(
+        from,
+        target_of(offsets, source.aim_of_jump(symbols, w, off)),
+    )
 }
 
 // The unit of an item that is one instruction, and no long branch.
@@ -80,9 +83,29 @@ fn unit_of(number: u32, off: i32, insn: Insn) -> Unit
 {
     match insn {
         Insn::Load { kind, rd, rs1, imm } => Unit::Load { kind, rd, rs1, imm },
-        Insn::Store { kind, rs1, rs2, imm } => Unit::Store { kind, rs1, rs2, imm },
-        Insn::Jalr { rd, rs1, imm } => Unit::Check { link: rd == 1, rs1, imm, slot: number },
-        Insn::Branch { cond, rs1, rs2, .. } => Unit::Branch { cond, rs1, rs2, off },
+        Insn::Store {
+            kind,
+            rs1,
+            rs2,
+            imm,
+        } => Unit::Store {
+            kind,
+            rs1,
+            rs2,
+            imm,
+        },
+        Insn::Jalr { rd, rs1, imm } => Unit::Check {
+            link: rd == 1,
+            rs1,
+            imm,
+            slot: number,
+        },
+        Insn::Branch { cond, rs1, rs2, .. } => Unit::Branch {
+            cond,
+            rs1,
+            rs2,
+            off,
+        },
         Insn::Jal { rd, .. } => Unit::Jump { link: rd == 1, off },
         Insn::Ecall => Unit::Service,
         _ => Unit::Plain(insn),
@@ -125,13 +148,7 @@ pub fn over(insn: Insn) -> Unit
 }
 
 /// The second unit of a long branch: the jump.
-pub fn long_jump(
-    source: &Source,
-    symbols: &[Symbol],
-    offsets: &[u32],
-    w: usize,
-    insn: Insn,
-) -> Unit
+pub fn long_jump(source: &Source, symbols: &[Symbol], offsets: &[u32], w: usize, insn: Insn) -> Unit
     requires word { 4 * w < 2 ^ 32 }
     requires small { AreSmall offsets.now }
     ensures { result ≡ long_jump source.now symbols.now offsets.now w insn }

@@ -1,5 +1,5 @@
 -- Relocations in order, with the items that earlier ones are on.
-use Rattle.std.proofs.Common.{◌≡◌, ℕ, ◌+◌, ◌/◌, ◌<◌, Bool, false, not, List, length, take, get_or, Some, sym, ap, ◌∙◌}
+use Rattle.std.proofs.Common.{◌≡◌, ℕ, ◌/◌, ◌<◌, Bool, false, not, List, length, take, get_or, Some, sym, ap, ◌∙◌}
 use Rattle.std.specs.List.{list_any, slice_get, slice_index_or}
 use Rattle.std.proofs.lemmas.Option.{slice_get-get_or}
 use Rattle.elf_read.specs.declared.object.Symbol.{Symbol}

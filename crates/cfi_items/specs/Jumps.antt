@@ -1,5 +1,5 @@
 -- Indirect jumps and their records: record k belongs to the k-th indirect jump of the text.
-use Rattle.std.specs.Prelude.{◌≡◌, ℕ, ◌*◌, ◌<◌, Bool, true, false, not, ◌&&◌, ◌==◌, nat_lt, List, length, Option, Some, None, if◌then◌else◌}
+use Rattle.std.specs.Prelude.{◌≡◌, ℕ, ◌*◌, Bool, true, false, not, ◌&&◌, ◌==◌, nat_lt, List, length, Option, Some, None, if◌then◌else◌}
 use Rattle.std.specs.List.{list_any, slice_get}
 use Rattle.elf_read.specs.Places.{IsFirst, count_where}
 use Rattle.cfi_aux.specs.declared.records.Function.{Function}

@@ -33,9 +33,7 @@ impl Source {
         requires { w < 2 ^ 62 }
         ensures { result ≡ is_pair self.now w }
     {
-        self.call_at(w).is_some()
-            && holds_auipc(self.insn_at(w))
-            && holds_jalr(self.insn_at(w + 1))
+        self.call_at(w).is_some() && holds_auipc(self.insn_at(w)) && holds_jalr(self.insn_at(w + 1))
     }
 
     /// Whether the word is the second one of a pair.

@@ -22,13 +22,7 @@ fn has_kind(linked: bool, kind: Option<&Kind>) -> bool
     ensures { result ≡ has_kind linked (option_copied kind.entry) }
 {
     match kind {
-        Some(kind) => {
-            if is_call(kind) {
-                linked
-            } else {
-                !linked
-            }
-        }
+        Some(kind) => { if is_call(kind) { linked } else { !linked } }
         None => false,
     }
 }

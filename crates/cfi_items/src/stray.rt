@@ -31,8 +31,7 @@ impl Source {
     {
         match aim {
             Aim::Offset(offset) => {
-                is_entry(functions, offset)
-                    || (unlinked && self.is_own_item(functions, at, offset))
+                is_entry(functions, offset) || (unlinked && self.is_own_item(functions, at, offset))
             }
             Aim::Name => true,
             Aim::Astray => false,

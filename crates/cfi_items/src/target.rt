@@ -24,7 +24,11 @@ pub fn offset_from(at: u32, off: i32) -> Option<usize>
     ensures { result ≡ offset_from at off }
 {
     let offset = i64::from(at) + i64::from(off);
-    if offset < 0 { None } else { Some(offset as usize) }
+    if offset < 0 {
+        None
+    } else {
+        Some(offset as usize)
+    }
 }
 
 fn aim_by(offset: Option<usize>) -> Aim
@@ -40,7 +44,11 @@ fn aim_by(offset: Option<usize>) -> Aim
 fn aim_at_name(addend: i32) -> Aim
     ensures { result ≡ aim_at_name addend }
 {
-    if is_zero(addend) { Aim::Name } else { Aim::Astray }
+    if is_zero(addend) {
+        Aim::Name
+    } else {
+        Aim::Astray
+    }
 }
 
 // Where a relocation leads that names a symbol at such a place.

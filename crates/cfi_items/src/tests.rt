@@ -10,9 +10,13 @@ use std::test::Fail;
 
 // Words of GNU as 2.40, `-march=rv32i`.
 const RET: u32 = 0x00008067;
+
 const NOP: u32 = 0x00000013;
+
 const HERE: u32 = 0x0000006f;
+
 const AUIPC: u32 = 0x00000097;
+
 const CALLS: u32 = 0x000080e7;
 
 fn text_of(alloc: Global, words: &[u32]) -> Result<Bytes, AllocError> {
@@ -178,16 +182,41 @@ fn relocations(rt: HostRuntime) -> Result<(), Fail> {
     let rows: [(&[u32; 3], Place, &[Reloc], Option<InstrFault>); 8] = [
         (&pair, Place::Undefined, &[call], None),
         // a call through a table that is on no pair
-        (&plain, Place::Undefined, &[reloc_at(0, CALL_PLT, 0)], Some(InstrFault::BadReloc(0))),
+        (
+            &plain,
+            Place::Undefined,
+            &[reloc_at(0, CALL_PLT, 0)],
+            Some(InstrFault::BadReloc(0)),
+        ),
         // the second word of a pair, which has a relocation
-        (&pair, Place::Undefined, &[call, reloc_at(4, LO12_I, 0)], Some(InstrFault::BadReloc(1))),
+        (
+            &pair,
+            Place::Undefined,
+            &[call, reloc_at(4, LO12_I, 0)],
+            Some(InstrFault::BadReloc(1)),
+        ),
         // into a pair
         (&pair, Place::Text, &[call], Some(InstrFault::BadReloc(0))),
         // to the text's end
-        (&plain, Place::Text, &[reloc_at(4, JAL, 8)], Some(InstrFault::Stray(4))),
+        (
+            &plain,
+            Place::Text,
+            &[reloc_at(4, JAL, 8)],
+            Some(InstrFault::Stray(4)),
+        ),
         (&plain, Place::Text, &[reloc_at(4, JAL, 0)], None),
-        (&plain, Place::Undefined, &[reloc_at(4, JAL, 4)], Some(InstrFault::Stray(4))),
-        (&plain, Place::Data, &[reloc_at(4, JAL, 0)], Some(InstrFault::Stray(4))),
+        (
+            &plain,
+            Place::Undefined,
+            &[reloc_at(4, JAL, 4)],
+            Some(InstrFault::Stray(4)),
+        ),
+        (
+            &plain,
+            Place::Data,
+            &[reloc_at(4, JAL, 0)],
+            Some(InstrFault::Stray(4)),
+        ),
     ];
     for (words, place, relocs, fault) in rows {
         assert_eq!(rt; three(&rt, alloc, words, place, relocs)?, fault);

@@ -1,5 +1,5 @@
-use Rattle.std.proofs.Common.{◌∙◌, ◌≡◌, ◌≤◌, ap, sym, subst, List, ℕ, Bool}
-use Rattle.cfi_items.specs.Words.{Words, words_in, count_of}
+use Rattle.std.proofs.Common.{◌≤◌, sym, subst, List, ℕ, Bool}
+use Rattle.cfi_items.specs.Words.{Words, count_of}
 use Rattle.cfi_instr.specs.declared.sizes.TheConstants.{MAX_WORDS}
 use Rattle.cfi_instr.specs.Sizes.{place_of}
 use Rattle.cfi_instr.specs.Units.{AllSpell}

@@ -1,4 +1,4 @@
-use Rattle.std.proofs.Common.{◌∙◌, ap, sym, List, ℕ, Option, Some}
+use Rattle.std.proofs.Common.{◌∙◌, ap, List, ℕ, Some}
 use Rattle.cfi_items.specs.Words.{words_in}
 use Rattle.cfi_instr.proofs.OutputLemmas.{text-is, symbols-are, relocs-are}
 use Rattle.cfi_instr.proofs.output.object_of.Goals as goal

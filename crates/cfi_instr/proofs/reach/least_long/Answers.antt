@@ -1,5 +1,5 @@
 -- The set grows within each one that is enough.
-use Rattle.std.proofs.Common.{◌≡◌, ◌∙◌, ◌<◌, ◌≤◌, ℕ, List, Bool, true, false, replicate, length, sym, ap, subst, rules}
+use Rattle.std.proofs.Common.{◌≡◌, ◌∙◌, ◌≤◌, List, Bool, false, replicate, sym, ap, subst, rules}
 use Rattle.cfi_items.specs.Words.{count_of}
 use Rattle.cfi_instr.specs.declared.sizes.TheConstants.{MAX_WORDS}
 use Rattle.cfi_instr.specs.Sizes.{place_of, offsets_of, IsOver}

@@ -1,9 +1,8 @@
 -- The words are those of the units so far, and the number is that of the next indirect jump.
-use Rattle.std.proofs.Common.{◌≡◌, ◌∙◌, ◌+◌, ◌≤◌, ◌++◌, ℕ, List, true, false, sym, ap, add-one, arith}
+use Rattle.std.proofs.Common.{◌≡◌, ◌∙◌, ◌+◌, ◌++◌, ℕ, List, true, false, sym, ap, add-one, arith}
 use Rattle.std.specs.List.{flat_map}
 use Rattle.std.proofs.lemmas.Grind.{flat_map-append}
 use Rattle.elf_read.specs.Places.{joined}
-use Rattle.cfi_unit.specs.declared.unit.Unit.{Unit as CodeUnit}
 use Rattle.cfi_unit.specs.Unit.{words_of}
 use Rattle.cfi_items.proofs.JumpLemmas.{ordinal-more}
 use Rattle.cfi_instr.specs.Units.{units_at}

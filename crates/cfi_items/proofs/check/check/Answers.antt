@@ -1,5 +1,4 @@
 use Rattle.std.proofs.Common.{rules}
-use Rattle.cfi_items.specs.Fault.{parts_by, IsFirstFlaw}
 use Rattle.cfi_items.proofs.check.check.Goals as goal
 
 pub returns-in_err-check_words-clause-fault : goal.returns-in_err-check_words-clause-fault

@@ -1,6 +1,5 @@
 -- The table has the first relocation of each word, one relocation after the other.
-use Rattle.std.proofs.Common.{◌≡◌, ◌∙◌, ◌<◌, ℕ, sym, ap, Option, None, pos, get_or, take, subst, List, arith}
-use Rattle.std.specs.List.{slice_index_or}
+use Rattle.std.proofs.Common.{◌≡◌, ◌∙◌, ◌<◌, ap, None, pos, get_or, take, List, arith}
 use Rattle.std.proofs.lemmas.List.{take_all}
 use Rattle.std.proofs.lemmas.List.FromFn.{fill_by_all}
 use Rattle.elf_read.specs.declared.object.Reloc.{Reloc}

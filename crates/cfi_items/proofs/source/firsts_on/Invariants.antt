@@ -1,4 +1,4 @@
-use Rattle.std.proofs.Common.{◌≡◌, ℕ, List, ◌<◌, length, take, find, Option, None}
+use Rattle.std.proofs.Common.{◌≡◌, ℕ, List, ◌<◌, length, take, Option, None}
 use Rattle.std.specs.List.{slice_index_or}
 use Rattle.elf_read.specs.declared.object.Reloc.{Reloc}
 use Rattle.cfi_items.specs.Words.{first_on}

@@ -1,5 +1,5 @@
 -- The marks are those of the relocations so far.
-use Rattle.std.proofs.Common.{◌≡◌, ◌∙◌, ◌||◌, true, false, not, sym, ap, None, pos, get_or, ℕ, List, Bool, take, below_more}
+use Rattle.std.proofs.Common.{◌≡◌, ◌∙◌, ◌||◌, true, false, sym, ap, None, pos, get_or, ℕ, List, Bool, take, below_more}
 use Rattle.std.specs.List.{list_any, slice_index_or}
 use Rattle.std.proofs.lemmas.List.Folds.{list_any_more}
 use Rattle.elf_read.specs.declared.object.Reloc.{Reloc}

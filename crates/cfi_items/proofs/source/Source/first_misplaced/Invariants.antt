@@ -1,4 +1,4 @@
-use Rattle.std.proofs.Common.{◌≡◌, ℕ, ◌<◌, ◌≤◌, length, take, false}
+use Rattle.std.proofs.Common.{◌≡◌, ℕ, length, take, false}
 use Rattle.std.specs.List.{slice_index_or, list_any}
 use Rattle.elf_read.specs.Places.{IsNone}
 use Rattle.elf_read.specs.declared.object.Symbol.{Symbol}
