@@ -43,7 +43,7 @@ fn symbols_by(alloc: Global) -> Result<Symbols, AllocError> {
 }
 
 // One function f of these words, whose one indirect jump is a return.
-fn module_by(alloc: Global, words: &[u32], length: u32, relocs: &[Reloc]) -> Result<Module, Fail>
+fn module_by(alloc: Global, words: &[u32], size: u32, relocs: &[Reloc]) -> Result<Module, Fail>
     ensures nodes { IfOk result (λ m. length m.types < 2 ^ 32) }
     ensures fields { IfOk result (λ m. All (λ x. length x.fields < 2 ^ 32) m.types) }
     ensures records { IfOk result (λ m. CanBeWritten m.records) }
@@ -54,7 +54,7 @@ fn module_by(alloc: Global, words: &[u32], length: u32, relocs: &[Reloc]) -> Res
         symbols: symbols_by(alloc)?,
         relocs: Relocs::from_vec(Vec::from_slice(alloc, relocs)?),
         types: Some(bytes_by(alloc, &[2, 0, 0, 7, 1, 0])?),
-        records: Some(bytes_by(alloc, &[1, 1, 1, 0, length, 1, 0, 1, 0x66, 2, 0])?),
+        records: Some(bytes_by(alloc, &[1, 1, 1, 0, size, 1, 0, 1, 0x66, 2, 0])?),
     };
     cfi_types::read_can_be_written();
     read_can_be_written();
@@ -66,10 +66,10 @@ fn output_of(
     rt: &impl Abort,
     alloc: Global,
     words: &[u32],
-    length: u32,
+    size: u32,
     relocs: &[Reloc],
 ) -> Result<Module, Fail> {
-    let unplaced = module_by(alloc, words, length, relocs)?;
+    let unplaced = module_by(alloc, words, size, relocs)?;
     assert!(rt; unplaced.object.text.len() < 100_000);
     let found = unplaced.object.relocs.as_slice();
     assert!(rt; found.len() < 100);

@@ -4,7 +4,7 @@ use Rattle.rv_insn.specs.declared.insn.Insn.{Insn}
 use Rattle.rv_insn.specs.declared.insn.Insn.TheVariants as insns
 use Rattle.rv_insn.specs.declared.insn.ImmOp.{ImmOp}
 use Rattle.rv_insn.specs.declared.insn.ImmOp.TheVariants as ops
-use Rattle.cfi_items.specs.declared.insns.TheConstants.{FREE_REGISTERS}
+use Rattle.cfi_unit.specs.declared.unit.TheConstants.{FREE_REGISTERS}
 
 -- the word is an instruction that passes the test
 abbrev pub holds : (Insn → Bool) → Option Insn → Bool

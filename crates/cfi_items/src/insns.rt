@@ -3,10 +3,8 @@
 ghost use Rattle.std.specs.Prelude.{◌≡◌, ℤ};
 ghost use Rattle.cfi_items.specs.Insns.{is_lui, is_auipc, is_jal, is_jalr, is_branch, is_store, is_addi, has_low, is_zero, is_nop, link_of, is_link, is_linked, is_unlinked, is_taken, is_reserved, is_trap, is_bad_link};
 
+use cfi_unit::FREE_REGISTERS;
 use rv_insn::{ImmOp, Insn};
-
-/// A module's own instructions name x0 to x27 alone; x28 to x31 belong to the instrumentation.
-pub const FREE_REGISTERS: u32 = 28;
 
 /// Whether it is LUI.
 pub fn is_lui(insn: Insn) -> bool
