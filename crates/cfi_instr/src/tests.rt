@@ -111,6 +111,7 @@ fn branch_over(rt: &impl Abort, alloc: Global, branch: u32, count: usize) -> Res
     }
     words.push(LOAD)?;
     words.push(RET)?;
+    assert!(rt; words.len() < 10_000);
     output_of(rt, alloc, &words, 4 * words.len() as u32, &[])
 }
 
