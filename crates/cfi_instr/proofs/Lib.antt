@@ -1,0 +1,6 @@
+pub mod SizeLemmas
+pub mod ReachLemmas
+pub mod WideLemmas
+pub mod UnitLemmas
+pub mod SpellLemmas
+pub mod OutputLemmas

@@ -1,0 +1,141 @@
+-- The parts of the output joined.
+use Rattle.std.proofs.Common.{◌≡◌, ℕ, zero, suc, ◌<◌, ◌≤◌, ◌^◌, Bool, List, [], ◌∷◌, ◌++◌, map, All, length, get_or, refl, sym, ap, ◌∙◌, subst, arith}
+use Rattle.std.specs.List.{flat_map, AllByRecursion}
+use Rattle.std.proofs.lemmas.List.{length-map}
+use Rattle.std.proofs.lemmas.List.Elements.{All-map}
+use Rattle.elf_read.specs.declared.object.Symbol.{Symbol}
+use Rattle.elf_read.specs.declared.object.Reloc.{Reloc}
+use Rattle.elf_read.specs.Places.{joined}
+use Rattle.cfi_types.specs.Spelling.{word}
+use Rattle.cfi_unit.specs.declared.unit.Unit.{Unit as CodeUnit}
+use Rattle.cfi_unit.specs.Unit.{IsUnit, words_of}
+use Rattle.cfi_aux.specs.declared.modules.Module.{Module}
+use Rattle.cfi_aux.specs.declared.records.Records.{Records}
+use Rattle.cfi_aux.specs.declared.records.Function.{Function}
+use Rattle.cfi_aux.specs.declared.records.Kind.{Kind}
+use Rattle.cfi_aux.specs.declared.records.Kind.TheVariants as kinds
+use Rattle.cfi_aux.specs.Records.{CanBeWritten}
+use Rattle.cfi_aux.specs.Records as aux
+use Rattle.cfi_items.specs.Words.{Words, AreInRange, words_in, count_of}
+use Rattle.cfi_items.specs.Fault.{parts_of, AreLegal, AreSound}
+use Rattle.cfi_instr.specs.declared.sizes.TheConstants.{MAX_WORDS}
+use Rattle.cfi_instr.specs.Sizes.{moved, place_of, offsets_of, AreSmall}
+use Rattle.cfi_instr.specs.Reach.{IsEnough, IsLeast}
+use Rattle.cfi_instr.specs.Units.{units_at, units_of, AllSpell}
+use Rattle.cfi_instr.specs.Moves.{moved_symbol, moved_reloc, moved_function, moved_kind}
+use Rattle.cfi_instr.specs.Output.{IsPlan, IsText, AreMoved}
+use Rattle.cfi_instr.proofs.SpellLemmas.{all-spelled}
+
+-- ---- text
+
+append-all : (xs ys : List CodeUnit) → AllByRecursion IsUnit xs → AllByRecursion IsUnit ys
+    → AllByRecursion IsUnit (xs ++ ys)
+append-all [] ys all more = more
+append-all (x ∷ xs) ys all more = (all.0, append-all xs ys all.1 more)
+
+joined-all : (give : ℕ → List CodeUnit) (n : ℕ) → ((w : ℕ) → w < n → AllByRecursion IsUnit (give w))
+    → AllByRecursion IsUnit (joined give n)
+joined-all give zero all = tt
+joined-all give (suc n) all =
+    append-all (joined give n) (give n) (joined-all give n (λ w lt. all w (omega arith))) (all n (omega arith))
+
+pub text-is : (m : Module) (t : Words) (long : List Bool) (offsets text : List ℕ) → words_in m.object ≡ t
+    → AllSpell t m.object.symbols long offsets
+    → text ≡ flat_map word (flat_map words_of (units_of t m.object.symbols long offsets)) → IsText m long offsets text
+text-is m t long offsets text same spell is =
+    let here : AllSpell (words_in m.object) m.object.symbols long offsets =
+    subst (λ (x : Words). AllSpell x m.object.symbols long offsets) (sym same) spell in
+    record {
+      words = flat_map words_of (units_of (words_in m.object) m.object.symbols long offsets);
+      units = record {
+        fit =
+            joined-all (units_at (words_in m.object) m.object.symbols long offsets) (count_of (words_in m.object)) here;
+        spelled = refl;
+      };
+      bytes =
+          is ∙ ap (λ (x : Words). flat_map word (flat_map words_of (units_of x m.object.symbols long offsets))) (sym same);
+    }
+
+-- ---- symbols and relocations
+
+pub symbols-are : (t source : Words) (offsets : List ℕ) (symbols slice found : List Symbol) → t ≡ source
+    → slice ≡ symbols → found ≡ map (moved_symbol source offsets) slice → found ≡ map (moved_symbol t offsets) symbols
+symbols-are t source offsets symbols slice found same is made =
+    made ∙ ap (λ (xs : List Symbol). map (moved_symbol source offsets) xs) is
+    ∙ ap (λ (x : Words). map (moved_symbol x offsets) symbols) (sym same)
+
+pub relocs-are : (t source : Words) (long : List Bool) (offsets : List ℕ) (symbols symbols_is : List Symbol)
+    (relocs slice found : List Reloc) → t ≡ source → symbols_is ≡ symbols → slice ≡ relocs
+    → found ≡ map (moved_reloc source symbols_is long offsets) slice
+    → found ≡ map (moved_reloc t symbols long offsets) relocs
+relocs-are t source long offsets symbols symbols_is relocs slice found same symbols_same is made =
+    made ∙ ap (λ (xs : List Reloc). map (moved_reloc source symbols_is long offsets) xs) is
+    ∙ ap (λ (ss : List Symbol). map (moved_reloc source ss long offsets) relocs) symbols_same
+    ∙ ap (λ (x : Words). map (moved_reloc x symbols long offsets) relocs) (sym same)
+
+-- ---- records
+
+words-moved : (t : Words) (offsets : List ℕ) (kind : Kind)
+    → length (aux.words_of (moved_kind t offsets kind)) ≡ length (aux.words_of kind)
+words-moved t offsets (kinds.Call node) = refl
+words-moved t offsets (kinds.Tail node) = refl
+words-moved t offsets kinds.Return = refl
+words-moved t offsets (kinds.Switch entries) = length-map entries (moved t offsets)
+
+pub moved-written : (m : Module) (offsets : List ℕ) (r : Records) → AreMoved m offsets r
+    → CanBeWritten m.records → CanBeWritten r
+moved-written m offsets r moved_is can =
+    let t = words_in m.object in
+    let functions = m.records.functions in
+    let branches = m.records.branches in
+    record {
+      functions =
+          subst (λ (n : ℕ). n < 2 ^ 32)
+          (sym (ap (λ (xs : List Function). length xs) moved_is.functions
+          ∙ length-map functions (moved_function t offsets)))
+          can.functions;
+      branches =
+          subst (λ (n : ℕ). n < 2 ^ 32)
+          (sym (ap (λ (xs : List Kind). length xs) moved_is.branches ∙ length-map branches (moved_kind t offsets)))
+          can.branches;
+      names =
+          subst (λ (xs : List Function). All (λ f. length f.name < 2 ^ 32) xs) (sym moved_is.functions)
+          (All-map (λ (f : Function). length f.name < 2 ^ 32) (moved_function t offsets) functions can.names);
+      words =
+          subst (λ (xs : List Kind). All (λ b. length (aux.words_of b) < 2 ^ 32) xs) (sym moved_is.branches)
+          (All-map (λ (b : Kind). length (aux.words_of b) < 2 ^ 32) (moved_kind t offsets) branches
+          (λ i d lt. subst (λ (n : ℕ). n < 2 ^ 32) (sym (words-moved t offsets (get_or branches i d))) (can.words i d lt)));
+    }
+
+-- ---- what the steps before give to the object
+
+pub spells-all : (m : Module) (t : Words) (symbols : List Symbol) (long : List Bool) (long_is : List Bool)
+    (offsets : List ℕ) → t ≡ words_in m.object → symbols ≡ m.object.symbols → AreInRange t.insns
+    → AreSound (parts_of m) → IsLeast t symbols long → place_of t long (count_of t) ≤ MAX_WORDS
+    → AreSmall offsets → offsets ≡ offsets_of t long → long_is ≡ long
+    → AllSpell t m.object.symbols long_is offsets
+spells-all m t symbols long long_is offsets same names range sound least fits small placed is =
+    let legal : AreLegal t = subst (λ (x : Words). AreLegal x) (sym same) sound.linked.shaped.words in
+    let enough : IsEnough t m.object.symbols long =
+    subst (λ (ss : List Symbol). IsEnough t ss long) names least.enough in
+    let all : AllSpell t m.object.symbols long (offsets_of t long) =
+    all-spelled t m.object.symbols long (record {
+      range = range;
+      legal = legal;
+      enough = enough;
+      fits = fits;
+      small = subst (λ (xs : List ℕ). AreSmall xs) placed small;
+    }) in
+    subst (λ (xs : List ℕ). AllSpell t m.object.symbols long_is xs) (sym placed)
+    (subst (λ (bs : List Bool). AllSpell t m.object.symbols bs (offsets_of t long)) (sym is) all)
+
+-- the plan of the module itself
+pub plan-is : (m : Module) (t : Words) (symbols : List Symbol) (long : List Bool) (offsets : List ℕ)
+    → t ≡ words_in m.object → symbols ≡ m.object.symbols → IsLeast t symbols long → offsets ≡ offsets_of t long
+    → IsPlan m long offsets
+plan-is m t symbols long offsets same names least placed = record {
+  least =
+      subst (λ (x : Words). IsLeast x m.object.symbols long) same
+      (subst (λ (ss : List Symbol). IsLeast t ss long) names least);
+  placed = placed ∙ ap (λ (x : Words). offsets_of x long) same;
+}

@@ -1,0 +1,49 @@
+use Rattle.std.proofs.Common.{◌≤◌, sym, subst, List, ℕ, Bool}
+use Rattle.cfi_items.specs.Words.{Words, count_of}
+use Rattle.cfi_instr.specs.declared.sizes.TheConstants.{MAX_WORDS}
+use Rattle.cfi_instr.specs.Sizes.{place_of}
+use Rattle.cfi_instr.specs.Units.{AllSpell}
+use Rattle.cfi_instr.specs.Output.{AreMoved, IsObject}
+use Rattle.cfi_instr.proofs.OutputLemmas.{moved-written, spells-all, plan-is}
+use Rattle.cfi_instr.proofs.output.instrument.Goals as goal
+
+pub object_of-requires-clause-fits : goal.object_of-requires-clause-fits
+object_of-requires-clause-fits c =
+    let m = c.args.unplaced.now in
+    let t = c.in_ok-source.source in
+    let offsets = c.in_ok-long.offsets.items in
+    subst (λ (xs : List ℕ). AllSpell t m.object.symbols c.deref-2.result.now xs) (sym c.deref-3.ensures.value)
+    (spells-all m t c.as_slice-symbols.result.now c.in_ok-long.long.items c.deref-2.result.now offsets
+    c.in_ok-source.ensures.ok c.as_slice-symbols.ensures.same c.in_ok-source.ensures.range c.in_ok-source.ensures.sound
+    c.in_ok-long.ensures.least c.in_ok-long.ensures.fits c.in_ok-long.ensures.small c.in_ok-long.ensures.placed
+    c.deref-2.ensures.value)
+
+pub object_of-requires-clause-written : goal.object_of-requires-clause-written
+object_of-requires-clause-written c =
+    moved-written c.args.unplaced.now c.deref.result.now c.in_ok-records.records c.in_ok-records.ensures
+    c.requires.written
+
+pub returns-clause-ok : goal.returns-clause-ok
+returns-clause-ok c =
+    let m = c.args.unplaced.now in
+    let t = c.in_ok-source.source in
+    let long = c.in_ok-long.long.items in
+    let offsets = c.in_ok-long.offsets.items in
+    let records = c.in_ok-records.records in
+    let object = c.in_ok-object.object in
+    record {
+      long = long;
+      offsets = offsets;
+      plan =
+          plan-is m t c.as_slice-symbols.result.now long offsets c.in_ok-source.ensures.ok
+          c.as_slice-symbols.ensures.same c.in_ok-long.ensures.least c.in_ok-long.ensures.placed;
+      fits =
+          subst (λ (x : Words). place_of x long (count_of x) ≤ MAX_WORDS) c.in_ok-source.ensures.ok
+          c.in_ok-long.ensures.fits;
+      object =
+          subst (λ (bs : List Bool). IsObject m bs offsets records object) c.deref-2.ensures.value
+          (subst (λ (xs : List ℕ). IsObject m c.deref-2.result.now xs records object) c.deref-3.ensures.value
+          c.in_ok-object.ensures);
+      types = c.in_ok-types.ensures;
+      records = subst (λ (xs : List ℕ). AreMoved m xs records) c.deref.ensures.value c.in_ok-records.ensures;
+    }

@@ -1,0 +1,49 @@
+-- The set grows within each one that is enough.
+use Rattle.std.proofs.Common.{◌≡◌, ◌∙◌, ◌≤◌, List, Bool, false, replicate, sym, ap, subst, rules}
+use Rattle.cfi_items.specs.Words.{count_of}
+use Rattle.cfi_instr.specs.declared.sizes.TheConstants.{MAX_WORDS}
+use Rattle.cfi_instr.specs.Sizes.{place_of, offsets_of, IsOver}
+use Rattle.cfi_instr.specs.Reach.{IsEnough, IsWithin, IsPassed}
+use Rattle.cfi_instr.proofs.WideLemmas.{within-next, over-passed, none-within}
+use Rattle.cfi_instr.proofs.reach.least_long.Goals as goal
+
+pub returns-in_err-offsets-clause-fault : goal.returns-in_err-offsets-clause-fault
+returns-in_err-offsets-clause-fault c =
+    let t = c.args.source.now in
+    let items : c.in_ok-long.long.items ≡ replicate c.count.result false = search rules in
+    let first : c.deref.result.now ≡ replicate c.count.result false = c.deref.ensures.value ∙ items in
+    let within : (other : List Bool) → IsEnough t c.args.symbols.now other → IsWithin c.deref.result.now other =
+    λ other enough.
+    subst (λ (xs : List Bool). IsWithin xs other) (sym first) (none-within c.count.result other) in
+    let due : IsPassed t c.args.symbols.now c.in_err-offsets.field-0.0 =
+    over-passed t c.args.symbols.now c.deref.result.now c.in_err-offsets.field-0.0 within c.in_err-offsets.ensures.fault in
+    search rules
+
+pub returns-in_err-offsets-2-clause-fault : goal.returns-in_err-offsets-2-clause-fault
+returns-in_err-offsets-2-clause-fault c =
+    let t = c.args.source.now in
+    let within = within-next t c.args.symbols.now c.rounds.long.items c.widen.new.long.items c.deref-in-rounds.result.now
+    (c.deref-in-rounds.ensures.value ∙ c.rounds.invariant.placed) c.widen.ensures.size c.rounds.invariant.within
+    c.widen.ensures.each in
+    let over : IsOver t c.widen.new.long.items c.in_err-offsets-2.field-0.0 =
+    subst (λ (xs : List Bool). IsOver t xs c.in_err-offsets-2.field-0.0) c.deref-in-rounds-2.ensures.value
+    c.in_err-offsets-2.ensures.fault in
+    let due : IsPassed t c.args.symbols.now c.in_err-offsets-2.field-0.0 =
+    over-passed t c.args.symbols.now c.widen.new.long.items c.in_err-offsets-2.field-0.0 within over in
+    search rules
+
+pub rounds-preserved : goal.rounds-preserved
+rounds-preserved c =
+    let t = c.args.source.now in
+    let long_is = c.deref-in-rounds-2.ensures.value in
+    record {
+      size = c.widen.ensures.size;
+      within =
+          within-next t c.args.symbols.now c.rounds.long.items c.widen.new.long.items c.deref-in-rounds.result.now
+          (c.deref-in-rounds.ensures.value ∙ c.rounds.invariant.placed) c.widen.ensures.size c.rounds.invariant.within
+          c.widen.ensures.each;
+      placed = c.in_ok-offsets-2.ensures.ok ∙ ap (λ (xs : List Bool). offsets_of t xs) long_is;
+      small = c.in_ok-offsets-2.ensures.small;
+      fits =
+          subst (λ (xs : List Bool). place_of t xs (count_of t) ≤ MAX_WORDS) long_is c.in_ok-offsets-2.ensures.fits;
+    }

@@ -1,0 +1,5 @@
+pub mod Sizes
+pub mod Reach
+pub mod Units
+pub mod Moves
+pub mod Output

@@ -1,0 +1,19 @@
+//! The instrumenter: a module whose accesses are masked and whose indirect jumps are checked.
+//!
+//! Stands on `cfi_items`, `cfi_unit`, `cfi_aux`, `cfi_types`, `cfi_list`, `elf_read` and `rv_insn`. Proved: `instrument`
+//! gives the module of `specs/Output.antt`, whose long branches are the least set that is enough, or the first fault.
+//! Only tested: that ample memory is enough, and words against an assembler. Open: when memory runs out.
+#![tactic(auto)]
+
+mod moves;
+mod output;
+mod reach;
+mod records;
+mod sizes;
+#[cfg(test)]
+mod tests;
+mod text;
+mod units;
+
+pub use cfi_items::InstrFault;
+pub use output::instrument;

@@ -1,0 +1,46 @@
+-- The marks are those of the relocations so far.
+use Rattle.std.proofs.Common.{◌≡◌, ◌∙◌, ◌||◌, true, false, sym, ap, None, pos, get_or, ℕ, List, Bool, take, below_more}
+use Rattle.std.specs.List.{list_any, slice_index_or}
+use Rattle.std.proofs.lemmas.List.Folds.{list_any_more}
+use Rattle.elf_read.specs.declared.object.Reloc.{Reloc}
+use Rattle.elf_read.specs.declared.object.Area.TheVariants.{Text}
+use Rattle.cfi_items.specs.Misplaced.{is_on, is_misplaced}
+use Rattle.cfi_items.proofs.RelocLemmas.{misplaced-here}
+use Rattle.cfi_items.proofs.source.Source.first_misplaced.Goals as goal
+
+abbrev none : Reloc
+none = record { area = Text; offset = 0; kind = 0; symbol = None; addend = pos 0 }
+
+pub returns-then-not-is_placed-clause-some : goal.returns-then-not-is_placed-clause-some
+returns-then-not-is_placed-clause-some c =
+    let t = c.args.self.now in
+    let marks : (w : ℕ) → slice_index_or c.deref.result.now w false
+    ≡ list_any (is_on t w) (take c.loop-k.k c.args.relocs.now) =
+    λ w. ap (λ (xs : List Bool). slice_index_or xs w false) c.deref.ensures.value ∙ c.loop-k.invariant.marks w in
+    record {
+      within = c.loop-k-test.true;
+      here =
+          misplaced-here t c.args.symbols.now c.args.functions.now c.args.relocs.now c.loop-k.k none
+          c.deref.result.now false c.loop-k-test.true marks c.if-not-is_placed.ensures;
+      before = c.loop-k.invariant.none;
+    }
+
+pub loop-k-preserved : goal.loop-k-preserved
+loop-k-preserved c =
+    let t = c.args.self.now in
+    let relocs = c.args.relocs.now in
+    let k = c.loop-k.k in
+    let marks : (w : ℕ) → slice_index_or c.deref.result.now w false ≡ list_any (is_on t w) (take k relocs) =
+    λ w. ap (λ (xs : List Bool). slice_index_or xs w false) c.deref.ensures.value ∙ c.loop-k.invariant.marks w in
+    record {
+      none =
+          below_more (λ j. is_misplaced t c.args.symbols.now c.args.functions.now relocs j ≡ false) k
+          c.loop-k.invariant.none
+          (misplaced-here t c.args.symbols.now c.args.functions.now relocs k none c.deref.result.now true
+          c.loop-k-test.true marks c.if-not-is_placed.ensures);
+      size = c.mark.ensures.len ∙ c.loop-k.invariant.size;
+      marks = λ w.
+          c.mark.ensures.marks w
+          ∙ ap (λ (b : Bool). b || is_on t w (get_or relocs k none)) (c.loop-k.invariant.marks w)
+          ∙ sym (list_any_more (is_on t w) relocs k none c.loop-k-test.true);
+    }

@@ -1,0 +1,72 @@
+-- Which relocations are misplaced (RISC-V ELF psABI, "Relocations", for the form of each kind).
+use Rattle.std.specs.Prelude.{ℕ, ◌*◌, ◌/◌, Bool, true, false, not, ◌&&◌, ◌||◌, ◌==◌, nat_lt, ℤ, List, take, Option, Some, None, if◌then◌else◌}
+use Rattle.std.specs.List.{list_any, slice_get}
+use Rattle.elf_read.specs.declared.object.Symbol.{Symbol}
+use Rattle.elf_read.specs.declared.object.Reloc.{Reloc}
+use Rattle.elf_read.specs.declared.object.Place.{Place}
+use Rattle.elf_read.specs.declared.object.Place.TheVariants as places
+use Rattle.elf_read.specs.declared.relocation.TheConstants.{BRANCH, JAL, PCREL_HI20, PCREL_LO12_I, PCREL_LO12_S, HI20, LO12_I, LO12_S}
+use Rattle.elf_read.specs.Relocation.{is_of_pair}
+use Rattle.rv_insn.specs.declared.insn.Insn.{Insn}
+use Rattle.cfi_aux.specs.declared.records.Function.{Function}
+use Rattle.cfi_items.specs.Words.{Words, insn_at, is_of_text, count_of}
+use Rattle.cfi_items.specs.Insns.{holds, is_lui, is_auipc, is_jal, is_branch, is_store, has_low}
+use Rattle.cfi_items.specs.Items.{is_pair, is_bound_at, item_of}
+use Rattle.cfi_items.specs.Target.{offset_from, symbol_of}
+use Rattle.cfi_items.specs.Functions.{is_covered}
+
+-- the instruction has the form of the kind: a case a row
+abbrev pub has_form : (kind : ℕ) → Insn → Bool
+has_form kind insn =
+    (kind == BRANCH && is_branch insn)
+    || (kind == JAL && is_jal insn)
+    || (kind == PCREL_HI20 && is_auipc insn)
+    || (kind == HI20 && is_lui insn)
+    || ((kind == PCREL_LO12_I || kind == LO12_I) && has_low insn)
+    || ((kind == PCREL_LO12_S || kind == LO12_S) && is_store insn)
+
+-- what the relocation sits on has its form: a pair, or an instruction
+abbrev pub fits_on : Words → (kind w : ℕ) → Bool
+fits_on t kind w = if is_of_pair kind then is_pair t w else holds (has_form kind) (insn_at t w)
+
+-- the relocation is on the item that begins at the word
+abbrev pub is_on : Words → (w : ℕ) → Reloc → Bool
+is_on t w reloc = is_of_text reloc.area && item_of t (reloc.offset / 4) == w && nat_lt w (count_of t)
+
+-- it sits well in the text: on its form, in a function, on an item on which no earlier one is
+abbrev pub sits_by : Words → List Function → (earlier : Bool) → Reloc → Bool
+sits_by t functions earlier reloc =
+    fits_on t reloc.kind (reloc.offset / 4) && is_covered functions (4 * item_of t (reloc.offset / 4)) && not earlier
+
+-- an offset at which an item begins or the text ends
+abbrev pub is_bound : Words → Option ℕ → Bool
+is_bound t None = false
+is_bound t (Some offset) = is_bound_at t offset
+
+-- a symbol and an addend that do not lead into an item of the text
+abbrev pub leads_to_bound : Words → Place → (value : ℕ) → (addend : ℤ) → Bool
+leads_to_bound t places.Text value addend = is_bound t (offset_from value addend)
+leads_to_bound t places.Undefined value addend = true
+leads_to_bound t places.Absolute value addend = true
+leads_to_bound t places.Data value addend = true
+
+abbrev pub names_well : Words → Option Symbol → (addend : ℤ) → Bool
+names_well t None addend = true
+names_well t (Some symbol) addend = leads_to_bound t symbol.place symbol.value addend
+
+-- a relocation, where an earlier one is on its item or not
+abbrev pub is_placed_by : Words → List Symbol → List Function → (earlier : Bool) → Reloc → Bool
+is_placed_by t symbols functions earlier reloc =
+    (not (is_of_text reloc.area) || sits_by t functions earlier reloc)
+    && names_well t (symbol_of symbols reloc) reloc.addend
+
+-- a relocation after those before it
+abbrev pub is_placed : Words → List Symbol → List Function → (earlier : List Reloc) → Option Reloc → Bool
+is_placed t symbols functions earlier None = true
+is_placed t symbols functions earlier (Some reloc) =
+    is_placed_by t symbols functions (list_any (is_on t (item_of t (reloc.offset / 4))) earlier) reloc
+
+-- relocation k is misplaced
+abbrev pub is_misplaced : Words → List Symbol → List Function → List Reloc → (k : ℕ) → Bool
+is_misplaced t symbols functions relocs k =
+    not (is_placed t symbols functions (take k relocs) (slice_get relocs k))

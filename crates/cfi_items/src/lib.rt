@@ -1,0 +1,26 @@
+//! The items of a module's text, and which modules can be instrumented.
+//!
+//! An item is one instruction, or an AUIPC and JALR pair under one relocation. Stands on `rv_insn`, `cfi_unit`,
+//! `rv_reloc`, `elf_read`, `cfi_aux` and `thiserror`, in tests on `cfi_list` and `cfi_types`; `cfi_instr` calls it. Proved:
+//! `read_items` gives what is read of the text exactly where no row of `specs/Fault.antt` has a fault, and else the
+//! first fault. Only tested: the texts of faults. Open: when memory runs out.
+#![tactic(auto)]
+
+mod check;
+mod fault;
+mod functions;
+pub mod insns;
+mod items;
+mod jumps;
+mod misplaced;
+mod source;
+mod stray;
+mod target;
+#[cfg(test)]
+mod tests;
+mod words;
+
+pub use check::read_items;
+pub use fault::InstrFault;
+pub use source::{Source, is_of_text};
+pub use target::{Aim, offset_from, symbol_of};

@@ -1,0 +1,100 @@
+//! The first words that are refused for what they are.
+
+ghost use Rattle.std.specs.Prelude.{◌≡◌, IfSome, IfNone};
+ghost use Rattle.elf_read.specs.Places.{IsFirst, IsNone};
+ghost use Rattle.cfi_items.specs.Words.{count_of};
+ghost use Rattle.cfi_items.specs.Flaws.{is_illegal_at, is_reserved_at, is_trap_at, is_bad_link_at};
+
+use crate::insns::{is_bad_link, is_reserved, is_trap};
+use crate::source::Source;
+
+impl Source {
+    // Whether the word is no instruction.
+    fn is_illegal_at(&self, w: usize) -> bool
+        ensures { result ≡ is_illegal_at self.now w }
+    {
+        self.insn_at(w).is_none()
+    }
+
+    // Whether the word's instruction names a register of the instrumentation.
+    fn is_reserved_at(&self, w: usize) -> bool
+        ensures { result ≡ is_reserved_at self.now w }
+    {
+        match self.insn_at(w) {
+            Some(insn) => is_reserved(insn),
+            None => false,
+        }
+    }
+
+    // Whether the word is EBREAK.
+    fn is_trap_at(&self, w: usize) -> bool
+        ensures { result ≡ is_trap_at self.now w }
+    {
+        match self.insn_at(w) {
+            Some(insn) => is_trap(insn),
+            None => false,
+        }
+    }
+
+    // Whether the word is a jump that links by another register than x0 and x1.
+    fn is_bad_link_at(&self, w: usize) -> bool
+        ensures { result ≡ is_bad_link_at self.now w }
+    {
+        match self.insn_at(w) {
+            Some(insn) => is_bad_link(insn),
+            None => false,
+        }
+    }
+
+    /// The first word that is no instruction.
+    pub fn first_illegal(&self) -> Option<usize>
+        ensures some { IfSome result (IsFirst (is_illegal_at self.now) (count_of self.now)) }
+        ensures none { IfNone result (IsNone (is_illegal_at self.now) (count_of self.now)) }
+    {
+        for w in 0..self.count() {
+            if self.is_illegal_at(w) {
+                return Some(w);
+            }
+        }
+        None
+    }
+
+    /// The first word whose instruction names a register of the instrumentation.
+    pub fn first_reserved(&self) -> Option<usize>
+        ensures some { IfSome result (IsFirst (is_reserved_at self.now) (count_of self.now)) }
+        ensures none { IfNone result (IsNone (is_reserved_at self.now) (count_of self.now)) }
+    {
+        for w in 0..self.count() {
+            if self.is_reserved_at(w) {
+                return Some(w);
+            }
+        }
+        None
+    }
+
+    /// The first EBREAK.
+    pub fn first_trap(&self) -> Option<usize>
+        ensures some { IfSome result (IsFirst (is_trap_at self.now) (count_of self.now)) }
+        ensures none { IfNone result (IsNone (is_trap_at self.now) (count_of self.now)) }
+    {
+        for w in 0..self.count() {
+            if self.is_trap_at(w) {
+                return Some(w);
+            }
+        }
+        None
+    }
+
+    /// The first jump that links by another register than x0 and x1.
+    pub fn first_bad_link(&self) -> Option<usize>
+        ensures some { IfSome result (IsFirst (is_bad_link_at self.now) (count_of self.now)) }
+        ensures none { IfNone result (IsNone (is_bad_link_at self.now) (count_of self.now)) }
+    {
+        for w in 0..self.count() {
+            if self.is_bad_link_at(w) {
+                return Some(w);
+            }
+        }
+        None
+    }
+}
