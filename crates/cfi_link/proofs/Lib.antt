@@ -1,0 +1,4 @@
+pub mod JoinedLemmas
+pub mod LimitLemmas
+pub mod TextLemmas
+pub mod ChosenLemmas
