@@ -41,7 +41,7 @@ named s = (s.1.name, s.0)
 
 last_name : (test : Symbol → Bool) (k : ℕ) (s : Symbol)
     → map named (filter (λ p. test p.1) ((k, s) ∷ [])) ≡ cond (test s) ((s.name, k) ∷ []) []
-last_name test k s = elim (cases_Bool (test s)) [ inl yes ↦ rw yes refl | inr other ↦ rw other refl ]
+last_name test k s = elim (cases_Bool (test s)) [ inl passes ↦ rw passes refl | inr other ↦ rw other refl ]
 
 names_with-more : (test : Symbol → Bool) (symbols : List Symbol) (k : ℕ) (d : Symbol) → k < length symbols
     → names_with test (take (k + 1) symbols)
@@ -150,7 +150,7 @@ pub twice_is : (symbols : List Symbol) (k : ℕ) (old : Definitions) (s : Symbol
 twice_is symbols k old s lt is has name due =
     elim (cases_Bool (is_second (find_in old.globals) s)) [
       | inl second ↦ twice-here symbols k old s lt is has second ∙ rw second at due
-      | inr first ↦ let no : None {A = List ℕ} ≡ Some name = rw first at due in absurd (cc)
+      | inr first ↦ let clash = rw first at due in cc
     ]
 
 -- ---- the names of all symbols

@@ -1,9 +1,15 @@
 -- Modules joined in order: one more, and what the first of them have.
-use Rattle.std.proofs.Common.{◌≡◌, ◌∙◌, ℕ, ◌+◌, ◌<◌, ◌≤◌, ◌^◌, List, [], ◌∷◌, ◌++◌, length, take, drop, get_or, map, fold, replicate, refl, sym, ap, subst, arith, length-append, length-map, drop-cons, add-one}
-use Rattle.std.proofs.lemmas.List.{take_more, length-replicate, length-take-le, take-append-drop, at_drop_more}
+use Rattle.std.proofs.Common.{◌≡◌, ◌∙◌, ℕ, ◌+◌, ◌<◌, ◌≤◌, ◌^◌, List, [], ◌∷◌, ◌++◌, length, take, drop, get_or, map, fold, replicate, refl, sym, ap, subst, arith, length-append, drop-cons, add-one}
+use Rattle.std.proofs.lemmas.List.{length-map, take_more, length-replicate, length-take-le, take-append-drop, at_drop_more}
 use Rattle.std.proofs.lemmas.List.Sums.{fold-append}
 use Rattle.std.proofs.lemmas.List.FromFn.{length-enumerate_from}
 use Rattle.cfi_aux.specs.declared.modules.Module.{Module}
+use Rattle.elf_read.specs.declared.object.Symbol.{Symbol}
+use Rattle.cfi_types.specs.Node.{Node}
+use Rattle.cfi_aux.specs.declared.records.Function.{Function}
+use Rattle.cfi_aux.specs.declared.records.Kind.{Kind}
+use Rattle.cfi_link.specs.declared.joined.OwnReloc.{OwnReloc}
+use Rattle.cfi_link.specs.declared.start.Start.{Start}
 use Rattle.cfi_link.specs.Gap.{gap}
 use Rattle.cfi_link.specs.Joined.{Joined, nothing, with_module, with_data, joined_of, start_of}
 
@@ -49,7 +55,7 @@ length-with_data old more =
 length-mapped : {A B : Type 0} (old : List B) (f : A → B) (more : List A)
     → length (old ++ map f more) ≡ length old + length more
 length-mapped old f more =
-    length-append old (map f more) ∙ ap (λ (n : ℕ). length old + n) (length-map f more)
+    length-append old (map f more) ∙ ap (λ (n : ℕ). length old + n) (length-map more f)
 
 pub with_module-lengths : (joined : Joined) (m : Module) → HasLengths joined m (with_module joined m)
 unfolding with_module
@@ -120,3 +126,38 @@ take-count modules i le =
     let all = fold-count (take i modules) nothing in
     let taken = length-take-le i modules le in
     omega (arith, all, taken)
+
+-- ---- what the code makes
+
+unfoldable joined_by : (text static_data : List ℕ) (symbols : List Symbol) (relocs : List OwnReloc) (types : List Node)
+    (functions : List Function) (branches : List Kind) (count : ℕ) → Joined
+joined_by text static_data symbols relocs types functions branches count = record {
+  text = text;
+  static_data = static_data;
+  symbols = symbols;
+  relocs = relocs;
+  types = types;
+  functions = functions;
+  branches = branches;
+  count = count;
+}
+
+-- joined modules that have equal parts
+pub same_joined : (a b : Joined) → a.text ≡ b.text → a.static_data ≡ b.static_data → a.symbols ≡ b.symbols
+    → a.relocs ≡ b.relocs → a.types ≡ b.types → a.functions ≡ b.functions → a.branches ≡ b.branches
+    → a.count ≡ b.count → a ≡ b
+same_joined a b e1 e2 e3 e4 e5 e6 e7 e8 =
+    let here : a ≡ joined_by a.text a.static_data a.symbols a.relocs a.types a.functions a.branches a.count =
+    unfold joined_by in refl in
+    let there : b ≡ joined_by b.text b.static_data b.symbols b.relocs b.types b.functions b.branches b.count =
+    unfold joined_by in refl in
+    cc
+
+-- a list that was added, by equal starts, to an equal list
+pub mapped_is : {A B : Type 0} (at : Start → A → B) (s t : Start) (old base new : List B) (xs ys : List A)
+    → new ≡ old ++ map (at s) xs → s ≡ t → base ≡ old → xs ≡ ys → new ≡ base ++ map (at t) ys
+mapped_is at s t old base new xs ys made start same items =
+    made
+    ∙ ap (λ z. old ++ map (at z) xs) start
+    ∙ ap (λ z. z ++ map (at t) xs) (sym same)
+    ∙ ap (λ z. base ++ map (at t) z) items

@@ -1,6 +1,6 @@
 -- Sizes within the limits, and sizes that are counted up to the greatest number.
-use Rattle.std.proofs.Common.{◌≡◌, ◌∙◌, ℕ, ◌+◌, ◌*◌, ◌-◌, ◌%◌, ◌<◌, ◌≤◌, ◌^◌, List, length, take, get_or, min, Option, Some, None, leb, refl, sym, ap, inl, inr, arith, cond, true, false}
-use Rattle.std.proofs.lemmas.Bool.{cases_Bool, cases_lt}
+use Rattle.std.proofs.Common.{◌≡◌, ◌∙◌, ℕ, ◌+◌, ◌*◌, ◌-◌, ◌%◌, ◌<◌, ◌≤◌, ◌^◌, List, length, take, get_or, min, Option, Some, None, leb, refl, sym, ap, inl, inr, arith, cond, Bool}
+use Rattle.std.proofs.lemmas.Bool.{cases_lt, lt-leb, le-leb}
 use Rattle.elf_read.specs.declared.fault.Limit.{Limit}
 use Rattle.elf_read.specs.declared.join.TheConstants.{MAX_SYMBOLS, MAX_RELOCS, MAX_WORDS, MAX_DATA}
 use Rattle.cfi_types.specs.declared.kind.TheConstants.{MAX_NODES}
@@ -69,7 +69,6 @@ room modules i d lt count none =
       static_data = omega (arith, lengths.static_data, below.static_data, limits.static_data);
       symbols = omega (arith, lengths.symbols, below.symbols, limits.symbols);
       relocs = omega (arith, lengths.relocs, below.relocs, limits.relocs);
-      relocs = omega (arith, lengths.relocs, below.relocs, limits.relocs);
       types = omega (arith, lengths.types, below.types, limits.types);
       count = omega (arith, number);
     }
@@ -113,10 +112,27 @@ sizes-more joined m =
     (capped-sum _ _ ∙ ap capped (sym lengths.types)) (capped-sum _ _ ∙ ap capped (sym lengths.functions))
     (capped-sum _ _ ∙ ap capped (sym lengths.branches))
 
-below_greatest : (limit number : ℕ) (what : Limit) (a b : Option Limit) → limit < GREATEST → a ≡ b
+-- a limit sees a capped number as the number
+capped-within : (limit number : ℕ) → limit < GREATEST → leb (capped number) limit ≡ leb number limit
+capped-within limit number small =
+    elim (cases_lt limit number) [
+      | inl above ↦ lt-leb (capped number) limit (omega arith) ∙ sym (lt-leb number limit above)
+      | inr within ↦ le-leb (capped number) limit (omega arith) ∙ sym (le-leb number limit within)
+    ]
+
+unless-capped : (limit number : ℕ) (what : Limit) (a b : Option Limit) → limit < GREATEST → a ≡ b
     → unless_above limit (capped number) what a ≡ unless_above limit number what b
-below_greatest limit number what a b small same = ?
+unless-capped limit number what a b small same =
+    ap (λ (next : Option Limit). unless_above limit (capped number) what next) same
+    ∙ ap (λ (fits : Bool). cond fits b (Some what)) (capped-within limit number small)
 
 -- what capped sizes pass
 pub passed-capped : (sizes : Sizes) → passed (capped_sizes sizes) ≡ passed sizes
-passed-capped sizes = ?
+passed-capped sizes =
+    unless-capped MAX_SYMBOLS sizes.symbols _ _ _ (omega arith)
+    (unless-capped MAX_RELOCS sizes.relocs _ _ _ (omega arith)
+    (unless-capped (4 * MAX_WORDS) sizes.text _ _ _ (omega arith)
+    (unless-capped MAX_DATA sizes.static_data _ _ _ (omega arith)
+    (unless-capped MAX_NODES sizes.types _ _ _ (omega arith)
+    (unless-capped MAX_FUNCTIONS sizes.functions _ _ _ (omega arith)
+    (unless-capped MAX_BRANCHES sizes.branches _ _ _ (omega arith) refl))))))

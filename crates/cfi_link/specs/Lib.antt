@@ -8,3 +8,4 @@ pub mod Ready
 pub mod Kept
 pub mod Faults
 pub mod Linked
+pub mod Made

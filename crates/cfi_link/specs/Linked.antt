@@ -3,8 +3,8 @@ use Rattle.std.specs.Prelude.{◌≡◌, ℕ, ◌<◌, ◌^◌, List, length, Al
 use Rattle.std.specs.List.{flat_map}
 use Rattle.elf_read.specs.declared.object.Symbol.{Symbol}
 use Rattle.elf_read.specs.declared.object.Reloc.{Reloc}
-use Rattle.cfi_types.specs.Spelling as types
-use Rattle.cfi_aux.specs.Records as records
+use Rattle.cfi_types.specs.Spelling.{word, spelling as types_spelling}
+use Rattle.cfi_aux.specs.Records.{CanBeWritten, spelling as records_spelling}
 use Rattle.cfi_aux.specs.Sound.{IsSoundModule}
 use Rattle.cfi_aux.specs.declared.modules.Module.{Module}
 use Rattle.cfi_place.specs.Placed.{words_in}
@@ -20,7 +20,7 @@ pub record AreModules (modules : List Module) : Type 0 where
   pub count : length modules < 2 ^ 32
   pub sound : All IsSoundModule modules
   pub texts : All (λ m. length m.object.text < 2 ^ 32) modules
-  pub written : All (λ m. records.CanBeWritten m.records) modules
+  pub written : All (λ m. CanBeWritten m.records) modules
 
 -- the symbols: the definitions that lose are references, and local symbols come first
 abbrev pub symbols_of : Joined → List Symbol
@@ -37,7 +37,7 @@ pub record IsTextOf (joined : Joined) (bytes : List ℕ) : Type 0 where
   pub relocated : relocated_by joined ≡ Ok applied
   pub words : List ℕ
   pub slots : HasSlots (words_in joined.text) 0 (words_in applied) words
-  pub spelled : bytes ≡ flat_map types.word words
+  pub spelled : bytes ≡ flat_map word words
 
 -- the output has what joined modules make
 pub record IsMadeOf (joined : Joined) (output : Module) : Type 0 where
@@ -48,8 +48,8 @@ pub record IsMadeOf (joined : Joined) (output : Module) : Type 0 where
   pub types : output.types ≡ joined.types
   pub functions : output.records.functions ≡ joined.functions
   pub branches : output.records.branches ≡ joined.branches
-  pub types_spelled : output.object.types ≡ Some (types.spelling output.types)
-  pub records_spelled : output.object.records ≡ Some (records.spelling output.records)
+  pub types_spelled : output.object.types ≡ Some (types_spelling output.types)
+  pub records_spelled : output.object.records ≡ Some (records_spelling output.records)
 
 -- the output is linked of the modules
 pub record Linked (modules : List Module) (output : Module) : Type 0 where

@@ -61,7 +61,7 @@ pub fn apply_all(
 {
     for own in relocs {
         let target = target_of(reaches, &own.reloc);
-        if apply_to(text, target, &own.reloc).is_err() {
+        if let Err(_) = apply_to(text, target, &own.reloc) {
             return Err(LinkFault::BadReloc(own.owner, own.number));
         }
     }

@@ -1,6 +1,6 @@
 //! Which definition of a name is chosen.
 
-ghost use Rattle.std.specs.Prelude.{◌≡◌, ◌<◌, ◌^◌, List, ℕ, false, None, Some, length, IfOk, IfErr, OnOk, if◌then◌else◌};
+ghost use Rattle.std.specs.Prelude.{◌≡◌, ◌<◌, ◌^◌, List, ℕ, false, None, Some, is_some, length, IfOk, IfErr, OnOk, if◌then◌else◌};
 ghost use Rattle.cfi_place.specs.Names.{find_in, with_name};
 ghost use Rattle.cfi_link.specs.declared.fault.LinkFault.TheVariants as faults;
 ghost use Rattle.cfi_link.specs.Chosen.{defines_global, defines_weak, is_second, loses, chosen_in, twice_in};
@@ -38,7 +38,15 @@ impl Definitions {
         }
     }
 
-    fn add_global(&mut self, alloc: Global, number: u32, symbol: &Symbol) -> Result<(), LinkFault> {
+    // Adds a global definition.
+    fn add_global(&mut self, alloc: Global, number: u32, symbol: &Symbol) -> Result<(), LinkFault>
+        ensures globals { OnOk result ((name : List ℕ) → find_in self.new.globals name
+            ≡ with_name symbol.now.name number (find_in self.old.globals) name) }
+        ensures weaks { OnOk result (self.new.weaks ≡ self.old.weaks) }
+        ensures once { OnOk result (is_some (find_in self.old.globals symbol.now.name) ≡ false) }
+        ensures fault { IfErr result (λ fault. IsTwice fault
+            (if is_some (find_in self.old.globals symbol.now.name) then Some symbol.now.name else None)) }
+    {
         let name = symbol.name.as_str();
         if self.globals.find(name).is_some() {
             return Err(twice(alloc, symbol)?);
@@ -101,7 +109,9 @@ pub fn choose(alloc: Global, symbols: &[Symbol]) -> Result<Definitions, LinkFaul
 {
     let mut definitions = Definitions::new(alloc);
     for (k, symbol) in symbols.iter().enumerate() {
-        definitions.add(alloc, k as u32, symbol)?;
+        if let Err(fault) = definitions.add(alloc, k as u32, symbol) {
+            return Err(fault);
+        }
     }
     Ok(definitions)
 }

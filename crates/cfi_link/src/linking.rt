@@ -1,11 +1,15 @@
 //! Linking modules.
 
-ghost use Rattle.std.specs.Prelude.{◌≡◌, ◌≤◌, ◌<◌, ◌*◌, ◌^◌, ◌%◌, Ok, Err, Some, None, length, IfOk, IfErr, OnOk, All};
+ghost use Rattle.std.specs.Prelude.{◌≡◌, ◌<◌, ◌^◌, ℕ, List, None, length, IfOk, IfErr, OnOk, All};
 ghost use Rattle.std.specs.List.{flat_map};
-ghost use Rattle.cfi_types.specs.Spelling.{word};
+ghost use Rattle.cfi_types.specs.Spelling.{word, spelling as types_spelling};
+ghost use Rattle.cfi_aux.specs.Records.{CanBeWritten, spelling as records_spelling};
 ghost use Rattle.cfi_aux.specs.Sound.{IsSoundModule};
-ghost use Rattle.cfi_link.specs.Faults.{IsFirstFault};
-ghost use Rattle.cfi_link.specs.Linked.{AreModules, Linked};
+ghost use Rattle.cfi_link.specs.Chosen.{chosen_in, twice_in};
+ghost use Rattle.cfi_link.specs.Faults.{sizes_of, passed, IsFirstFault};
+ghost use Rattle.cfi_link.specs.Kept.{chosen_by};
+ghost use Rattle.cfi_link.specs.Linked.{AreModules, IsTextOf, IsMadeOf, Linked, relocs_of};
+ghost use Rattle.cfi_link.specs.Made.{AreSound, IsBadReloc, IsMakeFault};
 
 use crate::applied::apply_all;
 use crate::chosen::{Definitions, choose};
@@ -35,57 +39,74 @@ fn bytes_of(alloc: Global, words: &[u32]) -> Result<Vec<u8>, AllocError>
     Ok(bytes)
 }
 
-// What joined modules make but their records: text, symbols and relocations.
-#[derive(Drop)]
-struct Parts {
-    text: Vec<u8>,
-    symbols: Vec<Symbol>,
-    relocs: Vec<Reloc>,
-}
-
+// The text that joined modules make, and their relocations that are kept.
 fn parts_of(
     alloc: Global,
     joined: &Joined,
     definitions: &Definitions,
-) -> Result<(Vec<u8>, Vec<Reloc>), LinkFault> {
+) -> Result<(Vec<u8>, Vec<Reloc>), LinkFault>
+    requires sound { AreSound joined.now }
+    requires few { passed (sizes_of joined.now) ≡ None }
+    requires chosen { (name : List ℕ) →
+        chosen_by definitions.now name ≡ chosen_in joined.now.symbols name }
+    ensures text { IfOk result (λ parts. IsTextOf joined.now parts.0.items) }
+    ensures relocs { IfOk result (λ parts. parts.1.items ≡ relocs_of joined.now) }
+    ensures fault { IfErr result (IsBadReloc joined.now) }
+{
     let symbols = joined.symbols.as_slice();
     let relocs = joined.relocs.as_slice();
+    let source = joined.text.as_slice();
     let reaches = reaches_of(alloc, definitions, symbols)?;
-    let mut text = Vec::from_slice(alloc, &joined.text)?;
-    apply_all(text.as_mut_slice(), &reaches, relocs)?;
-    let words = placed_words(alloc, &joined.text, &text, 0)?;
+    let mut text = Vec::from_slice(alloc, source)?;
+    apply_all(text.as_mut_slice(), reaches.as_slice(), relocs)?;
+    let words = placed_words(alloc, source, text.as_slice(), 0)?;
     let numbers = numbers_of(alloc, symbols)?;
-    let kept = kept_in(alloc, &reaches, &numbers, relocs)?;
-    Ok((bytes_of(alloc, &words)?, by_area(alloc, &kept)?))
+    let kept = kept_in(alloc, reaches.as_slice(), numbers.as_slice(), relocs)?;
+    let bytes = bytes_of(alloc, words.as_slice())?;
+    Ok((bytes, by_area(alloc, kept.as_slice())?))
+}
+
+// The records that joined modules make, and the bytes of the types and of them.
+fn spelled(
+    alloc: Global,
+    types: &TypeTable,
+    records: &Records,
+) -> Result<(Bytes, Bytes), AllocError>
+    requires count { length types.now < 2 ^ 32 }
+    requires fields { All (λ x. length x.fields < 2 ^ 32) types.now }
+    requires records { CanBeWritten records.now }
+    ensures types { IfOk result (λ bytes. bytes.0 ≡ types_spelling types.now) }
+    ensures records { IfOk result (λ bytes. bytes.1 ≡ records_spelling records.now) }
+{
+    let types = Bytes::from_vec(write_types(alloc, types)?);
+    let records = Bytes::from_vec(write_records(alloc, records)?);
+    Ok((types, records))
 }
 
 // The module that joined modules make.
-fn make(alloc: Global, joined: Joined) -> Result<Module, LinkFault> {
-    let definitions = choose(alloc, &joined.symbols)?;
+fn make(alloc: Global, joined: Joined) -> Result<Module, LinkFault>
+    requires sound { AreSound joined }
+    requires few { passed (sizes_of joined) ≡ None }
+    ensures ok { IfOk result (IsMadeOf joined) }
+    ensures once { OnOk result (twice_in joined.symbols ≡ None) }
+    ensures fault { IfErr result (IsMakeFault joined) }
+{
+    let definitions = choose(alloc, joined.symbols.as_slice())?;
     let (text, relocs) = parts_of(alloc, &joined, &definitions)?;
-    let Joined {
-        text: _,
-        static_data,
-        symbols,
-        relocs: _,
-        types,
-        functions,
-        branches,
-        count: _,
-    } = joined;
-    let symbols = in_order(alloc, settled(alloc, &definitions, symbols)?)?;
-    let types = TypeTable::from_vec(types);
+    let symbols = in_order(alloc, settled(alloc, &definitions, joined.symbols)?)?;
+    let types = TypeTable::from_vec(joined.types);
     let records = Records {
-        functions: Items::from_vec(functions),
-        branches: Items::from_vec(branches),
+        functions: Items::from_vec(joined.functions),
+        branches: Items::from_vec(joined.branches),
     };
+    let (type_bytes, record_bytes) = spelled(alloc, &types, &records)?;
     let object = Object {
         text: Bytes::from_vec(text),
-        static_data: Bytes::from_vec(static_data),
+        static_data: Bytes::from_vec(joined.static_data),
         symbols: Symbols::from_vec(symbols),
         relocs: Relocs::from_vec(relocs),
-        types: Some(Bytes::from_vec(write_types(alloc, &types)?)),
-        records: Some(Bytes::from_vec(write_records(alloc, &records)?)),
+        types: Some(type_bytes),
+        records: Some(record_bytes),
     };
     Ok(Module {
         object,
