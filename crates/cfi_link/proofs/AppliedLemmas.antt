@@ -64,3 +64,19 @@ kept-other reaches numbers relocs k d lt other =
     let more = filter_more (is_kept reaches) relocs k d lt in
     rw (more, other)
     (ap (map (λ (own : OwnReloc). renumbered numbers own.reloc)) (append-nil (filter (is_kept reaches) (take k relocs))))
+
+-- ---- equal lists
+
+pub applied_same : (r s : List (Option ℕ)) (xs ys : List OwnReloc) (t u : List ℕ) → r ≡ s → xs ≡ ys → t ≡ u
+    → applied_from s ys u ≡ applied_from r xs t
+applied_same r s xs ys t u e f g =
+    ap (λ (z : List (Option ℕ)). applied_from z ys u) (sym e)
+    ∙ ap (λ (z : List OwnReloc). applied_from r z u) (sym f)
+    ∙ ap (λ (z : List ℕ). applied_from r xs z) (sym g)
+
+pub kept_same : (r s : List (Option ℕ)) (m n : List ℕ) (xs ys : List OwnReloc) → r ≡ s → m ≡ n → xs ≡ ys
+    → kept_in r m xs ≡ kept_in s n ys
+kept_same r s m n xs ys e f g =
+    ap (λ (z : List (Option ℕ)). kept_in z m xs) e
+    ∙ ap (λ (z : List ℕ). kept_in s z xs) f
+    ∙ ap (λ (z : List OwnReloc). kept_in s n z) g

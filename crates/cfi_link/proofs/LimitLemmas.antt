@@ -12,7 +12,7 @@ use Rattle.cfi_link.specs.Joined.{Joined, with_module, joined_of, start_of}
 use Rattle.cfi_link.specs.Room.{HasRoom}
 use Rattle.cfi_link.specs.Faults.{sizes_of, unless_above, passed, passed_by}
 use Rattle.cfi_link.specs.Capped.{GREATEST, capped, capped_sizes, with_sizes}
-use Rattle.cfi_link.proofs.JoinedLemmas.{with_module-lengths, take-below, take-count, joined-more}
+use Rattle.cfi_link.proofs.JoinedLemmas.{IsBelow, with_module-lengths, take-below, take-count, joined-more}
 
 -- ---- within the limits
 
@@ -54,6 +54,20 @@ few sizes none =
       branches = branches.within;
     }
 
+-- a module has room where what comes of it is within the limits
+pub room_of : (joined : Joined) (m : Module) (total : Joined) → IsBelow (with_module joined m) total
+    → AreFew (sizes_of total) → joined.count + 1 < 2 ^ 32 → HasRoom joined m
+room_of joined m total below limits count =
+    let lengths = with_module-lengths joined m in
+    record {
+      text = omega (arith, lengths.text, below.text, limits.text);
+      static_data = omega (arith, lengths.static_data, below.static_data, limits.static_data);
+      symbols = omega (arith, lengths.symbols, below.symbols, limits.symbols);
+      relocs = omega (arith, lengths.relocs, below.relocs, limits.relocs);
+      types = omega (arith, lengths.types, below.types, limits.types);
+      count = count;
+    }
+
 -- each module has room after the first ones
 pub room : (modules : List Module) (i : ℕ) (d : Module) → i < length modules → length modules < 2 ^ 32
     → passed_by modules ≡ None → HasRoom (joined_of (take i modules)) (get_or modules i d)
@@ -61,17 +75,9 @@ room modules i d lt count none =
     let limits = few (sizes_of (joined_of modules)) none in
     let all = take-below modules (i + 1) in
     let next = joined-more modules i d lt in
-    let lengths = with_module-lengths (joined_of (take i modules)) (get_or modules i d) in
-    let below = rw next at all in
     let number = take-count modules i (omega arith) in
-    record {
-      text = omega (arith, lengths.text, below.text, limits.text);
-      static_data = omega (arith, lengths.static_data, below.static_data, limits.static_data);
-      symbols = omega (arith, lengths.symbols, below.symbols, limits.symbols);
-      relocs = omega (arith, lengths.relocs, below.relocs, limits.relocs);
-      types = omega (arith, lengths.types, below.types, limits.types);
-      count = omega (arith, number);
-    }
+    room_of (joined_of (take i modules)) (get_or modules i d) (joined_of modules) (rw next at all) limits
+    (omega (arith, number))
 
 -- ---- sizes that are capped
 

@@ -1,5 +1,5 @@
 -- What the code's types keep, and the faults of parts of the work.
-use Rattle.std.specs.Prelude.{◌≡◌, ℕ, Bool, true, false, if◌then◌else◌, List, Option, Some, ⊤}
+use Rattle.std.specs.Prelude.{◌≡◌, ℕ, Bool, true, false, if◌then◌else◌, List, Option, Some, Result, Err, ⊤}
 use Rattle.std.specs.Option.{option_or}
 use Rattle.cfi_aux.specs.declared.modules.Module.{Module}
 use Rattle.cfi_place.specs.Names.{Names, find_in, with_name}
@@ -44,3 +44,9 @@ IsTextFault modules (faults.NotUnit number offset) =
     IsAfter (has_text modules ≡ true) (IsFirstStray modules number offset)
 IsTextFault modules faults.Memory = ⊤
 IsTextFault modules fault = ⊥
+
+-- a refusal for a relocation is what is due, unless memory ran out
+abbrev pub IsRelocFault : (due : Result (List ℕ) LinkFault) → LinkFault → Type 0
+IsRelocFault due (faults.BadReloc number k) = due ≡ Err (faults.BadReloc number k)
+IsRelocFault due faults.Memory = ⊤
+IsRelocFault due fault = ⊥

@@ -35,6 +35,7 @@ relocs_of joined =
 pub record IsTextOf (joined : Joined) (bytes : List ℕ) : Type 0 where
   pub applied : List ℕ
   pub relocated : relocated_by joined ≡ Ok applied
+  pub size : length applied ≡ length joined.text
   pub words : List ℕ
   pub slots : HasSlots (words_in joined.text) 0 (words_in applied) words
   pub spelled : bytes ≡ flat_map word words

@@ -31,12 +31,6 @@ pub record AreSound (joined : Joined) : Type 0 where
   pub functions : All (λ f. length f.name < 2 ^ 32) joined.functions
   pub branches : All (λ b. length (words_of b) < 2 ^ 32) joined.branches
 
--- a refusal for a relocation, unless memory ran out
-abbrev pub IsBadReloc : Joined → LinkFault → Type 0
-IsBadReloc joined (faults.BadReloc number k) = relocated_by joined ≡ Err (faults.BadReloc number k)
-IsBadReloc joined faults.Memory = ⊤
-IsBadReloc joined fault = ⊥
-
 -- a refusal for a name or a relocation, unless memory ran out
 abbrev pub IsMakeFault : Joined → LinkFault → Type 0
 IsMakeFault joined (faults.Twice name) = twice_in joined.symbols ≡ Some name

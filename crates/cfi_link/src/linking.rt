@@ -6,12 +6,12 @@ ghost use Rattle.cfi_types.specs.Spelling.{word, spelling as types_spelling};
 ghost use Rattle.cfi_aux.specs.Records.{CanBeWritten, spelling as records_spelling};
 ghost use Rattle.cfi_aux.specs.Sound.{IsSoundModule};
 ghost use Rattle.cfi_link.specs.Chosen.{chosen_in, twice_in};
-ghost use Rattle.cfi_link.specs.Faults.{sizes_of, passed, IsFirstFault};
-ghost use Rattle.cfi_link.specs.Kept.{chosen_by};
+ghost use Rattle.cfi_link.specs.Faults.{sizes_of, passed, relocated_by, IsFirstFault};
+ghost use Rattle.cfi_link.specs.Kept.{chosen_by, IsRelocFault};
 ghost use Rattle.cfi_link.specs.Linked.{AreModules, IsTextOf, IsMadeOf, Linked, relocs_of};
-ghost use Rattle.cfi_link.specs.Made.{AreSound, IsBadReloc, IsMakeFault};
+ghost use Rattle.cfi_link.specs.Made.{AreSound, IsMakeFault};
 
-use crate::applied::apply_all;
+use crate::applied::applied_text;
 use crate::chosen::{Definitions, choose};
 use crate::fault::LinkFault;
 use crate::joined::{Joined, join};
@@ -51,19 +51,22 @@ fn parts_of(
         chosen_by definitions.now name ≡ chosen_in joined.now.symbols name }
     ensures text { IfOk result (λ parts. IsTextOf joined.now parts.0.items) }
     ensures relocs { IfOk result (λ parts. parts.1.items ≡ relocs_of joined.now) }
-    ensures fault { IfErr result (IsBadReloc joined.now) }
+    ensures fault { IfErr result (IsRelocFault (relocated_by joined.now)) }
 {
     let symbols = joined.symbols.as_slice();
     let relocs = joined.relocs.as_slice();
     let source = joined.text.as_slice();
     let reaches = reaches_of(alloc, definitions, symbols)?;
-    let mut text = Vec::from_slice(alloc, source)?;
-    apply_all(text.as_mut_slice(), reaches.as_slice(), relocs)?;
+    let text = match applied_text(alloc, source, reaches.as_slice(), relocs) {
+        Ok(text) => text,
+        Err(fault) => return Err(fault),
+    };
     let words = placed_words(alloc, source, text.as_slice(), 0)?;
+    let bytes = bytes_of(alloc, words.as_slice())?;
     let numbers = numbers_of(alloc, symbols)?;
     let kept = kept_in(alloc, reaches.as_slice(), numbers.as_slice(), relocs)?;
-    let bytes = bytes_of(alloc, words.as_slice())?;
-    Ok((bytes, by_area(alloc, kept.as_slice())?))
+    let relocs = by_area(alloc, kept.as_slice())?;
+    Ok((bytes, relocs))
 }
 
 // The records that joined modules make, and the bytes of the types and of them.
@@ -131,5 +134,6 @@ pub fn link(alloc: Global, modules: &[Module]) -> Result<Module, LinkFault>
     if let Some(what) = passed_by(modules) {
         return Err(LinkFault::TooMany(what));
     }
-    make(alloc, join(alloc, modules)?)
+    let linked = make(alloc, join(alloc, modules)?)?;
+    Ok(linked)
 }

@@ -2,8 +2,8 @@
 
 ghost use Rattle.std.specs.Prelude.{◌≡◌, ◌<◌, ◌≤◌, ◌^◌, true, false, List, All, length, IfSome, IfNone, IfErr, OnOk};
 ghost use Rattle.cfi_place.specs.Placed.{words_in};
-ghost use Rattle.cfi_link.specs.declared.fault.LinkFault.TheVariants as faults;
-ghost use Rattle.cfi_link.specs.Faults.{has_text, AreUnits, StopsAt, HasUnits, HaveTexts, IsTextFault};
+ghost use Rattle.cfi_link.specs.Kept.{IsTextFault};
+ghost use Rattle.cfi_link.specs.Faults.{has_text, AreUnits, StopsAt, HaveTexts};
 
 use crate::fault::LinkFault;
 use cfi_aux::Module;
