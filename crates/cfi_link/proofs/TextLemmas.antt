@@ -1,12 +1,16 @@
 -- Units that are read from the first word on, and texts of modules.
-use Rattle.std.proofs.Common.{◌≡◌, ◌∙◌, ℕ, ◌+◌, ◌≤◌, List, [], ◌∷◌, ◌++◌, length, take, drop, refl, sym, subst, All, arith}
+use Rattle.std.proofs.Common.{◌≡◌, ◌∙◌, ℕ, ◌+◌, ◌*◌, ◌/◌, ◌<◌, ◌≤◌, List, [], ◌∷◌, ◌++◌, length, take, drop, get_or, refl, sym, subst, All, Option, arith}
+use Rattle.std.specs.Prelude.{IsSomeAnd}
+use Rattle.std.proofs.lemmas.Option.{slice_get_read}
+use Rattle.cfi_aux.specs.declared.modules.Module.{Module}
+use Rattle.cfi_place.specs.Placed.{words_in}
 use Rattle.std.proofs.Math.Seq.{take-add}
 use Rattle.std.proofs.lemmas.List.{append-nil, take_all}
 use Rattle.cfi_unit.specs.declared.unit.Unit.{Unit as CodeUnit}
 use Rattle.cfi_unit.specs.Unit.{words_of, size_of}
 use Rattle.cfi_unit.specs.Code.{BeginsAt, UnitCode}
 use Rattle.cfi_unit.proofs.CodeLemmas.{BeginsAt-within, UnitCode-append}
-use Rattle.cfi_link.specs.Faults.{AreUnits}
+use Rattle.cfi_link.specs.Faults.{AreUnits, StopsAt, HasUnits, IsFirstStray}
 
 -- the words before a place are units
 pub record ReadTo (words : List ℕ) (at : ℕ) : Type 0 where
@@ -37,3 +41,17 @@ read_more words at unit read begins =
 
 pub read_all : (words : List ℕ) (at : ℕ) → ReadTo words at → length words ≤ at → AreUnits words
 read_all words at read done = subst AreUnits (take_all at words done) read.before
+
+-- a text that stops is the first one where those before it are units
+pub stray_at : (modules : List Module) (number at : ℕ) (m : Module) → number < length modules
+    → m ≡ get_or modules number m → All HasUnits (take number modules) → StopsAt (words_in m.object.text) at
+    → IsFirstStray modules number (4 * at)
+stray_at modules number at m lt is before stops =
+    let same : 4 * at / 4 ≡ at = omega arith in
+    let found = slice_get_read modules (length modules) number m refl lt is in
+    record {
+      whole = omega arith;
+      here = subst (λ (one : Option Module). IsSomeAnd one (λ n. StopsAt (words_in n.object.text) (4 * at / 4)))
+          (sym found) (subst (StopsAt (words_in m.object.text)) (sym same) stops);
+      before = before;
+    }

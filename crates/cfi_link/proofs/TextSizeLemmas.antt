@@ -1,8 +1,7 @@
 -- How many bytes the text has that joined modules make.
 use Rattle.std.proofs.Common.{◌≡◌, ◌∙◌, ℕ, ◌+◌, ◌*◌, ◌/◌, ◌%◌, List, [], ◌∷◌, ◌++◌, length, refl, sym, ap, arith, length-append, length-set}
+use Rattle.std.specs.Prelude.{slice_set}
 use Rattle.std.specs.List.{flat_map}
-use Rattle.rv_insn.specs.Insn.{word_of}
-use Rattle.cfi_unit.specs.Unit.{high_insn, low_insn}
 use Rattle.cfi_types.specs.Spelling.{word}
 use Rattle.cfi_place.specs.Placed.{words_in}
 use Rattle.cfi_place.specs.Slots.{with_slot, with_slots}
@@ -10,12 +9,14 @@ use Rattle.cfi_place.proofs.PlacingLemmas.{length-words_in}
 use Rattle.cfi_link.specs.Joined.{Joined}
 use Rattle.cfi_link.specs.Linked.{IsTextOf}
 
+length-set_both : (words : List ℕ) (i j x y : ℕ) → length (slice_set (slice_set words i x) j y) ≡ length words
+length-set_both words i j x y = length-set (slice_set words i x) j y ∙ length-set words i x
+
 length-with_slots : (slot : ℕ) (places words : List ℕ) → length (with_slots slot places words) ≡ length words
 length-with_slots slot [] words = refl
 length-with_slots slot (at ∷ places) words =
-    length-with_slots (slot + 1) places (with_slot at slot words)
-    ∙ length-set _ (at + 4) (word_of (low_insn slot))
-    ∙ length-set words (at + 3) (word_of (high_insn slot))
+    let one : length (with_slot at slot words) ≡ length words = length-set_both words (at + 3) (at + 4) _ _ in
+    length-with_slots (slot + 1) places (with_slot at slot words) ∙ one
 
 length-spelled : (words : List ℕ) → length (flat_map word words) ≡ 4 * length words
 length-spelled [] = refl

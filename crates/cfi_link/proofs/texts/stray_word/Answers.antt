@@ -7,7 +7,7 @@ loop-at-init c = read_none c.args.words.now
 pub loop-at-preserved : goal.loop-at-preserved
 loop-at-preserved c =
     rw c.in-Some.ensures.size
-    (read_more c.args.words.now c.loop-at.at c.in-Some.field-0 c.loop-at.invariant c.in-Some.ensures.some)
+    (read_more c.args.words.now c.loop-at.at c.in-Some.field-0-0 c.loop-at.invariant c.in-Some.ensures.some)
 
 pub returns-clause-none : goal.returns-clause-none
 returns-clause-none c = read_all c.args.words.now c.loop-at.at c.loop-at.invariant c.loop-at-test.false
