@@ -11,7 +11,8 @@ use Rattle.cfi_link.specs.Applied.{target_of, applied_to, or_bad, applied_from, 
 
 applied-more : (reaches : List (Option ℕ)) (relocs : List OwnReloc) (k : ℕ) (text : List ℕ) (d : OwnReloc)
     → k < length relocs → applied_from reaches (drop k relocs) text
-    ≡ or_bad (get_or relocs k d) (applied_to (target_of reaches (get_or relocs k d).reloc) (get_or relocs k d).reloc text)
+    ≡ or_bad (get_or relocs k d)
+    (applied_to (target_of reaches (get_or relocs k d).reloc) (get_or relocs k d).reloc text)
     (λ next. applied_from reaches (drop (k + 1) relocs) next)
 unfolding applied_from
 applied-more reaches relocs k text d lt =
@@ -63,7 +64,8 @@ pub kept-other : (reaches : List (Option ℕ)) (numbers : List ℕ) (relocs : Li
 kept-other reaches numbers relocs k d lt other =
     let more = filter_more (is_kept reaches) relocs k d lt in
     rw (more, other)
-    (ap (map (λ (own : OwnReloc). renumbered numbers own.reloc)) (append-nil (filter (is_kept reaches) (take k relocs))))
+    (ap (map (λ (own : OwnReloc). renumbered numbers own.reloc))
+    (append-nil (filter (is_kept reaches) (take k relocs))))
 
 -- ---- equal lists
 

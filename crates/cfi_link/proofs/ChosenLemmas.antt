@@ -51,7 +51,8 @@ names_with-more test symbols k d lt =
     let before = enumerate_from 0 (take k symbols) in
     ap (λ (es : List (ℕ × Symbol)). map named (filter (λ p. test p.1) es)) (enumerate-more symbols k d lt)
     ∙ ap (map named) (filter-append (λ (p : ℕ × Symbol). test p.1) before ((k, s) ∷ []))
-    ∙ map-append named (filter (λ (p : ℕ × Symbol). test p.1) before) (filter (λ (p : ℕ × Symbol). test p.1) ((k, s) ∷ []))
+    ∙ map-append named (filter (λ (p : ℕ × Symbol). test p.1) before)
+    (filter (λ (p : ℕ × Symbol). test p.1) ((k, s) ∷ []))
     ∙ ap (λ (es : List (List ℕ × ℕ)). names_with test (take k symbols) ++ es) (last_name test k s)
 
 first_in-defined : (pairs : List (List ℕ × ℕ)) (defines : Bool) (x : List ℕ) (n : ℕ) (name : List ℕ)

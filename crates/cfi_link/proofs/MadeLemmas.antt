@@ -66,7 +66,8 @@ arity_small kind n arity = grind (arith, nat_tests)
 
 pub fields_small : (types : List Node) → All IsNode types → All (λ x. length x.fields < 2 ^ 32) types
 fields_small types good =
-    All-weaker IsNode (λ x. length x.fields < 2 ^ 32) (λ x one. arity_small x.kind (length x.fields) one.arity) types good
+    All-weaker IsNode (λ x. length x.fields < 2 ^ 32)
+    (λ x one. arity_small x.kind (length x.fields) one.arity) types good
 
 -- what is made breaks no rule
 pub sound_made : (joined : Joined) (m : Module) → AreSound joined → passed (sizes_of joined) ≡ None
@@ -86,8 +87,10 @@ sound_made joined m sound none size made =
     record {
       object_sound = record {
         words = subst (λ (n : ℕ). n % 4 ≡ 0) (sym size) sound.words;
-        symbols = subst (All (IsSoundSymbol b)) (sym made.symbols) (symbols_sound a b holds chosen joined.symbols sound.symbols);
-        definitions = subst (AllPairs (λ x y. are_rivals x y ≡ false)) (sym made.symbols) (symbols_apart chosen joined.symbols);
+        symbols = subst (All (IsSoundSymbol b)) (sym made.symbols)
+            (symbols_sound a b holds chosen joined.symbols sound.symbols);
+        definitions = subst (AllPairs (λ x y. are_rivals x y ≡ false)) (sym made.symbols)
+            (symbols_apart chosen joined.symbols);
         relocs = subst (All (IsSoundReloc b)) (sym made.relocs)
             (relocs_sound a b holds (reaches_of chosen joined.symbols) joined.relocs count sound.relocs);
       };

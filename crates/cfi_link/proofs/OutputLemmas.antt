@@ -62,7 +62,8 @@ pub symbols_sound : (a b : Object) → Holds first a b → (chosen : Names) (sym
 symbols_sound a b holds chosen symbols good =
     let all : All (IsSoundSymbol b) (settled chosen symbols) =
     All-map (IsSoundSymbol b) (settled_symbol chosen) (enumerate_from 0 symbols)
-    (All-weaker (λ (p : ℕ × Symbol). IsSoundSymbol a p.1) (λ (p : ℕ × Symbol). IsSoundSymbol b (settled_symbol chosen p))
+    (All-weaker (λ (p : ℕ × Symbol). IsSoundSymbol a p.1)
+    (λ (p : ℕ × Symbol). IsSoundSymbol b (settled_symbol chosen p))
     (λ p one. settled_sound a b holds chosen p.0 p.1 one) (enumerate_from 0 symbols)
     (all_enumerated (IsSoundSymbol a) 0 symbols good)) in
     All-append (IsSoundSymbol b) (filter is_local_symbol (settled chosen symbols))

@@ -207,10 +207,12 @@ sound_more joined m sound good written has =
           (All-weaker (NamesBelow (length m.types)) (λ x. NamesBelow (length next.types) (node_at start x))
           (λ x below. names_shift start x (length m.types) (length next.types) (omega (arith, lengths.types)) below)
           m.types (All-from_recursion (NamesBelow (length m.types)) m.types good.table.names)));
-      functions = All-append (λ f. length f.name < 2 ^ 32) joined.functions (map (function_at start) m.records.functions)
+      functions = All-append (λ f. length f.name < 2 ^ 32) joined.functions
+          (map (function_at start) m.records.functions)
           sound.functions
           (All-map (λ f. length f.name < 2 ^ 32) (function_at start) m.records.functions written.names);
-      branches = All-append (λ b. length (words_of b) < 2 ^ 32) joined.branches (map (branch_at start) m.records.branches)
+      branches = All-append (λ b. length (words_of b) < 2 ^ 32) joined.branches
+          (map (branch_at start) m.records.branches)
           sound.branches
           (All-map (λ b. length (words_of b) < 2 ^ 32) (branch_at start) m.records.branches
           (All-weaker (λ b. length (words_of b) < 2 ^ 32) (λ b. length (words_of (branch_at start b)) < 2 ^ 32)

@@ -35,7 +35,8 @@ read_more words at unit read begins =
       before = record {
         code = code ++ unit ∷ [];
         units = subst (λ (ws : List ℕ). UnitCode ws (code ++ unit ∷ [])) (sym (take-add at (size_of unit) words))
-            (UnitCode-append (take at words) (take (size_of unit) (drop at words)) code (unit ∷ []) read.before.units one);
+            (UnitCode-append (take at words) (take (size_of unit) (drop at words)) code (unit ∷ [])
+            read.before.units one);
       };
     }
 

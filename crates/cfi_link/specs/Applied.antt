@@ -1,5 +1,5 @@
--- Which relocations are applied when modules are joined: those of branches and jumps in text that lead to a place in the
--- joined text. All others are kept.
+-- Which relocations are applied when modules are joined: those of branches and jumps in text that lead to a place in
+-- the joined text (RISC-V ELF psABI, "Relocations"). All others are kept.
 use Rattle.std.specs.Prelude.{ℕ, Bool, true, false, not, ◌==◌, ◌||◌, ◌&&◌, if◌then◌else◌, List, [], ◌∷◌, ◌++◌, map, filter, slice_index, Option, Some, None, is_none, option_map, option_and_then, Result, Ok, Err}
 use Rattle.std.specs.List.{slice_get}
 use Rattle.elf_read.specs.declared.object.Reloc.{Reloc}

@@ -57,7 +57,8 @@ fn apply_all(
     reaches: &[Option<u32>],
     relocs: &[OwnReloc],
 ) -> Result<(), LinkFault>
-    requires { All (λ own. IsReady (target_of reaches.now own.reloc) (length text.old) own.reloc) relocs.now }
+    requires { All (λ own. IsReady (target_of reaches.now own.reloc) (length text.old) own.reloc)
+        relocs.now }
     ensures ok { OnOk result (applied_from reaches.now relocs.now text.old ≡ Ok text.new) }
     ensures fault { IfErr result (IsRelocFault (applied_from reaches.now relocs.now text.old)) }
 {
@@ -77,7 +78,8 @@ pub fn applied_text(
     reaches: &[Option<u32>],
     relocs: &[OwnReloc],
 ) -> Result<Vec<u8>, LinkFault>
-    requires { All (λ own. IsReady (target_of reaches.now own.reloc) (length source.now) own.reloc) relocs.now }
+    requires { All (λ own. IsReady (target_of reaches.now own.reloc) (length source.now) own.reloc)
+        relocs.now }
     ensures ok { IfOk result (λ text. applied_from reaches.now relocs.now source.now ≡ Ok text.items) }
     ensures size { IfOk result (λ text. length text.items ≡ length source.now) }
     ensures fault { IfErr result (IsRelocFault (applied_from reaches.now relocs.now source.now)) }

@@ -59,9 +59,11 @@ impl Definitions {
     // one that has such a definition.
     fn add(&mut self, alloc: Global, number: u32, symbol: &Symbol) -> Result<(), LinkFault>
         ensures globals { OnOk result ((name : List ℕ) → find_in self.new.globals name
-            ≡ with_defined (defines_global symbol.now) symbol.now.name number (find_in self.old.globals) name) }
+            ≡ with_defined (defines_global symbol.now) symbol.now.name number
+                (find_in self.old.globals) name) }
         ensures weaks { OnOk result ((name : List ℕ) → find_in self.new.weaks name
-            ≡ with_defined (defines_weak symbol.now) symbol.now.name number (find_in self.old.weaks) name) }
+            ≡ with_defined (defines_weak symbol.now) symbol.now.name number
+                (find_in self.old.weaks) name) }
         ensures once { OnOk result (is_second (find_in self.old.globals) symbol.now ≡ false) }
         ensures fault { IfErr result (λ fault. IsTwice fault
             (if is_second (find_in self.old.globals) symbol.now then Some symbol.now.name else None)) }
@@ -103,7 +105,8 @@ impl Definitions {
 /// The definitions among symbols, or the first name that is defined as a global one twice.
 pub fn choose(alloc: Global, symbols: &[Symbol]) -> Result<Definitions, LinkFault>
     requires { length symbols.now < 2 ^ 32 }
-    ensures ok { IfOk result (λ found. (name : List ℕ) → chosen_by found name ≡ chosen_in symbols.now name) }
+    ensures ok { IfOk result (λ found. (name : List ℕ) →
+        chosen_by found name ≡ chosen_in symbols.now name) }
     ensures once { OnOk result (twice_in symbols.now ≡ None) }
     ensures fault { IfErr result (λ fault. IsTwice fault (twice_in symbols.now)) }
 {

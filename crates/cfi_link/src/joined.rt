@@ -81,7 +81,8 @@ impl Joined {
     // Where the next module begins.
     fn start(&self) -> Start
         requires text { length self.now.text < 2 ^ 32 }
-        requires static_data { length self.now.static_data + gap (length self.now.static_data) < 2 ^ 32 }
+        requires static_data { length self.now.static_data + gap (length self.now.static_data)
+            < 2 ^ 32 }
         requires symbols { length self.now.symbols < 2 ^ 32 }
         requires types { length self.now.types < 2 ^ 32 }
         ensures { result ≡ start_of self.now }

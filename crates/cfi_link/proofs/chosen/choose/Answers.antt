@@ -6,7 +6,8 @@ use Rattle.cfi_link.proofs.chosen.choose.Goals as goal
 
 pub loop-k-init : goal.loop-k-init
 loop-k-init c =
-    has_none c.args.symbols.now c.new-definitions.result c.new-definitions.ensures.globals c.new-definitions.ensures.weaks
+    has_none c.args.symbols.now c.new-definitions.result c.new-definitions.ensures.globals
+    c.new-definitions.ensures.weaks
 
 pub loop-k-preserved : goal.loop-k-preserved
 loop-k-preserved c =

@@ -24,11 +24,13 @@ returns c =
     c.as_slice-3.ensures.same)
     (mapped_is (λ s. own_reloc_at s c.self.inside.count) _ _ _ _ _ _ _ c.in_ok-push_relocs.ensures start
     (ap (λ (j : Joined). j.relocs) (sym view)) (ap (λ (xs : List Reloc). enumerate_from 0 xs) c.as_slice-4.ensures.same)
-    ∙ ap (λ (n : ℕ). c.args.self.now.relocs ++ map (own_reloc_at (start_of c.args.self.now) n) (enumerate_from 0 object.relocs))
+    ∙ ap (λ (n : ℕ). c.args.self.now.relocs
+    ++ map (own_reloc_at (start_of c.args.self.now) n) (enumerate_from 0 object.relocs))
     (ap (λ (j : Joined). j.count) view))
     (mapped_is node_at _ _ _ _ _ _ _ c.in_ok-push_nodes.ensures start (ap (λ (j : Joined). j.types) (sym view))
     c.nodes.ensures)
-    (mapped_is function_at _ _ _ _ _ _ _ c.in_ok-push_functions.ensures start (ap (λ (j : Joined). j.functions) (sym view))
+    (mapped_is function_at _ _ _ _ _ _ _ c.in_ok-push_functions.ensures start
+    (ap (λ (j : Joined). j.functions) (sym view))
     c.as_slice-5.ensures)
     (mapped_is branch_at _ _ _ _ _ _ _ c.in_ok-push_branches.ensures start (ap (λ (j : Joined). j.branches) (sym view))
     c.as_slice-6.ensures)
