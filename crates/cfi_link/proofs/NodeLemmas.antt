@@ -76,7 +76,7 @@ node_shift start x good raise =
       fields = elim (cases_Bool (eqb x.kind INT)) [
         | inl int ↦ subst (AreFields x.kind 0) (sym (int_raised start.types x.kind x.fields int good.arity)) good.fields
         | inr other ↦ are_fields x.kind (other_fits x.kind other) 0 (raised start.types n x.fields)
-        (small_raised start.types n x.fields (small_fields x.kind 0 x.fields good.fields) raise)
+            (small_raised start.types n x.fields (small_fields x.kind 0 x.fields good.fields) raise)
       ];
     }
 

@@ -51,9 +51,9 @@ settled_sound : (a b : Object) → Holds first a b → (chosen : Names) (k : ℕ
 settled_sound a b holds chosen k s good =
     elim (cases_Bool (loses chosen (k, s))) [
       | inl lost ↦ rw lost
-      (reference_sound a b s
-      (and_first (is_exported s.binding) (is_defined s.place)
-      (and_first (is_definition s) (not (is_at (chosen s.name) k)) lost)) good)
+          (reference_sound a b s
+          (and_first (is_exported s.binding) (is_defined s.place)
+          (and_first (is_definition s) (not (is_at (chosen s.name) k)) lost)) good)
       | inr stays ↦ rw stays (sound_symbol_more a b holds s good)
     ]
 

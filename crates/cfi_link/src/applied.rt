@@ -52,11 +52,7 @@ fn apply_to(text: &mut [u8], target: Option<u32>, reloc: &Reloc) -> Result<(), R
 // Applies the relocations that have a target, in order.
 //
 // `BadReloc` for the first that can not be applied; the text is then of no use.
-fn apply_all(
-    text: &mut [u8],
-    reaches: &[Option<u32>],
-    relocs: &[OwnReloc],
-) -> Result<(), LinkFault>
+fn apply_all(text: &mut [u8], reaches: &[Option<u32>], relocs: &[OwnReloc]) -> Result<(), LinkFault>
     requires { All (λ own. IsReady (target_of reaches.now own.reloc) (length text.old) own.reloc)
         relocs.now }
     ensures ok { OnOk result (applied_from reaches.now relocs.now text.old ≡ Ok text.new) }

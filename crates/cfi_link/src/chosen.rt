@@ -60,10 +60,10 @@ impl Definitions {
     fn add(&mut self, alloc: Global, number: u32, symbol: &Symbol) -> Result<(), LinkFault>
         ensures globals { OnOk result ((name : List ℕ) → find_in self.new.globals name
             ≡ with_defined (defines_global symbol.now) symbol.now.name number
-                (find_in self.old.globals) name) }
+            (find_in self.old.globals) name) }
         ensures weaks { OnOk result ((name : List ℕ) → find_in self.new.weaks name
             ≡ with_defined (defines_weak symbol.now) symbol.now.name number
-                (find_in self.old.weaks) name) }
+            (find_in self.old.weaks) name) }
         ensures once { OnOk result (is_second (find_in self.old.globals) symbol.now ≡ false) }
         ensures fault { IfErr result (λ fault. IsTwice fault
             (if is_second (find_in self.old.globals) symbol.now then Some symbol.now.name else None)) }

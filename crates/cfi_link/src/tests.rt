@@ -1,4 +1,4 @@
-ghost use Rattle.std.specs.Prelude.{◌<◌, ◌^◌, length, IfOk, IsTrue};
+ghost use Rattle.std.specs.Prelude.{IfOk};
 ghost use Rattle.cfi_aux.specs.Sound.{IsSoundModule};
 ghost use Rattle.cfi_aux.specs.Records.{CanBeWritten};
 
@@ -157,17 +157,16 @@ fn definitions(rt: HostRuntime) -> Result<(), Fail> {
     let words = [0x0000006f, 0x00000013];
     let relocs = [text_reloc(0, JAL, 0, 0)];
     for (one, two, want) in rows {
+        let (ones, twos) = ([("f", one, Place::Text, 4)], [("f", two, Place::Text, 4)]);
         let one = Source {
             words: &words,
             static_data: &[],
-            symbols: &[("f", one, Place::Text, 4)],
+            symbols: &ones,
             relocs: &relocs,
         };
         let two = Source {
-            words: &words,
-            static_data: &[],
-            symbols: &[("f", two, Place::Text, 4)],
-            relocs: &relocs,
+            symbols: &twos,
+            ..one
         };
         let linked = link_two(&rt, rt.alloc(), &one, &two)?;
         let found = outcome(rt.alloc(), linked)?;
@@ -188,10 +187,7 @@ fn pair(alloc: Global) -> Result<(Vec<u32>, Vec<u32>), AllocError> {
 fn data_reloc(offset: u32, symbol: u32) -> Reloc {
     Reloc {
         area: Area::Data,
-        offset,
-        kind: WORD,
-        symbol: Some(symbol),
-        addend: 0,
+        ..text_reloc(offset, WORD, symbol, 0)
     }
 }
 
@@ -231,13 +227,12 @@ fn texts_and_relocs(rt: HostRuntime) -> Result<(), Fail> {
     two.as_mut_slice()[0] = 0x00b50263;
     two.as_mut_slice()[5] = 0x004e2e83;
     words.extend_from_slice(&two)?;
-    assert_eq!(rt;
-        linked.object.text.as_slice(),
-        bytes_of(rt.alloc(), &words)?.as_slice()
-    );
+    let text = bytes_of(rt.alloc(), &words)?;
+    assert_eq!(rt; linked.object.text.as_slice(), text.as_slice());
+    let static_data = b"hello\0\0\0\0\0\0\0\0\0\0\0hello";
     assert_eq!(rt;
         linked.object.static_data.as_slice(),
-        b"hello\0\0\0\0\0\0\0\0\0\0\0hello".as_slice()
+        static_data.as_slice()
     );
     let relocs = [
         text_reloc(0, HI20, 0, 5),
