@@ -8,8 +8,8 @@ use crate::slots::set_slots;
 use rv_reloc::word_at;
 use std::alloc::{AllocError, Global};
 
-// The words of bytes, the low byte first; bytes left over make none.
-fn words_of(alloc: Global, bytes: &[u8]) -> Result<Vec<u32>, AllocError>
+/// The words of bytes, the low byte first; bytes left over make none.
+pub fn words_of(alloc: Global, bytes: &[u8]) -> Result<Vec<u32>, AllocError>
     ensures { IfOk result (λ words. words.items ≡ words_in bytes.now) }
 {
     let count = bytes.len() / 4;

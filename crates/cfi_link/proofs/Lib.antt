@@ -1,0 +1,12 @@
+pub mod JoinedLemmas
+pub mod RoomLemmas
+pub mod LimitLemmas
+pub mod TextLemmas
+pub mod ChosenLemmas
+pub mod NodeLemmas
+pub mod SoundLemmas
+pub mod OutputLemmas
+pub mod MadeLemmas
+pub mod TextSizeLemmas
+pub mod SettledLemmas
+pub mod AppliedLemmas

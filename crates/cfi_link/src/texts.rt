@@ -1,0 +1,54 @@
+//! Whether the texts of modules are units from their start to their end.
+
+ghost use Rattle.std.specs.Prelude.{◌≡◌, ◌<◌, ◌≤◌, ◌^◌, true, false, List, All, length, IfSome, IfNone, IfErr, OnOk};
+ghost use Rattle.cfi_place.specs.Placed.{words_in};
+ghost use Rattle.cfi_link.specs.Kept.{IsTextFault};
+ghost use Rattle.cfi_link.specs.Faults.{has_text, AreUnits, StopsAt, HaveTexts};
+
+use crate::fault::LinkFault;
+use cfi_aux::Module;
+use cfi_place::words_of;
+use cfi_unit::next_unit;
+use std::alloc::Global;
+
+// The first word at which units that are read from the first word on stop, where that is not the end.
+fn stray_word(words: &[u32]) -> Option<u32>
+    requires { length words.now < 2 ^ 30 }
+    ensures some { IfSome result (StopsAt words.now) }
+    ensures none { IfNone result (AreUnits words.now) }
+{
+    let mut at = 0;
+    while at < words.len() as u32 {
+        let Some((_, size)) = next_unit(words, at) else {
+            return Some(at);
+        };
+        at += size;
+    }
+    None
+}
+
+// Whether some module has a word of text.
+fn has_text(modules: &[Module]) -> bool
+    ensures { result ≡ has_text modules.now }
+{
+    modules.iter().any(|one| one.object.text.len() != 0)
+}
+
+/// Refuses modules without text, and the first text that is not units from its start to its end.
+pub fn check_texts(alloc: Global, modules: &[Module]) -> Result<(), LinkFault>
+    requires count { length modules.now < 2 ^ 32 }
+    requires texts { All (λ m. length m.object.text < 2 ^ 32) modules.now }
+    ensures ok { OnOk result (HaveTexts modules.now) }
+    ensures fault { IfErr result (IsTextFault modules.now) }
+{
+    if !has_text(modules) {
+        return Err(LinkFault::NoText);
+    }
+    for (number, one) in modules.iter().enumerate() {
+        let words = words_of(alloc, one.object.text.as_slice())?;
+        if let Some(at) = stray_word(&words) {
+            return Err(LinkFault::NotUnit(number as u32, 4 * at));
+        }
+    }
+    Ok(())
+}
