@@ -11,7 +11,7 @@ use Rattle.cfi_aux.specs.declared.placed.PlacedFunction.{PlacedFunction}
 use Rattle.cfi_verify.specs.declared.spot.Spot.{Spot}
 use Rattle.cfi_verify.specs.Lists.{Each}
 use Rattle.cfi_verify.specs.Functions.{end_of, end_in, end_before, LiesIn, FitsBehind}
-use Rattle.cfi_verify.specs.Places.{AreInOrder, AreInRange, IsHome}
+use Rattle.cfi_verify.specs.Places.{AreInOrder, AreInRange, IsHome, SplitsEnds}
 
 -- where the function of a number ends
 pub end_before-next : (functions : List PlacedFunction) (k : ℕ) (f : PlacedFunction) →
@@ -63,12 +63,6 @@ ends_rise functions order = λ i j d up within.
     (λ (more : j ≤ i).
     let same : i ≡ j = omega arith in omega (arith, ap (λ (k : ℕ). end_of (get_or functions k d)) same))
     (cases_lt i j)
-
--- the functions before the number n, and no others, end before the word or at it
-pub record SplitsEnds (functions : List PlacedFunction) (at n : ℕ) : Type 0 where
-  pub within : n ≤ length functions
-  pub below : AllWithin (λ (f : PlacedFunction). end_of f ≤ at) functions 0 n
-  pub above : AllWithin (λ (f : PlacedFunction). at < end_of f) functions n (length functions)
 
 module _ (functions : List PlacedFunction) (at n : ℕ) (split : SplitsEnds functions at n) where
   -- a function in which the word lies is not before the number

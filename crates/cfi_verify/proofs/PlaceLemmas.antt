@@ -10,13 +10,7 @@ use Rattle.cfi_unit.specs.declared.unit.Unit.{Unit as CodeUnit}
 use Rattle.cfi_verify.specs.declared.spot.Spot.{Spot}
 use Rattle.cfi_verify.specs.Spots.{BeginsUnit}
 use Rattle.cfi_verify.specs.Functions.{end_of, LiesIn, IsIdle, may_be_last, IsLastIn, EndsWell}
-use Rattle.cfi_verify.specs.Places.{AreRising}
-
--- the units before the number n, and no others, begin before the word
-pub record Splits (spots : List Spot) (at n : ℕ) : Type 0 where
-  pub within : n ≤ length spots
-  pub below : AllWithin (λ (spot : Spot). spot.at < at) spots 0 n
-  pub above : AllWithin (λ (spot : Spot). at ≤ spot.at) spots n (length spots)
+use Rattle.cfi_verify.specs.Places.{AreRising, Splits}
 
 pub at_rises : (spots : List Spot) → AreRising spots → IsNonDecreasingBy (λ (s : Spot). s.at) spots
 at_rises spots rise = λ i j d order within.

@@ -12,7 +12,8 @@ use std::alloc::{AllocError, Global};
 fn push_entries(entries: &mut Vec<u64>, placed: &Placed) -> Result<(), AllocError>
     ensures { OnOk result (entries.new.items ≡ entries.old.items ++ entries_in placed.now) }
 {
-    for function in placed.functions.as_slice() {
+    let functions = placed.functions.as_slice();
+    for function in functions {
         entries.push(u64::from(placed.base) + u64::from(function.first))?;
     }
     Ok(())

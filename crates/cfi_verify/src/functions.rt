@@ -36,7 +36,9 @@ fn is_idle(spots: &[Spot], from: u32, to: u32) -> bool
     requires { AreRising spots.now }
     ensures { IsTrue result ↔ IsIdle spots.now from to }
 {
-    for number in number_at(spots, from)..number_at(spots, to) {
+    let low = number_at(spots, from);
+    let high = number_at(spots, to);
+    for number in low..high {
         if spots[number].unit != IDLE {
             return false;
         }

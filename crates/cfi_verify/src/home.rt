@@ -5,11 +5,19 @@ ghost use Rattle.std.specs.List.{Contains};
 ghost use Rattle.cfi_aux.specs.declared.placed.PlacedFunction.{PlacedFunction as Function};
 ghost use Rattle.cfi_verify.specs.Functions.{end_of, LiesIn};
 ghost use Rattle.cfi_verify.specs.Target.{IsAtHome};
-ghost use Rattle.cfi_verify.specs.Places.{AreRising, AreInOrder, AreInRange, IsHome};
+ghost use Rattle.cfi_verify.specs.Places.{AreRising, AreInOrder, AreInRange, IsHome, SplitsEnds};
 
 use crate::search::begins_at;
 use crate::spot::Spot;
 use cfi_aux::PlacedFunction;
+
+// The number of the first function that ends after the word; their number where none does.
+fn number_ending(functions: &[PlacedFunction], at: u32) -> usize
+    requires { AreInOrder functions.now }
+    ensures { SplitsEnds functions.now at result }
+{
+    functions.partition_point(|f| u64::from(f.first) + u64::from(f.count) <= u64::from(at))
+}
 
 // The first word of the function in which a word lies, and the word after its last.
 fn home_of(functions: &[PlacedFunction], at: u32) -> Option<(u32, u32)>
@@ -19,8 +27,7 @@ fn home_of(functions: &[PlacedFunction], at: u32) -> Option<(u32, u32)>
     ensures only { (f : Function) → Contains functions.now f → LiesIn f at →
         result ≡ Some (f.first, end_of f) }
 {
-    let number =
-        functions.partition_point(|f| u64::from(f.first) + u64::from(f.count) <= u64::from(at));
+    let number = number_ending(functions, at);
     if number == functions.len() {
         return None;
     }

@@ -1,18 +1,15 @@
 //! Units by the words at which they stand.
 
-ghost use Rattle.std.specs.Prelude.{◌≤◌, ◌<◌, length, IsTrue, ◌↔◌};
-ghost use Rattle.std.specs.List.{AllWithin};
+ghost use Rattle.std.specs.Prelude.{IsTrue, ◌↔◌};
 ghost use Rattle.cfi_verify.specs.Spots.{BeginsUnit};
-ghost use Rattle.cfi_verify.specs.Places.{AreRising};
+ghost use Rattle.cfi_verify.specs.Places.{AreRising, Splits};
 
 use crate::spot::Spot;
 
 /// The number of the first unit that begins at the word or after it; their number where none does.
 pub fn number_at(spots: &[Spot], at: u32) -> usize
     requires { AreRising spots.now }
-    ensures within { result ≤ length spots.now }
-    ensures below { AllWithin (λ spot. spot.at < at) spots.now 0 result }
-    ensures above { AllWithin (λ spot. at ≤ spot.at) spots.now result (length spots.now) }
+    ensures { Splits spots.now at result }
 {
     spots.partition_point(|spot| spot.at < at)
 }
