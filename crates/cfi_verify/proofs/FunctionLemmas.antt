@@ -1,16 +1,17 @@
 -- Functions in order, and the one in which a word lies.
-use Rattle.std.proofs.Common.{◌≡◌, ℕ, zero, suc, ◌+◌, ◌-◌, ◌*◌, ◌^◌, ◌<◌, ◌≤◌, List, length, get_or, true, false, leb, leb-true, Some, refl, ap, sym, subst, ◌∙◌, ⊎_elim, add-one, arith}
+use Rattle.std.proofs.Common.{◌≡◌, ◌⊎◌, ℕ, zero, suc, ◌+◌, ◌-◌, ◌*◌, ◌^◌, ◌<◌, ◌≤◌, List, length, get_or, true, false, leb, leb-true, Option, Some, refl, ap, sym, subst, ◌∙◌, ⊎_elim, add-one, arith}
 use Rattle.std.specs.List.{AllWithin, Contains, slice_get}
 use Rattle.std.specs.List.Sorted.{IsNonDecreasingBy}
 use Rattle.std.proofs.lemmas.Bool.{cases_lt}
 use Rattle.std.proofs.lemmas.List.{get_or_default}
 use Rattle.std.proofs.lemmas.List.Elements.{Contains-get_or}
-use Rattle.std.proofs.lemmas.Option.{slice_get-get_or}
+use Rattle.std.proofs.lemmas.Option.{slice_get-get_or, some_pair_parts}
 use Rattle.cfi_aux.specs.declared.placed.Placed.{Placed}
 use Rattle.cfi_aux.specs.declared.placed.PlacedFunction.{PlacedFunction}
 use Rattle.cfi_verify.specs.declared.spot.Spot.{Spot}
 use Rattle.cfi_verify.specs.Lists.{Each}
 use Rattle.cfi_verify.specs.Functions.{end_of, end_in, end_before, LiesIn, FitsBehind}
+use Rattle.cfi_verify.specs.Target.{IsAtHome}
 use Rattle.cfi_verify.specs.Places.{AreInOrder, AreInRange, IsHome, SplitsEnds}
 
 -- where the function of a number ends
@@ -114,3 +115,14 @@ module _ (functions : List PlacedFunction) (at n : ℕ) (split : SplitsEnds func
         (λ (more : has.0 ≤ n). omega (arith, more, home_from f has lies))
         (cases_lt n has.0) in
         get_or_default functions n d f inside ∙ ap (λ (k : ℕ). get_or functions k f) (sym same) ∙ has.2
+
+-- a word outside the one function in which another lies is not at home with that
+pub not_home : (functions : List PlacedFunction) (spots : List Spot) (at to first end : ℕ) →
+    ((f : PlacedFunction) → Contains functions f → LiesIn f at →
+    ◌≡◌ {A = Option (ℕ × ℕ)} (Some (first, end)) (Some (f.first, end_of f))) →
+    (to < first) ⊎ (end ≤ to) → ¬ IsAtHome functions spots at to
+not_home functions spots at to first end only outside = λ h.
+    let same = some_pair_parts first h.home.first end (end_of h.home) (only h.home h.has h.from) in
+    ⊎_elim (λ (low : to < first). absurd (omega (arith, low, same.0, h.lies.0)))
+    (λ (high : end ≤ to). absurd (omega (arith, high, same.1, h.lies.1)))
+    outside

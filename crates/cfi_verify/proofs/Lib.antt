@@ -6,3 +6,4 @@ pub mod ReadLemmas
 pub mod StopLemmas
 pub mod FaultLemmas
 pub mod RowLemmas
+pub mod TargetLemmas

@@ -36,9 +36,16 @@ abbrev pub IsEntry : Placed → List Spot → (at : ℕ) → (offset : ℕ) → 
 IsEntry m spots at offset = (to : ℕ) × (offset ≡ 4 * to) × IsAtHome m.functions spots at to
 
 -- each entry of a switch is a unit in the function of its check
-abbrev pub AreEntries : Placed → List Spot → (at : ℕ) → Option Kind → Type 0
-AreEntries m spots at (Some (Switch entries)) = All (IsEntry m spots at) entries
-AreEntries m spots at kind = ⊤
+abbrev pub AreEntries : Placed → List Spot → (at : ℕ) → Kind → Type 0
+AreEntries m spots at (Switch entries) = All (IsEntry m spots at) entries
+AreEntries m spots at (Call node) = ⊤
+AreEntries m spots at (Tail node) = ⊤
+AreEntries m spots at Return = ⊤
+
+-- where there is a record
+abbrev pub AreEntriesIn : Placed → List Spot → (at : ℕ) → Option Kind → Type 0
+AreEntriesIn m spots at None = ⊤
+AreEntriesIn m spots at (Some kind) = AreEntries m spots at kind
 
 abbrev pub EntriesFit : Placed → List Spot → (number : ℕ) → CheckSpot → Type 0
-EntriesFit m spots number check = AreEntries m spots check.at (slice_get m.branches number)
+EntriesFit m spots number check = AreEntriesIn m spots check.at (slice_get m.branches number)

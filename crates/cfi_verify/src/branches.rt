@@ -95,7 +95,20 @@ fn are_entries(placed: &Placed, spots: &[Spot], at: u32, offsets: &[u32]) -> boo
     true
 }
 
-// Whether the entries of the check of a number, if it is a switch, lie in its function.
+// Whether each entry of a branch, if it is a switch, is so.
+fn switch_fits(placed: &Placed, spots: &[Spot], at: u32, kind: &Kind) -> bool
+    requires order { AreInOrder placed.now.functions }
+    requires fits { AreInRange placed.now.functions }
+    requires rising { AreRising spots.now }
+    ensures { IsTrue result ↔ AreEntries placed.now spots.now at kind.now }
+{
+    match kind {
+        Kind::Switch(offsets) => are_entries(placed, spots, at, offsets.as_slice()),
+        Kind::Call(_) | Kind::Tail(_) | Kind::Return => true,
+    }
+}
+
+// Whether the entries of the branch of a check lie in its function.
 fn entries_fit(placed: &Placed, spots: &[Spot], number: usize, check: CheckSpot) -> bool
     requires order { AreInOrder placed.now.functions }
     requires fits { AreInRange placed.now.functions }
@@ -103,8 +116,8 @@ fn entries_fit(placed: &Placed, spots: &[Spot], number: usize, check: CheckSpot)
     ensures { IsTrue result ↔ EntriesFit placed.now spots.now number check }
 {
     match placed.branches.as_slice().get(number) {
-        Some(Kind::Switch(offsets)) => are_entries(placed, spots, check.at, offsets.as_slice()),
-        _ => true,
+        Some(kind) => switch_fits(placed, spots, check.at, kind),
+        None => true,
     }
 }
 

@@ -48,7 +48,10 @@ pub fn is_at_home(functions: &[PlacedFunction], spots: &[Spot], at: u32, to: u64
     let Some((first, end)) = home_of(functions, at) else {
         return false;
     };
-    if to < u64::from(first) || u64::from(end) <= to {
+    if to < u64::from(first) {
+        return false;
+    }
+    if u64::from(end) <= to {
         return false;
     }
     begins_at(spots, to as u32)
