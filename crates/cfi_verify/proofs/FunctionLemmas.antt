@@ -10,7 +10,7 @@ use Rattle.cfi_aux.specs.declared.placed.Placed.{Placed}
 use Rattle.cfi_aux.specs.declared.placed.PlacedFunction.{PlacedFunction}
 use Rattle.cfi_verify.specs.declared.spot.Spot.{Spot}
 use Rattle.cfi_verify.specs.Lists.{Each}
-use Rattle.cfi_verify.specs.Functions.{end_of, end_in, end_before, LiesIn, FitsBehind}
+use Rattle.cfi_verify.specs.Functions.{end_of, end_in, end_before, LiesIn, IsIdle, FitsBehind}
 use Rattle.cfi_verify.specs.Target.{IsAtHome}
 use Rattle.cfi_verify.specs.Places.{AreInOrder, AreInRange, IsHome, SplitsEnds}
 
@@ -18,6 +18,11 @@ use Rattle.cfi_verify.specs.Places.{AreInOrder, AreInRange, IsHome, SplitsEnds}
 pub end_before-next : (functions : List PlacedFunction) (k : ℕ) (f : PlacedFunction) →
     slice_get functions k ≡ Some f → end_before functions (k + 1) ≡ end_of f
 end_before-next functions k f is = ap (end_before functions) (add-one k) ∙ ap end_in is
+
+-- the same words, idle
+pub idle_same : (spots : List Spot) (a b from to : ℕ) → a ≡ from → b ≡ to → IsIdle spots a b → IsIdle spots from to
+idle_same spots a b from to p q idle =
+    subst (λ (k : ℕ). IsIdle spots from k) q (subst (λ (k : ℕ). IsIdle spots k b) p idle)
 
 module _ (m : Placed) (spots : List Spot) (fit : Each m.functions (FitsBehind m spots)) where
   -- the next function begins where one ends or after it

@@ -14,7 +14,7 @@ use Rattle.cfi_verify.specs.Spots.{AreSpots, checks_of, StopsAt}
 use Rattle.cfi_verify.specs.Functions.{FitsBehind, IsIdleBehind, EndsWell}
 use Rattle.cfi_verify.specs.Target.{LeadsWell}
 use Rattle.cfi_verify.specs.Branches.{NamesSlot, KindFits, EntriesFit}
-use Rattle.cfi_verify.specs.Faults.{unit_place, check_place, own_number, StandsIn, Stands, number_of, place_of, IsFirstFault, Verifies, IsVerifiedAs}
+use Rattle.cfi_verify.specs.Faults.{unit_place, check_place, own_number, StandsIn, Stands, number_of, place_of, IsFirstFault, Verifies, IsLaidOut, IsVerifiedAs}
 use Rattle.cfi_verify.specs.Reading.{InsnsBelow, IsFirstIllegal}
 use Rattle.cfi_verify.specs.Places.{IsFirstUnfit, IsFirstMisfit}
 use Rattle.cfi_verify.proofs.ListLemmas.{break_of, no_break, first_is_least}
@@ -183,9 +183,8 @@ module _ (m : Placed) (loaded : List Placed) (spots : List Spot) (are : AreSpots
       is_first m loaded (faults.Target o) (spots, are, break_of spots (LeadsWell m loaded spots) unit_place o first)
       clear (least_target o first)
 
-  pub clear_eight : m.words ≢ [] → Slots → Functions → Ends → Targets → Clear m loaded 8
-  clear_eight some slots functions ends targets =
-      clear_more m loaded 7 (clear_seven some slots functions ends) (none_target targets)
+  pub clear_eight : Clear m loaded 7 → Targets → Clear m loaded 8
+  clear_eight clear targets = clear_more m loaded 7 clear (none_target targets)
 
   -- ---- kinds
 
@@ -248,9 +247,8 @@ module _ (m : Placed) (loaded : List Placed) (spots : List Spot) (are : AreSpots
   first_kinds clear o first =
       is_first m loaded (faults.Kinds o) (spots, are, misfit_in o first) clear (least_kinds o first)
 
-  pub clear_nine : m.words ≢ [] → Slots → Functions → Ends → Targets → Kinds → Clear m loaded 9
-  clear_nine some slots functions ends targets kinds =
-      clear_more m loaded 8 (clear_eight some slots functions ends targets) (none_kinds kinds)
+  pub clear_nine : Clear m loaded 8 → Kinds → Clear m loaded 9
+  clear_nine clear kinds = clear_more m loaded 8 clear (none_kinds kinds)
 
   -- ---- switches
 
@@ -277,12 +275,17 @@ none_memory : (m : Placed) (loaded : List Placed) (other : VerifyFault) → numb
 none_memory m loaded faults.Memory e = λ s. s.2
 none_memory m loaded other e = absurd (omega (arith, e))
 
+-- no fault up to `FallsThrough` stands against a module that is laid out
+pub clear_laid : (m : Placed) (loaded : List Placed) (spots : List Spot) → IsLaidOut m spots → Clear m loaded 7
+clear_laid m loaded spots l =
+    clear_seven m loaded spots l.units l.some l.slots (l.functions, l.idle) l.ends
+
 -- no fault stands against a module that is verified
 pub no_fault : (m : Placed) (loaded : List Placed) (spots : List Spot) → IsVerifiedAs m loaded spots →
     Verifies m loaded
 no_fault m loaded spots v = λ fault.
-    let are = v.units in
-    let nine = clear_nine m loaded spots are v.some v.slots (v.functions, v.idle) v.ends v.targets (v.kinds, v.records)
-    in
+    let are = v.laid.units in
+    let eight = clear_eight m loaded spots are (clear_laid m loaded spots v.laid) v.targets in
+    let nine = clear_nine m loaded spots are eight (v.kinds, v.records) in
     let ten = clear_more m loaded 9 nine (none_switch m loaded spots are v.switches) in
     clear_more m loaded 10 ten (none_memory m loaded) fault (bound fault)

@@ -83,14 +83,18 @@ IsFault m loaded fault = fault ≢ faults.Memory → IsFirstFault m loaded fault
 abbrev pub Verifies : (m : Placed) → (loaded : List Placed) → Type 0
 Verifies m loaded = (fault : VerifyFault) → ¬ Stands m loaded fault
 
--- what holds of a module whose units stand at these places, where no fault stands against it
-pub record IsVerifiedAs (m : Placed) (loaded : List Placed) (spots : List Spot) : Type 0 where
+-- what holds of a module whose units stand at these places, where no fault up to `FallsThrough` stands against it
+pub record IsLaidOut (m : Placed) (spots : List Spot) : Type 0 where
   pub some : m.words ≢ []
   pub units : AreSpots m.words spots
   pub slots : Each (checks_of spots) (NamesSlot m)
   pub functions : Each m.functions (FitsBehind m spots)
   pub idle : IsIdleBehind m spots
   pub ends : Each m.functions (EndsWell spots)
+
+-- and where none at all does
+pub record IsVerifiedAs (m : Placed) (loaded : List Placed) (spots : List Spot) : Type 0 where
+  pub laid : IsLaidOut m spots
   pub targets : Each spots (LeadsWell m loaded spots)
   pub kinds : Each (checks_of spots) (KindFits m)
   pub records : length m.branches ≤ length (checks_of spots)

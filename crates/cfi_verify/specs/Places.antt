@@ -1,12 +1,14 @@
 -- What the passes over units, functions and checks know and find.
-use Rattle.std.specs.Prelude.{◌≡◌, ◌⊎◌, ℕ, ◌+◌, ◌*◌, ◌^◌, ◌<◌, ◌≤◌, List, length, All}
+use Rattle.std.specs.Prelude.{◌≡◌, ◌⊎◌, ℕ, ◌+◌, ◌*◌, ◌^◌, ◌<◌, ◌≤◌, List, ◌∷◌, length, All}
 use Rattle.std.specs.List.{Contains, AllPairs, AllWithin}
+use Rattle.std.specs.List.Sorted.{IsPermutation}
 use Rattle.cfi_aux.specs.declared.placed.Placed.{Placed}
 use Rattle.cfi_aux.specs.declared.placed.PlacedFunction.{PlacedFunction}
 use Rattle.cfi_verify.specs.declared.spot.Spot.{Spot}
 use Rattle.cfi_verify.specs.declared.checks.CheckSpot.{CheckSpot}
 use Rattle.cfi_verify.specs.Lists.{Each, IsFirstBreak}
 use Rattle.cfi_verify.specs.Functions.{end_of, LiesIn, FitsBehind, IsIdleBehind}
+use Rattle.cfi_verify.specs.Target.{entries_of}
 use Rattle.cfi_verify.specs.Branches.{KindFits}
 use Rattle.cfi_verify.specs.Faults.{own_number, check_place}
 
@@ -54,6 +56,10 @@ pub record IsHome (functions : List PlacedFunction) (at first end : ℕ) : Type 
   pub lies : LiesIn home at
   pub begins : first ≡ home.first
   pub ends : end ≡ end_of home
+
+-- these are the first words of the functions of a module and of those loaded, in some order
+abbrev pub AreEntriesOf : Placed → (loaded : List Placed) → List ℕ → Type 0
+AreEntriesOf m loaded entries = IsPermutation (entries_of (m ∷ loaded)) entries
 
 -- the first function that does not fit; their number where each one does, and what stands behind is not idle
 abbrev pub IsFirstUnfit : Placed → List Spot → (number : ℕ) → Type 0

@@ -1,9 +1,10 @@
 //! The first words of functions, of which jumps of other functions may go to one.
 
-ghost use Rattle.std.specs.Prelude.{◌≡◌, ◌++◌, ◌∷◌, IfOk, OnOk, IsTrue, ◌↔◌};
+ghost use Rattle.std.specs.Prelude.{◌≡◌, ◌++◌, IfOk, OnOk, IsTrue, ◌↔◌};
 ghost use Rattle.std.specs.List.{Contains};
-ghost use Rattle.std.specs.List.Sorted.{IsPermutation, IsNonDecreasing};
-ghost use Rattle.cfi_verify.specs.Target.{entries_in, entries_of};
+ghost use Rattle.std.specs.List.Sorted.{IsNonDecreasing};
+ghost use Rattle.cfi_verify.specs.Target.{entries_in};
+ghost use Rattle.cfi_verify.specs.Places.{AreEntriesOf};
 
 use cfi_aux::Placed;
 use std::alloc::{AllocError, Global};
@@ -25,8 +26,7 @@ pub fn entries_of(
     placed: &Placed,
     loaded: &[Placed],
 ) -> Result<Vec<u64>, AllocError>
-    ensures all { IfOk result (λ entries.
-        IsPermutation (entries_of (placed.now ∷ loaded.now)) entries.items) }
+    ensures all { IfOk result (λ entries. AreEntriesOf placed.now loaded.now entries.items) }
     ensures sorted { IfOk result (λ entries. IsNonDecreasing entries.items) }
 {
     let mut entries = Vec::new(alloc);

@@ -1,12 +1,12 @@
 //! Where branches and jumps lead.
 
-ghost use Rattle.std.specs.Prelude.{◌≡◌, ℕ, List, ◌∷◌, ◌*◌, ◌<◌, ◌^◌, Some, IfSome, IfNone, IsTrue, ◌↔◌, All};
-ghost use Rattle.std.specs.List.Sorted.{IsPermutation, IsNonDecreasing};
+ghost use Rattle.std.specs.Prelude.{◌≡◌, ℕ, List, ◌*◌, ◌<◌, ◌^◌, Some, IfSome, IfNone, IsTrue, ◌↔◌, All};
+ghost use Rattle.std.specs.List.Sorted.{IsNonDecreasing};
 ghost use Rattle.cfi_aux.specs.declared.placed.Placed.{Placed as Module};
 ghost use Rattle.cfi_verify.specs.Lists.{Each, IsFirstBreak};
 ghost use Rattle.cfi_verify.specs.Faults.{unit_place};
-ghost use Rattle.cfi_verify.specs.Target.{LeadsTo, LeadsHome, LeadsToEntry, MayLead, LeadsWell, entries_of};
-ghost use Rattle.cfi_verify.specs.Places.{AreRising, AreSmall, AreInOrder, AreInRange};
+ghost use Rattle.cfi_verify.specs.Target.{LeadsTo, LeadsHome, LeadsToEntry, MayLead, LeadsWell};
+ghost use Rattle.cfi_verify.specs.Places.{AreRising, AreSmall, AreInOrder, AreInRange, AreEntriesOf};
 
 use crate::entries::is_entry;
 use crate::home::is_at_home;
@@ -44,7 +44,7 @@ fn leads_home(placed: &Placed, spots: &[Spot], at: u32, off: i32) -> bool
 fn leads_to_entry(placed: &Placed, entries: &[u64], at: u32, off: i32) -> bool
     requires { IsNonDecreasing entries.now }
     ensures { (loaded : List Module) →
-        IsPermutation (entries_of (placed.now ∷ loaded)) entries.now →
+        AreEntriesOf placed.now loaded entries.now →
         (IsTrue result ↔ LeadsToEntry placed.now loaded at off) }
 {
     match target_of(u64::from(placed.base) + u64::from(at), off) {
@@ -60,7 +60,7 @@ fn may_lead(placed: &Placed, spots: &[Spot], entries: &[u64], spot: Spot) -> boo
     requires rising { AreRising spots.now }
     requires sorted { IsNonDecreasing entries.now }
     ensures { (loaded : List Module) →
-        IsPermutation (entries_of (placed.now ∷ loaded)) entries.now →
+        AreEntriesOf placed.now loaded entries.now →
         (IsTrue result ↔ MayLead placed.now loaded spots.now spot.at spot.unit) }
 {
     let at = spot.at;
@@ -85,10 +85,10 @@ pub fn first_stray(placed: &Placed, spots: &[Spot], entries: &[u64]) -> Option<u
     requires small { AreSmall spots.now }
     requires sorted { IsNonDecreasing entries.now }
     ensures some { (loaded : List Module) →
-        IsPermutation (entries_of (placed.now ∷ loaded)) entries.now →
+        AreEntriesOf placed.now loaded entries.now →
         IfSome result (IsFirstBreak spots.now unit_place (LeadsWell placed.now loaded spots.now)) }
     ensures none { (loaded : List Module) →
-        IsPermutation (entries_of (placed.now ∷ loaded)) entries.now →
+        AreEntriesOf placed.now loaded entries.now →
         IfNone result (Each spots.now (LeadsWell placed.now loaded spots.now)) }
 {
     for spot in spots {

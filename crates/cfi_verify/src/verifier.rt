@@ -1,11 +1,14 @@
 //! The verifier.
 
-ghost use Rattle.std.specs.Prelude.{◌≡◌, ◌*◌, ◌<◌, ◌^◌, length, ◌≢◌, [], OnOk, IfErr};
-ghost use Rattle.cfi_verify.specs.Faults.{Verifies, IsVerified, IsVerifiedAs, IsFault};
-ghost use Rattle.cfi_verify.specs.Spots.{AreSpots};
+ghost use Rattle.std.specs.Prelude.{◌≡◌, ◌≢◌, List, [], ◌*◌, ◌<◌, ◌^◌, length, OnOk, IfErr};
+ghost use Rattle.std.specs.List.Sorted.{IsNonDecreasing};
+ghost use Rattle.cfi_aux.specs.declared.placed.Placed.{Placed as Module};
+ghost use Rattle.cfi_verify.specs.Spots.{AreSpots, checks_of};
+ghost use Rattle.cfi_verify.specs.Places.{AreEntriesOf};
+ghost use Rattle.cfi_verify.specs.Faults.{Verifies, IsVerified, IsVerifiedAs, IsLaidOut, IsFault, IsFirstFault};
 
 use crate::branches::{first_bad_switch, first_misfit, first_misnamed};
-use crate::checks::checks_of;
+use crate::checks::{CheckSpot, checks_of};
 use crate::entries::entries_of;
 use crate::fault::VerifyFault;
 use crate::functions::{first_open, first_unfit};
@@ -15,22 +18,17 @@ use crate::target::first_stray;
 use cfi_aux::Placed;
 use std::alloc::Global;
 
-// The faults of a module whose units are read.
-fn judge(
-    alloc: Global,
-    new: &Placed,
-    loaded: &[Placed],
-    spots: &[Spot],
-) -> Result<(), VerifyFault>
+// The first fault of the slots and functions of a module whose units are read.
+fn check_layout(new: &Placed, spots: &[Spot], checks: &[CheckSpot]) -> Result<(), VerifyFault>
     requires words { 4 * length new.now.words < 2 ^ 32 }
     requires functions { length new.now.functions < 2 ^ 32 }
     requires some { new.now.words ≢ [] }
     requires units { AreSpots new.now.words spots.now }
-    ensures ok { OnOk result (IsVerifiedAs new.now loaded.now spots.now) }
-    ensures fault { IfErr result (IsFault new.now loaded.now) }
+    requires checks { checks.now ≡ checks_of spots.now }
+    ensures ok { OnOk result (IsLaidOut new.now spots.now) }
+    ensures fault { (loaded : List Module) → IfErr result (IsFirstFault new.now loaded) }
 {
-    let checks = checks_of(alloc, spots)?;
-    if let Some(place) = first_misnamed(new, &checks) {
+    if let Some(place) = first_misnamed(new, checks) {
         return Err(VerifyFault::Slot(place));
     }
     if let Some(number) = first_unfit(new, spots) {
@@ -39,14 +37,32 @@ fn judge(
     if let Some(number) = first_open(new.functions.as_slice(), spots) {
         return Err(VerifyFault::FallsThrough(number));
     }
-    let entries = entries_of(alloc, new, loaded)?;
-    if let Some(place) = first_stray(new, spots, &entries) {
+    Ok(())
+}
+
+// The first fault of the jumps and branches of a module that is laid out.
+fn check_flow(
+    new: &Placed,
+    spots: &[Spot],
+    checks: &[CheckSpot],
+    entries: &[u64],
+) -> Result<(), VerifyFault>
+    requires words { 4 * length new.now.words < 2 ^ 32 }
+    requires laid { IsLaidOut new.now spots.now }
+    requires checks { checks.now ≡ checks_of spots.now }
+    requires sorted { IsNonDecreasing entries.now }
+    ensures ok { (loaded : List Module) → AreEntriesOf new.now loaded entries.now →
+        OnOk result (IsVerifiedAs new.now loaded spots.now) }
+    ensures fault { (loaded : List Module) → AreEntriesOf new.now loaded entries.now →
+        IfErr result (IsFirstFault new.now loaded) }
+{
+    if let Some(place) = first_stray(new, spots, entries) {
         return Err(VerifyFault::Target(place));
     }
-    if let Some(place) = first_misfit(new, &checks) {
+    if let Some(place) = first_misfit(new, checks) {
         return Err(VerifyFault::Kinds(place));
     }
-    if let Some(number) = first_bad_switch(new, spots, &checks) {
+    if let Some(number) = first_bad_switch(new, spots, checks) {
         return Err(VerifyFault::Switch(number));
     }
     Ok(())
@@ -68,5 +84,8 @@ pub fn verify(alloc: Global, new: &Placed, loaded: &[Placed]) -> Result<(), Veri
         return Err(VerifyFault::Empty);
     }
     let spots = units_of(alloc, words)?;
-    judge(alloc, new, loaded, &spots)
+    let checks = checks_of(alloc, &spots)?;
+    check_layout(new, &spots, &checks)?;
+    let entries = entries_of(alloc, new, loaded)?;
+    check_flow(new, &spots, &checks, &entries)
 }
