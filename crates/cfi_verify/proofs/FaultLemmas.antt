@@ -1,5 +1,5 @@
 -- The first fault of a module, and that none stands against a module that is verified.
-use Rattle.std.proofs.Common.{◌≡◌, ◌≢◌, ◌⊎◌, ℕ, ◌+◌, ◌*◌, ◌<◌, ◌≤◌, List, [], ◌∷◌, length, get_or, Some, sym, subst, ⊎_elim, inl, inr, arith}
+use Rattle.std.proofs.Common.{◌≡◌, ◌≢◌, ◌⊎◌, ℕ, ◌+◌, ◌*◌, ◌<◌, ◌≤◌, List, [], ◌∷◌, length, get_or, Some, refl, sym, subst, ⊎_elim, inl, inr, arith}
 use Rattle.std.specs.List.{slice_get, AllPairs}
 use Rattle.std.proofs.lemmas.Bool.{cases_lt}
 use Rattle.std.proofs.lemmas.Option.{get_or_from_slice_get, slice_get_within}
@@ -14,8 +14,8 @@ use Rattle.cfi_verify.specs.Spots.{AreSpots, checks_of, StopsAt}
 use Rattle.cfi_verify.specs.Functions.{FitsBehind, IsIdleBehind, EndsWell}
 use Rattle.cfi_verify.specs.Target.{LeadsWell}
 use Rattle.cfi_verify.specs.Branches.{NamesSlot, KindFits, EntriesFit}
-use Rattle.cfi_verify.specs.Faults.{unit_place, check_place, own_number, StandsIn, Stands, number_of, place_of, IsFirstFault, Verifies, IsVerifiedAs}
-use Rattle.cfi_verify.specs.Reading.{InsnsBelow, IsFirstIllegal}
+use Rattle.cfi_verify.specs.Faults.{unit_place, check_place, own_number, StandsIn, Stands, number_of, place_of, IsFirstFault, IsFault}
+use Rattle.cfi_verify.specs.Reading.{InsnsBelow, IsFirstIllegal, IsUnread}
 use Rattle.cfi_verify.specs.Places.{IsFirstUnfit, IsFirstMisfit}
 use Rattle.cfi_verify.proofs.ListLemmas.{break_of, no_break, first_is_least}
 use Rattle.cfi_verify.proofs.SpotLemmas.{spots-rising, checks-within, checks-rising, rise_from, AreSpots-one}
@@ -103,3 +103,16 @@ module _ (m : Placed) (loaded : List Placed) where
       IsFirstFault m loaded (faults.NotUnit o)
   first_stop some insns o stops =
       is_first (faults.NotUnit o) stops (clear_three some insns) (least_stop o stops)
+
+  -- the fault of words that are no units
+  pub unread_fault : (fault : VerifyFault) → m.words ≢ [] → IsUnread m.words fault → IsFault m loaded fault
+  unread_fault (faults.Illegal o) some u = λ not_memory. first_illegal some o u.0 u.1 u.2
+  unread_fault (faults.NotUnit o) some u = λ not_memory. first_stop some u.0 o u.1
+  unread_fault faults.Memory some u = λ not_memory. absurd (not_memory refl)
+  unread_fault faults.Empty some u = absurd u
+  unread_fault (faults.Slot o) some u = absurd u
+  unread_fault (faults.Functions k) some u = absurd u
+  unread_fault (faults.FallsThrough k) some u = absurd u
+  unread_fault (faults.Target o) some u = absurd u
+  unread_fault (faults.Kinds o) some u = absurd u
+  unread_fault (faults.Switch k) some u = absurd u

@@ -7,3 +7,5 @@ pub mod StopLemmas
 pub mod FaultLemmas
 pub mod RowLemmas
 pub mod TargetLemmas
+pub mod UniqueLemmas
+pub mod ExampleLemmas

@@ -5,7 +5,7 @@ use Rattle.cfi_types.specs.declared.kind.TheConstants.{VOID, FUNC}
 use Rattle.cfi_aux.specs.declared.placed.Placed.{Placed}
 use Rattle.cfi_aux.specs.declared.placed.PlacedFunction.{PlacedFunction}
 
-abbrev loop_function : PlacedFunction
+abbrev pub loop_function : PlacedFunction
 loop_function = record { first = 0; count = 1; ty = 1; taken = false; global = false; name = [] }
 
 abbrev pub loop_module : Placed
