@@ -1,3 +1,4 @@
+use Rattle.std.proofs.Common.{◌≢◌, [], rules}
 use Rattle.std.proofs.lemmas.Result.{err_from_is_err_and}
 use Rattle.std.proofs.lemmas.Result.{on_ok_weaker}
 use Rattle.cfi_verify.proofs.FaultLemmas.{unread_fault}
