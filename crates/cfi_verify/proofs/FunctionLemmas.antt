@@ -1,6 +1,6 @@
 -- Functions in order, and the one in which a word lies.
-use Rattle.std.proofs.Common.{◌≡◌, ◌⊎◌, ℕ, zero, suc, ◌+◌, ◌-◌, ◌*◌, ◌^◌, ◌<◌, ◌≤◌, List, length, get_or, true, false, leb, leb-true, Option, Some, refl, ap, sym, subst, ◌∙◌, ⊎_elim, add-one, arith}
-use Rattle.std.specs.List.{AllWithin, Contains, slice_get}
+use Rattle.std.proofs.Common.{◌≡◌, ◌⊎◌, ℕ, zero, suc, ◌+◌, ◌-◌, ◌*◌, ◌^◌, ◌<◌, ◌≤◌, List, length, get_or, Option, Some, refl, ap, sym, subst, ◌∙◌, ⊎_elim, add-one, arith}
+use Rattle.std.specs.List.{Contains, slice_get}
 use Rattle.std.specs.List.Sorted.{IsNonDecreasingBy}
 use Rattle.std.proofs.lemmas.Bool.{cases_lt}
 use Rattle.std.proofs.lemmas.List.{get_or_default}

@@ -1,5 +1,5 @@
 -- Which units stand before a word and from it on, and what follows for functions.
-use Rattle.std.proofs.Common.{◌≡◌, ◌↔◌, ℕ, ◌+◌, ◌-◌, ◌<◌, ◌≤◌, List, length, get_or, true, refl, ap, sym, subst, ◌∙◌, ⊎_elim, arith}
+use Rattle.std.proofs.Common.{◌≡◌, ◌↔◌, ℕ, ◌-◌, ◌<◌, ◌≤◌, List, length, get_or, true, ap, sym, ◌∙◌, ⊎_elim, arith}
 use Rattle.std.specs.List.{AllWithin, Contains}
 use Rattle.std.specs.List.Sorted.{IsNonDecreasingBy}
 use Rattle.std.proofs.lemmas.Bool.{cases_lt}
@@ -9,7 +9,7 @@ use Rattle.cfi_aux.specs.declared.placed.PlacedFunction.{PlacedFunction}
 use Rattle.cfi_unit.specs.declared.unit.Unit.{Unit as CodeUnit}
 use Rattle.cfi_verify.specs.declared.spot.Spot.{Spot}
 use Rattle.cfi_verify.specs.Spots.{BeginsUnit}
-use Rattle.cfi_verify.specs.Functions.{end_of, LiesIn, IsIdle, may_be_last, IsLastIn, EndsWell}
+use Rattle.cfi_verify.specs.Functions.{end_of, LiesIn, may_be_last, EndsWell}
 use Rattle.cfi_verify.specs.Places.{AreRising, Splits}
 
 pub at_rises : (spots : List Spot) → AreRising spots → IsNonDecreasingBy (λ (s : Spot). s.at) spots

@@ -1,26 +1,22 @@
 -- The first fault of a module whose units are read, and that none stands against one that is verified.
-use Rattle.std.proofs.Common.{◌≡◌, ◌≢◌, ◌⊎◌, ℕ, ◌+◌, ◌*◌, ◌<◌, ◌≤◌, List, [], ◌∷◌, length, get_or, Some, sym, subst, ⊎_elim, inl, inr, arith}
-use Rattle.std.specs.List.{slice_get, AllPairs}
-use Rattle.std.proofs.lemmas.Bool.{cases_lt}
+use Rattle.std.proofs.Common.{◌≡◌, ◌≢◌, ℕ, ◌*◌, ◌<◌, ◌≤◌, List, [], length, Some, subst, ⊎_elim, inl, inr, arith}
+use Rattle.std.specs.List.{slice_get}
 use Rattle.std.proofs.lemmas.Option.{get_or_from_slice_get, slice_get_within}
 use Rattle.cfi_aux.specs.declared.placed.Placed.{Placed}
-use Rattle.cfi_aux.specs.declared.placed.PlacedFunction.{PlacedFunction}
 use Rattle.cfi_verify.specs.declared.fault.VerifyFault.{VerifyFault}
 use Rattle.cfi_verify.specs.declared.fault.VerifyFault.TheVariants as faults
 use Rattle.cfi_verify.specs.declared.spot.Spot.{Spot}
 use Rattle.cfi_verify.specs.declared.checks.CheckSpot.{CheckSpot}
 use Rattle.cfi_verify.specs.Lists.{Each, Breaks, IsFirstBreak}
-use Rattle.cfi_verify.specs.Spots.{AreSpots, checks_of, StopsAt}
+use Rattle.cfi_verify.specs.Spots.{AreSpots, checks_of}
 use Rattle.cfi_verify.specs.Functions.{FitsBehind, IsIdleBehind, EndsWell}
 use Rattle.cfi_verify.specs.Target.{LeadsWell}
 use Rattle.cfi_verify.specs.Branches.{NamesSlot, KindFits, EntriesFit}
 use Rattle.cfi_verify.specs.Faults.{unit_place, check_place, own_number, StandsIn, Stands, number_of, place_of, IsFirstFault, Verifies, IsLaidOut, IsVerifiedAs}
-use Rattle.cfi_verify.specs.Reading.{InsnsBelow, IsFirstIllegal}
 use Rattle.cfi_verify.specs.Places.{IsFirstUnfit, IsFirstMisfit}
 use Rattle.cfi_verify.proofs.ListLemmas.{break_of, no_break, first_is_least}
 use Rattle.cfi_verify.proofs.SpotLemmas.{spots-rising, checks-within, checks-rising, rise_from, AreSpots-one}
-use Rattle.cfi_verify.proofs.StopLemmas.{code_insns, goes_on, one_stop}
-
+use Rattle.cfi_verify.proofs.StopLemmas.{code_insns, goes_on}
 use Rattle.cfi_verify.proofs.FaultLemmas.{bound, Clear, clear_more, clear_three, is_first}
 
 module _ (m : Placed) (loaded : List Placed) (spots : List Spot) (are : AreSpots m.words spots) where

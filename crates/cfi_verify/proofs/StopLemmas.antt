@@ -7,7 +7,6 @@ use Rattle.rv_insn.specs.Insn.{IsWord}
 use Rattle.cfi_unit.specs.declared.unit.Unit.{Unit as CodeUnit}
 use Rattle.cfi_unit.specs.Unit.{size_of, Spells}
 use Rattle.cfi_unit.specs.Code.{BeginsAt, UnitCode}
-use Rattle.cfi_unit.proofs.UnitLemmas.{size_pos}
 use Rattle.cfi_unit.proofs.CodeLemmas.{BeginsAt-one, BeginsAt-within, BeginsAt-word, UnitCode-first}
 use Rattle.cfi_verify.specs.Spots.{IsInsnAt, StopsAt}
 use Rattle.cfi_verify.specs.Reading.{InsnsBelow}

@@ -1,5 +1,5 @@
 -- Where offsets lead.
-use Rattle.std.proofs.Common.{◌≡◌, ◌↔◌, ℕ, ◌+◌, ◌∷◌, ℤ, pos, negsuc, Bool, List, sym, subst, arith}
+use Rattle.std.proofs.Common.{◌≡◌, ◌↔◌, ℕ, ◌+◌, ◌∷◌, ℤ, pos, negsuc, Bool, List, subst, arith}
 use Rattle.std.specs.Prelude.{IsTrue}
 use Rattle.std.specs.List.{Contains}
 use Rattle.std.specs.List.Sorted.{IsPermutation}
@@ -17,9 +17,12 @@ pub entry_iff : (m : Placed) (loaded : List Placed) (entries : List ℕ) (at : �
     IsPermutation (entries_of (m ∷ loaded)) entries → LeadsTo (m.base + at) off to →
     (IsTrue found ↔ Contains entries to) → (IsTrue found ↔ LeadsToEntry m loaded at off)
 entry_iff m loaded entries at off to found all leads iff = (
-  λ is.
-      (to, leads, Contains-permutation entries (entries_of (m ∷ loaded)) to
-      (IsPermutation-sym (entries_of (m ∷ loaded)) entries all) (iff.0 is)),
+  λ is. (
+    to,
+    leads,
+    Contains-permutation entries (entries_of (m ∷ loaded)) to
+        (IsPermutation-sym (entries_of (m ∷ loaded)) entries all) (iff.0 is),
+  ),
   λ e.
       let same : e.0 ≡ to = LeadsTo-one (m.base + at) off e.0 to e.1 leads in
       iff.1 (subst (Contains entries) same (Contains-permutation (entries_of (m ∷ loaded)) entries e.0 all e.2)),

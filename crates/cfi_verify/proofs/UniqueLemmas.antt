@@ -10,8 +10,8 @@ use Rattle.cfi_verify.specs.Faults.{number_of, place_of, IsFirstFault}
 abbrev fault_of : (number place : ℕ) → VerifyFault
 fault_of number o =
     get_or (
-      Memory ∷ Empty ∷ Illegal o ∷ NotUnit o ∷ Slot o ∷ Functions o ∷ FallsThrough o ∷ Target o ∷ Kinds o ∷ Switch o
-      ∷ []
+    Memory ∷ Empty ∷ Illegal o ∷ NotUnit o ∷ Slot o ∷ Functions o ∷ FallsThrough o ∷ Target o ∷ Kinds o ∷ Switch o
+    ∷ []
     ) number Memory
 
 fault_of-parts : (fault : VerifyFault) → fault_of (number_of fault) (place_of fault) ≡ fault

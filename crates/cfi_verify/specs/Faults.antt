@@ -1,6 +1,6 @@
 -- The faults of a placed module against those that are loaded: the first one, and when there is none. Places in code
 -- are bytes from the module's start, and functions and branches go by their numbers, from 0.
-use Rattle.std.specs.Prelude.{◌≡◌, ◌≢◌, ◌⊎◌, ℕ, ◌+◌, ◌*◌, ◌<◌, ◌≤◌, List, [], length, ⊤}
+use Rattle.std.specs.Prelude.{◌≡◌, ◌≢◌, ◌⊎◌, ℕ, ◌*◌, ◌<◌, ◌≤◌, List, [], length}
 use Rattle.cfi_aux.specs.declared.placed.Placed.{Placed}
 use Rattle.cfi_verify.specs.declared.fault.VerifyFault.{VerifyFault}
 use Rattle.cfi_verify.specs.declared.fault.VerifyFault.TheVariants as faults

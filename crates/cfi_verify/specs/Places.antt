@@ -1,5 +1,5 @@
 -- What the passes over units, functions and checks know and find.
-use Rattle.std.specs.Prelude.{◌≡◌, ◌⊎◌, ℕ, ◌+◌, ◌*◌, ◌^◌, ◌<◌, ◌≤◌, List, ◌∷◌, length, All}
+use Rattle.std.specs.Prelude.{◌≡◌, ◌⊎◌, ℕ, ◌*◌, ◌^◌, ◌<◌, ◌≤◌, List, ◌∷◌, length, All}
 use Rattle.std.specs.List.{Contains, AllPairs, AllWithin}
 use Rattle.std.specs.List.Sorted.{IsPermutation}
 use Rattle.cfi_aux.specs.declared.placed.Placed.{Placed}

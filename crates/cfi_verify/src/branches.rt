@@ -77,7 +77,12 @@ fn is_entry(placed: &Placed, spots: &[Spot], at: u32, offset: u32) -> bool
     if offset % 4 != 0 {
         return false;
     }
-    is_at_home(placed.functions.as_slice(), spots, at, u64::from(offset / 4))
+    is_at_home(
+        placed.functions.as_slice(),
+        spots,
+        at,
+        u64::from(offset / 4),
+    )
 }
 
 // Whether each offset is so.

@@ -21,11 +21,7 @@ fn push_entries(entries: &mut Vec<u64>, placed: &Placed) -> Result<(), AllocErro
 }
 
 /// The first words of the functions of a module and of those loaded, sorted.
-pub fn entries_of(
-    alloc: Global,
-    placed: &Placed,
-    loaded: &[Placed],
-) -> Result<Vec<u64>, AllocError>
+pub fn entries_of(alloc: Global, placed: &Placed, loaded: &[Placed]) -> Result<Vec<u64>, AllocError>
     ensures all { IfOk result (λ entries. AreEntriesOf placed.now loaded.now entries.items) }
     ensures sorted { IfOk result (λ entries. IsNonDecreasing entries.items) }
 {

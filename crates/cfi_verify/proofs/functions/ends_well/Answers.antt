@@ -13,8 +13,7 @@ none = record { at = 0; unit = Plain (Lui 0 0) }
 pub returns-then-function-last : goal.returns-then-function-last
 returns-then-function-last c = λ number.
     let spots = c.args.spots.now in
-    let n = c.number_at-number.result in
-    (
+    let n = c.number_at-number.result in (
       λ may.
           ends_last spots c.requires.rising c.args.function.now n c.number_at-number.ensures number none (omega arith)
           c.if-function-last.true (sym c.may_be_last.ensures ∙ may),
@@ -27,8 +26,7 @@ returns-then-function-last c = λ number.
 pub returns-else-function-last : goal.returns-else-function-last
 returns-else-function-last c = λ number.
     let spots = c.args.spots.now in
-    let n = c.number_at-number.result in
-    (
+    let n = c.number_at-number.result in (
       λ is. absurd (omega (arith, leb-true _ _ is, c.if-function-last.false)),
       λ e.
           let last = last_is spots c.requires.rising c.args.function.now n c.number_at-number.ensures number none e in

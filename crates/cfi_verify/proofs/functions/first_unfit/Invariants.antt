@@ -8,5 +8,5 @@ invariant-loop-number l =
     record {
       here : l.before ≡ end_before l.placed.functions l.number;
       within : l.before ≤ length l.placed.words;
-      fits : EachBelow l.placed.functions (FitsBehind l.placed l.spots) l.number
+      fits : EachBelow l.placed.functions (FitsBehind l.placed l.spots) l.number;
     }

@@ -1,4 +1,4 @@
-use Rattle.std.proofs.Common.{Some, ap, ◌∙◌, ◌+◌, ◌<◌, length, arith}
+use Rattle.std.proofs.Common.{Some, ap, ◌∙◌, arith}
 use Rattle.cfi_aux.specs.declared.placed.PlacedFunction.{PlacedFunction}
 use Rattle.cfi_verify.specs.Functions.{end_of}
 use Rattle.cfi_verify.proofs.FunctionLemmas.{no_home_here, one_home}

@@ -1,4 +1,4 @@
-use Rattle.cfi_verify.proofs.ReadLemmas.{read_more, read_all, read_stops}
+use Rattle.cfi_verify.proofs.ReadLemmas.{read_more}
 use Rattle.cfi_verify.proofs.reader.read.Goals as goal
 
 -- this turn's unit is read too

@@ -1,4 +1,4 @@
-use Rattle.std.proofs.Common.{nat_eq, eq-eqb, arith}
+use Rattle.std.proofs.Common.{eq-eqb, arith}
 use Rattle.std.proofs.lemmas.Bool.{eqb-true}
 use Rattle.rv_insn.specs.declared.insn.Insn.TheVariants.{Lui}
 use Rattle.cfi_unit.specs.declared.unit.Unit.TheVariants.{Plain}

@@ -1,7 +1,6 @@
-use Rattle.std.proofs.Common.{List, ℕ, ◌≤◌, length, ap, sym, subst, arith}
+use Rattle.std.proofs.Common.{List, ◌≤◌, length, ap, sym, subst, arith}
 use Rattle.cfi_verify.specs.declared.checks.CheckSpot.{CheckSpot}
 use Rattle.cfi_verify.specs.Lists.{Each, IsFirstBreak}
-use Rattle.cfi_verify.specs.Spots.{checks_of}
 use Rattle.cfi_verify.specs.Branches.{KindFits, EntriesFit}
 use Rattle.cfi_verify.specs.Faults.{own_number}
 use Rattle.cfi_verify.specs.Places.{AreSmallChecks, IsFirstMisfit}
