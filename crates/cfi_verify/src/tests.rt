@@ -1,3 +1,6 @@
+use super::VerifyFault::{
+    Empty, FallsThrough, Functions, Illegal, Kinds, NotUnit, Slot, Switch, Target,
+};
 use super::*;
 use cfi_aux::{Kind, Placed, PlacedFunction};
 use cfi_list::Items;
@@ -97,46 +100,26 @@ fn changed(alloc: Global, changes: &[(usize, u32)]) -> Result<Vec<u32>, AllocErr
 fn words(rt: HostRuntime) -> Result<(), Fail> {
     let rows: [(&[(usize, u32)], Result<(), VerifyFault>, &str); 12] = [
         (&[], Ok(()), "as it is"),
-        (&[(11, 0x00000013)], Err(VerifyFault::NotUnit(12)), "no beq"),
-        (
-            &[(1, 0x0140006f)],
-            Err(VerifyFault::Target(4)),
-            "into the check",
-        ),
+        (&[(11, 0x00000013)], Err(NotUnit(12)), "no beq"),
+        (&[(1, 0x0140006f)], Err(Target(4)), "into the check"),
         (
             &[(11, 0x00000013), (1, 0x0140006f)],
-            Err(VerifyFault::NotUnit(12)),
+            Err(NotUnit(12)),
             "both",
         ),
         (
             &[(11, 0x00000013), (16, 0)],
-            Err(VerifyFault::Illegal(64)),
+            Err(Illegal(64)),
             "a later word",
         ),
-        (
-            &[(5, 0x00000013)],
-            Err(VerifyFault::NotUnit(12)),
-            "no range test",
-        ),
-        (
-            &[(7, 0x004e2e83), (2, 0xffdff06f)],
-            Err(VerifyFault::Slot(12)),
-            "slot 1",
-        ),
-        (
-            &[(2, 0xffdff06f)],
-            Err(VerifyFault::Target(8)),
-            "a jump into main",
-        ),
+        (&[(5, 0x00000013)], Err(NotUnit(12)), "no range test"),
+        (&[(7, 0x004e2e83), (2, 0xffdff06f)], Err(Slot(12)), "slot 1"),
+        (&[(2, 0xffdff06f)], Err(Target(8)), "a jump into main"),
         (&[(0, 0x00000263)], Ok(()), "a branch in main"),
-        (
-            &[(0, 0x00000463)],
-            Err(VerifyFault::Target(0)),
-            "a branch to f",
-        ),
+        (&[(0, 0x00000463)], Err(Target(0)), "a branch to f"),
         (
             &[(0, 0x004000ef)],
-            Err(VerifyFault::Target(0)),
+            Err(Target(0)),
             "a call of no first word",
         ),
         (&[(0, 0x00c000ef)], Ok(()), "a call of g"),
@@ -148,10 +131,7 @@ fn words(rt: HostRuntime) -> Result<(), Fail> {
         assert_eq!(rt; verdict(&rt, rt.alloc(), &new, &[]), want, "{label}");
     }
     let new = module_of(rt.alloc(), 16, &[], &[], Vec::new(rt.alloc()))?;
-    assert_eq!(rt;
-        verdict(&rt, rt.alloc(), &new, &[]),
-        Err(VerifyFault::Empty)
-    );
+    assert_eq!(rt; verdict(&rt, rt.alloc(), &new, &[]), Err(Empty));
     Ok(())
 }
 
@@ -162,42 +142,42 @@ fn functions(rt: HostRuntime) -> Result<(), Fail> {
         (&FUNCTIONS, Ok(()), "padding behind the last"),
         (
             &[(0, 2, 1), (2, 1, 1), (3, 15, 1)],
-            Err(VerifyFault::FallsThrough(2)),
+            Err(FallsThrough(2)),
             "padding in g",
         ),
         (
             &[(0, 2, 1), (2, 1, 1), (3, 16, 1)],
-            Err(VerifyFault::Functions(2)),
+            Err(Functions(2)),
             "out of the words",
         ),
         (
             &[(0, 2, 1), (2, 0, 1), (3, 14, 1)],
-            Err(VerifyFault::Functions(1)),
+            Err(Functions(1)),
             "empty",
         ),
         (
             &[(0, 2, 1), (2, 1, 1), (3, 14, 0)],
-            Err(VerifyFault::Functions(2)),
+            Err(Functions(2)),
             "of type Void",
         ),
         (
             &[(0, 2, 1), (2, 1, 1)],
-            Err(VerifyFault::Functions(2)),
+            Err(Functions(2)),
             "a check behind the last",
         ),
         (
             &[(0, 1, 1), (2, 1, 1), (3, 14, 1)],
-            Err(VerifyFault::Functions(1)),
+            Err(Functions(1)),
             "a jump between",
         ),
         (
             &[(0, 2, 1), (1, 2, 1), (3, 14, 1)],
-            Err(VerifyFault::Functions(1)),
+            Err(Functions(1)),
             "out of order",
         ),
         (
             &[(0, 1, 1), (1, 2, 1), (3, 15, 1)],
-            Err(VerifyFault::FallsThrough(0)),
+            Err(FallsThrough(0)),
             "a linking jump",
         ),
     ];
@@ -219,25 +199,17 @@ fn branches(rt: HostRuntime) -> Result<(), Fail> {
     let alloc = rt.alloc();
     let rows = [
         (Kind::Tail(1), Ok(()), "a tail call"),
-        (
-            Kind::Tail(0),
-            Err(VerifyFault::Kinds(12)),
-            "a tail call of type Void",
-        ),
-        (
-            Kind::Call(1),
-            Err(VerifyFault::Kinds(12)),
-            "a call without link",
-        ),
+        (Kind::Tail(0), Err(Kinds(12)), "a tail call of type Void"),
+        (Kind::Call(1), Err(Kinds(12)), "a call without link"),
         (switch(alloc, &[12])?, Ok(()), "a switch to its own unit"),
         (
             switch(alloc, &[12, 16])?,
-            Err(VerifyFault::Switch(0)),
+            Err(Switch(0)),
             "a switch into a unit",
         ),
         (
             switch(alloc, &[8])?,
-            Err(VerifyFault::Switch(0)),
+            Err(Switch(0)),
             "a switch to another function",
         ),
     ];
@@ -246,17 +218,13 @@ fn branches(rt: HostRuntime) -> Result<(), Fail> {
         assert_eq!(rt; verdict(&rt, alloc, &new, &[]), want, "{label}");
     }
     let new = module_of(alloc, 16, &WORDS, &FUNCTIONS, Vec::new(alloc))?;
-    assert_eq!(rt;
-        verdict(&rt, alloc, &new, &[]),
-        Err(VerifyFault::Kinds(12)),
-        "no record"
-    );
+    assert_eq!(rt; verdict(&rt, alloc, &new, &[]), Err(Kinds(12)), "no record");
     let mut kinds = one(alloc, Kind::Return)?;
     kinds.push(Kind::Return)?;
     let new = module_of(alloc, 16, &WORDS, &FUNCTIONS, kinds)?;
     assert_eq!(rt;
         verdict(&rt, alloc, &new, &[]),
-        Err(VerifyFault::Kinds(68)),
+        Err(Kinds(68)),
         "a record more"
     );
     Ok(())
@@ -268,8 +236,8 @@ fn calls(rt: HostRuntime) -> Result<(), Fail> {
     let words = changed(rt.alloc(), &[(16, 0x000f80e7), (17, 0x0000006f)])?;
     let rows = [
         (Kind::Call(1), Ok(())),
-        (Kind::Call(0), Err(VerifyFault::Kinds(12))),
-        (Kind::Return, Err(VerifyFault::Kinds(12))),
+        (Kind::Call(0), Err(Kinds(12))),
+        (Kind::Return, Err(Kinds(12))),
     ];
     for (kind, want) in rows {
         let kinds = one(rt.alloc(), kind)?;
@@ -296,11 +264,7 @@ fn others(rt: HostRuntime) -> Result<(), Fail> {
         &[(0, 2, 1)],
         Vec::new(alloc),
     )?;
-    assert_eq!(rt;
-        verdict(&rt, alloc, &new, &[]),
-        Err(VerifyFault::Target(0)),
-        "alone"
-    );
+    assert_eq!(rt; verdict(&rt, alloc, &new, &[]), Err(Target(0)), "alone");
     let other = module_of(alloc, 16, &WORDS, &FUNCTIONS, one(alloc, Kind::Return)?)?;
     assert_eq!(rt;
         verdict(&rt, alloc, &new, &[other]),
