@@ -1,0 +1,85 @@
+-- A module that verifies: the one word `j .`.
+use Rattle.std.proofs.Common.{◌≡◌, ℕ, zero, suc, pos, false, List, [], ◌∷◌, length, inl, refl, ap, subst, arith}
+use Rattle.std.specs.List.{Contains}
+use Rattle.cfi_unit.specs.declared.unit.Unit.TheVariants.{Jump}
+use Rattle.cfi_verify.specs.declared.spot.Spot.{Spot}
+use Rattle.cfi_verify.specs.Lists.{Each}
+use Rattle.cfi_verify.specs.Spots.{BeginsUnit}
+use Rattle.cfi_verify.specs.Functions.{FitsBehind, EndsWell}
+use Rattle.cfi_verify.specs.Target.{LeadsWell}
+use Rattle.cfi_verify.specs.Faults.{IsVerified}
+use Rattle.cfi_verify.specs.Example.{loop_function, loop_module}
+
+abbrev spot : Spot
+spot = record { at = 0; unit = Jump false (pos 0) }
+
+abbrev spots : List Spot
+spots = spot ∷ []
+
+-- no item of no list, and the one of a list of one
+each_none : {T : Type 0} (P : ℕ → T → Type 0) → Each [] P
+each_none P = λ k x is. absurd (cc)
+
+each_one : {T : Type 0} (x : T) (P : ℕ → T → Type 0) → P 0 x → Each (x ∷ []) P
+each_one {T} x P here zero y is =
+    let same : x ≡ y = cc in
+    subst (λ (z : T). P 0 z) same here
+each_one x P here (suc k) y is = absurd (cc)
+
+has_spot : Contains spots spot
+has_spot = (0, omega arith, refl)
+
+begins : BeginsUnit spots 0
+begins = (spot, has_spot, refl)
+
+fits : FitsBehind loop_module spots 0 loop_function
+fits = record {
+  some = omega arith;
+  order = omega arith;
+  within = omega arith;
+  begins = begins;
+  ends = inl refl;
+  typed = refl;
+  idle = λ other has from to. absurd (omega arith);
+}
+
+ends : EndsWell spots 0 loop_function
+ends =
+    (spot, record { has = has_spot; lies = (omega arith, omega arith); last = λ other has lies. omega (arith, lies.1) }, refl)
+
+leads : LeadsWell loop_module [] spots 0 spot
+leads =
+    inl (
+      0,
+      refl,
+      record {
+        home = loop_function;
+        has = (0, omega arith, refl);
+        from = (omega arith, omega arith);
+        lies = (omega arith, omega arith);
+        unit = begins;
+      },
+    )
+
+pub verified : IsVerified loop_module []
+verified = (
+  spots,
+  record {
+    laid = record {
+      some = λ none. absurd (omega (arith, ap length none));
+      units = record {
+        code = Jump false (pos 0) ∷ [];
+        units = record { fit = ((omega arith, refl), tt); spelled = refl };
+        places = refl;
+      };
+      slots = each_none _;
+      functions = each_one loop_function (FitsBehind loop_module spots) fits;
+      idle = λ other has from to. absurd (omega arith);
+      ends = each_one loop_function (EndsWell spots) ends;
+    };
+    targets = each_one spot (LeadsWell loop_module [] spots) leads;
+    kinds = each_none _;
+    records = omega arith;
+    switches = each_none _;
+  },
+)

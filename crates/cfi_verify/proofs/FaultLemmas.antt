@@ -1,0 +1,106 @@
+-- The first fault of a module, and that none stands against a module that is verified.
+use Rattle.std.proofs.Common.{◌≡◌, ◌≢◌, ℕ, ◌+◌, ◌*◌, ◌<◌, ◌≤◌, List, [], length, refl, ⊎_elim, arith}
+use Rattle.std.proofs.lemmas.Bool.{cases_lt}
+use Rattle.cfi_aux.specs.declared.placed.Placed.{Placed}
+use Rattle.cfi_verify.specs.declared.fault.VerifyFault.{VerifyFault}
+use Rattle.cfi_verify.specs.declared.fault.VerifyFault.TheVariants as faults
+use Rattle.cfi_verify.specs.Spots.{StopsAt}
+use Rattle.cfi_verify.specs.Faults.{Stands, number_of, place_of, IsFirstFault, IsFault}
+use Rattle.cfi_verify.specs.Reading.{InsnsBelow, IsFirstIllegal, IsUnread}
+use Rattle.cfi_verify.proofs.StopLemmas.{one_stop}
+
+pub bound : (fault : VerifyFault) → number_of fault < 11
+bound faults.Empty = omega arith
+bound fault = omega arith
+
+positive : (fault : VerifyFault) → 0 < number_of fault
+positive faults.Empty = omega arith
+positive fault = omega arith
+
+module _ (m : Placed) (loaded : List Placed) where
+  -- no fault of a lower number stands
+  abbrev pub Clear : (n : ℕ) → Type 0
+  Clear n = (other : VerifyFault) → number_of other < n → ¬ Stands m loaded other
+
+  pub clear_one : Clear 1
+  clear_one = λ other less. absurd (omega (arith, less, positive other))
+
+  pub clear_more : (n : ℕ) → Clear n → ((other : VerifyFault) → number_of other ≡ n → ¬ Stands m loaded other) →
+      Clear (n + 1)
+  clear_more n clear here = λ other less.
+      ⊎_elim (λ (low : number_of other < n). clear other low)
+      (λ (high : n ≤ number_of other). here other (omega (arith, less, high)))
+      (cases_lt (number_of other) n)
+
+  -- a fault stands, none of a lower number does, and none of its number at an earlier place
+  pub is_first : (fault : VerifyFault) → Stands m loaded fault → Clear (number_of fault) →
+      ((other : VerifyFault) → number_of other ≡ number_of fault → Stands m loaded other →
+      place_of fault ≤ place_of other) → IsFirstFault m loaded fault
+  is_first fault stands clear least = record {
+    stands = stands;
+    first = λ other also earlier.
+        ⊎_elim (λ (low : number_of other < number_of fault). clear other low also)
+        (λ (same : (number_of other ≡ number_of fault) × (place_of other < place_of fault)).
+        absurd (omega (arith, least other same.0 also, same.1)))
+        earlier;
+  }
+
+  -- ---- no words, words that are no instructions, words that are no units
+
+  none_empty : m.words ≢ [] → (other : VerifyFault) → number_of other ≡ 1 → ¬ Stands m loaded other
+  none_empty some faults.Empty e = some
+  none_empty some other e = absurd (omega (arith, e))
+
+  none_illegal : InsnsBelow m.words (length m.words) → (other : VerifyFault) → number_of other ≡ 2 →
+      ¬ Stands m loaded other
+  none_illegal insns (faults.Illegal o) e = λ s. s.3 (insns s.0 s.1)
+  none_illegal insns other e = absurd (omega (arith, e))
+
+  pub clear_two : m.words ≢ [] → Clear 2
+  clear_two some = clear_more 1 clear_one (none_empty some)
+
+  pub clear_three : m.words ≢ [] → InsnsBelow m.words (length m.words) → Clear 3
+  clear_three some insns = clear_more 2 (clear_two some) (none_illegal insns)
+
+  least_empty : (other : VerifyFault) → number_of other ≡ 1 → Stands m loaded other → 0 ≤ place_of other
+  least_empty other e = λ s. omega arith
+
+  pub first_empty : m.words ≡ [] → IsFirstFault m loaded faults.Empty
+  first_empty empty = is_first faults.Empty empty clear_one least_empty
+
+  least_illegal : (o at : ℕ) → o ≡ 4 * at → IsFirstIllegal m.words at → (other : VerifyFault) → number_of other ≡ 2 →
+      Stands m loaded other → o ≤ place_of other
+  least_illegal o at here first (faults.Illegal k) e = λ s.
+      ⊎_elim (λ (low : s.0 < at). absurd (s.3 (first.before s.0 low)))
+      (λ (high : at ≤ s.0). omega (arith, high, here, s.2))
+      (cases_lt s.0 at)
+  least_illegal o at here first other e = absurd (omega (arith, e))
+
+  pub first_illegal : m.words ≢ [] → (o at : ℕ) → o ≡ 4 * at → IsFirstIllegal m.words at →
+      IsFirstFault m loaded (faults.Illegal o)
+  first_illegal some o at here first =
+      is_first (faults.Illegal o) (at, first.within, here, first.fails) (clear_two some)
+      (least_illegal o at here first)
+
+  least_stop : (o : ℕ) → StopsAt m.words o → (other : VerifyFault) → number_of other ≡ 3 → Stands m loaded other →
+      o ≤ place_of other
+  least_stop o stops (faults.NotUnit k) e = λ s. one_stop m.words o k stops s
+  least_stop o stops other e = absurd (omega (arith, e))
+
+  pub first_stop : m.words ≢ [] → InsnsBelow m.words (length m.words) → (o : ℕ) → StopsAt m.words o →
+      IsFirstFault m loaded (faults.NotUnit o)
+  first_stop some insns o stops =
+      is_first (faults.NotUnit o) stops (clear_three some insns) (least_stop o stops)
+
+  -- the fault of words that are no units
+  pub unread_fault : (fault : VerifyFault) → m.words ≢ [] → IsUnread m.words fault → IsFault m loaded fault
+  unread_fault (faults.Illegal o) some u = λ not_memory. first_illegal some o u.0 u.1 u.2
+  unread_fault (faults.NotUnit o) some u = λ not_memory. first_stop some u.0 o u.1
+  unread_fault faults.Memory some u = λ not_memory. absurd (not_memory refl)
+  unread_fault faults.Empty some u = absurd u
+  unread_fault (faults.Slot o) some u = absurd u
+  unread_fault (faults.Functions k) some u = absurd u
+  unread_fault (faults.FallsThrough k) some u = absurd u
+  unread_fault (faults.Target o) some u = absurd u
+  unread_fault (faults.Kinds o) some u = absurd u
+  unread_fault (faults.Switch k) some u = absurd u

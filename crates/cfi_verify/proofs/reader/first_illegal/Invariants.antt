@@ -1,0 +1,5 @@
+use Rattle.cfi_verify.specs.Reading.{InsnsBelow}
+use Rattle.cfi_verify.proofs.reader.first_illegal.Given as goal
+
+abbrev pub invariant-loop-at : goal.invariant-loop-at
+invariant-loop-at l = InsnsBelow l.words l.at

@@ -1,0 +1,22 @@
+-- A module that verifies: the one word `j .`, one function of it, whose type is that of a function.
+use Rattle.std.specs.Prelude.{[], ◌∷◌, false}
+use Rattle.cfi_types.specs.Node.{make_node}
+use Rattle.cfi_types.specs.declared.kind.TheConstants.{VOID, FUNC}
+use Rattle.cfi_aux.specs.declared.placed.Placed.{Placed}
+use Rattle.cfi_aux.specs.declared.placed.PlacedFunction.{PlacedFunction}
+
+abbrev pub loop_function : PlacedFunction
+loop_function = record { first = 0; count = 1; ty = 1; taken = false; global = false; name = [] }
+
+abbrev pub loop_module : Placed
+loop_module = record {
+  base = 16;
+  slot_base = 0;
+  data_base = 0x40000000;
+  words = 0x6f ∷ [];
+  static_data = [];
+  functions = loop_function ∷ [];
+  branches = [];
+  types = make_node VOID [] ∷ make_node FUNC (0 ∷ []) ∷ [];
+  exports = [];
+}

@@ -1,0 +1,104 @@
+-- The faults of a placed module against those that are loaded: the first one, and when there is none. Places in code
+-- are bytes from the module's start, and functions and branches go by their numbers, from 0.
+use Rattle.std.specs.Prelude.{◌≡◌, ◌≢◌, ◌⊎◌, ℕ, ◌*◌, ◌<◌, ◌≤◌, List, [], length}
+use Rattle.cfi_aux.specs.declared.placed.Placed.{Placed}
+use Rattle.cfi_verify.specs.declared.fault.VerifyFault.{VerifyFault}
+use Rattle.cfi_verify.specs.declared.fault.VerifyFault.TheVariants as faults
+use Rattle.cfi_verify.specs.declared.spot.Spot.{Spot}
+use Rattle.cfi_verify.specs.declared.checks.CheckSpot.{CheckSpot}
+use Rattle.cfi_verify.specs.Lists.{Each, Breaks}
+use Rattle.cfi_verify.specs.Spots.{AreSpots, checks_of, IsIllegal, StopsAt}
+use Rattle.cfi_verify.specs.Functions.{FitsBehind, IsIdleBehind, EndsWell}
+use Rattle.cfi_verify.specs.Target.{LeadsWell}
+use Rattle.cfi_verify.specs.Branches.{NamesSlot, KindFits, EntriesFit}
+
+-- where a unit and a check stand in bytes, and an item's own number
+abbrev pub unit_place : (number : ℕ) → Spot → ℕ
+unit_place number spot = 4 * spot.at
+
+abbrev pub check_place : (number : ℕ) → CheckSpot → ℕ
+check_place number check = 4 * check.at
+
+abbrev pub own_number : {T : Type 0} → (number : ℕ) → T → ℕ
+own_number number item = number
+
+-- the fault stands against the units of a module
+abbrev pub StandsIn : (m : Placed) → (loaded : List Placed) → List Spot → VerifyFault → Type 0
+StandsIn m loaded spots (faults.Slot o) = Breaks (checks_of spots) check_place (NamesSlot m) o
+StandsIn m loaded spots (faults.Functions k) = Breaks m.functions own_number (FitsBehind m spots) k
+    ⊎ ((k ≡ length m.functions) × ¬ IsIdleBehind m spots)
+StandsIn m loaded spots (faults.FallsThrough k) = Breaks m.functions own_number (EndsWell spots) k
+StandsIn m loaded spots (faults.Target o) = Breaks spots unit_place (LeadsWell m loaded spots) o
+StandsIn m loaded spots (faults.Kinds o) = Breaks (checks_of spots) check_place (KindFits m) o
+    ⊎ ((o ≡ 4 * length m.words) × (length (checks_of spots) < length m.branches))
+StandsIn m loaded spots (faults.Switch k) = Breaks (checks_of spots) own_number (EntriesFit m spots) k
+StandsIn m loaded spots fault = ⊥
+
+-- the fault stands against a module
+abbrev pub Stands : (m : Placed) → (loaded : List Placed) → VerifyFault → Type 0
+Stands m loaded faults.Empty = m.words ≡ []
+Stands m loaded (faults.Illegal o) = IsIllegal m.words o
+Stands m loaded (faults.NotUnit o) = StopsAt m.words o
+Stands m loaded fault = (spots : List Spot) × AreSpots m.words spots × StandsIn m loaded spots fault
+
+-- the number of a fault's kind, and its place
+abbrev pub number_of : VerifyFault → ℕ
+number_of faults.Empty = 1
+number_of (faults.Illegal o) = 2
+number_of (faults.NotUnit o) = 3
+number_of (faults.Slot o) = 4
+number_of (faults.Functions k) = 5
+number_of (faults.FallsThrough k) = 6
+number_of (faults.Target o) = 7
+number_of (faults.Kinds o) = 8
+number_of (faults.Switch k) = 9
+number_of faults.Memory = 10
+
+abbrev pub place_of : VerifyFault → ℕ
+place_of faults.Empty = 0
+place_of (faults.Illegal o) = o
+place_of (faults.NotUnit o) = o
+place_of (faults.Slot o) = o
+place_of (faults.Functions k) = k
+place_of (faults.FallsThrough k) = k
+place_of (faults.Target o) = o
+place_of (faults.Kinds o) = o
+place_of (faults.Switch k) = k
+place_of faults.Memory = 0
+
+-- a fault comes before another: by its number, and then by its place
+abbrev pub IsEarlier : VerifyFault → VerifyFault → Type 0
+IsEarlier a b = (number_of a < number_of b) ⊎ ((number_of a ≡ number_of b) × (place_of a < place_of b))
+
+-- the first fault of a module
+pub record IsFirstFault (m : Placed) (loaded : List Placed) (fault : VerifyFault) : Type 0 where
+  pub stands : Stands m loaded fault
+  pub first : (other : VerifyFault) → Stands m loaded other → ¬ IsEarlier other fault
+
+-- an answer that is no want of memory is the first fault
+abbrev pub IsFault : (m : Placed) → (loaded : List Placed) → VerifyFault → Type 0
+IsFault m loaded fault = fault ≢ faults.Memory → IsFirstFault m loaded fault
+
+-- no fault stands against a module
+abbrev pub Verifies : (m : Placed) → (loaded : List Placed) → Type 0
+Verifies m loaded = (fault : VerifyFault) → ¬ Stands m loaded fault
+
+-- what holds of a module whose units stand at these places, where no fault up to `FallsThrough` stands against it
+pub record IsLaidOut (m : Placed) (spots : List Spot) : Type 0 where
+  pub some : m.words ≢ []
+  pub units : AreSpots m.words spots
+  pub slots : Each (checks_of spots) (NamesSlot m)
+  pub functions : Each m.functions (FitsBehind m spots)
+  pub idle : IsIdleBehind m spots
+  pub ends : Each m.functions (EndsWell spots)
+
+-- and where none at all does
+pub record IsVerifiedAs (m : Placed) (loaded : List Placed) (spots : List Spot) : Type 0 where
+  pub laid : IsLaidOut m spots
+  pub targets : Each spots (LeadsWell m loaded spots)
+  pub kinds : Each (checks_of spots) (KindFits m)
+  pub records : length m.branches ≤ length (checks_of spots)
+  pub switches : Each (checks_of spots) (EntriesFit m spots)
+
+abbrev pub IsVerified : (m : Placed) → (loaded : List Placed) → Type 0
+IsVerified m loaded = (spots : List Spot) × IsVerifiedAs m loaded spots

@@ -1,0 +1,57 @@
+-- The units of a module's words and where they stand. Words are numbered from the module's first, from 0; places that
+-- faults name are in bytes.
+use Rattle.std.specs.Prelude.{◌≡◌, ℕ, ◌+◌, ◌*◌, ◌<◌, List, [], ◌∷◌, length, take, slice_index, Option, Some, None}
+use Rattle.std.specs.List.{Contains, filter_map}
+use Rattle.rv_insn.specs.declared.insn.Insn.{Insn}
+use Rattle.rv_insn.specs.Insn.{IsWord}
+use Rattle.cfi_unit.specs.declared.unit.Unit.{Unit as CodeUnit}
+use Rattle.cfi_unit.specs.declared.unit.Unit.TheVariants as units
+use Rattle.cfi_unit.specs.Unit.{size_of}
+use Rattle.cfi_unit.specs.Code.{BeginsAt, UnitCode}
+use Rattle.cfi_verify.specs.declared.spot.Spot.{Spot}
+use Rattle.cfi_verify.specs.declared.checks.CheckSpot.{CheckSpot}
+
+-- the units one after the other, the first at the word `at`
+abbrev pub spots_of : (at : ℕ) → List CodeUnit → List Spot
+spots_of at [] = []
+spots_of at (unit ∷ code) = record { at = at; unit = unit } ∷ spots_of (at + size_of unit) code
+
+-- the words are the code of these units, at these places
+pub record AreSpots (words : List ℕ) (spots : List Spot) : Type 0 where
+  pub code : List CodeUnit
+  pub units : UnitCode words code
+  pub places : spots ≡ spots_of 0 code
+
+-- one of the units begins at the word
+abbrev pub BeginsUnit : List Spot → (at : ℕ) → Type 0
+BeginsUnit spots at = (spot : Spot) × Contains spots spot × (spot.at ≡ at)
+
+-- the check that a unit at a word is
+abbrev pub check_in : (at : ℕ) → CodeUnit → Option CheckSpot
+check_in at (units.Check link rs1 imm slot) = Some (record { at = at; link = link; slot = slot })
+check_in at unit = None
+
+abbrev pub check_of : Spot → Option CheckSpot
+check_of spot = check_in spot.at spot.unit
+
+-- the checks, in the order of the code
+abbrev pub checks_of : List Spot → List CheckSpot
+checks_of spots = filter_map check_of spots
+
+-- the word is an instruction
+abbrev pub IsInsnAt : (words : List ℕ) → (at : ℕ) → Type 0
+IsInsnAt words at = (insn : Insn) × IsWord insn (slice_index words at)
+
+-- the word at the place is no instruction
+abbrev pub IsIllegal : (words : List ℕ) → (o : ℕ) → Type 0
+IsIllegal words o = (at : ℕ) × (at < length words) × (o ≡ 4 * at) × ¬ IsInsnAt words at
+
+-- units that are read from the first word on stop at the place, before the end: the words before it are units, and
+-- none begins there
+pub record StopsAt (words : List ℕ) (o : ℕ) : Type 0 where
+  pub at : ℕ
+  pub here : o ≡ 4 * at
+  pub within : at < length words
+  pub body : List CodeUnit
+  pub units : UnitCode (take at words) body
+  pub stops : (unit : CodeUnit) → ¬ BeginsAt words at unit

@@ -1,0 +1,28 @@
+//! The verifier of placed modules: whether a module's code keeps to its functions, types and branches.
+//!
+//! Stands on `cfi_unit`, `cfi_aux`, `cfi_types`, `cfi_list`, `elf_read`, `rv_insn` and `thiserror`. Proved: `verify`
+//! answers the first fault of `specs/Faults.antt`, and Ok exactly where none stands. Only tested: that ample memory is
+//! enough, the texts of faults, and words against an assembler. Open: when memory runs out.
+#![tactic(auto)]
+
+mod branches;
+mod checks;
+mod entries;
+mod fault;
+mod functions;
+mod home;
+mod laws;
+mod reader;
+mod search;
+mod spot;
+mod target;
+mod verifier;
+
+pub use checks::CheckSpot;
+pub use fault::VerifyFault;
+pub use laws::{one_first_fault, some_module_verifies, verified_has_no_fault};
+pub use spot::Spot;
+pub use verifier::verify;
+
+#[cfg(test)]
+mod tests;
