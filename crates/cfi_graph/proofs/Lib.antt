@@ -1,2 +1,17 @@
 pub mod ShapeLemmas
 pub mod SpotLemmas
+mod AddsLemmas
+mod PlaceLemmas
+mod FactLemmas
+mod BoundLemmas
+mod BranchLemmas
+mod TellLemmas
+mod ReadLemmas
+mod NodeLemmas
+mod GoesLemmas
+mod SoundLemmas
+mod DirectLemmas
+mod ClassLemmas
+mod BelowLemmas
+pub mod EndLemmas
+mod TestLemmas
