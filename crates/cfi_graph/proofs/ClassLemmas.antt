@@ -1,5 +1,5 @@
 -- Classes of types as numbers of nodes: there are fewer of them than type nodes.
-use Rattle.std.proofs.Common.{◌≡◌, ◌∙◌, ℕ, zero, suc, ◌+◌, ◌<◌, ◌≤◌, ◌^◌, ◌⊎◌, inl, inr, max, List, [], ◌∷◌, ◌++◌, length, map, get_or, Option, Some, None, refl, sym, ap, subst, arith, length-append}
+use Rattle.std.proofs.Common.{◌≡◌, ◌∙◌, ℕ, zero, suc, ◌+◌, ◌<◌, ◌≤◌, ◌^◌, ◌⊎◌, inl, inr, max, List, [], ◌∷◌, ◌++◌, length, map, take, get_or, Option, Some, None, refl, sym, ap, subst, arith, length-append}
 use Rattle.std.proofs.lemmas.List.{length-map}
 use Rattle.std.specs.Prelude.{slice_get, slice_index_or, All}
 use Rattle.std.specs.Option.{option_map}
@@ -102,3 +102,16 @@ all_read ms classes graph are number m is =
             omega (arith, low, nodes);
       };
     }
+
+-- the type nodes of the first modules and of the next one are some of all
+pub count_least : (ms : List Placed) (i : ℕ) (d : Placed) → i < length ms
+    → type_count (take i ms) + length (get_or ms i d).types ≤ type_count ms
+count_least [] i d within = absurd (omega (arith, within))
+count_least (m ∷ ms) zero d within =
+    let two = length-append m.types (flat_map (λ types. types) (tables_of ms)) in
+    omega (arith, two)
+count_least (m ∷ ms) (suc i) d within =
+    let rest = count_least ms i d (omega (arith, within)) in
+    let all = length-append m.types (flat_map (λ types. types) (tables_of ms)) in
+    let some = length-append m.types (flat_map (λ types. types) (tables_of (take i ms))) in
+    omega (arith, rest, all, some)

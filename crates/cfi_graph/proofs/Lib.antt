@@ -15,3 +15,4 @@ mod ClassLemmas
 mod BelowLemmas
 pub mod EndLemmas
 mod TestLemmas
+mod TestRows

@@ -139,3 +139,39 @@ two_have_graph m n m_shaped n_shaped before m_types n_types nodes = record {
   few = omega arith;
   nodes = nodes;
 }
+
+-- ---- shorthand
+
+pub all_by_recursion : {X : Type 0} (P : X → Type 0) (xs : List X) → AllByRecursion P xs → All P xs
+all_by_recursion P [] holds = all_none P
+all_by_recursion P (x ∷ xs) holds = all_more P x xs holds.0 (all_by_recursion P xs holds.1)
+
+abbrev pub PairsByRecursion : {X : Type 0} → (X → X → Type 0) → List X → Type 0
+PairsByRecursion R [] = Unit {0}
+PairsByRecursion R (x ∷ xs) = AllByRecursion (R x) xs × PairsByRecursion R xs
+
+pub pairs_by_recursion : {X : Type 0} (R : X → X → Type 0) (xs : List X) → PairsByRecursion R xs → AllPairs R xs
+pairs_by_recursion R [] holds = pairs_none R
+pairs_by_recursion R (x ∷ xs) holds =
+    pairs_more R x xs (all_by_recursion (R x) xs holds.0) (pairs_by_recursion R xs holds.1)
+
+-- Void and a function that gives it, in either order
+abbrev pub void_and_function : List Node
+void_and_function = make_node 0 [] ∷ make_node 7 (0 ∷ []) ∷ []
+
+abbrev pub function_and_void : List Node
+function_and_void = make_node 7 (1 ∷ []) ∷ make_node 0 [] ∷ []
+
+pub void_first : AreTypes void_and_function
+void_first = record {
+  count = omega arith;
+  nodes = (record { arity = refl; fields = tt }, (record { arity = refl; fields = (omega arith, refl, tt) }, tt));
+  names = (all_none (λ k. k < 2), (all_more (λ k. k < 2) 0 [] (omega arith) (all_none (λ k. k < 2)), tt));
+}
+
+pub void_last : AreTypes function_and_void
+void_last = record {
+  count = omega arith;
+  nodes = (record { arity = refl; fields = (omega arith, refl, tt) }, (record { arity = refl; fields = tt }, tt));
+  names = (all_more (λ k. k < 2) 1 [] (omega arith) (all_none (λ k. k < 2)), (all_none (λ k. k < 2), tt));
+}

@@ -8,15 +8,17 @@
 #![tactic(auto)]
 
 mod branch_facts;
-mod edges;
+mod direct;
 mod fact;
 mod facts;
 mod laws;
 mod place;
 mod shape;
 mod spot;
+#[cfg(test)]
+mod tests;
 
-pub use edges::{edges, spanning};
+pub use direct::{edges, spanning};
 pub use laws::direct_is_allowed;
 pub use shape::{FIRST_WORD, shaped_are_apart};
 pub use spot::{Spot, spots};

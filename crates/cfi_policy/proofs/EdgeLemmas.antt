@@ -1,6 +1,6 @@
 -- The direct edges of modules as edges that can be labelled.
 use Rattle.std.proofs.Common.{◌≡◌, ◌∙◌, ◌↔◌, ℕ, ◌+◌, ◌*◌, ◌%◌, ◌<◌, ◌≤◌, List, length, get_or, refl, sym, ap, subst, arith}
-use Rattle.std.specs.Prelude.{All}
+use Rattle.std.specs.Prelude.{All, Result, Ok, Err, IfOk}
 use Rattle.std.specs.List.{Contains, AllPairs}
 use Rattle.std.proofs.lemmas.List.Elements.{All-contains, Contains-get_or}
 use Rattle.cfi_unit.specs.declared.unit.TheConstants.{SLOTS}
@@ -9,15 +9,16 @@ use Rattle.cfi_word.specs.declared.layout.TheConstants.{MAX_CODE_WORDS}
 use Rattle.cfi_word.specs.Chain.{Chain}
 use Rattle.cfi_word.specs.Table.{slots_of}
 use Rattle.cfi_aux.specs.declared.placed.Placed.{Placed}
-use Rattle.cfi_class.specs.Labels.{HasEdge, IsWithin, CanBeLabelled, AreLabels}
-use Rattle.cfi_graph.specs.Direct.{DirectEdge}
-use Rattle.cfi_graph.specs.Shaped.{IsBefore}
+use Rattle.cfi_class.specs.Labels.{HasEdge, IsWithin, CanBeLabelled}
+use Rattle.cfi_word.specs.declared.lists.Image.{Image}
+use Rattle.cfi_graph.specs.Direct.{DirectEdge, Allowed}
 use Rattle.cfi_graph.specs.Reading.{HaveGraph}
 use Rattle.cfi_graph.specs.Edges.{SpanDirectEdges}
 use Rattle.cfi_graph.proofs.EndLemmas.{has_ends}
 use Rattle.cfi_policy.specs.Spans.{Spans}
 use Rattle.cfi_policy.specs.Code.{EndsBefore, AreApart}
-use Rattle.cfi_policy.specs.Image.{HaveImage}
+use Rattle.cfi_policy.specs.Image.{IsImage, HaveImage}
+use Rattle.cfi_policy.proofs.SpansLemmas.{same_chains, spanned_labels}
 
 module _ (ms : List Placed) (edges : List Edge) (span : SpanDirectEdges ms edges) where
   pub spans : Spans (HasEdge edges) (DirectEdge ms)
@@ -60,3 +61,24 @@ apart_in ms code_words image = record {
   order = λ i j d less within. (image.graph.apart.order i j d less within).words;
   within = image.words;
 }
+
+pub if_ok : {T E : Type 0} (r : Result T E) (P Q : T → Type 0) → ((x : T) → P x → Q x) → IfOk r P → IfOk r Q
+if_ok (Ok x) P Q then holds = then x holds
+if_ok (Err e) P Q then holds = holds
+
+module _ (ms : List Placed) (edges : List Edge) (span : SpanDirectEdges ms edges) where
+  -- the image by these edges is that by all
+  pub image_by : (code_words : ℕ) (image : Image) → IsImage (HasEdge edges) ms code_words image
+      → IsImage (DirectEdge ms) ms code_words image
+  image_by code_words image is = record {
+    labels = spanned_labels (HasEdge edges) (DirectEdge ms) (spans ms edges span) code_words image.tary image.bary
+        is.labels;
+    code = is.code;
+  }
+
+  -- the chains of these edges are those of all
+  pub joined_by : (branch target : ℕ) (Is : Type 0) → Is ↔ Chain (HasEdge edges) branch target
+      → Is ↔ Allowed ms branch target
+  joined_by branch target Is both =
+      let chains = same_chains (HasEdge edges) (DirectEdge ms) (spans ms edges span) branch target in
+      (λ is. chains.0 (both.0 is), λ chain. both.1 (chains.1 chain))

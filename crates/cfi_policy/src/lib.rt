@@ -6,14 +6,14 @@
 //! groups of a policy.
 #![tactic(auto)]
 
-mod allowed;
 mod code;
 mod image;
+mod joins;
 mod laws;
 #[cfg(test)]
 mod tests;
 
-pub use allowed::allowed;
 pub use code::code_of;
 pub use image::{image_from, image_of};
+pub use joins::allowed;
 pub use laws::few_span_many;
