@@ -9,6 +9,7 @@ mod TellLemmas
 mod ReadLemmas
 mod NodeLemmas
 mod GoesLemmas
+mod ReturnLemmas
 mod SoundLemmas
 mod DirectLemmas
 mod ClassLemmas

@@ -14,6 +14,7 @@ use Rattle.cfi_graph.specs.declared.shape.TheConstants.{FIRST_WORD}
 use Rattle.cfi_graph.specs.Code.{place_of}
 use Rattle.cfi_graph.specs.Shaped.{slots_of, IsPart, Precedes, IsNamed, IsShapedAs, IsShaped, IsBefore, AreApart}
 use Rattle.cfi_graph.specs.Reading.{HaveGraph, node_count}
+use Rattle.cfi_graph.specs.HandMade.{function_of, placed_of, void_and_function, function_and_void}
 
 -- ---- lists that are written out
 
@@ -57,31 +58,6 @@ count_up base (slot ∷ slots) counts (suc k) within =
     count_up (base + 1) slots counts.1 k (omega (arith, within)) ∙ ap (λ s. Some s) next
 
 -- ---- modules
-
--- a function without a name, by its first word, how many it has, the node of its type, and whether it is taken
-abbrev pub function_of : (ℕ × ℕ × ℕ × Bool) → PlacedFunction
-function_of row = record {
-  first = row.0;
-  count = row.1;
-  ty = row.2;
-  taken = row.3;
-  global = false;
-  name = [];
-}
-
--- a module of these units, without data and exports
-abbrev pub placed_of : (base slot_base : ℕ) → List CodeUnit → List (ℕ × ℕ × ℕ × Bool) → List Kind → List Node → Placed
-placed_of base slot_base code rows branches types = record {
-  base = base;
-  slot_base = slot_base;
-  data_base = 0;
-  words = flat_map words_of code;
-  static_data = [];
-  functions = map function_of rows;
-  branches = branches;
-  types = types;
-  exports = [];
-}
 
 -- what has to be shown of such a module
 pub record IsHandMade (base slot_base : ℕ) (code : List CodeUnit) (rows : List (ℕ × ℕ × ℕ × Bool))
@@ -154,13 +130,6 @@ pub pairs_by_recursion : {X : Type 0} (R : X → X → Type 0) (xs : List X) →
 pairs_by_recursion R [] holds = pairs_none R
 pairs_by_recursion R (x ∷ xs) holds =
     pairs_more R x xs (all_by_recursion (R x) xs holds.0) (pairs_by_recursion R xs holds.1)
-
--- Void and a function that gives it, in either order
-abbrev pub void_and_function : List Node
-void_and_function = make_node 0 [] ∷ make_node 7 (0 ∷ []) ∷ []
-
-abbrev pub function_and_void : List Node
-function_and_void = make_node 7 (1 ∷ []) ∷ make_node 0 [] ∷ []
 
 pub void_first : AreTypes void_and_function
 void_first = record {

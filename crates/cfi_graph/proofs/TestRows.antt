@@ -6,7 +6,8 @@ use Rattle.cfi_aux.specs.declared.records.Kind.{Kind}
 use Rattle.cfi_aux.specs.declared.records.Kind.TheVariants as kinds
 use Rattle.cfi_graph.specs.Shaped.{IsPart, IsPlace, IsNamed, Precedes}
 use Rattle.cfi_graph.specs.Reading.{HaveGraph}
-use Rattle.cfi_graph.proofs.TestLemmas.{all_by_recursion, pairs_by_recursion, function_of, placed_of, IsHandMade, hand_made_is_shaped, one_has_graph, two_have_graph, void_and_function, function_and_void, void_first, void_last}
+use Rattle.cfi_graph.specs.HandMade.{function_of, placed_of, void_and_function, function_and_void}
+use Rattle.cfi_graph.proofs.TestLemmas.{all_by_recursion, pairs_by_recursion, IsHandMade, hand_made_is_shaped, one_has_graph, two_have_graph, void_first, void_last}
 
 -- a call of f, one of g, and one through a pointer to their type; f and g are taken and only return
 abbrev pub call_code : List CodeUnit

@@ -7,3 +7,4 @@ pub mod Facts
 pub mod Reading
 pub mod Flows
 pub mod Edges
+pub mod HandMade

@@ -1,7 +1,7 @@
 ghost use Rattle.std.specs.Prelude.{◌≡◌, map, IfOk};
 ghost use Rattle.std.specs.List.{flat_map, AllByRecursion};
 ghost use Rattle.cfi_unit.specs.Unit.{IsUnit, words_of};
-ghost use Rattle.cfi_graph.proofs.TestLemmas.{function_of, placed_of, void_and_function, function_and_void};
+ghost use Rattle.cfi_graph.specs.HandMade.{function_of, placed_of, void_and_function, function_and_void};
 
 use super::*;
 use cfi_aux::{Kind, Placed, PlacedFunction};
