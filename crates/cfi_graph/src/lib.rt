@@ -3,8 +3,8 @@
 //! Stands on `cfi_unit`, `cfi_word`, `cfi_types`, `cfi_aux` and `cfi_flow`; `cfi_policy` calls it. Proved: the direct
 //! edges of modules are exactly those of `specs/Direct.antt`, in order, each once; a few of them have chains that join
 //! what any joins; the units of a module's code are read with the words at which they stand; shaped modules, each of
-//! which follows the one before, are apart; the policy allows each direct edge. Only tested: that ample memory is
-//! enough. Open: nothing.
+//! which follows the one before, are apart; the policy allows each direct edge. Only tested: nothing. Open: tests of
+//! the edges.
 #![tactic(auto)]
 
 mod branch_facts;
@@ -15,8 +15,6 @@ mod laws;
 mod place;
 mod shape;
 mod spot;
-#[cfg(test)]
-mod tests;
 
 pub use direct::{edges, spanning};
 pub use laws::direct_is_allowed;

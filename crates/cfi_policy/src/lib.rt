@@ -2,8 +2,8 @@
 //!
 //! Stands on `cfi_aux`, `cfi_word`, `cfi_class`, `cfi_graph` and `cfi_unit`. Proved: the image of modules has exactly
 //! the labels of their direct edges, each module's words at its place, and 0 elsewhere; whether the policy lets a
-//! branch go to an address is told exactly, for any two numbers. Only tested: that ample memory is enough. Open: the
-//! groups of a policy.
+//! branch go to an address is told exactly, for any two numbers. Only tested: nothing more. Open: the groups of a
+//! policy.
 #![tactic(auto)]
 
 mod code;
