@@ -1,5 +1,4 @@
 ghost use Rattle.std.specs.Prelude.{All, IfOk};
-ghost use Rattle.cfi_word.specs.declared.layout.TheConstants.{MAX_CODE_WORDS};
 ghost use Rattle.cfi_class.specs.Labels.{IsWithin};
 
 use crate::{are_joined, label};
@@ -9,8 +8,7 @@ use std::test::Fail;
 
 // Those edges of these slots and addresses that lie within a table of 1,024 code words: all, in each row below.
 fn edges_of(alloc: Global, pairs: &[(u32, u32)], slots: u32) -> Result<Vec<Edge>, AllocError>
-    ensures label { IfOk result (λ edges. All (IsWithin slots 1024) edges.items) }
-    ensures join { IfOk result (λ edges. All (IsWithin slots MAX_CODE_WORDS) edges.items) }
+    ensures { IfOk result (λ edges. All (IsWithin slots 1024) edges.items) }
 {
     let mut edges = Vec::new(alloc);
     for (branch, target) in pairs {
@@ -127,7 +125,7 @@ fn joined(rt: HostRuntime) -> Result<(), Fail> {
     let edges = edges_of(rt.alloc(), &pairs, 3)?;
     assert_eq!(rt; edges.len(), 6);
     for (branch, target, joined) in rows {
-        let answer = are_joined(rt.alloc(), &edges, 3, branch, target)?;
+        let answer = are_joined(rt.alloc(), &edges, 3, 1024, branch, target)?;
         assert_eq!(rt; answer, joined, "{branch} to {target}");
     }
     Ok(())

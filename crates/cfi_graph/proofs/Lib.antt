@@ -1,2 +1,19 @@
 pub mod ShapeLemmas
 pub mod SpotLemmas
+mod AddsLemmas
+mod PlaceLemmas
+mod FactLemmas
+mod BoundLemmas
+mod BranchLemmas
+mod TellLemmas
+mod ReadLemmas
+mod NodeLemmas
+mod GoesLemmas
+mod ReturnLemmas
+mod SoundLemmas
+mod DirectLemmas
+mod ClassLemmas
+mod BelowLemmas
+pub mod EndLemmas
+mod TestLemmas
+mod TestRows

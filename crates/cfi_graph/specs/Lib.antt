@@ -3,3 +3,8 @@ pub mod Shaped
 pub mod Calls
 pub mod Direct
 pub mod Spots
+pub mod Facts
+pub mod Reading
+pub mod Flows
+pub mod Edges
+pub mod HandMade

@@ -1,14 +1,22 @@
 //! The control-flow graph of placed modules: which code addresses each of their branches may go to.
 //!
-//! Stands on `cfi_unit`, `cfi_word`, `cfi_types` and `cfi_aux`. Proved: the units of a module's code are read with the
-//! words at which they stand; shaped modules, each of which follows the one before, are apart; the policy allows each
-//! direct edge. Only tested: nothing. Open: the list of all direct edges, which `specs/Direct.antt` defines.
+//! Stands on `cfi_unit`, `cfi_word`, `cfi_types`, `cfi_aux` and `cfi_flow`; `cfi_policy` calls it. Proved: the direct
+//! edges of modules are exactly those of `specs/Direct.antt`, in order, each once; a few of them have chains that join
+//! what any joins; the units of a module's code are read with the words at which they stand; shaped modules, each of
+//! which follows the one before, are apart; the policy allows each direct edge; a graph can be made of some module.
+//! Only tested: nothing. Open: tests of the edges.
 #![tactic(auto)]
 
+mod branch_facts;
+mod direct;
+mod fact;
+mod facts;
 mod laws;
+mod place;
 mod shape;
 mod spot;
 
-pub use laws::direct_is_allowed;
+pub use direct::{edges, spanning};
+pub use laws::{direct_is_allowed, some_module_has_graph};
 pub use shape::{FIRST_WORD, shaped_are_apart};
 pub use spot::{Spot, spots};

@@ -1,3 +1,4 @@
 mod CodeLemmas
 mod TestLemmas
 mod SpansLemmas
+mod EdgeLemmas

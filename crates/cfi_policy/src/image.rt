@@ -1,11 +1,13 @@
 ghost use Rattle.std.specs.Prelude.{IfOk};
 ghost use Rattle.cfi_class.specs.Labels.{HasEdge, CanBeLabelled};
 ghost use Rattle.cfi_policy.specs.Code.{AreApart};
-ghost use Rattle.cfi_policy.specs.Image.{IsImage};
+ghost use Rattle.cfi_policy.specs.Image.{IsImage, HaveImage};
+ghost use Rattle.cfi_graph.specs.Direct.{DirectEdge};
 
 use crate::code::code_of;
 use cfi_aux::Placed;
 use cfi_class::label;
+use cfi_graph::spanning;
 use cfi_word::{Edge, Image, Labels, Layout};
 use std::alloc::{AllocError, Global};
 
@@ -27,4 +29,20 @@ pub fn image_from(
     let Labels { tary, bary } = label(alloc, edges, slots, layout)?;
     let code = code_of(alloc, modules, layout)?;
     Ok(Image { tary, bary, code })
+}
+
+/// The image of the modules: a slot and a code word have one class exactly where a chain of direct edges joins them.
+///
+/// The modules are shaped and lie apart, in the order of their places. They and their slots end within the layout, and
+/// so do the addresses that their branches may go to. The edges are not listed pair by pair.
+pub fn image_of(
+    alloc: Global,
+    modules: &[Placed],
+    layout: &Layout,
+) -> Result<Image, AllocError>
+    requires { HaveImage modules.now layout.now }
+    ensures { IfOk result (IsImage (DirectEdge modules.now) modules.now layout.now) }
+{
+    let edges = spanning(alloc, modules)?;
+    image_from(alloc, edges.as_slice(), layout.slots(), modules, layout)
 }

@@ -1,0 +1,160 @@
+-- What calls and switches tell, and functions, as the facts that are added for them.
+use Rattle.std.proofs.Common.{◌≡◌, ◌⊎◌, ◌∙◌, ℕ, ◌+◌, ◌*◌, Bool, true, false, ℤ, List, [], ◌∷◌, ◌++◌, map, Option, Some, None, refl, sym, ap, subst, inl, inr, arith}
+use Rattle.std.specs.List.{Contains}
+use Rattle.std.specs.Prelude.{slice_get}
+use Rattle.std.proofs.lemmas.Bool.{false≢true}
+use Rattle.std.proofs.lemmas.Option.{same_Some, none-some}
+use Rattle.cfi_flow.proofs.Members.{member_map, from_map}
+use Rattle.cfi_unit.specs.declared.unit.Unit.{Unit as CodeUnit}
+use Rattle.cfi_unit.specs.declared.unit.Unit.TheVariants as units
+use Rattle.cfi_aux.specs.declared.placed.Placed.{Placed}
+use Rattle.cfi_aux.specs.declared.placed.PlacedFunction.{PlacedFunction}
+use Rattle.cfi_aux.specs.declared.records.Kind.{Kind}
+use Rattle.cfi_aux.specs.declared.records.Kind.TheVariants as kinds
+use Rattle.cfi_graph.specs.declared.fact.Fact.{Fact}
+use Rattle.cfi_graph.specs.declared.fact.Fact.TheVariants as facts
+use Rattle.cfi_graph.specs.declared.fact.TheConstants.{CHECK_WORDS}
+use Rattle.cfi_graph.specs.Code.{address_of, entry_of}
+use Rattle.cfi_graph.specs.Shaped.{slot_of}
+use Rattle.cfi_graph.specs.Calls.{HasKind}
+use Rattle.cfi_graph.specs.Facts.{type_node, function_node, listed_fact, IsBranchFact, IsUnitFact, IsFunctionFact, Adds}
+use Rattle.cfi_graph.proofs.AddsLemmas.{adds_two, adds_list, adds_as, adds_none}
+use Rattle.cfi_graph.proofs.FactLemmas.{link, link_is}
+
+-- ---- a call through a pointer
+
+module _ (classes : List (List ℕ)) (number : ℕ) (m : Placed) (at slot node : ℕ) where
+  two_of_call : (fact : Fact) → IsBranchFact classes number m at slot (kinds.Call node) fact
+      → (facts.Pointer (link (type_node classes number node) slot) ≡ fact)
+      ⊎ (facts.Site (link (type_node classes number node) (address_of m (at + CHECK_WORDS))) ≡ fact)
+  two_of_call (facts.Pointer l) told =
+      inl (ap facts.Pointer (link_is l (type_node classes number node) slot told.0 told.1))
+  two_of_call (facts.Site l) told =
+      inr (ap facts.Site (link_is l (type_node classes number node) (address_of m (at + CHECK_WORDS)) told.0 told.1))
+  two_of_call (facts.Arrow l) told = absurd told
+  two_of_call (facts.Return l) told = absurd told
+  two_of_call (facts.Entry l) told = absurd told
+  two_of_call (facts.Listed l) told = absurd told
+
+  pub call_adds : (from to : ℕ) (old : List Fact) → from ≡ type_node classes number node
+      → to ≡ address_of m (at + CHECK_WORDS)
+      → Adds old ((old ++ facts.Pointer (link from slot) ∷ []) ++ facts.Site (link from to) ∷ [])
+      (IsBranchFact classes number m at slot (kinds.Call node))
+  call_adds from to old is after =
+      subst (λ f. Adds old ((old ++ facts.Pointer (link f slot) ∷ []) ++ facts.Site (link f to) ∷ [])
+      (IsBranchFact classes number m at slot (kinds.Call node))) (sym is)
+      (subst (λ t. Adds old ((old ++ facts.Pointer (link (type_node classes number node) slot) ∷ [])
+      ++ facts.Site (link (type_node classes number node) t) ∷ [])
+      (IsBranchFact classes number m at slot (kinds.Call node))) (sym after)
+      (adds_two old (facts.Pointer (link (type_node classes number node) slot))
+      (facts.Site (link (type_node classes number node) (address_of m (at + CHECK_WORDS))))
+      (IsBranchFact classes number m at slot (kinds.Call node)) (refl, refl) (refl, refl) two_of_call))
+
+-- ---- a switch
+
+module _ (classes : List (List ℕ)) (number : ℕ) (m : Placed) (at slot : ℕ) (entries : List ℕ) where
+  listed_back : (fact : Fact) → IsBranchFact classes number m at slot (kinds.Switch entries) fact
+      → Contains (map (listed_fact m.base slot) entries) fact
+  listed_back (facts.Listed l) (from, (entry, has, to)) =
+      subst (λ f. Contains (map (listed_fact m.base slot) entries) f)
+      (ap facts.Listed (link_is l slot (4 * m.base + entry) from to))
+      (member_map (listed_fact m.base slot) entries entry has)
+  listed_back (facts.Arrow l) told = absurd told
+  listed_back (facts.Site l) told = absurd told
+  listed_back (facts.Return l) told = absurd told
+  listed_back (facts.Pointer l) told = absurd told
+  listed_back (facts.Entry l) told = absurd told
+
+  listed_to : (fact : Fact) → Contains (map (listed_fact m.base slot) entries) fact
+      → IsBranchFact classes number m at slot (kinds.Switch entries) fact
+  listed_to fact has =
+      let found = from_map (listed_fact m.base slot) entries fact has in
+      subst (IsBranchFact classes number m at slot (kinds.Switch entries)) found.2 (refl, (found.0, found.1, refl))
+
+  pub switch_adds : (old : List Fact) → Adds old (old ++ map (listed_fact m.base slot) entries)
+      (IsBranchFact classes number m at slot (kinds.Switch entries))
+  switch_adds old =
+      adds_as old (old ++ map (listed_fact m.base slot) entries)
+      (λ fact. Contains (map (listed_fact m.base slot) entries) fact)
+      (IsBranchFact classes number m at slot (kinds.Switch entries))
+      (adds_list old (map (listed_fact m.base slot) entries)) listed_to listed_back
+
+-- ---- checks
+
+-- two kinds of one slot are one
+kind_one : (m : Placed) (slot : ℕ) (one other : Kind) → HasKind m slot one → HasKind m slot other → one ≡ other
+kind_one m slot one other (i, at_i, is_i) (j, at_j, is_j) =
+    let same : i ≡ j = omega (arith, at_i, at_j) in
+    same_Some one other (sym is_i ∙ ap (λ k. slice_get m.branches k) same ∙ is_j)
+
+module _ (classes : List (List ℕ)) (number : ℕ) (m : Placed) (at slot : ℕ) where
+  -- a check whose slot has no branch tells nothing
+  pub no_kind : ((kind : Kind) → HasKind m slot kind → ⊥) → (unit : CodeUnit) → slot_of unit ≡ Some slot → (fact : Fact)
+      → IsUnitFact classes number m at unit fact → ⊥
+  no_kind none (units.Check linked rs1 imm own) is fact told =
+      none told.0 (subst (λ s. HasKind m s told.0) (same_Some own slot is) told.1)
+  no_kind none (units.Plain insn) is fact told = absurd (none-some slot is)
+  no_kind none (units.Load kind rd rs1 imm) is fact told = absurd (none-some slot is)
+  no_kind none (units.Store kind rs1 rs2 imm) is fact told = absurd (none-some slot is)
+  no_kind none (units.Branch cond rs1 rs2 off) is fact told = absurd (none-some slot is)
+  no_kind none (units.Jump linked off) is fact told = absurd (none-some slot is)
+  no_kind none units.Service is fact told = absurd (none-some slot is)
+
+  check_here : (kind : Kind) → HasKind m slot kind → (linked : Bool) (rs1 : ℕ) (imm : ℤ) (old new : List Fact)
+      → Adds old new (IsBranchFact classes number m at slot kind)
+      → Adds old new (IsUnitFact classes number m at (units.Check linked rs1 imm slot))
+  check_here kind has linked rs1 imm old new a =
+      adds_as old new (IsBranchFact classes number m at slot kind)
+      (IsUnitFact classes number m at (units.Check linked rs1 imm slot)) a (λ fact told. (kind, has, told))
+      (λ fact told. subst (λ k. IsBranchFact classes number m at slot k fact)
+      (kind_one m slot told.0 kind told.1 has) told.2)
+
+  -- a check tells what its branch tells
+  pub check_adds : (kind : Kind) → HasKind m slot kind → (unit : CodeUnit) → slot_of unit ≡ Some slot
+      → (old new : List Fact) → Adds old new (IsBranchFact classes number m at slot kind)
+      → Adds old new (IsUnitFact classes number m at unit)
+  check_adds kind has (units.Check linked rs1 imm own) is old new a =
+      subst (λ s. Adds old new (IsUnitFact classes number m at (units.Check linked rs1 imm s)))
+      (sym (same_Some own slot is)) (check_here kind has linked rs1 imm old new a)
+  check_adds kind has (units.Plain insn) is old new a = absurd (none-some slot is)
+  check_adds kind has (units.Load k rd rs1 imm) is old new a = absurd (none-some slot is)
+  check_adds kind has (units.Store k rs1 rs2 imm) is old new a = absurd (none-some slot is)
+  check_adds kind has (units.Branch cond rs1 rs2 off) is old new a = absurd (none-some slot is)
+  check_adds kind has (units.Jump linked off) is old new a = absurd (none-some slot is)
+  check_adds kind has units.Service is old new a = absurd (none-some slot is)
+
+-- ---- functions
+
+module _ (classes : List (List ℕ)) (number : ℕ) (m : Placed) (f : PlacedFunction) where
+  pub not_taken : f.taken ≡ false → (fact : Fact) → IsFunctionFact classes number m f fact → ⊥
+  not_taken is (facts.Arrow l) told = false≢true (sym is ∙ told.0)
+  not_taken is (facts.Entry l) told = false≢true (sym is ∙ told.0)
+  not_taken is (facts.Site l) told = told
+  not_taken is (facts.Return l) told = told
+  not_taken is (facts.Pointer l) told = told
+  not_taken is (facts.Listed l) told = told
+
+  two_of_function : (fact : Fact) → IsFunctionFact classes number m f fact
+      → (facts.Arrow (link (type_node classes number f.ty) (function_node m f)) ≡ fact)
+      ⊎ (facts.Entry (link (type_node classes number f.ty) (entry_of m f)) ≡ fact)
+  two_of_function (facts.Arrow l) told =
+      inl (ap facts.Arrow (link_is l (type_node classes number f.ty) (function_node m f) told.1 told.2))
+  two_of_function (facts.Entry l) told =
+      inr (ap facts.Entry (link_is l (type_node classes number f.ty) (entry_of m f) told.1 told.2))
+  two_of_function (facts.Site l) told = absurd told
+  two_of_function (facts.Return l) told = absurd told
+  two_of_function (facts.Pointer l) told = absurd told
+  two_of_function (facts.Listed l) told = absurd told
+
+  pub function_adds : (from to : ℕ) (old : List Fact) → f.taken ≡ true → from ≡ type_node classes number f.ty
+      → to ≡ entry_of m f
+      → Adds old ((old ++ facts.Arrow (link from (function_node m f)) ∷ []) ++ facts.Entry (link from to) ∷ [])
+      (IsFunctionFact classes number m f)
+  function_adds from to old taken is after =
+      subst (λ k. Adds old ((old ++ facts.Arrow (link k (function_node m f)) ∷ []) ++ facts.Entry (link k to) ∷ [])
+      (IsFunctionFact classes number m f)) (sym is)
+      (subst (λ t. Adds old ((old ++ facts.Arrow (link (type_node classes number f.ty) (function_node m f)) ∷ [])
+      ++ facts.Entry (link (type_node classes number f.ty) t) ∷ []) (IsFunctionFact classes number m f)) (sym after)
+      (adds_two old (facts.Arrow (link (type_node classes number f.ty) (function_node m f)))
+      (facts.Entry (link (type_node classes number f.ty) (entry_of m f)))
+      (IsFunctionFact classes number m f) (taken, refl, refl) (taken, refl, refl) two_of_function))

@@ -1,0 +1,211 @@
+-- Where there is a direct edge, control goes along a flow that says what modules tell.
+use Rattle.std.proofs.Common.{◌≡◌, ◌↔◌, ◌⊎◌, ◌∙◌, ℕ, zero, suc, ◌+◌, ◌*◌, ◌<◌, Bool, true, false, ℤ, pos, negsuc, List, length, Option, Some, refl, sym, ap, subst, inl, inr, arith}
+use Rattle.std.specs.Prelude.{slice_get, IsTrue}
+use Rattle.std.specs.List.{Contains}
+use Rattle.cfi_flow.specs.declared.links.Flow.{Flow}
+use Rattle.cfi_flow.specs.Flow.{Links, IsPath, Reaches, PointsAt, ReturnsAt, Goes}
+use Rattle.cfi_unit.specs.declared.unit.Unit.{Unit as CodeUnit}
+use Rattle.cfi_unit.specs.declared.unit.Unit.TheVariants as units
+use Rattle.cfi_unit.specs.Unit.{size_of}
+use Rattle.cfi_word.specs.declared.layout.TheConstants.{MAX_CODE_WORDS}
+use Rattle.cfi_types.specs.Classes.{AreClasses}
+use Rattle.cfi_aux.specs.declared.placed.Placed.{Placed}
+use Rattle.cfi_aux.specs.declared.placed.PlacedFunction.{PlacedFunction}
+use Rattle.cfi_aux.specs.declared.records.Kind.{Kind}
+use Rattle.cfi_aux.specs.declared.records.Kind.TheVariants as kinds
+use Rattle.cfi_graph.specs.declared.fact.Fact.{Fact}
+use Rattle.cfi_graph.specs.declared.fact.Fact.TheVariants as facts
+use Rattle.cfi_graph.specs.declared.fact.TheConstants.{CHECK_WORDS}
+use Rattle.cfi_graph.specs.Code.{Stands, address_of, entry_of, Leads}
+use Rattle.cfi_graph.specs.Shaped.{AreApart}
+use Rattle.cfi_graph.specs.Calls.{HasKind, IsFunction, MayPoint, IsCall, IsTailCall, LiesIn, ReturnsTo, TailCalls, IsReached}
+use Rattle.cfi_graph.specs.Direct.{IsPointee, IsReturnTarget, GoesTo, DirectEdge}
+use Rattle.cfi_graph.specs.Facts.{type_node, function_node, LeadsToWord, IsFirst, LiesInNode, IsUnitFact, IsTold}
+use Rattle.cfi_graph.specs.Reading.{tables_of}
+use Rattle.cfi_graph.proofs.FactLemmas.{link}
+use Rattle.cfi_graph.proofs.BoundLemmas.{at_contains, inside, branch_names}
+use Rattle.cfi_graph.proofs.NodeLemmas.{StandsAt, same_types, shaped_at, node_low}
+use Rattle.cfi_graph.proofs.ReadLemmas.{TellsFlow}
+
+-- the number of a function's module
+number_of : (ms : List Placed) (n : Placed) (g : PlacedFunction) (is : IsFunction ms n g)
+    → (number : ℕ) × StandsAt ms number n g
+number_of ms n g is = (is.placed.0, record { is = at_contains ms n is.placed; has = is.function })
+
+lies_node : (m : Placed) (f : PlacedFunction) (at : ℕ) → Contains m.functions f → LiesIn f at
+    → LiesInNode m at (function_node m f)
+lies_node m f at has lies = (f.first, record { function = f; has = has; lies = lies; is = refl }, refl)
+
+module _ (ms : List Placed) (classes : List (List ℕ)) (apart : AreApart ms)
+    (are : AreClasses (tables_of ms) classes) (flow : Flow) (tells : TellsFlow ms classes flow) where
+  by_unit : (number : ℕ) (m : Placed) → slice_get ms number ≡ Some m → (at : ℕ) (unit : CodeUnit) → Stands m at unit
+      → (fact : Fact) → IsUnitFact classes number m at unit fact → IsTold ms classes fact
+  by_unit number m is at unit stands fact told = record {
+    number = number;
+    owner = m;
+    is = is;
+    tells = inl (record { at = at; unit = unit; stands = stands; tells = told });
+  }
+
+  step : (a b c : ℕ) → Links flow.arrows.items a b → Reaches flow.arrows.items b c → Reaches flow.arrows.items a c
+  step a b c arrow (steps, path) = (suc steps, (b, arrow, path))
+
+  -- the node of a taken function's type leads to the function
+  type_arrow : (number : ℕ) (n : Placed) (g : PlacedFunction) → StandsAt ms number n g → IsTrue g.taken
+      → Links flow.arrows.items (type_node classes number g.ty) (function_node n g)
+  type_arrow number n g at taken =
+      (tells.arrows (type_node classes number g.ty) (function_node n g)).1 (record {
+        number = number;
+        owner = n;
+        is = at.is;
+        tells = inr (record { function = g; has = at.has; tells = (taken, refl, refl) });
+      })
+
+  -- the node of a pointer's type is that of the function to which it may lead
+  same_node : (i j : ℕ) (m n : Placed) (node : ℕ) (g : PlacedFunction) → slice_get ms i ≡ Some m
+      → node < length m.types → StandsAt ms j n g → MayPoint m node n g
+      → type_node classes i node ≡ type_node classes j g.ty
+  same_node i j m n node g is within at may =
+      let typed = (inside n (shaped_at ms apart j n at.is) g at.has).typed in
+      (same_types ms classes are i j m n is at.is node g.ty within typed).1 may.equal
+
+  leads_word : (m : Placed) (at : ℕ) (off : ℤ) (number : ℕ) (n : Placed) (g : PlacedFunction) → StandsAt ms number n g
+      → Leads (address_of m at) off (entry_of n g) → LeadsToWord (m.base + at) off (function_node n g)
+  leads_word m at off number n g stands leads =
+      record { leads = leads; within = (node_low ms apart number n g stands).1 }
+
+  -- ---- tail calls
+
+  tail_step : (i : ℕ) (m : Placed) (f : PlacedFunction) → StandsAt ms i m f → (j : ℕ) (n : Placed) (g : PlacedFunction)
+      → StandsAt ms j n g → (at : ℕ) → LiesIn f at → (unit : CodeUnit) → Stands m at unit → IsTailCall m at unit n g
+      → (to : ℕ) → Reaches flow.arrows.items (function_node n g) to → Reaches flow.arrows.items (function_node m f) to
+  tail_step i m f m_at j n g n_at at lies (units.Jump false off) stands call to rest =
+      step (function_node m f) (function_node n g) to
+      ((tells.arrows (function_node m f) (function_node n g)).1 (by_unit i m m_at.is at (units.Jump false off) stands
+      (facts.Arrow (link (function_node m f) (function_node n g)))
+      (lies_node m f at m_at.has lies, leads_word m at off j n g n_at call))) rest
+  tail_step i m f m_at j n g n_at at lies (units.Check linked rs1 imm slot) stands (type, has, may) to rest =
+      let within = branch_names m (shaped_at ms apart i m m_at.is) slot (kinds.Tail type) has in
+      let same = same_node i j m n type g m_at.is within n_at may in
+      let node = type_node classes i type in
+      step (function_node m f) node to
+      ((tells.arrows (function_node m f) node).1 (by_unit i m m_at.is at (units.Check linked rs1 imm slot) stands
+      (facts.Arrow (link (function_node m f) node)) (kinds.Tail type, has, (lies_node m f at m_at.has lies, refl))))
+      (step node (function_node n g) to
+      (subst (λ a. Links flow.arrows.items a (function_node n g)) (sym same) (type_arrow j n g n_at may.taken)) rest)
+  tail_step i m f m_at j n g n_at at lies (units.Jump true off) stands call to rest = absurd call
+  tail_step i m f m_at j n g n_at at lies (units.Plain insn) stands call to rest = absurd call
+  tail_step i m f m_at j n g n_at at lies (units.Load kind rd rs1 imm) stands call to rest = absurd call
+  tail_step i m f m_at j n g n_at at lies (units.Store kind rs1 rs2 imm) stands call to rest = absurd call
+  tail_step i m f m_at j n g n_at at lies (units.Branch cond rs1 rs2 off) stands call to rest = absurd call
+  tail_step i m f m_at j n g n_at at lies units.Service stands call to rest = absurd call
+
+  -- along tail calls one function's node leads to the other's
+  tail_path : (steps i : ℕ) (m : Placed) (f : PlacedFunction) → StandsAt ms i m f → (n : Placed) (g : PlacedFunction)
+      → IsReached ms steps m f n g → Reaches flow.arrows.items (function_node m f) (function_node n g)
+  tail_path zero i m f at n g (modules, functions) =
+      (0, ap (λ x. function_node x f) modules ∙ ap (λ h. function_node n h) functions)
+  tail_path (suc steps) i m f at n g (o, h, is, call, rest) =
+      let next = number_of ms o h is in
+      tail_step i m f at next.0 o h next.1 call.at call.lies call.unit call.stands call.call (function_node n g)
+      (tail_path steps next.0 o h next.1 n g rest)
+
+  -- ---- calls
+
+  -- a node that the call enters, to whose address it comes back
+  abbrev IsSiteOf : (node to address : ℕ) → Type 0
+  IsSiteOf node to address = Links flow.sites.items node address × Reaches flow.arrows.items node to
+
+  call_site : (i : ℕ) (m : Placed) → slice_get ms i ≡ Some m → (j : ℕ) (n : Placed) (g : PlacedFunction)
+      → StandsAt ms j n g → (at : ℕ) (unit : CodeUnit) → Stands m at unit → IsCall m at unit n g → (address : ℕ)
+      → address ≡ address_of m (at + size_of unit) → (to : ℕ) → Reaches flow.arrows.items (function_node n g) to
+      → (node : ℕ) × IsSiteOf node to address
+  call_site i m is j n g n_at at (units.Jump true off) stands call address after to rest = (
+    function_node n g,
+    (
+      (tells.sites (function_node n g) address).1 (by_unit i m is at (units.Jump true off) stands
+          (facts.Site (link (function_node n g) address)) (leads_word m at off j n g n_at call, after)),
+      rest,
+    ),
+  )
+  call_site i m is j n g n_at at (units.Check linked rs1 imm slot) stands (type, has, may) address after to rest =
+      let within = branch_names m (shaped_at ms apart i m is) slot (kinds.Call type) has in
+      let same = same_node i j m n type g is within n_at may in
+      let node = type_node classes i type in (
+        node,
+        (
+          (tells.sites node address).1 (by_unit i m is at (units.Check linked rs1 imm slot) stands
+              (facts.Site (link node address)) (kinds.Call type, has, (refl, after))),
+          step node (function_node n g) to
+              (subst (λ a. Links flow.arrows.items a (function_node n g)) (sym same) (type_arrow j n g n_at may.taken))
+              rest,
+        ),
+      )
+  call_site i m is j n g n_at at (units.Jump false off) stands call address after to rest = absurd call
+  call_site i m is j n g n_at at (units.Plain insn) stands call address after to rest = absurd call
+  call_site i m is j n g n_at at (units.Load kind rd rs1 imm) stands call address after to rest = absurd call
+  call_site i m is j n g n_at at (units.Store kind rs1 rs2 imm) stands call address after to rest = absurd call
+  call_site i m is j n g n_at at (units.Branch cond rs1 rs2 off) stands call address after to rest = absurd call
+  call_site i m is j n g n_at at units.Service stands call address after to rest = absurd call
+
+  -- ---- edges
+
+  pointee_goes : (i : ℕ) (m : Placed) → slice_get ms i ≡ Some m → (type slot address : ℕ) → type < length m.types
+      → IsTold ms classes (facts.Pointer (link (type_node classes i type) slot)) → IsPointee ms m type address
+      → Goes flow slot address
+  pointee_goes i m is type slot address within told p =
+      let n_at = number_of ms p.owner p.function p.is in
+      let node = type_node classes i type in
+      let same = same_node i n_at.0 m p.owner type p.function is within n_at.1 p.may in
+      inr (node, inl (record {
+        pointer = (tells.pointers node slot).1 told;
+        entry = (tells.entries node address).1 (record {
+          number = n_at.0;
+          owner = p.owner;
+          is = n_at.1.is;
+          tells = inr (record { function = p.function; has = n_at.1.has; tells = (p.may.taken, same, p.entry) });
+        });
+      }))
+
+  return_goes : (i : ℕ) (m : Placed) → slice_get ms i ≡ Some m → (at : ℕ) (linked : Bool) (rs1 : ℕ) (imm : ℤ) (slot : ℕ)
+      → Stands m at (units.Check linked rs1 imm slot) → HasKind m slot kinds.Return → (address : ℕ)
+      → IsReturnTarget ms m at address → Goes flow slot address
+  return_goes i m is at linked rs1 imm slot stands has address r =
+      let entered = number_of ms r.owner r.entered r.is in
+      let to = function_node m r.returning in
+      let path = tail_path r.steps entered.0 r.owner r.entered entered.1 m r.returning r.reached in
+      let call = r.returns in
+      let site = call_site call.placed.0 call.caller (at_contains ms call.caller call.placed) entered.0 r.owner r.entered
+      entered.1 call.at call.unit call.stands call.call address call.after to path in
+      inr (site.0, inr (record {
+        site = site.1.0;
+        returning = to;
+        reached = site.1.1;
+        back = (tells.returns to slot).1 (by_unit i m is at (units.Check linked rs1 imm slot) stands
+            (facts.Return (link to slot)) (kinds.Return, has, (lies_node m r.returning at r.has r.lies, refl)));
+      }))
+
+  kind_goes : (i : ℕ) (m : Placed) → slice_get ms i ≡ Some m → (at : ℕ) (linked : Bool) (rs1 : ℕ) (imm : ℤ) (slot : ℕ)
+      → Stands m at (units.Check linked rs1 imm slot) → (kind : Kind) → HasKind m slot kind → (address : ℕ)
+      → GoesTo ms m at kind address → Goes flow slot address
+  kind_goes i m is at linked rs1 imm slot stands (kinds.Call type) has address goes =
+      pointee_goes i m is type slot address
+      (branch_names m (shaped_at ms apart i m is) slot (kinds.Call type) has)
+      (by_unit i m is at (units.Check linked rs1 imm slot) stands
+      (facts.Pointer (link (type_node classes i type) slot)) (kinds.Call type, has, (refl, refl))) goes
+  kind_goes i m is at linked rs1 imm slot stands (kinds.Tail type) has address goes =
+      pointee_goes i m is type slot address
+      (branch_names m (shaped_at ms apart i m is) slot (kinds.Tail type) has)
+      (by_unit i m is at (units.Check linked rs1 imm slot) stands
+      (facts.Pointer (link (type_node classes i type) slot)) (kinds.Tail type, has, (refl, refl))) goes
+  kind_goes i m is at linked rs1 imm slot stands kinds.Return has address goes =
+      return_goes i m is at linked rs1 imm slot stands has address goes
+  kind_goes i m is at linked rs1 imm slot stands (kinds.Switch entries) has address goes =
+      inl ((tells.listed slot address).1 (by_unit i m is at (units.Check linked rs1 imm slot) stands
+      (facts.Listed (link slot address)) (kinds.Switch entries, has, (refl, goes))))
+
+  -- where there is a direct edge control goes
+  pub direct_goes : (slot address : ℕ) → DirectEdge ms slot address → Goes flow slot address
+  direct_goes slot address e =
+      kind_goes e.placed.0 e.owner (at_contains ms e.owner e.placed) e.at e.link e.rs1 e.imm slot e.stands e.kind e.has
+      address e.goes

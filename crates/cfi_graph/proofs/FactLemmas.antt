@@ -1,0 +1,179 @@
+-- What jumps, branches and functions tell, as the facts that are added for them.
+use Rattle.std.proofs.Common.{◌≡◌, ◌⊎◌, ◌∙◌, ℕ, ◌+◌, ◌*◌, ◌<◌, Bool, true, false, ℤ, List, [], ◌∷◌, ◌++◌, map, Option, Some, None, refl, sym, ap, subst, inl, inr, arith}
+use Rattle.std.specs.List.{Contains, AllPairs}
+use Rattle.cfi_flow.specs.declared.links.Link.{Link}
+use Rattle.cfi_unit.specs.declared.unit.Unit.{Unit as CodeUnit}
+use Rattle.cfi_unit.specs.declared.unit.Unit.TheVariants as units
+use Rattle.cfi_aux.specs.declared.placed.Placed.{Placed}
+use Rattle.cfi_aux.specs.declared.placed.PlacedFunction.{PlacedFunction}
+use Rattle.cfi_aux.specs.declared.records.Kind.{Kind}
+use Rattle.cfi_aux.specs.declared.records.Kind.TheVariants as kinds
+use Rattle.cfi_graph.specs.declared.fact.Fact.{Fact}
+use Rattle.cfi_graph.specs.declared.fact.Fact.TheVariants as facts
+use Rattle.cfi_graph.specs.declared.fact.TheConstants.{CHECK_WORDS}
+use Rattle.cfi_graph.specs.Code.{address_of, entry_of}
+use Rattle.cfi_graph.specs.Shaped.{Precedes, slot_of}
+use Rattle.cfi_graph.specs.Calls.{HasKind}
+use Rattle.cfi_graph.specs.Facts.{type_node, function_node, LeadsToWord, IsFirst, LiesInNode, listed_fact, IsJumpFact, IsBranchFact, IsUnitFact, IsFunctionFact, Adds}
+use Rattle.cfi_graph.proofs.AddsLemmas.{adds_none, adds_one, adds_two, adds_list, adds_as}
+use Rattle.cfi_graph.proofs.PlaceLemmas.{word_one, first_one}
+
+abbrev pub link : (a b : ℕ) → Link
+link a b = record { from = a; to = b }
+
+-- a link of these ends
+pub link_is : (l : Link) (a b : ℕ) → l.from ≡ a → l.to ≡ b → link a b ≡ l
+link_is l a b from to = ap (λ x. link x b) (sym from) ∙ ap (λ y. link l.from y) (sym to)
+
+-- ---- jumps
+
+pub jump_leads_nowhere : (m : Placed) (at : ℕ) (linked : Bool) (off : ℤ)
+    → ((word : ℕ) → LeadsToWord (m.base + at) off word → ⊥) → (fact : Fact) → IsJumpFact m at linked off fact → ⊥
+jump_leads_nowhere m at true off no_word (facts.Site l) told = no_word l.from told.0
+jump_leads_nowhere m at true off no_word (facts.Arrow l) told = told
+jump_leads_nowhere m at true off no_word (facts.Return l) told = told
+jump_leads_nowhere m at true off no_word (facts.Pointer l) told = told
+jump_leads_nowhere m at true off no_word (facts.Entry l) told = told
+jump_leads_nowhere m at true off no_word (facts.Listed l) told = told
+jump_leads_nowhere m at false off no_word (facts.Arrow l) told = no_word l.to told.1
+jump_leads_nowhere m at false off no_word (facts.Site l) told = told
+jump_leads_nowhere m at false off no_word (facts.Return l) told = told
+jump_leads_nowhere m at false off no_word (facts.Pointer l) told = told
+jump_leads_nowhere m at false off no_word (facts.Entry l) told = told
+jump_leads_nowhere m at false off no_word (facts.Listed l) told = told
+
+one_site : (m : Placed) (at : ℕ) (off : ℤ) (word : ℕ) → LeadsToWord (m.base + at) off word → (fact : Fact)
+    → IsJumpFact m at true off fact → facts.Site (link word (address_of m (at + 1))) ≡ fact
+one_site m at off word leads (facts.Site l) told =
+    ap facts.Site (link_is l word (address_of m (at + 1)) (word_one (m.base + at) off l.from word told.0 leads) told.1)
+one_site m at off word leads (facts.Arrow l) told = absurd told
+one_site m at off word leads (facts.Return l) told = absurd told
+one_site m at off word leads (facts.Pointer l) told = absurd told
+one_site m at off word leads (facts.Entry l) told = absurd told
+one_site m at off word leads (facts.Listed l) told = absurd told
+
+-- a jump that links adds the place to which its call comes back
+pub site_adds : (m : Placed) (at : ℕ) (linked : Bool) (off : ℤ) (word to : ℕ) (old : List Fact) → linked ≡ true
+    → LeadsToWord (m.base + at) off word → to ≡ address_of m (at + 1)
+    → Adds old (old ++ facts.Site (link word to) ∷ []) (IsJumpFact m at linked off)
+site_adds m at linked off word to old is leads after =
+    subst (λ l. Adds old (old ++ facts.Site (link word to) ∷ []) (IsJumpFact m at l off)) (sym is)
+    (subst (λ t. Adds old (old ++ facts.Site (link word t) ∷ []) (IsJumpFact m at true off)) (sym after)
+    (adds_one old (facts.Site (link word (address_of m (at + 1)))) (IsJumpFact m at true off) (leads, refl)
+    (one_site m at off word leads)))
+
+-- the facts of a word that lies in no function
+module _ (m : Placed) (at : ℕ) (no_first : (first : ℕ) → IsFirst m.functions at first → ⊥) where
+  nowhere_arrow : (off : ℤ) (fact : Fact) → IsJumpFact m at false off fact → ⊥
+  nowhere_arrow off (facts.Arrow l) told = no_first told.0.0 told.0.1
+  nowhere_arrow off (facts.Site l) told = told
+  nowhere_arrow off (facts.Return l) told = told
+  nowhere_arrow off (facts.Pointer l) told = told
+  nowhere_arrow off (facts.Entry l) told = told
+  nowhere_arrow off (facts.Listed l) told = told
+
+  pub jump_lies_nowhere : (linked : Bool) (off : ℤ) → linked ≡ false → (fact : Fact)
+      → IsJumpFact m at linked off fact → ⊥
+  jump_lies_nowhere linked off is fact told =
+      nowhere_arrow off fact (subst (λ l. IsJumpFact m at l off fact) is told)
+
+  pub nowhere_return : (classes : List (List ℕ)) (number slot : ℕ) (fact : Fact)
+      → IsBranchFact classes number m at slot kinds.Return fact → ⊥
+  nowhere_return classes number slot (facts.Return l) told = no_first told.0.0 told.0.1
+  nowhere_return classes number slot (facts.Arrow l) told = told
+  nowhere_return classes number slot (facts.Site l) told = told
+  nowhere_return classes number slot (facts.Pointer l) told = told
+  nowhere_return classes number slot (facts.Entry l) told = told
+  nowhere_return classes number slot (facts.Listed l) told = told
+
+  nowhere_tail : (classes : List (List ℕ)) (number slot node : ℕ) (fact : Fact)
+      → IsBranchFact classes number m at slot (kinds.Tail node) fact
+      → facts.Pointer (link (type_node classes number node) slot) ≡ fact
+  nowhere_tail classes number slot node (facts.Pointer l) told =
+      ap facts.Pointer (link_is l (type_node classes number node) slot told.0 told.1)
+  nowhere_tail classes number slot node (facts.Arrow l) told = absurd (no_first told.0.0 told.0.1)
+  nowhere_tail classes number slot node (facts.Site l) told = absurd told
+  nowhere_tail classes number slot node (facts.Return l) told = absurd told
+  nowhere_tail classes number slot node (facts.Entry l) told = absurd told
+  nowhere_tail classes number slot node (facts.Listed l) told = absurd told
+
+  pub tail_adds_one : (classes : List (List ℕ)) (number slot node to : ℕ) (old : List Fact)
+      → to ≡ type_node classes number node
+      → Adds old (old ++ facts.Pointer (link to slot) ∷ []) (IsBranchFact classes number m at slot (kinds.Tail node))
+  tail_adds_one classes number slot node to old is =
+      subst (λ t. Adds old (old ++ facts.Pointer (link t slot) ∷ [])
+      (IsBranchFact classes number m at slot (kinds.Tail node))) (sym is)
+      (adds_one old (facts.Pointer (link (type_node classes number node) slot))
+      (IsBranchFact classes number m at slot (kinds.Tail node)) (refl, refl)
+      (nowhere_tail classes number slot node))
+
+-- the facts of a word that lies in a function
+module _ (m : Placed) (order : AllPairs Precedes m.functions) (at first : ℕ)
+    (is_first : IsFirst m.functions at first) where
+  lies : LiesInNode m at (m.base + first)
+  lies = (first, is_first, refl)
+
+  same_node : (node : ℕ) → LiesInNode m at node → node ≡ m.base + first
+  same_node node (one, is, e) =
+      e ∙ ap (λ k. m.base + k) (first_one m.functions order at one first is is_first)
+
+  one_arrow : (off : ℤ) (word : ℕ) → LeadsToWord (m.base + at) off word → (fact : Fact)
+      → IsJumpFact m at false off fact → facts.Arrow (link (m.base + first) word) ≡ fact
+  one_arrow off word leads (facts.Arrow l) told =
+      ap facts.Arrow (link_is l (m.base + first) word (same_node l.from told.0)
+      (word_one (m.base + at) off l.to word told.1 leads))
+  one_arrow off word leads (facts.Site l) told = absurd told
+  one_arrow off word leads (facts.Return l) told = absurd told
+  one_arrow off word leads (facts.Pointer l) told = absurd told
+  one_arrow off word leads (facts.Entry l) told = absurd told
+  one_arrow off word leads (facts.Listed l) told = absurd told
+
+  pub arrow_adds : (linked : Bool) (off : ℤ) (word : ℕ) (old : List Fact) → linked ≡ false
+      → LeadsToWord (m.base + at) off word
+      → Adds old (old ++ facts.Arrow (link (m.base + first) word) ∷ []) (IsJumpFact m at linked off)
+  arrow_adds linked off word old is leads =
+      subst (λ l. Adds old (old ++ facts.Arrow (link (m.base + first) word) ∷ []) (IsJumpFact m at l off)) (sym is)
+      (adds_one old (facts.Arrow (link (m.base + first) word)) (IsJumpFact m at false off) (lies, leads)
+      (one_arrow off word leads))
+
+  one_return : (classes : List (List ℕ)) (number slot : ℕ) (fact : Fact)
+      → IsBranchFact classes number m at slot kinds.Return fact → facts.Return (link (m.base + first) slot) ≡ fact
+  one_return classes number slot (facts.Return l) told =
+      ap facts.Return (link_is l (m.base + first) slot (same_node l.from told.0) told.1)
+  one_return classes number slot (facts.Arrow l) told = absurd told
+  one_return classes number slot (facts.Site l) told = absurd told
+  one_return classes number slot (facts.Pointer l) told = absurd told
+  one_return classes number slot (facts.Entry l) told = absurd told
+  one_return classes number slot (facts.Listed l) told = absurd told
+
+  pub return_adds : (classes : List (List ℕ)) (number slot : ℕ) (old : List Fact)
+      → Adds old (old ++ facts.Return (link (m.base + first) slot) ∷ [])
+      (IsBranchFact classes number m at slot kinds.Return)
+  return_adds classes number slot old =
+      adds_one old (facts.Return (link (m.base + first) slot)) (IsBranchFact classes number m at slot kinds.Return)
+      (lies, refl) (one_return classes number slot)
+
+  two_of_tail : (classes : List (List ℕ)) (number slot node : ℕ) (fact : Fact)
+      → IsBranchFact classes number m at slot (kinds.Tail node) fact
+      → (facts.Pointer (link (type_node classes number node) slot) ≡ fact)
+      ⊎ (facts.Arrow (link (m.base + first) (type_node classes number node)) ≡ fact)
+  two_of_tail classes number slot node (facts.Pointer l) told =
+      inl (ap facts.Pointer (link_is l (type_node classes number node) slot told.0 told.1))
+  two_of_tail classes number slot node (facts.Arrow l) told =
+      inr (ap facts.Arrow (link_is l (m.base + first) (type_node classes number node) (same_node l.from told.0) told.1))
+  two_of_tail classes number slot node (facts.Site l) told = absurd told
+  two_of_tail classes number slot node (facts.Return l) told = absurd told
+  two_of_tail classes number slot node (facts.Entry l) told = absurd told
+  two_of_tail classes number slot node (facts.Listed l) told = absurd told
+
+  pub tail_adds_two : (classes : List (List ℕ)) (number slot node to : ℕ) (old : List Fact)
+      → to ≡ type_node classes number node
+      → Adds old ((old ++ facts.Pointer (link to slot) ∷ []) ++ facts.Arrow (link (m.base + first) to) ∷ [])
+      (IsBranchFact classes number m at slot (kinds.Tail node))
+  tail_adds_two classes number slot node to old is =
+      subst (λ t. Adds old ((old ++ facts.Pointer (link t slot) ∷ []) ++ facts.Arrow (link (m.base + first) t) ∷ [])
+      (IsBranchFact classes number m at slot (kinds.Tail node))) (sym is)
+      (adds_two old (facts.Pointer (link (type_node classes number node) slot))
+      (facts.Arrow (link (m.base + first) (type_node classes number node)))
+      (IsBranchFact classes number m at slot (kinds.Tail node)) (refl, refl) (lies, refl)
+      (two_of_tail classes number slot node))

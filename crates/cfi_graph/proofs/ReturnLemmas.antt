@@ -1,0 +1,155 @@
+-- Where a flow that says what modules tell returns, there is a direct edge.
+use Rattle.std.proofs.Common.{◌≡◌, ◌↔◌, ◌⊎◌, ◌∙◌, ℕ, ◌+◌, ◌*◌, ◌<◌, Bool, true, false, ℤ, List, length, Option, Some, refl, sym, ap, subst, inl, inr, arith}
+use Rattle.std.specs.Prelude.{slice_get, IsTrue}
+use Rattle.std.specs.List.{Contains}
+use Rattle.cfi_flow.specs.declared.links.Flow.{Flow}
+use Rattle.cfi_flow.specs.Flow.{Reaches, PointsAt, ReturnsAt, Goes}
+use Rattle.cfi_unit.specs.declared.unit.Unit.TheVariants as units
+use Rattle.cfi_types.specs.Classes.{AreClasses}
+use Rattle.cfi_aux.specs.declared.placed.Placed.{Placed}
+use Rattle.cfi_aux.specs.declared.placed.PlacedFunction.{PlacedFunction}
+use Rattle.cfi_aux.specs.declared.records.Kind.{Kind}
+use Rattle.cfi_aux.specs.declared.records.Kind.TheVariants as kinds
+use Rattle.cfi_graph.specs.declared.fact.Fact.TheVariants as facts
+use Rattle.cfi_graph.specs.declared.fact.TheConstants.{CHECK_WORDS}
+use Rattle.cfi_graph.specs.Code.{Stands, address_of, entry_of}
+use Rattle.cfi_graph.specs.Shaped.{AreApart}
+use Rattle.cfi_graph.specs.Calls.{HasKind, ReturnsTo}
+use Rattle.cfi_graph.specs.Direct.{IsPointee, IsReturnTarget, DirectEdge}
+use Rattle.cfi_graph.specs.Facts.{type_node, function_node, LeadsToWord, LiesInNode, IsJumpFact, IsBranchFact, IsTold}
+use Rattle.cfi_graph.specs.Reading.{tables_of}
+use Rattle.cfi_graph.proofs.FactLemmas.{link}
+use Rattle.cfi_graph.proofs.BoundLemmas.{contains_at, branch_names}
+use Rattle.cfi_graph.proofs.NodeLemmas.{StandsAt, shaped_at}
+use Rattle.cfi_graph.proofs.ReadLemmas.{TellsFlow, CheckTells, JumpTells, unit_cases}
+use Rattle.cfi_graph.proofs.GoesLemmas.{IsEntered, LiesThere, lies_there, leads_entry, is_function, apart_nodes, may_point, entered_by}
+
+module _ (ms : List Placed) (classes : List (List ℕ)) (apart : AreApart ms)
+    (are : AreClasses (tables_of ms) classes) where
+  module _ (m : Placed) (f : PlacedFunction) where
+    site_jump : (caller : Placed) → Contains ms caller → (at : ℕ) (linked : Bool) (off : ℤ)
+        → Stands caller at (units.Jump linked off) → (node address : ℕ)
+        → IsJumpFact caller at linked off (facts.Site (link node address)) → (e : IsEntered ms classes m f node)
+        → ReturnsTo ms e.owner e.entered address
+    site_jump caller placed at false off stands node address told e = absurd told
+    site_jump caller placed at true off stands node address told e =
+        let leads = told.0 in
+        elim e.enters [
+          | inl same ↦ record {
+            caller = caller;
+            placed = placed;
+            at = at;
+            unit = units.Jump true off;
+            stands = stands;
+            call = leads_entry (address_of caller at) off node e.owner e.entered leads.leads same;
+            after = told.1;
+          }
+          | inr taken ↦
+              let low = leads.within in
+              let high = taken.1 in
+              absurd (omega (arith, low, high))
+        ]
+
+    site_check : (number : ℕ) (caller : Placed) → slice_get ms number ≡ Some caller → (at : ℕ) (linked : Bool) (rs1 : ℕ)
+        (imm : ℤ) (own : ℕ) → Stands caller at (units.Check linked rs1 imm own) → (kind : Kind) → HasKind caller own kind
+        → (node address : ℕ) → IsBranchFact classes number caller at own kind (facts.Site (link node address))
+        → (e : IsEntered ms classes m f node) → ReturnsTo ms e.owner e.entered address
+    site_check number caller is at linked rs1 imm own stands (kinds.Call type) has node address told e =
+        elim e.enters [
+          | inl same ↦
+              absurd (apart_nodes ms classes apart are e.number number type e.owner e.entered e.at (sym same ∙ told.0))
+          | inr taken ↦ record {
+            caller = caller;
+            placed = contains_at ms number caller is;
+            at = at;
+            unit = units.Check linked rs1 imm own;
+            stands = stands;
+            call = (
+              type,
+              has,
+              may_point ms classes apart are number e.number caller e.owner type e.entered is
+                  (branch_names caller (shaped_at ms apart number caller is) own (kinds.Call type) has) e.at taken.0
+                  (sym told.0 ∙ taken.1),
+            );
+            after = told.1;
+          }
+        ]
+    site_check number caller is at linked rs1 imm own stands (kinds.Tail type) has node address told e = absurd told
+    site_check number caller is at linked rs1 imm own stands kinds.Return has node address told e = absurd told
+    site_check number caller is at linked rs1 imm own stands (kinds.Switch entries) has node address told e =
+        absurd told
+
+    site_returns : (node address : ℕ) → IsTold ms classes (facts.Site (link node address))
+        → (e : IsEntered ms classes m f node) → ReturnsTo ms e.owner e.entered address
+    site_returns node address told e =
+        elim told.tells [
+          | inl unit ↦ elim (unit_cases classes told.number told.owner (facts.Site (link node address)) unit) [
+            | inl check ↦
+                site_check told.number told.owner told.is check.at check.linked check.rs1 check.imm check.slot
+                check.stands check.kind check.has node address check.tells e
+            | inr jump ↦
+                site_jump told.owner (contains_at ms told.number told.owner told.is) jump.at jump.linked jump.off
+                jump.stands node address jump.tells e
+          ]
+          | inr function ↦ absurd function.tells
+        ]
+
+  return_edge : (flow : Flow) → TellsFlow ms classes flow → (number : ℕ) (m : Placed) → slice_get ms number ≡ Some m
+      → (at : ℕ) (linked : Bool) (rs1 : ℕ) (imm : ℤ) (own : ℕ) → Stands m at (units.Check linked rs1 imm own)
+      → (kind : Kind) → HasKind m own kind → (node slot address : ℕ) → (r : ReturnsAt flow node slot address)
+      → IsBranchFact classes number m at own kind (facts.Return (link r.returning slot)) → DirectEdge ms slot address
+  return_edge flow tells number m is at linked rs1 imm own stands kinds.Return has node slot address r told =
+      let there = lies_there m at r.returning told.0 in
+      let f = there.function in
+      let path = subst (λ to. Reaches flow.arrows.items node to) there.is r.reached in
+      let e = entered_by ms classes apart are m f flow tells number (record { is = is; has = there.has }) path.0 node
+      path.1 in
+      record {
+        owner = m;
+        placed = contains_at ms number m is;
+        at = at;
+        link = linked;
+        rs1 = rs1;
+        imm = imm;
+        stands = subst (λ s. Stands m at (units.Check linked rs1 imm s)) (sym told.1) stands;
+        kind = kinds.Return;
+        has = subst (λ s. HasKind m s kinds.Return) (sym told.1) has;
+        goes = record {
+          returning = f;
+          has = there.has;
+          lies = there.lies;
+          owner = e.owner;
+          entered = e.entered;
+          is = is_function ms classes apart are e.number e.owner e.entered e.at;
+          steps = e.steps;
+          reached = e.reached;
+          returns = site_returns m f node address ((tells.sites node address).0 r.site) e;
+        };
+      }
+  return_edge flow tells number m is at linked rs1 imm own stands (kinds.Call type) has node slot address r told =
+      absurd told
+  return_edge flow tells number m is at linked rs1 imm own stands (kinds.Tail type) has node slot address r told =
+      absurd told
+  return_edge flow tells number m is at linked rs1 imm own stands (kinds.Switch entries) has node slot address r told =
+      absurd told
+
+  no_return_jump : (m : Placed) (at : ℕ) (linked : Bool) (off : ℤ) (node slot : ℕ)
+      → IsJumpFact m at linked off (facts.Return (link node slot)) → ⊥
+  no_return_jump m at true off node slot told = told
+  no_return_jump m at false off node slot told = told
+
+  -- a return goes along direct edges
+  pub returned_edge : (flow : Flow) → TellsFlow ms classes flow → (node slot address : ℕ)
+      → ReturnsAt flow node slot address → DirectEdge ms slot address
+  returned_edge flow tells node slot address r =
+      let told = (tells.returns r.returning slot).0 r.back in
+      elim told.tells [
+        | inl unit ↦ elim (unit_cases classes told.number told.owner (facts.Return (link r.returning slot)) unit) [
+          | inl check ↦
+              return_edge flow tells told.number told.owner told.is check.at check.linked check.rs1 check.imm check.slot
+              check.stands check.kind check.has node slot address r check.tells
+          | inr jump ↦
+              absurd (no_return_jump told.owner jump.at jump.linked jump.off r.returning slot jump.tells)
+        ]
+        | inr function ↦ absurd function.tells
+      ]

@@ -1,0 +1,37 @@
+use Rattle.std.proofs.Common.{◌≡◌, ◌∙◌, ◌++◌, ℕ, List, map, sym, ap, subst}
+use Rattle.cfi_aux.specs.declared.records.Kind.TheVariants.{Return, Switch}
+use Rattle.cfi_graph.specs.Facts.{listed_fact, IsBranchFact, Adds}
+use Rattle.cfi_graph.proofs.AddsLemmas.{on_ok}
+use Rattle.cfi_graph.proofs.BranchLemmas.{switch_adds}
+use Rattle.cfi_graph.proofs.branch_facts.add_branch.Goals as goal
+
+pub returns-in-Return : goal.returns-in-Return
+returns-in-Return c =
+    let m = c.args.placed.now in
+    let old = c.args.facts.now.items in
+    let new = c.add_return.new.facts.items in
+    on_ok c.add_return.result
+    ((classes : List (List ℕ)) (number : ℕ)
+    → Adds old new (IsBranchFact classes number m c.args.at c.args.slot Return))
+    (Adds old new (IsBranchFact c.args.classes.now c.args.number m c.args.at c.args.slot c.args.kind.now))
+    (λ all. subst (λ kind. Adds old new (IsBranchFact c.args.classes.now c.args.number m c.args.at c.args.slot kind))
+    (sym c.in-Return.is) (all c.args.classes.now c.args.number))
+    c.add_return.ensures
+
+pub returns-in-Switch : goal.returns-in-Switch
+returns-in-Switch c =
+    let m = c.args.placed.now in
+    let old = c.args.facts.now.items in
+    let new = c.add_entries.new.facts.items in
+    let entries = c.in-Switch.entries in
+    let listed = listed_fact m.base c.args.slot in
+    on_ok c.add_entries.result (new ≡ old ++ map listed c.as_slice.result.now)
+    (Adds old new (IsBranchFact c.args.classes.now c.args.number m c.args.at c.args.slot c.args.kind.now))
+    (λ is.
+        let all : new ≡ old ++ map listed entries = is ∙ ap (λ es. old ++ map listed es) c.as_slice.ensures in
+        subst (λ kind. Adds old new (IsBranchFact c.args.classes.now c.args.number m c.args.at c.args.slot kind))
+        (sym c.in-Switch.is)
+        (subst (λ items. Adds old items
+        (IsBranchFact c.args.classes.now c.args.number m c.args.at c.args.slot (Switch entries))) (sym all)
+        (switch_adds c.args.classes.now c.args.number m c.args.at c.args.slot entries old)))
+    c.add_entries.ensures

@@ -1,0 +1,24 @@
+use Rattle.std.proofs.Common.{refl, arith}
+use Rattle.cfi_graph.proofs.BoundLemmas.{inside}
+use Rattle.cfi_graph.proofs.BranchLemmas.{function_adds}
+use Rattle.cfi_graph.proofs.facts.add_function.Goals as goal
+
+pub overflow_add-first : goal.overflow_add-first
+overflow_add-first c =
+    let shape = c.requires.read.shaped in
+    let ends = (inside c.args.placed.now shape c.args.function.now c.requires.has).ends in
+    let last = shape.1.ends in
+    omega (arith, ends, last)
+
+pub overflow_mul-first : goal.overflow_mul-first
+overflow_mul-first c =
+    let shape = c.requires.read.shaped in
+    let ends = (inside c.args.placed.now shape c.args.function.now c.requires.has).ends in
+    let last = shape.1.ends in
+    omega (arith, ends, last)
+
+pub returns : goal.returns
+returns c =
+    rw (c.in_ok-push-2.ensures.items, c.in_ok-push.ensures.items)
+    (function_adds c.args.classes.now c.args.number c.args.placed.now c.args.function.now c.type_node-from.result _
+    c.args.facts.now.items c.if-not-function.false c.type_node-from.ensures refl)

@@ -1,0 +1,8 @@
+use Rattle.cfi_graph.specs.Facts.{Adds}
+use Rattle.cfi_graph.proofs.AddsLemmas.{TellsBelow}
+use Rattle.cfi_graph.proofs.TellLemmas.{NumberTells}
+use Rattle.cfi_graph.proofs.facts.add_functions.Given as goal
+
+abbrev pub invariant-loop-function : goal.invariant-loop-function
+invariant-loop-function l =
+    Adds l.fn.facts.items l.facts.items (TellsBelow l.function-index (NumberTells l.classes l.number l.placed))

@@ -1,0 +1,41 @@
+use Rattle.std.proofs.Common.{◌≡◌, ◌∙◌, length, sym, subst, arith}
+use Rattle.cfi_unit.specs.Code.{UnitCode}
+use Rattle.cfi_graph.specs.Spots.{spots_of}
+use Rattle.cfi_graph.specs.Facts.{Adds}
+use Rattle.cfi_graph.proofs.AddsLemmas.{TellsBelow, adds_below_more}
+use Rattle.cfi_graph.proofs.TellLemmas.{SpotTells, stand_all, spot_tells_at, units_tell}
+use Rattle.cfi_graph.proofs.facts.add_units.Goals as goal
+
+pub add_unit-requires-clause-stands : goal.add_unit-requires-clause-stands
+add_unit-requires-clause-stands c =
+    let code = c.requires.shaped.0 in
+    let units = c.requires.shaped.1.units in
+    let items = c.deref-spot-items.result.now in
+    let are : items ≡ spots_of 0 code = c.deref-spot-items.ensures.value
+    ∙ c.in_ok-spots.ensures code (subst (λ ws. UnitCode ws code) (sym c.as_slice.ensures) units) in
+    stand_all c.args.classes.now c.args.number c.args.placed.now code units items are c.loop-spot.spot-index _
+    c.loop-spot-test.true
+
+-- this turn's unit tells its facts too
+pub loop-spot-preserved : goal.loop-spot-preserved
+loop-spot-preserved c =
+    let m = c.args.placed.now in
+    let items = c.deref-spot-items.result.now in
+    let k = c.loop-spot.spot-index in
+    adds_below_more c.args.facts.now.items c.loop-spot.facts.items c.add_unit.new.facts.items
+    (SpotTells c.args.classes.now c.args.number m items) k c.loop-spot.invariant
+    (spot_tells_at c.args.classes.now c.args.number m items k _ c.loop-spot-test.true c.loop-spot.facts.items
+    c.add_unit.new.facts.items c.in_ok-add_unit.ensures)
+
+pub returns : goal.returns
+returns c =
+    let m = c.args.placed.now in
+    let code = c.requires.shaped.0 in
+    let units = c.requires.shaped.1.units in
+    let items = c.deref-spot-items.result.now in
+    let are : items ≡ spots_of 0 code = c.deref-spot-items.ensures.value
+    ∙ c.in_ok-spots.ensures code (subst (λ ws. UnitCode ws code) (sym c.as_slice.ensures) units) in
+    let all : c.loop-spot.spot-index ≡ length items = omega arith in
+    units_tell c.args.classes.now c.args.number m code units items are c.args.facts.now.items c.loop-spot.facts.items
+    (subst (λ n. Adds c.args.facts.now.items c.loop-spot.facts.items
+    (TellsBelow n (SpotTells c.args.classes.now c.args.number m items))) all c.loop-spot.invariant)

@@ -1,0 +1,37 @@
+use Rattle.std.proofs.Common.{◌≡◌, [], length, Some, refl, subst, arith}
+use Rattle.std.specs.Prelude.{slice_get}
+use Rattle.std.proofs.lemmas.Option.{slice_get_read}
+use Rattle.cfi_graph.specs.Facts.{Adds}
+use Rattle.cfi_graph.proofs.AddsLemmas.{TellsBelow, adds_below_more}
+use Rattle.cfi_graph.proofs.TellLemmas.{OwnerTells, owner_tells, all_told}
+use Rattle.cfi_graph.proofs.facts.facts_of.Goals as goal
+
+pub add_module-requires : goal.add_module-requires
+add_module-requires c =
+    let ms = c.args.modules.now in
+    let m = c.index-modules-number.result in
+    let is : slice_get ms c.loop-number.number ≡ Some m =
+    slice_get_read ms (length ms) c.loop-number.number m refl c.loop-number-test.true c.index-modules-number.is in
+    c.requires.read c.loop-number.number m is
+
+-- this turn's module tells its facts too
+pub loop-number-preserved : goal.loop-number-preserved
+loop-number-preserved c =
+    let ms = c.args.modules.now in
+    let classes = c.args.classes.now in
+    let number = c.loop-number.number in
+    let m = c.index-modules-number.result in
+    let is : slice_get ms number ≡ Some m =
+    slice_get_read ms (length ms) number m refl c.loop-number-test.true c.index-modules-number.is in
+    adds_below_more [] c.loop-number.facts.items c.add_module.new.facts.items (OwnerTells ms classes) number
+    c.loop-number.invariant
+    (owner_tells ms classes number m is c.loop-number.facts.items c.add_module.new.facts.items
+    c.in_ok-add_module.ensures)
+
+pub returns : goal.returns
+returns c =
+    let ms = c.args.modules.now in
+    let classes = c.args.classes.now in
+    let all : c.loop-number.number ≡ length ms = omega arith in
+    all_told ms classes c.loop-number.facts.items
+    (subst (λ n. Adds [] c.loop-number.facts.items (TellsBelow n (OwnerTells ms classes))) all c.loop-number.invariant)

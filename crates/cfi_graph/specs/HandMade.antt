@@ -1,0 +1,41 @@
+-- Modules that tests write by hand: of units and functions, without data, names and exports.
+use Rattle.std.specs.Prelude.{ℕ, Bool, false, List, [], ◌∷◌, map}
+use Rattle.std.specs.List.{flat_map}
+use Rattle.cfi_unit.specs.declared.unit.Unit.{Unit as CodeUnit}
+use Rattle.cfi_unit.specs.Unit.{words_of}
+use Rattle.cfi_types.specs.Node.{Node, make_node}
+use Rattle.cfi_aux.specs.declared.placed.Placed.{Placed}
+use Rattle.cfi_aux.specs.declared.placed.PlacedFunction.{PlacedFunction}
+use Rattle.cfi_aux.specs.declared.records.Kind.{Kind}
+
+-- a function without a name, by its first word, how many it has, the node of its type, and whether it is taken
+abbrev pub function_of : (ℕ × ℕ × ℕ × Bool) → PlacedFunction
+function_of row = record {
+  first = row.0;
+  count = row.1;
+  ty = row.2;
+  taken = row.3;
+  global = false;
+  name = [];
+}
+
+-- a module of these units, without data and exports
+abbrev pub placed_of : (base slot_base : ℕ) → List CodeUnit → List (ℕ × ℕ × ℕ × Bool) → List Kind → List Node → Placed
+placed_of base slot_base code rows branches types = record {
+  base = base;
+  slot_base = slot_base;
+  data_base = 0;
+  words = flat_map words_of code;
+  static_data = [];
+  functions = map function_of rows;
+  branches = branches;
+  types = types;
+  exports = [];
+}
+
+-- Void and a function that gives it, in either order
+abbrev pub void_and_function : List Node
+void_and_function = make_node 0 [] ∷ make_node 7 (0 ∷ []) ∷ []
+
+abbrev pub function_and_void : List Node
+function_and_void = make_node 7 (1 ∷ []) ∷ make_node 0 [] ∷ []

@@ -1,0 +1,64 @@
+//! Where offsets lead, in which function a word lies, and what a slot's branch is.
+
+ghost use Rattle.std.specs.Prelude.{◌≡◌, ℕ, ◌<◌, ◌≤◌, ◌^◌, [], length, slice_index_or, IfSome, IsSomeAnd, Some};
+ghost use Rattle.std.specs.List.{AllPairs};
+ghost use Rattle.cfi_word.specs.declared.layout.TheConstants.{MAX_CODE_WORDS};
+ghost use Rattle.cfi_aux.specs.declared.records.Kind.{Kind};
+ghost use Rattle.cfi_graph.specs.Shaped.{Precedes};
+ghost use Rattle.cfi_graph.specs.Calls.{HasKind};
+ghost use Rattle.cfi_graph.specs.Facts.{LeadsToWord, IsFirst, type_node};
+
+use cfi_aux::{Kind, Placed, PlacedFunction};
+use cfi_types::Classes;
+use cfi_word::MAX_CODE_WORDS;
+
+// The code word that an offset leads to from another, where it leads to one.
+pub(crate) fn word_to(at: u32, off: i32) -> Option<u32>
+    requires { at < MAX_CODE_WORDS }
+    ensures some { IfSome result (LeadsToWord at off) }
+    ensures only { (word : ℕ) → LeadsToWord at off word → result ≡ Some word }
+{
+    let place = 4 * i64::from(at) + i64::from(off);
+    if place < 0 || place % 4 != 0 || place >= 4 * i64::from(MAX_CODE_WORDS) {
+        return None;
+    }
+    Some((place / 4) as u32)
+}
+
+// The first word of the function in which a word lies.
+pub(crate) fn first_at(functions: &[PlacedFunction], at: u32) -> Option<u32>
+    requires { AllPairs Precedes functions.now }
+    ensures some { IfSome result (IsFirst functions.now at) }
+    ensures within { IfSome result (λ first. first ≤ at) }
+    ensures only { (first : ℕ) → IsFirst functions.now at first → result ≡ Some first }
+{
+    let number = functions
+        .partition_point(|f| u64::from(f.first) + u64::from(f.count) <= u64::from(at));
+    if number == functions.len() {
+        return None;
+    }
+    let first = functions[number].first;
+    if first <= at { Some(first) } else { None }
+}
+
+// What the branch of a slot is.
+pub(crate) fn kind_of(placed: &Placed, slot: u32) -> Option<&Kind>
+    ensures some { IfSome result (λ kind. HasKind placed.now slot kind.now) }
+    ensures only { (kind : Kind) → HasKind placed.now slot kind →
+        IsSomeAnd result (λ found. found.now ≡ kind) }
+{
+    if slot < placed.slot_base {
+        return None;
+    }
+    placed.branches.as_slice().get((slot - placed.slot_base) as usize)
+}
+
+// The node of a type of a module.
+pub(crate) fn type_node(classes: &Classes, number: u32, node: u32) -> u32
+    requires table { number < length classes.now }
+    requires node { node < length (slice_index_or classes.now number []) }
+    requires low { type_node classes.now number node < 2 ^ 32 }
+    ensures { result ≡ type_node classes.now number node }
+{
+    MAX_CODE_WORDS + classes.of(number, node)
+}

@@ -1,0 +1,27 @@
+use Rattle.std.proofs.Common.{sym, subst}
+use Rattle.cfi_class.specs.Labels.{HasEdge, CanBeLabelled}
+use Rattle.cfi_graph.specs.Direct.{DirectEdge}
+use Rattle.cfi_graph.specs.Edges.{SpanDirectEdges}
+use Rattle.cfi_policy.specs.Image.{IsImage}
+use Rattle.cfi_policy.proofs.EdgeLemmas.{can_be_labelled, apart_in, if_ok, image_by}
+use Rattle.cfi_policy.proofs.image.image_of.Goals as goal
+
+pub image_from-requires-clause-edges : goal.image_from-requires-clause-edges
+image_from-requires-clause-edges c =
+    let ms = c.args.modules.now in
+    let edges = c.as_slice.result.now in
+    let span = subst (λ es. SpanDirectEdges ms es) (sym c.as_slice.ensures.value) c.in_ok-edges.ensures in
+    subst (λ n. CanBeLabelled edges n c.args.layout.now) (sym c.slots.ensures)
+    (can_be_labelled ms edges span c.args.layout.now c.requires)
+
+pub image_from-requires-clause-modules : goal.image_from-requires-clause-modules
+image_from-requires-clause-modules c = apart_in c.args.modules.now c.args.layout.now c.requires
+
+pub returns : goal.returns
+returns c =
+    let ms = c.args.modules.now in
+    let code_words = c.args.layout.now in
+    let edges = c.as_slice.result.now in
+    let span = subst (λ es. SpanDirectEdges ms es) (sym c.as_slice.ensures.value) c.in_ok-edges.ensures in
+    if_ok c.image_from.result (IsImage (HasEdge edges) ms code_words) (IsImage (DirectEdge ms) ms code_words)
+    (image_by ms edges span code_words) c.image_from.ensures
