@@ -74,13 +74,13 @@ adds_below_more old mid new Tells count a b =
       | inr here ↦ (count, omega arith, here)
     ])
     (λ fact told.
-        let within : told.0 < count + 1 = told.1 in
-        elim (cases_lt told.0 count) [
-          | inl less ↦ inl (told.0, less, told.2)
-          | inr past ↦
-              let here : told.0 ≡ count = omega (arith, within, past) in
-              inr (subst (λ n. Tells n fact) here told.2)
-        ])
+    let within : told.0 < count + 1 = told.1 in
+    elim (cases_lt told.0 count) [
+      | inl less ↦ inl (told.0, less, told.2)
+      | inr past ↦
+          let here : told.0 ≡ count = omega (arith, within, past) in
+          inr (subst (λ n. Tells n fact) here told.2)
+    ])
 
 -- a list that begins with nothing has what is told, and no more
 pub adds_all : (new : List Fact) (Tells : Fact → Type 0) → Adds [] new Tells

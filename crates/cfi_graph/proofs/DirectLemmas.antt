@@ -157,15 +157,18 @@ module _ (ms : List Placed) (classes : List (List ℕ)) (apart : AreApart ms)
       let n_at = number_of ms p.owner p.function p.is in
       let node = type_node classes i type in
       let same = same_node i n_at.0 m p.owner type p.function is within n_at.1 p.may in
-      inr (node, inl (record {
-        pointer = (tells.pointers node slot).1 told;
-        entry = (tells.entries node address).1 (record {
-          number = n_at.0;
-          owner = p.owner;
-          is = n_at.1.is;
-          tells = inr (record { function = p.function; has = n_at.1.has; tells = (p.may.taken, same, p.entry) });
-        });
-      }))
+      inr (
+        node,
+        inl (record {
+          pointer = (tells.pointers node slot).1 told;
+          entry = (tells.entries node address).1 (record {
+            number = n_at.0;
+            owner = p.owner;
+            is = n_at.1.is;
+            tells = inr (record { function = p.function; has = n_at.1.has; tells = (p.may.taken, same, p.entry) });
+          });
+        }),
+      )
 
   return_goes : (i : ℕ) (m : Placed) → slice_get ms i ≡ Some m → (at : ℕ) (linked : Bool) (rs1 : ℕ) (imm : ℤ) (slot : ℕ)
       → Stands m at (units.Check linked rs1 imm slot) → HasKind m slot kinds.Return → (address : ℕ)
@@ -177,13 +180,16 @@ module _ (ms : List Placed) (classes : List (List ℕ)) (apart : AreApart ms)
       let call = r.returns in
       let site = call_site call.placed.0 call.caller (at_contains ms call.caller call.placed) entered.0 r.owner r.entered
       entered.1 call.at call.unit call.stands call.call address call.after to path in
-      inr (site.0, inr (record {
-        site = site.1.0;
-        returning = to;
-        reached = site.1.1;
-        back = (tells.returns to slot).1 (by_unit i m is at (units.Check linked rs1 imm slot) stands
-            (facts.Return (link to slot)) (kinds.Return, has, (lies_node m r.returning at r.has r.lies, refl)));
-      }))
+      inr (
+        site.0,
+        inr (record {
+          site = site.1.0;
+          returning = to;
+          reached = site.1.1;
+          back = (tells.returns to slot).1 (by_unit i m is at (units.Check linked rs1 imm slot) stands
+              (facts.Return (link to slot)) (kinds.Return, has, (lies_node m r.returning at r.has r.lies, refl)));
+        }),
+      )
 
   kind_goes : (i : ℕ) (m : Placed) → slice_get ms i ≡ Some m → (at : ℕ) (linked : Bool) (rs1 : ℕ) (imm : ℤ) (slot : ℕ)
       → Stands m at (units.Check linked rs1 imm slot) → (kind : Kind) → HasKind m slot kind → (address : ℕ)

@@ -98,8 +98,8 @@ spot_tells classes number m spots k spot is old new a =
     adds_as old new (IsUnitFact classes number m spot.at spot.unit) (SpotTells classes number m spots k) a
     (λ fact told. (spot, is, told))
     (λ fact told.
-        let same : told.0 ≡ spot = same_Some told.0 spot (sym told.1 ∙ is) in
-        subst (λ s. IsUnitFact classes number m s.at s.unit fact) same told.2)
+    let same : told.0 ≡ spot = same_Some told.0 spot (sym told.1 ∙ is) in
+    subst (λ s. IsUnitFact classes number m s.at s.unit fact) same told.2)
 
 pub spot_tells_at : (classes : List (List ℕ)) (number : ℕ) (m : Placed) (spots : List Spot) (k : ℕ) (d : Spot)
     → k < length spots → (old new : List Fact)
@@ -133,8 +133,8 @@ number_tells classes number m k f is old new a =
     adds_as old new (IsFunctionFact classes number m f) (NumberTells classes number m k) a
     (λ fact told. (f, is, told))
     (λ fact told.
-        let same : told.0 ≡ f = same_Some told.0 f (sym told.1 ∙ is) in
-        subst (λ g. IsFunctionFact classes number m g fact) same told.2)
+    let same : told.0 ≡ f = same_Some told.0 f (sym told.1 ∙ is) in
+    subst (λ g. IsFunctionFact classes number m g fact) same told.2)
 
 -- ---- modules
 
@@ -148,8 +148,8 @@ pub owner_tells : (ms : List Placed) (classes : List (List ℕ)) (number : ℕ) 
 owner_tells ms classes number m is old new a =
     adds_as old new (ModuleTells classes number m) (OwnerTells ms classes number) a (λ fact told. (m, is, told))
     (λ fact told.
-        let same : told.0 ≡ m = same_Some told.0 m (sym told.1 ∙ is) in
-        subst (λ n. ModuleTells classes number n fact) same told.2)
+    let same : told.0 ≡ m = same_Some told.0 m (sym told.1 ∙ is) in
+    subst (λ n. ModuleTells classes number n fact) same told.2)
 
 pub all_told : (ms : List Placed) (classes : List (List ℕ)) (list : List Fact)
     → Adds [] list (TellsBelow (length ms) (OwnerTells ms classes)) → AreFacts ms classes list

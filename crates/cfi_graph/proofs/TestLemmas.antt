@@ -75,19 +75,22 @@ pub record IsHandMade (base slot_base : ℕ) (code : List CodeUnit) (rows : List
 pub hand_made_is_shaped : (base slot_base : ℕ) (code : List CodeUnit) (rows : List (ℕ × ℕ × ℕ × Bool))
     (branches : List Kind) (types : List Node) → IsHandMade base slot_base code rows branches types
     → IsShaped (placed_of base slot_base code rows branches types)
-hand_made_is_shaped base slot_base code rows branches types is = (code, record {
-  units = record { fit = is.fit; spelled = refl };
-  parts = is.parts;
-  order = is.order;
-  checks = is.checks;
-  slots = λ k within.
-      let checks = is.checks in
-      count_up slot_base (slots_of code) is.slots k (omega (arith, within, checks));
-  named = is.named;
-  typed = is.typed;
-  begins = is.begins;
-  ends = is.ends;
-})
+hand_made_is_shaped base slot_base code rows branches types is = (
+  code,
+  record {
+    units = record { fit = is.fit; spelled = refl };
+    parts = is.parts;
+    order = is.order;
+    checks = is.checks;
+    slots = λ k within.
+        let checks = is.checks in
+        count_up slot_base (slots_of code) is.slots k (omega (arith, within, checks));
+    named = is.named;
+    typed = is.typed;
+    begins = is.begins;
+    ends = is.ends;
+  },
+)
 
 -- a graph can be made of one shaped module
 pub one_has_graph : (m : Placed) → IsShaped m → AreTypes m.types → node_count (m ∷ []) < 2 ^ 32 → HaveGraph (m ∷ [])

@@ -30,15 +30,15 @@ call_made : IsHandMade 16 0 call_code call_rows call_kinds void_and_function
 call_made = record {
   fit = search rules;
   parts = all_by_recursion (IsPart call_code) (map function_of call_rows) (
-      record { from = 0; to = 4; some = omega arith; within = omega arith; begins = refl; ends = refl },
-      (
+    record { from = 0; to = 4; some = omega arith; within = omega arith; begins = refl; ends = refl },
+    (
       record { from = 4; to = 5; some = omega arith; within = omega arith; begins = refl; ends = refl },
       (
-      record { from = 5; to = 6; some = omega arith; within = omega arith; begins = refl; ends = refl },
-      tt,
+        record { from = 5; to = 6; some = omega arith; within = omega arith; begins = refl; ends = refl },
+        tt,
+      ),
     ),
-    ),
-    );
+  );
   order = pairs_by_recursion Precedes (map function_of call_rows) ((omega arith, (omega arith, tt)), ((omega arith, tt), (tt, tt)));
   checks = refl;
   slots = (refl, (refl, (refl, tt)));
@@ -67,15 +67,15 @@ tail_made : IsHandMade 16 0 tail_code tail_rows tail_kinds void_and_function
 tail_made = record {
   fit = search rules;
   parts = all_by_recursion (IsPart tail_code) (map function_of tail_rows) (
-      record { from = 0; to = 2; some = omega arith; within = omega arith; begins = refl; ends = refl },
-      (
+    record { from = 0; to = 2; some = omega arith; within = omega arith; begins = refl; ends = refl },
+    (
       record { from = 2; to = 3; some = omega arith; within = omega arith; begins = refl; ends = refl },
       (
-      record { from = 3; to = 4; some = omega arith; within = omega arith; begins = refl; ends = refl },
-      tt,
+        record { from = 3; to = 4; some = omega arith; within = omega arith; begins = refl; ends = refl },
+        tt,
+      ),
     ),
-    ),
-    );
+  );
   order = pairs_by_recursion Precedes (map function_of tail_rows) ((omega arith, (omega arith, tt)), ((omega arith, tt), (tt, tt)));
   checks = refl;
   slots = (refl, tt);
@@ -106,15 +106,15 @@ loop_made : IsHandMade 16 0 loop_code loop_rows loop_kinds void_and_function
 loop_made = record {
   fit = search rules;
   parts = all_by_recursion (IsPart loop_code) (map function_of loop_rows) (
-      record { from = 0; to = 2; some = omega arith; within = omega arith; begins = refl; ends = refl },
-      (
+    record { from = 0; to = 2; some = omega arith; within = omega arith; begins = refl; ends = refl },
+    (
       record { from = 2; to = 4; some = omega arith; within = omega arith; begins = refl; ends = refl },
       (
-      record { from = 4; to = 6; some = omega arith; within = omega arith; begins = refl; ends = refl },
-      tt,
+        record { from = 4; to = 6; some = omega arith; within = omega arith; begins = refl; ends = refl },
+        tt,
+      ),
     ),
-    ),
-    );
+  );
   order = pairs_by_recursion Precedes (map function_of loop_rows) ((omega arith, (omega arith, tt)), ((omega arith, tt), (tt, tt)));
   checks = refl;
   slots = (refl, (refl, tt));
@@ -141,9 +141,9 @@ pointer_made : IsHandMade 16 0 pointer_code pointer_rows pointer_kinds void_and_
 pointer_made = record {
   fit = search rules;
   parts = all_by_recursion (IsPart pointer_code) (map function_of pointer_rows) (
-      record { from = 0; to = 2; some = omega arith; within = omega arith; begins = refl; ends = refl },
-      tt,
-    );
+    record { from = 0; to = 2; some = omega arith; within = omega arith; begins = refl; ends = refl },
+    tt,
+  );
   order = pairs_by_recursion Precedes (map function_of pointer_rows) (tt, tt);
   checks = refl;
   slots = (refl, tt);
@@ -170,9 +170,9 @@ switch_made : IsHandMade 31 1 switch_code switch_rows switch_kinds function_and_
 switch_made = record {
   fit = search rules;
   parts = all_by_recursion (IsPart switch_code) (map function_of switch_rows) (
-      record { from = 0; to = 2; some = omega arith; within = omega arith; begins = refl; ends = refl },
-      tt,
-    );
+    record { from = 0; to = 2; some = omega arith; within = omega arith; begins = refl; ends = refl },
+    tt,
+  );
   order = pairs_by_recursion Precedes (map function_of switch_rows) (tt, tt);
   checks = refl;
   slots = (refl, (refl, tt));

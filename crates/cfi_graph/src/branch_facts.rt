@@ -67,12 +67,7 @@ fn add_tail(
 }
 
 // Adds what a return tells.
-fn add_return(
-    facts: &mut Vec<Fact>,
-    placed: &Placed,
-    at: u32,
-    slot: u32,
-) -> Result<(), AllocError>
+fn add_return(facts: &mut Vec<Fact>, placed: &Placed, at: u32, slot: u32) -> Result<(), AllocError>
     requires order { AllPairs Precedes placed.now.functions }
     requires within { placed.now.base + at < MAX_CODE_WORDS }
     ensures { OnOk result ((classes : List (List ℕ)) (number : ℕ) → Adds facts.old.items

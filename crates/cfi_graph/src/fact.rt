@@ -84,7 +84,10 @@ fn listed_in(fact: &Fact) -> Option<Link>
 fn arrows(alloc: Global, facts: &[Fact]) -> Result<Vec<Link>, AllocError>
     ensures { IfOk result (λ links. links.items ≡ filter_map arrow_in facts.now) }
 {
-    facts.iter().filter_map(|fact| arrow_in(fact)).collect(alloc)
+    facts
+        .iter()
+        .filter_map(|fact| arrow_in(fact))
+        .collect(alloc)
 }
 
 fn sites(alloc: Global, facts: &[Fact]) -> Result<Vec<Link>, AllocError>
@@ -96,25 +99,37 @@ fn sites(alloc: Global, facts: &[Fact]) -> Result<Vec<Link>, AllocError>
 fn returns(alloc: Global, facts: &[Fact]) -> Result<Vec<Link>, AllocError>
     ensures { IfOk result (λ links. links.items ≡ filter_map return_in facts.now) }
 {
-    facts.iter().filter_map(|fact| return_in(fact)).collect(alloc)
+    facts
+        .iter()
+        .filter_map(|fact| return_in(fact))
+        .collect(alloc)
 }
 
 fn pointers(alloc: Global, facts: &[Fact]) -> Result<Vec<Link>, AllocError>
     ensures { IfOk result (λ links. links.items ≡ filter_map pointer_in facts.now) }
 {
-    facts.iter().filter_map(|fact| pointer_in(fact)).collect(alloc)
+    facts
+        .iter()
+        .filter_map(|fact| pointer_in(fact))
+        .collect(alloc)
 }
 
 fn entries(alloc: Global, facts: &[Fact]) -> Result<Vec<Link>, AllocError>
     ensures { IfOk result (λ links. links.items ≡ filter_map entry_in facts.now) }
 {
-    facts.iter().filter_map(|fact| entry_in(fact)).collect(alloc)
+    facts
+        .iter()
+        .filter_map(|fact| entry_in(fact))
+        .collect(alloc)
 }
 
 fn listed(alloc: Global, facts: &[Fact]) -> Result<Vec<Link>, AllocError>
     ensures { IfOk result (λ links. links.items ≡ filter_map listed_in facts.now) }
 {
-    facts.iter().filter_map(|fact| listed_in(fact)).collect(alloc)
+    facts
+        .iter()
+        .filter_map(|fact| listed_in(fact))
+        .collect(alloc)
 }
 
 // The flow of these facts, over so many nodes.

@@ -127,7 +127,10 @@ fn add_function(
     let from = type_node(classes, number, function.ty);
     let first = placed.base + function.first;
     facts.push(Fact::Arrow(Link { from, to: first }))?;
-    facts.push(Fact::Entry(Link { from, to: 4 * first }))?;
+    facts.push(Fact::Entry(Link {
+        from,
+        to: 4 * first,
+    }))?;
     Ok(())
 }
 

@@ -32,8 +32,8 @@ pub(crate) fn first_at(functions: &[PlacedFunction], at: u32) -> Option<u32>
     ensures within { IfSome result (λ first. first ≤ at) }
     ensures only { (first : ℕ) → IsFirst functions.now at first → result ≡ Some first }
 {
-    let number = functions
-        .partition_point(|f| u64::from(f.first) + u64::from(f.count) <= u64::from(at));
+    let number = functions.partition_point(|f| u64::from(f.first) + u64::from(f.count)
+        <= u64::from(at));
     if number == functions.len() {
         return None;
     }
@@ -50,7 +50,10 @@ pub(crate) fn kind_of(placed: &Placed, slot: u32) -> Option<&Kind>
     if slot < placed.slot_base {
         return None;
     }
-    placed.branches.as_slice().get((slot - placed.slot_base) as usize)
+    placed
+        .branches
+        .as_slice()
+        .get((slot - placed.slot_base) as usize)
 }
 
 // The node of a type of a module.

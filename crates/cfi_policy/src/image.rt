@@ -35,11 +35,7 @@ pub fn image_from(
 ///
 /// The modules are shaped and lie apart, in the order of their places. They and their slots end within the layout, and
 /// so do the addresses that their branches may go to. The edges are not listed pair by pair.
-pub fn image_of(
-    alloc: Global,
-    modules: &[Placed],
-    layout: &Layout,
-) -> Result<Image, AllocError>
+pub fn image_of(alloc: Global, modules: &[Placed], layout: &Layout) -> Result<Image, AllocError>
     requires { HaveImage modules.now layout.now }
     ensures { IfOk result (IsImage (DirectEdge modules.now) modules.now layout.now) }
 {

@@ -26,5 +26,12 @@ pub fn allowed(
     ensures { IfOk result (λ is. IsTrue is ↔ Allowed modules.now branch target) }
 {
     let edges = spanning(alloc, modules)?;
-    are_joined(alloc, edges.as_slice(), SLOTS, MAX_CODE_WORDS + 1, branch, target)
+    are_joined(
+        alloc,
+        edges.as_slice(),
+        SLOTS,
+        MAX_CODE_WORDS + 1,
+        branch,
+        target,
+    )
 }

@@ -28,10 +28,10 @@ returns-in-Switch c =
     on_ok c.add_entries.result (new ≡ old ++ map listed c.as_slice.result.now)
     (Adds old new (IsBranchFact c.args.classes.now c.args.number m c.args.at c.args.slot c.args.kind.now))
     (λ is.
-        let all : new ≡ old ++ map listed entries = is ∙ ap (λ es. old ++ map listed es) c.as_slice.ensures in
-        subst (λ kind. Adds old new (IsBranchFact c.args.classes.now c.args.number m c.args.at c.args.slot kind))
-        (sym c.in-Switch.is)
-        (subst (λ items. Adds old items
-        (IsBranchFact c.args.classes.now c.args.number m c.args.at c.args.slot (Switch entries))) (sym all)
-        (switch_adds c.args.classes.now c.args.number m c.args.at c.args.slot entries old)))
+    let all : new ≡ old ++ map listed entries = is ∙ ap (λ es. old ++ map listed es) c.as_slice.ensures in
+    subst (λ kind. Adds old new (IsBranchFact c.args.classes.now c.args.number m c.args.at c.args.slot kind))
+    (sym c.in-Switch.is)
+    (subst (λ items. Adds old items
+    (IsBranchFact c.args.classes.now c.args.number m c.args.at c.args.slot (Switch entries))) (sym all)
+    (switch_adds c.args.classes.now c.args.number m c.args.at c.args.slot entries old)))
     c.add_entries.ensures

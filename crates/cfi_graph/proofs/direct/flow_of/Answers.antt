@@ -23,8 +23,8 @@ returns-clause-sound c =
     let count = c.node_count-nodes.result in
     if_ok c.flow_by.result (IsFlowOf list count) IsSound
     (λ flow is.
-        below_nodes ms classes c.requires.apart c.in_ok-classes.ensures flow (tells_flow ms classes list are count flow is)
-        (is.nodes ∙ c.node_count-nodes.ensures))
+    below_nodes ms classes c.requires.apart c.in_ok-classes.ensures flow (tells_flow ms classes list are count flow is)
+    (is.nodes ∙ c.node_count-nodes.ensures))
     c.flow_by.ensures
 
 pub returns-clause-goes : goal.returns-clause-goes
@@ -36,9 +36,8 @@ returns-clause-goes c =
     let count = c.node_count-nodes.result in
     if_ok c.flow_by.result (IsFlowOf list count) (GoesAs ms)
     (λ flow is slot address.
-        let tells = tells_flow ms classes list are count flow is in
-        (
-          goes_direct ms classes c.requires.apart c.in_ok-classes.ensures flow tells slot address,
-          direct_goes ms classes c.requires.apart c.in_ok-classes.ensures flow tells slot address,
-        ))
+    let tells = tells_flow ms classes list are count flow is in (
+      goes_direct ms classes c.requires.apart c.in_ok-classes.ensures flow tells slot address,
+      direct_goes ms classes c.requires.apart c.in_ok-classes.ensures flow tells slot address,
+    ))
     c.flow_by.ensures
