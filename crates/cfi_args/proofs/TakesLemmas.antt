@@ -55,7 +55,8 @@ others_pass first others (word ∷ more) all =
     (next_walked first word others (All-head IsOperand word more all))
     ∙ others_pass first (others ++ word ∷ []) more (All-tail IsOperand word more all)
 
-first_passes : (first : Text) (more : List Text) → All IsOperand more → walk_passes shape [] (at_first first) more ≡ true
+first_passes : (first : Text) (more : List Text) → All IsOperand more
+    → walk_passes shape [] (at_first first) more ≡ true
 unfolding walk_passes
 first_passes first [] all = refl
 first_passes first (word ∷ more) all =
@@ -95,7 +96,8 @@ values_taken rule each (v ∷ vs) = ap₂ (λ (a b : Bool). a && b) (each v) (va
 
 -- what comes after the walk passes
 tail_passes : Held → Bool
-tail_passes end = settle_passes rules false end && (list_all default_passes rules && is_valid shape (finished rules end) false)
+tail_passes end = settle_passes rules false end
+    && (list_all default_passes rules && is_valid shape (finished rules end) false)
 
 one_ends : (first : Text) → tail_passes (at_first first).held ≡ true
 unfolding tail_passes

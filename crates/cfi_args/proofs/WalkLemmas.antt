@@ -24,7 +24,8 @@ no_dashes (x ∷ xs) operand = ap (λ (b : Bool). b && bytes_eq xs (45 ∷ [])) 
 
 pub no_long : (word : Text) → IsOperand word → long_of word ≡ None
 no_long word operand =
-    ap (λ (rest : Option Text). option_and_then long_of_rest (option_and_then (strip_byte 45) rest)) (no_strip word operand)
+    ap (λ (rest : Option Text). option_and_then long_of_rest (option_and_then (strip_byte 45) rest))
+    (no_strip word operand)
 
 pub no_short : (word : Text) → IsOperand word → short_of word ≡ None
 no_short word operand = ap (λ (rest : Option Text). option_and_then short_of_rest rest) (no_strip word operand)
