@@ -2,8 +2,10 @@ ghost use Rattle.std.specs.Prelude.{◌≡◌, ◌++◌, OnOk, string_bytes};
 ghost use Rattle.cfi_refusal.specs.Refusal.{refusal_text};
 
 use crate::asm::put_asm;
+use crate::aux::put_aux;
 use crate::bare::put_bare;
 use crate::elf::put_elf;
+use cfi_aux::AuxFault;
 use cfi_bare::Refusal as BareRefusal;
 use elf_read::ElfFault;
 use rv_asm::AsmFault;
@@ -16,6 +18,8 @@ pub enum Refusal {
     Bare(BareRefusal),
     /// As an object.
     Elf(ElfFault),
+    /// As a module.
+    Aux(AuxFault),
     /// As a source.
     Asm(AsmFault),
 }
@@ -33,6 +37,7 @@ pub fn put_refusal(text: &mut String, refusal: Refusal) -> Result<(), AllocError
             text.push_str("elf ")?;
             put_elf(text, fault)
         }
+        Refusal::Aux(fault) => put_aux(text, fault),
         Refusal::Asm(fault) => {
             text.push_str("asm ")?;
             put_asm(text, fault)

@@ -1,5 +1,7 @@
 use crate::{Refusal, put_refusal};
+use cfi_aux::AuxFault;
 use cfi_bare::{Refusal as BareRefusal, VerifyFault};
+use cfi_types::TypeFault;
 use elf_read::{ElfFault, Limit};
 use std::test::Fail;
 
@@ -20,6 +22,11 @@ fn refusals(rt: HostRuntime) -> Result<(), Fail> {
             Refusal::Elf(ElfFault::TooMany(Limit::Relocs)),
             "elf TooMany Relocs",
         ),
+        (
+            Refusal::Aux(AuxFault::Types(TypeFault::BadIndex(3))),
+            "types BadIndex 3",
+        ),
+        (Refusal::Aux(AuxFault::BadRecord(7)), "aux BadRecord 7"),
     ];
     for (refusal, words) in rows {
         let mut text = String::new(rt.alloc());

@@ -1,11 +1,14 @@
 -- Which words are which command.
-use Rattle.std.proofs.Common.{◌≡◌, ℕ, List, [], ◌∷◌, Option, Some, None, refl, sym, ap, ◌∙◌, if◌then◌else◌, unwrap_or}
-use Rattle.std.proofs.lemmas.List.Elements.{All-nil, All-cons}
+use Rattle.std.proofs.Common.{◌≡◌, ℕ, List, [], ◌∷◌, Option, Some, None, refl, sym, ap, ◌∙◌, if◌then◌else◌, unwrap_or, subst}
+use Rattle.std.proofs.lemmas.List.Elements.{All-nil, All-cons, All-tail}
 use Rattle.std.specs.Prelude.{codes, All}
 use Rattle.std.specs.Str.{bytes_eq}
+use Rattle.cfi_args.specs.declared.split.Split.{Split}
+use Rattle.cfi_args.specs.Split.{IsSplit, command_in, operands_of as operands_in}
+use Rattle.cfi_args.specs.Words.{IsOperand}
 use Rattle.cfi_top.specs.declared.command.Command.{Command}
 use Rattle.cfi_top.specs.declared.command.Command.TheVariants as commands
-use Rattle.cfi_top.specs.Command.{name_of, operands_of, IsOperand, IsCommand}
+use Rattle.cfi_top.specs.Command.{name_of, operands_of, IsCommand}
 
 -- the command of words, read off their first
 abbrev command_from : List (List ℕ) → Option Command
@@ -34,5 +37,8 @@ one_command words a b is_a is_b =
 pub all_of_one : (word : List ℕ) → IsOperand word → All IsOperand (word ∷ [])
 all_of_one word operand = All-cons IsOperand word [] operand (All-nil IsOperand)
 
-pub all_of_two : (first second : List ℕ) → IsOperand first → IsOperand second → All IsOperand (first ∷ second ∷ [])
-all_of_two first second one two = All-cons IsOperand first (second ∷ []) one (all_of_one second two)
+-- the operands of words that are split are no options
+pub operands_stand : (words : List (List ℕ)) (split : Split) → IsSplit words (Some split)
+    → All IsOperand (operands_in split)
+operands_stand words split is =
+    All-tail IsOperand (command_in split) (operands_in split) (subst (All IsOperand) is.1 is.0)

@@ -1,5 +1,5 @@
 -- What status 0 says.
-use Rattle.std.proofs.Common.{◌≡◌, ℕ, List, inl, inr, arith, subst}
+use Rattle.std.proofs.Common.{◌≡◌, ℕ, List, [], ◌∷◌, inl, inr, arith, subst}
 use Rattle.cfi_io.specs.Files.{Puts}
 use Rattle.cfi_io.specs.Told.{WhereKeptTold}
 use Rattle.cfi_top.specs.declared.command.Command.{Command}
@@ -8,27 +8,29 @@ use Rattle.cfi_top.specs.declared.answer.Answer.{Answer}
 use Rattle.cfi_top.specs.declared.answer.Answer.TheVariants as answers
 use Rattle.cfi_top.specs.declared.answer.TheConstants.{DONE}
 use Rattle.cfi_top.specs.Answer.{output_of}
-use Rattle.cfi_top.specs.Command.{IsCommand, Fits, input_of}
+use Rattle.cfi_top.specs.Command.{IsCommand, Fits, inputs_of}
 use Rattle.cfi_top.specs.Outside.{ShelfView, SinkView, Holds, IsWhole}
+use Rattle.cfi_top.specs.Reading.{AreRead}
 use Rattle.cfi_top.specs.Outcome.{IsMade, IsWorked}
 use Rattle.cfi_top.specs.Top.{Ends, HasRun, HasListed, HasAssembled}
 use Rattle.cfi_top.proofs.CommandLemmas.{one_command}
+use Rattle.cfi_top.proofs.ReadingLemmas.{one_file, unread_least}
 
--- a command was done: its input had these bytes, and what it makes of them was delivered whole
+-- a command was done: its inputs had these bytes, and what it makes of them was delivered whole
 pub record HasDone (command : Command) (shelf shelf' : ShelfView) (sink sink' : SinkView) : Type 0 where
   pub answer : Answer
-  pub bytes : List ℕ
-  pub held : Holds shelf (input_of command) bytes
-  pub made : IsMade command bytes answer
+  pub files : List (List ℕ)
+  pub read : AreRead shelf (inputs_of command) files
+  pub made : IsMade command files answer
   pub delivered : IsWhole (output_of answer) shelf shelf' sink sink'
 
 -- what a command that the words are comes to, said of another that they are
-worked_as : (words : List (List ℕ)) (a b : Command) (shelf : ShelfView) (bytes : List ℕ) (answer : Answer)
-    → IsCommand words a → IsCommand words b → Holds shelf (input_of a) bytes → IsWorked a bytes answer
-    → Holds shelf (input_of b) bytes × IsWorked b bytes answer
-worked_as words a b shelf bytes answer is_a is_b held worked =
-    subst (λ (c : Command). Holds shelf (input_of c) bytes × IsWorked c bytes answer) (one_command words a b is_a is_b)
-    (held, worked)
+worked_as : (words : List (List ℕ)) (a b : Command) (shelf : ShelfView) (files : List (List ℕ)) (answer : Answer)
+    → IsCommand words a → IsCommand words b → AreRead shelf (inputs_of a) files → IsWorked a files answer
+    → AreRead shelf (inputs_of b) files × IsWorked b files answer
+worked_as words a b shelf files answer is_a is_b read worked =
+    subst (λ (c : Command). AreRead shelf (inputs_of c) files × IsWorked c files answer)
+    (one_command words a b is_a is_b) (read, worked)
 
 module _ (words : List (List ℕ)) (shelf shelf' : ShelfView) (sink sink' : SinkView) (status : ℕ)
     (e : status ≡ DONE) where
@@ -38,9 +40,7 @@ module _ (words : List (List ℕ)) (shelf shelf' : ShelfView) (sink sink' : Sink
   done_of (inr (answers.Ran part, is, inl d)) = (is.0, is.1)
   done_of (inr (answers.Print text, is, inl d)) = (is.0, is.1)
   done_of (inr (answers.Save name bytes, is, inl d)) = (is.0, is.1)
-  done_of (inr (answers.ReadFault name, is, inl d)) = (is.0, is.1)
-  done_of (inr (answers.Absent name, is, inl d)) = (is.0, is.1)
-  done_of (inr (answers.TooLong name, is, inl d)) = (is.0, is.1)
+  done_of (inr (answers.Unread unread, is, inl d)) = (is.0, is.1)
   done_of (inr (answers.Refused name refusal, is, inl d)) = (is.0, is.1)
   done_of (inr (answer, is, inr d)) = absurd (omega (arith, e, d.0))
 
@@ -51,16 +51,15 @@ module _ (words : List (List ℕ)) (shelf shelf' : ShelfView) (sink sink' : Sink
   command_done command fits (inr (answers.Usage, is, inl d)) = absurd (omega (arith, e, d.0))
   command_done command fits (inr (answers.Ran part, is, inl d)) =
       let same = worked_as words is.0 command shelf is.2.0 (answers.Ran part) is.1 fits is.2.1 is.2.2 in
-      record { answer = answers.Ran part; bytes = is.2.0; held = same.0; made = same.1; delivered = d.1 }
+      record { answer = answers.Ran part; files = is.2.0; read = same.0; made = same.1; delivered = d.1 }
   command_done command fits (inr (answers.Print text, is, inl d)) =
       let same = worked_as words is.0 command shelf is.2.0 (answers.Print text) is.1 fits is.2.1 is.2.2 in
-      record { answer = answers.Print text; bytes = is.2.0; held = same.0; made = same.1; delivered = d.1 }
+      record { answer = answers.Print text; files = is.2.0; read = same.0; made = same.1; delivered = d.1 }
   command_done command fits (inr (answers.Save name file, is, inl d)) =
       let same = worked_as words is.0 command shelf is.2.0 (answers.Save name file) is.1 fits is.2.1 is.2.2 in
-      record { answer = answers.Save name file; bytes = is.2.0; held = same.0; made = same.1; delivered = d.1 }
-  command_done command fits (inr (answers.ReadFault name, is, inl d)) = absurd (omega (arith, e, d.0))
-  command_done command fits (inr (answers.Absent name, is, inl d)) = absurd (omega (arith, e, d.0))
-  command_done command fits (inr (answers.TooLong name, is, inl d)) = absurd (omega (arith, e, d.0))
+      record { answer = answers.Save name file; files = is.2.0; read = same.0; made = same.1; delivered = d.1 }
+  command_done command fits (inr (answers.Unread unread, is, inl d)) =
+      absurd (omega (arith, e, d.0, unread_least unread.cause))
   command_done command fits (inr (answers.Refused name refusal, is, inl d)) = absurd (omega (arith, e, d.0))
   command_done command fits (inr (answer, is, inr d)) = absurd (omega (arith, e, d.0))
 
@@ -68,19 +67,17 @@ module _ (words : List (List ℕ)) (shelf shelf' : ShelfView) (sink sink' : Sink
 
 module _ (input bytes : List ℕ) (shelf shelf' : ShelfView) (sink sink' : SinkView)
     (held : Holds shelf input bytes) where
-  run_done : (answer : Answer) → IsMade (commands.Run input) bytes answer
+  run_done : (answer : Answer) → IsMade (commands.Run input) (bytes ∷ []) answer
       → IsWhole (output_of answer) shelf shelf' sink sink' → HasRun input shelf sink sink'
   run_done (answers.Ran part) made whole =
       record { bytes = bytes; held = held; part = part; justified = made; text = whole.1 }
   run_done (answers.Print text) made whole = absurd made
   run_done (answers.Save name file) made whole = absurd made
   run_done answers.Usage made whole = absurd made
-  run_done (answers.ReadFault name) made whole = absurd made
-  run_done (answers.Absent name) made whole = absurd made
-  run_done (answers.TooLong name) made whole = absurd made
+  run_done (answers.Unread unread) made whole = absurd made
   run_done (answers.Refused name refusal) made whole = absurd made
 
-  asm_done : (output : List ℕ) (answer : Answer) → IsMade (commands.Asm input output) bytes answer
+  asm_done : (output : List ℕ) (answer : Answer) → IsMade (commands.Asm input output) (bytes ∷ []) answer
       → IsWhole (output_of answer) shelf shelf' sink sink' → HasAssembled input output shelf shelf' sink sink'
   asm_done output (answers.Save name file) made whole = record {
     bytes = bytes;
@@ -93,21 +90,17 @@ module _ (input bytes : List ℕ) (shelf shelf' : ShelfView) (sink sink' : SinkV
   asm_done output (answers.Print text) made whole = absurd made
   asm_done output (answers.Ran part) made whole = absurd made
   asm_done output answers.Usage made whole = absurd made
-  asm_done output (answers.ReadFault name) made whole = absurd made
-  asm_done output (answers.Absent name) made whole = absurd made
-  asm_done output (answers.TooLong name) made whole = absurd made
+  asm_done output (answers.Unread unread) made whole = absurd made
   asm_done output (answers.Refused name refusal) made whole = absurd made
 
-  list_done : (answer : Answer) → IsMade (commands.List input) bytes answer
+  list_done : (answer : Answer) → IsMade (commands.List input) (bytes ∷ []) answer
       → IsWhole (output_of answer) shelf shelf' sink sink' → HasListed input shelf sink sink'
   list_done (answers.Print text) made whole =
       record { bytes = bytes; held = held; text = text; listing = made; printed = whole.1 }
   list_done (answers.Ran part) made whole = absurd made
   list_done (answers.Save name file) made whole = absurd made
   list_done answers.Usage made whole = absurd made
-  list_done (answers.ReadFault name) made whole = absurd made
-  list_done (answers.Absent name) made whole = absurd made
-  list_done (answers.TooLong name) made whole = absurd made
+  list_done (answers.Unread unread) made whole = absurd made
   list_done (answers.Refused name refusal) made whole = absurd made
 
 pub assembled_of : (words : List (List ℕ)) (shelf shelf' : ShelfView) (sink sink' : SinkView) (status : ℕ)
@@ -116,18 +109,24 @@ pub assembled_of : (words : List (List ℕ)) (shelf shelf' : ShelfView) (sink si
     → HasAssembled input output shelf shelf' sink sink'
 assembled_of words shelf shelf' sink sink' status ends input output fits e =
     let done = command_done words shelf shelf' sink sink' status e (commands.Asm input output) fits ends in
-    asm_done input done.bytes shelf shelf' sink sink' done.held output done.answer done.made done.delivered
+    let one = one_file shelf input done.files done.read in
+    let made = subst (λ (fs : List (List ℕ)). IsMade (commands.Asm input output) fs done.answer) one.1 done.made in
+    asm_done input one.0 shelf shelf' sink sink' one.2 output done.answer made done.delivered
 
 pub ran_of : (words : List (List ℕ)) (shelf shelf' : ShelfView) (sink sink' : SinkView) (status : ℕ)
     → Ends words shelf shelf' sink sink' status → (input : List ℕ)
     → IsCommand words (commands.Run input) → status ≡ DONE → HasRun input shelf sink sink'
 ran_of words shelf shelf' sink sink' status ends input fits e =
     let done = command_done words shelf shelf' sink sink' status e (commands.Run input) fits ends in
-    run_done input done.bytes shelf shelf' sink sink' done.held done.answer done.made done.delivered
+    let one = one_file shelf input done.files done.read in
+    let made = subst (λ (fs : List (List ℕ)). IsMade (commands.Run input) fs done.answer) one.1 done.made in
+    run_done input one.0 shelf shelf' sink sink' one.2 done.answer made done.delivered
 
 pub listed_of : (words : List (List ℕ)) (shelf shelf' : ShelfView) (sink sink' : SinkView) (status : ℕ)
     → Ends words shelf shelf' sink sink' status → (input : List ℕ)
     → IsCommand words (commands.List input) → status ≡ DONE → HasListed input shelf sink sink'
 listed_of words shelf shelf' sink sink' status ends input fits e =
     let done = command_done words shelf shelf' sink sink' status e (commands.List input) fits ends in
-    list_done input done.bytes shelf shelf' sink sink' done.held done.answer done.made done.delivered
+    let one = one_file shelf input done.files done.read in
+    let made = subst (λ (fs : List (List ℕ)). IsMade (commands.List input) fs done.answer) one.1 done.made in
+    list_done input one.0 shelf shelf' sink sink' one.2 done.answer made done.delivered

@@ -1,5 +1,5 @@
 -- Which files stay, and when valid input gives 0 or 6.
-use Rattle.std.proofs.Common.{◌≡◌, ℕ, ◌≤◌, ◌⊎◌, List, Option, Some, None, inl, inr, arith, sym, ap, subst, IfSome, ◌∙◌, unwrap_or}
+use Rattle.std.proofs.Common.{◌≡◌, ℕ, ◌≤◌, ◌⊎◌, List, map, Option, Some, None, inl, inr, arith, sym, subst, IfSome, ◌∙◌}
 use Rattle.std.specs.Prelude.{◌≢◌}
 use Rattle.cfi_io.specs.Count.{Rose}
 use Rattle.cfi_io.specs.Files.{Files}
@@ -10,26 +10,26 @@ use Rattle.cfi_top.specs.declared.answer.Answer.{Answer}
 use Rattle.cfi_top.specs.declared.answer.Answer.TheVariants as answers
 use Rattle.cfi_top.specs.declared.answer.TheConstants.{DONE, WRITE_FAULT, MEMORY}
 use Rattle.cfi_top.specs.Answer.{output_of}
-use Rattle.cfi_top.specs.Command.{IsCommand, input_of}
+use Rattle.cfi_top.specs.Command.{IsCommand, inputs_of}
 use Rattle.cfi_top.specs.Outside.{ShelfView, SinkView, shelf_view, IsWhole, IsBroken, status_of}
-use Rattle.cfi_top.specs.Outcome.{Refuses, Takes, IsAnswer}
+use Rattle.cfi_top.specs.Outcome.{Refuses, IsUnrefused, IsAnswer}
 use Rattle.cfi_top.specs.Top.{Ends, IsSavedBy, Saves, IsValid, IsSteady}
 use Rattle.cfi_top.proofs.CommandLemmas.{one_command}
 use Rattle.cfi_top.proofs.OutsideLemmas.{kept_same, kept_puts, kept_part}
-use Rattle.cfi_top.proofs.OutcomeLemmas.{takes_or_refuses}
+use Rattle.cfi_top.proofs.ReadingLemmas.{same_files, unread_most, unread_unsteady}
 use Rattle.cfi_top.proofs.TopLemmas.{saves_of}
 
--- a file's bytes that a command does not take are not valid
-refused_valid : (words : List (List ℕ)) (told : Files) (command : Command) (bytes : List ℕ) (refusal : Refusal)
-    → IsValid words told → IsCommand words command → told (input_of command) ≡ Some bytes
-    → Refuses command bytes refusal → ⊥
-refused_valid words told command bytes refusal v fits held refuses =
+-- inputs that a command refuses are not valid
+refused_valid : (words : List (List ℕ)) (told : Files) (command : Command) (files : List (List ℕ)) (name : List ℕ)
+    (refusal : Refusal) → IsValid words told → IsCommand words command
+    → map told (inputs_of command) ≡ map Some files → Refuses command files name refusal → ⊥
+refused_valid words told command files name refusal v fits held refuses =
     let same = one_command words v.command command v.fits fits in
-    let there : told (input_of command) ≡ Some v.bytes =
-    subst (λ (c : Command). told (input_of c) ≡ Some v.bytes) same v.held in
-    let equal : v.bytes ≡ bytes = ap (λ (found : Option (List ℕ)). unwrap_or found bytes) (sym there ∙ held) in
-    let taken : Takes command v.bytes = subst (λ (c : Command). Takes c v.bytes) same v.taken in
-    takes_or_refuses command bytes refusal (subst (Takes command) equal taken) refuses
+    let there : map told (inputs_of command) ≡ map Some v.files =
+    subst (λ (c : Command). map told (inputs_of c) ≡ map Some v.files) same v.held in
+    let equal : v.files ≡ files = same_files v.files files (sym there ∙ held) in
+    let unrefused : IsUnrefused command v.files = subst (λ (c : Command). IsUnrefused c v.files) same v.unrefused in
+    subst (IsUnrefused command) equal unrefused name refusal refuses
 
 module _ (words : List (List ℕ)) (sink sink' : SinkView) (status : ℕ) where
   -- valid input over a shelf and a sink that do not fail gives 0 or 6
@@ -41,18 +41,16 @@ module _ (words : List (List ℕ)) (sink sink' : SinkView) (status : ℕ) where
   valid_of told faults misses shelf' (inr (answers.Ran part, is, inl d)) v steady = inl d.0
   valid_of told faults misses shelf' (inr (answers.Print text, is, inl d)) v steady = inl d.0
   valid_of told faults misses shelf' (inr (answers.Save name file, is, inl d)) v steady = inl d.0
-  valid_of told faults misses shelf' (inr (answers.ReadFault name, is, inl d)) v steady = absurd (steady.read is.2.1)
-  valid_of told faults misses shelf' (inr (answers.Absent name, is, inl d)) v steady = absurd (steady.found is.2.1)
-  valid_of told faults misses shelf' (inr (answers.TooLong name, is, inl d)) v steady = absurd (steady.found is.2.1)
+  valid_of told faults misses shelf' (inr (answers.Unread unread, is, inl d)) v steady =
+      absurd (unread_unsteady (shelf_view (Some told) faults misses) shelf' unread.name unread.cause is.2.why
+      steady.read steady.found)
   valid_of told faults misses shelf' (inr (answers.Refused name refusal, is, inl d)) v steady =
-      absurd (refused_valid words told is.0 is.2.0 refusal v is.1 is.2.1 is.2.2.1)
+      absurd (refused_valid words told is.0 is.2.0 name refusal v is.1 is.2.1.held is.2.2)
   valid_of told faults misses shelf' (inr (answers.Save name file, is, inr d)) v steady = absurd (steady.read d.1.1)
   valid_of told faults misses shelf' (inr (answers.Usage, is, inr d)) v steady = absurd (steady.written d.1.1)
   valid_of told faults misses shelf' (inr (answers.Ran part, is, inr d)) v steady = absurd (steady.written d.1.1)
   valid_of told faults misses shelf' (inr (answers.Print text, is, inr d)) v steady = absurd (steady.written d.1.1)
-  valid_of told faults misses shelf' (inr (answers.ReadFault name, is, inr d)) v steady = absurd (steady.written d.1.1)
-  valid_of told faults misses shelf' (inr (answers.Absent name, is, inr d)) v steady = absurd (steady.written d.1.1)
-  valid_of told faults misses shelf' (inr (answers.TooLong name, is, inr d)) v steady = absurd (steady.written d.1.1)
+  valid_of told faults misses shelf' (inr (answers.Unread unread, is, inr d)) v steady = absurd (steady.written d.1.1)
   valid_of told faults misses shelf' (inr (answers.Refused name refusal, is, inr d)) v steady =
       absurd (steady.written d.1.1)
 
@@ -81,9 +79,7 @@ module _ (words : List (List ℕ)) (shelf shelf' : ShelfView) (sink sink' : Sink
   whole_stays answers.Usage is whole = kept_same shelf.files shelf'.files _ whole.0
   whole_stays (answers.Ran part) is whole = kept_same shelf.files shelf'.files _ whole.0
   whole_stays (answers.Print text) is whole = kept_same shelf.files shelf'.files _ whole.0
-  whole_stays (answers.ReadFault name) is whole = kept_same shelf.files shelf'.files _ whole.0
-  whole_stays (answers.Absent name) is whole = kept_same shelf.files shelf'.files _ whole.0
-  whole_stays (answers.TooLong name) is whole = kept_same shelf.files shelf'.files _ whole.0
+  whole_stays (answers.Unread unread) is whole = kept_same shelf.files shelf'.files _ whole.0
   whole_stays (answers.Refused name refusal) is whole = kept_same shelf.files shelf'.files _ whole.0
 
   broken_stays : (answer : Answer) → IsAnswer words shelf shelf' answer
@@ -93,9 +89,7 @@ module _ (words : List (List ℕ)) (shelf shelf' : ShelfView) (sink sink' : Sink
   broken_stays answers.Usage is broken = kept_same shelf.files shelf'.files _ broken.0
   broken_stays (answers.Ran part) is broken = kept_same shelf.files shelf'.files _ broken.0
   broken_stays (answers.Print text) is broken = kept_same shelf.files shelf'.files _ broken.0
-  broken_stays (answers.ReadFault name) is broken = kept_same shelf.files shelf'.files _ broken.0
-  broken_stays (answers.Absent name) is broken = kept_same shelf.files shelf'.files _ broken.0
-  broken_stays (answers.TooLong name) is broken = kept_same shelf.files shelf'.files _ broken.0
+  broken_stays (answers.Unread unread) is broken = kept_same shelf.files shelf'.files _ broken.0
   broken_stays (answers.Refused name refusal) is broken = kept_same shelf.files shelf'.files _ broken.0
 
   pub elsewhere_of : Ends words shelf shelf' sink sink' status → Stay
@@ -114,9 +108,7 @@ module _ (words : List (List ℕ)) (shelf shelf' : ShelfView) (sink sink' : Sink
   whole_keeps answers.Usage is e whole = inl whole.0
   whole_keeps (answers.Ran part) is e whole = inl whole.0
   whole_keeps (answers.Print text) is e whole = inl whole.0
-  whole_keeps (answers.ReadFault name) is e whole = inl whole.0
-  whole_keeps (answers.Absent name) is e whole = inl whole.0
-  whole_keeps (answers.TooLong name) is e whole = inl whole.0
+  whole_keeps (answers.Unread unread) is e whole = inl whole.0
   whole_keeps (answers.Refused name refusal) is e whole = inl whole.0
 
   broken_keeps : (answer : Answer) → IsAnswer words shelf shelf' answer → status ≡ WRITE_FAULT
@@ -126,9 +118,7 @@ module _ (words : List (List ℕ)) (shelf shelf' : ShelfView) (sink sink' : Sink
   broken_keeps answers.Usage is e broken = inl broken.0
   broken_keeps (answers.Ran part) is e broken = inl broken.0
   broken_keeps (answers.Print text) is e broken = inl broken.0
-  broken_keeps (answers.ReadFault name) is e broken = inl broken.0
-  broken_keeps (answers.Absent name) is e broken = inl broken.0
-  broken_keeps (answers.TooLong name) is e broken = inl broken.0
+  broken_keeps (answers.Unread unread) is e broken = inl broken.0
   broken_keeps (answers.Refused name refusal) is e broken = inl broken.0
 
   pub same_of : Ends words shelf shelf' sink sink' status → Keeps
@@ -141,9 +131,7 @@ module _ (words : List (List ℕ)) (shelf shelf' : ShelfView) (sink sink' : Sink
   status_within (answers.Ran part) = omega arith
   status_within (answers.Print text) = omega arith
   status_within (answers.Save name file) = omega arith
-  status_within (answers.ReadFault name) = omega arith
-  status_within (answers.Absent name) = omega arith
-  status_within (answers.TooLong name) = omega arith
+  status_within (answers.Unread unread) = omega (arith, unread_most unread.cause)
   status_within (answers.Refused name refusal) = omega arith
 
   pub within_of : Ends words shelf shelf' sink sink' status → status ≤ MEMORY

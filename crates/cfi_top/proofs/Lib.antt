@@ -1,5 +1,6 @@
 pub mod CommandLemmas
 pub mod OutsideLemmas
+pub mod ReadingLemmas
 pub mod OutcomeLemmas
 pub mod DoneLemmas
 pub mod TopLemmas

@@ -1,16 +1,16 @@
 -- What status 1 to 5 say.
-use Rattle.std.proofs.Common.{◌≡◌, ℕ, ◌⊎◌, List, inl, inr, arith, subst}
-use Rattle.std.specs.Io.KnownBytes.{Appends}
+use Rattle.std.proofs.Common.{◌≡◌, ◌≤◌, ℕ, ◌⊎◌, List, inl, inr, arith, sym, ◌∙◌}
 use Rattle.cfi_io.specs.Count.{Rose}
 use Rattle.cfi_top.specs.declared.answer.Answer.{Answer}
 use Rattle.cfi_top.specs.declared.answer.Answer.TheVariants as answers
 use Rattle.cfi_top.specs.declared.answer.TheConstants.{USAGE, READ_FAULT, NO_FILE, WRITE_FAULT, REFUSED, MEMORY}
-use Rattle.cfi_top.specs.Answer.{refused_line, output_of}
-use Rattle.cfi_top.specs.Command.{Fits, input_of}
+use Rattle.cfi_top.specs.Answer.{output_of}
+use Rattle.cfi_top.specs.Command.{Fits}
 use Rattle.cfi_top.specs.Outside.{ShelfView, SinkView, IsBroken}
 use Rattle.cfi_top.specs.Outcome.{IsAnswer}
-use Rattle.cfi_top.specs.Top.{Ends, IsRefused, IsNotThere, IsSavedBy, Saves}
-use Rattle.cfi_top.proofs.OutcomeLemmas.{saved_is_output, lacked, exceeded}
+use Rattle.cfi_top.specs.Top.{Ends, IsRefused, IsStopped, IsSavedBy, Saves}
+use Rattle.cfi_top.proofs.OutcomeLemmas.{saved_is_output}
+use Rattle.cfi_top.proofs.ReadingLemmas.{failed_rose, missed_rose, unread_least, unread_most}
 
 -- an answer that is delivered as a file is that of a command that saves it
 pub saves_of : (words : List (List ℕ)) (shelf shelf' : ShelfView) (name file : List ℕ)
@@ -24,9 +24,7 @@ module _ (words : List (List ℕ)) (shelf shelf' : ShelfView) (sink sink' : Sink
   usage_of (inr (answers.Ran part, is, inl d)) e = absurd (omega (arith, e, d.0))
   usage_of (inr (answers.Print text, is, inl d)) e = absurd (omega (arith, e, d.0))
   usage_of (inr (answers.Save name file, is, inl d)) e = absurd (omega (arith, e, d.0))
-  usage_of (inr (answers.ReadFault name, is, inl d)) e = absurd (omega (arith, e, d.0))
-  usage_of (inr (answers.Absent name, is, inl d)) e = absurd (omega (arith, e, d.0))
-  usage_of (inr (answers.TooLong name, is, inl d)) e = absurd (omega (arith, e, d.0))
+  usage_of (inr (answers.Unread unread, is, inl d)) e = absurd (omega (arith, e, d.0, unread_least unread.cause))
   usage_of (inr (answers.Refused name refusal, is, inl d)) e = absurd (omega (arith, e, d.0))
   usage_of (inr (answer, is, inr d)) e = absurd (omega (arith, e, d.0))
 
@@ -37,59 +35,67 @@ module _ (words : List (List ℕ)) (shelf shelf' : ShelfView) (sink sink' : Sink
   unfit_of (inr (answers.Ran part, is, inl d)) unfit = absurd (unfit (is.0, is.1))
   unfit_of (inr (answers.Print text, is, inl d)) unfit = absurd (unfit (is.0, is.1))
   unfit_of (inr (answers.Save name file, is, inl d)) unfit = absurd (unfit (is.0, is.1))
-  unfit_of (inr (answers.ReadFault name, is, inl d)) unfit = absurd (unfit (is.0, is.1))
-  unfit_of (inr (answers.Absent name, is, inl d)) unfit = absurd (unfit (is.0, is.1))
-  unfit_of (inr (answers.TooLong name, is, inl d)) unfit = absurd (unfit (is.0, is.1))
+  unfit_of (inr (answers.Unread unread, is, inl d)) unfit = absurd (unfit (is.0, is.1))
   unfit_of (inr (answers.Refused name refusal, is, inl d)) unfit = absurd (unfit (is.0, is.1))
   unfit_of (inr (answer, is, inr d)) unfit = inr (inl d.0)
 
   pub read_fault_of : Ends words shelf shelf' sink sink' status → status ≡ READ_FAULT → Rose shelf.faults shelf'.faults
   read_fault_of (inl memory) e = absurd (omega (arith, e, memory.0))
-  read_fault_of (inr (answers.ReadFault name, is, inl d)) e = is.2.1
+  read_fault_of (inr (answers.Unread unread, is, inl d)) e =
+      failed_rose shelf shelf' unread.name unread.cause is.2.why (sym d.0 ∙ e)
   read_fault_of (inr (answers.Usage, is, inl d)) e = absurd (omega (arith, e, d.0))
   read_fault_of (inr (answers.Ran part, is, inl d)) e = absurd (omega (arith, e, d.0))
   read_fault_of (inr (answers.Print text, is, inl d)) e = absurd (omega (arith, e, d.0))
   read_fault_of (inr (answers.Save name file, is, inl d)) e = absurd (omega (arith, e, d.0))
-  read_fault_of (inr (answers.Absent name, is, inl d)) e = absurd (omega (arith, e, d.0))
-  read_fault_of (inr (answers.TooLong name, is, inl d)) e = absurd (omega (arith, e, d.0))
   read_fault_of (inr (answers.Refused name refusal, is, inl d)) e = absurd (omega (arith, e, d.0))
   read_fault_of (inr (answer, is, inr d)) e = absurd (omega (arith, e, d.0))
 
-  pub no_file_of : Ends words shelf shelf' sink sink' status → status ≡ NO_FILE
-      → Rose shelf.misses shelf'.misses × IsNotThere words shelf
-  no_file_of (inl memory) e = absurd (omega (arith, e, memory.0))
-  no_file_of (inr (answers.Absent name, is, inl d)) e =
-      let missing = lacked shelf.files name (input_of is.0) is.2.0 is.2.2 in
-      (is.2.1, record { command = is.0; fits = is.1; missing = missing })
-  no_file_of (inr (answers.TooLong name, is, inl d)) e =
-      let missing = exceeded shelf.files name (input_of is.0) is.2.0 is.2.2 in
-      (is.2.1, record { command = is.0; fits = is.1; missing = missing })
-  no_file_of (inr (answers.Usage, is, inl d)) e = absurd (omega (arith, e, d.0))
-  no_file_of (inr (answers.Ran part, is, inl d)) e = absurd (omega (arith, e, d.0))
-  no_file_of (inr (answers.Print text, is, inl d)) e = absurd (omega (arith, e, d.0))
-  no_file_of (inr (answers.Save name file, is, inl d)) e = absurd (omega (arith, e, d.0))
-  no_file_of (inr (answers.ReadFault name, is, inl d)) e = absurd (omega (arith, e, d.0))
-  no_file_of (inr (answers.Refused name refusal, is, inl d)) e = absurd (omega (arith, e, d.0))
-  no_file_of (inr (answer, is, inr d)) e = absurd (omega (arith, e, d.0))
+  pub missed_of : Ends words shelf shelf' sink sink' status → status ≡ NO_FILE → Rose shelf.misses shelf'.misses
+  missed_of (inl memory) e = absurd (omega (arith, e, memory.0))
+  missed_of (inr (answers.Unread unread, is, inl d)) e =
+      missed_rose shelf shelf' unread.name unread.cause is.2.why (sym d.0 ∙ e)
+  missed_of (inr (answers.Usage, is, inl d)) e = absurd (omega (arith, e, d.0))
+  missed_of (inr (answers.Ran part, is, inl d)) e = absurd (omega (arith, e, d.0))
+  missed_of (inr (answers.Print text, is, inl d)) e = absurd (omega (arith, e, d.0))
+  missed_of (inr (answers.Save name file, is, inl d)) e = absurd (omega (arith, e, d.0))
+  missed_of (inr (answers.Refused name refusal, is, inl d)) e = absurd (omega (arith, e, d.0))
+  missed_of (inr (answer, is, inr d)) e = absurd (omega (arith, e, d.0))
+
+  -- the statuses of files that are not read lie between
+  stopped_from : READ_FAULT ≤ status → status ≤ NO_FILE → Ends words shelf shelf' sink sink' status
+      → IsStopped words shelf shelf' sink sink' status
+  stopped_from low high (inl memory) = absurd (omega (arith, low, high, memory.0))
+  stopped_from low high (inr (answers.Unread unread, is, inl d)) =
+      record { command = is.0; fits = is.1; unread = unread; stops = is.2; cause = d.0; text = d.1.1 }
+  stopped_from low high (inr (answers.Usage, is, inl d)) = absurd (omega (arith, low, high, d.0))
+  stopped_from low high (inr (answers.Ran part, is, inl d)) = absurd (omega (arith, low, high, d.0))
+  stopped_from low high (inr (answers.Print text, is, inl d)) = absurd (omega (arith, low, high, d.0))
+  stopped_from low high (inr (answers.Save name file, is, inl d)) = absurd (omega (arith, low, high, d.0))
+  stopped_from low high (inr (answers.Refused name refusal, is, inl d)) = absurd (omega (arith, low, high, d.0))
+  stopped_from low high (inr (answer, is, inr d)) = absurd (omega (arith, low, high, d.0))
+
+  pub stopped_of : Ends words shelf shelf' sink sink' status → (status ≡ READ_FAULT) ⊎ (status ≡ NO_FILE)
+      → IsStopped words shelf shelf' sink sink' status
+  stopped_of ends (inl e) = stopped_from (omega (arith, e)) (omega (arith, e)) ends
+  stopped_of ends (inr e) = stopped_from (omega (arith, e)) (omega (arith, e)) ends
 
   pub refused_of : Ends words shelf shelf' sink sink' status → status ≡ REFUSED → IsRefused words shelf sink sink'
   refused_of (inl memory) e = absurd (omega (arith, e, memory.0))
   refused_of (inr (answers.Refused name refusal, is, inl d)) e = record {
     command = is.0;
     fits = is.1;
-    bytes = is.2.0;
-    held = is.2.1;
+    files = is.2.0;
+    read = is.2.1;
+    name = name;
     refusal = refusal;
-    first = is.2.2.1;
-    text = subst (λ (n : List ℕ). Appends sink.written sink'.written (refused_line n refusal)) is.2.2.0 d.1.1;
+    first = is.2.2;
+    text = d.1.1;
   }
   refused_of (inr (answers.Usage, is, inl d)) e = absurd (omega (arith, e, d.0))
   refused_of (inr (answers.Ran part, is, inl d)) e = absurd (omega (arith, e, d.0))
   refused_of (inr (answers.Print text, is, inl d)) e = absurd (omega (arith, e, d.0))
   refused_of (inr (answers.Save name file, is, inl d)) e = absurd (omega (arith, e, d.0))
-  refused_of (inr (answers.ReadFault name, is, inl d)) e = absurd (omega (arith, e, d.0))
-  refused_of (inr (answers.Absent name, is, inl d)) e = absurd (omega (arith, e, d.0))
-  refused_of (inr (answers.TooLong name, is, inl d)) e = absurd (omega (arith, e, d.0))
+  refused_of (inr (answers.Unread unread, is, inl d)) e = absurd (omega (arith, e, d.0, unread_most unread.cause))
   refused_of (inr (answer, is, inr d)) e = absurd (omega (arith, e, d.0))
 
   -- why something was delivered in part
@@ -100,9 +106,7 @@ module _ (words : List (List ℕ)) (shelf shelf' : ShelfView) (sink sink' : Sink
   broken_of answers.Usage is broken = inl broken.1
   broken_of (answers.Ran part) is broken = inl broken.1
   broken_of (answers.Print text) is broken = inl broken.1
-  broken_of (answers.ReadFault name) is broken = inl broken.1
-  broken_of (answers.Absent name) is broken = inl broken.1
-  broken_of (answers.TooLong name) is broken = inl broken.1
+  broken_of (answers.Unread unread) is broken = inl broken.1
   broken_of (answers.Refused name refusal) is broken = inl broken.1
 
   pub write_fault_of : Ends words shelf shelf' sink sink' status → status ≡ WRITE_FAULT
@@ -112,8 +116,7 @@ module _ (words : List (List ℕ)) (shelf shelf' : ShelfView) (sink sink' : Sink
   write_fault_of (inr (answers.Ran part, is, inl d)) e = absurd (omega (arith, e, d.0))
   write_fault_of (inr (answers.Print text, is, inl d)) e = absurd (omega (arith, e, d.0))
   write_fault_of (inr (answers.Save name file, is, inl d)) e = absurd (omega (arith, e, d.0))
-  write_fault_of (inr (answers.ReadFault name, is, inl d)) e = absurd (omega (arith, e, d.0))
-  write_fault_of (inr (answers.Absent name, is, inl d)) e = absurd (omega (arith, e, d.0))
-  write_fault_of (inr (answers.TooLong name, is, inl d)) e = absurd (omega (arith, e, d.0))
+  write_fault_of (inr (answers.Unread unread, is, inl d)) e =
+      absurd (omega (arith, e, d.0, unread_most unread.cause))
   write_fault_of (inr (answers.Refused name refusal, is, inl d)) e = absurd (omega (arith, e, d.0))
   write_fault_of (inr (answer, is, inr d)) e = broken_of answer is d.1

@@ -1,21 +1,8 @@
 -- The commands of the program, and the words that are one. A word is its bytes.
-use Rattle.std.specs.Prelude.{◌≡◌, ◌≢◌, ℕ, List, [], ◌∷◌, map, String, string_bytes, codes, All, Option, Some, None}
-use Rattle.std.specs.declared.alloc.Global.{Global}
+use Rattle.std.specs.Prelude.{◌≡◌, ℕ, List, [], ◌∷◌, codes, All, Option, Some, None}
+use Rattle.cfi_args.specs.Words.{IsOperand}
 use Rattle.cfi_top.specs.declared.command.Command.{Command}
 use Rattle.cfi_top.specs.declared.command.Command.TheVariants as commands
-
--- the bytes of each word
-abbrev pub texts : List (String Global) → List (List ℕ)
-texts words = map string_bytes words
-
--- the code of `-`
-abbrev pub dash : ℕ
-dash = 45
-
--- the word may name a file: it is not empty, and does not begin as an option does
-abbrev pub IsOperand : List ℕ → Type 0
-IsOperand [] = ⊥
-IsOperand (first ∷ rest) = first ≢ dash
 
 -- the word that names a command, and the words after it
 abbrev pub name_of : Command → List ℕ
@@ -42,11 +29,11 @@ abbrev pub IsReading : List (List ℕ) → Option Command → Type 0
 IsReading words None = ¬ Fits words
 IsReading words (Some command) = IsCommand words command
 
--- the file that a command reads
-abbrev pub input_of : Command → List ℕ
-input_of (commands.Asm input output) = input
-input_of (commands.List input) = input
-input_of (commands.Run input) = input
+-- the files that a command reads, in order
+abbrev pub inputs_of : Command → List (List ℕ)
+inputs_of (commands.Asm input output) = input ∷ []
+inputs_of (commands.List input) = input ∷ []
+inputs_of (commands.Run input) = input ∷ []
 
 -- the file that a command saves, where it saves one
 abbrev pub saved_name : Command → Option (List ℕ)

@@ -1,20 +1,21 @@
 -- What each status of the program says, and which input gives 0 or 6.
-use Rattle.std.specs.Prelude.{◌≡◌, ℕ, ◌<◌, ◌≤◌, ◌⊎◌, ⊤, List, length, Option, Some, None}
+use Rattle.std.specs.Prelude.{◌≡◌, ℕ, ◌⊎◌, List, map, All, Some}
 use Rattle.std.specs.Io.KnownBytes.{Appends}
 use Rattle.cfi_io.specs.Count.{Rose}
 use Rattle.cfi_io.specs.Files.{Files, Puts}
-use Rattle.cfi_io.specs.Told.{WhereTold, WhereKeptTold}
-use Rattle.cfi_io.specs.declared.shelf.TheConstants.{MAX_FILE_BYTES}
+use Rattle.cfi_io.specs.Told.{WhereKeptTold}
 use Rattle.cfi_report.specs.declared.report.GuestPart.{GuestPart}
 use Rattle.cfi_refusal.specs.declared.refusal.Refusal.{Refusal}
 use Rattle.cfi_tools.specs.Assembling.{IsAssembled}
 use Rattle.cfi_tools.specs.Listing.{IsObjectListing}
 use Rattle.cfi_top.specs.declared.command.Command.{Command}
 use Rattle.cfi_top.specs.declared.answer.Answer.{Answer}
-use Rattle.cfi_top.specs.Answer.{refused_line, output_of}
-use Rattle.cfi_top.specs.Command.{IsCommand, input_of, saved_name}
+use Rattle.cfi_top.specs.Answer.{refused_line, unread_line, unread_status, output_of}
+use Rattle.cfi_top.specs.Command.{IsCommand, inputs_of, saved_name}
 use Rattle.cfi_top.specs.Outside.{ShelfView, SinkView, Holds, IsStarved, IsDelivered}
-use Rattle.cfi_top.specs.Outcome.{Justifies, Refuses, Takes, IsAnswer}
+use Rattle.cfi_top.specs.Reading.{AreRead, IsShort, StopsAt}
+use Rattle.cfi_top.specs.declared.reading.Unread.{Unread}
+use Rattle.cfi_top.specs.Outcome.{Justifies, Refuses, IsUnrefused, IsAnswer}
 use Rattle.cfi_top.specs.Text.{report_text}
 
 -- no memory was left, or an answer was delivered
@@ -50,26 +51,26 @@ pub record HasAssembled (input output : List ℕ) (shelf shelf' : ShelfView) (si
   pub saved : WhereKeptTold shelf.files shelf'.files (Puts output file)
   pub silent : sink'.written ≡ sink.written
 
--- the command's input was refused for its first fault, and the sink has the line that says so
+-- a command's inputs were read and refused for the first fault, and the sink has the line that says so
 pub record IsRefused (words : List (List ℕ)) (shelf : ShelfView) (sink sink' : SinkView) : Type 0 where
   pub command : Command
   pub fits : IsCommand words command
-  pub bytes : List ℕ
-  pub held : Holds shelf (input_of command) bytes
+  pub files : List (List ℕ)
+  pub read : AreRead shelf (inputs_of command) files
+  pub name : List ℕ
   pub refusal : Refusal
-  pub first : Refuses command bytes refusal
-  pub text : Appends sink.written sink'.written (refused_line (input_of command) refusal)
+  pub first : Refuses command files name refusal
+  pub text : Appends sink.written sink'.written (refused_line name refusal)
 
--- no file has the name, or one that is too long
-abbrev pub IsMissing : Option (List ℕ) → Type 0
-IsMissing None = ⊤
-IsMissing (Some bytes) = MAX_FILE_BYTES < length bytes
-
--- the command's input is not there, or is too long
-pub record IsNotThere (words : List (List ℕ)) (shelf : ShelfView) : Type 0 where
+-- of a command's inputs one was not read, the first of them, and the sink has the line that says which and why
+pub record IsStopped (words : List (List ℕ)) (shelf shelf' : ShelfView) (sink sink' : SinkView) (status : ℕ)
+    : Type 0 where
   pub command : Command
   pub fits : IsCommand words command
-  pub missing : WhereTold shelf.files (λ told. IsMissing (told (input_of command)))
+  pub unread : Unread
+  pub stops : StopsAt shelf shelf' (inputs_of command) unread
+  pub cause : status ≡ unread_status unread.cause
+  pub text : Appends sink.written sink'.written (unread_line unread.name unread.cause)
 
 -- the words are a command that saves a file of this name
 abbrev pub IsSavedBy : (words : List (List ℕ)) → (name : List ℕ) → Type 0
@@ -79,14 +80,14 @@ IsSavedBy words name = (command : Command) × IsCommand words command × (saved_
 abbrev pub Saves : (words : List (List ℕ)) → Type 0
 Saves words = (name : List ℕ) × IsSavedBy words name
 
--- the words are a command whose input the shelf tells, short enough to be read, and the command takes it
+-- the words are a command whose inputs the shelf tells, short enough to be read, and no refusal stands in them
 pub record IsValid (words : List (List ℕ)) (told : Files) : Type 0 where
   pub command : Command
   pub fits : IsCommand words command
-  pub bytes : List ℕ
-  pub held : told (input_of command) ≡ Some bytes
-  pub short : length bytes ≤ MAX_FILE_BYTES
-  pub taken : Takes command bytes
+  pub files : List (List ℕ)
+  pub held : map told (inputs_of command) ≡ map Some files
+  pub short : All IsShort files
+  pub unrefused : IsUnrefused command files
 
 -- a shelf and a sink did not fail, and no file was missed
 pub record IsSteady (shelf shelf' : ShelfView) (sink sink' : SinkView) : Type 0 where

@@ -1,7 +1,8 @@
 ghost use Rattle.std.specs.Prelude.{◌≡◌, IfOk, string_bytes};
 ghost use Rattle.cfi_top.specs.declared.answer.Output.TheVariants as outputs;
-ghost use Rattle.cfi_top.specs.Answer.{output_of, refused_line};
+ghost use Rattle.cfi_top.specs.Answer.{output_of, refused_line, unread_line, unread_status};
 
+use crate::reading::{Cause, Unread};
 use crate::text::report_text;
 use cfi_plan::Text;
 use cfi_refusal::{Refusal, put_refusal};
@@ -20,12 +21,8 @@ pub enum Answer {
     Save(Text, Bytes),
     /// The words are no command.
     Usage,
-    /// The shelf failed when this file was read.
-    ReadFault(Text),
-    /// This file is not there.
-    Absent(Text),
-    /// This file is too long to be read.
-    TooLong(Text),
+    /// This file of the command was not read.
+    Unread(Unread),
     /// This file was refused.
     Refused(Text, Refusal),
 }
@@ -70,6 +67,28 @@ fn refused_line(alloc: Global, name: &str, refusal: Refusal) -> Result<String, A
     Ok(line)
 }
 
+// The line of a file of this name that was not read.
+fn unread_line(alloc: Global, name: &str, cause: Cause) -> Result<String, AllocError>
+    ensures { IfOk result (λ line. string_bytes line ≡ unread_line name.now cause) }
+{
+    match cause {
+        Cause::Failed => format!(in alloc; "failed read {name}\n"),
+        Cause::Absent => format!(in alloc; "absent {name}\n"),
+        Cause::TooLong => format!(in alloc; "toolong {name}\n"),
+    }
+}
+
+// The status where a file was not read.
+fn unread_status(cause: Cause) -> u8
+    ensures { result ≡ unread_status cause }
+{
+    match cause {
+        Cause::Failed => READ_FAULT,
+        Cause::Absent => NO_FILE,
+        Cause::TooLong => NO_FILE,
+    }
+}
+
 // A line for the sink.
 fn line_of(status: u8, line: String) -> Output
     ensures { result ≡ outputs.Print status (string_bytes line) }
@@ -92,17 +111,9 @@ pub fn output_of(alloc: Global, answer: Answer) -> Result<Output, AllocError>
             let line = "usage: cfi asm|list|instrument|link|verify|graph|sim|run|gen\n";
             Ok(line_of(USAGE, line.to_string(alloc)?))
         }
-        Answer::ReadFault(name) => {
-            let name = name.as_str();
-            Ok(line_of(READ_FAULT, format!(in alloc; "failed read {name}\n")?))
-        }
-        Answer::Absent(name) => {
-            let name = name.as_str();
-            Ok(line_of(NO_FILE, format!(in alloc; "absent {name}\n")?))
-        }
-        Answer::TooLong(name) => {
-            let name = name.as_str();
-            Ok(line_of(NO_FILE, format!(in alloc; "toolong {name}\n")?))
+        Answer::Unread(unread) => {
+            let line = unread_line(alloc, unread.name.as_str(), unread.cause)?;
+            Ok(line_of(unread_status(unread.cause), line))
         }
         Answer::Refused(name, refusal) => {
             Ok(line_of(REFUSED, refused_line(alloc, name.as_str(), refusal)?))

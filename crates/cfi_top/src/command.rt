@@ -1,6 +1,8 @@
-ghost use Rattle.std.specs.Prelude.{◌≡◌, ◌∷◌, [], codes, IfOk, IsTrue, ◌↔◌};
-ghost use Rattle.cfi_top.specs.Command.{IsOperand, IsReading, texts, input_of};
+ghost use Rattle.std.specs.Prelude.{◌≡◌, ◌∷◌, [], All, IfOk, map};
+ghost use Rattle.cfi_args.specs.Words.{IsOperand, texts};
+ghost use Rattle.cfi_top.specs.Command.{IsReading, inputs_of};
 
+use cfi_args::split_words;
 use cfi_plan::Text;
 use std::alloc::{AllocError, Global};
 
@@ -26,37 +28,35 @@ pub enum Command {
     },
 }
 
+// A name of a file.
+fn text_of(alloc: Global, name: &str) -> Result<Text, AllocError>
+    ensures { IfOk result (λ text. text ≡ name.now) }
+{
+    Ok(Text::from_string(name.to_string(alloc)?))
+}
+
 impl Command {
-    /// The file that the command reads.
-    pub fn input(&self) -> &str
-        ensures { result.now ≡ input_of self.now }
+    /// The names of the files that the command reads, in order.
+    pub fn inputs(&self, alloc: Global) -> Result<Vec<Text>, AllocError>
+        ensures { IfOk result (λ names. names.items ≡ inputs_of self.now) }
     {
-        match self {
+        let input = match self {
             Command::Asm { input, .. } => input.as_str(),
             Command::List { input } => input.as_str(),
             Command::Run { input } => input.as_str(),
-        }
-    }
-}
-
-// Whether a word may name a file: it is not empty, and does not begin as an option does.
-fn is_operand(word: &str) -> bool
-    ensures { IsTrue result ↔ IsOperand word.now }
-{
-    match word.as_bytes() {
-        [] => false,
-        [first, ..] => *first != b'-',
+        };
+        let mut names = Vec::new(alloc);
+        names.push(text_of(alloc, input)?)?;
+        Ok(names)
     }
 }
 
 // The command of this name that takes one operand.
 fn unary(alloc: Global, name: &str, operand: &str) -> Result<Option<Command>, AllocError>
+    requires operands { All IsOperand (operand.now ∷ []) }
     ensures { IfOk result (IsReading (name.now ∷ operand.now ∷ [])) }
 {
-    if !is_operand(operand) {
-        return Ok(None);
-    }
-    let input = Text::from_string(operand.to_string(alloc)?);
+    let input = text_of(alloc, operand)?;
     if name == "list" {
         return Ok(Some(Command::List { input }));
     }
@@ -73,23 +73,35 @@ fn binary(
     first: &str,
     second: &str,
 ) -> Result<Option<Command>, AllocError>
+    requires operands { All IsOperand (first.now ∷ second.now ∷ []) }
     ensures { IfOk result (IsReading (name.now ∷ first.now ∷ second.now ∷ [])) }
 {
-    if name != "asm" || !is_operand(first) || !is_operand(second) {
+    if name != "asm" {
         return Ok(None);
     }
-    let input = Text::from_string(first.to_string(alloc)?);
-    let output = Text::from_string(second.to_string(alloc)?);
+    let input = text_of(alloc, first)?;
+    let output = text_of(alloc, second)?;
     Ok(Some(Command::Asm { input, output }))
+}
+
+// The command of this name and these operands.
+fn named(alloc: Global, name: &str, operands: &[&str]) -> Result<Option<Command>, AllocError>
+    requires operands { All IsOperand (map (λ word. word.now) operands.now) }
+    ensures { IfOk result (IsReading (name.now ∷ map (λ word. word.now) operands.now)) }
+{
+    match operands {
+        [operand] => unary(alloc, name, operand),
+        [first, second] => binary(alloc, name, first, second),
+        _ => Ok(None),
+    }
 }
 
 /// The command that the words after the program's name are, and `None` where they are none.
 pub fn command_of(alloc: Global, words: &[String]) -> Result<Option<Command>, AllocError>
     ensures { IfOk result (IsReading (texts words.now)) }
 {
-    match words {
-        [name, operand] => unary(alloc, name.as_str(), operand.as_str()),
-        [name, first, second] => binary(alloc, name.as_str(), first.as_str(), second.as_str()),
-        _ => Ok(None),
+    match split_words(alloc, words)? {
+        Some(split) => named(alloc, split.command, &split.operands),
+        None => Ok(None),
     }
 }

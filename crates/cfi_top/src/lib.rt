@@ -14,6 +14,7 @@ mod deliver;
 mod file_tests;
 pub mod laws;
 mod program;
+mod reading;
 mod run;
 #[cfg(test)]
 mod tests;

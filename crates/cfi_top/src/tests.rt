@@ -161,6 +161,12 @@ fn usage(rt: HostRuntime) -> Result<(), Fail> {
         "list -x",
         "asm a.bin",
         "asm a.bin -x",
+        "asm a.bin b.o c.o",
+        "help",
+        "--help",
+        "-V",
+        "run --help",
+        "run -- a.bin",
         "",
     ] {
         expect(&rt, rt.alloc(), line, &HELLO, (&[], &[]), 1, USAGE)?;

@@ -1,16 +1,18 @@
-ghost use Rattle.std.specs.Prelude.{◌≡◌, ◌≤◌, length, IfOk};
+ghost use Rattle.std.specs.Prelude.{◌≡◌, ◌≤◌, ◌∷◌, [], length, All, IfOk};
 ghost use Rattle.cfi_io.specs.declared.shelf.TheConstants.{MAX_FILE_BYTES};
 ghost use Rattle.cfi_top.specs.declared.command.Command.TheVariants as commands;
-ghost use Rattle.cfi_top.specs.Command.{input_of};
+ghost use Rattle.cfi_top.specs.Command.{inputs_of};
 ghost use Rattle.cfi_top.specs.Outside.{shelf_view};
+ghost use Rattle.cfi_top.specs.Reading.{IsShort};
 ghost use Rattle.cfi_top.specs.Outcome.{IsWorked, IsOutcome};
 
 use crate::answer::Answer;
 use crate::command::Command;
 use crate::program::FUEL;
+use crate::reading::read_files;
 use crate::run::run_bare;
 use cfi_bare::accept;
-use cfi_io::{Gate, Shelf, ShelfFault};
+use cfi_io::{Gate, Shelf};
 use cfi_plan::Text;
 use cfi_refusal::Refusal;
 use cfi_tools::{assembled, listing_of};
@@ -22,7 +24,7 @@ use std::alloc::{AllocError, Global};
 // Assembles a source.
 fn asm(alloc: Global, input: Text, output: Text, bytes: &[u8]) -> Result<Answer, AllocError>
     requires short { length bytes.now ≤ MAX_FILE_BYTES }
-    ensures { IfOk result (IsWorked (commands.Asm input output) bytes.now) }
+    ensures { IfOk result (IsWorked (commands.Asm input output) (bytes.now ∷ [])) }
 {
     match assembled(alloc, bytes) {
         Ok(file) => Ok(Answer::Save(output, Bytes::from_vec(file))),
@@ -34,7 +36,7 @@ fn asm(alloc: Global, input: Text, output: Text, bytes: &[u8]) -> Result<Answer,
 // Lists an object.
 fn list(alloc: Global, input: Text, bytes: &[u8]) -> Result<Answer, AllocError>
     requires short { length bytes.now ≤ MAX_FILE_BYTES }
-    ensures { IfOk result (IsWorked (commands.List input) bytes.now) }
+    ensures { IfOk result (IsWorked (commands.List input) (bytes.now ∷ [])) }
 {
     match listing_of(alloc, bytes) {
         Ok(text) => Ok(Answer::Print(Bytes::from_vec(text))),
@@ -45,7 +47,7 @@ fn list(alloc: Global, input: Text, bytes: &[u8]) -> Result<Answer, AllocError>
 
 // Runs a bare file.
 fn run<G: Gate>(alloc: Global, input: Text, bytes: &[u8], gate: &G) -> Result<Answer, AllocError>
-    ensures { IfOk result (IsWorked (commands.Run input) bytes.now) }
+    ensures { IfOk result (IsWorked (commands.Run input) (bytes.now ∷ [])) }
 {
     match accept(alloc, bytes)? {
         Ok(code) => Ok(Answer::Ran(run_bare(alloc, &code, gate, FUEL)?)),
@@ -53,32 +55,33 @@ fn run<G: Gate>(alloc: Global, input: Text, bytes: &[u8], gate: &G) -> Result<An
     }
 }
 
-// Does a command, of whose input these are the bytes.
+// The bytes of the one file.
+fn only(files: &[Bytes]) -> &[u8]
+    requires one { length files.now ≡ 1 }
+    ensures { files.now ≡ result.now ∷ [] }
+{
+    files[0].as_slice()
+}
+
+// Does a command, of whose inputs these are the bytes.
 fn work<G: Gate>(
     alloc: Global,
     command: Command,
-    bytes: &[u8],
+    files: &[Bytes],
     gate: &G,
 ) -> Result<Answer, AllocError>
-    requires short { length bytes.now ≤ MAX_FILE_BYTES }
-    ensures { IfOk result (IsWorked command bytes.now) }
+    requires count { length files.now ≡ length (inputs_of command) }
+    requires short { All IsShort files.now }
+    ensures { IfOk result (IsWorked command files.now) }
 {
     match command {
-        Command::Asm { input, output } => asm(alloc, input, output, bytes),
-        Command::List { input } => list(alloc, input, bytes),
-        Command::Run { input } => run(alloc, input, bytes, gate),
+        Command::Asm { input, output } => asm(alloc, input, output, only(files)),
+        Command::List { input } => list(alloc, input, only(files)),
+        Command::Run { input } => run(alloc, input, only(files), gate),
     }
 }
 
-// The name of a command's input.
-fn input_of(alloc: Global, command: &Command) -> Result<Text, AllocError>
-    ensures { IfOk result (λ name. name ≡ input_of command.now) }
-{
-    let name = command.input().to_string(alloc)?;
-    Ok(Text::from_string(name))
-}
-
-/// Reads a command's input and does the command.
+/// Reads a command's inputs, all before it looks into one, and does the command.
 pub fn outcome_of<F: Shelf, G: Gate>(
     alloc: Global,
     command: Command,
@@ -92,11 +95,9 @@ pub fn outcome_of<F: Shelf, G: Gate>(
     ensures faults { F.faults shelf.old ≤ F.faults shelf.new }
     ensures misses { F.misses shelf.old ≤ F.misses shelf.new }
 {
-    match shelf.read(command.input()) {
-        Ok(bytes) => work(alloc, command, &bytes, gate),
-        Err(ShelfFault::Failed) => Ok(Answer::ReadFault(input_of(alloc, &command)?)),
-        Err(ShelfFault::Absent) => Ok(Answer::Absent(input_of(alloc, &command)?)),
-        Err(ShelfFault::TooLong) => Ok(Answer::TooLong(input_of(alloc, &command)?)),
-        Err(ShelfFault::Memory) => Err(AllocError),
+    let names = command.inputs(alloc)?;
+    match read_files(alloc, shelf, &names)? {
+        Ok(files) => work(alloc, command, files.as_slice(), gate),
+        Err(unread) => Ok(Answer::Unread(unread)),
     }
 }

@@ -1,5 +1,5 @@
 use Rattle.cfi_top.proofs.DoneLemmas.{done_of, ran_of, listed_of, assembled_of}
-use Rattle.cfi_top.proofs.TopLemmas.{usage_of, unfit_of, read_fault_of, no_file_of, write_fault_of, refused_of}
+use Rattle.cfi_top.proofs.TopLemmas.{usage_of, unfit_of, read_fault_of, missed_of, stopped_of, write_fault_of, refused_of}
 use Rattle.cfi_top.proofs.FilesLemmas.{valid_if, elsewhere_of, same_of, within_of}
 use Rattle.cfi_top.proofs.program.top.Goals as goal
 
@@ -25,10 +25,10 @@ pub returns-clause-read_fault : goal.returns-clause-read_fault
 returns-clause-read_fault g c = read_fault_of _ _ _ _ _ _ c.run_words-status.ensures.ends
 
 pub returns-clause-missed : goal.returns-clause-missed
-returns-clause-missed g c = λ e. (no_file_of _ _ _ _ _ _ c.run_words-status.ensures.ends e).0
+returns-clause-missed g c = missed_of _ _ _ _ _ _ c.run_words-status.ensures.ends
 
-pub returns-clause-no_file : goal.returns-clause-no_file
-returns-clause-no_file g c = λ e. (no_file_of _ _ _ _ _ _ c.run_words-status.ensures.ends e).1
+pub returns-clause-unread : goal.returns-clause-unread
+returns-clause-unread g c = stopped_of _ _ _ _ _ _ c.run_words-status.ensures.ends
 
 pub returns-clause-write_fault : goal.returns-clause-write_fault
 returns-clause-write_fault g c = write_fault_of _ _ _ _ _ _ c.run_words-status.ensures.ends

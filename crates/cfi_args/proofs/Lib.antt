@@ -1,0 +1,4 @@
+pub mod OperandLemmas
+pub mod WalkLemmas
+pub mod TakesLemmas
+pub mod SplitLemmas

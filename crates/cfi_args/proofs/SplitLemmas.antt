@@ -1,0 +1,73 @@
+-- Which words the matches have.
+use Rattle.std.proofs.Common.{◌≡◌, List, [], ◌∷◌, Option, Some, None, refl, sym, ap, ap₂, ◌∙◌, codes, unwrap_or, drop, option_map, IfSome}
+use Rattle.std.specs.Prelude.{All, slice_get}
+use Rattle.std.proofs.lemmas.List.Elements.{All-head}
+use Rattle.std.proofs.lemmas.Option.{none-some}
+use Rattle.clap.specs.Matches.{first_value, found_of}
+use Rattle.clap.specs.Simple.{HasMatchesOf, matches_of}
+use Rattle.clap.specs.Walk.{Row, Text, Walk, all_of, finished, first_of, reading_by, rows_of}
+use Rattle.clap.specs.declared.parser.matches.ArgMatches.{ArgMatches}
+use Rattle.clap.specs.declared.parser.matches.ValueSource.TheVariants.{CommandLine}
+use Rattle.clap.proofs.WalkLemmas.{first_value-rows, raw_values-rows}
+use Rattle.cfi_args.specs.declared.split.Split.{Split}
+use Rattle.cfi_args.specs.Words.{IsOperand}
+use Rattle.cfi_args.specs.Parse.{HasWords, operands_in, others_rule, reader}
+use Rattle.cfi_args.specs.Split.{IsSplit, command_in, operands_of}
+use Rattle.cfi_args.proofs.WalkLemmas.{first_row, rules}
+use Rattle.cfi_args.proofs.TakesLemmas.{walk_of_one, walk_of_more}
+
+-- what the second argument has
+abbrev others_row : List Text → Row
+others_row values = record {
+  id = codes "words";
+  values = values;
+  count = None;
+  source = Some CommandLine;
+  reading = reading_by others_rule;
+}
+
+-- what the arguments have of these words
+abbrev rows_for : List Text → List Row
+rows_for [] = []
+rows_for (first ∷ []) = first_row first ∷ []
+rows_for (first ∷ word ∷ rest) = first_row first ∷ others_row (word ∷ rest) ∷ []
+
+rows_are : (words : List Text) → All IsOperand words → matches_of reader words ≡ rows_for words
+rows_are [] all = refl
+rows_are (first ∷ []) all =
+    ap (λ (w : Walk). finished rules w.held) (walk_of_one first (All-head IsOperand first [] all))
+rows_are (first ∷ word ∷ rest) all = ap (λ (w : Walk). finished rules w.held) (walk_of_more first word rest all)
+
+command_is : (words : List Text) → first_of (codes "command") (rows_for words) ≡ slice_get words 0
+command_is [] = refl
+command_is (first ∷ []) = refl
+command_is (first ∷ word ∷ rest) = refl
+
+operands_are : (words : List Text) → unwrap_or (all_of (codes "words") (rows_for words)) [] ≡ drop 1 words
+operands_are [] = refl
+operands_are (first ∷ []) = refl
+operands_are (first ∷ word ∷ rest) = refl
+
+pub has_words : (words : List Text) (m : ArgMatches) → All IsOperand words → HasMatchesOf reader words m
+    → HasWords words m
+has_words words m all matches =
+    let rows : rows_of (found_of m) ≡ rows_for words = (matches refl).0 ∙ rows_are words all in
+    record {
+      command = first_value-rows (found_of m) (codes "command") ∙ ap (first_of (codes "command")) rows
+          ∙ command_is words;
+      operands = ap (λ (found : Option (List Text)). unwrap_or found [])
+          (raw_values-rows (found_of m) (codes "words") ∙ ap (all_of (codes "words")) rows) ∙ operands_are words;
+    }
+
+-- what is read off the matches is the words
+pub split_is : (words : List Text) (m : ArgMatches) (found : Option Split) → All IsOperand words → HasWords words m
+    → option_map command_in found ≡ first_value (found_of m) (codes "command")
+    → IfSome found (λ split. operands_of split ≡ operands_in m) → IsSplit words found
+split_is [] m None all has command operands = λ both. both.1 refl
+split_is [] m (Some split) all has command operands = absurd (none-some _ (sym (command ∙ has.command)))
+split_is (first ∷ rest) m None all has command operands = absurd (none-some _ (command ∙ has.command))
+split_is (first ∷ rest) m (Some split) all has command operands =
+    let named : command_in split ≡ first =
+    ap (λ (found : Option Text). unwrap_or found first) (command ∙ has.command) in
+    let others : operands_of split ≡ rest = operands ∙ has.operands in
+    (all, sym (ap₂ (λ (x : Text) (xs : List Text). x ∷ xs) named others))

@@ -1,0 +1,3 @@
+pub mod Parse
+pub mod Split
+pub mod Words

@@ -1,0 +1,74 @@
+ghost use Rattle.std.specs.Prelude.{◌≡◌, ◌≤◌, IfOk, MatchResult};
+ghost use Rattle.cfi_top.specs.Outside.{shelf_view};
+ghost use Rattle.cfi_top.specs.Reading.{HasRead, IsUnread, IsFound};
+
+use cfi_io::{Shelf, ShelfFault};
+use cfi_list::Items;
+use cfi_plan::Text;
+use cfi_unit::Bytes;
+use std::alloc::{AllocError, Global};
+
+/// Why a file is not read.
+#[derive(Clone, Copy, Debug, PartialEq, Eq)]
+pub enum Cause {
+    /// The shelf failed.
+    Failed,
+    /// It is not there.
+    Absent,
+    /// It is too long to be read.
+    TooLong,
+}
+
+/// A file that is not read.
+#[derive(Debug, Drop)]
+pub struct Unread {
+    /// The file's name.
+    pub name: Text,
+    /// Why it is not read.
+    pub cause: Cause,
+}
+
+// Reads the file of this name.
+fn read_one<F: Shelf>(shelf: &mut F, name: &str) -> Result<Result<Bytes, Cause>, AllocError>
+    ensures read { IfOk result (λ found. MatchResult found
+        (HasRead (shelf_view (F.files shelf.old) (F.faults shelf.old) (F.misses shelf.old)) name.now)
+        (IsUnread (shelf_view (F.files shelf.old) (F.faults shelf.old) (F.misses shelf.old))
+        (shelf_view (F.files shelf.new) (F.faults shelf.new) (F.misses shelf.new)) name.now)) }
+    ensures same { F.files shelf.new ≡ F.files shelf.old }
+    ensures faults { F.faults shelf.old ≤ F.faults shelf.new }
+    ensures misses { F.misses shelf.old ≤ F.misses shelf.new }
+{
+    match shelf.read(name) {
+        Ok(bytes) => Ok(Ok(Bytes::from_vec(bytes))),
+        Err(ShelfFault::Failed) => Ok(Err(Cause::Failed)),
+        Err(ShelfFault::Absent) => Ok(Err(Cause::Absent)),
+        Err(ShelfFault::TooLong) => Ok(Err(Cause::TooLong)),
+        Err(ShelfFault::Memory) => Err(AllocError),
+    }
+}
+
+/// Reads the files of these names in order, up to the first that is not read.
+pub fn read_files<F: Shelf>(
+    alloc: Global,
+    shelf: &mut F,
+    names: &[Text],
+) -> Result<Result<Items<Bytes>, Unread>, AllocError>
+    ensures read { IfOk result (IsFound
+        (shelf_view (F.files shelf.old) (F.faults shelf.old) (F.misses shelf.old))
+        (shelf_view (F.files shelf.new) (F.faults shelf.new) (F.misses shelf.new)) names.now) }
+    ensures same { F.files shelf.new ≡ F.files shelf.old }
+    ensures faults { F.faults shelf.old ≤ F.faults shelf.new }
+    ensures misses { F.misses shelf.old ≤ F.misses shelf.new }
+{
+    let mut files = Vec::new(alloc);
+    for name in names {
+        match read_one(shelf, name.as_str())? {
+            Ok(bytes) => files.push(bytes)?,
+            Err(cause) => {
+                let name = Text::from_string(name.as_str().to_string(alloc)?);
+                return Ok(Err(Unread { name, cause }));
+            }
+        }
+    }
+    Ok(Ok(Items::from_vec(files)))
+}
