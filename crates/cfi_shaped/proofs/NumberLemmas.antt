@@ -87,7 +87,8 @@ slots_cons at units.Service slots rest same = same
 slots_from : (a : ℕ) (code : List CodeUnit) →
     slots_of code ≡ map (λ (c : CheckSpot). c.slot) (checks_of (spots_of a code))
 slots_from a [] = refl
-slots_from a (u ∷ us) = slots_cons a u (slots_of us) (checks_of (spots_of (a + size_of u) us)) (slots_from (a + size_of u) us)
+slots_from a (u ∷ us) =
+    slots_cons a u (slots_of us) (checks_of (spots_of (a + size_of u) us)) (slots_from (a + size_of u) us)
 
 -- the slots of the code are those of the checks
 pub slots_are : (words : List ℕ) (spots : List Spot) (are : AreSpots words spots) →

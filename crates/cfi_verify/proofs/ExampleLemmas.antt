@@ -5,7 +5,7 @@ use Rattle.cfi_unit.specs.declared.unit.Unit.TheVariants.{Jump}
 use Rattle.cfi_verify.specs.declared.spot.Spot.{Spot}
 use Rattle.cfi_verify.specs.Lists.{Each}
 use Rattle.cfi_verify.specs.Spots.{BeginsUnit}
-use Rattle.cfi_verify.specs.Functions.{FitsBehind, EndsWell}
+use Rattle.cfi_verify.specs.Functions.{FitsBehind, IsLastIn, EndsWell}
 use Rattle.cfi_verify.specs.Target.{LeadsWell}
 use Rattle.cfi_verify.specs.Faults.{IsVerified}
 use Rattle.cfi_verify.specs.Example.{loop_function, loop_module}
@@ -45,7 +45,12 @@ fits = record {
 
 ends : EndsWell spots 0 loop_function
 ends =
-    (spot, record { has = has_spot; lies = (omega arith, omega arith); last = λ other has lies. omega (arith, lies.1) }, refl)
+    let last : IsLastIn spots loop_function spot = record {
+      has = has_spot;
+      lies = (omega arith, omega arith);
+      last = λ other has lies. omega (arith, lies.1);
+    } in
+    (spot, last, refl)
 
 leads : LeadsWell loop_module [] spots 0 spot
 leads =

@@ -40,7 +40,8 @@ none_begins spots at n split whole = λ b.
     let k : ℕ = b.1.0 in
     let is : get_or spots k b.0 ≡ b.0 = b.1.2 in
     let inside : k < length spots = b.1.1 in
-    absurd (omega (arith, split.below k b.0 (omega arith) (omega (arith, inside, whole)), ap (λ (s : Spot). s.at) is, b.2))
+    let low : k < n = omega (arith, inside, whole) in
+    absurd (omega (arith, split.below k b.0 (omega arith) low, ap (λ (s : Spot). s.at) is, b.2))
 
 -- the first one that is left begins at the word, or none does
 pub begins_first : (spots : List Spot) → AreRising spots → (at n : ℕ) (d : Spot) → Splits spots at n →
@@ -70,7 +71,8 @@ all_idle spots from to low high unit a b all spot has more less =
     (number_below spots to high b has.0 spot has.1 (omega (arith, place, less)))
 
 -- the last unit before the end of a function
-module _ (spots : List Spot) (rise : AreRising spots) (f : PlacedFunction) (n : ℕ) (split : Splits spots (end_of f) n) where
+module _ (spots : List Spot) (rise : AreRising spots) (f : PlacedFunction) (n : ℕ)
+    (split : Splits spots (end_of f) n) where
   -- the number of a unit of the function is below n
   of_function : (spot : Spot) → (has : Contains spots spot) → LiesIn f spot.at → has.0 < n
   of_function spot has lies =
@@ -115,7 +117,8 @@ module _ (spots : List Spot) (rise : AreRising spots) (f : PlacedFunction) (n : 
       at_rises spots rise k at e.0 (omega (arith, low)) inside in
       let lies : LiesIn f (get_or spots at e.0).at =
       (omega (arith, up, place, last.lies.0), split.below at e.0 (omega arith) (omega (arith, low))) in
-      let most : (get_or spots at e.0).at ≤ e.0.at = last.last (get_or spots at e.0) (Contains-get_or spots at e.0 inside) lies in
+      let most : (get_or spots at e.0).at ≤ e.0.at =
+      last.last (get_or spots at e.0) (Contains-get_or spots at e.0 inside) lies in
       let same : k ≡ at =
       ⊎_elim
       (λ (less : k < at). absurd (omega (arith, rise k at e.0 less inside, most, place)))

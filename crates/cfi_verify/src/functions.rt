@@ -1,6 +1,6 @@
 //! Where functions lie, and how they end.
 
-ghost use Rattle.std.specs.Prelude.{◌≡◌, ℕ, ◌+◌, ◌*◌, ◌<◌, ◌^◌, ◌≤◌, length, IfSome, IfNone, IsTrue, ◌↔◌};
+ghost use Rattle.std.specs.Prelude.{◌≡◌, ℕ, ◌+◌, ◌*◌, ◌<◌, ◌^◌, length, IfSome, IfNone, IsTrue, ◌↔◌};
 ghost use Rattle.cfi_aux.specs.Format.{is_func};
 ghost use Rattle.cfi_verify.specs.Lists.{Each, IsFirstBreak};
 ghost use Rattle.cfi_verify.specs.Functions.{IsIdle, FunctionFits, FitsBehind, IsIdleBehind, may_be_last, EndsWell};

@@ -1,7 +1,7 @@
 //! Reading a module's units, each once.
 
-ghost use Rattle.std.specs.Prelude.{◌*◌, ◌<◌, ◌^◌, ◌≤◌, length, IfOk, IfErr, IfSome, IfNone, IsTrue, ◌↔◌};
-ghost use Rattle.cfi_verify.specs.Spots.{AreSpots, IsInsnAt, StopsAt};
+ghost use Rattle.std.specs.Prelude.{◌*◌, ◌<◌, ◌^◌, length, IfOk, IfErr, IfSome, IfNone};
+ghost use Rattle.cfi_verify.specs.Spots.{AreSpots, StopsAt};
 ghost use Rattle.cfi_verify.specs.Reading.{InsnsBelow, IsFirstIllegal, IsUnread};
 
 use crate::fault::VerifyFault;

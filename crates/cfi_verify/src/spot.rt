@@ -1,8 +1,5 @@
 //! Units and where they stand.
 
-ghost use Rattle.std.specs.Prelude.{◌≡◌};
-ghost use Rattle.cfi_unit.specs.Unit.{size_of};
-
 use cfi_unit::Unit;
 
 /// A unit of a module, and where it stands.

@@ -13,8 +13,8 @@ none = record { at = 0; unit = Plain (Lui 0 0) }
 
 pub returns-then-not-may_lead-clause-some : goal.returns-then-not-may_lead-clause-some
 returns-then-not-may_lead-clause-some c = λ loaded all.
-    first_here c.args.spots.now (LeadsWell c.args.placed.now loaded c.args.spots.now) unit_place c.loop-spot.spot-index _
-    none (c.loop-spot.invariant loaded all) c.loop-spot-test.true
+    first_here c.args.spots.now (LeadsWell c.args.placed.now loaded c.args.spots.now) unit_place
+    c.loop-spot.spot-index _ none (c.loop-spot.invariant loaded all) c.loop-spot-test.true
     (λ well. false≢true (sym c.if-not-may_lead.true ∙ (c.may_lead.ensures loaded all).1 well)) refl
 
 pub loop-spot-preserved : goal.loop-spot-preserved
