@@ -1,7 +1,7 @@
-use Rattle.std.proofs.Common.{◌≡◌, List, [], ◌∷◌, ◌++◌, refl, sym, subst, take, arith, rules}
+use Rattle.std.proofs.Common.{[], refl, sym, subst, arith}
 use Rattle.cfi_top.specs.Outside.{shelf_view}
 use Rattle.cfi_top.specs.Reading.{AreRead}
-use Rattle.cfi_top.proofs.ReadingLemmas.{none_read, more_read}
+use Rattle.cfi_top.proofs.ReadingLemmas.{none_read}
 use Rattle.cfi_top.proofs.reading.read_files.Goals as goal
 
 -- no file is read yet
