@@ -2,4 +2,5 @@ pub mod Asm
 pub mod Aux
 pub mod Bare
 pub mod Elf
+pub mod Instr
 pub mod Refusal

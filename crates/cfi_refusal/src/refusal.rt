@@ -5,8 +5,10 @@ use crate::asm::put_asm;
 use crate::aux::put_aux;
 use crate::bare::put_bare;
 use crate::elf::put_elf;
+use crate::instr::put_instr;
 use cfi_aux::AuxFault;
 use cfi_bare::Refusal as BareRefusal;
+use cfi_instr::InstrFault;
 use elf_read::ElfFault;
 use rv_asm::AsmFault;
 use std::alloc::AllocError;
@@ -20,6 +22,8 @@ pub enum Refusal {
     Elf(ElfFault),
     /// As a module.
     Aux(AuxFault),
+    /// As a module to be instrumented.
+    Instr(InstrFault),
     /// As a source.
     Asm(AsmFault),
 }
@@ -38,6 +42,10 @@ pub fn put_refusal(text: &mut String, refusal: Refusal) -> Result<(), AllocError
             put_elf(text, fault)
         }
         Refusal::Aux(fault) => put_aux(text, fault),
+        Refusal::Instr(fault) => {
+            text.push_str("instr ")?;
+            put_instr(text, fault)
+        }
         Refusal::Asm(fault) => {
             text.push_str("asm ")?;
             put_asm(text, fault)

@@ -1,6 +1,7 @@
 use crate::{Refusal, put_refusal};
 use cfi_aux::AuxFault;
 use cfi_bare::{Refusal as BareRefusal, VerifyFault};
+use cfi_instr::InstrFault;
 use cfi_types::TypeFault;
 use elf_read::{ElfFault, Limit};
 use std::test::Fail;
@@ -27,6 +28,7 @@ fn refusals(rt: HostRuntime) -> Result<(), Fail> {
             "types BadIndex 3",
         ),
         (Refusal::Aux(AuxFault::BadRecord(7)), "aux BadRecord 7"),
+        (Refusal::Instr(InstrFault::Reserved(4)), "instr Reserved 4"),
     ];
     for (refusal, words) in rows {
         let mut text = String::new(rt.alloc());

@@ -1,2 +1,3 @@
 pub mod ListingLemmas
 pub mod ReadingLemmas
+pub mod InstrumentingLemmas

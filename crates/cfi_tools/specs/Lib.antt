@@ -1,3 +1,4 @@
 pub mod Assembling
+pub mod Instrumenting
 pub mod Listing
 pub mod Reading

@@ -18,12 +18,14 @@ command_from (name ∷ input ∷ []) =
     if bytes_eq name (codes "list") then Some (commands.List input)
     else (if bytes_eq name (codes "run") then Some (commands.Run input) else None)
 command_from (name ∷ input ∷ output ∷ []) =
-    if bytes_eq name (codes "asm") then Some (commands.Asm input output) else None
+    if bytes_eq name (codes "asm") then Some (commands.Asm input output)
+    else (if bytes_eq name (codes "instrument") then Some (commands.Instrument input output) else None)
 command_from (name ∷ input ∷ output ∷ more ∷ rest) = None
 
 from_spelled : (command : Command) → command_from (name_of command ∷ operands_of command) ≡ Some command
 from_spelled (commands.Asm input output) = refl
 from_spelled (commands.List input) = refl
+from_spelled (commands.Instrument input output) = refl
 from_spelled (commands.Run input) = refl
 
 -- words are one command at most

@@ -12,7 +12,7 @@ use Rattle.cfi_top.specs.Command.{IsCommand, Fits, inputs_of}
 use Rattle.cfi_top.specs.Outside.{ShelfView, SinkView, Holds, IsWhole}
 use Rattle.cfi_top.specs.Reading.{AreRead}
 use Rattle.cfi_top.specs.Outcome.{IsMade, IsWorked}
-use Rattle.cfi_top.specs.Top.{Ends, HasRun, HasListed, HasAssembled}
+use Rattle.cfi_top.specs.Top.{Ends, HasRun, HasListed, HasAssembled, HasInstrumented}
 use Rattle.cfi_top.proofs.CommandLemmas.{one_command}
 use Rattle.cfi_top.proofs.ReadingLemmas.{one_file, unread_least}
 
@@ -83,7 +83,7 @@ module _ (input bytes : List ℕ) (shelf shelf' : ShelfView) (sink sink' : SinkV
     bytes = bytes;
     held = held;
     file = file;
-    assembled = made.1;
+    made = made.1;
     saved = subst (λ (n : List ℕ). WhereKeptTold shelf.files shelf'.files (Puts n file)) made.0 whole.1;
     silent = whole.0;
   }
@@ -92,6 +92,22 @@ module _ (input bytes : List ℕ) (shelf shelf' : ShelfView) (sink sink' : SinkV
   asm_done output answers.Usage made whole = absurd made
   asm_done output (answers.Unread unread) made whole = absurd made
   asm_done output (answers.Refused name refusal) made whole = absurd made
+
+  instrument_done : (output : List ℕ) (answer : Answer) → IsMade (commands.Instrument input output) (bytes ∷ []) answer
+      → IsWhole (output_of answer) shelf shelf' sink sink' → HasInstrumented input output shelf shelf' sink sink'
+  instrument_done output (answers.Save name file) made whole = record {
+    bytes = bytes;
+    held = held;
+    file = file;
+    made = made.1;
+    saved = subst (λ (n : List ℕ). WhereKeptTold shelf.files shelf'.files (Puts n file)) made.0 whole.1;
+    silent = whole.0;
+  }
+  instrument_done output (answers.Print text) made whole = absurd made
+  instrument_done output (answers.Ran part) made whole = absurd made
+  instrument_done output answers.Usage made whole = absurd made
+  instrument_done output (answers.Unread unread) made whole = absurd made
+  instrument_done output (answers.Refused name refusal) made whole = absurd made
 
   list_done : (answer : Answer) → IsMade (commands.List input) (bytes ∷ []) answer
       → IsWhole (output_of answer) shelf shelf' sink sink' → HasListed input shelf sink sink'
@@ -112,6 +128,16 @@ assembled_of words shelf shelf' sink sink' status ends input output fits e =
     let one = one_file shelf input done.files done.read in
     let made = subst (λ (fs : List (List ℕ)). IsMade (commands.Asm input output) fs done.answer) one.1 done.made in
     asm_done input one.0 shelf shelf' sink sink' one.2 output done.answer made done.delivered
+
+pub instrumented_of : (words : List (List ℕ)) (shelf shelf' : ShelfView) (sink sink' : SinkView) (status : ℕ)
+    → Ends words shelf shelf' sink sink' status → (input output : List ℕ)
+    → IsCommand words (commands.Instrument input output) → status ≡ DONE
+    → HasInstrumented input output shelf shelf' sink sink'
+instrumented_of words shelf shelf' sink sink' status ends input output fits e =
+    let done = command_done words shelf shelf' sink sink' status e (commands.Instrument input output) fits ends in
+    let one = one_file shelf input done.files done.read in
+    let made = subst (λ (fs : List (List ℕ)). IsMade (commands.Instrument input output) fs done.answer) one.1 done.made in
+    instrument_done input one.0 shelf shelf' sink sink' one.2 output done.answer made done.delivered
 
 pub ran_of : (words : List (List ℕ)) (shelf shelf' : ShelfView) (sink sink' : SinkView) (status : ℕ)
     → Ends words shelf shelf' sink sink' status → (input : List ℕ)

@@ -6,7 +6,7 @@ use Rattle.std.proofs.lemmas.List.Elements.{All-nil, All-cons}
 use Rattle.cfi_bare.proofs.AcceptedLemmas.{accepted}
 use Rattle.cfi_bare.proofs.RefusalLemmas.{not_both}
 use Rattle.cfi_refusal.specs.declared.refusal.Refusal.{Refusal}
-use Rattle.cfi_refusal.specs.declared.refusal.Refusal.TheVariants.{Bare, Elf, Aux, Asm}
+use Rattle.cfi_refusal.specs.declared.refusal.Refusal.TheVariants.{Bare, Elf, Aux, Instr, Asm}
 use Rattle.cfi_top.specs.declared.command.Command.TheVariants.{Run}
 use Rattle.cfi_top.specs.Outcome.{Refuses}
 use Rattle.cfi_top.specs.Reading.{IsShort}
@@ -25,6 +25,7 @@ unrefused : (name : List ℕ) (refusal : Refusal) → ¬ Refuses (Run (codes "a"
 unrefused name (Bare refusal) refuses = not_both bytes (111 ∷ []) refusal accepted refuses.1
 unrefused name (Elf fault) refuses = refuses
 unrefused name (Aux fault) refuses = refuses
+unrefused name (Instr fault) refuses = refuses
 unrefused name (Asm fault) refuses = refuses
 
 pub valid : IsValid (codes "run" ∷ codes "a" ∷ []) files

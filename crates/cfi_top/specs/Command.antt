@@ -8,11 +8,13 @@ use Rattle.cfi_top.specs.declared.command.Command.TheVariants as commands
 abbrev pub name_of : Command → List ℕ
 name_of (commands.Asm input output) = codes "asm"
 name_of (commands.List input) = codes "list"
+name_of (commands.Instrument input output) = codes "instrument"
 name_of (commands.Run input) = codes "run"
 
 abbrev pub operands_of : Command → List (List ℕ)
 operands_of (commands.Asm input output) = input ∷ output ∷ []
 operands_of (commands.List input) = input ∷ []
+operands_of (commands.Instrument input output) = input ∷ output ∷ []
 operands_of (commands.Run input) = input ∷ []
 
 -- the words are this command
@@ -33,10 +35,12 @@ IsReading words (Some command) = IsCommand words command
 abbrev pub inputs_of : Command → List (List ℕ)
 inputs_of (commands.Asm input output) = input ∷ []
 inputs_of (commands.List input) = input ∷ []
+inputs_of (commands.Instrument input output) = input ∷ []
 inputs_of (commands.Run input) = input ∷ []
 
 -- the file that a command saves, where it saves one
 abbrev pub saved_name : Command → Option (List ℕ)
 saved_name (commands.Asm input output) = Some output
 saved_name (commands.List input) = None
+saved_name (commands.Instrument input output) = Some output
 saved_name (commands.Run input) = None

@@ -6,10 +6,15 @@ use Rattle.rv_asm.specs.Assembled.{object_in}
 use Rattle.elf_read.specs.Fault.{IsFirstFault}
 use Rattle.cfi_bare.specs.File.{IsAccepted, IsFirstRefusal}
 use Rattle.cfi_refusal.specs.declared.refusal.Refusal.{Refusal}
-use Rattle.cfi_refusal.specs.declared.refusal.Refusal.TheVariants.{Bare, Elf, Asm}
+use Rattle.cfi_refusal.specs.declared.refusal.Refusal.TheVariants.{Bare, Elf, Aux, Instr, Asm}
 use Rattle.cfi_report.specs.declared.report.GuestPart.{GuestPart}
 use Rattle.cfi_tools.specs.Assembling.{IsAssembled}
+use Rattle.cfi_tools.specs.declared.reading.FileFault.{FileFault}
+use Rattle.cfi_tools.specs.declared.reading.FileFault.TheVariants as files
+use Rattle.cfi_tools.specs.declared.instrumenting.InstrumentFault.TheVariants as instruments
+use Rattle.cfi_tools.specs.Instrumenting.{IsInstrumentedFile, IsInstrumentFault}
 use Rattle.cfi_tools.specs.Listing.{IsObjectListing}
+use Rattle.cfi_tools.specs.Reading.{IsFileFault}
 use Rattle.cfi_top.specs.declared.command.Command.{Command}
 use Rattle.cfi_top.specs.declared.command.Command.TheVariants as commands
 use Rattle.cfi_top.specs.declared.answer.Answer.{Answer}
@@ -30,8 +35,16 @@ pub record Justifies (bytes : List ℕ) (part : GuestPart) : Type 0 where
 abbrev pub IsMade : Command → (files : List (List ℕ)) → Answer → Type 0
 IsMade (commands.Asm input output) (bytes ∷ []) (answers.Save name file) = (name ≡ output) × IsAssembled bytes file
 IsMade (commands.List input) (bytes ∷ []) (answers.Print text) = IsObjectListing bytes text
+IsMade (commands.Instrument input output) (bytes ∷ []) (answers.Save name file) =
+    (name ≡ output) × IsInstrumentedFile bytes file
 IsMade (commands.Run input) (bytes ∷ []) (answers.Ran part) = Justifies bytes part
 IsMade command files answer = ⊥
+
+-- the answer to a file that is no module
+abbrev pub IsFileRefused : (input : List ℕ) → FileFault → Answer → Type 0
+IsFileRefused input (files.Elf fault) answer = answer ≡ answers.Refused input (Elf fault)
+IsFileRefused input (files.Aux fault) answer = answer ≡ answers.Refused input (Aux fault)
+IsFileRefused input files.Memory answer = ⊥
 
 -- why a command refuses the bytes of its inputs, and the file that is at fault: the first of the faults
 abbrev pub Refuses : Command → (files : List (List ℕ)) → (name : List ℕ) → Refusal → Type 0
@@ -39,6 +52,12 @@ Refuses (commands.Asm input output) (bytes ∷ []) name (Asm fault) =
     (name ≡ input) × (object_in bytes ≡ Err fault) × (fault ≢ asm_faults.Memory)
 Refuses (commands.List input) (bytes ∷ []) name (Elf fault) =
     (name ≡ input) × IsFirstFault bytes fault × (fault ≢ elf_faults.Memory)
+Refuses (commands.Instrument input output) (bytes ∷ []) name (Elf fault) =
+    (name ≡ input) × IsFileFault bytes (files.Elf fault)
+Refuses (commands.Instrument input output) (bytes ∷ []) name (Aux fault) =
+    (name ≡ input) × IsFileFault bytes (files.Aux fault)
+Refuses (commands.Instrument input output) (bytes ∷ []) name (Instr fault) =
+    (name ≡ input) × IsInstrumentFault bytes (instruments.Instr fault)
 Refuses (commands.Run input) (bytes ∷ []) name (Bare refusal) = (name ≡ input) × IsFirstRefusal bytes refusal
 Refuses command files name refusal = ⊥
 

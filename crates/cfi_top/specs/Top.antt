@@ -7,6 +7,7 @@ use Rattle.cfi_io.specs.Told.{WhereKeptTold}
 use Rattle.cfi_report.specs.declared.report.GuestPart.{GuestPart}
 use Rattle.cfi_refusal.specs.declared.refusal.Refusal.{Refusal}
 use Rattle.cfi_tools.specs.Assembling.{IsAssembled}
+use Rattle.cfi_tools.specs.Instrumenting.{IsInstrumentedFile}
 use Rattle.cfi_tools.specs.Listing.{IsObjectListing}
 use Rattle.cfi_top.specs.declared.command.Command.{Command}
 use Rattle.cfi_top.specs.declared.answer.Answer.{Answer}
@@ -42,14 +43,23 @@ pub record HasListed (input : List ℕ) (shelf : ShelfView) (sink sink' : SinkVi
   pub listing : IsObjectListing bytes text
   pub printed : Appends sink.written sink'.written text
 
--- the file `input` is a source, the file `output` is the written object that it makes, and nothing is printed
-pub record HasAssembled (input output : List ℕ) (shelf shelf' : ShelfView) (sink sink' : SinkView) : Type 0 where
+-- the file `output` is made of the file `input`, and nothing is printed
+pub record HasMade (Makes : (bytes file : List ℕ) → Type 0) (input output : List ℕ) (shelf shelf' : ShelfView)
+    (sink sink' : SinkView) : Type 0 where
   pub bytes : List ℕ
   pub held : Holds shelf input bytes
   pub file : List ℕ
-  pub assembled : IsAssembled bytes file
+  pub made : Makes bytes file
   pub saved : WhereKeptTold shelf.files shelf'.files (Puts output file)
   pub silent : sink'.written ≡ sink.written
+
+-- the file `input` is a source, and the file `output` is the written object that it makes
+abbrev pub HasAssembled : (input output : List ℕ) → (shelf shelf' : ShelfView) → (sink sink' : SinkView) → Type 0
+HasAssembled = HasMade IsAssembled
+
+-- the file `input` is a module, and the file `output` is the written object of it, instrumented
+abbrev pub HasInstrumented : (input output : List ℕ) → (shelf shelf' : ShelfView) → (sink sink' : SinkView) → Type 0
+HasInstrumented = HasMade IsInstrumentedFile
 
 -- a command's inputs were read and refused for the first fault, and the sink has the line that says so
 pub record IsRefused (words : List (List ℕ)) (shelf : ShelfView) (sink sink' : SinkView) : Type 0 where

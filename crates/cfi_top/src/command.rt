@@ -21,6 +21,13 @@ pub enum Command {
         /// The object's file.
         input: Text,
     },
+    /// Instruments a module.
+    Instrument {
+        /// The module's file.
+        input: Text,
+        /// The file of the instrumented module.
+        output: Text,
+    },
     /// Runs a bare file.
     Run {
         /// The bare file.
@@ -43,6 +50,7 @@ impl Command {
         let input = match self {
             Command::Asm { input, .. } => input.as_str(),
             Command::List { input } => input.as_str(),
+            Command::Instrument { input, .. } => input.as_str(),
             Command::Run { input } => input.as_str(),
         };
         let mut names = Vec::new(alloc);
@@ -76,12 +84,15 @@ fn binary(
     requires operands { All IsOperand (first.now ∷ second.now ∷ []) }
     ensures { IfOk result (IsReading (name.now ∷ first.now ∷ second.now ∷ [])) }
 {
-    if name != "asm" {
-        return Ok(None);
-    }
     let input = text_of(alloc, first)?;
     let output = text_of(alloc, second)?;
-    Ok(Some(Command::Asm { input, output }))
+    if name == "asm" {
+        return Ok(Some(Command::Asm { input, output }));
+    }
+    if name == "instrument" {
+        return Ok(Some(Command::Instrument { input, output }));
+    }
+    Ok(None)
 }
 
 // The command of this name and these operands.

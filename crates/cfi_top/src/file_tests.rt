@@ -106,3 +106,41 @@ fn listings(rt: HostRuntime) -> Result<(), Fail> {
     }
     Ok(())
 }
+
+#[test]
+fn instrumenting(rt: HostRuntime) -> Result<(), Fail> {
+    let alloc = rt.alloc();
+    let rows: [(&[u8], u8, &str); 4] = [
+        (b"ret\n", 0, ""),
+        (
+            b"addi x28,x0,1\nret\n",
+            5,
+            "refused a.bin instr Reserved 0\n",
+        ),
+        (b"ebreak\nret\n", 5, "refused a.bin instr Trap 0\n"),
+        (b"nop\n", 5, "refused a.bin instr FallsThrough 0\n"),
+    ];
+    for (body, status, text) in rows {
+        let mut source = b".node void\n.node func 0\n.func f 1\n".to_vec(alloc)?;
+        source.extend_from_slice(body)?;
+        source.extend_from_slice(b".endfunc\n")?;
+        let (_, _, file) = assembled(alloc, &source, &[])?;
+        let file = file.unwrap_or(Vec::new(alloc));
+        let line = "instrument a.bin b.o";
+        expect(&rt, alloc, line, &file, (&[], &[]), status, text)?;
+    }
+    let (_, _, file) = assembled(alloc, b"nop\n", &[])?;
+    let file = file.unwrap_or(Vec::new(alloc));
+    let text = "refused a.bin aux NoRecords\n";
+    expect(
+        &rt,
+        alloc,
+        "instrument a.bin b.o",
+        &file,
+        (&[], &[]),
+        5,
+        text,
+    )?;
+    let text = "refused a.bin elf Short 0\n";
+    expect(&rt, alloc, "instrument a.bin b.o", b"", (&[], &[]), 5, text)
+}

@@ -4,7 +4,7 @@ ghost use Rattle.cfi_top.specs.declared.command.Command.TheVariants as commands;
 ghost use Rattle.cfi_top.specs.Command.{inputs_of};
 ghost use Rattle.cfi_top.specs.Outside.{shelf_view};
 ghost use Rattle.cfi_top.specs.Reading.{IsShort};
-ghost use Rattle.cfi_top.specs.Outcome.{IsWorked, IsOutcome};
+ghost use Rattle.cfi_top.specs.Outcome.{IsFileRefused, IsWorked, IsOutcome};
 
 use crate::answer::Answer;
 use crate::command::Command;
@@ -15,7 +15,7 @@ use cfi_bare::accept;
 use cfi_io::{Gate, Shelf};
 use cfi_plan::Text;
 use cfi_refusal::Refusal;
-use cfi_tools::{assembled, listing_of};
+use cfi_tools::{FileFault, InstrumentFault, assembled, instrumented, listing_of};
 use cfi_unit::Bytes;
 use elf_read::ElfFault;
 use rv_asm::AsmFault;
@@ -42,6 +42,30 @@ fn list(alloc: Global, input: Text, bytes: &[u8]) -> Result<Answer, AllocError>
         Ok(text) => Ok(Answer::Print(Bytes::from_vec(text))),
         Err(ElfFault::Memory) => Err(AllocError),
         Err(fault) => Ok(Answer::Refused(input, Refusal::Elf(fault))),
+    }
+}
+
+// The refusal of a file that is no module.
+fn file_refused(input: Text, fault: FileFault) -> Result<Answer, AllocError>
+    ensures { IfOk result (IsFileRefused input fault) }
+{
+    match fault {
+        FileFault::Elf(elf) => Ok(Answer::Refused(input, Refusal::Elf(elf))),
+        FileFault::Aux(aux) => Ok(Answer::Refused(input, Refusal::Aux(aux))),
+        FileFault::Memory => Err(AllocError),
+    }
+}
+
+// Instruments a module.
+fn instrument(alloc: Global, input: Text, output: Text, bytes: &[u8]) -> Result<Answer, AllocError>
+    requires short { length bytes.now ≤ MAX_FILE_BYTES }
+    ensures { IfOk result (IsWorked (commands.Instrument input output) (bytes.now ∷ [])) }
+{
+    match instrumented(alloc, bytes) {
+        Ok(made) => Ok(Answer::Save(output, Bytes::from_vec(made))),
+        Err(InstrumentFault::File(fault)) => file_refused(input, fault),
+        Err(InstrumentFault::Instr(fault)) => Ok(Answer::Refused(input, Refusal::Instr(fault))),
+        Err(InstrumentFault::Memory) => Err(AllocError),
     }
 }
 
@@ -77,6 +101,7 @@ fn work<G: Gate>(
     match command {
         Command::Asm { input, output } => asm(alloc, input, output, only(files)),
         Command::List { input } => list(alloc, input, only(files)),
+        Command::Instrument { input, output } => instrument(alloc, input, output, only(files)),
         Command::Run { input } => run(alloc, input, only(files), gate),
     }
 }
