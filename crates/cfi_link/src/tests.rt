@@ -1,4 +1,5 @@
-ghost use Rattle.std.specs.Prelude.{IfOk};
+ghost use Rattle.std.specs.Prelude.{◌≤◌, length, IfOk};
+ghost use Rattle.elf_read.specs.declared.rela.TheConstants.{MAX_FILE};
 ghost use Rattle.cfi_aux.specs.Sound.{IsSoundModule};
 ghost use Rattle.cfi_aux.specs.Records.{CanBeWritten};
 
@@ -55,7 +56,18 @@ fn symbols_of(alloc: Global, rows: &[(&str, Binding, Place, u32)]) -> Result<Sym
     Ok(Symbols::from_vec(out))
 }
 
-// A module by way of its file, which makes it sound.
+// The module that a file is, which is sound.
+fn read_module(alloc: Global, file: &[u8]) -> Result<Module, Fail>
+    requires { length file.now ≤ MAX_FILE }
+    ensures { IfOk result (λ m. IsSoundModule m × CanBeWritten m.records) }
+{
+    what_is_read_is_sound();
+    read_can_be_written();
+    let object = read_object(alloc, file)?;
+    Ok(module_of(alloc, object)?)
+}
+
+// A module by way of its file.
 fn module(rt: &impl Abort, alloc: Global, source: &Source) -> Result<Module, Fail>
     ensures { IfOk result (λ m. IsSoundModule m × CanBeWritten m.records) }
 {
@@ -69,10 +81,7 @@ fn module(rt: &impl Abort, alloc: Global, source: &Source) -> Result<Module, Fai
     };
     assert!(rt; is_within_limits(&object));
     let file = write_object(alloc, &object)?;
-    what_is_read_is_sound();
-    read_can_be_written();
-    let object = read_object(alloc, &file)?;
-    Ok(module_of(alloc, object)?)
+    read_module(alloc, &file)
 }
 
 // What comes of linking two modules.
