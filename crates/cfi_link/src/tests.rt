@@ -1,4 +1,4 @@
-ghost use Rattle.std.specs.Prelude.{◌≤◌, length, IfOk};
+ghost use Rattle.std.specs.Prelude.{◌<◌, ◌≤◌, ◌^◌, length, IfOk};
 ghost use Rattle.elf_read.specs.declared.rela.TheConstants.{MAX_FILE};
 ghost use Rattle.cfi_aux.specs.Sound.{IsSoundModule};
 ghost use Rattle.cfi_aux.specs.Records.{CanBeWritten};
@@ -69,7 +69,9 @@ fn read_module(alloc: Global, file: &[u8]) -> Result<Module, Fail>
 
 // A module by way of its file.
 fn module(rt: &impl Abort, alloc: Global, source: &Source) -> Result<Module, Fail>
-    ensures { IfOk result (λ m. IsSoundModule m × CanBeWritten m.records) }
+    ensures sound { IfOk result IsSoundModule }
+    ensures text { IfOk result (λ m. length m.object.text < 2 ^ 32) }
+    ensures written { IfOk result (λ m. CanBeWritten m.records) }
 {
     let object = Object {
         text: bytes_of(alloc, source.words)?,
@@ -81,7 +83,9 @@ fn module(rt: &impl Abort, alloc: Global, source: &Source) -> Result<Module, Fai
     };
     assert!(rt; is_within_limits(&object));
     let file = write_object(alloc, &object)?;
-    read_module(alloc, &file)
+    let found = read_module(alloc, &file)?;
+    assert!(rt; found.object.text.len() <= 1 << 20);
+    Ok(found)
 }
 
 // What comes of linking two modules.
@@ -92,9 +96,6 @@ fn link_two(
     two: &Source,
 ) -> Result<Result<Module, LinkFault>, Fail> {
     let modules = [module(rt, alloc, one)?, module(rt, alloc, two)?];
-    for one in &modules {
-        assert!(rt; one.object.text.len() <= 1 << 20);
-    }
     Ok(link(alloc, &modules))
 }
 

@@ -19,13 +19,17 @@ fn modules(rt: HostRuntime) -> Result<(), Fail> {
         rt.alloc(),
         b".node void\n.node func 0\n.func f 1\nnop\n.endfunc\n",
     );
-    let found = read_module(rt.alloc(), &file.ok().ok_or("assembled")?);
+    let file = file.ok().ok_or("assembled")?;
+    assert!(rt; file.len() <= 1 << 20);
+    let found = read_module(rt.alloc(), &file);
     assert!(rt;
         found.is_ok_and(|found| found.records.functions.as_slice().len() == 1),
         "a function"
     );
     let file = assembled(rt.alloc(), b"nop\n");
-    let found = read_module(rt.alloc(), &file.ok().ok_or("assembled")?);
+    let file = file.ok().ok_or("assembled")?;
+    assert!(rt; file.len() <= 1 << 20);
+    let found = read_module(rt.alloc(), &file);
     assert!(rt;
         matches!(found, Err(FileFault::Aux(AuxFault::NoRecords))),
         "no records"
