@@ -14,4 +14,4 @@ mod sweep;
 mod tests;
 
 pub use joined::are_joined;
-pub use labels::{label, label_words};
+pub use labels::label;
