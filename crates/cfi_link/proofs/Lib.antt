@@ -10,3 +10,4 @@ pub mod MadeLemmas
 pub mod TextSizeLemmas
 pub mod SettledLemmas
 pub mod AppliedLemmas
+pub mod SourceLemmas
