@@ -32,8 +32,8 @@ pub record IsMadeAt (source m : Module) (room : Room) (names : Names) (placed : 
   pub made : IsInstrumented source m
   pub some : m.object.text ≢ []
   pub typed : IsTyped m
-  pub room : IsRoom room
-  pub placed : IsPlaced m room names placed
+  pub fits : IsRoom room
+  pub stands : IsPlaced m room names placed
 
 -- the fault is that of a jump that leads elsewhere
 abbrev pub IsTarget : VerifyFault → Type 0
