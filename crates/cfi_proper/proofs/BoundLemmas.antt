@@ -1,13 +1,13 @@
 -- Functions that are well formed: they begin and end at items, one after the other.
-use Rattle.std.proofs.Common.{◌≡◌, ◌≢◌, ℕ, zero, suc, ◌+◌, ◌-◌, ◌*◌, ◌/◌, ◌%◌, ◌<◌, ◌≤◌, ◌&&◌, ◌||◌, not, Bool, true, false, cond, eqb, ltb, leb, List, [], length, get_or, Option, Some, None, refl, ap, sym, subst, ◌∙◌, inl, inr, ⊎_elim, arith}
+use Rattle.std.proofs.Common.{◌≡◌, ◌≢◌, ℕ, zero, suc, ◌+◌, ◌-◌, ◌*◌, ◌/◌, ◌%◌, ◌<◌, ◌≤◌, not, Bool, true, false, eqb, ltb, List, [], length, get_or, Some, refl, ap, sym, subst, ◌∙◌, inl, inr, ⊎_elim, arith}
 use Rattle.std.specs.List.{list_any, slice_get, range_with_len}
-use Rattle.std.proofs.lemmas.Bool.{cases_Bool, cases_lt, false≢true, both_ways, and_parts, or_cases, not-true, not-false, eqb-true, eqb-false, ne_eqb, ltb-true, leb-true}
+use Rattle.std.proofs.lemmas.Bool.{cases_Bool, cases_lt, both_ways, and_parts, or_cases, not-true, not-false, eqb-true, eqb-false, ne_eqb, ltb-true, leb-true}
 use Rattle.std.proofs.lemmas.List.Folds.{list_any_at}
 use Rattle.std.proofs.lemmas.List.FromFn.{length-range_with_len, get_or-range_with_len}
 use Rattle.std.proofs.lemmas.Option.{slice_get-get_or, slice_get_past}
 use Rattle.cfi_aux.specs.declared.records.Function.{Function}
-use Rattle.cfi_items.specs.Words.{Words, insn_at, count_of}
-use Rattle.cfi_items.specs.Insns.{holds, is_jalr}
+use Rattle.cfi_items.specs.Words.{Words, count_of}
+use Rattle.cfi_items.specs.Insns.{is_jalr}
 use Rattle.cfi_items.specs.Items.{is_inner, is_item, is_item_at, is_bound_at, item_of}
 use Rattle.cfi_items.specs.Functions.{end_of, end_at, end_before, is_code, has_code, is_well_formed, is_formed_at, is_malformed}
 use Rattle.cfi_instr.specs.Sizes.{place_of, offsets_of, moved}
@@ -49,7 +49,7 @@ end-bound t =
       outer = ap (is_inner t) word ∙ end-outer t;
     }
 
-pub bound-is : (t : Words) (offset : ℕ) → is_bound_at t offset ≡ true → IsBound t offset
+bound-is : (t : Words) (offset : ℕ) → is_bound_at t offset ≡ true → IsBound t offset
 bound-is t offset h =
     ⊎_elim
     (λ (here : is_item_at t offset ≡ true). (item-bound t offset here).0)
@@ -107,7 +107,7 @@ module _ (t : Words) (functions : List Function)
       (ap (is_formed_at t (end_before functions k)) (sym is)
       ∙ not-false _ (formed k (omega (arith, inside))))
 
-  pub formed-get : (k : ℕ) (d : Function) → k < length functions
+  formed-get : (k : ℕ) (d : Function) → k < length functions
       → IsFormed t (end_before functions k) (get_or functions k d)
   formed-get k d inside = formed-at k (get_or functions k d) (slice_get-get_or functions k d inside) inside
 

@@ -1,6 +1,6 @@
 -- The bytes of code, and the words in them.
-use Rattle.std.proofs.Common.{◌≡◌, ℕ, ◌+◌, ◌*◌, ◌/◌, ◌^◌, ◌<◌, ◌≤◌, All, List, [], ◌∷◌, ◌++◌, map, take, drop, length, get_or, refl, ap, sym, ◌∙◌, arith, append_assoc, length-append}
-use Rattle.std.specs.Int.{w32, from_le_bytes, to_le_bytes}
+use Rattle.std.proofs.Common.{◌≡◌, ℕ, ◌+◌, ◌*◌, ◌/◌, ◌^◌, ◌<◌, All, List, [], ◌∷◌, ◌++◌, take, drop, length, get_or, refl, ap, sym, ◌∙◌, arith, append_assoc, length-append}
+use Rattle.std.specs.Int.{w32, from_le_bytes}
 use Rattle.std.specs.List.{flat_map}
 use Rattle.std.proofs.lemmas.List.{take-append-drop, drop_more, take_at, drop_at, same_lists, length-take-le}
 use Rattle.std.proofs.lemmas.List.Concat.{flat_map-append}
@@ -45,7 +45,7 @@ word-set front rest at n new is =
 -- ---- all words
 
 -- the words before one, and those after it
-pub split-at : (words : List ℕ) (k d : ℕ) → k < length words
+split-at : (words : List ℕ) (k d : ℕ) → k < length words
     → flat_map word words ≡ flat_map word (take k words) ++ (word (get_or words k d) ++ flat_map word (drop (k + 1) words))
 split-at words k d within =
     ap (flat_map word) (sym (take-append-drop k words) ∙ ap (λ (xs : List ℕ). take k words ++ xs) (drop_more words k d within))

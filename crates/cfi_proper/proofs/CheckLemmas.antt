@@ -1,13 +1,12 @@
 -- The checks of an instrumented module: one for each indirect jump, in order.
-use Rattle.std.proofs.Common.{◌≡◌, ℕ, zero, suc, ◌+◌, ◌-◌, ◌*◌, ◌<◌, ◌≤◌, ◌&&◌, ◌⊎◌, not, Bool, true, false, cond, eqb, List, [], ◌∷◌, ◌++◌, map, length, get_or, Option, Some, None, refl, ap, sym, subst, ◌∙◌, inl, inr, ⊎_elim, arith, length-append}
+use Rattle.std.proofs.Common.{◌≡◌, ℕ, zero, suc, ◌-◌, ◌<◌, ◌≤◌, ◌⊎◌, Bool, true, false, List, [], ◌∷◌, ◌++◌, length, Option, Some, None, refl, ap, sym, subst, ◌∙◌, inl, inr, ⊎_elim, arith, length-append}
 use Rattle.std.specs.List.{slice_get}
-use Rattle.std.proofs.lemmas.Bool.{cases_Bool, cases_lt, false≢true, both_ways, and_parts, and_cases, and_from, not-true, not_from_false, lt-ltb}
+use Rattle.std.proofs.lemmas.Bool.{cases_Bool, false≢true, both_ways, and_parts, and_cases, and_from, not_from_false, lt-ltb}
 use Rattle.std.proofs.lemmas.List.Elements.{filter_map-append}
 use Rattle.std.proofs.lemmas.Option.{none-some, same_Some, slice_get_within}
 use Rattle.elf_read.specs.declared.object.Symbol.{Symbol}
 use Rattle.rv_insn.specs.declared.insn.Insn.{Insn}
 use Rattle.rv_insn.specs.declared.insn.Insn.TheVariants as insns
-use Rattle.cfi_unit.specs.declared.unit.Unit.{Unit as CodeUnit}
 use Rattle.cfi_items.specs.Words.{Words, insn_at, count_of}
 use Rattle.cfi_items.specs.Insns.{holds, is_auipc, is_jalr, is_linked}
 use Rattle.cfi_items.specs.Items.{is_inner, is_pair, is_item, is_indirect}
@@ -18,7 +17,7 @@ use Rattle.cfi_verify.specs.declared.checks.CheckSpot.{CheckSpot}
 use Rattle.cfi_verify.specs.declared.spot.Spot.{Spot}
 use Rattle.cfi_verify.specs.Spots.{spots_of, check_of, checks_of}
 use Rattle.cfi_proper.proofs.BoundLemmas.{item-parts}
-use Rattle.cfi_proper.proofs.ItemLemmas.{item, item_spots, spots_to, spots-more, apart, single-from}
+use Rattle.cfi_proper.proofs.ItemLemmas.{item_spots, spots_to, spots-more, apart, single-from}
 
 -- of two lists joined, the first has the number, or the second has what is left of it
 get-joined : (xs ys : List CheckSpot) (k : ℕ) (c : CheckSpot) → slice_get (xs ++ ys) k ≡ Some c

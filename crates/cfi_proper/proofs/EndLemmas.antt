@@ -1,7 +1,7 @@
 -- The functions of an instrumented module at its place end in jumps or checks that do not link.
-use Rattle.std.proofs.Common.{◌≡◌, ℕ, suc, ◌+◌, ◌-◌, ◌*◌, ◌/◌, ◌<◌, ◌≤◌, ◌&&◌, not, Bool, true, false, eqb, List, [], ◌∷◌, length, get_or, Option, Some, None, refl, ap, sym, subst, ◌∙◌, inl, inr, ⊎_elim, arith}
+use Rattle.std.proofs.Common.{◌≡◌, ℕ, ◌+◌, ◌-◌, ◌/◌, ◌<◌, ◌≤◌, not, Bool, true, false, eqb, List, [], ◌∷◌, length, Option, Some, None, refl, ap, sym, subst, ◌∙◌, inl, inr, ⊎_elim, arith}
 use Rattle.std.specs.List.{Contains, slice_get}
-use Rattle.std.proofs.lemmas.Bool.{cases_Bool, cases_lt, false≢true, both_ways, not-false, eqb-true, false_from_ne_true}
+use Rattle.std.proofs.lemmas.Bool.{cases_Bool, cases_lt, false≢true, both_ways, not-false, eqb-true}
 use Rattle.std.proofs.lemmas.Option.{slice_get_within}
 use Rattle.elf_read.specs.declared.object.Symbol.{Symbol}
 use Rattle.rv_insn.specs.declared.insn.Insn.{Insn}
@@ -14,7 +14,7 @@ use Rattle.cfi_aux.specs.declared.records.Function.{Function}
 use Rattle.cfi_items.specs.Words.{Words, insn_at, words_in as read_words, count_of}
 use Rattle.cfi_items.specs.Insns.{holds, is_auipc, is_linked, is_unlinked}
 use Rattle.cfi_items.specs.Items.{is_inner, is_pair, item_of}
-use Rattle.cfi_items.specs.Functions.{end_of, end_before, runs_off_at, runs_off}
+use Rattle.cfi_items.specs.Functions.{end_of, end_before, runs_off_at}
 use Rattle.cfi_instr.specs.Sizes.{is_long, place_of, offsets_of}
 use Rattle.cfi_instr.specs.Units.{insn_units, units_at}
 use Rattle.cfi_verify.specs.Lists.{Each}
@@ -22,7 +22,7 @@ use Rattle.cfi_verify.specs.Spots.{spots_of}
 use Rattle.cfi_verify.specs.Functions as verify
 use Rattle.cfi_verify.specs.Functions.{may_be_last}
 use Rattle.cfi_verify.specs.declared.spot.Spot.{Spot}
-use Rattle.cfi_proper.proofs.SeenLemmas.{seen, seen_spot, like, last-seen}
+use Rattle.cfi_proper.proofs.SeenLemmas.{seen, like, last-seen}
 use Rattle.cfi_proper.proofs.CodeLemmas.{one-spot}
 use Rattle.cfi_proper.proofs.ItemLemmas.{item, item_spots, spots_to, in-item, of-item, item-range, apart, holds-within, inner-parts, item-outer, item-below, pair-outer, single-from}
 use Rattle.cfi_proper.proofs.BoundLemmas.{IsFormed}
@@ -83,7 +83,7 @@ module _ (t : Words) (symbols : List Symbol) (long : List Bool) (offsets : List 
       })
 
   -- the item that ends with a jump without link
-  pub last-item : (w : ℕ) → holds is_unlinked (insn_at t w) ≡ true → IsLastItem (item t symbols long offsets (item_of t w))
+  last-item : (w : ℕ) → holds is_unlinked (insn_at t w) ≡ true → IsLastItem (item t symbols long offsets (item_of t w))
   last-item w h = elim (cases_Bool (is_inner t w)) [
     | inl inner ↦
         let parts = inner-parts t w inner in
@@ -93,7 +93,7 @@ module _ (t : Words) (symbols : List Symbol) (long : List Bool) (offsets : List 
   ]
 
 -- no item begins between the first word of one and its last
-pub no-item-between : (t : Words) (v w : ℕ) → is_inner t v ≡ false → v ≤ w → v ≤ item_of t w
+no-item-between : (t : Words) (v w : ℕ) → is_inner t v ≡ false → v ≤ w → v ≤ item_of t w
 no-item-between t v w outer le = elim (cases_Bool (is_inner t w)) [
   | inl inner ↦
       rw inner

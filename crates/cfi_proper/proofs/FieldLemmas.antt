@@ -1,11 +1,10 @@
 -- What a relocation makes of the first instruction of a unit: a unit of the same kind.
-use Rattle.std.proofs.Common.{◌≡◌, ℕ, ◌+◌, ◌*◌, ◌/◌, ◌%◌, ◌^◌, ◌<◌, ℤ, pos, negsuc, Bool, true, false, List, [], ◌∷◌, map, drop, length, get_or, Option, Some, None, Result, Ok, Err, refl, ap, sym, subst, ◌∙◌, inl, inr, arith}
-use Rattle.std.specs.Option.{option_map, option_and_then, ok_or}
-use Rattle.std.proofs.lemmas.Bool.{cases_Bool, cases_lt, lt-ltb, le-ltb, ltb-true, eqb-true, and_parts, false≢true}
+use Rattle.std.proofs.Common.{◌≡◌, ℕ, ◌%◌, ◌^◌, ◌<◌, ℤ, pos, negsuc, true, [], ◌∷◌, map, drop, Option, Some, None, Ok, Err, refl, ap, subst, ◌∙◌, inl, inr, arith}
+use Rattle.std.specs.Option.{option_map, ok_or}
+use Rattle.std.proofs.lemmas.Bool.{cases_Bool, cases_lt, lt-ltb, le-ltb, ltb-true, eqb-true, and_parts}
 use Rattle.std.proofs.lemmas.Option.{none-some, same_Some}
 use Rattle.rv_insn.specs.declared.insn.Insn.{Insn}
 use Rattle.rv_insn.specs.declared.insn.Insn.TheVariants as insns
-use Rattle.rv_insn.specs.declared.insn.ImmOp.{ImmOp}
 use Rattle.rv_insn.specs.declared.insn.ImmOp.TheVariants as ops
 use Rattle.rv_insn.specs.Word.{IsSigned, IsEven}
 use Rattle.rv_insn.specs.Insn.{InRange, word_of}
@@ -16,7 +15,6 @@ use Rattle.cfi_unit.specs.Unit.{IsPlain, IsUnit, insns_of, words_of, link_regist
 use Rattle.cfi_unit.proofs.SlotLemmas.{signed-range}
 use Rattle.cfi_unit.proofs.InsnLemmas.{insn_of-word_of}
 use Rattle.cfi_unit.proofs.UnitLemmas.{IsUnit-range, first_insn}
-use Rattle.rv_reloc.specs.declared.fault.RelocFault.{RelocFault}
 use Rattle.rv_reloc.specs.declared.fault.RelocFault.TheVariants as faults
 use Rattle.rv_reloc.specs.declared.table.Form.{Form}
 use Rattle.rv_reloc.specs.declared.table.Form.TheVariants as forms

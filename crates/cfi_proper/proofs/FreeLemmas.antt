@@ -1,5 +1,5 @@
 -- No relocation sits on an item that lies in no function.
-use Rattle.std.proofs.Common.{◌≡◌, ℕ, ◌+◌, ◌*◌, ◌/◌, ◌<◌, ◌≤◌, ◌&&◌, ℤ, Bool, true, false, eqb, List, map, length, get_or, refl, ap, sym, subst, ◌∙◌, inl, inr, ⊎_elim, arith}
+use Rattle.std.proofs.Common.{◌≡◌, ℕ, ◌+◌, ◌*◌, ◌/◌, ◌<◌, ◌≤◌, ℤ, Bool, true, false, eqb, List, map, length, get_or, refl, ap, sym, subst, ◌∙◌, inl, inr, ⊎_elim, arith}
 use Rattle.std.proofs.lemmas.Bool.{cases_Bool, cases_lt, both_ways, and_parts, eqb-true, false≢true}
 use Rattle.std.proofs.lemmas.List.{length-map, get_or-map}
 use Rattle.std.proofs.lemmas.List.Folds.{Any-from_list_any}
@@ -16,12 +16,12 @@ use Rattle.cfi_items.specs.Fault.{parts_of, AreSound}
 use Rattle.cfi_instr.specs.Sizes.{size_at, place_of, offsets_of}
 use Rattle.cfi_instr.specs.Moves.{is_of_long, addend_by, offset_in, moved_by, moved_reloc}
 use Rattle.cfi_instr.proofs.SizeLemmas.{total-grows}
-use Rattle.cfi_proper.proofs.ItemLemmas.{item-outer, item-some, begins-within}
+use Rattle.cfi_proper.proofs.ItemLemmas.{item-some, begins-within}
 use Rattle.cfi_proper.proofs.LaidLemmas.{is_at_word, touches}
-use Rattle.cfi_proper.proofs.MovedLemmas.{FitsText, reloc-fits, GoesWell, goes-well}
+use Rattle.cfi_proper.proofs.MovedLemmas.{FitsText, reloc-fits, goes-well}
 
 -- of two items the one whose words have a place is the other where the other begins there
-pub same-item : (t : Words) (long : List Bool) (v w : ℕ) → place_of t long w < place_of t long (w + 1)
+same-item : (t : Words) (long : List Bool) (v w : ℕ) → place_of t long w < place_of t long (w + 1)
     → place_of t long v ≤ place_of t long w → place_of t long w < place_of t long (v + 1) → v ≡ w
 same-item t long v w some low high =
     ⊎_elim
@@ -63,7 +63,9 @@ module _ (source : Module) (long : List Bool) (sound : AreSound (parts_of source
   moved-in at reloc addend areas.Text is fits h =
       let fit = fits refl in
       let goes = goes-well t symbols long sound.linked.shaped.words reloc fit.fits in
-      let offset = eqb-true (offset_in t offsets (is_of_long long reloc) reloc.offset) (4 * at) (and_parts _ _ h).1 in
+      let to : ℕ = offset_in t offsets (is_of_long long reloc) reloc.offset in
+      let both = and_parts (is_of_text reloc.area) (eqb to (4 * at)) h in
+      let offset : to ≡ 4 * at = eqb-true to (4 * at) both.1 in
       let same : goes.at ≡ at = omega (arith, offset, goes.offset_is) in
       let range = begins-within t symbols long offsets (item_of t (reloc.offset / 4)) goes.at goes.begins in
       record {

@@ -1,11 +1,10 @@
 -- The functions of an instrumented module at its place fit.
-use Rattle.std.proofs.Common.{◌≡◌, ℕ, zero, suc, ◌+◌, ◌-◌, ◌*◌, ◌/◌, ◌<◌, ◌≤◌, ◌⊎◌, Bool, false, List, map, length, get_or, Option, Some, IsTrue, refl, ap, sym, subst, ◌∙◌, inl, inr, ⊎_elim, arith}
+use Rattle.std.proofs.Common.{◌≡◌, ℕ, zero, suc, ◌+◌, ◌*◌, ◌/◌, ◌<◌, ◌≤◌, ◌⊎◌, false, List, map, length, get_or, Some, IsTrue, refl, ap, sym, subst, ◌∙◌, inl, inr, ⊎_elim, arith}
 use Rattle.std.specs.List.{slice_get}
 use Rattle.std.specs.Option.{option_map}
 use Rattle.std.proofs.lemmas.Bool.{cases_lt}
 use Rattle.std.proofs.lemmas.List.{length-map}
 use Rattle.std.proofs.lemmas.Option.{slice_get-map, slice_get-get_or, slice_get_within, get_or_from_slice_get}
-use Rattle.cfi_unit.specs.declared.unit.Unit.{Unit as CodeUnit}
 use Rattle.cfi_aux.specs.Format.{is_func}
 use Rattle.cfi_aux.specs.Placed.{is_global}
 use Rattle.cfi_aux.specs.declared.modules.Module.{Module}
@@ -14,8 +13,8 @@ use Rattle.cfi_aux.specs.declared.placed.PlacedFunction.{PlacedFunction}
 use Rattle.cfi_aux.specs.declared.records.Function.{Function}
 use Rattle.cfi_items.specs.Words.{Words, words_in as read_words, count_of}
 use Rattle.cfi_items.specs.Items.{is_inner}
-use Rattle.cfi_items.specs.Functions.{end_of, end_at, end_before}
-use Rattle.cfi_instr.specs.Sizes.{size_at, place_of, offsets_of, moved}
+use Rattle.cfi_items.specs.Functions.{end_of, end_before}
+use Rattle.cfi_instr.specs.Sizes.{size_at, place_of, offsets_of}
 use Rattle.cfi_instr.specs.Moves.{moved_function}
 use Rattle.cfi_instr.proofs.SizeLemmas.{total-grows}
 use Rattle.cfi_place.specs.Functions.{make_function}
@@ -75,7 +74,7 @@ module _ (source : Module) (placed : Placed) (s : IsFrom source placed) where
       ∙ slice_get-map makes (map moves functions) k
       ∙ ap (option_map makes) (slice_get-map moves functions k ∙ ap (option_map moves) is)
 
-  pub count-made : length placed.functions ≡ length functions
+  count-made : length placed.functions ≡ length functions
   count-made =
       ap (λ (fs : List PlacedFunction). length fs) s.functions
       ∙ length-map (map moves functions) (λ h. make_function (is_global s.symbols h) h)
@@ -98,7 +97,7 @@ module _ (source : Module) (placed : Placed) (s : IsFrom source placed) where
       omega (arith, begins, ends, grows (f.offset / 4) (end_of f / 4) order)
 
   -- where the function before one ends
-  pub made-before : (k : ℕ) → k ≤ length functions
+  made-before : (k : ℕ) → k ≤ length functions
       → verify.end_before placed.functions k ≡ place (end_before functions k / 4)
   made-before zero within = refl
   made-before (suc k) within =

@@ -1,7 +1,7 @@
 -- What stands between the functions of an instrumented module at its place is `addi x0,x0,0`.
-use Rattle.std.proofs.Common.{◌≡◌, ◌≢◌, ℕ, zero, suc, ◌+◌, ◌*◌, ◌/◌, ◌<◌, ◌≤◌, ◌&&◌, not, ℤ, pos, negsuc, Bool, true, false, cond, eqb, List, [], ◌∷◌, length, get_or, Option, Some, None, refl, ap, sym, subst, ◌∙◌, inl, inr, ⊎_elim, arith}
+use Rattle.std.proofs.Common.{◌≡◌, ℕ, ◌+◌, ◌*◌, ◌/◌, ◌<◌, ◌≤◌, not, ℤ, pos, negsuc, Bool, true, false, cond, List, [], ◌∷◌, length, get_or, Option, Some, None, refl, ap, sym, subst, ◌∙◌, inl, inr, ⊎_elim, arith}
 use Rattle.std.specs.List.{Contains}
-use Rattle.std.proofs.lemmas.Bool.{cases_Bool, cases_lt, false≢true, both_ways, and_parts, and_cases, and_from, not-true, not-false, not_from_false, eqb-true, lt-ltb, false_from_ne_true, ltb-true, leb-true}
+use Rattle.std.proofs.lemmas.Bool.{cases_Bool, cases_lt, false≢true, both_ways, and_parts, and_cases, and_from, not-false, not_from_false, eqb-true, lt-ltb, ltb-true, leb-true}
 use Rattle.std.proofs.lemmas.List.Folds.{Any-from_list_any}
 use Rattle.elf_read.specs.declared.object.Symbol.{Symbol}
 use Rattle.rv_insn.specs.declared.insn.Insn.{Insn}
@@ -15,7 +15,7 @@ use Rattle.cfi_aux.specs.declared.placed.Placed.{Placed}
 use Rattle.cfi_aux.specs.declared.records.Function.{Function}
 use Rattle.cfi_items.specs.Words.{Words, insn_at, words_in as read_words, count_of}
 use Rattle.cfi_items.specs.Insns.{holds, is_nop, is_auipc, is_addi, is_zero}
-use Rattle.cfi_items.specs.Items.{is_inner, is_pair, is_item}
+use Rattle.cfi_items.specs.Items.{is_inner, is_item}
 use Rattle.cfi_items.specs.Functions.{end_of, covers, is_covered, end_before, is_code, has_code}
 use Rattle.cfi_instr.specs.Sizes.{is_long, size_at, place_of, offsets_of}
 use Rattle.cfi_instr.specs.Units.{insn_units, units_at}
@@ -23,14 +23,14 @@ use Rattle.cfi_instr.proofs.SizeLemmas.{total-grows}
 use Rattle.cfi_verify.specs.declared.spot.Spot.{Spot}
 use Rattle.cfi_verify.specs.Spots.{spots_of}
 use Rattle.cfi_verify.specs.Functions.{IsIdle}
-use Rattle.cfi_proper.proofs.SeenLemmas.{seen, seen_spot, like}
+use Rattle.cfi_proper.proofs.SeenLemmas.{seen, like}
 use Rattle.cfi_proper.proofs.CodeLemmas.{one-spot}
 use Rattle.cfi_proper.proofs.ItemLemmas.{item, item_spots, spots_to, of-item, item-range, apart, single-from}
 use Rattle.cfi_proper.proofs.BoundLemmas.{IsBound, no_function, before-bound, ends-before, starts-after, no-code}
 use Rattle.cfi_proper.proofs.FromLemmas.{IsFrom}
 
 -- `addi x0,x0,0`
-abbrev pub nop : CodeUnit
+abbrev nop : CodeUnit
 nop = units.Plain (insns.OpImm ops.Addi 0 0 (pos 0))
 
 zero-is : (imm : ℤ) → is_zero imm ≡ true → imm ≡ pos 0

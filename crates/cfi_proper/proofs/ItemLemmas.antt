@@ -1,5 +1,5 @@
 -- The units of the items of a text, and where they stand.
-use Rattle.std.proofs.Common.{◌≡◌, ◌≢◌, ℕ, zero, suc, ◌+◌, ◌-◌, ◌*◌, ◌<◌, ◌≤◌, ◌&&◌, not, Bool, true, false, cond, eqb, List, [], ◌∷◌, ◌++◌, length, get_or, Option, Some, None, refl, ap, sym, subst, ◌∙◌, inl, inr, ⊎_elim, add-one, arith}
+use Rattle.std.proofs.Common.{◌≡◌, ◌≢◌, ℕ, zero, suc, ◌+◌, ◌-◌, ◌<◌, ◌≤◌, not, Bool, true, false, cond, eqb, List, [], ◌∷◌, ◌++◌, get_or, Option, Some, None, refl, ap, sym, subst, ◌∙◌, inl, inr, ⊎_elim, arith}
 use Rattle.std.specs.Prelude.{is_none}
 use Rattle.std.specs.List.{Contains}
 use Rattle.std.proofs.lemmas.Bool.{cases_Bool, cases_lt, false≢true, both_ways, and_parts, not-true, eqb-false}
@@ -10,17 +10,15 @@ use Rattle.elf_read.specs.Places.{joined}
 use Rattle.rv_insn.specs.declared.insn.Insn.{Insn}
 use Rattle.rv_insn.specs.declared.insn.Insn.TheVariants as insns
 use Rattle.cfi_unit.specs.declared.unit.Unit.{Unit as CodeUnit}
-use Rattle.cfi_unit.specs.declared.unit.Unit.TheVariants as units
 use Rattle.cfi_unit.specs.Unit.{size_of}
 use Rattle.cfi_unit.proofs.UnitLemmas.{size_pos}
 use Rattle.cfi_items.specs.Words.{Words, insn_at, count_of}
 use Rattle.cfi_items.specs.Insns.{holds, is_auipc, is_jalr, is_branch}
 use Rattle.cfi_items.specs.Items.{is_inner, is_pair, item_of}
 use Rattle.cfi_items.specs.Flaws.{is_illegal_at}
-use Rattle.cfi_items.specs.Fault.{AreLegal}
 use Rattle.cfi_instr.specs.Sizes.{is_long, size_by, size_at, place_of}
-use Rattle.cfi_instr.specs.Units.{is_wide, insn_units, units_at, units_of}
-use Rattle.cfi_instr.proofs.SizeLemmas.{total-grows, place-more}
+use Rattle.cfi_instr.specs.Units.{is_wide, insn_units, units_at}
+use Rattle.cfi_instr.proofs.SizeLemmas.{place-more}
 use Rattle.cfi_verify.specs.declared.spot.Spot.{Spot}
 use Rattle.cfi_verify.specs.Spots.{spots_of, BeginsUnit}
 use Rattle.cfi_proper.proofs.CodeLemmas.{words_in, words-append, words-cons, spots-append, spots-range}
@@ -60,7 +58,7 @@ pub apart : (test other : Insn → Bool) (insn : Option Insn)
 apart test other None differ h = refl
 apart test other (Some i) differ h = differ i h
 
-pub outer-from : (t : Words) (w : ℕ) → holds is_jalr (insn_at t w) ≡ false → is_inner t w ≡ false
+outer-from : (t : Words) (w : ℕ) → holds is_jalr (insn_at t w) ≡ false → is_inner t w ≡ false
 outer-from t w h = elim (cases_Bool (is_inner t w)) [
   | inl inner ↦ absurd (both_ways (holds is_jalr (insn_at t w)) h (inner-parts t w inner).2)
   | inr outer ↦ outer

@@ -1,12 +1,11 @@
 -- Each check of an instrumented module at its place has a record that fits, and each record a check.
-use Rattle.std.proofs.Common.{◌≡◌, ℕ, ◌+◌, ◌*◌, ◌<◌, ◌≤◌, ◌&&◌, not, Bool, true, false, eqb, ltb, List, map, All, length, IsTrue, Option, Some, None, refl, ap, sym, subst, ◌∙◌, arith}
+use Rattle.std.proofs.Common.{◌≡◌, ℕ, ◌<◌, ◌≤◌, not, Bool, true, false, eqb, List, map, length, Option, Some, None, refl, ap, sym, subst, ◌∙◌, arith}
 use Rattle.std.specs.List.{slice_get}
 use Rattle.std.specs.Option.{option_map}
-use Rattle.std.proofs.lemmas.Bool.{and_cases, both_ways, not-false, not-true, false≢true, ltb-false, ne_eqb, eq-eqb}
+use Rattle.std.proofs.lemmas.Bool.{not-false, false≢true, ltb-false, ne_eqb, eq-eqb}
 use Rattle.std.proofs.lemmas.List.{length-map}
-use Rattle.std.proofs.lemmas.Option.{none-some, same_Some, slice_get-map, slice_get_within, get_or_from_slice_get}
+use Rattle.std.proofs.lemmas.Option.{slice_get-map, slice_get_within, get_or_from_slice_get}
 use Rattle.cfi_types.specs.Node.{Node}
-use Rattle.cfi_unit.specs.declared.unit.Unit.{Unit as CodeUnit}
 use Rattle.cfi_aux.specs.declared.modules.Module.{Module}
 use Rattle.cfi_aux.specs.declared.placed.Placed.{Placed}
 use Rattle.cfi_aux.specs.declared.records.Kind.{Kind}
@@ -14,8 +13,8 @@ use Rattle.cfi_aux.specs.declared.records.Kind.TheVariants.{Call, Tail, Return, 
 use Rattle.cfi_items.specs.Words.{Words, insn_at, words_in as read_words, count_of}
 use Rattle.cfi_items.specs.Insns.{holds, is_linked}
 use Rattle.cfi_items.specs.Items.{is_indirect}
-use Rattle.cfi_items.specs.Jumps.{ordinal_of, is_call, same, has_kind, has_rest, lacks_kind, lacks_kind_by}
-use Rattle.cfi_instr.specs.Sizes.{place_of, offsets_of}
+use Rattle.cfi_items.specs.Jumps.{ordinal_of, is_call, same, has_kind, has_rest, lacks_kind_by}
+use Rattle.cfi_instr.specs.Sizes.{offsets_of}
 use Rattle.cfi_instr.specs.Moves.{moved_kind}
 use Rattle.cfi_verify.specs.Branches.{IsKindOf, IsRecordOf, KindFits}
 use Rattle.cfi_verify.specs.Lists.{Each}
@@ -79,14 +78,15 @@ module _ (source : Module) (placed : Placed) (s : IsFrom source placed) where
       ∙ ap (option_map bare) is in
       let o = of-map bare (slice_get (checks_of base) k) (bare check) there in
       let j = check-of t source.object.symbols s.long offsets (count_of t) (omega arith) k o.0 o.1 in
-      record {
+      let is_check : IsCheckOf t source.object.symbols s.long offsets (count_of t) k (bare o.0) = record {
         word = j.word;
         inside = j.inside;
         indirect = j.indirect;
         number = j.number;
-        at = ap (λ (c : CheckSpot). c.at) (sym o.2) ∙ j.at;
-        link = ap (λ (c : CheckSpot). c.link) (sym o.2) ∙ j.link;
-      }
+        at = j.at;
+        link = j.link;
+      } in
+      subst (IsCheckOf t source.object.symbols s.long offsets (count_of t) k) o.2 is_check
 
   -- an indirect jump has a record that fits
   has-kind : (w : ℕ) → w < count_of t → is_indirect t w ≡ true

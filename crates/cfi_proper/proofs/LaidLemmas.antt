@@ -1,8 +1,8 @@
 -- An instrumented module at its place: its words are units that look as those that were made, and whose checks have
 -- their slots.
-use Rattle.std.proofs.Common.{◌≡◌, ℕ, ◌+◌, ◌*◌, ◌/◌, ◌<◌, ◌≤◌, ◌&&◌, Bool, true, false, eqb, ℤ, List, [], ◌∷◌, map, All, length, get_or, drop, Option, Some, None, Result, Ok, Err, refl, ap, sym, subst, ◌∙◌, inl, inr, arith}
-use Rattle.std.specs.List.{Contains, list_any, flat_map}
-use Rattle.std.proofs.lemmas.Bool.{cases_Bool, and_from, leb-true, eq-eqb}
+use Rattle.std.proofs.Common.{◌≡◌, ℕ, ◌+◌, ◌*◌, ◌/◌, ◌<◌, ◌≤◌, ◌&&◌, Bool, true, false, eqb, ℤ, List, [], map, All, length, get_or, Option, Some, None, Result, Ok, refl, ap, sym, subst, ◌∙◌, arith}
+use Rattle.std.specs.List.{list_any, flat_map}
+use Rattle.std.proofs.lemmas.Bool.{and_from, leb-true, eq-eqb}
 use Rattle.std.proofs.lemmas.List.{get_or-map, length-map}
 use Rattle.std.proofs.lemmas.List.Folds.{list_any_at}
 use Rattle.elf_read.specs.declared.object.Area.{Area}
@@ -22,7 +22,7 @@ use Rattle.cfi_items.specs.Fault.{parts_of, AreSound}
 use Rattle.cfi_instr.specs.Sizes.{offsets_of}
 use Rattle.cfi_instr.specs.Units.{units_of}
 use Rattle.cfi_instr.specs.Moves.{is_of_long, addend_by, moved_by, moved_reloc}
-use Rattle.cfi_instr.specs.Output.{IsText, IsInstrumented}
+use Rattle.cfi_instr.specs.Output.{IsText}
 use Rattle.cfi_items.specs.Target.{symbol_of}
 use Rattle.cfi_place.specs.declared.fault.PlaceFault.{PlaceFault}
 use Rattle.cfi_place.specs.declared.room.Room.{Room}
@@ -33,13 +33,12 @@ use Rattle.cfi_place.specs.Placed.{IsRoom, words_in, values_in, relocated, unles
 use Rattle.cfi_verify.specs.Lists.{Each}
 use Rattle.cfi_verify.specs.Spots.{spots_of, checks_of}
 use Rattle.cfi_verify.specs.Branches.{NamesSlot}
-use Rattle.cfi_proper.specs.Proper.{IsMadeAt}
 use Rattle.cfi_proper.proofs.SeenLemmas.{seen_from}
 use Rattle.cfi_proper.proofs.BytesLemmas.{words-spelled, length-spelled}
-use Rattle.cfi_proper.proofs.CodeLemmas.{words_in as words_of_code, bytes_of, AreUnits, units-small}
-use Rattle.cfi_proper.proofs.ItemLemmas.{item_spots, begins-in-all}
-use Rattle.cfi_proper.proofs.MovedLemmas.{FitsText, reloc-fits, fits-rule, HasRule, GoesWell, goes-well}
-use Rattle.cfi_proper.proofs.RelocatedLemmas.{SitsWell, SitsIn, Sits, IsCode, relocated-code}
+use Rattle.cfi_proper.proofs.CodeLemmas.{units-small}
+use Rattle.cfi_proper.proofs.ItemLemmas.{begins-in-all}
+use Rattle.cfi_proper.proofs.MovedLemmas.{FitsText, reloc-fits, fits-rule, goes-well}
+use Rattle.cfi_proper.proofs.RelocatedLemmas.{SitsIn, Sits, IsCode, relocated-code}
 use Rattle.cfi_proper.proofs.SlotLemmas.{numbered, slots_in, slots-few, seen-numbered, units-numbered, slots-set, slots-named, slots-count, same-places}
 use Rattle.cfi_proper.proofs.ReadLemmas.{read-one}
 

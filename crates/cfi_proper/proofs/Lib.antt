@@ -20,5 +20,6 @@ pub mod EndLemmas
 pub mod CheckLemmas
 pub mod KindLemmas
 pub mod SwitchLemmas
+pub mod TypedLemmas
 pub mod ProperLemmas
 pub mod ExampleLemmas

@@ -1,5 +1,5 @@
 -- Instrumented modules are proper at their places.
-use Rattle.std.proofs.Common.{◌≡◌, ◌≢◌, ◌⊎◌, ℕ, ◌*◌, ◌<◌, ◌≤◌, List, [], length, refl, ap, sym, subst, ◌∙◌, inl, inr, ⊎_elim, arith}
+use Rattle.std.proofs.Common.{◌≡◌, ◌⊎◌, ℕ, ◌*◌, ◌<◌, ◌≤◌, List, length, refl, ap, subst, inl, inr, ⊎_elim, arith}
 use Rattle.cfi_aux.specs.declared.modules.Module.{Module}
 use Rattle.cfi_aux.specs.declared.placed.Placed.{Placed}
 use Rattle.cfi_place.specs.declared.room.Room.{Room}
@@ -10,15 +10,15 @@ use Rattle.cfi_verify.specs.declared.spot.Spot.{Spot}
 use Rattle.cfi_verify.specs.Lists.{Each, Breaks}
 use Rattle.cfi_verify.specs.Spots.{AreSpots, checks_of}
 use Rattle.cfi_verify.specs.Branches.{KindFits, EntriesFit}
-use Rattle.cfi_verify.specs.Faults.{check_place, own_number, StandsIn, Stands, IsFault, IsLaidOut}
+use Rattle.cfi_verify.specs.Faults.{check_place, own_number, StandsIn, IsFault, IsLaidOut}
 use Rattle.cfi_verify.proofs.ListLemmas.{no_break}
 use Rattle.cfi_verify.proofs.RowLemmas.{clear_laid}
 use Rattle.cfi_verify.proofs.SpotLemmas.{AreSpots-one}
-use Rattle.cfi_proper.specs.Proper.{IsMadeAt, IsTarget, IsProper}
+use Rattle.cfi_proper.specs.Proper.{IsMadeAt, IsTargetFault, IsProper}
 use Rattle.cfi_proper.proofs.FromLemmas.{IsFrom, from-made}
 use Rattle.cfi_proper.proofs.FunctionLemmas.{spots, fits, idle}
 use Rattle.cfi_proper.proofs.EndLemmas.{ends}
-use Rattle.cfi_proper.proofs.KindLemmas.{checks, kinds, records}
+use Rattle.cfi_proper.proofs.KindLemmas.{kinds, records}
 use Rattle.cfi_proper.proofs.SwitchLemmas.{switches}
 
 -- what a verifier asks of a module but for where its jumps lead
@@ -36,7 +36,7 @@ module _ (m : Placed) (loaded : List Placed) (xs : List Spot) (s : IsSettled m x
       (AreSpots-one m.words stands.0 xs stands.1 s.laid.units) stands.2
 
   -- each fault that stands is that of a jump
-  pub proper : IsProper m loaded
+  proper : IsProper m loaded
   proper faults.Empty = λ stands. absurd (clear_laid m loaded xs s.laid faults.Empty (omega arith) stands)
   proper (faults.Illegal o) = λ stands.
       absurd (clear_laid m loaded xs s.laid (faults.Illegal o) (omega arith) stands)
@@ -85,7 +85,7 @@ instrumented source m room names placed at loaded =
 -- ---- what a verifier answers
 
 pub refused : (m : Placed) (loaded : List Placed) → IsProper m loaded → (fault : VerifyFault)
-    → IsFault m loaded fault → (fault ≡ faults.Memory) ⊎ IsTarget fault
+    → IsFault m loaded fault → (fault ≡ faults.Memory) ⊎ IsTargetFault fault
 refused m loaded is faults.Memory fault = inl refl
 refused m loaded is faults.Empty fault = inr (is faults.Empty (fault (λ e. absurd (cc))).stands)
 refused m loaded is (faults.Illegal o) fault = inr (is (faults.Illegal o) (fault (λ e. absurd (cc))).stands)

@@ -3,7 +3,7 @@ use Rattle.std.proofs.Common.{◌≡◌, ℕ, ◌+◌, List, [], ◌∷◌, leng
 use Rattle.std.proofs.lemmas.List.{drop-drop}
 use Rattle.cfi_unit.specs.declared.unit.Unit.{Unit as CodeUnit}
 use Rattle.cfi_unit.specs.Unit.{size_of}
-use Rattle.cfi_unit.specs.Code.{BeginsAt, UnitCode}
+use Rattle.cfi_unit.specs.Code.{UnitCode}
 use Rattle.cfi_unit.proofs.UnitLemmas.{size_pos}
 use Rattle.cfi_unit.proofs.CodeLemmas.{BeginsAt-one, BeginsAt-within, UnitCode-first}
 use Rattle.cfi_place.specs.Slots.{ReadFrom}

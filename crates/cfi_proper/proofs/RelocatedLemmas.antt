@@ -1,5 +1,5 @@
 -- Relocations that sit on the first words of units, one after the other.
-use Rattle.std.proofs.Common.{◌≡◌, ℕ, ◌+◌, ◌*◌, Bool, true, List, [], ◌∷◌, map, All, Option, Some, Result, Ok, Err, refl, ap, sym, subst, ◌∙◌}
+use Rattle.std.proofs.Common.{◌≡◌, ℕ, ◌+◌, ◌*◌, Bool, true, List, [], ◌∷◌, All, Option, Some, Result, Ok, Err, refl, ap, sym, subst, ◌∙◌}
 use Rattle.std.proofs.lemmas.List.Elements.{All-head, All-tail}
 use Rattle.elf_read.specs.declared.object.Reloc.{Reloc}
 use Rattle.elf_read.specs.declared.object.Area.{Area}
@@ -12,15 +12,14 @@ use Rattle.rv_reloc.specs.Table.{immediate as row, rule_of}
 use Rattle.rv_reloc.specs.Field.{immediate}
 use Rattle.rv_reloc.specs.Bytes.{word_at, with_word}
 use Rattle.rv_reloc.specs.Applied.{applied}
-use Rattle.cfi_place.specs.declared.fault.PlaceFault.{PlaceFault}
 use Rattle.cfi_place.specs.declared.room.Room.{Room}
 use Rattle.cfi_place.specs.Relocated.{Areas, ◌>>=◌, field_address, value_in, partner_in, applied_in, relocated_by, numbered, relocated_from}
 use Rattle.cfi_verify.specs.declared.spot.Spot.{Spot}
 use Rattle.cfi_verify.specs.Spots.{spots_of, BeginsUnit}
-use Rattle.cfi_proper.proofs.SeenLemmas.{seen_spot, seen_from, same-begins}
+use Rattle.cfi_proper.proofs.SeenLemmas.{seen_from, same-begins}
 use Rattle.cfi_proper.proofs.AppliedLemmas.{MayFill, IsFilled, applied-fills, same-ok}
 use Rattle.cfi_proper.proofs.CodeLemmas.{bytes_of, AreUnits}
-use Rattle.cfi_proper.proofs.StepLemmas.{IsStepped, step}
+use Rattle.cfi_proper.proofs.StepLemmas.{step}
 
 -- a relocation of the text fills an instruction with which a unit begins
 pub record SitsWell (touched : ℕ → Bool) (spots : List Spot) (reloc : Reloc) : Type 0 where

@@ -1,6 +1,6 @@
 -- Code whose checks get their slots.
-use Rattle.std.proofs.Common.{◌≡◌, ℕ, zero, suc, ◌+◌, ◌-◌, ◌*◌, ◌<◌, ◌≤◌, ℤ, Bool, List, [], ◌∷◌, ◌++◌, map, length, Some, set, refl, ap, sym, subst, ◌∙◌, arith, append_assoc, length-append}
-use Rattle.std.specs.List.{flat_map, slice_get, cons_option}
+use Rattle.std.proofs.Common.{◌≡◌, ℕ, zero, suc, ◌+◌, ◌-◌, ◌*◌, ◌≤◌, ℤ, Bool, List, [], ◌∷◌, ◌++◌, map, length, set, refl, ap, sym, ◌∙◌, arith, append_assoc, length-append}
+use Rattle.std.specs.List.{flat_map}
 use Rattle.std.proofs.lemmas.List.{set-append_right}
 use Rattle.rv_insn.specs.Insn.{word_of}
 use Rattle.cfi_unit.specs.declared.unit.TheConstants.{SLOTS}
@@ -12,8 +12,8 @@ use Rattle.cfi_place.specs.Slots.{checks_from, with_slot, with_slots}
 use Rattle.cfi_verify.specs.declared.spot.Spot.{Spot}
 use Rattle.cfi_verify.specs.declared.checks.CheckSpot.{CheckSpot}
 use Rattle.cfi_verify.specs.Lists.{Each}
-use Rattle.cfi_verify.specs.Spots.{spots_of, check_in, checks_of}
-use Rattle.cfi_proper.proofs.SeenLemmas.{seen, seen_spot, seen_from, bare, same-checks}
+use Rattle.cfi_verify.specs.Spots.{spots_of, checks_of}
+use Rattle.cfi_proper.proofs.SeenLemmas.{seen, seen_from, bare, same-checks}
 use Rattle.cfi_proper.proofs.CodeLemmas.{words_in, AreUnits, words-cons}
 
 -- a check names the slot; other units name none

@@ -1,22 +1,19 @@
 -- A relocation that changes the first word of a unit.
-use Rattle.std.proofs.Common.{◌≡◌, ℕ, suc, ◌+◌, ◌*◌, ◌<◌, Bool, true, List, [], ◌∷◌, ◌++◌, map, take, drop, length, get_or, Result, Ok, refl, ap, sym, subst, ◌∙◌, arith, append_assoc, length-append}
+use Rattle.std.proofs.Common.{◌≡◌, ℕ, ◌+◌, ◌*◌, ◌<◌, Bool, true, List, ◌∷◌, ◌++◌, map, take, drop, length, get_or, Ok, ap, sym, subst, ◌∙◌, arith}
 use Rattle.std.specs.List.{flat_map}
-use Rattle.std.proofs.lemmas.List.Concat.{flat_map-append}
 use Rattle.rv_insn.specs.Insn.{word_of}
 use Rattle.cfi_types.specs.Spelling.{word}
 use Rattle.cfi_unit.specs.declared.unit.Unit.{Unit as CodeUnit}
 use Rattle.cfi_unit.specs.declared.unit.Unit.TheVariants as units
-use Rattle.cfi_unit.specs.Unit.{IsUnit, insns_of, words_of, size_of}
+use Rattle.cfi_unit.specs.Unit.{insns_of, words_of, size_of}
 use Rattle.cfi_unit.proofs.UnitLemmas.{first_insn}
-use Rattle.cfi_unit.proofs.CodeLemmas.{length-words_of}
-use Rattle.rv_reloc.specs.declared.fault.RelocFault.{RelocFault}
 use Rattle.rv_reloc.specs.declared.table.Form.{Form}
 use Rattle.rv_reloc.specs.Field.{immediate}
 use Rattle.rv_reloc.specs.Bytes.{word_at, with_word}
 use Rattle.cfi_verify.specs.declared.spot.Spot.{Spot}
 use Rattle.cfi_verify.specs.Spots.{spots_of, BeginsUnit}
 use Rattle.cfi_proper.proofs.SeenLemmas.{seen, seen_from, size-seen}
-use Rattle.cfi_proper.proofs.FieldLemmas.{IsBounded, IsRefit, refit, head-word, first-small}
+use Rattle.cfi_proper.proofs.FieldLemmas.{IsBounded, refit, head-word, first-small}
 use Rattle.cfi_proper.proofs.BytesLemmas.{length-spelled, word-here, word-set}
 use Rattle.cfi_proper.proofs.CodeLemmas.{words_in, bytes_of, AreUnits, bytes-append, units-append, units-left, units-right, length-spots, spot-place, code-split, seen-append}
 
@@ -47,7 +44,7 @@ module _ (touched : ℕ → Bool) (before after : List CodeUnit) (unit : CodeUni
   front : words_in before ≡ at → length (bytes_of before) ≡ 4 * at
   front place = omega (arith, length-spelled (flat_map words_of before), place)
 
-  pub first-word : AreUnits code → words_in before ≡ at → word_at (4 * at) (bytes_of code) ≡ word_of (first_insn unit)
+  first-word : AreUnits code → words_in before ≡ at → word_at (4 * at) (bytes_of code) ≡ word_of (first_insn unit)
   first-word fit place =
       let is : AreUnits (unit ∷ after) = units-right before (unit ∷ after) fit in
       ap (word_at (4 * at)) (bytes-around before after unit (word_of (first_insn unit)) (rest_of unit) (head-word unit))

@@ -1,28 +1,24 @@
 -- The entries of a switch of an instrumented module at its place are units of the function of its check.
-use Rattle.std.proofs.Common.{◌≡◌, ℕ, ◌+◌, ◌*◌, ◌/◌, ◌<◌, ◌≤◌, ◌&&◌, not, Bool, true, false, List, map, All, length, get_or, Option, Some, refl, ap, sym, subst, ◌∙◌, inl, inr, ⊎_elim, arith}
-use Rattle.std.specs.List.{Contains, list_any, slice_get}
-use Rattle.std.proofs.lemmas.Bool.{cases_Bool, cases_lt, both_ways, and_parts, not-false, not-true, not_from_false, ltb-true, leb-true}
+use Rattle.std.proofs.Common.{◌≡◌, ℕ, ◌+◌, ◌*◌, ◌/◌, ◌<◌, ◌≤◌, ◌&&◌, not, true, false, List, map, length, get_or, Some, ap, sym, subst, ◌∙◌, inl, inr, arith}
+use Rattle.std.specs.List.{slice_get}
+use Rattle.std.proofs.lemmas.Bool.{cases_Bool, both_ways, and_parts, not_from_false, ltb-true, leb-true}
 use Rattle.std.proofs.lemmas.List.{length-map, get_or-map}
-use Rattle.std.proofs.lemmas.List.Elements.{Contains-get_or}
 use Rattle.std.proofs.lemmas.List.Folds.{Any-from_list_any, list_any_at}
 use Rattle.std.proofs.lemmas.Option.{slice_get-get_or, slice_get_within, get_or_from_slice_get}
 use Rattle.cfi_aux.specs.declared.modules.Module.{Module}
 use Rattle.cfi_aux.specs.declared.placed.Placed.{Placed}
-use Rattle.cfi_aux.specs.declared.placed.PlacedFunction.{PlacedFunction}
 use Rattle.cfi_aux.specs.declared.records.Function.{Function}
 use Rattle.cfi_aux.specs.declared.records.Kind.{Kind}
 use Rattle.cfi_aux.specs.declared.records.Kind.TheVariants.{Call, Tail, Return, Switch}
 use Rattle.cfi_items.specs.Words.{Words, words_in as read_words, count_of}
-use Rattle.cfi_items.specs.Items.{is_inner, is_indirect, is_item, is_item_at}
+use Rattle.cfi_items.specs.Items.{is_inner, is_item_at}
 use Rattle.cfi_items.specs.Functions.{end_of, covers, are_together, is_own_item, end_before}
-use Rattle.cfi_items.specs.Jumps.{ordinal_of, lead_out, switches_astray, switches_astray_by, has_bad_switch}
-use Rattle.cfi_instr.specs.Sizes.{place_of, offsets_of, moved}
+use Rattle.cfi_items.specs.Jumps.{ordinal_of, lead_out, switches_astray, switches_astray_by}
+use Rattle.cfi_instr.specs.Sizes.{offsets_of, moved}
 use Rattle.cfi_instr.specs.Moves.{moved_kind}
 use Rattle.cfi_verify.specs.Branches.{IsEntry, AreEntries, AreEntriesIn, EntriesFit}
 use Rattle.cfi_verify.specs.Functions as verify
 use Rattle.cfi_verify.specs.Lists.{Each}
-use Rattle.cfi_verify.specs.Target.{IsAtHome}
-use Rattle.cfi_verify.specs.declared.checks.CheckSpot.{CheckSpot}
 use Rattle.cfi_proper.proofs.BoundLemmas.{item-parts, item-bound, bound-moved}
 use Rattle.cfi_proper.proofs.FromLemmas.{IsFrom}
 use Rattle.cfi_proper.proofs.FunctionLemmas.{place, spots, grows, made, made-at, formed, made-first, made-end, begins-at, some-at}

@@ -1,5 +1,5 @@
 -- The word of an instruction has 32 bits.
-use Rattle.std.proofs.Common.{ℕ, ◌+◌, ◌*◌, ◌/◌, ◌%◌, ◌^◌, ◌<◌, ℤ, pos, negsuc, Option, Some, None, arith}
+use Rattle.std.proofs.Common.{ℕ, ◌+◌, ◌*◌, ◌/◌, ◌%◌, ◌^◌, ◌<◌, ℤ, pos, negsuc, Some, arith}
 use Rattle.rv_insn.specs.declared.insn.Cond.{Cond}
 use Rattle.rv_insn.specs.declared.insn.Cond.TheVariants as conds
 use Rattle.rv_insn.specs.declared.insn.Insn.{Insn}

@@ -1,10 +1,9 @@
 -- A module that is instrumented and placed: the one word `j .`, which stays as it is.
-use Rattle.std.specs.Prelude.{ℕ, List, [], ◌∷◌, Some, None, false}
+use Rattle.std.specs.Prelude.{[], ◌∷◌, Some, None, false}
 use Rattle.elf_read.specs.declared.object.Object.{Object}
 use Rattle.cfi_types.specs.Spelling.{spelling}
 use Rattle.cfi_aux.specs.Records as records
 use Rattle.cfi_aux.specs.declared.modules.Module.{Module}
-use Rattle.cfi_aux.specs.declared.records.Function.{Function}
 use Rattle.cfi_aux.specs.declared.records.Records.{Records}
 use Rattle.cfi_place.specs.declared.room.Room.{Room}
 use Rattle.cfi_place.specs.Names.{Names}

@@ -1,6 +1,6 @@
 -- Which faults a verifier can find in a module that was instrumented, once it is placed: none but jumps that lead
 -- elsewhere. Where a jump leads to another module is known only where both are placed.
-use Rattle.std.specs.Prelude.{◌≡◌, ◌≢◌, ◌⊎◌, ℕ, List, [], All, IsTrue, ⊤}
+use Rattle.std.specs.Prelude.{◌≡◌, ◌≢◌, ℕ, List, [], All, IsTrue, ⊤}
 use Rattle.cfi_types.specs.Node.{Node}
 use Rattle.cfi_aux.specs.Format.{is_func}
 use Rattle.cfi_aux.specs.declared.modules.Module.{Module}
@@ -12,7 +12,7 @@ use Rattle.cfi_place.specs.declared.room.Room.{Room}
 use Rattle.cfi_place.specs.Names.{Names}
 use Rattle.cfi_place.specs.Placed.{IsRoom, IsPlaced}
 use Rattle.cfi_verify.specs.declared.fault.VerifyFault.{VerifyFault}
-use Rattle.cfi_verify.specs.declared.fault.VerifyFault.TheVariants.{Target, Memory}
+use Rattle.cfi_verify.specs.declared.fault.VerifyFault.TheVariants.{Target}
 use Rattle.cfi_verify.specs.Faults.{Stands}
 
 -- the node that a branch names is the type of a function
@@ -36,9 +36,9 @@ pub record IsMadeAt (source m : Module) (room : Room) (names : Names) (placed : 
   pub stands : IsPlaced m room names placed
 
 -- the fault is that of a jump that leads elsewhere
-abbrev pub IsTarget : VerifyFault → Type 0
-IsTarget fault = (o : ℕ) × (fault ≡ Target o)
+abbrev pub IsTargetFault : VerifyFault → Type 0
+IsTargetFault fault = (o : ℕ) × (fault ≡ Target o)
 
 -- each fault of a module is such a one
 abbrev pub IsProper : (m : Placed) → (loaded : List Placed) → Type 0
-IsProper m loaded = (fault : VerifyFault) → Stands m loaded fault → IsTarget fault
+IsProper m loaded = (fault : VerifyFault) → Stands m loaded fault → IsTargetFault fault
