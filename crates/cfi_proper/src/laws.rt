@@ -5,6 +5,7 @@ ghost use Rattle.elf_read.specs.declared.object.Object.{Object};
 ghost use Rattle.cfi_aux.specs.Module.{IsModuleOf};
 ghost use Rattle.cfi_aux.specs.declared.modules.Module.{Module};
 ghost use Rattle.cfi_aux.specs.declared.placed.Placed.{Placed};
+ghost use Rattle.cfi_instr.specs.Output.{IsInstrumented};
 ghost use Rattle.cfi_place.specs.declared.room.Room.{Room};
 ghost use Rattle.cfi_place.specs.Names.{Names};
 ghost use Rattle.cfi_verify.specs.Example.{loop_module};
@@ -35,6 +36,11 @@ pub fn proper_are_refused_for_targets()
 /// What is read of a file has types of functions: a law about `IsModuleOf`, which `module_of` of `cfi_aux` gives.
 pub fn read_modules_are_typed()
     ensures { (object : Object) (m : Module) → IsModuleOf object m → IsTyped m }
+{}
+
+/// Instrumenting a module that has types of functions makes one that has.
+pub fn instrumented_stay_typed()
+    ensures { (source m : Module) → IsInstrumented source m → IsTyped source → IsTyped m }
 {}
 
 /// Some module is so: the one word `j .`.

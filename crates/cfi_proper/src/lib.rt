@@ -8,6 +8,6 @@
 mod laws;
 
 pub use laws::{
-    instrumented_are_proper, proper_are_refused_for_targets, read_modules_are_typed,
-    some_module_is_instrumented,
+    instrumented_are_proper, instrumented_stay_typed, proper_are_refused_for_targets,
+    read_modules_are_typed, some_module_is_instrumented,
 };
