@@ -45,8 +45,9 @@ pub record IsObject (m : Module) (long : List Bool) (offsets : List ℕ) (r : Re
   pub types : object.types ≡ Some (types.spelling m.types)
   pub records : object.records ≡ Some (records.spelling r)
 
--- the second module is the first one, instrumented
+-- the second module is the first one, instrumented, which has no fault
 pub record IsInstrumented (m out : Module) : Type 0 where
+  pub sound : AreSound (parts_of m)
   pub long : List Bool
   pub offsets : List ℕ
   pub plan : IsPlan m long offsets

@@ -32,6 +32,7 @@ returns-clause-ok c =
     let records = c.in_ok-records.records in
     let object = c.in_ok-object.object in
     record {
+      sound = c.in_ok-source.ensures.sound;
       long = long;
       offsets = offsets;
       plan =
