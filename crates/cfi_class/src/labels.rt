@@ -1,8 +1,7 @@
 ghost use Rattle.std.specs.Prelude.{◌≡◌, IfOk};
 ghost use Rattle.cfi_class.specs.Labels.{HasEdge, CanBeLabelled, AreLabels};
 
-use crate::numbering::{number_slots, number_words};
-use crate::sweep::{forest_of, used_slots};
+use crate::numbers::numbers;
 use cfi_word::{Edge, FIELD_MAX, Labels, Layout, Numbers};
 use std::alloc::{AllocError, Global};
 
@@ -24,14 +23,11 @@ pub fn label(
     ensures { IfOk result (λ labels.
         AreLabels (HasEdge edges.now) layout.now labels.tary labels.bary) }
 {
-    let code_words = layout.code_words();
-    let mut forest = forest_of(alloc, edges, slots, code_words)?;
-    let used = used_slots(alloc, edges, slots, code_words)?;
-    let mut bary = number_slots(alloc, &mut forest, &used)?;
-    let tary = number_words(alloc, &mut forest, &bary, code_words)?;
+    let Labels { tary, bary } = numbers(alloc, edges, slots, layout.code_words())?;
+    let mut bary = bary.into_vec();
     bary.resize(layout.slots() as usize, FIELD_MAX)?;
     Ok(Labels {
-        tary: Numbers::from_vec(tary),
+        tary,
         bary: Numbers::from_vec(bary),
     })
 }

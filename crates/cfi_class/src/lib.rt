@@ -9,9 +9,11 @@ mod forest;
 mod joined;
 mod labels;
 mod numbering;
+mod numbers;
 mod sweep;
 #[cfg(test)]
 mod tests;
 
 pub use joined::are_joined;
 pub use labels::label;
+pub use numbers::numbers;

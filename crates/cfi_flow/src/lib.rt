@@ -17,3 +17,4 @@ mod tests;
 
 pub use edges::{all_edges, few_edges};
 pub use links::{Flow, Link};
+pub use rows::{Rows, rows_of};

@@ -1,3 +1,4 @@
 pub mod Code
+pub mod Groups
 pub mod Image
 pub mod Spans

@@ -7,6 +7,7 @@
 #![tactic(auto)]
 
 mod code;
+mod groups;
 mod image;
 mod joins;
 mod laws;
@@ -14,6 +15,7 @@ mod laws;
 mod tests;
 
 pub use code::code_of;
+pub use groups::{Group, groups};
 pub use image::{image_from, image_of};
 pub use joins::allowed;
 pub use laws::few_span_many;
