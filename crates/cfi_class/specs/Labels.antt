@@ -39,12 +39,12 @@ abbrev pub IsClassWhere : (Holds : Type 0) → (other number : ℕ) → Type 0
 IsClassWhere Holds other number = (Holds × IsClass number) ⊎ ((Holds → ⊥) × (number ≡ other))
 
 -- the labels of a relation between so many slots and code words: which numbers are used is free
-pub record AreNumbers (joins : (slot address : ℕ) → Type 0) (slots code_words : ℕ) (tary bary : List ℕ) : Type 0 where
+pub record AreNumbers (joins : (slot address : ℕ) → Type 0) (count code_words : ℕ) (tary bary : List ℕ) : Type 0 where
   pub words : length tary ≡ code_words
-  pub slots : length bary ≡ slots
+  pub slots : length bary ≡ count
   pub targets : (word : ℕ) → word < code_words → IsClassWhere (IsReached joins (4 * word)) 0 (slice_index tary word)
-  pub branches : (slot : ℕ) → slot < slots → IsClassWhere (IsUsed joins slot) FIELD_MAX (slice_index bary slot)
-  pub classes : (slot word : ℕ) → slot < slots → word < code_words → IsUsed joins slot → IsReached joins (4 * word)
+  pub branches : (slot : ℕ) → slot < count → IsClassWhere (IsUsed joins slot) FIELD_MAX (slice_index bary slot)
+  pub classes : (slot word : ℕ) → slot < count → word < code_words → IsUsed joins slot → IsReached joins (4 * word)
       → (slice_index bary slot ≡ slice_index tary word) ↔ Chain joins slot (4 * word)
 
 -- the labels of the slots and code words of a table

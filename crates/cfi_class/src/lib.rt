@@ -9,11 +9,9 @@ mod forest;
 mod joined;
 mod labels;
 mod numbering;
-mod numbers;
 mod sweep;
 #[cfg(test)]
 mod tests;
 
 pub use joined::are_joined;
-pub use labels::label;
-pub use numbers::numbers;
+pub use labels::{label, numbers};

@@ -5,7 +5,7 @@ use Rattle.std.specs.Prelude.{◌≡◌, ◌↔◌, ◌⊎◌, ℕ, ◌+◌, ◌
 use Rattle.std.specs.List.{Contains, AllPairs}
 use Rattle.cfi_aux.specs.declared.placed.Placed.{Placed}
 use Rattle.cfi_graph.specs.Direct.{Allowed}
-use Rattle.cfi_policy.specs.declared.groups.Group.{Group}
+use Rattle.cfi_policy.specs.declared.group.Group.{Group}
 
 -- the slot is that of a branch of the modules
 pub record IsBranch (ms : List Placed) (slot : ℕ) : Type 0 where

@@ -6,8 +6,10 @@
 //! policy.
 #![tactic(auto)]
 
+mod by_class;
 mod code;
-mod groups;
+mod group;
+mod idle;
 mod image;
 mod joins;
 mod laws;
@@ -15,7 +17,7 @@ mod laws;
 mod tests;
 
 pub use code::code_of;
-pub use groups::{Group, groups};
+pub use group::{Group, groups};
 pub use image::{image_from, image_of};
 pub use joins::allowed;
 pub use laws::few_span_many;
