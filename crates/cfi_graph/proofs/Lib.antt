@@ -15,5 +15,5 @@ mod DirectLemmas
 mod ClassLemmas
 mod BelowLemmas
 pub mod EndLemmas
-mod TestLemmas
-mod TestRows
+pub mod TestLemmas
+pub mod TestRows

@@ -1,4 +1,8 @@
 mod CodeLemmas
-mod TestLemmas
-mod SpansLemmas
 mod EdgeLemmas
+mod GroupLemmas
+mod IdleLemmas
+mod MemberLemmas
+mod OrderLemmas
+mod SpansLemmas
+mod TestLemmas

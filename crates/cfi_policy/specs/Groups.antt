@@ -32,9 +32,9 @@ pub record IsGroup (ms : List Placed) (group : Group) : Type 0 where
   pub targets : AllPairs ◌<◌ group.targets
 
 -- a group stands before another: it has addresses, and the other has none or a greater least branch
-pub record Precedes (group later : Group) : Type 0 where
+pub record Precedes (group other : Group) : Type 0 where
   pub goes : 0 < length group.targets
-  pub later : (later.targets ≡ []) ⊎ (slice_index group.branches 0 < slice_index later.branches 0)
+  pub later : (other.targets ≡ []) ⊎ (slice_index group.branches 0 < slice_index other.branches 0)
 
 -- these are the groups of the modules: each branch is in one, and the one without addresses, if there is one, is last
 pub record AreGroups (ms : List Placed) (groups : List Group) : Type 0 where

@@ -14,6 +14,8 @@ mod image;
 mod joins;
 mod laws;
 #[cfg(test)]
+mod made;
+#[cfg(test)]
 mod tests;
 
 pub use code::code_of;
