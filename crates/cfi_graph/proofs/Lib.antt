@@ -3,7 +3,7 @@ pub mod SpotLemmas
 mod AddsLemmas
 mod PlaceLemmas
 mod FactLemmas
-mod BoundLemmas
+pub mod BoundLemmas
 mod BranchLemmas
 mod TellLemmas
 mod ReadLemmas

@@ -183,7 +183,11 @@ module _ (ms : List Placed) (m : Placed) (bary old new : List ℕ) (before : Are
       elim (Contains-append_cases ms (m ∷ []) b.owner b.placed) [
         | inl earlier ↦
             let was : IsBranch ms slot = record {
-              owner = b.owner; placed = earlier; number = b.number; below = b.below; is = b.is
+              owner = b.owner;
+              placed = earlier;
+              number = b.number;
+              below = b.below;
+              is = b.is;
             } in
             (adds.are slot).1 (inl ((before.are slot).1 (was, none)))
         | inr last ↦

@@ -3,6 +3,8 @@ mod EdgeLemmas
 mod GroupLemmas
 mod IdleLemmas
 mod MemberLemmas
+mod OneLemmas
 mod OrderLemmas
 mod SpansLemmas
 mod TestLemmas
+mod WithinLemmas

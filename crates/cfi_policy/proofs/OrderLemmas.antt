@@ -33,9 +33,12 @@ first_least xs rises x (suc k, within, is) =
 first_contained : (xs : List ℕ) → 0 < length xs → Contains xs (get_or xs 0 0)
 first_contained xs some = (0, some, get_or_default xs 0 (get_or xs 0 0) 0 some)
 
+abbrev pub make_group : (branches targets : List ℕ) → Group
+make_group branches targets = record { branches = branches; targets = targets }
+
 -- branches that may go nowhere
 abbrev pub idle_group : List ℕ → Group
-idle_group idle = record { branches = idle; targets = [] }
+idle_group idle = make_group idle []
 
 module _ (ms : List Placed) (apart : AreApart ms) (tary bary : List ℕ)
     (are : AreNumbers (DirectEdge ms) SLOTS (MAX_CODE_WORDS + 1) tary bary)
@@ -62,9 +65,12 @@ module _ (ms : List Placed) (apart : AreApart ms) (tary bary : List ℕ)
   some_member : (k : ℕ) (d : Group) → k < length groups
       → (slot : ℕ) × IsUsed (DirectEdge ms) slot × Contains (get_or groups k d).branches slot
   some_member k d within =
-      let slot = some_slot k within in
-      (slot.0, slot.1, number_member ms apart tary bary are (k + 1) (omega arith) (low_number k within) (get_or groups k d)
-      (classes.each k d within) slot.0 slot.1 slot.2)
+      let slot = some_slot k within in (
+        slot.0,
+        slot.1,
+        number_member ms apart tary bary are (k + 1) (omega arith) (low_number k within) (get_or groups k d)
+            (classes.each k d within) slot.0 slot.1 slot.2,
+      )
 
   each_class : All (IsGroup ms) groups
   each_class k d within =
@@ -114,12 +120,11 @@ module _ (ms : List Placed) (apart : AreApart ms) (tary bary : List ℕ)
       let k = number - 1 in
       let within : k < length groups = omega (arith, least, most) in
       let none : Group = idle_group [] in
-      let is : k + 1 ≡ number = omega (arith, least) in
-      (
+      let is : k + 1 ≡ number = omega (arith, least) in (
         get_or groups k none,
         Contains-get_or groups k none within,
         number_member ms apart tary bary are (k + 1) (omega arith) (low_number k within) (get_or groups k none)
-        (classes.each k none within) slot used (sym is),
+            (classes.each k none within) slot used (sym is),
       )
 
   -- ---- branches without a class

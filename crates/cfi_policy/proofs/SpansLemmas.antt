@@ -23,6 +23,22 @@ Linked-reverse joins same = same
 Linked-reverse joins (to_address edge way) = Linked-append joins (Linked-reverse joins way) (to_slot edge same)
 Linked-reverse joins (to_slot edge way) = Linked-append joins (Linked-reverse joins way) (to_address edge same)
 
+-- slots that have an address in common have all
+pub joined_alike : (joins : (slot address : ℕ) → Type 0) (one other shared : ℕ) → Chain joins one shared
+    → Chain joins other shared → (address : ℕ) → Chain joins one address ↔ Chain joins other address
+joined_alike joins one other shared mine theirs address =
+    let from_one = linked_from_chain joins mine.more one shared mine.chain in
+    let from_other = linked_from_chain joins theirs.more other shared theirs.chain in (
+      λ chain.
+          let way = chain_from_Linked joins (Linked-append joins from_other (Linked-append joins
+          (Linked-reverse joins from_one) (linked_from_chain joins chain.more one address chain.chain))) in
+          record { more = way.0; chain = way.1 },
+      λ chain.
+          let way = chain_from_Linked joins (Linked-append joins from_one (Linked-append joins
+          (Linked-reverse joins from_other) (linked_from_chain joins chain.more other address chain.chain))) in
+          record { more = way.0; chain = way.1 },
+    )
+
 module _ (few many : (slot address : ℕ) → Type 0) (spans : Spans few many) where
   wider : (more slot address : ℕ) → ChainOf few more slot address → ChainOf many more slot address
   wider zero slot address edge = spans.sound slot address edge

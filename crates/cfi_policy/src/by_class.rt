@@ -23,12 +23,7 @@ fn class_count(bary: &[u32]) -> u32
 }
 
 // A link from each class number up to the count to each place that has it, times the step.
-fn links_by(
-    alloc: Global,
-    numbers: &[u32],
-    count: u32,
-    step: u32,
-) -> Result<Vec<Link>, AllocError>
+fn links_by(alloc: Global, numbers: &[u32], count: u32, step: u32) -> Result<Vec<Link>, AllocError>
     requires step { 0 < step }
     requires fits { step * length numbers.now < 2 ^ 32 }
     ensures { IfOk result (λ links. AreLinksBy step count numbers.now links.items) }

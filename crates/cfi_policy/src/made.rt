@@ -98,12 +98,36 @@ pub(crate) fn calls(alloc: Global, node: u32) -> Result<Vec<Placed>, AllocError>
     ensures { IfOk result (λ modules. HaveImage modules.items 1024) }
 {
     let code = [
-        Unit::Jump { link: true, off: 68 },
-        Unit::Jump { link: true, off: 120 },
-        Unit::Check { link: true, rs1: 5, imm: 0, slot: 0 },
-        Unit::Jump { link: false, off: 0 },
-        Unit::Check { link: false, rs1: 1, imm: 0, slot: 1 },
-        Unit::Check { link: false, rs1: 1, imm: 0, slot: 2 },
+        Unit::Jump {
+            link: true,
+            off: 68,
+        },
+        Unit::Jump {
+            link: true,
+            off: 120,
+        },
+        Unit::Check {
+            link: true,
+            rs1: 5,
+            imm: 0,
+            slot: 0,
+        },
+        Unit::Jump {
+            link: false,
+            off: 0,
+        },
+        Unit::Check {
+            link: false,
+            rs1: 1,
+            imm: 0,
+            slot: 1,
+        },
+        Unit::Check {
+            link: false,
+            rs1: 1,
+            imm: 0,
+            slot: 2,
+        },
     ];
     let rows = [(0, 17, 1, false), (17, 14, 1, true), (31, 14, 1, true)];
     let kinds = vec![in alloc; Kind::Call(node), Kind::Return, Kind::Return]?;
@@ -118,9 +142,20 @@ pub(crate) fn tail_call(alloc: Global) -> Result<Vec<Placed>, AllocError>
 {
     let code = [
         Unit::Jump { link: true, off: 8 },
-        Unit::Jump { link: false, off: 0 },
-        Unit::Jump { link: false, off: 4 },
-        Unit::Check { link: false, rs1: 1, imm: 0, slot: 0 },
+        Unit::Jump {
+            link: false,
+            off: 0,
+        },
+        Unit::Jump {
+            link: false,
+            off: 4,
+        },
+        Unit::Check {
+            link: false,
+            rs1: 1,
+            imm: 0,
+            slot: 0,
+        },
     ];
     let rows = [(0, 2, 1, false), (2, 1, 1, false), (3, 14, 1, false)];
     let kinds = vec![in alloc; Kind::Return]?;
@@ -135,11 +170,30 @@ pub(crate) fn mutual_tail_calls(alloc: Global) -> Result<Vec<Placed>, AllocError
 {
     let code = [
         Unit::Jump { link: true, off: 8 },
-        Unit::Jump { link: false, off: 0 },
-        Unit::Jump { link: false, off: 60 },
-        Unit::Check { link: false, rs1: 1, imm: 0, slot: 0 },
-        Unit::Jump { link: false, off: -60 },
-        Unit::Check { link: false, rs1: 1, imm: 0, slot: 1 },
+        Unit::Jump {
+            link: false,
+            off: 0,
+        },
+        Unit::Jump {
+            link: false,
+            off: 60,
+        },
+        Unit::Check {
+            link: false,
+            rs1: 1,
+            imm: 0,
+            slot: 0,
+        },
+        Unit::Jump {
+            link: false,
+            off: -60,
+        },
+        Unit::Check {
+            link: false,
+            rs1: 1,
+            imm: 0,
+            slot: 1,
+        },
     ];
     let rows = [(0, 2, 1, false), (2, 15, 1, false), (17, 15, 1, false)];
     let kinds = vec![in alloc; Kind::Return, Kind::Return]?;
@@ -148,37 +202,63 @@ pub(crate) fn mutual_tail_calls(alloc: Global) -> Result<Vec<Placed>, AllocError
     Ok(vec![in alloc; module]?)
 }
 
-// A module that calls through a pointer to functions that give Void, and has no such function itself.
-fn caller(alloc: Global) -> Result<Placed, AllocError>
-    ensures { IfOk result (λ m. m ≡ caller_module) }
+// A call through a pointer to functions that give Void, of which there is none.
+pub(crate) fn call_of_nothing(alloc: Global) -> Result<Vec<Placed>, AllocError>
+    ensures { IfOk result (λ modules. HaveImage modules.items 1024) }
 {
     let code = [
-        Unit::Check { link: true, rs1: 5, imm: 0, slot: 0 },
-        Unit::Jump { link: false, off: 0 },
+        Unit::Check {
+            link: true,
+            rs1: 5,
+            imm: 0,
+            slot: 0,
+        },
+        Unit::Jump {
+            link: false,
+            off: 0,
+        },
     ];
     let rows = [(0, 15, 1, false)];
     let kinds = vec![in alloc; Kind::Call(1)]?;
     let types = void_and_function(alloc)?;
-    module_of(alloc, 16, 0, &code, &rows, kinds, types)
-}
-
-// That module alone.
-pub(crate) fn call_of_nothing(alloc: Global) -> Result<Vec<Placed>, AllocError>
-    ensures { IfOk result (λ modules. HaveImage modules.items 1024) }
-{
-    let module = caller(alloc)?;
+    let module = module_of(alloc, 16, 0, &code, &rows, kinds, types)?;
     Ok(vec![in alloc; module]?)
 }
 
-// That module, and one whose only function is taken, of a type that is equal by structure alone: it goes to its return
+// The same, and a module whose only function is taken, of a type that is equal by structure alone: it goes to its return
 // by a switch.
 pub(crate) fn call_of_another(alloc: Global) -> Result<Vec<Placed>, AllocError>
     ensures { IfOk result (λ modules. HaveImage modules.items 1024) }
 {
-    let one = caller(alloc)?;
     let code = [
-        Unit::Check { link: false, rs1: 5, imm: 0, slot: 1 },
-        Unit::Check { link: false, rs1: 1, imm: 0, slot: 2 },
+        Unit::Check {
+            link: true,
+            rs1: 5,
+            imm: 0,
+            slot: 0,
+        },
+        Unit::Jump {
+            link: false,
+            off: 0,
+        },
+    ];
+    let rows = [(0, 15, 1, false)];
+    let kinds = vec![in alloc; Kind::Call(1)]?;
+    let types = void_and_function(alloc)?;
+    let one = module_of(alloc, 16, 0, &code, &rows, kinds, types)?;
+    let code = [
+        Unit::Check {
+            link: false,
+            rs1: 5,
+            imm: 0,
+            slot: 1,
+        },
+        Unit::Check {
+            link: false,
+            rs1: 1,
+            imm: 0,
+            slot: 2,
+        },
     ];
     let rows = [(0, 28, 0, true)];
     let entries = Items::from_vec(vec![in alloc; 56]?);

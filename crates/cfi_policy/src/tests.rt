@@ -60,11 +60,8 @@ fn are_edges(edges: &[Edge], rows: &[(u32, u32)]) -> bool {
 // Whether these are the groups, by slots and addresses.
 fn are_groups(groups: &[Group], rows: &[(&[u32], &[u32])]) -> bool {
     groups.len() == rows.len()
-        && groups
-            .iter()
-            .zip(rows)
-            .all(|(group, row)| group.branches.as_slice() == row.0
-                && group.targets.as_slice() == row.1)
+        && groups.iter().zip(rows).all(|(group, row)| group.branches.as_slice() == row.0
+            && group.targets.as_slice() == row.1)
 }
 
 // Whether the policy allows what the classes of the image allow, from each of three slots to each of some addresses.
@@ -96,9 +93,11 @@ fn is_policy(
     let found = groups(alloc, modules)?;
     let layout = Layout::new(1024)?;
     let image = image_of(alloc, modules, &layout)?;
-    Ok(are_edges(all.as_slice(), pairs)
-        && are_groups(found.as_slice(), rows)
-        && agree(alloc, modules, &image)?)
+    Ok(
+        are_edges(all.as_slice(), pairs)
+            && are_groups(found.as_slice(), rows)
+            && agree(alloc, modules, &image)?,
+    )
 }
 
 // Edges, groups and policy, by hand from what the modules are; `made.rt` has them.
@@ -107,7 +106,14 @@ fn policies(rt: HostRuntime) -> Result<(), Fail> {
     let alloc = rt.alloc();
     // f is at 0x84, g at 0xbc, the addresses after the calls are 0x44, 0x48 and 0x80.
     let modules = calls(alloc, 1)?;
-    let pairs = [(0, 0x84), (0, 0xbc), (1, 0x44), (1, 0x80), (2, 0x48), (2, 0x80)];
+    let pairs = [
+        (0, 0x84),
+        (0, 0xbc),
+        (1, 0x44),
+        (1, 0x80),
+        (2, 0x48),
+        (2, 0x80),
+    ];
     let rows: [(&[u32], &[u32]); 2] = [(&[0], &[0x84, 0xbc]), (&[1, 2], &[0x44, 0x48, 0x80])];
     assert!(rt; is_policy(alloc, &modules, &pairs, &rows)?, "calls");
     assert!(rt; allowed(alloc, &modules, 1, 0x48)?, "by a chain");
@@ -122,7 +128,10 @@ fn policies_of_branches_that_go_nowhere(rt: HostRuntime) -> Result<(), Fail> {
     let modules = calls(alloc, 0)?;
     let pairs = [(1, 0x44), (2, 0x48)];
     let rows: [(&[u32], &[u32]); 3] = [(&[1], &[0x44]), (&[2], &[0x48]), (&[0], &[])];
-    assert!(rt; is_policy(alloc, &modules, &pairs, &rows)?, "calls, one of nothing");
+    assert!(rt;
+        is_policy(alloc, &modules, &pairs, &rows)?,
+        "calls, one of nothing"
+    );
     Ok(())
 }
 
@@ -135,7 +144,10 @@ fn policies_of_tail_calls(rt: HostRuntime) -> Result<(), Fail> {
     assert!(rt; is_policy(alloc, &modules, &[(0, 0x44)], &rows)?, "one");
     let modules = mutual_tail_calls(alloc)?;
     let rows: [(&[u32], &[u32]); 1] = [(&[0, 1], &[0x44])];
-    assert!(rt; is_policy(alloc, &modules, &[(0, 0x44), (1, 0x44)], &rows)?, "mutual");
+    assert!(rt;
+        is_policy(alloc, &modules, &[(0, 0x44), (1, 0x44)], &rows)?,
+        "mutual"
+    );
     Ok(())
 }
 
@@ -149,7 +161,10 @@ fn policies_of_pointers(rt: HostRuntime) -> Result<(), Fail> {
     let modules = call_of_another(alloc)?;
     let pairs = [(0, 0x7c), (1, 0xb4), (2, 0x78)];
     let rows: [(&[u32], &[u32]); 3] = [(&[0], &[0x7c]), (&[1], &[0xb4]), (&[2], &[0x78])];
-    assert!(rt; is_policy(alloc, &modules, &pairs, &rows)?, "another module's");
+    assert!(rt;
+        is_policy(alloc, &modules, &pairs, &rows)?,
+        "another module's"
+    );
     assert!(rt; are_edges(&spanning(alloc, &modules)?, &pairs), "few");
     Ok(())
 }
