@@ -1,23 +1,18 @@
 -- The group of a class is a group of the modules: what an edge leaves or reaches has a class number.
-use Rattle.std.proofs.Common.{◌≡◌, ◌↔◌, ◌⊎◌, ◌∙◌, ℕ, ◌+◌, ◌*◌, ◌/◌, ◌<◌, ◌≤◌, List, [], ◌∷◌, ◌++◌, length, get_or, refl, sym, ap, subst, inl, inr, arith}
-use Rattle.std.specs.Prelude.{All}
-use Rattle.std.specs.List.{Contains, AllPairs}
-use Rattle.std.proofs.lemmas.Bool.{cases_lt}
-use Rattle.std.proofs.lemmas.List.Elements.{Contains-get_or, All-contains, Contains-append_left, Contains-append_right}
+use Rattle.std.proofs.Common.{◌≡◌, ◌↔◌, ◌∙◌, ℕ, ◌+◌, ◌*◌, ◌/◌, ◌<◌, ◌≤◌, List, get_or, sym, subst, inl, inr, arith}
+use Rattle.std.specs.List.{Contains}
 use Rattle.cfi_unit.specs.declared.unit.TheConstants.{SLOTS}
 use Rattle.cfi_word.specs.declared.ids.TheConstants.{FIELD_MAX}
 use Rattle.cfi_word.specs.declared.layout.TheConstants.{MAX_CODE_WORDS}
-use Rattle.cfi_word.specs.Chain.{ChainOf, Chain}
 use Rattle.cfi_aux.specs.declared.placed.Placed.{Placed}
-use Rattle.cfi_class.specs.Labels.{IsUsed, IsReached, IsClass, AreNumbers, AreInOrder}
+use Rattle.cfi_class.specs.Labels.{IsUsed, IsReached, IsClass, AreNumbers}
 use Rattle.cfi_class.proofs.JoinedLemmas.{first_of_chain, last_of_chain}
 use Rattle.cfi_graph.specs.Shaped.{AreApart}
 use Rattle.cfi_graph.specs.Direct.{DirectEdge, Allowed}
 use Rattle.cfi_graph.proofs.EndLemmas.{has_ends}
 use Rattle.cfi_policy.specs.declared.group.Group.{Group}
-use Rattle.cfi_policy.specs.ByClass.{IsMember, AreMembers, IsClassGroup, AreClassGroups}
-use Rattle.cfi_policy.specs.Groups.{IsBranch, GoAlike, IsGroupOf, IsGroup, Precedes, AreGroups}
-use Rattle.cfi_policy.specs.Idle.{AreIdle}
+use Rattle.cfi_policy.specs.ByClass.{IsClassGroup}
+use Rattle.cfi_policy.specs.Groups.{IsBranch, GoAlike, IsGroup}
 
 module _ (ms : List Placed) (apart : AreApart ms) (tary bary : List ℕ)
     (are : AreNumbers (DirectEdge ms) SLOTS (MAX_CODE_WORDS + 1) tary bary) where

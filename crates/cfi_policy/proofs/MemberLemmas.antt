@@ -1,16 +1,16 @@
 -- The places that have a number, one more place at a time.
-use Rattle.std.proofs.Common.{◌≡◌, ◌∙◌, ◌⊎◌, ℕ, ◌+◌, ◌*◌, ◌<◌, ◌≤◌, List, [], ◌∷◌, ◌++◌, length, map, filter, get_or, slice_index_or, refl, sym, ap, subst, inl, inr, arith}
-use Rattle.std.specs.Prelude.{◌==◌, All}
+use Rattle.std.proofs.Common.{◌≡◌, ◌∙◌, ◌⊎◌, ℕ, ◌+◌, ◌*◌, ◌<◌, ◌≤◌, List, [], ◌∷◌, ◌++◌, length, map, filter, get_or, refl, sym, ap, subst, inl, inr, arith}
+use Rattle.std.specs.Prelude.{◌==◌}
 use Rattle.std.specs.List.{Contains, AllPairs}
 use Rattle.std.proofs.Math.Nat.{mul-lt-mul_of_pos_left}
 use Rattle.std.proofs.lemmas.Bool.{cases_lt}
-use Rattle.std.proofs.lemmas.List.{length_push, length-map, get_or-map, get_or_append_left, get_or_at, get_or_default}
+use Rattle.std.proofs.lemmas.List.{length_push, length-map, get_or-map, get_or_append_left, get_or_at}
 use Rattle.std.proofs.lemmas.List.Elements.{Contains-append_left, Contains-append_right, Contains-append_cases, Contains-get_or}
 use Rattle.std.proofs.lemmas.List.Kept.{AllPairs-filter}
 use Rattle.std.proofs.lemmas.List.Quantifiers.{all_pairs_push}
 use Rattle.cfi_flow.specs.declared.links.Link.{Link}
 use Rattle.cfi_flow.specs.Flow.{Links, BeginBelow}
-use Rattle.cfi_flow.specs.Rows.{ends_from, AreRows}
+use Rattle.cfi_flow.specs.Rows.{AreRows}
 use Rattle.cfi_flow.proofs.Members.{member_first, no_member, member_of_one}
 use Rattle.cfi_flow.proofs.RowLemmas.{make_link, from_row, to_row}
 use Rattle.cfi_policy.specs.ByClass.{IsMember, AreMembers, AreLinksBy, AreRowsBy}
@@ -144,7 +144,8 @@ rising_ends links rises = λ i j d less within.
     let none : Link = make_link 0 0 in
     let above : j < length links = omega (arith, within, len) in
     let below : i < length links = omega (arith, less, above) in
-    subst (λ n. n < get_or (map (λ link. link.to) links) j d) (sym (get_or-map (λ (link : Link). link.to) links i none d below))
+    subst (λ n. n < get_or (map (λ link. link.to) links) j d)
+    (sym (get_or-map (λ (link : Link). link.to) links i none d below))
     (subst (λ n. (get_or links i none).to < n) (sym (get_or-map (λ (link : Link). link.to) links j none d above))
     (rises i j none less above))
 

@@ -1,18 +1,15 @@
 -- The groups of modules are determined by their branches and addresses.
-use Rattle.std.proofs.Common.{◌≡◌, ◌↔◌, ◌⊎◌, ◌∙◌, ℕ, suc, ◌+◌, ◌<◌, List, [], ◌∷◌, length, get_or, refl, sym, ap, subst, inl, inr, arith}
-use Rattle.std.specs.Prelude.{All}
+use Rattle.std.proofs.Common.{◌≡◌, ◌↔◌, ◌∙◌, ℕ, suc, ◌<◌, List, [], ◌∷◌, length, get_or, refl, sym, ap, subst, inl, inr, arith}
 use Rattle.std.specs.List.{Contains, AllPairs}
 use Rattle.std.proofs.lemmas.List.{get_or_default}
-use Rattle.std.proofs.lemmas.List.Elements.{All-contains, Contains-get_or}
-use Rattle.cfi_word.specs.Chain.{ChainOf, Chain}
+use Rattle.std.proofs.lemmas.List.Elements.{All-contains}
 use Rattle.cfi_aux.specs.declared.placed.Placed.{Placed}
-use Rattle.cfi_class.proofs.LinkedLemmas.{Linked-append, chain_from_Linked}
 use Rattle.cfi_flow.proofs.Members.{member_first, member_later, no_member, member_cases}
 use Rattle.cfi_graph.specs.Direct.{DirectEdge, Allowed}
 use Rattle.cfi_graph.specs.Reading.{HaveGraph}
 use Rattle.cfi_graph.proofs.EndLemmas.{has_ends}
 use Rattle.cfi_policy.specs.declared.group.Group.{Group}
-use Rattle.cfi_policy.specs.Groups.{IsBranch, GoAlike, IsGroupOf, IsGroup, Precedes, AreGroups}
+use Rattle.cfi_policy.specs.Groups.{IsBranch, GoAlike, IsGroup, Precedes, AreGroups}
 use Rattle.cfi_policy.proofs.OrderLemmas.{make_group}
 use Rattle.cfi_policy.proofs.SpansLemmas.{joined_alike}
 
@@ -53,7 +50,8 @@ module _ {X : Type 0} (R : X → X → Type 0) (strict : (x y : X) → R x y →
   same_members [] (y ∷ ys) one other both = absurd (no_member y ((both y).1 (member_first y ys)))
   same_members (x ∷ xs) [] one other both = absurd (no_member x ((both x).0 (member_first x xs)))
   same_members (x ∷ xs) (y ∷ ys) one other both =
-      let is : x ≡ y = same_first x y xs ys one other ((both x).0 (member_first x xs)) ((both y).1 (member_first y ys)) in
+      let is : x ≡ y = same_first x y xs ys one other ((both x).0 (member_first x xs))
+      ((both y).1 (member_first y ys)) in
       let other_at : AllPairs R (x ∷ ys) = subst (λ z. AllPairs R (z ∷ ys)) (sym is) other in
       let both_at : (z : X) → Contains (x ∷ xs) z ↔ Contains (x ∷ ys) z =
       subst (λ w. (z : X) → Contains (x ∷ xs) z ↔ Contains (w ∷ ys) z) (sym is) both in

@@ -2,7 +2,6 @@
 use Rattle.std.proofs.Common.{◌≡◌, ◌↔◌, ◌⊎◌, ◌∙◌, ℕ, zero, suc, ◌+◌, ◌-◌, ◌<◌, ◌≤◌, List, [], ◌∷◌, ◌++◌, length, get_or, refl, sym, ap, subst, inl, inr, arith}
 use Rattle.std.specs.Prelude.{All}
 use Rattle.std.specs.List.{Contains, AllPairs}
-use Rattle.std.proofs.lemmas.Bool.{cases_lt}
 use Rattle.std.proofs.lemmas.List.{get_or_default}
 use Rattle.std.proofs.lemmas.List.Elements.{Contains-get_or, All-contains, All-push, Contains-append_left, Contains-append_right}
 use Rattle.std.proofs.lemmas.List.Quantifiers.{all_pairs_push}
@@ -15,7 +14,7 @@ use Rattle.cfi_flow.proofs.Members.{member_first, no_member}
 use Rattle.cfi_graph.specs.Shaped.{IsShaped, AreApart}
 use Rattle.cfi_graph.specs.Direct.{DirectEdge, Allowed}
 use Rattle.cfi_policy.specs.declared.group.Group.{Group}
-use Rattle.cfi_policy.specs.ByClass.{IsClassGroup, AreClassGroups}
+use Rattle.cfi_policy.specs.ByClass.{AreClassGroups}
 use Rattle.cfi_policy.specs.Groups.{IsBranch, GoAlike, IsGroupOf, IsGroup, Precedes, AreGroups}
 use Rattle.cfi_policy.specs.Idle.{AreIdle}
 use Rattle.cfi_policy.proofs.GroupLemmas.{allowed_used, used_low, used_class, class_used, member_number, number_member, class_targets, class_group}
@@ -58,7 +57,8 @@ module _ (ms : List Placed) (apart : AreApart ms) (tary bary : List ℕ)
   some_slot k within =
       let low = classes.count.low in
       let top = classes.count.some (omega arith) in
-      let used = class_used ms apart tary bary are top.0 (omega (arith, top.1, are.slots)) (omega (arith, top.2, low)) in
+      let used = class_used ms apart tary bary are top.0 (omega (arith, top.1, are.slots))
+      (omega (arith, top.2, low)) in
       let slot = class_slot k within top.0 used (omega (arith, top.2, within)) in
       (slot.0, slot.2, slot.3)
 
@@ -95,7 +95,8 @@ module _ (ms : List Placed) (apart : AreApart ms) (tary bary : List ℕ)
       let other_is = classes.each j d within in
       let least = get_or other.branches 0 0 in
       let has = first_contained other.branches (each_class j d within).some in
-      let own = member_number ms apart tary bary are (j + 1) (omega arith) (low_number j within) other other_is least has in
+      let own = member_number ms apart tary bary are (j + 1) (omega arith) (low_number j within) other other_is
+      least has in
       let earlier = class_slot i earlier_within least own.0 (omega (arith, own.1, less)) in
       let member = number_member ms apart tary bary are (i + 1) (omega arith) (low_number i earlier_within) one one_is
       earlier.0 earlier.2 earlier.3 in
@@ -115,8 +116,8 @@ module _ (ms : List Placed) (apart : AreApart ms) (tary bary : List ℕ)
       let least = class.least in
       let low = class.most in
       let number = get_or bary slot 0 in
-      let below = are.slots in
-      let most : number ≤ length groups = classes.count.most slot (omega (arith, used_low ms apart tary bary are slot used, below)) low in
+      let below = used_low ms apart tary bary are slot used in
+      let most : number ≤ length groups = classes.count.most slot (omega (arith, are.slots, below)) low in
       let k = number - 1 in
       let within : k < length groups = omega (arith, least, most) in
       let none : Group = idle_group [] in

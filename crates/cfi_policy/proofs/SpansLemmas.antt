@@ -1,5 +1,5 @@
 -- What spans a relation has its chains, its slots and its addresses, and so its labels.
-use Rattle.std.proofs.Common.{◌≡◌, ◌↔◌, ◌⊎◌, ℕ, zero, suc, ◌+◌, ◌*◌, ◌<◌, List, get_or, inl, inr}
+use Rattle.std.proofs.Common.{◌↔◌, ℕ, zero, suc, ◌*◌, List, get_or, inl, inr}
 use Rattle.cfi_word.specs.Chain.{ChainOf, Chain}
 use Rattle.cfi_word.specs.Table.{slots_of}
 use Rattle.cfi_class.specs.Labels.{IsReached, IsUsed, IsClassWhere, AreNumbers, AreInOrder, AreLabels}

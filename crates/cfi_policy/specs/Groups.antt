@@ -1,6 +1,6 @@
 -- The groups of placed modules: branches that the policy lets go to the same addresses, with these addresses (MCFI, Niu
--- and Tan, PLDI 2014: the classes of branches and targets, where sets of targets that overlap are one). A branch is told
--- by its slot; addresses are in bytes.
+-- and Tan, PLDI 2014: the classes of branches and targets, where sets of targets that overlap are one). A branch is
+-- told by its slot; addresses are in bytes.
 use Rattle.std.specs.Prelude.{◌≡◌, ◌↔◌, ◌⊎◌, ℕ, ◌+◌, ◌<◌, List, [], length, slice_index, All}
 use Rattle.std.specs.List.{Contains, AllPairs}
 use Rattle.cfi_aux.specs.declared.placed.Placed.{Placed}

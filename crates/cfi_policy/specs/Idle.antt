@@ -1,5 +1,5 @@
 -- Branches that may go nowhere: those whose slot has the number that says that it has no class.
-use Rattle.std.specs.Prelude.{◌≡◌, ◌↔◌, ◌⊎◌, ℕ, ◌+◌, ◌<◌, List, length, slice_index, All}
+use Rattle.std.specs.Prelude.{◌≡◌, ◌↔◌, ◌⊎◌, ℕ, ◌+◌, ◌<◌, List, slice_index, All}
 use Rattle.std.specs.List.{Contains, AllPairs}
 use Rattle.cfi_word.specs.declared.ids.TheConstants.{FIELD_MAX}
 use Rattle.cfi_aux.specs.declared.placed.Placed.{Placed}

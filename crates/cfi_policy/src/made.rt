@@ -225,8 +225,8 @@ pub(crate) fn call_of_nothing(alloc: Global) -> Result<Vec<Placed>, AllocError>
     Ok(vec![in alloc; module]?)
 }
 
-// The same, and a module whose only function is taken, of a type that is equal by structure alone: it goes to its return
-// by a switch.
+// The same, and a module whose only function is taken, of a type that is equal by structure alone: it goes to its
+// return by a switch.
 pub(crate) fn call_of_another(alloc: Global) -> Result<Vec<Placed>, AllocError>
     ensures { IfOk result (λ modules. HaveImage modules.items 1024) }
 {

@@ -32,7 +32,8 @@ loop-class-preserved c =
       len = ap length pushed ∙ length_push groups group ∙ ap (λ n. n + 1) c.loop-class.invariant.len;
       each = subst (λ list. (k : ℕ) (d : Group) → k < class + 1 → IsClassGroup tary bary (k + 1) (get_or list k d))
           (sym pushed)
-          (each_pushed (IsClassGroup tary bary) groups class group c.loop-class.invariant.len c.loop-class.invariant.each is);
+          (each_pushed (IsClassGroup tary bary) groups class group c.loop-class.invariant.len
+          c.loop-class.invariant.each is);
     }
 
 pub returns : goal.returns

@@ -53,7 +53,8 @@ returns c =
     c.in_ok-labels.ensures.labels in
     let order : AreInOrder (DirectEdge ms) bary =
     spanned_order (HasEdge edges) (DirectEdge ms) few bary c.in_ok-labels.ensures.order in
-    let no_class : AreIdle ms bary idle = subst (λ list. AreIdle ms list idle) c.as_slice-2.ensures c.in_ok-idle.ensures in
+    let no_class : AreIdle ms bary idle =
+    subst (λ list. AreIdle ms list idle) c.as_slice-2.ensures c.in_ok-idle.ensures in
     let found = c.in_ok-groups.ensures in
     subst (AreGroups ms) (sym c.from_vec-2.ensures)
     (elim c.if-not-is_empty.branch [

@@ -1,4 +1,4 @@
-use Rattle.std.proofs.Common.{◌≡◌, ◌∙◌, ℕ, ◌+◌, [], ◌∷◌, ◌++◌, get_or, sym, ap, subst}
+use Rattle.std.proofs.Common.{◌∙◌, ◌+◌, sym, ap, subst}
 use Rattle.cfi_policy.specs.Idle.{AddsIdle}
 use Rattle.cfi_policy.proofs.IdleLemmas.{branch_passed, branch_added}
 use Rattle.cfi_policy.proofs.idle.add_idle.Goals as goal

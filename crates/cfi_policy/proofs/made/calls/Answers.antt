@@ -12,4 +12,5 @@ returns c =
     c.in_ok-module.ensures
     ∙ ap (λ kinds. placed_of 16 0 call_code call_rows kinds types) c.in_ok-kinds.ensures.items
     ∙ ap (placed_of 16 0 call_code call_rows (call_kinds c.args.node)) c.in_ok-types.ensures in
-    subst (λ modules. HaveImage modules 1024) (sym (c.in_ok-vec.ensures.items ∙ ap (λ m. m ∷ []) is)) (call_image c.args.node c.requires)
+    subst (λ modules. HaveImage modules 1024) (sym (c.in_ok-vec.ensures.items ∙ ap (λ m. m ∷ []) is))
+    (call_image c.args.node c.requires)
