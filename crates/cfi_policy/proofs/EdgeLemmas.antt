@@ -1,7 +1,7 @@
 -- The direct edges of modules as edges that can be labelled.
-use Rattle.std.proofs.Common.{◌≡◌, ◌∙◌, ◌↔◌, ℕ, ◌+◌, ◌*◌, ◌%◌, ◌<◌, ◌≤◌, List, length, get_or, refl, sym, ap, subst, arith}
+use Rattle.std.proofs.Common.{◌↔◌, ℕ, ◌+◌, ◌≤◌, List, length, get_or, arith}
 use Rattle.std.specs.Prelude.{All, Result, Ok, Err, IfOk}
-use Rattle.std.specs.List.{Contains, AllPairs}
+use Rattle.std.specs.List.{Contains}
 use Rattle.std.proofs.lemmas.List.Elements.{All-contains, Contains-get_or}
 use Rattle.cfi_unit.specs.declared.unit.TheConstants.{SLOTS}
 use Rattle.cfi_word.specs.declared.lists.Edge.{Edge}
@@ -16,7 +16,7 @@ use Rattle.cfi_graph.specs.Reading.{HaveGraph}
 use Rattle.cfi_graph.specs.Edges.{SpanDirectEdges}
 use Rattle.cfi_graph.proofs.EndLemmas.{has_ends}
 use Rattle.cfi_policy.specs.Spans.{Spans}
-use Rattle.cfi_policy.specs.Code.{EndsBefore, AreApart}
+use Rattle.cfi_policy.specs.Code.{AreApart}
 use Rattle.cfi_policy.specs.Image.{IsImage, HaveImage}
 use Rattle.cfi_policy.proofs.SpansLemmas.{same_chains, spanned_labels}
 

@@ -1,0 +1,15 @@
+use Rattle.std.proofs.Common.{◌≡◌, ◌∙◌, [], ◌∷◌, sym, ap, subst}
+use Rattle.cfi_graph.specs.HandMade.{placed_of, void_and_function}
+use Rattle.cfi_graph.proofs.TestRows.{pointer_code, pointer_rows, pointer_kinds}
+use Rattle.cfi_policy.specs.Image.{HaveImage}
+use Rattle.cfi_policy.proofs.TestLemmas.{pointer_image}
+use Rattle.cfi_policy.proofs.made.call_of_nothing.Goals as goal
+
+pub returns : goal.returns
+returns c =
+    let types = c.in_ok-types.types in
+    let is : c.in_ok-module.module ≡ placed_of 16 0 pointer_code pointer_rows pointer_kinds void_and_function =
+    c.in_ok-module.ensures
+    ∙ ap (λ kinds. placed_of 16 0 pointer_code pointer_rows kinds types) c.in_ok-kinds.ensures.items
+    ∙ ap (placed_of 16 0 pointer_code pointer_rows pointer_kinds) c.in_ok-types.ensures in
+    subst (λ modules. HaveImage modules 1024) (sym (c.in_ok-vec.ensures.items ∙ ap (λ m. m ∷ []) is)) pointer_image
