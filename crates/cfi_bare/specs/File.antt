@@ -5,7 +5,7 @@ use Rattle.cfi_aux.specs.declared.placed.Placed.{Placed}
 use Rattle.cfi_aux.specs.declared.records.Kind.{Kind}
 use Rattle.cfi_place.specs.Placed.{words_in}
 use Rattle.cfi_verify.specs.declared.fault.VerifyFault.{VerifyFault}
-use Rattle.cfi_verify.specs.Faults.{Verifies, IsFirstFault}
+use Rattle.cfi_verify.specs.Faults.{IsVerified, IsFirstFault}
 use Rattle.cfi_bare.specs.declared.fault.BareFault.{BareFault}
 use Rattle.cfi_bare.specs.declared.fault.BareFault.TheVariants.{Plan, Length, CodeFull, Verify}
 use Rattle.cfi_bare.specs.declared.modules.TheConstants.{MAX_WORDS}
@@ -28,8 +28,8 @@ pub record AreWords (bytes : List ℕ) : Type 0 where
 pub record IsVerifiedFile (bytes : List ℕ) (branches : List Kind) (words : List ℕ) : Type 0 where
   pub placed : Placed
   pub is_placed : IsPlacedFile bytes branches placed
-  pub words : placed.words ≡ words
-  pub verifies : Verifies placed []
+  pub same : placed.words ≡ words
+  pub verified : IsVerified placed []
 
 -- the first fault of the module at its place
 abbrev pub IsFileFault : (bytes : List ℕ) → (branches : List Kind) → VerifyFault → Type 0

@@ -1,6 +1,6 @@
 -- The module that a bare file is, and its place. Its bytes are the words of one function named `bare`, which is not
 -- global; it has no data, no symbols and no relocations. It is the first module of the largest code.
-use Rattle.std.specs.Prelude.{ℕ, List, [], ◌∷◌, length, codes, Option, None, false}
+use Rattle.std.specs.Prelude.{ℕ, List, [], ◌∷◌, length, codes, None, false}
 use Rattle.elf_read.specs.declared.object.Object.{Object}
 use Rattle.cfi_types.specs.Node.{Node, make_node}
 use Rattle.cfi_types.specs.declared.kind.TheConstants.{VOID, FUNC}
