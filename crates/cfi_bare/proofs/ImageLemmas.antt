@@ -17,12 +17,12 @@ use Rattle.cfi_word.specs.declared.layout.TheConstants.{MAX_CODE_WORDS}
 use Rattle.cfi_word.specs.Table.{slots_of}
 use Rattle.cfi_model.specs.declared.places.TheConstants.{BASE}
 use Rattle.cfi_model.specs.Closed.{idle, code_of, StandsIn, IsStartOf, LeadsToStart, ReturnsToStart, StaysInside}
-use Rattle.cfi_bare.specs.declared.sizes.TheConstants.{MAX_WORDS}
-use Rattle.cfi_bare.specs.Places.{place_in}
-use Rattle.cfi_bare.specs.Target.{LeadsTo, LeadsToUnit}
-use Rattle.cfi_bare.specs.Verify.{may_be_last, EndsUnlinked, CanRun, IsRunnable}
+use Rattle.cfi_verify.specs.Functions.{may_be_last}
+use Rattle.cfi_bare.specs.declared.modules.TheConstants.{MAX_WORDS}
+use Rattle.cfi_bare.specs.Runnable.{IsRunnable}
 use Rattle.cfi_bare.specs.Image.{copies, code_with, IsImageOf, IsClosedFile}
-use Rattle.cfi_bare.proofs.PlaceLemmas.{place_more}
+use Rattle.cfi_bare.proofs.PlaceLemmas.{place_in, place_more}
+use Rattle.cfi_bare.proofs.RunnableLemmas.{EndsUnlinked, LeadsToUnit, IsSound, sound_of}
 
 -- copies of a value
 length-copies : (n value : ℕ) → length (copies n value) ≡ n
@@ -104,13 +104,6 @@ far_start body address at (negsuc n) here leads =
     let goes : 4 * leads.0 + n + 1 ≡ 4 * at = leads.1 in
     (4 * (BASE + leads.0), omega arith, (leads.2.0, leads.2.1, omega arith))
 
--- where there is a unit, the first word is one's
-first_unit : (body : List CodeUnit) (at number : ℕ) (unit : CodeUnit) (off : ℤ) → slice_get body number ≡ Some unit →
-    LeadsTo at off 0 → LeadsToUnit body at off
-first_unit body at number unit off here leads =
-    let within : number < length body = slice_get_within body number unit here in
-    (0, leads, (0, omega arith, refl))
-
 -- each unit of the words is one
 unit_fits : (words : List ℕ) (body : List CodeUnit) (address : ℕ) (unit : CodeUnit) → UnitCode words body →
     StandsIn body address unit → IsUnit unit
@@ -128,35 +121,28 @@ returns body address size unit true ends stands goes_on whole =
 returns body address size unit false ends stands goes_on whole = tt
 
 -- each unit leads to starts
-stays_inside : (words : List ℕ) (body : List CodeUnit) (slots address : ℕ) (unit : CodeUnit) → CanRun words body →
+stays_inside : (words : List ℕ) (body : List CodeUnit) (slots address : ℕ) (unit : CodeUnit) → IsSound words body →
     SLOTS ≤ slots → StandsIn body address unit → StaysInside body slots address unit
 stays_inside words body slots address (units.Plain insn) runs most stands =
-    next_start body address (units.Plain insn) runs.sound.ends stands refl
+    next_start body address (units.Plain insn) runs.ends stands refl
 stays_inside words body slots address (units.Load kind rd rs1 imm) runs most stands =
-    next_start body address (units.Load kind rd rs1 imm) runs.sound.ends stands refl
+    next_start body address (units.Load kind rd rs1 imm) runs.ends stands refl
 stays_inside words body slots address (units.Store kind rs1 rs2 imm) runs most stands =
-    next_start body address (units.Store kind rs1 rs2 imm) runs.sound.ends stands refl
-stays_inside words body slots address (units.Branch cond rs1 rs2 off) runs most stands =
-    let within : stands.0 < length body = slice_get_within body stands.0 _ stands.1 in (
-      next_start body address (units.Branch cond rs1 rs2 off) runs.sound.ends stands refl,
-      far_start body address (place_in body stands.0) off stands.2 (runs.sound.leads stands.0 within _ stands.1),
-    )
-stays_inside words body slots address (units.Jump true off) runs most stands =
-    let within : stands.0 < length body = slice_get_within body stands.0 _ stands.1 in (
-      next_start body address (units.Jump true off) runs.sound.ends stands refl,
-      far_start body address (place_in body stands.0) off stands.2
-          (first_unit body (place_in body stands.0) stands.0 (units.Jump true off) off stands.1
-          (runs.sound.leads stands.0 within _ stands.1)),
-    )
-stays_inside words body slots address (units.Jump false off) runs most stands =
-    let within : stands.0 < length body = slice_get_within body stands.0 _ stands.1 in
-    (tt, far_start body address (place_in body stands.0) off stands.2 (runs.sound.leads stands.0 within _ stands.1))
+    next_start body address (units.Store kind rs1 rs2 imm) runs.ends stands refl
+stays_inside words body slots address (units.Branch cond rs1 rs2 off) runs most stands = (
+  next_start body address (units.Branch cond rs1 rs2 off) runs.ends stands refl,
+  far_start body address (place_in body stands.0) off stands.2 (runs.leads stands.0 _ stands.1),
+)
+stays_inside words body slots address (units.Jump link off) runs most stands = (
+  returns body address 4 (units.Jump link off) link runs.ends stands refl refl,
+  far_start body address (place_in body stands.0) off stands.2 (runs.leads stands.0 _ stands.1),
+)
 stays_inside words body slots address (units.Check link rs1 imm slot) runs most stands =
     let unit : CodeUnit = units.Check link rs1 imm slot in
     let fits : IsUnit unit = unit_fits words body address unit runs.code stands in
-    (returns body address 56 unit link runs.sound.ends stands refl refl, omega (arith, fits.2))
+    (returns body address 56 unit link runs.ends stands refl refl, omega (arith, fits.2))
 stays_inside words body slots address units.Service runs most stands =
-    next_start body address units.Service runs.sound.ends stands refl
+    next_start body address units.Service runs.ends stands refl
 
 -- the last unit is not an idle one
 busy : (body : List CodeUnit) → EndsUnlinked body → slice_get body (length body - 1) ≢ Some idle
@@ -169,9 +155,10 @@ busy body ends is =
 pub closed_file : (words : List ℕ) (image : Image) → length words ≤ MAX_WORDS → IsRunnable words →
     IsImageOf words image → IsClosedFile words image
 closed_file words image fits runnable is =
-    let body = runnable.0 in
-    let runs = runnable.1 in
-    let ends = runs.sound.ends in
+    let found = sound_of words runnable in
+    let body = found.0 in
+    let runs = found.1 in
+    let ends = runs.ends in
     let some : length body - 1 < length body = slice_get_within body (length body - 1) ends.0 ends.1 in
     let rest = MAX_CODE_WORDS - BASE - length words in
     let slots : SLOTS ≤ length image.bary =

@@ -1,6 +1,7 @@
 pub mod PlaceLemmas
-pub mod ReadLemmas
-pub mod JudgeLemmas
+pub mod RunnableLemmas
 pub mod ImageLemmas
+pub mod PlacedLemmas
+pub mod KeptLemmas
 pub mod RefusalLemmas
 pub mod AcceptedLemmas

@@ -1,19 +1,26 @@
--- Where units stand in a list of units.
-use Rattle.std.proofs.Common.{◌≡◌, ℕ, ◌+◌, ◌<◌, ◌≤◌, List, [], ◌∷◌, ◌++◌, length, take, get_or, Some, ap, ◌∙◌, arith, length-append}
-use Rattle.std.specs.List.{slice_get}
-use Rattle.std.proofs.Math.Seq.{take-length}
-use Rattle.std.proofs.lemmas.List.{take_more, take-append-le, append-nil}
+-- Where the units of a list stand. Places are word numbers, from 0.
+use Rattle.std.proofs.Common.{◌≡◌, ℕ, zero, suc, ◌+◌, ◌<◌, List, [], ◌∷◌, ◌++◌, length, take, get_or, Some, refl, ap, ◌∙◌, arith, length-append}
+use Rattle.std.specs.List.{slice_get, flat_map}
+use Rattle.std.proofs.lemmas.List.{take_more, append-nil}
 use Rattle.std.proofs.lemmas.List.Concat.{flat_map-append}
-use Rattle.std.proofs.lemmas.List.Folds.{length-flat_map-take}
 use Rattle.std.proofs.lemmas.Option.{slice_get_within, get_or_from_slice_get}
 use Rattle.cfi_unit.specs.declared.unit.Unit.{Unit as CodeUnit}
 use Rattle.cfi_unit.specs.Unit.{words_of, size_of}
 use Rattle.cfi_unit.proofs.CodeLemmas.{length-words_of}
 use Rattle.cfi_model.specs.Closed.{code_of}
-use Rattle.cfi_bare.specs.Places.{place_in}
+use Rattle.cfi_verify.specs.declared.spot.Spot.{Spot}
+use Rattle.cfi_verify.specs.Spots.{spots_of, AreSpots, BeginsUnit}
+
+-- the place of a unit, by its number: the words of the units before it
+abbrev pub place_in : (body : List CodeUnit) → (number : ℕ) → ℕ
+place_in body number = length (code_of (take number body))
+
+-- one of the units begins at the place
+abbrev pub HasUnitAt : (body : List CodeUnit) → (at : ℕ) → Type 0
+HasUnitAt body at = (number : ℕ) × (number < length body) × (at ≡ place_in body number)
 
 -- the words of one unit after others
-pub length-code_of : (us : List CodeUnit) (unit : CodeUnit) →
+length-code_of : (us : List CodeUnit) (unit : CodeUnit) →
     length (code_of (us ++ unit ∷ [])) ≡ length (code_of us) + size_of unit
 length-code_of us unit =
     let whole : code_of (us ++ unit ∷ []) ≡ code_of us ++ words_of unit =
@@ -35,24 +42,45 @@ place_more body number unit here =
     ap (λ (us : List CodeUnit). length (code_of us)) (next_units body number unit here)
     ∙ length-code_of (take number body) unit
 
--- a unit ends within the words of all
-pub place_within : (body : List CodeUnit) (number : ℕ) (unit : CodeUnit) → slice_get body number ≡ Some unit →
-    place_in body number + size_of unit ≤ length (code_of body)
-place_within body number unit here =
-    let within : number < length body = slice_get_within body number unit here in
-    let same : length (words_of (get_or body number unit)) ≡ length (words_of unit) =
-    ap (λ (u : CodeUnit). length (words_of u)) (get_or_from_slice_get body number unit unit here) in
-    omega (arith, length-flat_map-take words_of body number unit within, same, length-words_of unit)
+-- ---- units with their places
 
--- one more unit at the end leaves the places of the others
-pub place_kept : (body : List CodeUnit) (unit : CodeUnit) (number : ℕ) → number ≤ length body →
-    place_in (body ++ unit ∷ []) number ≡ place_in body number
-place_kept body unit number within =
-    ap (λ (us : List CodeUnit). length (code_of us)) (take-append-le number body (unit ∷ []) within)
+pub length-spots_of : (a : ℕ) (code : List CodeUnit) → length (spots_of a code) ≡ length code
+length-spots_of a [] = refl
+length-spots_of a (u ∷ us) = omega (arith, length-spots_of (a + size_of u) us)
 
--- and stands after their words
-pub place_last : (body : List CodeUnit) (unit : CodeUnit) →
-    place_in (body ++ unit ∷ []) (length body) ≡ length (code_of body)
-place_last body unit =
-    place_kept body unit (length body) (omega arith)
-    ∙ ap (λ (us : List CodeUnit). length (code_of us)) (take-length body)
+pub spot_place : (a : ℕ) (code : List CodeUnit) (k : ℕ) (d : Spot) → k < length code →
+    (get_or (spots_of a code) k d).at ≡ a + place_in code k
+spot_place a [] k d within = absurd (omega (arith, within))
+spot_place a (u ∷ us) zero d within = omega arith
+spot_place a (u ∷ us) (suc k) d within =
+    omega (
+      arith,
+      spot_place (a + size_of u) us k d (omega (arith, within)),
+      length-append (words_of u) (flat_map words_of (take k us)),
+      length-words_of u,
+    )
+
+pub spot_unit : (a : ℕ) (code : List CodeUnit) (k : ℕ) (d : Spot) → k < length code →
+    (get_or (spots_of a code) k d).unit ≡ get_or code k d.unit
+spot_unit a [] k d within = absurd (omega (arith, within))
+spot_unit a (u ∷ us) zero d within = refl
+spot_unit a (u ∷ us) (suc k) d within = spot_unit (a + size_of u) us k d (omega (arith, within))
+
+-- where one begins, a unit of the code does
+pub begins_in : (words : List ℕ) (spots : List Spot) (are : AreSpots words spots) (at : ℕ) → BeginsUnit spots at →
+    HasUnitAt are.code at
+begins_in words spots are at b =
+    let k : ℕ = b.1.0 in
+    let same : get_or spots k b.0 ≡ get_or (spots_of 0 are.code) k b.0 =
+    ap (λ (xs : List Spot). get_or xs k b.0) are.places in
+    let inside : k < length are.code = omega (arith, b.1.1, ap length are.places, length-spots_of 0 are.code) in (
+      k,
+      inside,
+      omega (
+        arith,
+        b.2,
+        ap (λ (s : Spot). s.at) b.1.2,
+        ap (λ (s : Spot). s.at) same,
+        spot_place 0 are.code k b.0 inside,
+      ),
+    )

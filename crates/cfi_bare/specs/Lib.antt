@@ -1,6 +1,4 @@
-pub mod Places
-pub mod Target
-pub mod Marks
-pub mod Verify
+pub mod Module
+pub mod Runnable
 pub mod File
 pub mod Image

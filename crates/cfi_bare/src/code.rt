@@ -1,11 +1,16 @@
-ghost use Rattle.std.specs.Prelude.{◌≡◌, ◌≤◌, vec_len, IfOk, OnOk, IfErr};
-ghost use Rattle.cfi_bare.specs.Verify.{IsRunnable, IsFirstBar};
-ghost use Rattle.cfi_bare.specs.Image.{IsImageOf, IsClosedFile};
-ghost use Rattle.cfi_bare.specs.declared.sizes.TheConstants.{MAX_WORDS};
+//! Code that can run as one function.
 
-use crate::fault::VerifyFault;
+ghost use Rattle.std.specs.Prelude.{◌≡◌, ◌≤◌, length, IfOk, IfErr};
+ghost use Rattle.cfi_bare.specs.File.{AreWords, IsVerifiedFile, IsFileFault};
+ghost use Rattle.cfi_bare.specs.Runnable.{IsRunnable};
+ghost use Rattle.cfi_bare.specs.Image.{IsImageOf, IsClosedFile};
+ghost use Rattle.cfi_bare.specs.declared.modules.TheConstants.{MAX_WORDS};
+
 use crate::image::image_of_words;
-use crate::verifier::units_of;
+use crate::modules::place_file;
+use cfi_aux::{Kind, Placed};
+use cfi_list::Items;
+use cfi_verify::{VerifyFault, verify};
 use cfi_word::Image;
 use std::alloc::{AllocError, Global};
 use std::marker::Model;
@@ -18,8 +23,8 @@ pub struct BareCode {
 
 impl Model for BareCode {
     ghost use Rattle.std.specs.Prelude.{ℕ, List, ◌≤◌, length};
-    ghost use Rattle.cfi_bare.specs.Verify.{IsRunnable};
-    ghost use Rattle.cfi_bare.specs.declared.sizes.TheConstants.{MAX_WORDS};
+    ghost use Rattle.cfi_bare.specs.Runnable.{IsRunnable};
+    ghost use Rattle.cfi_bare.specs.declared.modules.TheConstants.{MAX_WORDS};
 
     ghost Value = { List ℕ };
 
@@ -30,29 +35,34 @@ impl Model for BareCode {
 }
 
 impl BareCode {
-    // These words, which can run.
-    pub(crate) fn new(words: Vec<u32>) -> Self
-        requires fits { vec_len words ≤ MAX_WORDS }
-        requires runnable { IsRunnable words.items }
-        ensures { result ≡ words.items }
+    // The words of a placed module, which can run.
+    fn new(placed: Placed) -> Self
+        requires fits { length placed.words ≤ MAX_WORDS }
+        requires runnable { IsRunnable placed.words }
+        ensures { result ≡ placed.words }
     {
-        BareCode { words }
+        BareCode {
+            words: placed.words.into_vec(),
+        }
     }
 
-    /// The code of words among whose units checks may stand, or the words' first fault.
+    /// The code of a file whose checks have these records, in their order, or the first fault of its module.
     ///
-    /// No row of faults stands against them but that for checks, so `Kinds` never comes. `Err` where memory is out.
+    /// `bytes` are whole words, which fit into the code. Each check names the slot of its number then, so that `Slot`
+    /// never comes. `Err` where memory is out.
     pub fn with_checks(
         alloc: Global,
-        words: Vec<u32>,
+        bytes: &[u8],
+        branches: Items<Kind>,
     ) -> Result<Result<Self, VerifyFault>, AllocError>
-        requires fits { vec_len words ≤ MAX_WORDS }
-        ensures ok { IfOk result (λ found. IfOk found (λ code. code ≡ words.items)) }
-        ensures can { IfOk result (λ found. OnOk found (IsRunnable words.items)) }
-        ensures fault { IfOk result (λ found. IfErr found (IsFirstBar words.items)) }
+        requires { AreWords bytes.now }
+        ensures ok { IfOk result (λ found. IfOk found (IsVerifiedFile bytes.now branches)) }
+        ensures fault { IfOk result (λ found. IfErr found (IsFileFault bytes.now branches)) }
     {
-        match units_of(alloc, &words)? {
-            Ok(_) => Ok(Ok(BareCode::new(words))),
+        let placed = place_file(alloc, bytes, branches)?;
+        match verify(alloc, &placed, &[]) {
+            Ok(()) => Ok(Ok(BareCode::new(placed))),
+            Err(VerifyFault::Memory) => Err(AllocError),
             Err(fault) => Ok(Err(fault)),
         }
     }

@@ -1,12 +1,16 @@
+//! The image that runs one function.
+
 ghost use Rattle.std.specs.Prelude.{◌≡◌, ◌≤◌, length, IfOk};
 ghost use Rattle.cfi_bare.specs.Image.{copies as copies_of, code_with, IsImageOf, IsClosedFile};
-ghost use Rattle.cfi_bare.specs.Verify.{IsRunnable};
-ghost use Rattle.cfi_bare.specs.declared.sizes.TheConstants.{MAX_WORDS};
+ghost use Rattle.cfi_bare.specs.Runnable.{IsRunnable};
+ghost use Rattle.cfi_bare.specs.declared.modules.TheConstants.{MAX_WORDS};
 
-use crate::sizes::CHECK_WORDS;
 use cfi_model::BASE;
 use cfi_word::{FIELD_MAX, Image, MAX_CODE_WORDS, Numbers};
 use std::alloc::{AllocError, Global};
+
+/// The number of words of a check, of which each slot of the code is one's.
+const CHECK_WORDS: u32 = 14;
 
 // So many copies of a value.
 #[tactic(auto, unfolding(crate::specs::Image::copies))]

@@ -1,12 +1,12 @@
 //! What being accepted and being refused owe one another.
 
 ghost use Rattle.std.specs.Prelude.{ℕ, List, [], ◌∷◌};
-ghost use Rattle.cfi_bare.specs.declared.fault.Refusal.{Refusal as Reason};
+ghost use Rattle.cfi_bare.specs.declared.fault.BareFault.{BareFault};
 ghost use Rattle.cfi_bare.specs.File.{IsAccepted, IsFirstRefusal};
 
 /// No reason stands against a file that is accepted.
 pub fn accepted_is_not_refused()
-    ensures { (bytes words : List ℕ) (reason : Reason) →
+    ensures { (bytes words : List ℕ) (reason : BareFault) →
         IsAccepted bytes words → ¬ IsFirstRefusal bytes reason }
 {}
 

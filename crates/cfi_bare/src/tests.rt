@@ -1,6 +1,6 @@
-use crate::{Refusal, VerifyFault, accept, image_of};
-use byteorder::{ByteOrder, LittleEndian};
+use crate::{BareFault, accept, image_of};
 use cfi_model::BASE;
+use cfi_verify::VerifyFault;
 use std::alloc::{AllocError, Global};
 use std::process::Abort;
 use std::test::Fail;
@@ -12,7 +12,7 @@ const CHECK: [u32; 14] = [
 ];
 
 // Why the file of these bytes is refused.
-fn refusal(alloc: Global, file: &[u8]) -> Result<Option<Refusal>, AllocError> {
+fn refusal(alloc: Global, file: &[u8]) -> Result<Option<BareFault>, AllocError> {
     Ok(accept(alloc, file)?.err())
 }
 
@@ -29,17 +29,24 @@ fn expect(
         file.extend_from_slice(&word.to_le_bytes())?;
     }
     let found = refusal(alloc, &file)?;
-    assert_eq!(rt; found, fault.map(|fault| Refusal::Verify(fault)), "{text}");
+    assert_eq!(rt;
+        found,
+        fault.map(|fault| BareFault::Verify(fault)),
+        "{text}"
+    );
     Ok(())
 }
 
 #[test]
 fn refused_files(rt: HostRuntime) -> Result<(), Fail> {
     let alloc = rt.alloc();
-    assert_eq!(rt; refusal(alloc, b"plan 1\n")?, Some(Refusal::Plan));
-    assert_eq!(rt; refusal(alloc, b"\x00\x00\x00")?, Some(Refusal::Length(3)));
+    assert_eq!(rt; refusal(alloc, b"plan 1\n")?, Some(BareFault::Plan));
+    assert_eq!(rt;
+        refusal(alloc, b"\x00\x00\x00")?,
+        Some(BareFault::Length(3))
+    );
     let full = vec![in alloc; 0u8; 262_084]?;
-    assert_eq!(rt; refusal(alloc, &full)?, Some(Refusal::CodeFull));
+    assert_eq!(rt; refusal(alloc, &full)?, Some(BareFault::CodeFull));
     Ok(())
 }
 
@@ -82,7 +89,7 @@ fn masked_accesses(rt: HostRuntime) -> Result<(), Fail> {
         (
             0x00000263,
             0xff9ff06f,
-            Some(VerifyFault::Target(13)),
+            Some(VerifyFault::Target(52)),
             "a jump into the store",
         ),
         (
@@ -105,11 +112,11 @@ fn checks(rt: HostRuntime) -> Result<(), Fail> {
     expect(&rt, alloc, &CHECK, kinds, "a check")?;
     let mut words = vec![in alloc; 0x00000013u32]?;
     words.extend_from_slice(&CHECK)?;
-    let kinds = Some(VerifyFault::Kinds(1));
+    let kinds = Some(VerifyFault::Kinds(4));
     expect(&rt, alloc, &words, kinds, "a check at the end")?;
     words.push(0x0000006f)?;
     words.push(0x00000000)?;
-    let illegal = Some(VerifyFault::Illegal(16));
+    let illegal = Some(VerifyFault::Illegal(64));
     expect(&rt, alloc, &words, illegal, "no instruction at the end")?;
     let part = Some(VerifyFault::NotUnit(0));
     expect(&rt, alloc, &CHECK[..13], part, "a part of a check")

@@ -4,3 +4,4 @@ pub mod Bare
 pub mod Elf
 pub mod Instr
 pub mod Refusal
+pub mod Verify

@@ -9,7 +9,7 @@ use Rattle.cfi_refusal.specs.Elf.{elf_text}
 use Rattle.cfi_refusal.specs.Instr.{instr_text}
 
 abbrev pub refusal_text : Refusal → List ℕ
-refusal_text (Bare refusal) = bare_text refusal
+refusal_text (Bare fault) = bare_text fault
 refusal_text (Elf fault) = codes "elf " ++ elf_text fault
 refusal_text (Aux fault) = aux_text fault
 refusal_text (Instr fault) = codes "instr " ++ instr_text fault

@@ -7,7 +7,7 @@ use crate::bare::put_bare;
 use crate::elf::put_elf;
 use crate::instr::put_instr;
 use cfi_aux::AuxFault;
-use cfi_bare::Refusal as BareRefusal;
+use cfi_bare::BareFault;
 use cfi_instr::InstrFault;
 use elf_read::ElfFault;
 use rv_asm::AsmFault;
@@ -17,7 +17,7 @@ use std::alloc::AllocError;
 #[derive(Clone, Copy, Debug, PartialEq, Eq)]
 pub enum Refusal {
     /// As a bare file.
-    Bare(BareRefusal),
+    Bare(BareFault),
     /// As an object.
     Elf(ElfFault),
     /// As a module.
@@ -36,7 +36,7 @@ pub fn put_refusal(text: &mut String, refusal: Refusal) -> Result<(), AllocError
     ensures { OnOk result (string_bytes text.new ≡ string_bytes text.old ++ refusal_text refusal) }
 {
     match refusal {
-        Refusal::Bare(refusal) => put_bare(text, refusal),
+        Refusal::Bare(fault) => put_bare(text, fault),
         Refusal::Elf(fault) => {
             text.push_str("elf ")?;
             put_elf(text, fault)

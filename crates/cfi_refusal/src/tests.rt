@@ -1,17 +1,18 @@
 use crate::{Refusal, put_refusal};
 use cfi_aux::AuxFault;
-use cfi_bare::{Refusal as BareRefusal, VerifyFault};
+use cfi_bare::BareFault;
 use cfi_instr::InstrFault;
 use cfi_types::TypeFault;
+use cfi_verify::VerifyFault;
 use elf_read::{ElfFault, Limit};
 use std::test::Fail;
 
 #[test]
 fn refusals(rt: HostRuntime) -> Result<(), Fail> {
     let rows = [
-        (Refusal::Bare(BareRefusal::Length(3)), "bare Length 3"),
+        (Refusal::Bare(BareFault::Length(3)), "bare Length 3"),
         (
-            Refusal::Bare(BareRefusal::Verify(VerifyFault::Target(2))),
+            Refusal::Bare(BareFault::Verify(VerifyFault::Target(8))),
             "verify Target 8",
         ),
         (Refusal::Elf(ElfFault::Short(0)), "elf Short 0"),

@@ -1,8 +1,10 @@
-ghost use Rattle.std.specs.Prelude.{◌≤◌, ◌<◌, length, IfOk};
+ghost use Rattle.std.specs.Prelude.{◌<◌, IfOk};
 ghost use Rattle.cfi_bare.specs.Image.{IsClosedFile};
 
 use crate::{BareCode, run_fixed};
-use cfi_bare::image_of;
+use cfi_aux::Kind;
+use cfi_bare::{FUNCTION_TYPE, MAX_WORDS, image_of};
+use cfi_list::Items;
 use cfi_model::BASE;
 use cfi_unit::{Log, Stop};
 use cfi_word::{Image, Numbers};
@@ -42,14 +44,32 @@ fn image_for(alloc: Global, code: &BareCode, allowed: bool) -> Result<Image, All
     image_of(alloc, code)
 }
 
-// Runs a guest over these words and those of the call.
-fn run(alloc: Global, first: &[u32], allowed: bool, fuel: u32) -> Result<Guest, Fail>
-    requires fits { length first.now ≤ 100 }
+// The bytes of these words and those of the call.
+fn bytes_of(alloc: Global, first: &[u32]) -> Result<Vec<u8>, AllocError> {
+    let mut bytes = Vec::new(alloc);
+    for word in first {
+        bytes.extend_from_slice(&word.to_le_bytes())?;
+    }
+    for word in CALL {
+        bytes.extend_from_slice(&word.to_le_bytes())?;
+    }
+    Ok(bytes)
+}
+
+// Runs a guest over these words and those of the call, whose check is a call of the function's type.
+fn run(
+    rt: &impl Abort,
+    alloc: Global,
+    first: &[u32],
+    allowed: bool,
+    fuel: u32,
+) -> Result<Guest, Fail>
     requires fuel { fuel < u32.MAX }
 {
-    let mut words = first.to_vec(alloc)?;
-    words.extend_from_slice(&CALL)?;
-    let found = BareCode::with_checks(alloc, words)?;
+    let bytes = bytes_of(alloc, first)?;
+    assert!(rt; bytes.len() % 4 == 0 && bytes.len() <= 4 * MAX_WORDS as usize);
+    let kinds = Items::from_vec(vec![in alloc; Kind::Call(FUNCTION_TYPE)]?);
+    let found = BareCode::with_checks(alloc, &bytes, kinds)?;
     let code = found.ok().ok_or("refused")?;
     let image = image_for(alloc, &code, allowed)?;
     let mut guest = Guest::open(alloc, 0, 4 * BASE, &[])?;
@@ -81,7 +101,7 @@ fn halting_checks(rt: HostRuntime) -> Result<(), Fail> {
         (&[0x04200293, 0x00028f93], 0x42, &[], 2, 9),
     ];
     for (first, target, log, units, steps) in rows {
-        let guest = run(rt.alloc(), first, false, 1_000)?;
+        let guest = run(&rt, rt.alloc(), first, false, 1_000)?;
         assert_eq!(rt; guest.stop(), Some(Stop::Halt(target)));
         assert_eq!(rt; guest.log(), log, "{target}");
         assert_eq!(rt; (guest.units(), guest.steps()), (units, steps), "{target}");
@@ -97,7 +117,7 @@ fn fuel_within_a_halting_check(rt: HostRuntime) -> Result<(), Fail> {
         0x00028f93, 0x00cf9f93, 0x00cfdf93, 0x40000f37, 0x01efefb3, 0x000fa283, 0x00028f93,
     ];
     for fuel in 1..31u32 {
-        let guest = run(rt.alloc(), &first, false, fuel)?;
+        let guest = run(&rt, rt.alloc(), &first, false, fuel)?;
         let (units, start, end) = if fuel < 6 { (0, 64, 88) } else { (1, 88, 144) };
         if fuel < 19 {
             assert_eq!(rt; (guest.stop(), guest.units()), (Some(Stop::Fuel), units));
@@ -121,7 +141,7 @@ fn fuel_within_passing_checks(rt: HostRuntime) -> Result<(), Fail> {
         0x00028f93,
     ];
     for fuel in 1..31u32 {
-        let guest = run(rt.alloc(), &first, true, fuel)?;
+        let guest = run(&rt, rt.alloc(), &first, true, fuel)?;
         let (turns, rest) = (fuel / 17, fuel % 17);
         let (units, start, end) = match rest {
             0 => (0, 64, 68),

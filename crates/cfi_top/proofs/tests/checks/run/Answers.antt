@@ -5,6 +5,6 @@ use Rattle.cfi_top.proofs.tests.checks.run.Goals as goal
 
 -- the guest can run
 pub run_fixed-requires-clause-can : goal.run_fixed-requires-clause-can
-run_fixed-requires-clause-can c =
+run_fixed-requires-clause-can g c =
     subst (CanRunOver c.in_ok-image.image c.args.fuel) (sym c.in_ok-guest.ensures)
     (bare_can _ c.in_ok-image.image c.args.fuel c.in_ok-image.ensures)

@@ -1,0 +1,19 @@
+-- Words that can run as one function at the first module's place.
+use Rattle.std.specs.Prelude.{◌≡◌, ℕ, List, [], ◌∷◌, length}
+use Rattle.cfi_model.specs.declared.places.TheConstants.{BASE}
+use Rattle.cfi_aux.specs.declared.placed.Placed.{Placed}
+use Rattle.cfi_aux.specs.declared.placed.PlacedFunction.{PlacedFunction}
+use Rattle.cfi_verify.specs.Faults.{IsVerified}
+
+-- the words are a module's at that place, and its only function has them all
+pub record IsWhole (m : Placed) (words : List ℕ) : Type 0 where
+  pub base : m.base ≡ BASE
+  pub same : m.words ≡ words
+  pub function : PlacedFunction
+  pub only : m.functions ≡ function ∷ []
+  pub first : function.first ≡ 0
+  pub count : function.count ≡ length words
+
+-- such a module verifies against no others
+abbrev pub IsRunnable : (words : List ℕ) → Type 0
+IsRunnable words = (m : Placed) × IsWhole m words × IsVerified m []

@@ -1,0 +1,99 @@
+//! The module that a bare file is, and its place.
+
+ghost use Rattle.std.specs.Prelude.{◌≡◌, IfOk};
+ghost use Rattle.cfi_bare.specs.File.{AreWords};
+ghost use Rattle.cfi_bare.specs.Module.{bare_types, bare_functions, bare_object, bare_module, IsPlacedFile};
+
+use cfi_aux::{Function, Kind, Module, Placed, Records};
+use cfi_list::Items;
+use cfi_model::BASE;
+use cfi_place::{DATA_START, Room, Symbols as Names, place};
+use cfi_types::{FUNC, TypeNode, TypeTable, VOID};
+use cfi_word::MAX_CODE_WORDS;
+use elf_read::{Bytes, Name, Object, Relocs, Symbols};
+use std::alloc::{AllocError, Global};
+
+/// The most words of a bare file: the code area's, but for its first 16.
+pub const MAX_WORDS: u32 = 65_520;
+
+/// The number of the type of a bare file's function: a function of no parameters that gives Void.
+pub const FUNCTION_TYPE: u32 = 1;
+
+// The place of a bare file: that of the first module of the largest code.
+const ROOM: Room = Room {
+    base: BASE,
+    slot_base: 0,
+    data_base: DATA_START,
+    code_words: MAX_CODE_WORDS,
+};
+
+// The types of a bare file: Void, and its function's.
+fn types_of(alloc: Global) -> Result<TypeTable, AllocError>
+    ensures { IfOk result (λ table. table ≡ bare_types) }
+{
+    let mut nodes = Vec::new(alloc);
+    nodes.push(TypeNode::new(VOID, Vec::new(alloc)))?;
+    nodes.push(TypeNode::new(FUNC, vec![in alloc; 0u32]?))?;
+    Ok(TypeTable::from_vec(nodes))
+}
+
+// The function of a bare file, which an empty one has not.
+fn functions_of(alloc: Global, bytes: &[u8]) -> Result<Items<Function>, AllocError>
+    requires { AreWords bytes.now }
+    ensures { IfOk result (λ functions. functions ≡ bare_functions bytes.now) }
+{
+    let mut functions = Vec::new(alloc);
+    if !bytes.is_empty() {
+        functions.push(Function {
+            offset: 0,
+            length: bytes.len() as u32,
+            ty: FUNCTION_TYPE,
+            taken: false,
+            name: Name::from_string(String::from_str(alloc, "bare")?),
+        })?;
+    }
+    Ok(Items::from_vec(functions))
+}
+
+// The object of a bare file: its text alone.
+fn object_of(alloc: Global, bytes: &[u8]) -> Result<Object, AllocError>
+    ensures { IfOk result (λ object. object ≡ bare_object bytes.now) }
+{
+    Ok(Object {
+        text: Bytes::from_vec(bytes.to_vec(alloc)?),
+        static_data: Bytes::from_vec(Vec::new(alloc)),
+        symbols: Symbols::from_vec(Vec::new(alloc)),
+        relocs: Relocs::from_vec(Vec::new(alloc)),
+        types: None,
+        records: None,
+    })
+}
+
+// The module of a bare file.
+fn module_of(alloc: Global, bytes: &[u8], branches: Items<Kind>) -> Result<Module, AllocError>
+    requires { AreWords bytes.now }
+    ensures { IfOk result (λ made. made ≡ bare_module bytes.now branches) }
+{
+    let functions = functions_of(alloc, bytes)?;
+    Ok(Module {
+        object: object_of(alloc, bytes)?,
+        types: types_of(alloc)?,
+        records: Records {
+            functions,
+            branches,
+        },
+    })
+}
+
+/// The module of a bare file's bytes, whose checks have these records, at its place. `Err` where memory is out.
+pub fn place_file(alloc: Global, bytes: &[u8], branches: Items<Kind>) -> Result<Placed, AllocError>
+    requires { AreWords bytes.now }
+    ensures { IfOk result (IsPlacedFile bytes.now branches) }
+{
+    let unplaced = module_of(alloc, bytes, branches)?;
+    match place(alloc, &unplaced, &ROOM, &Names::new(alloc)) {
+        Ok(placed) => Ok(placed),
+        // It has no relocations and no data, and its words fit, so that nothing but memory can be wanting.
+        Err(_) => Err(AllocError),
+    }
+}
