@@ -1,6 +1,7 @@
 -- A series: the modules that stand in so many code words so far.
-use Rattle.std.specs.Prelude.{◌≡◌, ℕ, ◌+◌, ◌*◌, ◌<◌, ◌≤◌, ◌^◌, List, length, All, Option, Some, None, ⊤}
+use Rattle.std.specs.Prelude.{◌≡◌, ℕ, ◌+◌, ◌*◌, ◌<◌, ◌≤◌, ◌^◌, List, [], ◌∷◌, ◌++◌, length, All, Option, Some, None, ⊤}
 use Rattle.cfi_word.specs.declared.layout.TheConstants.{MAX_CODE_WORDS}
+use Rattle.cfi_word.specs.Table.{IsSize}
 use Rattle.cfi_aux.specs.declared.modules.Module.{Module}
 use Rattle.cfi_aux.specs.declared.placed.Placed.{Placed}
 use Rattle.cfi_aux.specs.Sound.{IsSoundModule}
@@ -18,10 +19,12 @@ pub record Series : Type 0 where
 abbrev pub with_module : Series → Placed → Series
 with_module series m = record series { placed = series.placed ++ m ∷ [] }
 
--- the placed modules are some sound modules in order
-abbrev pub IsSeries : (code_words : ℕ) → List Placed → Type 0
-IsSeries code_words placed =
-    (modules : List Module) × All IsSoundModule modules × AreInOrder code_words modules placed
+-- the placed modules are some sound modules in order, in as many code words as a layout may have
+pub record IsSeries (code_words : ℕ) (placed : List Placed) : Type 0 where
+  pub size : IsSize code_words
+  pub modules : List Module
+  pub sound : All IsSoundModule modules
+  pub order : AreInOrder code_words modules placed
 
 -- a module that a series can take: it breaks no rule, and its addresses and counts are 32-bit numbers
 pub record CanBeTaken (m : Module) : Type 0 where
@@ -38,5 +41,5 @@ HasNames placed (Some symbols) = (name : List ℕ) → find_in symbols name ≡ 
 
 -- what a series keeps
 pub record IsKept (a : Inside) : Type 0 where
-  pub series : IsSeries a.layout a.placed.items
+  pub series : IsSeries a.code_words a.placed.items
   pub names : HasNames a.placed.items a.symbols

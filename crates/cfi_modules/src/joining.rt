@@ -9,7 +9,6 @@ use crate::room::room_after;
 use cfi_aux::{Module, Placed};
 use cfi_place::{PlaceFault, Symbols, place};
 use cfi_verify::{VerifyFault, verify};
-use cfi_word::Layout;
 use std::alloc::Global;
 
 /// The module at the next free place behind others, against which it verifies.
@@ -17,18 +16,18 @@ use std::alloc::Global;
 /// `symbols` has the names that those export. `Place` comes before `Verify`.
 pub fn join(
     alloc: Global,
-    layout: Layout,
+    code_words: u32,
     before: &[Placed],
     symbols: &Symbols,
     unplaced: &Module,
 ) -> Result<Placed, JoinFault>
     requires taken { CanBeTaken unplaced.now }
-    requires series { IsSeries layout before.now }
+    requires series { IsSeries code_words before.now }
     requires names { HasNames before.now (Some symbols.now) }
-    ensures ok { IfOk result (Joins layout before.now unplaced.now) }
-    ensures fault { IfErr result (IsJoinFault layout before.now unplaced.now) }
+    ensures ok { IfOk result (Joins code_words before.now unplaced.now) }
+    ensures fault { IfErr result (IsJoinFault code_words before.now unplaced.now) }
 {
-    let room = room_after(layout, before);
+    let room = room_after(code_words, before);
     let placed = match place(alloc, unplaced, &room, symbols) {
         Ok(placed) => placed,
         Err(PlaceFault::Memory) => return Err(JoinFault::Memory),

@@ -21,8 +21,8 @@ pub fn add_names(symbols: &mut Symbols, exports: &[(Name, u32)]) -> Result<(), A
     Ok(())
 }
 
-/// The names that the modules export.
-pub fn symbols_of(alloc: Global, placed: &[Placed]) -> Result<Symbols, AllocError>
+// The names that the modules export.
+fn symbols_of(alloc: Global, placed: &[Placed]) -> Result<Symbols, AllocError>
     ensures { IfOk result (λ symbols. HasNames placed.now (Some symbols)) }
 {
     let mut symbols = Symbols::new(alloc);
@@ -30,4 +30,19 @@ pub fn symbols_of(alloc: Global, placed: &[Placed]) -> Result<Symbols, AllocErro
         add_names(&mut symbols, one.exports.as_slice())?;
     }
     Ok(symbols)
+}
+
+/// The names that the modules export: those that are kept, or else made anew.
+pub fn names_of(
+    alloc: Global,
+    kept: Option<Symbols>,
+    placed: &[Placed],
+) -> Result<Symbols, AllocError>
+    requires { HasNames placed.now kept }
+    ensures { IfOk result (λ symbols. HasNames placed.now (Some symbols)) }
+{
+    match kept {
+        Some(symbols) => Ok(symbols),
+        None => symbols_of(alloc, placed),
+    }
 }

@@ -7,7 +7,6 @@ ghost use Rattle.cfi_modules.specs.Room.{next_multiple, first_room, room_behind,
 use cfi_aux::Placed;
 use cfi_graph::FIRST_WORD;
 use cfi_place::{DATA_START, Room};
-use cfi_word::Layout;
 
 // The least multiple of 16 that is not below the address.
 fn next_multiple(address: u32) -> u32
@@ -18,37 +17,37 @@ fn next_multiple(address: u32) -> u32
 }
 
 // The room of the first module.
-fn first_room(layout: Layout) -> Room
-    ensures { result ≡ first_room layout }
+fn first_room(code_words: u32) -> Room
+    ensures { result ≡ first_room code_words }
 {
     Room {
         base: FIRST_WORD,
         slot_base: 0,
         data_base: DATA_START,
-        code_words: layout.code_words(),
+        code_words,
     }
 }
 
 // The room behind a module.
-fn room_behind(layout: Layout, placed: &Placed) -> Room
-    requires { IsRoom (room_behind (first_room layout) placed.now) }
-    ensures { result ≡ room_behind (first_room layout) placed.now }
+fn room_behind(code_words: u32, placed: &Placed) -> Room
+    requires { IsRoom (room_behind (first_room code_words) placed.now) }
+    ensures { result ≡ room_behind (first_room code_words) placed.now }
 {
     Room {
         base: placed.base + placed.words.as_slice().len() as u32,
         slot_base: placed.slot_base + placed.branches.as_slice().len() as u32,
         data_base: next_multiple(placed.data_base + placed.static_data.as_slice().len() as u32),
-        code_words: layout.code_words(),
+        code_words,
     }
 }
 
 /// The next free place behind some modules, which follow one another from the first place on.
-pub fn room_after(layout: Layout, placed: &[Placed]) -> Room
-    requires { IsRoom (room_after layout placed.now) }
-    ensures { result ≡ room_after layout placed.now }
+pub fn room_after(code_words: u32, placed: &[Placed]) -> Room
+    requires { IsRoom (room_after code_words placed.now) }
+    ensures { result ≡ room_after code_words placed.now }
 {
-    match placed.last() {
-        Some(last) => room_behind(layout, last),
-        None => first_room(layout),
+    match placed {
+        [] => first_room(code_words),
+        [.., last] => room_behind(code_words, last),
     }
 }

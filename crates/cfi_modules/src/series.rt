@@ -1,8 +1,7 @@
 //! Series of placed modules.
 
 ghost use Rattle.std.specs.Prelude.{◌≡◌, [], ◌⊎◌, OnOk, OnErr, IfErr, Ok, Err};
-ghost use Rattle.cfi_aux.specs.declared.placed.Placed.{Placed as Module};
-ghost use Rattle.cfi_word.specs.Table.{IsSize};
+ghost use Rattle.cfi_aux.specs.declared.placed.Placed.{Placed as PlacedModule};
 ghost use Rattle.cfi_graph.specs.Reading.{HaveGraph};
 ghost use Rattle.cfi_policy.specs.Image.{HaveImage};
 ghost use Rattle.cfi_modules.specs.declared.fault.JoinFault.TheVariants.{Memory};
@@ -11,7 +10,8 @@ ghost use Rattle.cfi_modules.specs.Series.{with_module, CanBeTaken, IsSeries};
 
 use crate::fault::JoinFault;
 use crate::joining::join;
-use crate::names::{add_names, symbols_of};
+use crate::laws::{series_have_graph, series_have_image};
+use crate::names::{add_names, names_of};
 use cfi_aux::{Module, Placed};
 use cfi_place::Symbols;
 use cfi_word::Layout;
@@ -22,7 +22,7 @@ use std::marker::Model;
 /// verified against those before it.
 #[derive(Drop)]
 pub struct Series {
-    layout: Layout,
+    code_words: u32,
     placed: Vec<Placed>,
     // The names that they export; none after memory ran out for them.
     symbols: Option<Symbols>,
@@ -35,18 +35,18 @@ impl Model for Series {
 
     ghost Value = { Series };
 
-    ghost view = { λ a. record { code_words = a.layout; placed = a.placed.items } };
+    ghost view = { λ a. record { code_words = a.code_words; placed = a.placed.items } };
 
     ghost invariant = { IsKept };
 }
 
 impl Series {
     /// No modules, in the code words of the layout.
-    pub fn new(alloc: Global, layout: Layout) -> Series
-        ensures { result ≡ record { code_words = layout; placed = [] } }
+    pub fn new(alloc: Global, layout: &Layout) -> Series
+        ensures { result ≡ record { code_words = layout.now; placed = [] } }
     {
         Series {
-            layout,
+            code_words: layout.code_words(),
             placed: Vec::new(alloc),
             symbols: Some(Symbols::new(alloc)),
             alloc,
@@ -59,19 +59,21 @@ impl Series {
     /// against it beside those before it. A refusal leaves the series as it was.
     pub fn add(&mut self, unplaced: &Module) -> Result<(), JoinFault>
         requires { CanBeTaken unplaced.now }
-        ensures ok { OnOk result ((placed : Module) × Joins self.old.code_words self.old.placed unplaced.now placed
+        ensures ok { OnOk result ((placed : PlacedModule) × Joins self.old.code_words self.old.placed unplaced.now placed
             × (self.new ≡ with_module self.old placed)) }
         ensures fault { IfErr result (IsJoinFault self.old.code_words self.old.placed unplaced.now) }
         ensures same { OnErr result (self.new ≡ self.old) }
-        ensures only { (placed : Module) → Joins self.old.code_words self.old.placed unplaced.now placed →
+        ensures only { (placed : PlacedModule) → Joins self.old.code_words self.old.placed unplaced.now placed →
             (self.new ≡ with_module self.old placed) ⊎ (result ≡ Err Memory) }
     {
-        let symbols = self.symbols.take();
-        let mut symbols = match symbols {
-            Some(symbols) => symbols,
-            None => symbols_of(self.alloc, &self.placed)?,
-        };
-        match join(self.alloc, self.layout, &self.placed, &symbols, unplaced) {
+        let mut symbols = names_of(self.alloc, self.symbols.take(), &self.placed)?;
+        match join(
+            self.alloc,
+            self.code_words,
+            &self.placed,
+            &symbols,
+            unplaced,
+        ) {
             Ok(placed) => {
                 add_names(&mut symbols, placed.exports.as_slice())?;
                 self.placed.push(placed)?;
@@ -92,13 +94,8 @@ impl Series {
         ensures graph { HaveGraph self.now.placed }
         ensures image { HaveImage self.now.placed self.now.code_words }
     {
+        series_have_graph();
+        series_have_image();
         &self.placed
-    }
-
-    /// The code words in which they stand.
-    pub fn layout(&self) -> Layout
-        ensures { result ≡ self.now.code_words }
-    {
-        self.layout
     }
 }
