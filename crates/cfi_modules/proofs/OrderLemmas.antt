@@ -25,12 +25,12 @@ use Rattle.cfi_modules.proofs.PlacedLemmas.{placed_once}
 -- ---- one more
 
 module _ {X : Type 0} (xs : List X) where
-  left : (ys : List X) (k : ℕ) (x : X) → k < length xs → slice_get (xs ++ ys) k ≡ Some x → slice_get xs k ≡ Some x
+  pub left : (ys : List X) (k : ℕ) (x : X) → k < length xs → slice_get (xs ++ ys) k ≡ Some x → slice_get xs k ≡ Some x
   left ys k x within is =
       slice_get-get_or xs k x within
       ∙ ap (λ (y : X). Some y) (sym (get_or-append xs ys x k within) ∙ get_or_from_slice_get (xs ++ ys) k x x is)
 
-  last : (y : X) (k : ℕ) (x : X) → k ≡ length xs → slice_get (xs ++ y ∷ []) k ≡ Some x → y ≡ x
+  pub last : (y : X) (k : ℕ) (x : X) → k ≡ length xs → slice_get (xs ++ y ∷ []) k ≡ Some x → y ≡ x
   last y k x end is =
       sym (get_or-append_seam xs y [] x) ∙ ap (λ (n : ℕ). get_or (xs ++ y ∷ []) n x) (sym end)
       ∙ get_or_from_slice_get (xs ++ y ∷ []) k x x is

@@ -9,7 +9,7 @@ use Rattle.cfi_place.specs.declared.room.TheConstants.{DATA_END}
 use Rattle.cfi_place.specs.declared.symbols.Symbols.{Symbols}
 use Rattle.cfi_place.specs.Names.{find_in}
 use Rattle.cfi_modules.specs.declared.series.Series.TheInside.{Inside}
-use Rattle.cfi_modules.specs.Order.{names_of, AreInOrder}
+use Rattle.cfi_modules.specs.Order.{names_of, Joins, AreInOrder}
 
 pub record Series : Type 0 where
   pub code_words : ℕ
@@ -18,6 +18,14 @@ pub record Series : Type 0 where
 -- with one module more
 abbrev pub with_module : Series → Placed → Series
 with_module series m = record series { placed = series.placed ++ m ∷ [] }
+
+-- the module joins the series as this placed module
+abbrev pub JoinsTo : Series → Module → Placed → Type 0
+JoinsTo series m placed = Joins series.code_words series.placed m placed
+
+-- the series has the module more, as it joins it
+abbrev pub HasJoined : (old new : Series) → Module → Type 0
+HasJoined old new m = (placed : Placed) × JoinsTo old m placed × (new ≡ with_module old placed)
 
 -- the placed modules are some sound modules in order, in as many code words as a layout may have
 pub record IsSeries (code_words : ℕ) (placed : List Placed) : Type 0 where

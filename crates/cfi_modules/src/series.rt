@@ -5,8 +5,8 @@ ghost use Rattle.cfi_aux.specs.declared.placed.Placed.{Placed as PlacedModule};
 ghost use Rattle.cfi_graph.specs.Reading.{HaveGraph};
 ghost use Rattle.cfi_policy.specs.Image.{HaveImage};
 ghost use Rattle.cfi_modules.specs.declared.fault.JoinFault.TheVariants.{Memory};
-ghost use Rattle.cfi_modules.specs.Order.{Joins, IsJoinFault};
-ghost use Rattle.cfi_modules.specs.Series.{with_module, CanBeTaken, IsSeries};
+ghost use Rattle.cfi_modules.specs.Order.{IsJoinFault};
+ghost use Rattle.cfi_modules.specs.Series.{with_module, JoinsTo, HasJoined, CanBeTaken, IsSeries};
 
 use crate::fault::JoinFault;
 use crate::joining::join;
@@ -59,11 +59,10 @@ impl Series {
     /// against it beside those before it. A refusal leaves the series as it was.
     pub fn add(&mut self, unplaced: &Module) -> Result<(), JoinFault>
         requires { CanBeTaken unplaced.now }
-        ensures ok { OnOk result ((placed : PlacedModule) × Joins self.old.code_words self.old.placed unplaced.now placed
-            × (self.new ≡ with_module self.old placed)) }
+        ensures ok { OnOk result (HasJoined self.old self.new unplaced.now) }
         ensures fault { IfErr result (IsJoinFault self.old.code_words self.old.placed unplaced.now) }
         ensures same { OnErr result (self.new ≡ self.old) }
-        ensures only { (placed : PlacedModule) → Joins self.old.code_words self.old.placed unplaced.now placed →
+        ensures only { (placed : PlacedModule) → JoinsTo self.old unplaced.now placed →
             (self.new ≡ with_module self.old placed) ⊎ (result ≡ Err Memory) }
     {
         let mut symbols = names_of(self.alloc, self.symbols.take(), &self.placed)?;

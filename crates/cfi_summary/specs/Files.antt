@@ -4,7 +4,7 @@ use Rattle.std.specs.Prelude.{◌≡◌, ◌≢◌, ℕ, List, length, take, sli
 use Rattle.cfi_aux.specs.declared.modules.Module.{Module}
 use Rattle.cfi_aux.specs.declared.placed.Placed.{Placed}
 use Rattle.cfi_tools.specs.declared.reading.FileFault.{FileFault}
-use Rattle.cfi_tools.specs.declared.reading.FileFault.TheVariants as files
+use Rattle.cfi_tools.specs.declared.reading.FileFault.TheVariants as file_faults
 use Rattle.cfi_tools.specs.Reading.{IsModuleFile, IsFileFault}
 use Rattle.cfi_modules.specs.declared.fault.JoinFault.{JoinFault}
 use Rattle.cfi_modules.specs.declared.fault.JoinFault.TheVariants as joins
@@ -25,7 +25,7 @@ pub record IsFirstBadFile (files : List (List ℕ)) (number : ℕ) (fault : File
   pub before : List Module
   pub read : AreModuleFiles (take number files) before
   pub why : IsFileFault file fault
-  pub no_memory : fault ≢ files.Memory
+  pub no_memory : fault ≢ file_faults.Memory
 
 -- all files are modules, and the module of this number is the first that does not join those before it
 pub record IsFirstBadModule (code_words : ℕ) (files : List (List ℕ)) (number : ℕ) (fault : JoinFault) : Type 0 where

@@ -38,10 +38,10 @@ pub fn read_modules(alloc: Global, files: &[Bytes]) -> Result<Vec<Module>, Files
 }
 
 // The modules, placed in their order.
-fn place_all(alloc: Global, layout: Layout, modules: &[Module]) -> Result<Series, FilesFault>
+fn place_all(alloc: Global, layout: &Layout, modules: &[Module]) -> Result<Series, FilesFault>
     requires taken { All CanBeTaken modules.now }
-    ensures order { IfOk result (λ series. AreInOrder layout modules.now series.placed) }
-    ensures fault { IfErr result (IsSeriesFault layout modules.now) }
+    ensures order { IfOk result (λ series. AreInOrder layout.now modules.now series.placed) }
+    ensures fault { IfErr result (IsSeriesFault layout.now modules.now) }
 {
     let mut series = Series::new(alloc, layout);
     for (number, unplaced) in modules.iter().enumerate() {
@@ -74,5 +74,5 @@ pub fn placed_files(alloc: Global, plan: &Plan, files: &[Bytes]) -> Result<Serie
     ensures fault { IfErr result (IsFilesFault plan.now.code_words files.now) }
 {
     let modules = read_modules(alloc, files)?;
-    place_all(alloc, layout_of(plan), &modules)
+    place_all(alloc, &layout_of(plan), &modules)
 }

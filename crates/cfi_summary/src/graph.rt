@@ -54,6 +54,17 @@ fn put_group(text: &mut Vec<u8>, group: &Group) -> Result<(), AllocError>
     Ok(())
 }
 
+// The lines of groups.
+fn lines_of(alloc: Global, groups: &[Group]) -> Result<Vec<u8>, AllocError>
+    ensures { IfOk result (λ text. text.items ≡ flat_map line_of groups.now) }
+{
+    let mut text = Vec::new(alloc);
+    for group in groups {
+        put_group(&mut text, group)?;
+    }
+    Ok(text)
+}
+
 /// The groups of the policy of the modules that the files are, where all place and verify in order, a line for each:
 /// `class SLOTS : ADDRESSES`, and for the last one, where its branches may go nowhere, `none SLOTS`.
 ///
@@ -66,9 +77,5 @@ pub fn graph_text(alloc: Global, plan: &Plan, files: &[Bytes]) -> Result<Vec<u8>
 {
     let series = placed_files(alloc, plan, files)?;
     let found = groups(alloc, series.modules())?;
-    let mut text = Vec::new(alloc);
-    for group in found.as_slice() {
-        put_group(&mut text, group)?;
-    }
-    Ok(text)
+    Ok(lines_of(alloc, found.as_slice())?)
 }

@@ -9,6 +9,8 @@
 mod fault;
 mod files;
 mod graph;
+#[cfg(test)]
+mod tests;
 mod verified;
 
 pub use fault::FilesFault;
