@@ -17,13 +17,14 @@ use Rattle.cfi_tools.specs.declared.reading.FileFault.{FileFault}
 use Rattle.cfi_tools.specs.declared.reading.FileFault.TheVariants as file_faults
 use Rattle.cfi_aux.specs.declared.placed.Placed.{Placed}
 use Rattle.cfi_modules.specs.declared.fault.JoinFault.{JoinFault}
+use Rattle.cfi_modules.specs.declared.fault.JoinFault.TheVariants as joins
 use Rattle.cfi_modules.specs.Order.{Joins, AreInOrder, IsJoinFault, IsFirstRefused}
 use Rattle.cfi_modules.specs.Series.{Series, HasJoined, CanBeTaken}
 use Rattle.cfi_modules.proofs.OrderLemmas.{left, last}
 use Rattle.cfi_modules.proofs.OrderLemmas.{order_more as in_order_more}
 use Rattle.cfi_summary.specs.declared.fault.FilesFault.{FilesFault}
 use Rattle.cfi_summary.specs.declared.fault.FilesFault.TheVariants as faults
-use Rattle.cfi_summary.specs.Files.{AreModuleFiles, IsFirstBadFile, IsFilesFault, IsSeriesFault}
+use Rattle.cfi_summary.specs.Files.{AreModuleFiles, IsFirstBadFile, IsFilesFault, IsSeriesFault, fault_at}
 
 -- what was read of a file is small
 pub taken : (bytes : List ℕ) (m : Module) → IsModuleFile bytes m → IsSoundModule m → CanBeTaken m
@@ -78,19 +79,18 @@ module _ (code_words : ℕ) (modules : List Module) (k : ℕ) (m : Module) (with
   order_more new joined =
       let p = joined.0 in
       let joins : Joins code_words series.placed m p =
-          subst (λ (n : ℕ). Joins n series.placed m p) same joined.1 in
+      subst (λ (n : ℕ). Joins n series.placed m p) same joined.1 in
       let more : take (k + 1) modules ≡ take k modules ++ m ∷ [] =
-          take_more modules k m within ∙ ap (λ (x : Module). take k modules ++ x ∷ []) (sym is) in
-      let placed : new.placed ≡ series.placed ++ p ∷ [] = ap (λ (s : Series). s.placed) joined.2 in
-      (
+      take_more modules k m within ∙ ap (λ (x : Module). take k modules ++ x ∷ []) (sym is) in
+      let placed : new.placed ≡ series.placed ++ p ∷ [] = ap (λ (s : Series). s.placed) joined.2 in (
         subst (λ (xs : List Placed). AreInOrder code_words (take (k + 1) modules) xs) (sym placed)
-        (subst (λ (ms : List Module). AreInOrder code_words ms (series.placed ++ p ∷ [])) (sym more)
-        (in_order_more code_words (take k modules) series.placed m p order joins)),
+            (subst (λ (ms : List Module). AreInOrder code_words ms (series.placed ++ p ∷ [])) (sym more)
+            (in_order_more code_words (take k modules) series.placed m p order joins)),
         ap (λ (s : Series). s.code_words) joined.2 ∙ same,
       )
 
   -- or is the first that does not
-  pub first_refused : (fault : JoinFault) → IsJoinFault series.code_words series.placed m fault
+  first_refused : (fault : JoinFault) → IsJoinFault series.code_words series.placed m fault
       → IsFirstRefused code_words modules k fault
   first_refused fault why = record {
     refused = m;
@@ -100,18 +100,11 @@ module _ (code_words : ℕ) (modules : List Module) (k : ℕ) (m : Module) (with
     why = subst (λ (n : ℕ). IsJoinFault n series.placed m fault) same why;
   }
 
--- the file of the number is the first that is no module
-pub first_bad : (files : List (List ℕ)) (k : ℕ) (file : List ℕ) (modules : List Module) (fault : FileFault)
-    → k < length files → file ≡ get_or files k file → AreModuleFiles (take k files) modules → IsFileFault file fault
-    → fault ≢ file_faults.Memory → IsFirstBadFile files k fault
-first_bad files k file modules fault within is read why other = record {
-  file = file;
-  is = slice_get-get_or files k file within ∙ ap (λ (x : List ℕ). Some x) (sym is);
-  before = modules;
-  read = read;
-  why = why;
-  no_memory = other;
-}
+  pub series_fault : (fault : JoinFault) → IsJoinFault series.code_words series.placed m fault
+      → IsSeriesFault code_words modules (fault_at k fault)
+  series_fault (joins.Place fault) why = first_refused (joins.Place fault) why
+  series_fault (joins.Verify fault) why = first_refused (joins.Verify fault) why
+  series_fault joins.Memory why = tt
 
 -- the first fault of the files is one of their modules
 pub files_fault : (code_words : ℕ) (files : List (List ℕ)) (modules : List Module) (fault : FilesFault)

@@ -52,3 +52,9 @@ IsSeriesFault code_words modules (File number fault) = ⊥
 IsSeriesFault code_words modules (Place number fault) = IsFirstRefused code_words modules number (joins.Place fault)
 IsSeriesFault code_words modules (Verify number fault) = IsFirstRefused code_words modules number (joins.Verify fault)
 IsSeriesFault code_words modules Memory = ⊤
+
+-- the fault of the module of a number
+abbrev pub fault_at : (number : ℕ) → JoinFault → FilesFault
+fault_at number (joins.Place fault) = Place number fault
+fault_at number (joins.Verify fault) = Verify number fault
+fault_at number joins.Memory = Memory

@@ -6,7 +6,7 @@ ghost use Rattle.cfi_aux.specs.declared.modules.Module.{Module as Unplaced};
 ghost use Rattle.cfi_plan.specs.Plan.{IsPlan};
 ghost use Rattle.cfi_modules.specs.Order.{AreInOrder};
 ghost use Rattle.cfi_modules.specs.Series.{CanBeTaken};
-ghost use Rattle.cfi_summary.specs.Files.{AreModuleFiles, ArePlacedFiles, IsFilesFault, IsSeriesFault};
+ghost use Rattle.cfi_summary.specs.Files.{AreModuleFiles, ArePlacedFiles, IsFilesFault, IsSeriesFault, fault_at};
 
 use crate::fault::FilesFault;
 use cfi_aux::Module;
@@ -37,6 +37,17 @@ pub fn read_modules(alloc: Global, files: &[Bytes]) -> Result<Vec<Module>, Files
     Ok(modules)
 }
 
+// The fault of the module of a number.
+fn fault_at(number: usize, fault: JoinFault) -> FilesFault
+    ensures { result ≡ fault_at number fault }
+{
+    match fault {
+        JoinFault::Place(fault) => FilesFault::Place(number, fault),
+        JoinFault::Verify(fault) => FilesFault::Verify(number, fault),
+        JoinFault::Memory => FilesFault::Memory,
+    }
+}
+
 // The modules, placed in their order.
 fn place_all(alloc: Global, layout: &Layout, modules: &[Module]) -> Result<Series, FilesFault>
     requires taken { All CanBeTaken modules.now }
@@ -45,11 +56,8 @@ fn place_all(alloc: Global, layout: &Layout, modules: &[Module]) -> Result<Serie
 {
     let mut series = Series::new(alloc, layout);
     for (number, unplaced) in modules.iter().enumerate() {
-        match series.add(unplaced) {
-            Ok(()) => {}
-            Err(JoinFault::Place(fault)) => return Err(FilesFault::Place(number, fault)),
-            Err(JoinFault::Verify(fault)) => return Err(FilesFault::Verify(number, fault)),
-            Err(JoinFault::Memory) => return Err(FilesFault::Memory),
+        if let Err(fault) = series.add(unplaced) {
+            return Err(fault_at(number, fault));
         }
     }
     Ok(series)
