@@ -1,22 +1,21 @@
 -- A series is verified one after the other at the next free places, and there are few modules and types.
-use Rattle.std.proofs.Common.{◌≡◌, ◌≢◌, ℕ, zero, suc, ◌+◌, ◌*◌, ◌^◌, ◌<◌, ◌≤◌, ◌++◌, List, [], ◌∷◌, length, map, take, get_or, Some, All, refl, ap, sym, subst, ◌∙◌, add-one, arith, length-append}
+use Rattle.std.proofs.Common.{◌≡◌, ◌≢◌, ℕ, zero, suc, ◌+◌, ◌*◌, ◌≤◌, List, [], ◌∷◌, length, map, take, get_or, Some, All, refl, ap, sym, subst, ◌∙◌, add-one, arith, length-append}
 use Rattle.std.specs.List.{flat_map, slice_get, AllByRecursion}
-use Rattle.std.proofs.Math.Seq.{take-length}
 use Rattle.std.proofs.lemmas.List.Elements.{recursion_from_All}
 use Rattle.std.proofs.lemmas.Option.{slice_get-get_or}
 use Rattle.cfi_types.specs.Node.{Node}
 use Rattle.cfi_types.specs.Spelling.{AreTypes}
 use Rattle.cfi_word.specs.declared.layout.TheConstants.{MAX_CODE_WORDS}
 use Rattle.cfi_aux.specs.declared.placed.Placed.{Placed}
-use Rattle.cfi_graph.specs.Reading.{type_count, node_count, HaveGraph}
-use Rattle.cfi_graph.specs.Shaped.{AreApart, Follows}
+use Rattle.cfi_graph.specs.Reading.{type_count, HaveGraph}
+use Rattle.cfi_graph.specs.Shaped.{AreApart}
 use Rattle.cfi_place.specs.declared.room.Room.{Room}
 use Rattle.cfi_shaped.specs.Verified.{AreVerified}
 use Rattle.cfi_modules.specs.Room.{room_after}
 use Rattle.cfi_modules.specs.Order.{names_of}
 use Rattle.cfi_modules.specs.Series.{IsSeries}
-use Rattle.cfi_modules.proofs.PlacedLemmas.{Fits, fits}
-use Rattle.cfi_modules.proofs.SeriesLemmas.{code_after, item_at, member, room_at, room_is, room_more}
+use Rattle.cfi_modules.proofs.PlacedLemmas.{fits}
+use Rattle.cfi_modules.proofs.SeriesLemmas.{code_after, item_at, member, room_at, room_more}
 
 some_length : (xs : List ℕ) → xs ≢ [] → 1 ≤ length xs
 some_length [] some = absurd (some refl)

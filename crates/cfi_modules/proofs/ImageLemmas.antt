@@ -1,6 +1,6 @@
 -- The modules of a series have an image: they and their slots end within the layout, and so does what their branches may
 -- go to, since no module ends in a call.
-use Rattle.std.proofs.Common.{◌≡◌, ℕ, zero, suc, ◌+◌, ◌*◌, ◌/◌, ◌<◌, ◌≤◌, ◌++◌, Bool, true, false, ℤ, List, [], ◌∷◌, length, take, get_or, Option, Some, All, refl, ap, sym, subst, ◌∙◌, add-one, arith}
+use Rattle.std.proofs.Common.{◌≡◌, ℕ, ◌+◌, ◌*◌, ◌<◌, ◌≤◌, Bool, true, false, ℤ, List, length, take, get_or, Some, refl, ap, sym, subst, ◌∙◌, arith}
 use Rattle.std.specs.List.{Contains, slice_get}
 use Rattle.std.proofs.lemmas.List.Elements.{All-contains}
 use Rattle.std.proofs.lemmas.Option.{slice_get-get_or, slice_get_within, get_or_from_slice_get}
@@ -15,7 +15,7 @@ use Rattle.cfi_aux.specs.declared.records.Kind.{Kind}
 use Rattle.cfi_aux.specs.declared.records.Kind.TheVariants as kinds
 use Rattle.cfi_graph.specs.Code.{place_of, Stands}
 use Rattle.cfi_graph.specs.Calls.{HasKind, IsCall}
-use Rattle.cfi_graph.specs.Direct.{IsPointee, IsReturnTarget, GoesTo, DirectEdge}
+use Rattle.cfi_graph.specs.Direct.{IsPointee, IsReturnTarget, GoesTo}
 use Rattle.cfi_graph.specs.Reading.{HaveGraph}
 use Rattle.cfi_verify.specs.declared.spot.Spot.{Spot}
 use Rattle.cfi_verify.specs.declared.checks.CheckSpot.{CheckSpot}
@@ -24,7 +24,6 @@ use Rattle.cfi_verify.specs.Branches.{IsKindOf, IsRecordOf, IsEntry, AreEntriesI
 use Rattle.cfi_verify.specs.Faults.{IsVerifiedAs, IsVerified}
 use Rattle.cfi_place.specs.declared.room.Room.{Room}
 use Rattle.cfi_policy.specs.Image.{HaveImage}
-use Rattle.cfi_modules.specs.Room.{room_after}
 use Rattle.cfi_modules.specs.Series.{IsSeries}
 use Rattle.cfi_modules.proofs.SeriesLemmas.{code_after, member, room_at, room_more}
 use Rattle.cfi_modules.proofs.EndLemmas.{check_there, is_call, call_followed, begins_within}

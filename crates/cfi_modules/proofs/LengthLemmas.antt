@@ -1,5 +1,5 @@
 -- Relocations keep the lengths of text and data.
-use Rattle.std.proofs.Common.{◌≡◌, ℕ, ◌+◌, ◌≤◌, ◌==◌, Bool, true, cond, List, [], ◌∷◌, ◌++◌, length, take, drop, Option, Some, None, Result, Ok, Err, refl, sym, ap, ◌∙◌, subst, inl, inr, arith, length-append, length-drop}
+use Rattle.std.proofs.Common.{◌≡◌, ℕ, ◌+◌, ◌≤◌, ◌==◌, Bool, true, cond, List, [], ◌∷◌, ◌++◌, length, take, drop, Option, Some, None, Result, Ok, Err, refl, sym, ap, ◌∙◌, inl, inr, arith, length-append, length-drop}
 use Rattle.std.specs.Prelude.{unwrap_or}
 use Rattle.std.specs.Result.{result_unwrap_or}
 use Rattle.std.specs.Int.{w32, to_le_bytes}
@@ -9,22 +9,19 @@ use Rattle.std.proofs.lemmas.Bool.{cases_Bool, eqb-true}
 use Rattle.std.proofs.lemmas.List.{length-take-le}
 use Rattle.elf_read.specs.declared.object.Area.{Area}
 use Rattle.elf_read.specs.declared.object.Area.TheVariants as areas
-use Rattle.elf_read.specs.declared.object.Object.{Object}
 use Rattle.elf_read.specs.declared.object.Reloc.{Reloc}
-use Rattle.elf_read.specs.Relocation.{field_size, is_of_instruction}
-use Rattle.cfi_aux.specs.Sound.{HasField, IsSoundReloc}
+use Rattle.elf_read.specs.Relocation.{field_size}
 use Rattle.rv_reloc.specs.declared.fault.RelocFault.{RelocFault}
 use Rattle.rv_reloc.specs.declared.table.Form.{Form}
 use Rattle.rv_reloc.specs.declared.table.Rule.{Rule}
 use Rattle.rv_reloc.specs.Table.{table, rule_of, size_by, size_of}
 use Rattle.rv_reloc.specs.Bytes.{word_at, with_word}
-use Rattle.rv_reloc.specs.Field.{immediate, filled}
+use Rattle.rv_reloc.specs.Field.{filled}
 use Rattle.rv_reloc.specs.Formula.{number_by}
 use Rattle.rv_reloc.specs.Applied as applying
 use Rattle.rv_reloc.specs.Applied.{filled_next, with_next, written, applied_by, applied}
-use Rattle.cfi_place.specs.declared.fault.PlaceFault.{PlaceFault}
 use Rattle.cfi_place.specs.declared.room.Room.{Room}
-use Rattle.cfi_place.specs.Relocated.{Areas, field_address, value_in, partner_in, areas_of, size_in, ◌>>=◌, applied_in, numbered, relocated_by, relocated_from}
+use Rattle.cfi_place.specs.Relocated.{Areas, field_address, value_in, partner_in, size_in, ◌>>=◌, applied_in, numbered, relocated_by, relocated_from}
 
 -- ---- what each step gave
 

@@ -1,5 +1,5 @@
 -- One module more in a series, and that a module joins in one way or is refused.
-use Rattle.std.proofs.Common.{◌≡◌, ℕ, suc, ◌+◌, ◌<◌, ◌≤◌, ◌++◌, List, [], ◌∷◌, length, take, get_or, Some, All, Ok, Err, refl, ap, sym, subst, ◌∙◌, ⊎_elim, arith, length-append}
+use Rattle.std.proofs.Common.{◌≡◌, ℕ, ◌<◌, ◌≤◌, ◌++◌, List, [], ◌∷◌, length, take, get_or, Some, refl, ap, sym, subst, ◌∙◌, ⊎_elim, arith, length-append}
 use Rattle.std.specs.List.{slice_get, flat_map}
 use Rattle.std.proofs.Math.Seq.{take-length, get_or-append_seam}
 use Rattle.std.proofs.Math.ListN.{get_or-append}
@@ -11,7 +11,6 @@ use Rattle.cfi_aux.specs.declared.modules.Module.{Module}
 use Rattle.cfi_aux.specs.declared.placed.Placed.{Placed}
 use Rattle.cfi_aux.specs.Sound.{IsSoundModule}
 use Rattle.cfi_place.specs.Names.{Names, first_in}
-use Rattle.cfi_place.specs.Placed.{IsPlaced}
 use Rattle.cfi_verify.specs.Faults.{Stands}
 use Rattle.cfi_verify.proofs.RowLemmas.{no_fault}
 use Rattle.cfi_modules.specs.declared.fault.JoinFault.{JoinFault}

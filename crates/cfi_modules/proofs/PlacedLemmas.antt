@@ -1,6 +1,5 @@
 -- What placing makes of a module: how long it is, and that it is one.
-use Rattle.std.proofs.Common.{◌≡◌, ℕ, ◌+◌, ◌*◌, ◌/◌, ◌≤◌, Bool, true, false, List, [], ◌∷◌, length, map, All, get_or, Option, Some, None, Result, Ok, Err, refl, sym, ap, ◌∙◌, subst, arith}
-use Rattle.std.specs.Prelude.{if◌then◌else◌, nat_le}
+use Rattle.std.proofs.Common.{◌≡◌, ℕ, ◌+◌, ◌/◌, ◌≤◌, Bool, true, false, List, [], ◌∷◌, length, All, get_or, Option, Some, None, Result, Ok, refl, sym, ap, ◌∙◌, subst, arith}
 use Rattle.std.specs.List.{AllByRecursion, slice_set}
 use Rattle.std.proofs.lemmas.Bool.{leb-true}
 use Rattle.std.proofs.lemmas.List.{length-map, length-set}
@@ -8,7 +7,6 @@ use Rattle.std.proofs.lemmas.List.Elements.{recursion_from_All}
 use Rattle.elf_read.specs.declared.object.Area.{Area}
 use Rattle.elf_read.specs.declared.object.Area.TheVariants as areas
 use Rattle.elf_read.specs.declared.object.Object.{Object}
-use Rattle.elf_read.specs.declared.object.Reloc.{Reloc}
 use Rattle.elf_read.specs.Relocation.{field_size}
 use Rattle.cfi_unit.specs.declared.unit.Unit.{Unit as CodeUnit}
 use Rattle.cfi_unit.specs.Unit.{size_of}
@@ -26,12 +24,12 @@ use Rattle.cfi_place.specs.Functions.{make_function}
 use Rattle.cfi_place.specs.declared.room.Room.{Room}
 use Rattle.cfi_place.specs.declared.room.TheConstants.{DATA_END}
 use Rattle.cfi_place.specs.Names.{Names}
-use Rattle.cfi_place.specs.Relocated.{Areas, areas_of, size_in, high_parts, relocated_from}
+use Rattle.cfi_place.specs.Relocated.{Areas, areas_of, size_in, high_parts}
 use Rattle.cfi_place.specs.Slots.{ReadFrom, checks_from, with_slot, with_slots, HasSlots}
 use Rattle.cfi_place.specs.Value.{undefined_in}
-use Rattle.cfi_place.specs.Placed.{words_in, values_in, relocated, unless_undefined, where_fits, code_fits, data_fits, placed_in, IsPlaced}
+use Rattle.cfi_place.specs.Placed.{words_in, values_in, relocated, unless_undefined, where_fits, code_fits, data_fits, IsPlaced}
 use Rattle.cfi_place.proofs.PlacingLemmas.{length-words_in}
-use Rattle.cfi_modules.proofs.LengthLemmas.{ok_not_err, ok_is, AreAsLong, IsInside, relocated_kept}
+use Rattle.cfi_modules.proofs.LengthLemmas.{ok_not_err, ok_is, IsInside, relocated_kept}
 
 -- ---- the tests before the relocations
 

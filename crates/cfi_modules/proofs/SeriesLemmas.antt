@@ -1,5 +1,5 @@
 -- The rooms of modules in order.
-use Rattle.std.proofs.Common.{◌≡◌, ℕ, zero, suc, ◌+◌, ◌*◌, ◌<◌, ◌≤◌, ◌++◌, List, [], ◌∷◌, length, take, get_or, Some, All, refl, ap, sym, subst, ◌∙◌, add-one, arith, length-append}
+use Rattle.std.proofs.Common.{◌≡◌, ℕ, zero, suc, ◌+◌, ◌*◌, ◌<◌, ◌≤◌, ◌++◌, List, [], ◌∷◌, length, take, get_or, Some, refl, ap, sym, subst, ◌∙◌, add-one, arith, length-append}
 use Rattle.std.specs.List.{flat_map, fold, slice_get, cons_option}
 use Rattle.std.proofs.Math.Seq.{take-length}
 use Rattle.std.proofs.lemmas.List.{take_more}
@@ -18,7 +18,7 @@ use Rattle.cfi_place.specs.Names.{Names}
 use Rattle.cfi_place.specs.Placed.{IsRoom, IsPlaced}
 use Rattle.cfi_verify.specs.declared.spot.Spot.{Spot}
 use Rattle.cfi_verify.specs.declared.checks.CheckSpot.{CheckSpot}
-use Rattle.cfi_verify.specs.Spots.{spots_of, AreSpots, check_in, checks_of}
+use Rattle.cfi_verify.specs.Spots.{spots_of, check_in, checks_of}
 use Rattle.cfi_verify.specs.Faults.{IsVerified}
 use Rattle.cfi_modules.specs.Room.{first_room, room_behind, room_after}
 use Rattle.cfi_modules.specs.Order.{names_of, Joins}

@@ -1,8 +1,8 @@
 -- The modules of files, one more after the other, and that a series can take them.
-use Rattle.std.proofs.Common.{◌≡◌, ◌≢◌, ℕ, ◌+◌, ◌<◌, ◌≤◌, ◌++◌, List, [], ◌∷◌, length, take, get_or, Some, ap, sym, subst, ◌∙◌, ⊎_elim, arith, length-append}
+use Rattle.std.proofs.Common.{◌≡◌, ℕ, ◌+◌, ◌<◌, ◌≤◌, ◌++◌, List, [], ◌∷◌, length, take, get_or, Some, ap, sym, subst, ◌∙◌, ⊎_elim, arith, length-append}
 use Rattle.std.specs.List.{slice_get}
 use Rattle.std.proofs.lemmas.Bool.{cases_lt}
-use Rattle.std.proofs.lemmas.List.{take_more, length-take-le}
+use Rattle.std.proofs.lemmas.List.{take_more}
 use Rattle.std.proofs.lemmas.Option.{slice_get_within, slice_get-get_or}
 use Rattle.elf_read.specs.Header.{section_count}
 use Rattle.elf_read.specs.declared.object.Object.{Object}
@@ -12,9 +12,6 @@ use Rattle.cfi_aux.proofs.JoinedLists.{data_length}
 use Rattle.cfi_tools.specs.Reading.{IsModuleFile}
 use Rattle.cfi_tools.proofs.ListingLemmas.{short_text}
 use Rattle.cfi_tools.proofs.InstrumentingLemmas.{few_relocs}
-use Rattle.cfi_tools.specs.Reading.{IsFileFault}
-use Rattle.cfi_tools.specs.declared.reading.FileFault.{FileFault}
-use Rattle.cfi_tools.specs.declared.reading.FileFault.TheVariants as file_faults
 use Rattle.cfi_aux.specs.declared.placed.Placed.{Placed}
 use Rattle.cfi_modules.specs.declared.fault.JoinFault.{JoinFault}
 use Rattle.cfi_modules.specs.declared.fault.JoinFault.TheVariants as joins
@@ -24,7 +21,7 @@ use Rattle.cfi_modules.proofs.OrderLemmas.{left, last}
 use Rattle.cfi_modules.proofs.OrderLemmas.{order_more as in_order_more}
 use Rattle.cfi_summary.specs.declared.fault.FilesFault.{FilesFault}
 use Rattle.cfi_summary.specs.declared.fault.FilesFault.TheVariants as faults
-use Rattle.cfi_summary.specs.Files.{AreModuleFiles, IsFirstBadFile, IsFilesFault, IsSeriesFault, fault_at}
+use Rattle.cfi_summary.specs.Files.{AreModuleFiles, IsFilesFault, IsSeriesFault, fault_at}
 
 -- what was read of a file is small
 pub taken : (bytes : List ℕ) (m : Module) → IsModuleFile bytes m → IsSoundModule m → CanBeTaken m

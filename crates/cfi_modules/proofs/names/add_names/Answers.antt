@@ -1,4 +1,4 @@
-use Rattle.std.proofs.Common.{◌≡◌, ℕ, List, ap, ◌∙◌}
+use Rattle.std.proofs.Common.{ℕ, List, ap, ◌∙◌}
 use Rattle.cfi_place.specs.Names.{find_in, with_name}
 use Rattle.cfi_modules.proofs.NamesLemmas.{one_name_more}
 use Rattle.cfi_modules.proofs.names.add_names.Goals as goal

@@ -1,5 +1,4 @@
-use Rattle.std.proofs.Common.{◌≡◌, sym, ap, ◌∙◌, subst}
-use Rattle.cfi_place.specs.declared.room.Room.{Room}
+use Rattle.std.proofs.Common.{sym, ap, ◌∙◌, subst}
 use Rattle.cfi_place.specs.Placed.{IsRoom}
 use Rattle.cfi_modules.specs.Room.{first_room, room_behind}
 use Rattle.cfi_modules.proofs.RoomLemmas.{after_last}

@@ -1,4 +1,4 @@
-use Rattle.std.proofs.Common.{◌≡◌, ◌+◌, ◌++◌, [], ◌∷◌, ℕ, List, take, All, sym, subst}
+use Rattle.std.proofs.Common.{◌+◌, [], ◌∷◌, ℕ, List, take, All, sym, subst}
 use Rattle.std.proofs.lemmas.List.Elements.{All-nil, All-cons, All-append}
 use Rattle.cfi_aux.specs.declared.modules.Module.{Module}
 use Rattle.cfi_tools.specs.Reading.{IsModuleFile}

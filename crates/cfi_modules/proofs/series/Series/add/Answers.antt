@@ -1,9 +1,9 @@
-use Rattle.std.proofs.Common.{◌≡◌, ◌⊎◌, ◌++◌, [], ◌∷◌, inl, inr, sym, ap, subst, ◌∙◌, ℕ, List, Err, Result, Some}
+use Rattle.std.proofs.Common.{◌++◌, [], ◌∷◌, inl, inr, sym, ap, subst, ◌∙◌, ℕ, List, Err, Result, Some}
 use Rattle.std.specs.List.{flat_map}
 use Rattle.cfi_aux.specs.declared.placed.Placed.{Placed}
 use Rattle.cfi_place.specs.Names.{find_in, first_in}
 use Rattle.cfi_modules.specs.declared.fault.JoinFault.{JoinFault}
-use Rattle.cfi_modules.specs.Order.{Joins, names_of, IsJoinFault}
+use Rattle.cfi_modules.specs.Order.{Joins, IsJoinFault}
 use Rattle.cfi_modules.specs.Series.{Series, IsSeries, HasNames, with_module}
 use Rattle.cfi_modules.proofs.OrderLemmas.{series_more, names_more, joins_once, joins_or_refused}
 use Rattle.cfi_modules.proofs.series.Series.add.Goals as goal
