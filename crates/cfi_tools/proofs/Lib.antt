@@ -1,3 +1,4 @@
 pub mod ListingLemmas
 pub mod ReadingLemmas
 pub mod InstrumentingLemmas
+pub mod LinkingLemmas
