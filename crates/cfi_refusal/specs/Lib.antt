@@ -3,4 +3,5 @@ pub mod Aux
 pub mod Bare
 pub mod Elf
 pub mod Instr
+pub mod Link
 pub mod Refusal

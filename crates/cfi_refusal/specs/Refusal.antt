@@ -1,12 +1,13 @@
 -- Why a file is refused, in words: the layer that refuses it, the fault's name, and its fields, single spaces between.
 use Rattle.std.specs.Prelude.{ℕ, List, ◌++◌, codes}
 use Rattle.cfi_refusal.specs.declared.refusal.Refusal.{Refusal}
-use Rattle.cfi_refusal.specs.declared.refusal.Refusal.TheVariants.{Bare, Elf, Aux, Instr, Asm}
+use Rattle.cfi_refusal.specs.declared.refusal.Refusal.TheVariants.{Bare, Elf, Aux, Instr, Asm, Link}
 use Rattle.cfi_refusal.specs.Asm.{asm_text}
 use Rattle.cfi_refusal.specs.Aux.{aux_text}
 use Rattle.cfi_refusal.specs.Bare.{bare_text}
 use Rattle.cfi_refusal.specs.Elf.{elf_text}
 use Rattle.cfi_refusal.specs.Instr.{instr_text}
+use Rattle.cfi_refusal.specs.Link.{link_text}
 
 abbrev pub refusal_text : Refusal → List ℕ
 refusal_text (Bare refusal) = bare_text refusal
@@ -14,3 +15,4 @@ refusal_text (Elf fault) = codes "elf " ++ elf_text fault
 refusal_text (Aux fault) = aux_text fault
 refusal_text (Instr fault) = codes "instr " ++ instr_text fault
 refusal_text (Asm fault) = codes "asm " ++ asm_text fault
+refusal_text (Link fault) = codes "link " ++ link_text fault

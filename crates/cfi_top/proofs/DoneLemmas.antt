@@ -12,7 +12,7 @@ use Rattle.cfi_top.specs.Command.{IsCommand, Fits, inputs_of}
 use Rattle.cfi_top.specs.Outside.{ShelfView, SinkView, Holds, IsWhole}
 use Rattle.cfi_top.specs.Reading.{AreRead}
 use Rattle.cfi_top.specs.Outcome.{IsMade, IsWorked}
-use Rattle.cfi_top.specs.Top.{Ends, HasRun, HasListed, HasAssembled, HasInstrumented}
+use Rattle.cfi_top.specs.Top.{Ends, HasRun, HasListed, HasAssembled, HasInstrumented, HasLinked}
 use Rattle.cfi_top.proofs.CommandLemmas.{one_command}
 use Rattle.cfi_top.proofs.ReadingLemmas.{one_file, unread_least}
 
@@ -119,6 +119,23 @@ module _ (input bytes : List ℕ) (shelf shelf' : ShelfView) (sink sink' : SinkV
   list_done (answers.Unread unread) made whole = absurd made
   list_done (answers.Refused name refusal) made whole = absurd made
 
+link_done : (output : List ℕ) (inputs files : List (List ℕ)) (shelf shelf' : ShelfView) (sink sink' : SinkView)
+    → AreRead shelf inputs files → (answer : Answer) → IsMade (commands.Link output inputs) files answer
+    → IsWhole (output_of answer) shelf shelf' sink sink' → HasLinked output inputs shelf shelf' sink sink'
+link_done output inputs files shelf shelf' sink sink' read (answers.Save name file) made whole = record {
+  files = files;
+  read = read;
+  file = file;
+  made = made.1;
+  saved = subst (λ (n : List ℕ). WhereKeptTold shelf.files shelf'.files (Puts n file)) made.0 whole.1;
+  silent = whole.0;
+}
+link_done output inputs files shelf shelf' sink sink' read (answers.Print text) made whole = absurd made
+link_done output inputs files shelf shelf' sink sink' read (answers.Ran part) made whole = absurd made
+link_done output inputs files shelf shelf' sink sink' read answers.Usage made whole = absurd made
+link_done output inputs files shelf shelf' sink sink' read (answers.Unread unread) made whole = absurd made
+link_done output inputs files shelf shelf' sink sink' read (answers.Refused name refusal) made whole = absurd made
+
 pub assembled_of : (words : List (List ℕ)) (shelf shelf' : ShelfView) (sink sink' : SinkView) (status : ℕ)
     → Ends words shelf shelf' sink sink' status → (input output : List ℕ)
     → IsCommand words (commands.Asm input output) → status ≡ DONE
@@ -156,3 +173,11 @@ listed_of words shelf shelf' sink sink' status ends input fits e =
     let one = one_file shelf input done.files done.read in
     let made = subst (λ (fs : List (List ℕ)). IsMade (commands.List input) fs done.answer) one.1 done.made in
     list_done input one.0 shelf shelf' sink sink' one.2 done.answer made done.delivered
+
+pub linked_of : (words : List (List ℕ)) (shelf shelf' : ShelfView) (sink sink' : SinkView) (status : ℕ)
+    → Ends words shelf shelf' sink sink' status → (output : List ℕ) (inputs : List (List ℕ))
+    → IsCommand words (commands.Link output inputs) → status ≡ DONE
+    → HasLinked output inputs shelf shelf' sink sink'
+linked_of words shelf shelf' sink sink' status ends output inputs fits e =
+    let done = command_done words shelf shelf' sink sink' status e (commands.Link output inputs) fits ends in
+    link_done output inputs done.files shelf shelf' sink sink' done.read done.answer done.made done.delivered

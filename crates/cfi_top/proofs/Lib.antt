@@ -1,6 +1,7 @@
 pub mod CommandLemmas
 pub mod OutsideLemmas
 pub mod ReadingLemmas
+pub mod LinkLemmas
 pub mod OutcomeLemmas
 pub mod DoneLemmas
 pub mod TopLemmas

@@ -38,6 +38,7 @@ saved_is_output (commands.Instrument input output) (bytes ∷ []) name file made
     ap (λ (n : List ℕ). Some n) (sym made.0)
 saved_is_output (commands.Instrument input output) [] name file made = absurd made
 saved_is_output (commands.Instrument input output) (a ∷ b ∷ rest) name file made = absurd made
+saved_is_output (commands.Link output inputs) files name file made = ap (λ (n : List ℕ). Some n) (sym made.0)
 saved_is_output (commands.Run input) [] name file made = absurd made
 saved_is_output (commands.Run input) (bytes ∷ []) name file made = absurd made
 saved_is_output (commands.Run input) (a ∷ b ∷ rest) name file made = absurd made

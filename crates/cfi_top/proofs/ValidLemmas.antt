@@ -6,7 +6,7 @@ use Rattle.std.proofs.lemmas.List.Elements.{All-nil, All-cons}
 use Rattle.cfi_bare.proofs.AcceptedLemmas.{accepted}
 use Rattle.cfi_bare.proofs.RefusalLemmas.{not_both}
 use Rattle.cfi_refusal.specs.declared.refusal.Refusal.{Refusal}
-use Rattle.cfi_refusal.specs.declared.refusal.Refusal.TheVariants.{Bare, Elf, Aux, Instr, Asm}
+use Rattle.cfi_refusal.specs.declared.refusal.Refusal.TheVariants.{Bare, Elf, Aux, Instr, Asm, Link}
 use Rattle.cfi_top.specs.declared.command.Command.TheVariants.{Run}
 use Rattle.cfi_top.specs.Outcome.{Refuses}
 use Rattle.cfi_top.specs.Reading.{IsShort}
@@ -27,11 +27,12 @@ unrefused name (Elf fault) refuses = refuses
 unrefused name (Aux fault) refuses = refuses
 unrefused name (Instr fault) refuses = refuses
 unrefused name (Asm fault) refuses = refuses
+unrefused name (Link fault) refuses = refuses
 
 pub valid : IsValid (codes "run" ∷ codes "a" ∷ []) files
 valid = record {
   command = Run (codes "a");
-  fits = record { spelled = refl; operands = all_of_one (codes "a") (λ e. absurd (omega (arith, e))) };
+  fits = record { spelled = refl; operands = all_of_one (codes "a") (λ e. absurd (omega (arith, e))); number = tt };
   files = bytes ∷ [];
   held = refl;
   short = All-cons IsShort bytes [] (omega arith) (All-nil IsShort);

@@ -1,26 +1,35 @@
 -- The commands of the program, and the words that are one. A word is its bytes.
-use Rattle.std.specs.Prelude.{◌≡◌, ℕ, List, [], ◌∷◌, codes, All, Option, Some, None}
+use Rattle.std.specs.Prelude.{◌≡◌, ℕ, ◌≤◌, List, [], ◌∷◌, length, codes, All, Option, Some, None, ⊤}
 use Rattle.cfi_args.specs.Words.{IsOperand}
 use Rattle.cfi_top.specs.declared.command.Command.{Command}
 use Rattle.cfi_top.specs.declared.command.Command.TheVariants as commands
+use Rattle.cfi_top.specs.declared.command.TheConstants.{MAX_INPUTS}
 
 -- the word that names a command, and the words after it
 abbrev pub name_of : Command → List ℕ
 name_of (commands.Asm input output) = codes "asm"
 name_of (commands.List input) = codes "list"
 name_of (commands.Instrument input output) = codes "instrument"
+name_of (commands.Link output inputs) = codes "link"
 name_of (commands.Run input) = codes "run"
 
 abbrev pub operands_of : Command → List (List ℕ)
 operands_of (commands.Asm input output) = input ∷ output ∷ []
 operands_of (commands.List input) = input ∷ []
 operands_of (commands.Instrument input output) = input ∷ output ∷ []
+operands_of (commands.Link output inputs) = output ∷ inputs
 operands_of (commands.Run input) = input ∷ []
+
+-- a command that takes any number of inputs has one at least, and not too many
+abbrev pub HasInputs : Command → Type 0
+HasInputs (commands.Link output inputs) = (1 ≤ length inputs) × (length inputs ≤ MAX_INPUTS)
+HasInputs command = ⊤
 
 -- the words are this command
 pub record IsCommand (words : List (List ℕ)) (command : Command) : Type 0 where
   pub spelled : words ≡ name_of command ∷ operands_of command
   pub operands : All IsOperand (operands_of command)
+  pub number : HasInputs command
 
 -- the words are a command
 abbrev pub Fits : List (List ℕ) → Type 0
@@ -36,6 +45,7 @@ abbrev pub inputs_of : Command → List (List ℕ)
 inputs_of (commands.Asm input output) = input ∷ []
 inputs_of (commands.List input) = input ∷ []
 inputs_of (commands.Instrument input output) = input ∷ []
+inputs_of (commands.Link output inputs) = inputs
 inputs_of (commands.Run input) = input ∷ []
 
 -- the file that a command saves, where it saves one
@@ -43,4 +53,5 @@ abbrev pub saved_name : Command → Option (List ℕ)
 saved_name (commands.Asm input output) = Some output
 saved_name (commands.List input) = None
 saved_name (commands.Instrument input output) = Some output
+saved_name (commands.Link output inputs) = Some output
 saved_name (commands.Run input) = None

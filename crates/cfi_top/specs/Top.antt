@@ -8,6 +8,7 @@ use Rattle.cfi_report.specs.declared.report.GuestPart.{GuestPart}
 use Rattle.cfi_refusal.specs.declared.refusal.Refusal.{Refusal}
 use Rattle.cfi_tools.specs.Assembling.{IsAssembled}
 use Rattle.cfi_tools.specs.Instrumenting.{IsInstrumentedFile}
+use Rattle.cfi_tools.specs.Linking.{IsLinkedFile}
 use Rattle.cfi_tools.specs.Listing.{IsObjectListing}
 use Rattle.cfi_top.specs.declared.command.Command.{Command}
 use Rattle.cfi_top.specs.declared.answer.Answer.{Answer}
@@ -60,6 +61,16 @@ HasAssembled = HasMade IsAssembled
 -- the file `input` is a module, and the file `output` is the written object of it, instrumented
 abbrev pub HasInstrumented : (input output : List ℕ) → (shelf shelf' : ShelfView) → (sink sink' : SinkView) → Type 0
 HasInstrumented = HasMade IsInstrumentedFile
+
+-- the files `inputs` are modules, the file `output` is the written object of what links them, and nothing is printed
+pub record HasLinked (output : List ℕ) (inputs : List (List ℕ)) (shelf shelf' : ShelfView) (sink sink' : SinkView)
+    : Type 0 where
+  pub files : List (List ℕ)
+  pub read : AreRead shelf inputs files
+  pub file : List ℕ
+  pub made : IsLinkedFile files file
+  pub saved : WhereKeptTold shelf.files shelf'.files (Puts output file)
+  pub silent : sink'.written ≡ sink.written
 
 -- a command's inputs were read and refused for the first fault, and the sink has the line that says so
 pub record IsRefused (words : List (List ℕ)) (shelf : ShelfView) (sink sink' : SinkView) : Type 0 where

@@ -1,10 +1,14 @@
-ghost use Rattle.std.specs.Prelude.{◌≡◌, ◌∷◌, [], All, IfOk, map};
+ghost use Rattle.std.specs.Prelude.{◌≡◌, ◌≢◌, ◌∷◌, [], All, IfOk, codes, map};
 ghost use Rattle.cfi_args.specs.Words.{IsOperand, texts};
 ghost use Rattle.cfi_top.specs.Command.{IsReading, inputs_of};
 
 use cfi_args::split_words;
+use cfi_list::Items;
 use cfi_plan::Text;
 use std::alloc::{AllocError, Global};
+
+/// The most files that a command links.
+pub const MAX_INPUTS: usize = 64;
 
 /// A command of the program, with its operands, which are names of files.
 #[derive(Debug, Drop)]
@@ -28,6 +32,13 @@ pub enum Command {
         /// The file of the instrumented module.
         output: Text,
     },
+    /// Links modules.
+    Link {
+        /// The file of the module that they make.
+        output: Text,
+        /// The modules' files, in order.
+        inputs: Items<Text>,
+    },
     /// Runs a bare file.
     Run {
         /// The bare file.
@@ -35,11 +46,31 @@ pub enum Command {
     },
 }
 
-// A name of a file.
-fn text_of(alloc: Global, name: &str) -> Result<Text, AllocError>
+/// The name of a file.
+pub fn text_of(alloc: Global, name: &str) -> Result<Text, AllocError>
     ensures { IfOk result (λ text. text ≡ name.now) }
 {
     Ok(Text::from_string(name.to_string(alloc)?))
+}
+
+// A list of one name.
+fn one_name(alloc: Global, name: &Text) -> Result<Vec<Text>, AllocError>
+    ensures { IfOk result (λ names. names.items ≡ name.now ∷ []) }
+{
+    let mut names = Vec::new(alloc);
+    names.push(text_of(alloc, name.as_str())?)?;
+    Ok(names)
+}
+
+// A copy of names.
+fn copies_of(alloc: Global, names: &[Text]) -> Result<Vec<Text>, AllocError>
+    ensures { IfOk result (λ copies. copies.items ≡ names.now) }
+{
+    let mut copies = Vec::new(alloc);
+    for name in names {
+        copies.push(text_of(alloc, name.as_str())?)?;
+    }
+    Ok(copies)
 }
 
 impl Command {
@@ -47,15 +78,13 @@ impl Command {
     pub fn inputs(&self, alloc: Global) -> Result<Vec<Text>, AllocError>
         ensures { IfOk result (λ names. names.items ≡ inputs_of self.now) }
     {
-        let input = match self {
-            Command::Asm { input, .. } => input.as_str(),
-            Command::List { input } => input.as_str(),
-            Command::Instrument { input, .. } => input.as_str(),
-            Command::Run { input } => input.as_str(),
-        };
-        let mut names = Vec::new(alloc);
-        names.push(text_of(alloc, input)?)?;
-        Ok(names)
+        match self {
+            Command::Asm { input, .. } => one_name(alloc, input),
+            Command::List { input } => one_name(alloc, input),
+            Command::Instrument { input, .. } => one_name(alloc, input),
+            Command::Link { inputs, .. } => copies_of(alloc, inputs.as_slice()),
+            Command::Run { input } => one_name(alloc, input),
+        }
     }
 }
 
@@ -74,13 +103,14 @@ fn unary(alloc: Global, name: &str, operand: &str) -> Result<Option<Command>, Al
     Ok(None)
 }
 
-// The command of this name that takes two operands.
+// The command of this name that takes two operands and no more.
 fn binary(
     alloc: Global,
     name: &str,
     first: &str,
     second: &str,
 ) -> Result<Option<Command>, AllocError>
+    requires other { name.now ≢ codes "link" }
     requires operands { All IsOperand (first.now ∷ second.now ∷ []) }
     ensures { IfOk result (IsReading (name.now ∷ first.now ∷ second.now ∷ [])) }
 {
@@ -95,11 +125,41 @@ fn binary(
     Ok(None)
 }
 
+// The names that words are.
+fn names_of(alloc: Global, words: &[&str]) -> Result<Vec<Text>, AllocError>
+    ensures { IfOk result (λ names. names.items ≡ map (λ word. word.now) words.now) }
+{
+    let mut names = Vec::new(alloc);
+    for word in words {
+        names.push(text_of(alloc, word)?)?;
+    }
+    Ok(names)
+}
+
+// The command that links.
+fn linking(alloc: Global, operands: &[&str]) -> Result<Option<Command>, AllocError>
+    requires operands { All IsOperand (map (λ word. word.now) operands.now) }
+    ensures { IfOk result (IsReading (codes "link" ∷ map (λ word. word.now) operands.now)) }
+{
+    let Some((output, inputs)) = operands.split_first() else {
+        return Ok(None);
+    };
+    if inputs.is_empty() || inputs.len() > MAX_INPUTS {
+        return Ok(None);
+    }
+    let output = text_of(alloc, output)?;
+    let inputs = Items::from_vec(names_of(alloc, inputs)?);
+    Ok(Some(Command::Link { output, inputs }))
+}
+
 // The command of this name and these operands.
 fn named(alloc: Global, name: &str, operands: &[&str]) -> Result<Option<Command>, AllocError>
     requires operands { All IsOperand (map (λ word. word.now) operands.now) }
     ensures { IfOk result (IsReading (name.now ∷ map (λ word. word.now) operands.now)) }
 {
+    if name == "link" {
+        return linking(alloc, operands);
+    }
     match operands {
         [operand] => unary(alloc, name, operand),
         [first, second] => binary(alloc, name, first, second),

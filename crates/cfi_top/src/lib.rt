@@ -13,6 +13,8 @@ mod deliver;
 #[cfg(test)]
 mod file_tests;
 pub mod laws;
+#[cfg(test)]
+mod module_tests;
 mod program;
 mod reading;
 mod run;

@@ -1,13 +1,14 @@
 ghost use Rattle.std.specs.Prelude.{◌≡◌, ◌≤◌, ◌∷◌, [], length, All, IfOk};
 ghost use Rattle.cfi_io.specs.declared.shelf.TheConstants.{MAX_FILE_BYTES};
+ghost use Rattle.cfi_top.specs.declared.command.TheConstants.{MAX_INPUTS};
 ghost use Rattle.cfi_top.specs.declared.command.Command.TheVariants as commands;
-ghost use Rattle.cfi_top.specs.Command.{inputs_of};
+ghost use Rattle.cfi_top.specs.Command.{HasInputs, inputs_of};
 ghost use Rattle.cfi_top.specs.Outside.{shelf_view};
 ghost use Rattle.cfi_top.specs.Reading.{IsShort};
 ghost use Rattle.cfi_top.specs.Outcome.{IsFileRefused, IsWorked, IsOutcome};
 
 use crate::answer::Answer;
-use crate::command::Command;
+use crate::command::{Command, text_of};
 use crate::program::FUEL;
 use crate::reading::read_files;
 use crate::run::run_bare;
@@ -15,7 +16,9 @@ use cfi_bare::accept;
 use cfi_io::{Gate, Shelf};
 use cfi_plan::Text;
 use cfi_refusal::Refusal;
-use cfi_tools::{FileFault, InstrumentFault, assembled, instrumented, listing_of};
+use cfi_tools::{
+    FileFault, InstrumentFault, LinkingFault, assembled, instrumented, linked, listing_of,
+};
 use cfi_unit::Bytes;
 use elf_read::ElfFault;
 use rv_asm::AsmFault;
@@ -69,6 +72,24 @@ fn instrument(alloc: Global, input: Text, output: Text, bytes: &[u8]) -> Result<
     }
 }
 
+// Links modules.
+fn link(alloc: Global, output: Text, inputs: &[Text], files: &[Bytes]) -> Result<Answer, AllocError>
+    requires few { length inputs.now ≤ MAX_INPUTS }
+    requires count { length files.now ≡ length inputs.now }
+    requires short { All IsShort files.now }
+    ensures { IfOk result (IsWorked (commands.Link output inputs.now) files.now) }
+{
+    match linked(alloc, files) {
+        Ok(joined) => Ok(Answer::Save(output, Bytes::from_vec(joined))),
+        Err(LinkingFault::File { number, fault }) => {
+            let input = text_of(alloc, inputs[number].as_str())?;
+            file_refused(input, fault)
+        }
+        Err(LinkingFault::Link(fault)) => Ok(Answer::Refused(output, Refusal::Link(fault))),
+        Err(LinkingFault::Memory) => Err(AllocError),
+    }
+}
+
 // Runs a bare file.
 fn run<G: Gate>(alloc: Global, input: Text, bytes: &[u8], gate: &G) -> Result<Answer, AllocError>
     ensures { IfOk result (IsWorked (commands.Run input) (bytes.now ∷ [])) }
@@ -94,6 +115,7 @@ fn work<G: Gate>(
     files: &[Bytes],
     gate: &G,
 ) -> Result<Answer, AllocError>
+    requires number { HasInputs command }
     requires count { length files.now ≡ length (inputs_of command) }
     requires short { All IsShort files.now }
     ensures { IfOk result (IsWorked command files.now) }
@@ -102,6 +124,7 @@ fn work<G: Gate>(
         Command::Asm { input, output } => asm(alloc, input, output, only(files)),
         Command::List { input } => list(alloc, input, only(files)),
         Command::Instrument { input, output } => instrument(alloc, input, output, only(files)),
+        Command::Link { output, inputs } => link(alloc, output, inputs.as_slice(), files),
         Command::Run { input } => run(alloc, input, only(files), gate),
     }
 }
@@ -113,6 +136,7 @@ pub fn outcome_of<F: Shelf, G: Gate>(
     shelf: &mut F,
     gate: &G,
 ) -> Result<Answer, AllocError>
+    requires number { HasInputs command }
     ensures outcome { IfOk result (IsOutcome command
         (shelf_view (F.files shelf.old) (F.faults shelf.old) (F.misses shelf.old))
         (shelf_view (F.files shelf.new) (F.faults shelf.new) (F.misses shelf.new))) }
