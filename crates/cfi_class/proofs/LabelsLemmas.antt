@@ -4,9 +4,8 @@ use Rattle.std.proofs.lemmas.Bool.{cases_lt, cases_Bool, false≢true}
 use Rattle.std.proofs.lemmas.List.{get_or_past}
 use Rattle.cfi_word.specs.declared.ids.TheConstants.{FIELD_MAX}
 use Rattle.cfi_word.specs.Chain.{Chain}
-use Rattle.cfi_word.specs.Table.{slots_of}
 use Rattle.cfi_class.specs.Forest.{HasSameRoots, root_of}
-use Rattle.cfi_class.specs.Labels.{IsReached, IsUsed, IsClass, IsClassWhere, AreLabels}
+use Rattle.cfi_class.specs.Labels.{IsReached, IsUsed, IsClass, IsClassWhere, AreNumbers, AreInOrder}
 use Rattle.cfi_class.specs.Linked.{Linked, node_of, IsForestOf}
 use Rattle.cfi_class.specs.Linked.End.{Slot, Address}
 use Rattle.cfi_class.specs.Numbering.{IsMarked, MarksUsed, AreSlotNumbers, AreWordNumbers}
@@ -99,19 +98,12 @@ module _ (joins : (slot address : ℕ) → Type 0) (slots code_words : ℕ) (par
 
 -- ---- the labels
 
--- the numbers of slots, with the one for no edge up to the last slot of the table
-pub record FillsUp (slots all : ℕ) (numbers bary : List ℕ) : Type 0 where
-  pub len : length bary ≡ all
-  pub kept : (slot : ℕ) → slot < slots → get_or bary slot 0 ≡ get_or numbers slot 0
-  pub filled : (slot : ℕ) → slots ≤ slot → slot < all → get_or bary slot 0 ≡ FIELD_MAX
-
 module _ (joins : (slot address : ℕ) → Type 0) (slots code_words : ℕ) (parents : List ℕ)
     (forest : IsForestOf joins slots code_words parents) (marks : List Bool) (used : MarksUsed joins slots marks)
     (inside : (slot address : ℕ) → joins slot address → slot < slots) (after : List ℕ)
-    (roots : HasSameRoots parents after) (numbers tary bary : List ℕ)
+    (roots : HasSameRoots parents after) (numbers tary : List ℕ)
     (slot_numbers : AreSlotNumbers parents marks numbers)
-    (word_numbers : AreWordNumbers after numbers code_words tary)
-    (fills : FillsUp slots (slots_of code_words) numbers bary) where
+    (word_numbers : AreWordNumbers after numbers code_words tary) where
   numbers_len : length numbers ≡ slots
   numbers_len = slot_numbers.len ∙ used.len
 
@@ -140,31 +132,20 @@ module _ (joins : (slot address : ℕ) → Type 0) (slots code_words : ℕ) (par
             )
       ]
 
-  branch_label : (slot : ℕ) → slot < slots_of code_words
-      → IsClassWhere (IsUsed joins slot) FIELD_MAX (get_or bary slot 0)
+  branch_label : (slot : ℕ) → slot < slots → IsClassWhere (IsUsed joins slot) FIELD_MAX (get_or numbers slot 0)
   branch_label slot there =
-      elim (cases_lt slot slots) [
-        | inl lower ↦ elim (cases_Bool (get_or marks slot false)) [
-          | inl marked ↦ inl (
-            used.only slot marked,
-            subst IsClass (sym (fills.kept slot lower))
-                (slot_numbers.class slot marked),
-          )
-          | inr unmarked ↦
-              let len = used.len in
-              inr (
-                λ edge. absurd (false≢true (sym unmarked ∙ used.marked slot edge.0 edge.1)),
-                fills.kept slot lower ∙ slot_numbers.idle slot (omega arith) unmarked,
-              )
-        ]
-        | inr higher ↦ inr (
-          λ edge. let lower = inside slot edge.0 edge.1 in omega arith,
-          fills.filled slot higher there,
-        )
+      elim (cases_Bool (get_or marks slot false)) [
+        | inl marked ↦ inl (used.only slot marked, slot_numbers.class slot marked)
+        | inr unmarked ↦
+            let len = used.len in
+            inr (
+              λ edge. absurd (false≢true (sym unmarked ∙ used.marked slot edge.0 edge.1)),
+              slot_numbers.idle slot (omega arith) unmarked,
+            )
       ]
 
-  class_label : (slot word : ℕ) → slot < slots_of code_words → word < code_words → IsUsed joins slot
-      → IsReached joins (4 * word) → (get_or bary slot 0 ≡ get_or tary word 0) ↔ Chain joins slot (4 * word)
+  class_label : (slot word : ℕ) → slot < slots → word < code_words → IsUsed joins slot
+      → IsReached joins (4 * word) → (get_or numbers slot 0 ≡ get_or tary word 0) ↔ Chain joins slot (4 * word)
   class_label slot word within there edge reached =
       let lower = inside slot edge.0 edge.1 in
       let len = forest.len in
@@ -173,18 +154,56 @@ module _ (joins : (slot address : ℕ) → Type 0) (slots code_words : ℕ) (par
       let alike = slot_numbers.same slot (root_of parents (slots + word)) (used.marked slot edge.0 edge.1)
       (word_root_marked joins slots code_words parents forest marks used inside word there root_lower) in (
         λ equal. chain_from_root joins slots code_words parents forest marks used inside word there slot lower
-            (alike.0 (sym (fills.kept slot lower) ∙ equal ∙ tary_at word there) ∙ top),
-        λ chain. fills.kept slot lower
-            ∙ alike.1 (root_from_chain joins slots code_words parents forest marks used inside word there slot chain
+            (alike.0 (equal ∙ tary_at word there) ∙ top),
+        λ chain. alike.1 (root_from_chain joins slots code_words parents forest marks used inside word there slot chain
             ∙ sym top)
             ∙ sym (tary_at word there),
       )
 
-  pub are_labels : AreLabels joins code_words tary bary
-  are_labels = record {
+  pub are_numbers : AreNumbers joins slots code_words tary numbers
+  are_numbers = record {
     words = word_numbers.len;
-    slots = fills.len;
+    slots = numbers_len;
     targets = target_label;
     branches = branch_label;
     classes = class_label;
+  }
+
+  pub in_order : AreInOrder joins numbers
+  in_order slot number edge some low =
+      let earlier = slot_numbers.order slot number (used.marked slot edge.0 edge.1) some low in
+      (earlier.0, earlier.1, used.only earlier.0 earlier.2, earlier.3)
+
+-- ---- slots of a table past those that have numbers
+
+-- the numbers of slots, with the one for no edge up to the last slot of the table
+pub record FillsUp (slots all : ℕ) (numbers bary : List ℕ) : Type 0 where
+  pub len : length bary ≡ all
+  pub kept : (slot : ℕ) → slot < slots → get_or bary slot 0 ≡ get_or numbers slot 0
+  pub filled : (slot : ℕ) → slots ≤ slot → slot < all → get_or bary slot 0 ≡ FIELD_MAX
+
+module _ (joins : (slot address : ℕ) → Type 0) (slots all code_words : ℕ) (tary numbers bary : List ℕ)
+    (inside : (slot address : ℕ) → joins slot address → slot < slots)
+    (are : AreNumbers joins slots code_words tary numbers) (fills : FillsUp slots all numbers bary) where
+  filled_branch : (slot : ℕ) → slot < all → IsClassWhere (IsUsed joins slot) FIELD_MAX (get_or bary slot 0)
+  filled_branch slot there =
+      elim (cases_lt slot slots) [
+        | inl lower ↦ subst (IsClassWhere (IsUsed joins slot) FIELD_MAX) (sym (fills.kept slot lower))
+            (are.branches slot lower)
+        | inr higher ↦ inr (
+          λ edge. let lower = inside slot edge.0 edge.1 in omega arith,
+          fills.filled slot higher there,
+        )
+      ]
+
+  pub filled_up : AreNumbers joins all code_words tary bary
+  filled_up = record {
+    words = are.words;
+    slots = fills.len;
+    targets = are.targets;
+    branches = filled_branch;
+    classes = λ slot word within there edge reached.
+        let lower = inside slot edge.0 edge.1 in
+        subst (λ n. (n ≡ get_or tary word 0) ↔ Chain joins slot (4 * word)) (sym (fills.kept slot lower))
+        (are.classes slot word lower there edge reached);
   }

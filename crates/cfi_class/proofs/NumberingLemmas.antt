@@ -1,15 +1,20 @@
 -- Numbers of slots, one more slot at a time.
 use Rattle.std.proofs.Common.{◌≡◌, ◌↔◌, ℕ, ◌+◌, ◌<◌, ◌≤◌, max, cond, ltb, Bool, false, List, [], ◌∷◌, ◌++◌, length, get_or, refl, sym, ap, subst, ◌∙◌, arith, inl, inr}
 use Rattle.std.proofs.lemmas.Bool.{cases_lt, lt-ltb, le-ltb, cond-true, cond-false, false≢true}
-use Rattle.std.proofs.lemmas.List.{length_push, get_or_append_left, get_or_at}
+use Rattle.std.proofs.lemmas.List.{length_push, get_or_append_left, get_or_at, get_or_past}
 use Rattle.cfi_word.specs.declared.ids.TheConstants.{FIELD_MAX}
 use Rattle.cfi_class.specs.Forest.{root_of}
-use Rattle.cfi_class.specs.Numbering.{IsMarked}
+use Rattle.cfi_class.specs.Numbering.{IsMarked, AreSlotNumbers}
 
 -- two slots have one number exactly where they have one root
 abbrev pub AreAlike : (parents numbers : List ℕ) (one other : ℕ) → Type 0
 AreAlike parents numbers one other =
     (get_or numbers one 0 ≡ get_or numbers other 0) ↔ (root_of parents one ≡ root_of parents other)
+
+-- a marked slot before the end has the number
+abbrev pub HasBefore : (marks : List Bool) (numbers : List ℕ) (end number : ℕ) → Type 0
+HasBefore marks numbers end number =
+    (earlier : ℕ) × (earlier < end) × IsMarked marks earlier × (get_or numbers earlier 0 ≡ number)
 
 -- the numbers of the first slots, of so many classes
 pub record NumbersSoFar (parents : List ℕ) (marks : List Bool) (numbers : List ℕ) (count : ℕ) : Type 0 where
@@ -19,6 +24,9 @@ pub record NumbersSoFar (parents : List ℕ) (marks : List Bool) (numbers : List
   pub most : (slot : ℕ) → slot < length numbers → IsMarked marks slot → get_or numbers slot 0 ≤ count
   pub same : (one other : ℕ) → one < length numbers → other < length numbers → IsMarked marks one
       → IsMarked marks other → AreAlike parents numbers one other
+  pub each : (number : ℕ) → 1 ≤ number → number ≤ count → HasBefore marks numbers (length numbers) number
+  pub order : (slot number : ℕ) → slot < length numbers → IsMarked marks slot → 1 ≤ number
+      → number ≤ get_or numbers slot 0 → HasBefore marks numbers (slot + 1) number
 
 -- what one more number has to be
 pub record IsNext (parents : List ℕ) (marks : List Bool) (numbers : List ℕ) (count number next : ℕ) : Type 0 where
@@ -29,6 +37,8 @@ pub record IsNext (parents : List ℕ) (marks : List Bool) (numbers : List ℕ) 
   pub most : IsMarked marks (length numbers) → number ≤ next
   pub same : IsMarked marks (length numbers) → (one : ℕ) → one < length numbers → IsMarked marks one
       → (get_or numbers one 0 ≡ number) ↔ (root_of parents one ≡ root_of parents (length numbers))
+  pub top : (higher : ℕ) → count < higher → higher ≤ next
+      → IsMarked marks (length numbers) × (number ≡ higher)
 
 module _ (parents : List ℕ) (marks : List Bool) (numbers : List ℕ) (count number next : ℕ)
     (old : NumbersSoFar parents marks numbers count) (is : IsNext parents marks numbers count number next) where
@@ -79,6 +89,44 @@ module _ (parents : List ℕ) (marks : List Bool) (numbers : List ℕ) (count nu
             subst (P slot) (sym (here slot at)) (subst (λ n. P n number) at last)
       ]
 
+  -- what a slot had before
+  kept : (end sought : ℕ) → end ≤ length numbers → HasBefore marks numbers end sought
+      → HasBefore marks (numbers ++ number ∷ []) end sought
+  kept end sought within (earlier, lower, marked, has) =
+      (earlier, lower, marked, before earlier (omega arith) ∙ has)
+
+  widened : (few many sought : ℕ) → few ≤ many → HasBefore marks (numbers ++ number ∷ []) few sought
+      → HasBefore marks (numbers ++ number ∷ []) many sought
+  widened few many sought more (earlier, lower, marked, has) = (earlier, omega arith, marked, has)
+
+  -- each number up to the greatest one has a slot
+  pushed_each : (sought : ℕ) → 1 ≤ sought → sought ≤ next
+      → HasBefore marks (numbers ++ number ∷ []) (length numbers + 1) sought
+  pushed_each sought some low =
+      elim (cases_lt count sought) [
+        | inl above ↦
+            let new = is.top sought above low in
+            (length numbers, omega arith, new.0, here (length numbers) refl ∙ new.1)
+        | inr below ↦ widened (length numbers) (length numbers + 1) sought (omega arith)
+            (kept (length numbers) sought (omega arith) (old.each sought some below))
+      ]
+
+  pushed_order : (slot sought : ℕ) → slot < length (numbers ++ number ∷ []) → IsMarked marks slot → 1 ≤ sought
+      → sought ≤ get_or (numbers ++ number ∷ []) slot 0
+      → HasBefore marks (numbers ++ number ∷ []) (slot + 1) sought
+  pushed_order slot sought within marked some low =
+      elim (cases_lt slot (length numbers)) [
+        | inl lower ↦
+            let was : sought ≤ get_or numbers slot 0 = rw (before slot lower) at low in
+            kept (slot + 1) sought (omega arith) (old.order slot sought lower marked some was)
+        | inr higher ↦
+            let last = last_or slot within higher in
+            let most = is.most (rw last marked) in
+            let own = here slot last in
+            subst (λ n. HasBefore marks (numbers ++ number ∷ []) (n + 1) sought) last
+            (pushed_each sought some (omega arith))
+      ]
+
   pub pushed : NumbersSoFar parents marks (numbers ++ number ∷ []) next
   pushed = record {
     few = let len = length_push numbers number in let bound = is.few in omega arith;
@@ -87,6 +135,10 @@ module _ (parents : List ℕ) (marks : List Bool) (numbers : List ℕ) (count nu
     most = each (λ slot n. IsMarked marks slot → n ≤ next)
         (λ slot lower marked. let most = old.most slot lower marked in let rises = is.rises in omega arith) is.most;
     same = pushed_same;
+    each = λ sought some low.
+        subst (λ n. HasBefore marks (numbers ++ number ∷ []) n sought) (sym (length_push numbers number))
+        (pushed_each sought some low);
+    order = pushed_order;
   }
 
 module _ (parents : List ℕ) (marks : List Bool) (numbers : List ℕ) (count : ℕ)
@@ -103,6 +155,7 @@ module _ (parents : List ℕ) (marks : List Bool) (numbers : List ℕ) (count : 
         least = λ marked. absurd (unmarked marked);
         most = λ marked. absurd (unmarked marked);
         same = λ marked. absurd (unmarked marked);
+        top = λ higher above low. absurd (omega arith);
       })
 
   module _ (root : ℕ) (lower : (slot : ℕ) → slot < length numbers → root_of parents slot ≤ slot)
@@ -121,6 +174,7 @@ module _ (parents : List ℕ) (marks : List Bool) (numbers : List ℕ) (count : 
               let most = old.most one below one_marked in
               let low = lower one below in
               (λ equal. absurd (omega arith), λ equal. absurd (omega arith));
+          top = λ higher above low. (marked, omega arith);
         })
 
     -- a slot whose root is another one: its class
@@ -138,6 +192,7 @@ module _ (parents : List ℕ) (marks : List Bool) (numbers : List ℕ) (count : 
           same = λ there one below one_marked.
               subst (λ n. (get_or numbers one 0 ≡ get_or numbers root 0) ↔ (root_of parents one ≡ n)) (own ∙ is)
               (old.same one root below within one_marked root_marked);
+          top = λ higher above low. absurd (omega arith);
         })
 
     -- the number that a marked slot gets
@@ -154,3 +209,27 @@ module _ (parents : List ℕ) (marks : List Bool) (numbers : List ℕ) (count : 
               (sym (chosen ∙ cond-false (ltb root (length numbers)) _ _ (le-ltb root (length numbers) above)))
               (root_pushed (omega arith))
         ]
+
+-- the numbers of all slots
+pub numbers_whole : (parents : List ℕ) (marks : List Bool) (numbers : List ℕ) (count : ℕ)
+    → NumbersSoFar parents marks numbers count → length numbers ≡ length marks → length marks < FIELD_MAX
+    → AreSlotNumbers parents marks numbers
+numbers_whole parents marks numbers count so_far all few =
+    let within : (slot : ℕ) → IsMarked marks slot → slot < length numbers = λ slot marked.
+    elim (cases_lt slot (length numbers)) [
+      | inl lower ↦ lower
+      | inr higher ↦ absurd (false≢true (sym (get_or_past marks slot false (omega arith)) ∙ marked))
+    ] in
+    record {
+      len = all;
+      idle = λ slot lower unmarked. so_far.idle slot (omega arith) unmarked;
+      class = λ slot marked.
+          let most = so_far.most slot (within slot marked) marked in
+          let bound = so_far.few in
+          record { least = so_far.least slot (within slot marked) marked; most = omega arith };
+      same = λ one other one_marked other_marked.
+          so_far.same one other (within one one_marked) (within other other_marked) one_marked other_marked;
+      order = λ slot number marked some low.
+          let before = so_far.order slot number (within slot marked) marked some low in
+          (before.0, omega (arith, before.1), before.2, before.3);
+    }

@@ -38,13 +38,20 @@ pub record IsClass (number : ℕ) : Type 0 where
 abbrev pub IsClassWhere : (Holds : Type 0) → (other number : ℕ) → Type 0
 IsClassWhere Holds other number = (Holds × IsClass number) ⊎ ((Holds → ⊥) × (number ≡ other))
 
--- the labels of a relation between slots and addresses: which numbers are used is free
-pub record AreLabels (joins : (slot address : ℕ) → Type 0) (code_words : ℕ) (tary bary : List ℕ) : Type 0 where
+-- the labels of a relation between so many slots and code words: which numbers are used is free
+pub record AreNumbers (joins : (slot address : ℕ) → Type 0) (count code_words : ℕ) (tary bary : List ℕ) : Type 0 where
   pub words : length tary ≡ code_words
-  pub slots : length bary ≡ slots_of code_words
+  pub slots : length bary ≡ count
   pub targets : (word : ℕ) → word < code_words → IsClassWhere (IsReached joins (4 * word)) 0 (slice_index tary word)
-  pub branches : (slot : ℕ) → slot < slots_of code_words
-      → IsClassWhere (IsUsed joins slot) FIELD_MAX (slice_index bary slot)
-  pub classes : (slot word : ℕ) → slot < slots_of code_words → word < code_words
-      → IsUsed joins slot → IsReached joins (4 * word)
+  pub branches : (slot : ℕ) → slot < count → IsClassWhere (IsUsed joins slot) FIELD_MAX (slice_index bary slot)
+  pub classes : (slot word : ℕ) → slot < count → word < code_words → IsUsed joins slot → IsReached joins (4 * word)
       → (slice_index bary slot ≡ slice_index tary word) ↔ Chain joins slot (4 * word)
+
+-- the labels of the slots and code words of a table
+abbrev pub AreLabels : (joins : (slot address : ℕ) → Type 0) → (code_words : ℕ) → (tary bary : List ℕ) → Type 0
+AreLabels joins code_words tary bary = AreNumbers joins (slots_of code_words) code_words tary bary
+
+-- classes are numbered from 1 in the order of their least slots: a slot of each lower class comes before one of a class
+abbrev pub AreInOrder : (joins : (slot address : ℕ) → Type 0) → (bary : List ℕ) → Type 0
+AreInOrder joins bary = (slot number : ℕ) → IsUsed joins slot → 1 ≤ number → number ≤ slice_index bary slot
+    → (earlier : ℕ) × (earlier ≤ slot) × IsUsed joins earlier × (slice_index bary earlier ≡ number)

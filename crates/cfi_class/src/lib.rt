@@ -1,8 +1,9 @@
 //! Class numbers of branch slots and code addresses: what chains of edges join has one class.
 //!
 //! Stands on `cfi_word`; `cfi_policy` calls it. Proved: a slot and a code address get one number exactly where a chain
-//! of edges joins them, and exactly those without an edge get the number that says so; whether a chain joins two is
-//! told exactly. Only tested: that classes are numbered in the order of their least slots. Open: nothing.
+//! of edges joins them, and exactly those without an edge get the number that says so; `numbers` counts classes in the
+//! order of their least slots; whether a chain joins two is told exactly. Only tested: that `label` counts them so too.
+//! Open: nothing.
 #![tactic(auto)]
 
 mod forest;
@@ -14,4 +15,4 @@ mod sweep;
 mod tests;
 
 pub use joined::are_joined;
-pub use labels::label;
+pub use labels::{label, numbers};

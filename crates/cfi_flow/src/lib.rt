@@ -2,8 +2,8 @@
 //!
 //! A node is what may be entered: a function, or all functions that pointers of one type may lead to. Stands on
 //! `cfi_word`. Proved: the edges of a flow are exactly those that it states, in order, each once; and a few of them,
-//! not one for each pair, have chains that join what any edge joins. Only tested: that ample memory is enough.
-//! Open: nothing.
+//! not one for each pair, have chains that join what any edge joins; the rows of links are where the links from each
+//! number lead. Only tested: that ample memory is enough. Open: nothing.
 #![tactic(auto)]
 
 mod edges;
@@ -17,3 +17,4 @@ mod tests;
 
 pub use edges::{all_edges, few_edges};
 pub use links::{Flow, Link};
+pub use rows::{Rows, rows_of};

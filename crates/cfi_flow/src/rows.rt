@@ -8,9 +8,9 @@ use crate::links::Link;
 use std::alloc::{AllocError, Global};
 use std::marker::Model;
 
-// For each number from 0 a list of numbers.
+/// For each number from 0 a list of numbers.
 #[derive(Debug, Drop)]
-pub(crate) struct Rows {
+pub struct Rows {
     rows: Vec<Vec<u32>>,
 }
 
@@ -45,15 +45,15 @@ impl Rows {
         Ok(())
     }
 
-    // How many rows there are.
-    pub(crate) fn count(&self) -> usize
+    /// How many rows there are.
+    pub fn count(&self) -> usize
         ensures { result ≡ length self.now }
     {
         self.rows.len()
     }
 
-    // The numbers of a row.
-    pub(crate) fn row(&self, row: u32) -> &[u32]
+    /// The numbers of a row.
+    pub fn row(&self, row: u32) -> &[u32]
         requires { row < length self.now }
         ensures { result.now ≡ slice_index_or self.now row [] }
     {
@@ -61,8 +61,8 @@ impl Rows {
     }
 }
 
-// Where the links from each number below the count lead.
-pub(crate) fn rows_of(alloc: Global, count: u32, links: &[Link]) -> Result<Rows, AllocError>
+/// Where the links from each number below the count lead, in their order.
+pub fn rows_of(alloc: Global, count: u32, links: &[Link]) -> Result<Rows, AllocError>
     requires { BeginBelow count links.now }
     ensures { IfOk result (λ rows. AreRows count links.now rows) }
 {

@@ -3,7 +3,7 @@ pub mod SpotLemmas
 mod AddsLemmas
 mod PlaceLemmas
 mod FactLemmas
-mod BoundLemmas
+pub mod BoundLemmas
 mod BranchLemmas
 mod TellLemmas
 mod ReadLemmas
@@ -15,5 +15,5 @@ mod DirectLemmas
 mod ClassLemmas
 mod BelowLemmas
 pub mod EndLemmas
-mod TestLemmas
-mod TestRows
+pub mod TestLemmas
+pub mod TestRows

@@ -2,6 +2,7 @@
 use Rattle.std.proofs.Common.{◌≡◌, ℕ, ◌<◌, Bool, true, false, ℤ, pos, negsuc, List, [], ◌∷◌, map, refl, arith, rules}
 use Rattle.cfi_unit.specs.declared.unit.Unit.{Unit as CodeUnit}
 use Rattle.cfi_unit.specs.declared.unit.Unit.TheVariants as units
+use Rattle.cfi_aux.specs.declared.placed.Placed.{Placed}
 use Rattle.cfi_aux.specs.declared.records.Kind.{Kind}
 use Rattle.cfi_aux.specs.declared.records.Kind.TheVariants as kinds
 use Rattle.cfi_graph.specs.Shaped.{IsPart, IsPlace, IsNamed, Precedes}
@@ -9,7 +10,7 @@ use Rattle.cfi_graph.specs.Reading.{HaveGraph}
 use Rattle.cfi_graph.specs.HandMade.{function_of, placed_of, void_and_function, function_and_void}
 use Rattle.cfi_graph.proofs.TestLemmas.{all_by_recursion, pairs_by_recursion, IsHandMade, hand_made_is_shaped, one_has_graph, two_have_graph, void_first, void_last}
 
--- a call of f, one of g, and one through a pointer to their type; f and g are taken and only return
+-- a call of f, one of g, and one through a pointer to a type, of which f and g may be; both are taken and only return
 abbrev pub call_code : List CodeUnit
 call_code =
     units.Jump true (pos 68)
@@ -23,11 +24,11 @@ call_code =
 abbrev pub call_rows : List (ℕ × ℕ × ℕ × Bool)
 call_rows = (0, 17, 1, false) ∷ (17, 14, 1, true) ∷ (31, 14, 1, true) ∷ []
 
-abbrev pub call_kinds : List Kind
-call_kinds = kinds.Call 1 ∷ kinds.Return ∷ kinds.Return ∷ []
+abbrev pub call_kinds : (node : ℕ) → List Kind
+call_kinds node = kinds.Call node ∷ kinds.Return ∷ kinds.Return ∷ []
 
-call_made : IsHandMade 16 0 call_code call_rows call_kinds void_and_function
-call_made = record {
+call_made : (node : ℕ) → node < 2 → IsHandMade 16 0 call_code call_rows (call_kinds node) void_and_function
+call_made node below = record {
   fit = search rules;
   parts = all_by_recursion (IsPart call_code) (map function_of call_rows) (
     record { from = 0; to = 4; some = omega arith; within = omega arith; begins = refl; ends = refl },
@@ -42,7 +43,7 @@ call_made = record {
   order = pairs_by_recursion Precedes (map function_of call_rows) ((omega arith, (omega arith, tt)), ((omega arith, tt), (tt, tt)));
   checks = refl;
   slots = (refl, (refl, (refl, tt)));
-  named = all_by_recursion (IsNamed call_code 2) call_kinds (omega arith, (tt, (tt, tt)));
+  named = all_by_recursion (IsNamed call_code 2) (call_kinds node) (below, (tt, (tt, tt)));
   typed = all_by_recursion (λ f. f.ty < 2) (map function_of call_rows) (omega arith, (omega arith, (omega arith, tt)));
   begins = omega arith;
   ends = omega arith;
@@ -182,23 +183,47 @@ switch_made = record {
   ends = omega arith;
 }
 
-pub call_graph : HaveGraph (placed_of 16 0 call_code call_rows call_kinds void_and_function ∷ [])
-call_graph =
-    one_has_graph (placed_of 16 0 call_code call_rows call_kinds void_and_function)
-    (hand_made_is_shaped 16 0 call_code call_rows call_kinds void_and_function call_made) void_first (omega arith)
+-- node 1 is the type of f and g, node 0 is Void
+abbrev pub call_modules : (node : ℕ) → List Placed
+call_modules node = placed_of 16 0 call_code call_rows (call_kinds node) void_and_function ∷ []
 
-pub tail_graph : HaveGraph (placed_of 16 0 tail_code tail_rows tail_kinds void_and_function ∷ [])
+pub call_graph : (node : ℕ) → node < 2 → HaveGraph (call_modules node)
+call_graph node below =
+    one_has_graph (placed_of 16 0 call_code call_rows (call_kinds node) void_and_function)
+    (hand_made_is_shaped 16 0 call_code call_rows (call_kinds node) void_and_function (call_made node below)) void_first
+    (omega arith)
+
+abbrev pub tail_modules : List Placed
+tail_modules = placed_of 16 0 tail_code tail_rows tail_kinds void_and_function ∷ []
+
+pub tail_graph : HaveGraph tail_modules
 tail_graph =
     one_has_graph (placed_of 16 0 tail_code tail_rows tail_kinds void_and_function)
     (hand_made_is_shaped 16 0 tail_code tail_rows tail_kinds void_and_function tail_made) void_first (omega arith)
 
-pub loop_graph : HaveGraph (placed_of 16 0 loop_code loop_rows loop_kinds void_and_function ∷ [])
+abbrev pub loop_modules : List Placed
+loop_modules = placed_of 16 0 loop_code loop_rows loop_kinds void_and_function ∷ []
+
+pub loop_graph : HaveGraph loop_modules
 loop_graph =
     one_has_graph (placed_of 16 0 loop_code loop_rows loop_kinds void_and_function)
     (hand_made_is_shaped 16 0 loop_code loop_rows loop_kinds void_and_function loop_made) void_first (omega arith)
 
-pub switch_graph : HaveGraph (placed_of 16 0 pointer_code pointer_rows pointer_kinds void_and_function
-    ∷ placed_of 31 1 switch_code switch_rows switch_kinds function_and_void ∷ [])
+abbrev pub pointer_modules : List Placed
+pointer_modules = placed_of 16 0 pointer_code pointer_rows pointer_kinds void_and_function ∷ []
+
+pub pointer_graph : HaveGraph pointer_modules
+pointer_graph =
+    one_has_graph (placed_of 16 0 pointer_code pointer_rows pointer_kinds void_and_function)
+    (hand_made_is_shaped 16 0 pointer_code pointer_rows pointer_kinds void_and_function pointer_made) void_first
+    (omega arith)
+
+abbrev pub switch_modules : List Placed
+switch_modules =
+    placed_of 16 0 pointer_code pointer_rows pointer_kinds void_and_function
+    ∷ placed_of 31 1 switch_code switch_rows switch_kinds function_and_void ∷ []
+
+pub switch_graph : HaveGraph switch_modules
 switch_graph =
     two_have_graph (placed_of 16 0 pointer_code pointer_rows pointer_kinds void_and_function)
     (placed_of 31 1 switch_code switch_rows switch_kinds function_and_void)

@@ -4,7 +4,7 @@
 //! edges of modules are exactly those of `specs/Direct.antt`, in order, each once; a few of them have chains that join
 //! what any joins; the units of a module's code are read with the words at which they stand; shaped modules, each of
 //! which follows the one before, are apart; the policy allows each direct edge; a graph can be made of some module.
-//! Only tested: nothing. Open: tests of the edges.
+//! Only tested, in `cfi_policy`: the edges of modules that are written by hand. Open: nothing.
 #![tactic(auto)]
 
 mod branch_facts;

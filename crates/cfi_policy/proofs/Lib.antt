@@ -1,4 +1,10 @@
 mod CodeLemmas
-mod TestLemmas
-mod SpansLemmas
 mod EdgeLemmas
+mod GroupLemmas
+mod IdleLemmas
+mod MemberLemmas
+mod OneLemmas
+mod OrderLemmas
+mod SpansLemmas
+mod TestLemmas
+mod WithinLemmas

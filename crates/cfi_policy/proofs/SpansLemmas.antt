@@ -2,7 +2,7 @@
 use Rattle.std.proofs.Common.{◌≡◌, ◌↔◌, ◌⊎◌, ℕ, zero, suc, ◌+◌, ◌*◌, ◌<◌, List, get_or, inl, inr}
 use Rattle.cfi_word.specs.Chain.{ChainOf, Chain}
 use Rattle.cfi_word.specs.Table.{slots_of}
-use Rattle.cfi_class.specs.Labels.{IsReached, IsUsed, IsClassWhere, AreLabels}
+use Rattle.cfi_class.specs.Labels.{IsReached, IsUsed, IsClassWhere, AreNumbers, AreInOrder, AreLabels}
 use Rattle.cfi_class.specs.Linked.{End, Linked}
 use Rattle.cfi_class.specs.Linked.End.{Slot, Address}
 use Rattle.cfi_class.specs.Linked.Linked.{same, to_address, to_slot}
@@ -22,6 +22,22 @@ Linked-reverse : (joins : (slot address : ℕ) → Type 0) {one other : End} →
 Linked-reverse joins same = same
 Linked-reverse joins (to_address edge way) = Linked-append joins (Linked-reverse joins way) (to_slot edge same)
 Linked-reverse joins (to_slot edge way) = Linked-append joins (Linked-reverse joins way) (to_address edge same)
+
+-- slots that have an address in common have all
+pub joined_alike : (joins : (slot address : ℕ) → Type 0) (one other shared : ℕ) → Chain joins one shared
+    → Chain joins other shared → (address : ℕ) → Chain joins one address ↔ Chain joins other address
+joined_alike joins one other shared mine theirs address =
+    let from_one = linked_from_chain joins mine.more one shared mine.chain in
+    let from_other = linked_from_chain joins theirs.more other shared theirs.chain in (
+      λ chain.
+          let way = chain_from_Linked joins (Linked-append joins from_other (Linked-append joins
+          (Linked-reverse joins from_one) (linked_from_chain joins chain.more one address chain.chain))) in
+          record { more = way.0; chain = way.1 },
+      λ chain.
+          let way = chain_from_Linked joins (Linked-append joins from_one (Linked-append joins
+          (Linked-reverse joins from_other) (linked_from_chain joins chain.more other address chain.chain))) in
+          record { more = way.0; chain = way.1 },
+    )
 
 module _ (few many : (slot address : ℕ) → Type 0) (spans : Spans few many) where
   wider : (more slot address : ℕ) → ChainOf few more slot address → ChainOf many more slot address
@@ -77,10 +93,10 @@ module _ (few many : (slot address : ℕ) → Type 0) (spans : Spans few many) w
         | inr none ↦ inr (λ many. none.0 (both.1 many), none.1)
       ]
 
-  -- the labels of the few edges are those of the many
-  pub spanned_labels : (code_words : ℕ) (tary bary : List ℕ) → AreLabels few code_words tary bary
-      → AreLabels many code_words tary bary
-  spanned_labels code_words tary bary labels = record {
+  -- the numbers of the few edges are those of the many
+  pub spanned_numbers : (count code_words : ℕ) (tary bary : List ℕ) → AreNumbers few count code_words tary bary
+      → AreNumbers many count code_words tary bary
+  spanned_numbers count code_words tary bary labels = record {
     words = labels.words;
     slots = labels.slots;
     targets = λ word within. class_where (IsReached few (4 * word)) (IsReached many (4 * word)) 0 (get_or tary word 0)
@@ -93,3 +109,13 @@ module _ (few many : (slot address : ℕ) → Type 0) (spans : Spans few many) w
         let chains = same_chains slot (4 * word) in
         (λ equal. chains.0 (both.0 equal), λ chain. both.1 (chains.1 chain));
   }
+
+  -- and so are those of a table
+  pub spanned_labels : (code_words : ℕ) (tary bary : List ℕ) → AreLabels few code_words tary bary
+      → AreLabels many code_words tary bary
+  spanned_labels code_words = spanned_numbers (slots_of code_words) code_words
+
+  pub spanned_order : (bary : List ℕ) → AreInOrder few bary → AreInOrder many bary
+  spanned_order bary order slot number used some low =
+      let earlier = order slot number ((same_used slot).1 used) some low in
+      (earlier.0, earlier.1, (same_used earlier.0).0 earlier.2, earlier.3)

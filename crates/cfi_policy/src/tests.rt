@@ -1,10 +1,14 @@
 ghost use Rattle.std.specs.Prelude.{◌≡◌, IfOk};
+ghost use Rattle.cfi_graph.specs.Reading.{HaveGraph};
+ghost use Rattle.cfi_policy.specs.Image.{HaveImage};
 
-use crate::image_from;
+use crate::made::{call_of_another, call_of_nothing, calls, mutual_tail_calls, tail_call};
+use crate::{Group, allowed, groups, image_from, image_of};
 use cfi_aux::Placed;
+use cfi_graph::{edges, spanning};
 use cfi_list::Items;
 use cfi_types::TypeTable;
-use cfi_word::Layout;
+use cfi_word::{Edge, Image, Layout};
 use elf_read::Bytes;
 use std::alloc::{AllocError, Global};
 use std::test::Fail;
@@ -41,5 +45,126 @@ fn image(rt: HostRuntime) -> Result<(), Fail> {
     assert_eq!(rt; image.tary.as_slice(), tary.as_slice());
     let bary = vec![in rt.alloc(); 16383; 74]?;
     assert_eq!(rt; image.bary.as_slice(), bary.as_slice());
+    Ok(())
+}
+
+// Whether these are the edges, by slot and address.
+fn are_edges(edges: &[Edge], rows: &[(u32, u32)]) -> bool {
+    edges.len() == rows.len()
+        && edges
+            .iter()
+            .zip(rows)
+            .all(|(edge, row)| edge.branch == row.0 && edge.target == row.1)
+}
+
+// Whether these are the groups, by slots and addresses.
+fn are_groups(groups: &[Group], rows: &[(&[u32], &[u32])]) -> bool {
+    groups.len() == rows.len()
+        && groups.iter().zip(rows).all(|(group, row)| group.branches.as_slice() == row.0
+            && group.targets.as_slice() == row.1)
+}
+
+// Whether the policy allows what the classes of the image allow, from each of three slots to each of some addresses.
+fn agree(alloc: Global, modules: &[Placed], image: &Image) -> Result<bool, AllocError>
+    requires { HaveGraph modules.now }
+{
+    let mut agree = true;
+    for slot in 0..3 {
+        for word in [17, 18, 33] {
+            let joined = allowed(alloc, modules, slot, 4 * word)?;
+            let branch = image.bary.as_slice().get(slot as usize);
+            let target = image.tary.as_slice().get(word as usize);
+            agree = agree && joined == (branch == target);
+        }
+    }
+    Ok(agree)
+}
+
+// Whether these are the edges and the groups of the modules, and their image and their policy agree.
+fn is_policy(
+    alloc: Global,
+    modules: &[Placed],
+    pairs: &[(u32, u32)],
+    rows: &[(&[u32], &[u32])],
+) -> Result<bool, Fail>
+    requires { HaveImage modules.now 1024 }
+{
+    let all = edges(alloc, modules)?;
+    let found = groups(alloc, modules)?;
+    let layout = Layout::new(1024)?;
+    let image = image_of(alloc, modules, &layout)?;
+    Ok(
+        are_edges(all.as_slice(), pairs)
+            && are_groups(found.as_slice(), rows)
+            && agree(alloc, modules, &image)?,
+    )
+}
+
+// Edges, groups and policy, by hand from what the modules are; `made.rt` has them.
+#[test]
+fn policies(rt: HostRuntime) -> Result<(), Fail> {
+    let alloc = rt.alloc();
+    // f is at 0x84, g at 0xbc, the addresses after the calls are 0x44, 0x48 and 0x80.
+    let modules = calls(alloc, 1)?;
+    let pairs = [
+        (0, 0x84),
+        (0, 0xbc),
+        (1, 0x44),
+        (1, 0x80),
+        (2, 0x48),
+        (2, 0x80),
+    ];
+    let rows: [(&[u32], &[u32]); 2] = [(&[0], &[0x84, 0xbc]), (&[1, 2], &[0x44, 0x48, 0x80])];
+    assert!(rt; is_policy(alloc, &modules, &pairs, &rows)?, "calls");
+    assert!(rt; allowed(alloc, &modules, 1, 0x48)?, "by a chain");
+    assert!(rt; !allowed(alloc, &modules, 1, 0x84)?, "by none");
+    Ok(())
+}
+
+#[test]
+fn policies_of_branches_that_go_nowhere(rt: HostRuntime) -> Result<(), Fail> {
+    let alloc = rt.alloc();
+    // The pointer is to no function's type, so its branch may go nowhere, and no call shares a return.
+    let modules = calls(alloc, 0)?;
+    let pairs = [(1, 0x44), (2, 0x48)];
+    let rows: [(&[u32], &[u32]); 3] = [(&[1], &[0x44]), (&[2], &[0x48]), (&[0], &[])];
+    assert!(rt;
+        is_policy(alloc, &modules, &pairs, &rows)?,
+        "calls, one of nothing"
+    );
+    Ok(())
+}
+
+#[test]
+fn policies_of_tail_calls(rt: HostRuntime) -> Result<(), Fail> {
+    let alloc = rt.alloc();
+    // The return of g goes to after the call of f.
+    let modules = tail_call(alloc)?;
+    let rows: [(&[u32], &[u32]); 1] = [(&[0], &[0x44])];
+    assert!(rt; is_policy(alloc, &modules, &[(0, 0x44)], &rows)?, "one");
+    let modules = mutual_tail_calls(alloc)?;
+    let rows: [(&[u32], &[u32]); 1] = [(&[0, 1], &[0x44])];
+    assert!(rt;
+        is_policy(alloc, &modules, &[(0, 0x44), (1, 0x44)], &rows)?,
+        "mutual"
+    );
+    Ok(())
+}
+
+#[test]
+fn policies_of_pointers(rt: HostRuntime) -> Result<(), Fail> {
+    let alloc = rt.alloc();
+    let modules = call_of_nothing(alloc)?;
+    let rows: [(&[u32], &[u32]); 1] = [(&[0], &[])];
+    assert!(rt; is_policy(alloc, &modules, &[], &rows)?, "nothing");
+    // The function is at 0x7c, its return at 0xb4, the address after the call is 0x78.
+    let modules = call_of_another(alloc)?;
+    let pairs = [(0, 0x7c), (1, 0xb4), (2, 0x78)];
+    let rows: [(&[u32], &[u32]); 3] = [(&[0], &[0x7c]), (&[1], &[0xb4]), (&[2], &[0x78])];
+    assert!(rt;
+        is_policy(alloc, &modules, &pairs, &rows)?,
+        "another module's"
+    );
+    assert!(rt; are_edges(&spanning(alloc, &modules)?, &pairs), "few");
     Ok(())
 }

@@ -4,4 +4,7 @@ pub mod Bare
 pub mod Elf
 pub mod Instr
 pub mod Link
+pub mod Place
+pub mod Plan
 pub mod Refusal
+pub mod Verify

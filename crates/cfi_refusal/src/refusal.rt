@@ -7,10 +7,16 @@ use crate::bare::put_bare;
 use crate::elf::put_elf;
 use crate::instr::put_instr;
 use crate::link::put_link;
+use crate::place::put_place;
+use crate::plan::put_plan;
+use crate::verify::put_verify_fault;
 use cfi_aux::AuxFault;
 use cfi_bare::Refusal as BareRefusal;
 use cfi_instr::InstrFault;
 use cfi_link::LinkFault;
+use cfi_place::PlaceFault;
+use cfi_plan::PlanFault;
+use cfi_verify::VerifyFault;
 use elf_read::ElfFault;
 use rv_asm::AsmFault;
 use std::alloc::AllocError;
@@ -30,6 +36,12 @@ pub enum Refusal {
     Asm(AsmFault),
     /// As modules to be linked.
     Link(LinkFault),
+    /// As a plan.
+    Plan(PlanFault),
+    /// As a module to be placed.
+    Place(PlaceFault),
+    /// As a placed module.
+    Verify(VerifyFault),
 }
 
 /// Appends the words of a refusal: the layer's name, the fault's name, and the fault's fields.
@@ -58,5 +70,14 @@ pub fn put_refusal(text: &mut String, refusal: &Refusal) -> Result<(), AllocErro
             text.push_str("link ")?;
             put_link(text, fault)
         }
+        Refusal::Plan(fault) => {
+            text.push_str("plan ")?;
+            put_plan(text, *fault)
+        }
+        Refusal::Place(fault) => {
+            text.push_str("place ")?;
+            put_place(text, fault)
+        }
+        Refusal::Verify(fault) => put_verify_fault(text, *fault),
     }
 }

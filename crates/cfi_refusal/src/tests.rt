@@ -1,10 +1,14 @@
 use crate::{Refusal, put_refusal};
 use cfi_aux::AuxFault;
-use cfi_bare::{Refusal as BareRefusal, VerifyFault};
+use cfi_bare::{Refusal as BareRefusal, VerifyFault as BareFault};
 use cfi_instr::InstrFault;
 use cfi_link::LinkFault;
+use cfi_place::PlaceFault;
+use cfi_plan::PlanFault;
 use cfi_types::TypeFault;
+use cfi_verify::VerifyFault;
 use elf_read::{ElfFault, Limit, Name};
+use rv_reloc::RelocFault;
 use std::test::Fail;
 
 #[test]
@@ -13,7 +17,7 @@ fn refusals(rt: HostRuntime) -> Result<(), Fail> {
     let rows = [
         (Refusal::Bare(BareRefusal::Length(3)), "bare Length 3"),
         (
-            Refusal::Bare(BareRefusal::Verify(VerifyFault::Target(2))),
+            Refusal::Bare(BareRefusal::Verify(BareFault::Target(2))),
             "verify Target 8",
         ),
         (Refusal::Elf(ElfFault::Short(0)), "elf Short 0"),
@@ -37,6 +41,16 @@ fn refusals(rt: HostRuntime) -> Result<(), Fail> {
             "link TooMany Words",
         ),
         (Refusal::Link(LinkFault::Twice(name)), "link Twice f"),
+        (Refusal::Plan(PlanFault::Limit(2)), "plan Limit 2"),
+        (Refusal::Place(PlaceFault::CodeFull), "place CodeFull"),
+        (
+            Refusal::Place(PlaceFault::Reloc(0, RelocFault::Range)),
+            "place Reloc 0 Range",
+        ),
+        (
+            Refusal::Verify(VerifyFault::Functions(1)),
+            "verify Functions 1",
+        ),
     ];
     for (refusal, words) in rows {
         let mut text = String::new(rt.alloc());

@@ -1,7 +1,7 @@
 //! What the commands on files make of the bytes that they read.
 //!
-//! Stands on the formats, `elf_read`, `elf_write`, `cfi_aux`, `cfi_instr`, `cfi_link`, `rv_text` and `rv_asm`; `cfi_top`
-//! calls it. Proved: `listing_of` gives the listing of an object's text, or the object's first fault, by
+//! Stands on the formats, `elf_read`, `elf_write`, `cfi_aux`, `cfi_instr`, `cfi_link`, `rv_text` and `rv_asm`;
+//! `cfi_top` calls it. Proved: `listing_of` gives the listing of an object's text, or the object's first fault, by
 //! `specs/Listing.antt`; `assembled` the file of the object that a source makes, or its first faulty line, by
 //! `specs/Assembling.antt`; `read_module` the module that a file is, or its first fault, by `specs/Reading.antt`, and
 //! `read_modules` those that several are, by `specs/Modules.antt`; `instrumented` the file of a file's instrumented

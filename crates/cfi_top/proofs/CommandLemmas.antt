@@ -17,7 +17,9 @@ command_from [] = None
 command_from (name ∷ []) = None
 command_from (name ∷ input ∷ []) =
     if bytes_eq name (codes "list") then Some (commands.List input)
-    else (if bytes_eq name (codes "run") then Some (commands.Run input) else None)
+    else (if bytes_eq name (codes "verify") then Some (commands.Verify input)
+    else (if bytes_eq name (codes "graph") then Some (commands.Graph input)
+    else (if bytes_eq name (codes "run") then Some (commands.Run input) else None)))
 command_from (name ∷ input ∷ output ∷ []) =
     if bytes_eq name (codes "asm") then Some (commands.Asm input output)
     else (if bytes_eq name (codes "instrument") then Some (commands.Instrument input output)
@@ -37,6 +39,8 @@ from_spelled (commands.Asm input output) number = refl
 from_spelled (commands.List input) number = refl
 from_spelled (commands.Instrument input output) number = refl
 from_spelled (commands.Link output inputs) number = linked_spelled output inputs number
+from_spelled (commands.Verify plan) number = refl
+from_spelled (commands.Graph plan) number = refl
 from_spelled (commands.Run input) number = refl
 
 -- words are one command at most

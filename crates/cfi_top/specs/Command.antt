@@ -4,6 +4,7 @@ use Rattle.cfi_args.specs.Words.{IsOperand}
 use Rattle.cfi_top.specs.declared.command.Command.{Command}
 use Rattle.cfi_top.specs.declared.command.Command.TheVariants as commands
 use Rattle.cfi_top.specs.declared.command.TheConstants.{MAX_INPUTS}
+use Rattle.cfi_top.specs.Plans.{named_files}
 
 -- the word that names a command, and the words after it
 abbrev pub name_of : Command → List ℕ
@@ -11,6 +12,8 @@ name_of (commands.Asm input output) = codes "asm"
 name_of (commands.List input) = codes "list"
 name_of (commands.Instrument input output) = codes "instrument"
 name_of (commands.Link output inputs) = codes "link"
+name_of (commands.Verify plan) = codes "verify"
+name_of (commands.Graph plan) = codes "graph"
 name_of (commands.Run input) = codes "run"
 
 abbrev pub operands_of : Command → List (List ℕ)
@@ -18,6 +21,8 @@ operands_of (commands.Asm input output) = input ∷ output ∷ []
 operands_of (commands.List input) = input ∷ []
 operands_of (commands.Instrument input output) = input ∷ output ∷ []
 operands_of (commands.Link output inputs) = output ∷ inputs
+operands_of (commands.Verify plan) = plan ∷ []
+operands_of (commands.Graph plan) = plan ∷ []
 operands_of (commands.Run input) = input ∷ []
 
 -- a command that takes any number of inputs has one at least, and not too many
@@ -40,13 +45,21 @@ abbrev pub IsReading : List (List ℕ) → Option Command → Type 0
 IsReading words None = ¬ Fits words
 IsReading words (Some command) = IsCommand words command
 
--- the files that a command reads, in order
+-- the files that a command reads first, in order
 abbrev pub inputs_of : Command → List (List ℕ)
 inputs_of (commands.Asm input output) = input ∷ []
 inputs_of (commands.List input) = input ∷ []
 inputs_of (commands.Instrument input output) = input ∷ []
 inputs_of (commands.Link output inputs) = inputs
+inputs_of (commands.Verify plan) = plan ∷ []
+inputs_of (commands.Graph plan) = plan ∷ []
 inputs_of (commands.Run input) = input ∷ []
+
+-- the files that it reads after them, in order: those that its inputs, of these bytes, name
+abbrev pub more_of : Command → (files : List (List ℕ)) → List (List ℕ)
+more_of (commands.Verify plan) (bytes ∷ []) = named_files bytes
+more_of (commands.Graph plan) (bytes ∷ []) = named_files bytes
+more_of command files = []
 
 -- the file that a command saves, where it saves one
 abbrev pub saved_name : Command → Option (List ℕ)
@@ -54,4 +67,6 @@ saved_name (commands.Asm input output) = Some output
 saved_name (commands.List input) = None
 saved_name (commands.Instrument input output) = Some output
 saved_name (commands.Link output inputs) = Some output
+saved_name (commands.Verify plan) = None
+saved_name (commands.Graph plan) = None
 saved_name (commands.Run input) = None

@@ -1,10 +1,14 @@
-ghost use Rattle.std.specs.Prelude.{◌≡◌, ◌≢◌, ◌∷◌, [], All, IfOk, codes, map};
+ghost use Rattle.std.specs.Prelude.{◌≡◌, ◌≢◌, ◌∷◌, [], length, All, IfOk, codes, map};
 ghost use Rattle.cfi_args.specs.Words.{IsOperand, texts};
-ghost use Rattle.cfi_top.specs.Command.{IsReading, inputs_of};
+ghost use Rattle.cfi_top.specs.Command.{IsReading, inputs_of, more_of};
+ghost use Rattle.cfi_top.specs.Reading.{IsShort};
 
+use crate::names::{copies_of, named_files, names_of, one_name, text_of};
+use crate::reading::only;
 use cfi_args::split_words;
 use cfi_list::Items;
 use cfi_plan::Text;
+use cfi_unit::Bytes;
 use std::alloc::{AllocError, Global};
 
 /// The most files that a command links.
@@ -39,38 +43,21 @@ pub enum Command {
         /// The modules' files, in order.
         inputs: Items<Text>,
     },
+    /// Verifies the modules of a plan.
+    Verify {
+        /// The plan's file.
+        plan: Text,
+    },
+    /// Lists the groups of the policy of a plan's modules.
+    Graph {
+        /// The plan's file.
+        plan: Text,
+    },
     /// Runs a bare file.
     Run {
         /// The bare file.
         input: Text,
     },
-}
-
-/// The name of a file.
-pub fn text_of(alloc: Global, name: &str) -> Result<Text, AllocError>
-    ensures { IfOk result (λ text. text ≡ name.now) }
-{
-    Ok(Text::from_string(name.to_string(alloc)?))
-}
-
-// A list of one name.
-fn one_name(alloc: Global, name: &Text) -> Result<Vec<Text>, AllocError>
-    ensures { IfOk result (λ names. names.items ≡ name.now ∷ []) }
-{
-    let mut names = Vec::new(alloc);
-    names.push(text_of(alloc, name.as_str())?)?;
-    Ok(names)
-}
-
-// A copy of names.
-fn copies_of(alloc: Global, names: &[Text]) -> Result<Vec<Text>, AllocError>
-    ensures { IfOk result (λ copies. copies.items ≡ names.now) }
-{
-    let mut copies = Vec::new(alloc);
-    for name in names {
-        copies.push(text_of(alloc, name.as_str())?)?;
-    }
-    Ok(copies)
 }
 
 impl Command {
@@ -83,7 +70,28 @@ impl Command {
             Command::List { input } => one_name(alloc, input),
             Command::Instrument { input, .. } => one_name(alloc, input),
             Command::Link { inputs, .. } => copies_of(alloc, inputs.as_slice()),
+            Command::Verify { plan } => one_name(alloc, plan),
+            Command::Graph { plan } => one_name(alloc, plan),
             Command::Run { input } => one_name(alloc, input),
+        }
+    }
+
+    /// The names of the files that the command reads after its inputs, in order: those that the inputs name.
+    ///
+    /// `files` are the bytes of its inputs.
+    pub fn more(&self, alloc: Global, files: &[Bytes]) -> Result<Vec<Text>, AllocError>
+        requires count { length files.now ≡ length (inputs_of self.now) }
+        requires short { All IsShort files.now }
+        ensures { IfOk result (λ names. names.items ≡ more_of self.now files.now) }
+    {
+        match self {
+            Command::Asm { .. } => Ok(Vec::new(alloc)),
+            Command::List { .. } => Ok(Vec::new(alloc)),
+            Command::Instrument { .. } => Ok(Vec::new(alloc)),
+            Command::Link { .. } => Ok(Vec::new(alloc)),
+            Command::Verify { .. } => named_files(alloc, only(files)),
+            Command::Graph { .. } => named_files(alloc, only(files)),
+            Command::Run { .. } => Ok(Vec::new(alloc)),
         }
     }
 }
@@ -96,6 +104,12 @@ fn unary(alloc: Global, name: &str, operand: &str) -> Result<Option<Command>, Al
     let input = text_of(alloc, operand)?;
     if name == "list" {
         return Ok(Some(Command::List { input }));
+    }
+    if name == "verify" {
+        return Ok(Some(Command::Verify { plan: input }));
+    }
+    if name == "graph" {
+        return Ok(Some(Command::Graph { plan: input }));
     }
     if name == "run" {
         return Ok(Some(Command::Run { input }));
@@ -123,17 +137,6 @@ fn binary(
         return Ok(Some(Command::Instrument { input, output }));
     }
     Ok(None)
-}
-
-// The names that words are.
-fn names_of(alloc: Global, words: &[&str]) -> Result<Vec<Text>, AllocError>
-    ensures { IfOk result (λ names. names.items ≡ map (λ word. word.now) words.now) }
-{
-    let mut names = Vec::new(alloc);
-    for word in words {
-        names.push(text_of(alloc, word)?)?;
-    }
-    Ok(names)
 }
 
 // The command that links.

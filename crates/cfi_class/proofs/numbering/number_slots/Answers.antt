@@ -1,10 +1,26 @@
-use Rattle.std.proofs.Common.{◌≡◌, ℕ, ◌+◌, ◌<◌, ◌≤◌, cond, ltb, [], ◌∷◌, ◌++◌, length, get_or, sym, ap, subst, ◌∙◌, arith}
+use Rattle.std.proofs.Common.{◌≡◌, ℕ, ◌+◌, ◌<◌, ◌≤◌, cond, ltb, false, [], ◌∷◌, ◌++◌, length, get_or, sym, ap, subst, ◌∙◌, arith}
 use Rattle.std.proofs.lemmas.List.{length_push}
+use Rattle.cfi_word.specs.declared.ids.TheConstants.{FIELD_MAX}
 use Rattle.cfi_class.specs.Forest.{HasSameRoots, root_of}
 use Rattle.cfi_class.specs.Numbering.{IsMarked}
 use Rattle.cfi_class.proofs.ForestLemmas.{root_of-low, root_of-root_of}
-use Rattle.cfi_class.proofs.NumberingLemmas.{number_pushed}
+use Rattle.cfi_class.proofs.NumberingLemmas.{idle_pushed, number_pushed, numbers_whole}
 use Rattle.cfi_class.proofs.numbering.number_slots.Goals as goal
+
+-- one more slot without an edge
+pub loop-slot-preserved-then-not-is_used : goal.loop-slot-preserved-then-not-is_used
+loop-slot-preserved-then-not-is_used c =
+    let old = c.loop-slot.invariant in
+    let numbers = c.loop-slot.numbers.items in
+    let idle : get_or c.args.used.now (length numbers) false ≡ false =
+    subst (λ n. get_or c.args.used.now n false ≡ false) (sym old.place) c.if-not-is_used.true in
+    let pushed : c.push.new.self.items ≡ numbers ++ FIELD_MAX ∷ [] = c.in_ok-push.ensures.items in
+    record {
+      place = ap length pushed ∙ length_push numbers _ ∙ ap (λ n. n + 1) old.place;
+      len = old.len;
+      roots = old.roots;
+      numbers = rw pushed (idle_pushed c.args.forest.now c.args.used.now numbers c.loop-slot.count old.numbers idle);
+    }
 
 -- one more slot with an edge has the number of its root
 pub loop-slot-preserved : goal.loop-slot-preserved
@@ -45,3 +61,10 @@ loop-slot-preserved c =
           (number_pushed parents c.args.used.now numbers c.loop-slot.count old.numbers root low marked
           (is_root ∙ ap (root_of parents) (sym place)) c.number_of-number.result chosen (omega arith) root_marked own);
     }
+
+-- all slots have their numbers
+pub returns-clause-ok : goal.returns-clause-ok
+returns-clause-ok c =
+    let so_far = c.loop-slot.invariant in
+    numbers_whole c.args.forest.now c.args.used.now c.loop-slot.numbers.items c.loop-slot.count so_far.numbers
+    (omega (arith, so_far.place, c.loop-slot-test.false, c.loop-slot.auto.slot-end)) (omega (arith, c.requires.few))

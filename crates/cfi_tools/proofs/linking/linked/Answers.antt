@@ -8,4 +8,5 @@ pub link-requires : goal.link-requires
 link-requires c =
     let read = c.in_ok-modules.ensures in
     subst AreModules (sym c.as_slice.ensures)
-    (linkable c.args.files.now c.in_ok-modules.modules read.ok c.requires.count read.sound c.read_can_be_written.ensures)
+    (linkable c.args.files.now c.in_ok-modules.modules read.ok c.requires.count read.sound
+    c.read_can_be_written.ensures)

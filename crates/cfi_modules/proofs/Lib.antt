@@ -1,0 +1,9 @@
+pub mod LengthLemmas
+pub mod PlacedLemmas
+pub mod NamesLemmas
+pub mod RoomLemmas
+pub mod SeriesLemmas
+pub mod OrderLemmas
+pub mod EndLemmas
+pub mod GraphLemmas
+pub mod ImageLemmas

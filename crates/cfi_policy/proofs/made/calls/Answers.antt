@@ -1,0 +1,4 @@
+use Rattle.cfi_policy.proofs.made.calls.Goals as goal
+
+pub returns : goal.returns
+returns c = ?
