@@ -3,5 +3,8 @@ pub mod Aux
 pub mod Bare
 pub mod Elf
 pub mod Instr
+pub mod Link
+pub mod Place
+pub mod Plan
 pub mod Refusal
 pub mod Verify

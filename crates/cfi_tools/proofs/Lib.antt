@@ -1,3 +1,5 @@
 pub mod ListingLemmas
 pub mod ReadingLemmas
 pub mod InstrumentingLemmas
+pub mod ModulesLemmas
+pub mod LinkingLemmas

@@ -10,26 +10,35 @@ use Rattle.cfi_top.specs.declared.answer.Answer.{Answer}
 use Rattle.cfi_top.specs.declared.answer.Answer.TheVariants as answers
 use Rattle.cfi_top.specs.declared.answer.TheConstants.{DONE, WRITE_FAULT, MEMORY}
 use Rattle.cfi_top.specs.Answer.{output_of}
-use Rattle.cfi_top.specs.Command.{IsCommand, inputs_of}
+use Rattle.cfi_top.specs.Command.{IsCommand, inputs_of, more_of}
 use Rattle.cfi_top.specs.Outside.{ShelfView, SinkView, shelf_view, IsWhole, IsBroken, status_of}
-use Rattle.cfi_top.specs.Outcome.{Refuses, IsUnrefused, IsAnswer}
+use Rattle.cfi_top.specs.Outcome.{Refuses, IsUnrefused, IsAllRead, IsAnswer}
 use Rattle.cfi_top.specs.Top.{Ends, IsSavedBy, Saves, IsValid, IsSteady}
 use Rattle.cfi_top.proofs.CommandLemmas.{one_command}
 use Rattle.cfi_top.proofs.OutsideLemmas.{kept_same, kept_puts, kept_part}
 use Rattle.cfi_top.proofs.ReadingLemmas.{same_files, unread_most, unread_unsteady}
+use Rattle.cfi_top.proofs.UnreadLemmas.{why_of}
 use Rattle.cfi_top.proofs.TopLemmas.{saves_of}
 
--- inputs that a command refuses are not valid
-refused_valid : (words : List (List ℕ)) (told : Files) (command : Command) (files : List (List ℕ)) (name : List ℕ)
-    (refusal : Refusal) → IsValid words told → IsCommand words command
-    → map told (inputs_of command) ≡ map Some files → Refuses command files name refusal → ⊥
-refused_valid words told command files name refusal v fits held refuses =
+-- files that a command refuses are not valid
+refused_valid : (words : List (List ℕ)) (told : Files) (faults misses : ℕ) (command : Command)
+    (files more : List (List ℕ)) (name : List ℕ) (refusal : Refusal) → IsValid words told → IsCommand words command
+    → IsAllRead command (shelf_view (Some told) faults misses) files more → Refuses command files more name refusal → ⊥
+refused_valid words told faults misses command files more name refusal v fits read refuses =
     let same = one_command words v.command command v.fits fits in
     let there : map told (inputs_of command) ≡ map Some v.files =
-    subst (λ (c : Command). map told (inputs_of c) ≡ map Some v.files) same v.held in
-    let equal : v.files ≡ files = same_files v.files files (sym there ∙ held) in
-    let unrefused : IsUnrefused command v.files = subst (λ (c : Command). IsUnrefused c v.files) same v.unrefused in
-    subst (IsUnrefused command) equal unrefused name refusal refuses
+    subst (λ (c : Command). map told (inputs_of c) ≡ map Some v.files) same v.inputs.held in
+    let equal : v.files ≡ files = same_files v.files files (sym there ∙ read.inputs.held) in
+    let named : map told (more_of command v.files) ≡ map Some v.more =
+    subst (λ (c : Command). map told (more_of c v.files) ≡ map Some v.more) same v.others.held in
+    let behind : map told (more_of command files) ≡ map Some v.more =
+    subst (λ (fs : List (List ℕ)). map told (more_of command fs) ≡ map Some v.more) equal named in
+    let alike : v.more ≡ more = same_files v.more more (sym behind ∙ read.others.held) in
+    let unrefused : IsUnrefused command v.files v.more =
+    subst (λ (c : Command). IsUnrefused c v.files v.more) same v.unrefused in
+    let here : IsUnrefused command files v.more =
+    subst (λ (fs : List (List ℕ)). IsUnrefused command fs v.more) equal unrefused in
+    subst (IsUnrefused command files) alike here name refusal refuses
 
 module _ (words : List (List ℕ)) (sink sink' : SinkView) (status : ℕ) where
   -- valid input over a shelf and a sink that do not fail gives 0 or 6
@@ -42,10 +51,10 @@ module _ (words : List (List ℕ)) (sink sink' : SinkView) (status : ℕ) where
   valid_of told faults misses shelf' (inr (answers.Print text, is, inl d)) v steady = inl d.0
   valid_of told faults misses shelf' (inr (answers.Save name file, is, inl d)) v steady = inl d.0
   valid_of told faults misses shelf' (inr (answers.Unread unread, is, inl d)) v steady =
-      absurd (unread_unsteady (shelf_view (Some told) faults misses) shelf' unread.name unread.cause is.2.why
-      steady.read steady.found)
+      absurd (unread_unsteady (shelf_view (Some told) faults misses) shelf' unread.name unread.cause
+      (why_of is.0 (shelf_view (Some told) faults misses) shelf' unread is.2) steady.read steady.found)
   valid_of told faults misses shelf' (inr (answers.Refused name refusal, is, inl d)) v steady =
-      absurd (refused_valid words told is.0 is.2.0 name refusal v is.1 is.2.1.held is.2.2)
+      absurd (refused_valid words told faults misses is.0 is.2.0 is.2.1 name refusal v is.1 is.2.2 is.2.3)
   valid_of told faults misses shelf' (inr (answers.Save name file, is, inr d)) v steady = absurd (steady.read d.1.1)
   valid_of told faults misses shelf' (inr (answers.Usage, is, inr d)) v steady = absurd (steady.written d.1.1)
   valid_of told faults misses shelf' (inr (answers.Ran part, is, inr d)) v steady = absurd (steady.written d.1.1)

@@ -1,6 +1,9 @@
 pub mod CommandLemmas
 pub mod OutsideLemmas
 pub mod ReadingLemmas
+pub mod UnreadLemmas
+pub mod LinkLemmas
+pub mod PlansLemmas
 pub mod OutcomeLemmas
 pub mod DoneLemmas
 pub mod TopLemmas

@@ -4,14 +4,16 @@ use Rattle.cfi_top.specs.declared.command.Command.{Command}
 use Rattle.cfi_top.specs.declared.command.Command.TheVariants as commands
 use Rattle.cfi_top.specs.declared.answer.Answer.{Answer}
 use Rattle.cfi_top.specs.declared.answer.Answer.TheVariants as answers
-use Rattle.cfi_top.specs.Command.{inputs_of, saved_name}
+use Rattle.cfi_top.specs.declared.reading.Unread.{Unread}
+use Rattle.cfi_top.specs.Command.{inputs_of, more_of, saved_name}
 use Rattle.cfi_top.specs.declared.answer.Output.{Output}
 use Rattle.cfi_top.specs.Answer.{output_of}
 use Rattle.cfi_top.specs.Outside.{ShelfView, SinkView, IsStarved, IsDelivered}
-use Rattle.cfi_top.specs.Outcome.{IsMade, IsAnswer}
+use Rattle.cfi_top.specs.Outcome.{IsMade, IsAllRead, IsWorked, GoesOn, IsOutcome, IsAnswer}
+use Rattle.cfi_top.specs.Reading.{AreRead}
 use Rattle.cfi_top.specs.Top.{Ends}
 use Rattle.cfi_top.proofs.OutsideLemmas.{IsLater, delivered_since}
-use Rattle.cfi_top.proofs.ReadingLemmas.{stops_later}
+use Rattle.cfi_top.proofs.UnreadLemmas.{first_later, read_since, stops_since}
 
 -- what stood while the shelf was read stands later too
 pub answer_later : (words : List (List ℕ)) (shelf mid shelf' : ShelfView) (answer : Answer) → shelf.faults ≤ mid.faults
@@ -22,25 +24,60 @@ answer_later words shelf mid shelf' (answers.Ran part) a b c d is = is
 answer_later words shelf mid shelf' (answers.Print text) a b c d is = is
 answer_later words shelf mid shelf' (answers.Save name bytes) a b c d is = is
 answer_later words shelf mid shelf' (answers.Unread unread) a b c d is =
-    (is.0, is.1, stops_later shelf mid shelf' (inputs_of is.0) unread a b c d is.2)
+    (is.0, is.1, first_later is.0 shelf mid shelf' unread a b c d is.2)
 answer_later words shelf mid shelf' (answers.Refused name refusal) a b c d is = is
 
 -- a file that a command saves is its output
-pub saved_is_output : (command : Command) (files : List (List ℕ)) (name file : List ℕ)
-    → IsMade command files (answers.Save name file) → saved_name command ≡ Some name
-saved_is_output (commands.Asm input output) (bytes ∷ []) name file made = ap (λ (n : List ℕ). Some n) (sym made.0)
-saved_is_output (commands.Asm input output) [] name file made = absurd made
-saved_is_output (commands.Asm input output) (a ∷ b ∷ rest) name file made = absurd made
-saved_is_output (commands.List input) [] name file made = absurd made
-saved_is_output (commands.List input) (bytes ∷ []) name file made = absurd made
-saved_is_output (commands.List input) (a ∷ b ∷ rest) name file made = absurd made
-saved_is_output (commands.Instrument input output) (bytes ∷ []) name file made =
+pub saved_is_output : (command : Command) (files more : List (List ℕ)) (name file : List ℕ)
+    → IsMade command files more (answers.Save name file) → saved_name command ≡ Some name
+saved_is_output (commands.Asm input output) (bytes ∷ []) more name file made =
     ap (λ (n : List ℕ). Some n) (sym made.0)
-saved_is_output (commands.Instrument input output) [] name file made = absurd made
-saved_is_output (commands.Instrument input output) (a ∷ b ∷ rest) name file made = absurd made
-saved_is_output (commands.Run input) [] name file made = absurd made
-saved_is_output (commands.Run input) (bytes ∷ []) name file made = absurd made
-saved_is_output (commands.Run input) (a ∷ b ∷ rest) name file made = absurd made
+saved_is_output (commands.List input) (bytes ∷ []) more name file made = absurd made
+saved_is_output (commands.Instrument input output) (bytes ∷ []) more name file made =
+    ap (λ (n : List ℕ). Some n) (sym made.0)
+saved_is_output (commands.Link output inputs) files more name file made = ap (λ (n : List ℕ). Some n) (sym made.0)
+saved_is_output (commands.Verify plan) (bytes ∷ []) more name file made = absurd made
+saved_is_output (commands.Graph plan) (bytes ∷ []) more name file made = absurd made
+saved_is_output (commands.Run input) (bytes ∷ []) more name file made = absurd made
+saved_is_output command files more name file made = absurd made
+
+-- what is made of files that are read is no file that is not
+never_unread : (command : Command) (files more : List (List ℕ)) (unread : Unread)
+    → IsMade command files more (answers.Unread unread) → ⊥
+never_unread (commands.Asm input output) (bytes ∷ []) more unread made = made
+never_unread (commands.List input) (bytes ∷ []) more unread made = made
+never_unread (commands.Instrument input output) (bytes ∷ []) more unread made = made
+never_unread (commands.Link output inputs) files more unread made = made
+never_unread (commands.Verify plan) (bytes ∷ []) more unread made = made
+never_unread (commands.Graph plan) (bytes ∷ []) more unread made = made
+never_unread (commands.Run input) (bytes ∷ []) more unread made = made
+never_unread command files more unread made = made
+
+-- a command whose files are read comes to what is made of them
+pub worked_is : (command : Command) (files more : List (List ℕ)) (shelf shelf' : ShelfView) (answer : Answer)
+    → AreRead shelf (more_of command files) more → IsWorked command files more answer
+    → GoesOn command files shelf shelf' answer
+worked_is command files more shelf shelf' answers.Usage read worked = (more, read, worked)
+worked_is command files more shelf shelf' (answers.Ran part) read worked = (more, read, worked)
+worked_is command files more shelf shelf' (answers.Print text) read worked = (more, read, worked)
+worked_is command files more shelf shelf' (answers.Save name file) read worked = (more, read, worked)
+worked_is command files more shelf shelf' (answers.Refused name refusal) read worked = (more, read, worked)
+worked_is command files more shelf shelf' (answers.Unread unread) read worked =
+    absurd (never_unread command files more unread worked)
+
+-- what it comes to once its inputs are read is what it comes to
+module _ (command : Command) (files : List (List ℕ)) (shelf mid shelf' : ShelfView) (later : IsLater shelf mid)
+    (read : AreRead shelf (inputs_of command) files) where
+  all_read : (more : List (List ℕ)) → AreRead mid (more_of command files) more → IsAllRead command shelf files more
+  all_read more others = record { inputs = read; others = read_since shelf mid _ more later others }
+
+  pub outcome_is : (answer : Answer) → GoesOn command files mid shelf' answer → IsOutcome command shelf shelf' answer
+  outcome_is answers.Usage goes = (files, goes.0, all_read goes.0 goes.1, goes.2)
+  outcome_is (answers.Ran part) goes = (files, goes.0, all_read goes.0 goes.1, goes.2)
+  outcome_is (answers.Print text) goes = (files, goes.0, all_read goes.0 goes.1, goes.2)
+  outcome_is (answers.Save name file) goes = (files, goes.0, all_read goes.0 goes.1, goes.2)
+  outcome_is (answers.Refused name refusal) goes = (files, goes.0, all_read goes.0 goes.1, goes.2)
+  outcome_is (answers.Unread unread) goes = inr (files, read, stops_since shelf mid shelf' _ unread later goes)
 
 -- an answer that was delivered ends the program
 pub ends_of : (words : List (List ℕ)) (shelf mid shelf' : ShelfView) (sink sink' : SinkView) (status : ℕ)

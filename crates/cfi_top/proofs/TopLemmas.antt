@@ -11,11 +11,12 @@ use Rattle.cfi_top.specs.Outcome.{IsAnswer}
 use Rattle.cfi_top.specs.Top.{Ends, IsRefused, IsStopped, IsSavedBy, Saves}
 use Rattle.cfi_top.proofs.OutcomeLemmas.{saved_is_output}
 use Rattle.cfi_top.proofs.ReadingLemmas.{failed_rose, missed_rose, unread_least, unread_most}
+use Rattle.cfi_top.proofs.UnreadLemmas.{why_of}
 
 -- an answer that is delivered as a file is that of a command that saves it
 pub saves_of : (words : List (List ℕ)) (shelf shelf' : ShelfView) (name file : List ℕ)
     → IsAnswer words shelf shelf' (answers.Save name file) → IsSavedBy words name
-saves_of words shelf shelf' name file is = (is.0, is.1, saved_is_output is.0 is.2.0 name file is.2.2)
+saves_of words shelf shelf' name file is = (is.0, is.1, saved_is_output is.0 is.2.0 is.2.1 name file is.2.3)
 
 module _ (words : List (List ℕ)) (shelf shelf' : ShelfView) (sink sink' : SinkView) (status : ℕ) where
   pub usage_of : Ends words shelf shelf' sink sink' status → status ≡ USAGE → ¬ Fits words
@@ -42,7 +43,7 @@ module _ (words : List (List ℕ)) (shelf shelf' : ShelfView) (sink sink' : Sink
   pub read_fault_of : Ends words shelf shelf' sink sink' status → status ≡ READ_FAULT → Rose shelf.faults shelf'.faults
   read_fault_of (inl memory) e = absurd (omega (arith, e, memory.0))
   read_fault_of (inr (answers.Unread unread, is, inl d)) e =
-      failed_rose shelf shelf' unread.name unread.cause is.2.why (sym d.0 ∙ e)
+      failed_rose shelf shelf' unread.name unread.cause (why_of is.0 shelf shelf' unread is.2) (sym d.0 ∙ e)
   read_fault_of (inr (answers.Usage, is, inl d)) e = absurd (omega (arith, e, d.0))
   read_fault_of (inr (answers.Ran part, is, inl d)) e = absurd (omega (arith, e, d.0))
   read_fault_of (inr (answers.Print text, is, inl d)) e = absurd (omega (arith, e, d.0))
@@ -53,7 +54,7 @@ module _ (words : List (List ℕ)) (shelf shelf' : ShelfView) (sink sink' : Sink
   pub missed_of : Ends words shelf shelf' sink sink' status → status ≡ NO_FILE → Rose shelf.misses shelf'.misses
   missed_of (inl memory) e = absurd (omega (arith, e, memory.0))
   missed_of (inr (answers.Unread unread, is, inl d)) e =
-      missed_rose shelf shelf' unread.name unread.cause is.2.why (sym d.0 ∙ e)
+      missed_rose shelf shelf' unread.name unread.cause (why_of is.0 shelf shelf' unread is.2) (sym d.0 ∙ e)
   missed_of (inr (answers.Usage, is, inl d)) e = absurd (omega (arith, e, d.0))
   missed_of (inr (answers.Ran part, is, inl d)) e = absurd (omega (arith, e, d.0))
   missed_of (inr (answers.Print text, is, inl d)) e = absurd (omega (arith, e, d.0))
@@ -85,10 +86,11 @@ module _ (words : List (List ℕ)) (shelf shelf' : ShelfView) (sink sink' : Sink
     command = is.0;
     fits = is.1;
     files = is.2.0;
-    read = is.2.1;
+    more = is.2.1;
+    read = is.2.2;
     name = name;
     refusal = refusal;
-    first = is.2.2;
+    first = is.2.3;
     text = d.1.1;
   }
   refused_of (inr (answers.Usage, is, inl d)) e = absurd (omega (arith, e, d.0))

@@ -1,7 +1,9 @@
 pub mod Text
 pub mod Run
 pub mod Answer
+pub mod Plans
 pub mod Command
+pub mod Refused
 pub mod Outside
 pub mod Reading
 pub mod Outcome

@@ -1,28 +1,41 @@
 -- What each command comes to, by what the shelf tells and counts before and after.
-use Rattle.std.specs.Prelude.{◌≡◌, ◌≢◌, ℕ, List, [], ◌∷◌, Err}
+use Rattle.std.specs.Prelude.{◌≡◌, ◌≢◌, ℕ, ◌⊎◌, List, [], ◌∷◌, slice_get, Some, Ok, Err}
 use Rattle.elf_read.specs.declared.fault.ElfFault.TheVariants as elf_faults
 use Rattle.rv_asm.specs.declared.fault.AsmFault.TheVariants as asm_faults
 use Rattle.rv_asm.specs.Assembled.{object_in}
 use Rattle.elf_read.specs.Fault.{IsFirstFault}
 use Rattle.cfi_bare.specs.File.{IsAccepted, IsFirstRefusal}
+use Rattle.cfi_plan.specs.declared.plan.Plan.{Plan as ModulePlan}
+use Rattle.cfi_plan.specs.declared.fault.PlanFault.TheVariants as plan_faults
+use Rattle.cfi_plan.specs.Reading.{plan_in}
 use Rattle.cfi_refusal.specs.declared.refusal.Refusal.{Refusal}
-use Rattle.cfi_refusal.specs.declared.refusal.Refusal.TheVariants.{Bare, Elf, Aux, Instr, Asm}
+use Rattle.cfi_refusal.specs.declared.refusal.Refusal.TheVariants.{Bare, Elf, Aux, Instr, Asm, Link, Plan, Place, Verify}
 use Rattle.cfi_report.specs.declared.report.GuestPart.{GuestPart}
+use Rattle.cfi_summary.specs.declared.fault.FilesFault.{FilesFault}
+use Rattle.cfi_summary.specs.declared.fault.FilesFault.TheVariants as summary
+use Rattle.cfi_summary.specs.Files.{IsFilesFault}
+use Rattle.cfi_summary.specs.Graph.{IsGraphText}
+use Rattle.cfi_summary.specs.Verified.{IsVerifiedText}
 use Rattle.cfi_tools.specs.Assembling.{IsAssembled}
 use Rattle.cfi_tools.specs.declared.reading.FileFault.{FileFault}
-use Rattle.cfi_tools.specs.declared.reading.FileFault.TheVariants as files
+use Rattle.cfi_tools.specs.declared.reading.FileFault.TheVariants as faults
 use Rattle.cfi_tools.specs.declared.instrumenting.InstrumentFault.TheVariants as instruments
 use Rattle.cfi_tools.specs.Instrumenting.{IsInstrumentedFile, IsInstrumentFault}
+use Rattle.cfi_tools.specs.declared.linking.LinkingFault.TheVariants as linkings
+use Rattle.cfi_tools.specs.Linking.{IsLinkedFile, IsLinkingFault}
 use Rattle.cfi_tools.specs.Listing.{IsObjectListing}
+use Rattle.cfi_tools.specs.Modules.{IsFirstBadFile}
 use Rattle.cfi_tools.specs.Reading.{IsFileFault}
 use Rattle.cfi_top.specs.declared.command.Command.{Command}
 use Rattle.cfi_top.specs.declared.command.Command.TheVariants as commands
 use Rattle.cfi_top.specs.declared.answer.Answer.{Answer}
 use Rattle.cfi_top.specs.declared.answer.Answer.TheVariants as answers
 use Rattle.cfi_top.specs.declared.program.TheConstants.{FUEL}
-use Rattle.cfi_top.specs.Command.{IsCommand, Fits, inputs_of}
+use Rattle.cfi_top.specs.Command.{IsCommand, Fits, inputs_of, more_of}
 use Rattle.cfi_top.specs.Outside.{ShelfView}
+use Rattle.cfi_top.specs.Plans.{IsSaid, files_of}
 use Rattle.cfi_top.specs.Reading.{AreRead, StopsAt}
+use Rattle.cfi_top.specs.declared.reading.Unread.{Unread}
 use Rattle.cfi_top.specs.Run.{IsRun}
 
 -- the bytes are accepted as these words, whose run is what the part says
@@ -31,50 +44,106 @@ pub record Justifies (bytes : List ℕ) (part : GuestPart) : Type 0 where
   pub accepted : IsAccepted bytes words
   pub run : IsRun words FUEL part
 
--- what a command makes of the bytes of its inputs
-abbrev pub IsMade : Command → (files : List (List ℕ)) → Answer → Type 0
-IsMade (commands.Asm input output) (bytes ∷ []) (answers.Save name file) = (name ≡ output) × IsAssembled bytes file
-IsMade (commands.List input) (bytes ∷ []) (answers.Print text) = IsObjectListing bytes text
-IsMade (commands.Instrument input output) (bytes ∷ []) (answers.Save name file) =
+-- the text says that the modules of the plan of these bytes verify; it has the groups of their policy
+abbrev pub IsVerifiedPlan : (bytes : List ℕ) → (files : List (List ℕ)) → (text : List ℕ) → Type 0
+IsVerifiedPlan = IsSaid IsVerifiedText
+
+abbrev pub IsGraphOfPlan : (bytes : List ℕ) → (files : List (List ℕ)) → (text : List ℕ) → Type 0
+IsGraphOfPlan = IsSaid (λ plan. IsGraphText plan.code_words)
+
+-- what a command makes of the bytes of its inputs, and of the files that these name
+abbrev pub IsMade : Command → (files more : List (List ℕ)) → Answer → Type 0
+IsMade (commands.Asm input output) (bytes ∷ []) more (answers.Save name file) =
+    (name ≡ output) × IsAssembled bytes file
+IsMade (commands.List input) (bytes ∷ []) more (answers.Print text) = IsObjectListing bytes text
+IsMade (commands.Instrument input output) (bytes ∷ []) more (answers.Save name file) =
     (name ≡ output) × IsInstrumentedFile bytes file
-IsMade (commands.Run input) (bytes ∷ []) (answers.Ran part) = Justifies bytes part
-IsMade command files answer = ⊥
+IsMade (commands.Link output inputs) files more (answers.Save name file) = (name ≡ output) × IsLinkedFile files file
+IsMade (commands.Verify plan) (bytes ∷ []) more (answers.Print text) = IsVerifiedPlan bytes more text
+IsMade (commands.Graph plan) (bytes ∷ []) more (answers.Print text) = IsGraphOfPlan bytes more text
+IsMade (commands.Run input) (bytes ∷ []) more (answers.Ran part) = Justifies bytes part
+IsMade command files more answer = ⊥
 
--- the answer to a file that is no module
-abbrev pub IsFileRefused : (input : List ℕ) → FileFault → Answer → Type 0
-IsFileRefused input (files.Elf fault) answer = answer ≡ answers.Refused input (Elf fault)
-IsFileRefused input (files.Aux fault) answer = answer ≡ answers.Refused input (Aux fault)
-IsFileRefused input files.Memory answer = ⊥
+-- of the files of these names one is no module, the first of them, and this is its name
+pub record IsNamedBad (names files : List (List ℕ)) (name : List ℕ) (fault : FileFault) : Type 0 where
+  pub number : ℕ
+  pub named : slice_get names number ≡ Some name
+  pub first : IsFirstBadFile files number fault
 
--- why a command refuses the bytes of its inputs, and the file that is at fault: the first of the faults
-abbrev pub Refuses : Command → (files : List (List ℕ)) → (name : List ℕ) → Refusal → Type 0
-Refuses (commands.Asm input output) (bytes ∷ []) name (Asm fault) =
+-- the bytes are a plan, and the file of this name is the first of its modules' that has a fault
+pub record IsModuleRefused (bytes : List ℕ) (files : List (List ℕ)) (name : List ℕ) (fault : (number : ℕ) → FilesFault)
+    : Type 0 where
+  pub plan : ModulePlan
+  pub is : plan_in bytes ≡ Ok plan
+  pub number : ℕ
+  pub named : slice_get (files_of plan) number ≡ Some name
+  pub first : IsFilesFault plan.code_words files (fault number)
+
+-- why the bytes of a plan, or the files that it names, are refused, and the file that is at fault
+abbrev pub RefusesPlan : (plan bytes : List ℕ) → (files : List (List ℕ)) → (name : List ℕ) → Refusal → Type 0
+RefusesPlan plan bytes files name (Plan fault) =
+    (name ≡ plan) × (plan_in bytes ≡ Err fault) × (fault ≢ plan_faults.Memory)
+RefusesPlan plan bytes files name (Elf fault) =
+    IsModuleRefused bytes files name (λ k. summary.File k (faults.Elf fault))
+RefusesPlan plan bytes files name (Aux fault) =
+    IsModuleRefused bytes files name (λ k. summary.File k (faults.Aux fault))
+RefusesPlan plan bytes files name (Place fault) = IsModuleRefused bytes files name (λ k. summary.Place k fault)
+RefusesPlan plan bytes files name (Verify fault) = IsModuleRefused bytes files name (λ k. summary.Verify k fault)
+RefusesPlan plan bytes files name refusal = ⊥
+
+-- why a command refuses its files, and the file that is at fault: the first of the faults
+abbrev pub Refuses : Command → (files more : List (List ℕ)) → (name : List ℕ) → Refusal → Type 0
+Refuses (commands.Asm input output) (bytes ∷ []) more name (Asm fault) =
     (name ≡ input) × (object_in bytes ≡ Err fault) × (fault ≢ asm_faults.Memory)
-Refuses (commands.List input) (bytes ∷ []) name (Elf fault) =
+Refuses (commands.List input) (bytes ∷ []) more name (Elf fault) =
     (name ≡ input) × IsFirstFault bytes fault × (fault ≢ elf_faults.Memory)
-Refuses (commands.Instrument input output) (bytes ∷ []) name (Elf fault) =
-    (name ≡ input) × IsFileFault bytes (files.Elf fault)
-Refuses (commands.Instrument input output) (bytes ∷ []) name (Aux fault) =
-    (name ≡ input) × IsFileFault bytes (files.Aux fault)
-Refuses (commands.Instrument input output) (bytes ∷ []) name (Instr fault) =
+Refuses (commands.Instrument input output) (bytes ∷ []) more name (Elf fault) =
+    (name ≡ input) × IsFileFault bytes (faults.Elf fault)
+Refuses (commands.Instrument input output) (bytes ∷ []) more name (Aux fault) =
+    (name ≡ input) × IsFileFault bytes (faults.Aux fault)
+Refuses (commands.Instrument input output) (bytes ∷ []) more name (Instr fault) =
     (name ≡ input) × IsInstrumentFault bytes (instruments.Instr fault)
-Refuses (commands.Run input) (bytes ∷ []) name (Bare refusal) = (name ≡ input) × IsFirstRefusal bytes refusal
-Refuses command files name refusal = ⊥
+Refuses (commands.Link output inputs) files more name (Elf fault) = IsNamedBad inputs files name (faults.Elf fault)
+Refuses (commands.Link output inputs) files more name (Aux fault) = IsNamedBad inputs files name (faults.Aux fault)
+Refuses (commands.Link output inputs) files more name (Link fault) =
+    (name ≡ output) × IsLinkingFault files (linkings.Link fault)
+Refuses (commands.Verify plan) (bytes ∷ []) more name refusal = RefusesPlan plan bytes more name refusal
+Refuses (commands.Graph plan) (bytes ∷ []) more name refusal = RefusesPlan plan bytes more name refusal
+Refuses (commands.Run input) (bytes ∷ []) more name (Bare refusal) = (name ≡ input) × IsFirstRefusal bytes refusal
+Refuses command files more name refusal = ⊥
 
--- no refusal stands in the bytes of its inputs
-abbrev pub IsUnrefused : Command → (files : List (List ℕ)) → Type 0
-IsUnrefused command files = (name : List ℕ) (refusal : Refusal) → ¬ Refuses command files name refusal
+-- no refusal stands in its files
+abbrev pub IsUnrefused : Command → (files more : List (List ℕ)) → Type 0
+IsUnrefused command files more = (name : List ℕ) (refusal : Refusal) → ¬ Refuses command files more name refusal
 
--- what a command comes to where the bytes of its inputs are read
-abbrev pub IsWorked : Command → (files : List (List ℕ)) → Answer → Type 0
-IsWorked command files (answers.Refused name refusal) = Refuses command files name refusal
-IsWorked command files answer = IsMade command files answer
+-- what a command comes to where its files are read
+abbrev pub IsWorked : Command → (files more : List (List ℕ)) → Answer → Type 0
+IsWorked command files more (answers.Refused name refusal) = Refuses command files more name refusal
+IsWorked command files more answer = IsMade command files more answer
 
--- what a command comes to: one of its inputs is not read, and the answer says which and why, or all are read
+-- what a command comes to whose inputs are read and have these bytes: one of the files that they name is not read, or
+-- all are
+abbrev pub GoesOn : Command → (files : List (List ℕ)) → (shelf shelf' : ShelfView) → Answer → Type 0
+GoesOn command files shelf shelf' (answers.Unread unread) = StopsAt shelf shelf' (more_of command files) unread
+GoesOn command files shelf shelf' answer =
+    (more : List (List ℕ)) × AreRead shelf (more_of command files) more × IsWorked command files more answer
+
+-- a command's inputs are read and have these bytes, and then the files that they name
+pub record IsAllRead (command : Command) (shelf : ShelfView) (files more : List (List ℕ)) : Type 0 where
+  pub inputs : AreRead shelf (inputs_of command) files
+  pub others : AreRead shelf (more_of command files) more
+
+-- of the files that a command reads the first that is not read is this: one of its inputs, or one that they name
+abbrev pub IsFirstUnread : Command → (shelf shelf' : ShelfView) → Unread → Type 0
+IsFirstUnread command shelf shelf' unread = StopsAt shelf shelf' (inputs_of command) unread
+    ⊎ ((files : List (List ℕ)) × AreRead shelf (inputs_of command) files
+    × StopsAt shelf shelf' (more_of command files) unread)
+
+-- what a command comes to: one of its files is not read, and the answer says which and why, or all are read
 abbrev pub IsOutcome : Command → (shelf shelf' : ShelfView) → Answer → Type 0
-IsOutcome command shelf shelf' (answers.Unread unread) = StopsAt shelf shelf' (inputs_of command) unread
-IsOutcome command shelf shelf' answer =
-    (files : List (List ℕ)) × AreRead shelf (inputs_of command) files × IsWorked command files answer
+IsOutcome command shelf shelf' (answers.Unread unread) = IsFirstUnread command shelf shelf' unread
+IsOutcome command shelf shelf' answer = (files : List (List ℕ)) × (more : List (List ℕ))
+    × IsAllRead command shelf files more × IsWorked command files more answer
 
 -- what the words come to
 abbrev pub IsAnswer : (words : List (List ℕ)) → (shelf shelf' : ShelfView) → Answer → Type 0

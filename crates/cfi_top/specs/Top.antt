@@ -8,15 +8,17 @@ use Rattle.cfi_report.specs.declared.report.GuestPart.{GuestPart}
 use Rattle.cfi_refusal.specs.declared.refusal.Refusal.{Refusal}
 use Rattle.cfi_tools.specs.Assembling.{IsAssembled}
 use Rattle.cfi_tools.specs.Instrumenting.{IsInstrumentedFile}
+use Rattle.cfi_tools.specs.Linking.{IsLinkedFile}
 use Rattle.cfi_tools.specs.Listing.{IsObjectListing}
 use Rattle.cfi_top.specs.declared.command.Command.{Command}
 use Rattle.cfi_top.specs.declared.answer.Answer.{Answer}
 use Rattle.cfi_top.specs.Answer.{refused_line, unread_line, unread_status, output_of}
-use Rattle.cfi_top.specs.Command.{IsCommand, inputs_of, saved_name}
+use Rattle.cfi_top.specs.Command.{IsCommand, inputs_of, more_of, saved_name}
 use Rattle.cfi_top.specs.Outside.{ShelfView, SinkView, Holds, IsStarved, IsDelivered}
-use Rattle.cfi_top.specs.Reading.{AreRead, IsShort, StopsAt}
+use Rattle.cfi_top.specs.Plans.{named_files}
+use Rattle.cfi_top.specs.Reading.{AreRead, IsShort}
 use Rattle.cfi_top.specs.declared.reading.Unread.{Unread}
-use Rattle.cfi_top.specs.Outcome.{Justifies, Refuses, IsUnrefused, IsAnswer}
+use Rattle.cfi_top.specs.Outcome.{Justifies, IsVerifiedPlan, IsGraphOfPlan, Refuses, IsUnrefused, IsAllRead, IsFirstUnread, IsAnswer}
 use Rattle.cfi_top.specs.Text.{report_text}
 
 -- no memory was left, or an answer was delivered
@@ -61,24 +63,54 @@ HasAssembled = HasMade IsAssembled
 abbrev pub HasInstrumented : (input output : List ℕ) → (shelf shelf' : ShelfView) → (sink sink' : SinkView) → Type 0
 HasInstrumented = HasMade IsInstrumentedFile
 
--- a command's inputs were read and refused for the first fault, and the sink has the line that says so
+-- the files `inputs` are modules, the file `output` is the written object of what links them, and nothing is printed
+pub record HasLinked (output : List ℕ) (inputs : List (List ℕ)) (shelf shelf' : ShelfView) (sink sink' : SinkView)
+    : Type 0 where
+  pub files : List (List ℕ)
+  pub read : AreRead shelf inputs files
+  pub file : List ℕ
+  pub made : IsLinkedFile files file
+  pub saved : WhereKeptTold shelf.files shelf'.files (Puts output file)
+  pub silent : sink'.written ≡ sink.written
+
+-- the file `input` is a plan whose files are read, and the sink has what is said so of it
+pub record HasSaid (Says : (bytes : List ℕ) → (files : List (List ℕ)) → (text : List ℕ) → Type 0) (input : List ℕ)
+    (shelf : ShelfView) (sink sink' : SinkView) : Type 0 where
+  pub bytes : List ℕ
+  pub held : Holds shelf input bytes
+  pub files : List (List ℕ)
+  pub read : AreRead shelf (named_files bytes) files
+  pub text : List ℕ
+  pub said : Says bytes files text
+  pub printed : Appends sink.written sink'.written text
+
+-- the modules of the plan `input` verify in order, and the sink has a line for each
+abbrev pub HasVerified : (input : List ℕ) → (shelf : ShelfView) → (sink sink' : SinkView) → Type 0
+HasVerified = HasSaid IsVerifiedPlan
+
+-- they do, and the sink has the groups of their policy
+abbrev pub HasGraphed : (input : List ℕ) → (shelf : ShelfView) → (sink sink' : SinkView) → Type 0
+HasGraphed = HasSaid IsGraphOfPlan
+
+-- a command's files were read and refused for the first fault, and the sink has the line that says so
 pub record IsRefused (words : List (List ℕ)) (shelf : ShelfView) (sink sink' : SinkView) : Type 0 where
   pub command : Command
   pub fits : IsCommand words command
   pub files : List (List ℕ)
-  pub read : AreRead shelf (inputs_of command) files
+  pub more : List (List ℕ)
+  pub read : IsAllRead command shelf files more
   pub name : List ℕ
   pub refusal : Refusal
-  pub first : Refuses command files name refusal
+  pub first : Refuses command files more name refusal
   pub text : Appends sink.written sink'.written (refused_line name refusal)
 
--- of a command's inputs one was not read, the first of them, and the sink has the line that says which and why
+-- of a command's files one was not read, the first of them, and the sink has the line that says which and why
 pub record IsStopped (words : List (List ℕ)) (shelf shelf' : ShelfView) (sink sink' : SinkView) (status : ℕ)
     : Type 0 where
   pub command : Command
   pub fits : IsCommand words command
   pub unread : Unread
-  pub stops : StopsAt shelf shelf' (inputs_of command) unread
+  pub stops : IsFirstUnread command shelf shelf' unread
   pub cause : status ≡ unread_status unread.cause
   pub text : Appends sink.written sink'.written (unread_line unread.name unread.cause)
 
@@ -90,14 +122,20 @@ IsSavedBy words name = (command : Command) × IsCommand words command × (saved_
 abbrev pub Saves : (words : List (List ℕ)) → Type 0
 Saves words = (name : List ℕ) × IsSavedBy words name
 
--- the words are a command whose inputs the shelf tells, short enough to be read, and no refusal stands in them
+-- files that a shelf tells, short enough to be read
+pub record AreHeld (told : Files) (names files : List (List ℕ)) : Type 0 where
+  pub held : map told names ≡ map Some files
+  pub short : All IsShort files
+
+-- the words are a command whose inputs the shelf tells, and the files that they name, and no refusal stands in them
 pub record IsValid (words : List (List ℕ)) (told : Files) : Type 0 where
   pub command : Command
   pub fits : IsCommand words command
   pub files : List (List ℕ)
-  pub held : map told (inputs_of command) ≡ map Some files
-  pub short : All IsShort files
-  pub unrefused : IsUnrefused command files
+  pub inputs : AreHeld told (inputs_of command) files
+  pub more : List (List ℕ)
+  pub others : AreHeld told (more_of command files) more
+  pub unrefused : IsUnrefused command files more
 
 -- a shelf and a sink did not fail, and no file was missed
 pub record IsSteady (shelf shelf' : ShelfView) (sink sink' : SinkView) : Type 0 where

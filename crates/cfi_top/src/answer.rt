@@ -58,8 +58,8 @@ pub const REFUSED: u8 = 5;
 pub const MEMORY: u8 = 6;
 
 // The line of a refusal of the file of this name.
-fn refused_line(alloc: Global, name: &str, refusal: Refusal) -> Result<String, AllocError>
-    ensures { IfOk result (λ line. string_bytes line ≡ refused_line name.now refusal) }
+fn refused_line(alloc: Global, name: &str, refusal: &Refusal) -> Result<String, AllocError>
+    ensures { IfOk result (λ line. string_bytes line ≡ refused_line name.now refusal.now) }
 {
     let mut line = format!(in alloc; "refused {name} ")?;
     put_refusal(&mut line, refusal)?;
@@ -116,7 +116,7 @@ pub fn output_of(alloc: Global, answer: Answer) -> Result<Output, AllocError>
             Ok(line_of(unread_status(unread.cause), line))
         }
         Answer::Refused(name, refusal) => {
-            Ok(line_of(REFUSED, refused_line(alloc, name.as_str(), refusal)?))
+            Ok(line_of(REFUSED, refused_line(alloc, name.as_str(), &refusal)?))
         }
     }
 }

@@ -1,10 +1,18 @@
-ghost use Rattle.std.specs.Prelude.{◌≡◌, ◌∷◌, [], All, IfOk, map};
+ghost use Rattle.std.specs.Prelude.{◌≡◌, ◌≢◌, ◌∷◌, [], length, All, IfOk, codes, map};
 ghost use Rattle.cfi_args.specs.Words.{IsOperand, texts};
-ghost use Rattle.cfi_top.specs.Command.{IsReading, inputs_of};
+ghost use Rattle.cfi_top.specs.Command.{IsReading, inputs_of, more_of};
+ghost use Rattle.cfi_top.specs.Reading.{IsShort};
 
+use crate::names::{copies_of, named_files, names_of, one_name, text_of};
+use crate::reading::only;
 use cfi_args::split_words;
+use cfi_list::Items;
 use cfi_plan::Text;
+use cfi_unit::Bytes;
 use std::alloc::{AllocError, Global};
+
+/// The most files that a command links.
+pub const MAX_INPUTS: usize = 64;
 
 /// A command of the program, with its operands, which are names of files.
 #[derive(Debug, Drop)]
@@ -28,6 +36,23 @@ pub enum Command {
         /// The file of the instrumented module.
         output: Text,
     },
+    /// Links modules.
+    Link {
+        /// The file of the module that they make.
+        output: Text,
+        /// The modules' files, in order.
+        inputs: Items<Text>,
+    },
+    /// Verifies the modules of a plan.
+    Verify {
+        /// The plan's file.
+        plan: Text,
+    },
+    /// Lists the groups of the policy of a plan's modules.
+    Graph {
+        /// The plan's file.
+        plan: Text,
+    },
     /// Runs a bare file.
     Run {
         /// The bare file.
@@ -35,27 +60,39 @@ pub enum Command {
     },
 }
 
-// A name of a file.
-fn text_of(alloc: Global, name: &str) -> Result<Text, AllocError>
-    ensures { IfOk result (λ text. text ≡ name.now) }
-{
-    Ok(Text::from_string(name.to_string(alloc)?))
-}
-
 impl Command {
     /// The names of the files that the command reads, in order.
     pub fn inputs(&self, alloc: Global) -> Result<Vec<Text>, AllocError>
         ensures { IfOk result (λ names. names.items ≡ inputs_of self.now) }
     {
-        let input = match self {
-            Command::Asm { input, .. } => input.as_str(),
-            Command::List { input } => input.as_str(),
-            Command::Instrument { input, .. } => input.as_str(),
-            Command::Run { input } => input.as_str(),
-        };
-        let mut names = Vec::new(alloc);
-        names.push(text_of(alloc, input)?)?;
-        Ok(names)
+        match self {
+            Command::Asm { input, .. } => one_name(alloc, input),
+            Command::List { input } => one_name(alloc, input),
+            Command::Instrument { input, .. } => one_name(alloc, input),
+            Command::Link { inputs, .. } => copies_of(alloc, inputs.as_slice()),
+            Command::Verify { plan } => one_name(alloc, plan),
+            Command::Graph { plan } => one_name(alloc, plan),
+            Command::Run { input } => one_name(alloc, input),
+        }
+    }
+
+    /// The names of the files that the command reads after its inputs, in order: those that the inputs name.
+    ///
+    /// `files` are the bytes of its inputs.
+    pub fn more(&self, alloc: Global, files: &[Bytes]) -> Result<Vec<Text>, AllocError>
+        requires count { length files.now ≡ length (inputs_of self.now) }
+        requires short { All IsShort files.now }
+        ensures { IfOk result (λ names. names.items ≡ more_of self.now files.now) }
+    {
+        match self {
+            Command::Asm { .. } => Ok(Vec::new(alloc)),
+            Command::List { .. } => Ok(Vec::new(alloc)),
+            Command::Instrument { .. } => Ok(Vec::new(alloc)),
+            Command::Link { .. } => Ok(Vec::new(alloc)),
+            Command::Verify { .. } => named_files(alloc, only(files)),
+            Command::Graph { .. } => named_files(alloc, only(files)),
+            Command::Run { .. } => Ok(Vec::new(alloc)),
+        }
     }
 }
 
@@ -68,19 +105,26 @@ fn unary(alloc: Global, name: &str, operand: &str) -> Result<Option<Command>, Al
     if name == "list" {
         return Ok(Some(Command::List { input }));
     }
+    if name == "verify" {
+        return Ok(Some(Command::Verify { plan: input }));
+    }
+    if name == "graph" {
+        return Ok(Some(Command::Graph { plan: input }));
+    }
     if name == "run" {
         return Ok(Some(Command::Run { input }));
     }
     Ok(None)
 }
 
-// The command of this name that takes two operands.
+// The command of this name that takes two operands and no more.
 fn binary(
     alloc: Global,
     name: &str,
     first: &str,
     second: &str,
 ) -> Result<Option<Command>, AllocError>
+    requires other { name.now ≢ codes "link" }
     requires operands { All IsOperand (first.now ∷ second.now ∷ []) }
     ensures { IfOk result (IsReading (name.now ∷ first.now ∷ second.now ∷ [])) }
 {
@@ -95,11 +139,30 @@ fn binary(
     Ok(None)
 }
 
+// The command that links.
+fn linking(alloc: Global, operands: &[&str]) -> Result<Option<Command>, AllocError>
+    requires operands { All IsOperand (map (λ word. word.now) operands.now) }
+    ensures { IfOk result (IsReading (codes "link" ∷ map (λ word. word.now) operands.now)) }
+{
+    let Some((output, inputs)) = operands.split_first() else {
+        return Ok(None);
+    };
+    if inputs.is_empty() || inputs.len() > MAX_INPUTS {
+        return Ok(None);
+    }
+    let output = text_of(alloc, output)?;
+    let inputs = Items::from_vec(names_of(alloc, inputs)?);
+    Ok(Some(Command::Link { output, inputs }))
+}
+
 // The command of this name and these operands.
 fn named(alloc: Global, name: &str, operands: &[&str]) -> Result<Option<Command>, AllocError>
     requires operands { All IsOperand (map (λ word. word.now) operands.now) }
     ensures { IfOk result (IsReading (name.now ∷ map (λ word. word.now) operands.now)) }
 {
+    if name == "link" {
+        return linking(alloc, operands);
+    }
     match operands {
         [operand] => unary(alloc, name, operand),
         [first, second] => binary(alloc, name, first, second),

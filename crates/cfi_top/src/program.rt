@@ -7,7 +7,7 @@ ghost use Rattle.cfi_args.specs.Words.{texts};
 ghost use Rattle.cfi_top.specs.Command.{IsCommand, Fits};
 ghost use Rattle.cfi_top.specs.Outside.{shelf_view, sink_view};
 ghost use Rattle.cfi_top.specs.Outcome.{IsAnswer};
-ghost use Rattle.cfi_top.specs.Top.{Ends, HasRun, HasListed, HasAssembled, HasInstrumented, IsRefused, IsStopped, IsSavedBy, Saves, IsValid, IsSteady};
+ghost use Rattle.cfi_top.specs.Top.{Ends, HasRun, HasListed, HasAssembled, HasInstrumented, HasLinked, HasVerified, HasGraphed, IsRefused, IsStopped, IsSavedBy, Saves, IsValid, IsSteady};
 
 use crate::answer::{Answer, MEMORY, output_of};
 use crate::command::command_of;
@@ -72,7 +72,9 @@ fn run_words<F: Shelf, S: Sink, G: Gate>(
 /// Runs the program: its words after its own name, over a shelf, a sink and a gate.
 ///
 /// `asm IN OUT` assembles a source and saves the object. `list IN` prints the listing of an object's text. `instrument
-/// IN OUT` instruments a module and saves it. `run FILE` verifies a bare file, runs it and prints its report.
+/// IN OUT` instruments a module and saves it. `link OUT IN..` links 1 to 64 modules and saves what they make. `verify
+/// PLAN` verifies the modules of a plan and prints a line for each; `graph PLAN` does so and prints the groups of their
+/// policy. `run FILE` verifies a bare file, runs it and prints its report.
 /// Status 0 where the command's bytes were written whole, 1 where the words are no command, 2 where the shelf failed,
 /// 3 where a file is not there or too long, 4 where the sink failed, or the shelf where a file was saved, 5 where a
 /// file was refused, 6 where no memory was left.
@@ -114,6 +116,26 @@ pub fn top<F: Shelf, S: Sink, G: Gate>(
         result.status ≡ DONE → HasInstrumented input output
         (shelf_view (F.files shelf.old) (F.faults shelf.old) (F.misses shelf.old))
         (shelf_view (F.files shelf.new) (F.faults shelf.new) (F.misses shelf.new))
+        (sink_view (S.written sink.old) (S.faults sink.old))
+        (sink_view (S.written sink.new) (S.faults sink.new)) }
+
+    ensures linked { (output : List ℕ) → (inputs : List (List ℕ)) →
+        IsCommand (texts words.now) (commands.Link output inputs) →
+        result.status ≡ DONE → HasLinked output inputs
+        (shelf_view (F.files shelf.old) (F.faults shelf.old) (F.misses shelf.old))
+        (shelf_view (F.files shelf.new) (F.faults shelf.new) (F.misses shelf.new))
+        (sink_view (S.written sink.old) (S.faults sink.old))
+        (sink_view (S.written sink.new) (S.faults sink.new)) }
+
+    ensures verified { (input : List ℕ) → IsCommand (texts words.now) (commands.Verify input) →
+        result.status ≡ DONE → HasVerified input
+        (shelf_view (F.files shelf.old) (F.faults shelf.old) (F.misses shelf.old))
+        (sink_view (S.written sink.old) (S.faults sink.old))
+        (sink_view (S.written sink.new) (S.faults sink.new)) }
+
+    ensures graphed { (input : List ℕ) → IsCommand (texts words.now) (commands.Graph input) →
+        result.status ≡ DONE → HasGraphed input
+        (shelf_view (F.files shelf.old) (F.faults shelf.old) (F.misses shelf.old))
         (sink_view (S.written sink.old) (S.faults sink.old))
         (sink_view (S.written sink.new) (S.faults sink.new)) }
 

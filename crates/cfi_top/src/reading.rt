@@ -1,4 +1,4 @@
-ghost use Rattle.std.specs.Prelude.{◌≡◌, ◌≤◌, IfOk, MatchResult};
+ghost use Rattle.std.specs.Prelude.{◌≡◌, ◌≤◌, ◌∷◌, [], length, IfOk, MatchResult};
 ghost use Rattle.cfi_top.specs.Outside.{shelf_view};
 ghost use Rattle.cfi_top.specs.Reading.{HasRead, IsUnread, IsFound};
 
@@ -71,4 +71,12 @@ pub fn read_files<F: Shelf>(
         }
     }
     Ok(Ok(Items::from_vec(files)))
+}
+
+/// The bytes of the one file.
+pub fn only(files: &[Bytes]) -> &[u8]
+    requires one { length files.now ≡ 1 }
+    ensures { files.now ≡ result.now ∷ [] }
+{
+    files[0].as_slice()
 }

@@ -35,6 +35,15 @@ const CHECK: [u8; 56] = [
 
 const USAGE: &str = "usage: cfi asm|list|instrument|link|verify|graph|sim|run|gen\n";
 
+/// The words of a line.
+pub fn words_of(alloc: Global, line: &str) -> Result<Vec<String>, AllocError> {
+    let mut words = Vec::new(alloc);
+    for word in line.split_whitespace() {
+        words.push(word.to_string(alloc)?)?;
+    }
+    Ok(words)
+}
+
 // `top` over a shelf with one file, and a sink; the calls with these numbers fail.
 fn top_over<G: Gate>(
     alloc: Global,
@@ -44,10 +53,7 @@ fn top_over<G: Gate>(
     sink_fails: &[u32],
     gate: &G,
 ) -> Result<(Ended, String), AllocError> {
-    let mut words = Vec::new(alloc);
-    for word in line.split_whitespace() {
-        words.push(word.to_string(alloc)?)?;
-    }
+    let words = words_of(alloc, line)?;
     let pair = ("a.bin".to_string(alloc)?, file.to_vec(alloc)?);
     let mut shelf = MemShelf::new(alloc, vec![in alloc; pair]?, shelf_fails.to_vec(alloc)?);
     let mut sink = MemSink::new(alloc, sink_fails.to_vec(alloc)?);
@@ -150,26 +156,49 @@ fn long_files(rt: HostRuntime) -> Result<(), Fail> {
     )
 }
 
+// The words `link o` and so many inputs.
+fn link_of(alloc: Global, count: u32) -> Result<String, AllocError> {
+    let mut line = "link o".to_string(alloc)?;
+    for _ in 0..count {
+        line.push_str(" a.bin")?;
+    }
+    Ok(line)
+}
+
 #[test]
-fn usage(rt: HostRuntime) -> Result<(), Fail> {
-    for line in [
-        "run",
-        "run -x",
-        "gen 1 33",
-        "run a.bin b.bin",
-        "list",
-        "list -x",
-        "asm a.bin",
-        "asm a.bin -x",
-        "asm a.bin b.o c.o",
-        "help",
-        "--help",
-        "-V",
-        "run --help",
-        "run -- a.bin",
-        "",
-    ] {
-        expect(&rt, rt.alloc(), line, &HELLO, (&[], &[]), 1, USAGE)?;
+fn words_that_fit(rt: HostRuntime) -> Result<(), Fail> {
+    let alloc = rt.alloc();
+    let no_object = "refused a.bin elf Short 0\n";
+    let (all, more) = (link_of(alloc, 64)?, link_of(alloc, 65)?);
+    let rows = [
+        ("run a.bin", 0, HELLO_REPORT),
+        ("list a.bin", 5, no_object),
+        ("asm a.bin o", 5, "refused a.bin asm Syntax 1\n"),
+        ("instrument a.bin o", 5, no_object),
+        ("link o a.bin", 5, no_object),
+        ("verify a.bin", 5, "refused a.bin plan Syntax 1\n"),
+        ("graph a.bin", 5, "refused a.bin plan Syntax 1\n"),
+        (all.as_str(), 5, no_object),
+        (more.as_str(), 1, USAGE),
+        ("link o", 1, USAGE),
+        ("link o -x", 1, USAGE),
+        ("run", 1, USAGE),
+        ("run -x", 1, USAGE),
+        ("gen 1 33", 1, USAGE),
+        ("run a.bin b.bin", 1, USAGE),
+        ("list", 1, USAGE),
+        ("graph", 1, USAGE),
+        ("verify a.bin b.bin", 1, USAGE),
+        ("asm a.bin", 1, USAGE),
+        ("asm a.bin b.o c.o", 1, USAGE),
+        ("help", 1, USAGE),
+        ("--help", 1, USAGE),
+        ("-V", 1, USAGE),
+        ("run -- a.bin", 1, USAGE),
+        ("", 1, USAGE),
+    ];
+    for (line, status, text) in rows {
+        expect(&rt, alloc, line, &HELLO, (&[], &[]), status, text)?;
     }
     Ok(())
 }

@@ -1,21 +1,25 @@
 ghost use Rattle.std.specs.Prelude.{◌≡◌, ◌≤◌, ◌∷◌, [], length, All, IfOk};
 ghost use Rattle.cfi_io.specs.declared.shelf.TheConstants.{MAX_FILE_BYTES};
+ghost use Rattle.cfi_top.specs.declared.command.TheConstants.{MAX_INPUTS};
 ghost use Rattle.cfi_top.specs.declared.command.Command.TheVariants as commands;
-ghost use Rattle.cfi_top.specs.Command.{inputs_of};
+ghost use Rattle.cfi_top.specs.Command.{HasInputs, inputs_of, more_of};
 ghost use Rattle.cfi_top.specs.Outside.{shelf_view};
 ghost use Rattle.cfi_top.specs.Reading.{IsShort};
-ghost use Rattle.cfi_top.specs.Outcome.{IsFileRefused, IsWorked, IsOutcome};
+ghost use Rattle.cfi_top.specs.Outcome.{GoesOn, IsWorked, IsOutcome};
 
 use crate::answer::Answer;
 use crate::command::Command;
+use crate::names::text_of;
+use crate::plans::{graph, verify};
 use crate::program::FUEL;
-use crate::reading::read_files;
+use crate::reading::{only, read_files};
+use crate::refused::file_refused;
 use crate::run::run_bare;
 use cfi_bare::accept;
 use cfi_io::{Gate, Shelf};
 use cfi_plan::Text;
 use cfi_refusal::Refusal;
-use cfi_tools::{FileFault, InstrumentFault, assembled, instrumented, listing_of};
+use cfi_tools::{InstrumentFault, LinkingFault, assembled, instrumented, linked, listing_of};
 use cfi_unit::Bytes;
 use elf_read::ElfFault;
 use rv_asm::AsmFault;
@@ -24,7 +28,7 @@ use std::alloc::{AllocError, Global};
 // Assembles a source.
 fn asm(alloc: Global, input: Text, output: Text, bytes: &[u8]) -> Result<Answer, AllocError>
     requires short { length bytes.now ≤ MAX_FILE_BYTES }
-    ensures { IfOk result (IsWorked (commands.Asm input output) (bytes.now ∷ [])) }
+    ensures { IfOk result (IsWorked (commands.Asm input output) (bytes.now ∷ []) []) }
 {
     match assembled(alloc, bytes) {
         Ok(file) => Ok(Answer::Save(output, Bytes::from_vec(file))),
@@ -36,7 +40,7 @@ fn asm(alloc: Global, input: Text, output: Text, bytes: &[u8]) -> Result<Answer,
 // Lists an object.
 fn list(alloc: Global, input: Text, bytes: &[u8]) -> Result<Answer, AllocError>
     requires short { length bytes.now ≤ MAX_FILE_BYTES }
-    ensures { IfOk result (IsWorked (commands.List input) (bytes.now ∷ [])) }
+    ensures { IfOk result (IsWorked (commands.List input) (bytes.now ∷ []) []) }
 {
     match listing_of(alloc, bytes) {
         Ok(text) => Ok(Answer::Print(Bytes::from_vec(text))),
@@ -45,21 +49,10 @@ fn list(alloc: Global, input: Text, bytes: &[u8]) -> Result<Answer, AllocError>
     }
 }
 
-// The refusal of a file that is no module.
-fn file_refused(input: Text, fault: FileFault) -> Result<Answer, AllocError>
-    ensures { IfOk result (IsFileRefused input fault) }
-{
-    match fault {
-        FileFault::Elf(elf) => Ok(Answer::Refused(input, Refusal::Elf(elf))),
-        FileFault::Aux(aux) => Ok(Answer::Refused(input, Refusal::Aux(aux))),
-        FileFault::Memory => Err(AllocError),
-    }
-}
-
 // Instruments a module.
 fn instrument(alloc: Global, input: Text, output: Text, bytes: &[u8]) -> Result<Answer, AllocError>
     requires short { length bytes.now ≤ MAX_FILE_BYTES }
-    ensures { IfOk result (IsWorked (commands.Instrument input output) (bytes.now ∷ [])) }
+    ensures { IfOk result (IsWorked (commands.Instrument input output) (bytes.now ∷ []) []) }
 {
     match instrumented(alloc, bytes) {
         Ok(made) => Ok(Answer::Save(output, Bytes::from_vec(made))),
@@ -69,9 +62,27 @@ fn instrument(alloc: Global, input: Text, output: Text, bytes: &[u8]) -> Result<
     }
 }
 
+// Links modules.
+fn link(alloc: Global, output: Text, inputs: &[Text], files: &[Bytes]) -> Result<Answer, AllocError>
+    requires few { length inputs.now ≤ MAX_INPUTS }
+    requires count { length files.now ≡ length inputs.now }
+    requires short { All IsShort files.now }
+    ensures { IfOk result (IsWorked (commands.Link output inputs.now) files.now []) }
+{
+    match linked(alloc, files) {
+        Ok(joined) => Ok(Answer::Save(output, Bytes::from_vec(joined))),
+        Err(LinkingFault::File { number, fault }) => {
+            let input = text_of(alloc, inputs[number].as_str())?;
+            file_refused(input, fault)
+        }
+        Err(LinkingFault::Link(fault)) => Ok(Answer::Refused(output, Refusal::Link(fault))),
+        Err(LinkingFault::Memory) => Err(AllocError),
+    }
+}
+
 // Runs a bare file.
 fn run<G: Gate>(alloc: Global, input: Text, bytes: &[u8], gate: &G) -> Result<Answer, AllocError>
-    ensures { IfOk result (IsWorked (commands.Run input) (bytes.now ∷ [])) }
+    ensures { IfOk result (IsWorked (commands.Run input) (bytes.now ∷ []) []) }
 {
     match accept(alloc, bytes)? {
         Ok(code) => Ok(Answer::Ran(run_bare(alloc, &code, gate, FUEL)?)),
@@ -79,40 +90,67 @@ fn run<G: Gate>(alloc: Global, input: Text, bytes: &[u8], gate: &G) -> Result<An
     }
 }
 
-// The bytes of the one file.
-fn only(files: &[Bytes]) -> &[u8]
-    requires one { length files.now ≡ 1 }
-    ensures { files.now ≡ result.now ∷ [] }
-{
-    files[0].as_slice()
-}
-
-// Does a command, of whose inputs these are the bytes.
+// Does a command, of whose inputs these are the bytes, and of the files that they name.
 fn work<G: Gate>(
     alloc: Global,
     command: Command,
     files: &[Bytes],
+    more: &[Bytes],
     gate: &G,
 ) -> Result<Answer, AllocError>
+    requires number { HasInputs command }
     requires count { length files.now ≡ length (inputs_of command) }
     requires short { All IsShort files.now }
-    ensures { IfOk result (IsWorked command files.now) }
+    requires named { length more.now ≡ length (more_of command files.now) }
+    requires small { All IsShort more.now }
+    ensures { IfOk result (IsWorked command files.now more.now) }
 {
     match command {
         Command::Asm { input, output } => asm(alloc, input, output, only(files)),
         Command::List { input } => list(alloc, input, only(files)),
         Command::Instrument { input, output } => instrument(alloc, input, output, only(files)),
+        Command::Link { output, inputs } => link(alloc, output, inputs.as_slice(), files),
+        Command::Verify { plan } => verify(alloc, plan, only(files), more),
+        Command::Graph { plan } => graph(alloc, plan, only(files), more),
         Command::Run { input } => run(alloc, input, only(files), gate),
     }
 }
 
-/// Reads a command's inputs, all before it looks into one, and does the command.
+// Reads the files that a command's inputs, of these bytes, name, and does the command.
+fn outcome_over<F: Shelf, G: Gate>(
+    alloc: Global,
+    command: Command,
+    files: &[Bytes],
+    shelf: &mut F,
+    gate: &G,
+) -> Result<Answer, AllocError>
+    requires number { HasInputs command }
+    requires count { length files.now ≡ length (inputs_of command) }
+    requires short { All IsShort files.now }
+    ensures outcome { IfOk result (GoesOn command files.now
+        (shelf_view (F.files shelf.old) (F.faults shelf.old) (F.misses shelf.old))
+        (shelf_view (F.files shelf.new) (F.faults shelf.new) (F.misses shelf.new))) }
+    ensures same { F.files shelf.new ≡ F.files shelf.old }
+    ensures faults { F.faults shelf.old ≤ F.faults shelf.new }
+    ensures misses { F.misses shelf.old ≤ F.misses shelf.new }
+{
+    let names = command.more(alloc, files)?;
+    match read_files(alloc, shelf, &names)? {
+        Ok(more) => work(alloc, command, files, more.as_slice(), gate),
+        Err(behind) => Ok(Answer::Unread(behind)),
+    }
+}
+
+/// Reads a command's inputs and then the files that they name, all before it looks into one, and does the command.
+///
+/// An input that names files is looked into for their names alone.
 pub fn outcome_of<F: Shelf, G: Gate>(
     alloc: Global,
     command: Command,
     shelf: &mut F,
     gate: &G,
 ) -> Result<Answer, AllocError>
+    requires number { HasInputs command }
     ensures outcome { IfOk result (IsOutcome command
         (shelf_view (F.files shelf.old) (F.faults shelf.old) (F.misses shelf.old))
         (shelf_view (F.files shelf.new) (F.faults shelf.new) (F.misses shelf.new))) }
@@ -122,7 +160,7 @@ pub fn outcome_of<F: Shelf, G: Gate>(
 {
     let names = command.inputs(alloc)?;
     match read_files(alloc, shelf, &names)? {
-        Ok(files) => work(alloc, command, files.as_slice(), gate),
+        Ok(files) => outcome_over(alloc, command, files.as_slice(), shelf, gate),
         Err(unread) => Ok(Answer::Unread(unread)),
     }
 }

@@ -1,4 +1,4 @@
-use Rattle.cfi_top.proofs.DoneLemmas.{done_of, ran_of, listed_of, assembled_of, instrumented_of}
+use Rattle.cfi_top.proofs.DoneLemmas.{done_of, ran_of, listed_of, assembled_of, instrumented_of, linked_of, verified_of, graphed_of}
 use Rattle.cfi_top.proofs.TopLemmas.{usage_of, unfit_of, read_fault_of, missed_of, stopped_of, write_fault_of, refused_of}
 use Rattle.cfi_top.proofs.FilesLemmas.{valid_if, elsewhere_of, same_of, within_of}
 use Rattle.cfi_top.proofs.program.top.Goals as goal
@@ -14,6 +14,15 @@ returns-clause-assembled g c = assembled_of _ _ _ _ _ _ c.run_words-status.ensur
 
 pub returns-clause-instrumented : goal.returns-clause-instrumented
 returns-clause-instrumented g c = instrumented_of _ _ _ _ _ _ c.run_words-status.ensures.ends
+
+pub returns-clause-linked : goal.returns-clause-linked
+returns-clause-linked g c = linked_of _ _ _ _ _ _ c.run_words-status.ensures.ends
+
+pub returns-clause-verified : goal.returns-clause-verified
+returns-clause-verified g c = verified_of _ _ _ _ _ _ c.run_words-status.ensures.ends
+
+pub returns-clause-graphed : goal.returns-clause-graphed
+returns-clause-graphed g c = graphed_of _ _ _ _ _ _ c.run_words-status.ensures.ends
 
 pub returns-clause-done : goal.returns-clause-done
 returns-clause-done g c = λ e. done_of _ _ _ _ _ _ e c.run_words-status.ensures.ends

@@ -1,0 +1,127 @@
+-- What is known of the files of a plan.
+use Rattle.std.proofs.Common.{◌≡◌, ◌∙◌, ◌<◌, ℕ, List, [], ◌∷◌, length, map, Option, Some, None, Result, Ok, Err, refl, sym, ap, subst, arith}
+use Rattle.std.proofs.lemmas.List.{length-map}
+use Rattle.std.specs.Prelude.{◌≢◌, slice_get, IsSomeAnd, option_map}
+use Rattle.std.proofs.lemmas.Option.{slice_get_within, slice_get-map}
+use Rattle.cfi_plan.specs.declared.plan.Plan.{Plan}
+use Rattle.cfi_plan.specs.declared.plan.PlanModule.{PlanModule}
+use Rattle.cfi_plan.specs.declared.fault.PlanFault.{PlanFault}
+use Rattle.cfi_plan.specs.declared.fault.PlanFault.TheVariants as plan_faults
+use Rattle.cfi_plan.specs.Draft.{Fails}
+use Rattle.cfi_plan.specs.Reading.{plan_in}
+use Rattle.cfi_summary.specs.declared.fault.FilesFault.{FilesFault}
+use Rattle.cfi_summary.specs.declared.fault.FilesFault.TheVariants as summary
+use Rattle.cfi_summary.specs.Files.{IsFilesFault}
+use Rattle.cfi_tools.specs.declared.reading.FileFault.{FileFault}
+use Rattle.cfi_tools.specs.declared.reading.FileFault.TheVariants as faults
+use Rattle.cfi_top.specs.declared.answer.Answer.{Answer}
+use Rattle.cfi_top.specs.declared.answer.Answer.TheVariants as answers
+use Rattle.cfi_top.specs.declared.command.Command.TheVariants as commands
+use Rattle.cfi_top.specs.Outcome.{IsModuleRefused, RefusesPlan, IsWorked}
+use Rattle.cfi_top.specs.Plans.{files_in, files_of, named_files}
+use Rattle.cfi_top.specs.Refused.{IsAmong, IsFileRefused, IsFilesRefused, plan_refused}
+
+-- the files that the bytes of a plan name are the plan's
+pub named_of : (bytes : List ℕ) (plan : Plan) → plan_in bytes ≡ Ok plan → named_files bytes ≡ files_of plan
+named_of bytes plan is = ap files_in is
+
+-- there are as many as modules
+pub named_count : (bytes : List ℕ) (plan : Plan) → plan_in bytes ≡ Ok plan
+    → length (named_files bytes) ≡ length plan.modules
+named_count bytes plan is =
+    ap (λ (names : List (List ℕ)). length names) (named_of bytes plan is)
+    ∙ length-map plan.modules (λ (one : PlanModule). one.file)
+
+-- the fault of files is of one of them
+pub among : (code_words : ℕ) (files : List (List ℕ)) (fault : FilesFault) → IsFilesFault code_words files fault
+    → IsAmong (length files) fault
+among code_words files (summary.File number fault) bad = slice_get_within files number bad.file bad.is
+among code_words files (summary.Place number fault) bad =
+    omega (arith, slice_get_within bad.modules number bad.refused.refused bad.refused.is, bad.read.count)
+among code_words files (summary.Verify number fault) bad =
+    omega (arith, slice_get_within bad.modules number bad.refused.refused bad.refused.is, bad.read.count)
+among code_words files summary.Memory bad = tt
+
+-- what holds of an item that is there
+found_at : {X : Type 0} (P : X → Type 0) (found : Option X) → IsSomeAnd found P → (x : X) × (found ≡ Some x) × P x
+found_at P None some = absurd some
+found_at P (Some x) some = (x, refl, some)
+
+-- ---- refusals that stand
+
+-- a fault of a plan that is no want of memory is what is due
+plan_fault : {Y : Type 0} (fault : PlanFault) (due : Result Y PlanFault) → fault ≢ plan_faults.Memory → Fails fault due
+    → due ≡ Err fault
+plan_fault (plan_faults.Syntax line) due other fails = fails
+plan_fault (plan_faults.Limit line) due other fails = fails
+plan_fault plan_faults.NoGuest due other fails = fails
+plan_fault plan_faults.Memory due other fails = absurd (other refl)
+
+-- what is no plan names no files
+pub no_files : (bytes : List ℕ) (fault : PlanFault) → fault ≢ plan_faults.Memory → Fails fault (plan_in bytes)
+    → named_files bytes ≡ []
+no_files bytes fault other fails = ap files_in (plan_fault fault (plan_in bytes) other fails)
+
+module _ (plan bytes : List ℕ) (files : List (List ℕ)) where
+  -- the answer is a refusal that stands in the plan or its files
+  abbrev pub Stands : Answer → Type 0
+  Stands (answers.Refused name refusal) = RefusesPlan plan bytes files name refusal
+  Stands answer = ⊥
+
+  -- what is no plan
+  pub plan_stands : (fault : PlanFault) (answer : Answer) → Fails fault (plan_in bytes) → fault ≢ plan_faults.Memory
+      → answer ≡ plan_refused plan fault → Stands answer
+  plan_stands fault answer fails other said =
+      subst Stands (sym said) (refl, plan_fault fault (plan_in bytes) other fails, other)
+
+  -- of a plan the file of a module
+  module _ (p : Plan) (is : plan_in bytes ≡ Ok p) where
+    file_at : (number : ℕ) (one : PlanModule) → slice_get p.modules number ≡ Some one
+        → slice_get (files_of p) number ≡ Some one.file
+    file_at number one here =
+        slice_get-map (λ (m : PlanModule). m.file) p.modules number
+        ∙ ap (option_map (λ (m : PlanModule). m.file)) here
+
+    refused_at : (number : ℕ) (one : PlanModule) (fault : ℕ → FilesFault) → slice_get p.modules number ≡ Some one
+        → IsFilesFault p.code_words files (fault number) → IsModuleRefused bytes files one.file fault
+    refused_at number one fault here first =
+        record { plan = p; is = is; number = number; named = file_at number one here; first = first }
+
+    file_stands : (number : ℕ) (one : PlanModule) (fault : FileFault) (answer : Answer)
+        → slice_get p.modules number ≡ Some one → IsFilesFault p.code_words files (summary.File number fault)
+        → IsFileRefused one.file fault answer → Stands answer
+    file_stands number one (faults.Elf fault) answer here first said =
+        subst Stands (sym said) (refused_at number one (λ k. summary.File k (faults.Elf fault)) here first)
+    file_stands number one (faults.Aux fault) answer here first said =
+        subst Stands (sym said) (refused_at number one (λ k. summary.File k (faults.Aux fault)) here first)
+    file_stands number one faults.Memory answer here first said = absurd said
+
+    pub files_stand : (fault : FilesFault) (answer : Answer) → IsFilesFault p.code_words files fault
+        → IsFilesRefused p.modules fault answer → Stands answer
+    files_stand (summary.File number fault) answer first said =
+        let one = found_at _ (slice_get p.modules number) said in
+        file_stands number one.0 fault answer one.1 first one.2
+    files_stand (summary.Place number fault) answer first said =
+        let one = found_at _ (slice_get p.modules number) said in
+        subst Stands (sym one.2) (refused_at number one.0 (λ k. summary.Place k fault) one.1 first)
+    files_stand (summary.Verify number fault) answer first said =
+        let one = found_at _ (slice_get p.modules number) said in
+        subst Stands (sym one.2) (refused_at number one.0 (λ k. summary.Verify k fault) one.1 first)
+    files_stand summary.Memory answer first said = absurd said
+
+  -- it is what the commands on plans come to
+  pub verify_stands : (answer : Answer) → Stands answer → IsWorked (commands.Verify plan) (bytes ∷ []) files answer
+  verify_stands (answers.Refused name refusal) stands = stands
+  verify_stands (answers.Ran part) stands = absurd stands
+  verify_stands (answers.Print text) stands = absurd stands
+  verify_stands (answers.Save name file) stands = absurd stands
+  verify_stands answers.Usage stands = absurd stands
+  verify_stands (answers.Unread unread) stands = absurd stands
+
+  pub graph_stands : (answer : Answer) → Stands answer → IsWorked (commands.Graph plan) (bytes ∷ []) files answer
+  graph_stands (answers.Refused name refusal) stands = stands
+  graph_stands (answers.Ran part) stands = absurd stands
+  graph_stands (answers.Print text) stands = absurd stands
+  graph_stands (answers.Save name file) stands = absurd stands
+  graph_stands answers.Usage stands = absurd stands
+  graph_stands (answers.Unread unread) stands = absurd stands

@@ -1,0 +1,18 @@
+use Rattle.std.proofs.Common.{subst}
+use Rattle.std.proofs.lemmas.Result.{IfOk-weaker}
+use Rattle.cfi_top.specs.Refused.{IsFilesRefused}
+use Rattle.cfi_top.proofs.PlansLemmas.{files_stand, verify_stands}
+use Rattle.cfi_top.proofs.plans.verify.Goals as goal
+
+-- the first of the modules' files that has a fault is refused by its name
+pub returns : goal.returns
+returns c =
+    let name = c.args.plan in
+    let bytes = c.args.bytes.now in
+    let files = c.args.files.now in
+    let fault = c.in-Err-verified_text.fault in
+    IfOk-weaker c.files_refused.result _ _
+    (λ answer said. verify_stands name bytes files answer
+    (files_stand name bytes files c.in-Ok.found c.in-Ok.ensures.due fault answer c.in-Err-verified_text.ensures.fault
+    (subst (λ modules. IsFilesRefused modules fault answer) c.as_slice.ensures said)))
+    c.files_refused.ensures

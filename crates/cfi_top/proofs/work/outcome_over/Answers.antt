@@ -1,0 +1,27 @@
+use Rattle.std.proofs.Common.{◌≡◌, ◌∙◌, Ok, subst}
+use Rattle.std.proofs.lemmas.Result.{IfOk-weaker}
+use Rattle.cfi_top.specs.Command.{more_of}
+use Rattle.cfi_top.specs.Outcome.{IsWorked}
+use Rattle.cfi_top.specs.Outside.{shelf_view}
+use Rattle.cfi_top.specs.Reading.{AreRead, IsFound}
+use Rattle.cfi_top.proofs.OutcomeLemmas.{worked_is}
+use Rattle.cfi_top.proofs.work.outcome_over.Goals as goal
+
+-- the files that the inputs name are read
+pub returns-in-Ok-clause-outcome : goal.returns-in-Ok-clause-outcome
+returns-in-Ok-clause-outcome g c =
+    let command = c.args.command in
+    let files = c.args.files.now in
+    let more = c.in-Ok.more in
+    let shelf = c.args.shelf.now in
+    let read = c.read_files.new.shelf in
+    let old = shelf_view (g.F.Shelf.files shelf) (g.F.Shelf.faults shelf) (g.F.Shelf.misses shelf) in
+    let new = shelf_view (g.F.Shelf.files read) (g.F.Shelf.faults read) (g.F.Shelf.misses read) in
+    let found : IsFound old new c.deref.result.now (Ok more) =
+    subst (IsFound old new c.deref.result.now) c.in-Ok.is c.in_ok-more.ensures.read in
+    let named : c.deref.result.now ≡ more_of command files = c.deref.ensures.value ∙ c.in_ok-names.ensures in
+    let others = subst (λ names. AreRead old names more) named found in
+    IfOk-weaker c.work.result _ _
+    (λ answer worked. worked_is command files more old new answer others
+    (subst (λ bytes. IsWorked command files bytes answer) c.as_slice.ensures worked))
+    c.work.ensures
