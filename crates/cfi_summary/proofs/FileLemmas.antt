@@ -1,15 +1,15 @@
--- The modules of files, one more after the other, and that a series can take them.
-use Rattle.std.proofs.Common.{◌≡◌, ℕ, ◌+◌, ◌<◌, ◌≤◌, ◌++◌, List, [], ◌∷◌, length, take, get_or, Some, ap, sym, subst, ◌∙◌, ⊎_elim, arith, length-append}
-use Rattle.std.specs.List.{slice_get}
-use Rattle.std.proofs.lemmas.Bool.{cases_lt}
+-- That a series can take the modules of files, one after the other, and their first fault.
+use Rattle.std.proofs.Common.{◌≡◌, ℕ, ◌+◌, ◌<◌, ◌++◌, List, [], ◌∷◌, length, take, get_or, Some, All, ap, sym, subst, ◌∙◌, arith}
 use Rattle.std.proofs.lemmas.List.{take_more}
-use Rattle.std.proofs.lemmas.Option.{slice_get_within, slice_get-get_or}
+use Rattle.std.proofs.lemmas.List.Elements.{All-nil, All-cons, All-head, All-tail}
+use Rattle.std.proofs.lemmas.Option.{slice_get-get_or}
 use Rattle.elf_read.specs.Header.{section_count}
 use Rattle.elf_read.specs.declared.object.Object.{Object}
 use Rattle.cfi_aux.specs.declared.modules.Module.{Module}
 use Rattle.cfi_aux.specs.Sound.{IsSoundModule}
 use Rattle.cfi_aux.proofs.JoinedLists.{data_length}
 use Rattle.cfi_tools.specs.Reading.{IsModuleFile}
+use Rattle.cfi_tools.specs.Modules.{AreModuleFiles}
 use Rattle.cfi_tools.proofs.ListingLemmas.{short_text}
 use Rattle.cfi_tools.proofs.InstrumentingLemmas.{few_relocs}
 use Rattle.cfi_aux.specs.declared.placed.Placed.{Placed}
@@ -17,11 +17,10 @@ use Rattle.cfi_modules.specs.declared.fault.JoinFault.{JoinFault}
 use Rattle.cfi_modules.specs.declared.fault.JoinFault.TheVariants as joins
 use Rattle.cfi_modules.specs.Order.{Joins, AreInOrder, IsJoinFault, IsFirstRefused}
 use Rattle.cfi_modules.specs.Series.{Series, HasJoined, CanBeTaken}
-use Rattle.cfi_modules.proofs.OrderLemmas.{left, last}
 use Rattle.cfi_modules.proofs.OrderLemmas.{order_more as in_order_more}
 use Rattle.cfi_summary.specs.declared.fault.FilesFault.{FilesFault}
 use Rattle.cfi_summary.specs.declared.fault.FilesFault.TheVariants as faults
-use Rattle.cfi_summary.specs.Files.{AreModuleFiles, IsFilesFault, IsSeriesFault, fault_at}
+use Rattle.cfi_summary.specs.Files.{IsFilesFault, IsSeriesFault, fault_at}
 
 -- what was read of a file is small
 pub taken : (bytes : List ℕ) (m : Module) → IsModuleFile bytes m → IsSoundModule m → CanBeTaken m
@@ -39,33 +38,15 @@ taken bytes m file sound =
       functions = omega (arith, file.whole.parts.good.function_count);
     }
 
--- what holds of the items of two lists, and of one more of each
-module _ {X Y : Type 0} (P : X → Y → Type 0) (xs : List X) (ys : List Y) (x : X) (y : Y) where
-  pub each_more : length ys ≡ length xs
-      → ((k : ℕ) (a : X) (b : Y) → slice_get xs k ≡ Some a → slice_get ys k ≡ Some b → P a b) → P x y
-      → (k : ℕ) (a : X) (b : Y) → slice_get (xs ++ x ∷ []) k ≡ Some a → slice_get (ys ++ y ∷ []) k ≡ Some b → P a b
-  each_more same all one k a b is there = ⊎_elim
-      (λ (less : k < length xs).
-      all k a b (left xs (x ∷ []) k a less is) (left ys (y ∷ []) k b (omega (arith, less, same)) there))
-      (λ (more : length xs ≤ k).
-      let end : k ≡ length xs =
-      omega (arith, more, slice_get_within (xs ++ x ∷ []) k a is, length-append xs (x ∷ [])) in
-      subst (λ (z : X). P z b) (last xs x k a end is)
-      (subst (λ (z : Y). P x z) (last ys y k b (end ∙ sym same) there) one))
-      (cases_lt k (length xs))
-
--- one file more
-pub files_more : (files : List (List ℕ)) (n : ℕ) (modules : List Module) (file : List ℕ) (m : Module)
-    → n < length files → file ≡ get_or files n file → AreModuleFiles (take n files) modules → IsModuleFile file m
-    → AreModuleFiles (take (n + 1) files) (modules ++ m ∷ [])
-files_more files n modules file m within is before one =
-    let more : take (n + 1) files ≡ take n files ++ file ∷ [] =
-    take_more files n file within ∙ ap (λ (x : List ℕ). take n files ++ x ∷ []) (sym is) in
-    subst (λ (xs : List (List ℕ)). AreModuleFiles xs (modules ++ m ∷ [])) (sym more)
-    (record {
-      count = omega (arith, length-append modules (m ∷ []), length-append (take n files) (file ∷ []), before.count);
-      each = each_more IsModuleFile (take n files) modules file m before.count before.each one;
-    })
+-- what was read of files is small
+pub all_taken : (files : List (List ℕ)) (modules : List Module) → AreModuleFiles files modules
+    → All IsSoundModule modules → All CanBeTaken modules
+all_taken [] [] read sound = All-nil CanBeTaken
+all_taken [] (m ∷ modules) read sound = absurd read
+all_taken (file ∷ files) [] read sound = absurd read
+all_taken (file ∷ files) (m ∷ modules) read sound =
+    All-cons CanBeTaken m modules (taken file m read.0 (All-head IsSoundModule m modules sound))
+    (all_taken files modules read.1 (All-tail IsSoundModule m modules sound))
 
 module _ (code_words : ℕ) (modules : List Module) (k : ℕ) (m : Module) (within : k < length modules)
     (is : m ≡ get_or modules k m) (series : Series) (same : series.code_words ≡ code_words)

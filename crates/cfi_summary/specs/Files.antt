@@ -1,31 +1,16 @@
 -- The placed modules of files, and the first reason why there are none. Every file is taken as a module, in order,
 -- before the first is placed. Files and modules are numbered from 0.
-use Rattle.std.specs.Prelude.{◌≡◌, ◌≢◌, ℕ, List, length, take, slice_get, Some, ⊤}
+use Rattle.std.specs.Prelude.{ℕ, List, ⊤}
 use Rattle.cfi_aux.specs.declared.modules.Module.{Module}
 use Rattle.cfi_aux.specs.declared.placed.Placed.{Placed}
-use Rattle.cfi_tools.specs.declared.reading.FileFault.{FileFault}
-use Rattle.cfi_tools.specs.declared.reading.FileFault.TheVariants as file_faults
-use Rattle.cfi_tools.specs.Reading.{IsModuleFile, IsFileFault}
+use Rattle.cfi_tools.specs.declared.modules.ModulesFault.{ModulesFault}
+use Rattle.cfi_tools.specs.declared.modules.ModulesFault.TheVariants as file_faults
+use Rattle.cfi_tools.specs.Modules.{AreModuleFiles, IsFirstBadFile}
 use Rattle.cfi_modules.specs.declared.fault.JoinFault.{JoinFault}
 use Rattle.cfi_modules.specs.declared.fault.JoinFault.TheVariants as joins
 use Rattle.cfi_modules.specs.Order.{AreInOrder, IsFirstRefused}
 use Rattle.cfi_summary.specs.declared.fault.FilesFault.{FilesFault}
 use Rattle.cfi_summary.specs.declared.fault.FilesFault.TheVariants.{File, Place, Verify, Memory}
-
--- the files are these modules
-pub record AreModuleFiles (files : List (List ℕ)) (modules : List Module) : Type 0 where
-  pub count : length modules ≡ length files
-  pub each : (k : ℕ) (file : List ℕ) (m : Module) → slice_get files k ≡ Some file → slice_get modules k ≡ Some m
-      → IsModuleFile file m
-
--- the file of this number is the first that is no module
-pub record IsFirstBadFile (files : List (List ℕ)) (number : ℕ) (fault : FileFault) : Type 0 where
-  pub file : List ℕ
-  pub is : slice_get files number ≡ Some file
-  pub before : List Module
-  pub read : AreModuleFiles (take number files) before
-  pub why : IsFileFault file fault
-  pub no_memory : fault ≢ file_faults.Memory
 
 -- all files are modules, and the module of this number is the first that does not join those before it
 pub record IsFirstBadModule (code_words : ℕ) (files : List (List ℕ)) (number : ℕ) (fault : JoinFault) : Type 0 where
@@ -58,3 +43,8 @@ abbrev pub fault_at : (number : ℕ) → JoinFault → FilesFault
 fault_at number (joins.Place fault) = Place number fault
 fault_at number (joins.Verify fault) = Verify number fault
 fault_at number joins.Memory = Memory
+
+-- a fault of the files, as one of the files in order
+abbrev pub files_as : ModulesFault → FilesFault
+files_as (file_faults.File number fault) = File number fault
+files_as file_faults.Memory = Memory

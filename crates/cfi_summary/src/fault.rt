@@ -2,9 +2,10 @@
 
 ghost use Rattle.std.specs.Prelude.{◌≡◌};
 ghost use Rattle.cfi_summary.specs.declared.fault.FilesFault.TheVariants.{Memory};
+ghost use Rattle.cfi_summary.specs.Files.{files_as};
 
 use cfi_place::PlaceFault;
-use cfi_tools::FileFault;
+use cfi_tools::{FileFault, ModulesFault};
 use cfi_verify::VerifyFault;
 use std::alloc::{AllocError, AllocFailed};
 
@@ -34,5 +35,16 @@ impl<T: Drop> From<AllocFailed<T>> for FilesFault {
 
     fn from(_error: AllocFailed<T>) -> FilesFault {
         FilesFault::Memory
+    }
+}
+
+impl From<ModulesFault> for FilesFault {
+    ghost from_gives = { λ fault e. e ≡ files_as fault };
+
+    fn from(fault: ModulesFault) -> FilesFault {
+        match fault {
+            ModulesFault::File { number, fault } => FilesFault::File(number, fault),
+            ModulesFault::Memory => FilesFault::Memory,
+        }
     }
 }

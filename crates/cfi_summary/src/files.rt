@@ -1,41 +1,20 @@
 //! The modules of files, placed.
 
-ghost use Rattle.std.specs.Prelude.{◌≡◌, ◌≤◌, ℕ, List, length, All, IfOk, IfErr};
-ghost use Rattle.elf_read.specs.declared.rela.TheConstants.{MAX_FILE};
-ghost use Rattle.cfi_aux.specs.declared.modules.Module.{Module as Unplaced};
+ghost use Rattle.std.specs.Prelude.{◌≡◌, All, IfOk, IfErr};
 ghost use Rattle.cfi_plan.specs.Plan.{IsPlan};
+ghost use Rattle.cfi_tools.specs.Modules.{IsShortFile};
 ghost use Rattle.cfi_modules.specs.Order.{AreInOrder};
 ghost use Rattle.cfi_modules.specs.Series.{CanBeTaken};
-ghost use Rattle.cfi_summary.specs.Files.{AreModuleFiles, ArePlacedFiles, IsFilesFault, IsSeriesFault, fault_at};
+ghost use Rattle.cfi_summary.specs.Files.{ArePlacedFiles, IsFilesFault, IsSeriesFault, fault_at};
 
 use crate::fault::FilesFault;
 use cfi_aux::Module;
 use cfi_modules::{JoinFault, Series};
 use cfi_plan::Plan;
-use cfi_tools::{FileFault, read_module};
+use cfi_tools::read_modules;
 use cfi_unit::Bytes;
 use cfi_word::Layout;
 use std::alloc::Global;
-
-/// The modules that the files are, in their order.
-///
-/// `File` with the number of the first that is none.
-pub fn read_modules(alloc: Global, files: &[Bytes]) -> Result<Vec<Module>, FilesFault>
-    requires small { All (λ file. length file ≤ MAX_FILE) files.now }
-    ensures ok { IfOk result (λ modules. AreModuleFiles files.now modules.items) }
-    ensures taken { IfOk result (λ modules. All CanBeTaken modules.items) }
-    ensures fault { (code_words : ℕ) → IfErr result (IsFilesFault code_words files.now) }
-{
-    let mut modules = Vec::new(alloc);
-    for (number, file) in files.iter().enumerate() {
-        match read_module(alloc, file.as_slice()) {
-            Ok(found) => modules.push(found)?,
-            Err(FileFault::Memory) => return Err(FilesFault::Memory),
-            Err(fault) => return Err(FilesFault::File(number, fault)),
-        }
-    }
-    Ok(modules)
-}
 
 // The fault of the module of a number.
 fn fault_at(number: usize, fault: JoinFault) -> FilesFault
@@ -77,10 +56,10 @@ fn layout_of(plan: &Plan) -> Layout
 /// of this order.
 pub fn placed_files(alloc: Global, plan: &Plan, files: &[Bytes]) -> Result<Series, FilesFault>
     requires plan { IsPlan plan.now }
-    requires small { All (λ file. length file ≤ MAX_FILE) files.now }
+    requires small { All IsShortFile files.now }
     ensures ok { IfOk result (λ series. ArePlacedFiles plan.now.code_words files.now series.placed) }
     ensures fault { IfErr result (IsFilesFault plan.now.code_words files.now) }
 {
     let modules = read_modules(alloc, files)?;
-    place_all(alloc, &layout_of(plan), &modules)
+    place_all(alloc, &layout_of(plan), modules.as_slice())
 }

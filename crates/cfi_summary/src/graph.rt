@@ -1,9 +1,9 @@
 //! The text of the groups of a policy.
 
-ghost use Rattle.std.specs.Prelude.{◌≡◌, ◌≤◌, ◌++◌, length, All, IfOk, IfErr, OnOk};
+ghost use Rattle.std.specs.Prelude.{◌≡◌, ◌++◌, All, IfOk, IfErr, OnOk};
 ghost use Rattle.std.specs.List.{flat_map};
-ghost use Rattle.elf_read.specs.declared.rela.TheConstants.{MAX_FILE};
 ghost use Rattle.cfi_plan.specs.Plan.{IsPlan};
+ghost use Rattle.cfi_tools.specs.Modules.{IsShortFile};
 ghost use Rattle.cfi_summary.specs.Files.{IsFilesFault};
 ghost use Rattle.cfi_summary.specs.Graph.{slot_word, address_word, line_of, IsGraphText};
 
@@ -71,7 +71,7 @@ fn lines_of(alloc: Global, groups: &[Group]) -> Result<Vec<u8>, AllocError>
 /// The fault is the first of the files.
 pub fn graph_text(alloc: Global, plan: &Plan, files: &[Bytes]) -> Result<Vec<u8>, FilesFault>
     requires plan { IsPlan plan.now }
-    requires small { All (λ file. length file ≤ MAX_FILE) files.now }
+    requires small { All IsShortFile files.now }
     ensures ok { IfOk result (λ text. IsGraphText plan.now.code_words files.now text.items) }
     ensures fault { IfErr result (IsFilesFault plan.now.code_words files.now) }
 {

@@ -14,6 +14,6 @@ mod tests;
 mod verified;
 
 pub use fault::FilesFault;
-pub use files::{placed_files, read_modules};
+pub use files::placed_files;
 pub use graph::graph_text;
 pub use verified::verified_text;

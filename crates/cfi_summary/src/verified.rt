@@ -1,8 +1,8 @@
 //! The text of modules that verify.
 
-ghost use Rattle.std.specs.Prelude.{◌≡◌, ◌≤◌, ◌++◌, length, All, IfOk, IfErr, OnOk};
-ghost use Rattle.elf_read.specs.declared.rela.TheConstants.{MAX_FILE};
+ghost use Rattle.std.specs.Prelude.{◌≡◌, ◌++◌, length, All, IfOk, IfErr, OnOk};
 ghost use Rattle.cfi_plan.specs.Plan.{IsPlan};
+ghost use Rattle.cfi_tools.specs.Modules.{IsShortFile};
 ghost use Rattle.cfi_summary.specs.Files.{IsFilesFault};
 ghost use Rattle.cfi_summary.specs.Verified.{line_of, lines_of, IsVerifiedText};
 
@@ -46,7 +46,7 @@ fn lines_of(alloc: Global, modules: &[PlanModule], placed: &[Placed]) -> Result<
 pub fn verified_text(alloc: Global, plan: &Plan, files: &[Bytes]) -> Result<Vec<u8>, FilesFault>
     requires plan { IsPlan plan.now }
     requires count { length plan.now.modules ≡ length files.now }
-    requires small { All (λ file. length file ≤ MAX_FILE) files.now }
+    requires small { All IsShortFile files.now }
     ensures ok { IfOk result (λ text. IsVerifiedText plan.now files.now text.items) }
     ensures fault { IfErr result (IsFilesFault plan.now.code_words files.now) }
 {

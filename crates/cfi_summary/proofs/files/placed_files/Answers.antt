@@ -1,8 +1,11 @@
-use Rattle.std.proofs.lemmas.Result.{err_from_is_err_and}
+use Rattle.std.proofs.Common.{All, sym, subst}
+use Rattle.cfi_modules.specs.Series.{CanBeTaken}
+use Rattle.cfi_summary.proofs.FileLemmas.{all_taken}
 use Rattle.cfi_summary.proofs.files.placed_files.Goals as goal
 
--- a file that is no module
-pub returns-in_err-modules-clause-fault : goal.returns-in_err-modules-clause-fault
-returns-in_err-modules-clause-fault c =
-    let p = err_from_is_err_and c.from_residual.result c.from_residual.ensures.1 in
-    rw (p.1, p.2) (c.in_err-modules.ensures.fault c.args.plan.now.code_words)
+-- what was read of files can be taken
+pub place_all-requires-taken : goal.place_all-requires-taken
+place_all-requires-taken c =
+    let read = c.in_ok-modules.ensures in
+    subst (All CanBeTaken) (sym c.as_slice.ensures)
+    (all_taken c.args.files.now c.in_ok-modules.modules read.ok read.sound)
