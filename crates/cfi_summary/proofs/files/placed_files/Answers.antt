@@ -4,8 +4,10 @@ use Rattle.cfi_summary.proofs.FileLemmas.{all_taken}
 use Rattle.cfi_summary.proofs.files.placed_files.Goals as goal
 
 -- what was read of files can be taken
-pub place_all-requires-taken : goal.place_all-requires-taken
-place_all-requires-taken c =
+pub place_all-requires : goal.place_all-requires
+place_all-requires c =
     let read = c.in_ok-modules.ensures in
-    subst (All CanBeTaken) (sym c.as_slice.ensures)
-    (all_taken c.args.files.now c.in_ok-modules.modules read.ok read.sound)
+    record {
+      taken = subst (All CanBeTaken) (sym c.as_slice.ensures)
+          (all_taken c.args.files.now c.in_ok-modules.modules read.ok read.sound);
+    }
