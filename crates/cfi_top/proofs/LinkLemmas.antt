@@ -18,7 +18,7 @@ pub short_files : (files : List (List ℕ)) → All IsShort files → All IsShor
 short_files files short = All-weaker IsShort IsShortFile (λ bytes fits. omega (arith, fits)) files short
 
 -- an item that is there is within
-some_within : {X : Type 0} (xs : List X) (k : ℕ) (P : X → Type 0) → IsSomeAnd (slice_get xs k) P → k < length xs
+pub some_within : {X : Type 0} (xs : List X) (k : ℕ) (P : X → Type 0) → IsSomeAnd (slice_get xs k) P → k < length xs
 some_within {X} xs k P some =
     elim (cases_lt k (length xs)) [
       | inl within ↦ within

@@ -13,12 +13,15 @@ use Rattle.cfi_summary.specs.declared.fault.FilesFault.{FilesFault}
 use Rattle.cfi_summary.specs.declared.fault.FilesFault.TheVariants as summary
 use Rattle.cfi_summary.specs.Files.{IsFilesFault}
 use Rattle.cfi_tools.specs.declared.reading.FileFault.{FileFault}
+use Rattle.cfi_tools.specs.Reading.{IsFileFault}
+use Rattle.cfi_tools.proofs.ModulesLemmas.{same_count}
 use Rattle.cfi_tools.specs.declared.reading.FileFault.TheVariants as faults
 use Rattle.cfi_top.specs.declared.answer.Answer.{Answer}
 use Rattle.cfi_top.specs.declared.answer.Answer.TheVariants as answers
 use Rattle.cfi_top.specs.declared.command.Command.TheVariants as commands
 use Rattle.cfi_top.specs.Outcome.{IsModuleRefused, RefusesPlan, IsWorked}
 use Rattle.cfi_top.specs.Plans.{files_in, files_of, named_files}
+use Rattle.cfi_top.proofs.LinkLemmas.{some_within}
 use Rattle.cfi_top.specs.Refused.{IsAmong, IsFileRefused, IsFilesRefused, plan_refused}
 
 -- the files that the bytes of a plan name are the plan's
@@ -32,20 +35,38 @@ named_count bytes plan is =
     ap (λ (names : List (List ℕ)). length names) (named_of bytes plan is)
     ∙ length-map plan.modules (λ (one : PlanModule). one.file)
 
--- the fault of files is of one of them
-pub among : (code_words : ℕ) (files : List (List ℕ)) (fault : FilesFault) → IsFilesFault code_words files fault
-    → IsAmong (length files) fault
-among code_words files (summary.File number fault) bad = slice_get_within files number bad.file bad.is
-among code_words files (summary.Place number fault) bad =
-    omega (arith, slice_get_within bad.modules number bad.refused.refused bad.refused.is, bad.read.count)
-among code_words files (summary.Verify number fault) bad =
-    omega (arith, slice_get_within bad.modules number bad.refused.refused bad.refused.is, bad.read.count)
-among code_words files summary.Memory bad = tt
-
 -- what holds of an item that is there
 found_at : {X : Type 0} (P : X → Type 0) (found : Option X) → IsSomeAnd found P → (x : X) × (found ≡ Some x) × P x
 found_at P None some = absurd some
 found_at P (Some x) some = (x, refl, some)
+
+-- the fault of files is of one of them
+among : (code_words : ℕ) (files : List (List ℕ)) (fault : FilesFault) → IsFilesFault code_words files fault
+    → IsAmong (length files) fault
+among code_words files (summary.File number fault) bad =
+    some_within files number (λ bytes. IsFileFault bytes fault) bad.here
+among code_words files (summary.Place number fault) bad =
+    omega (
+      arith,
+      slice_get_within bad.modules number bad.refused.refused bad.refused.is,
+      same_count files bad.modules bad.read,
+    )
+among code_words files (summary.Verify number fault) bad =
+    omega (
+      arith,
+      slice_get_within bad.modules number bad.refused.refused bad.refused.is,
+      same_count files bad.modules bad.read,
+    )
+among code_words files summary.Memory bad = tt
+
+-- ... so it is of one of the plan's modules
+pub among_modules : (bytes : List ℕ) (plan : Plan) (files : List (List ℕ)) (modules : List PlanModule)
+    (fault : FilesFault) → plan_in bytes ≡ Ok plan → length files ≡ length (named_files bytes)
+    → modules ≡ plan.modules → IsFilesFault plan.code_words files fault → IsAmong (length modules) fault
+among_modules bytes plan files modules fault is count same bad =
+    let all : length files ≡ length modules =
+    count ∙ named_count bytes plan is ∙ sym (ap (λ (ms : List PlanModule). length ms) same) in
+    subst (λ (n : ℕ). IsAmong n fault) all (among plan.code_words files fault bad)
 
 -- ---- refusals that stand
 

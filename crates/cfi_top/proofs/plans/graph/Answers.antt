@@ -1,8 +1,14 @@
 use Rattle.std.proofs.Common.{subst}
 use Rattle.std.proofs.lemmas.Result.{IfOk-weaker}
 use Rattle.cfi_top.specs.Refused.{IsFilesRefused}
-use Rattle.cfi_top.proofs.PlansLemmas.{files_stand, graph_stands}
+use Rattle.cfi_top.proofs.PlansLemmas.{among_modules, files_stand, graph_stands}
 use Rattle.cfi_top.proofs.plans.graph.Goals as goal
+
+-- the fault is of one of the plan's modules
+pub files_refused-requires : goal.files_refused-requires
+files_refused-requires c =
+    among_modules c.args.bytes.now c.in-Ok.found c.args.files.now c.as_slice.result.now c.in-Err-graph_text.fault
+    c.in-Ok.ensures.due c.requires.named c.as_slice.ensures c.in-Err-graph_text.ensures.fault
 
 -- the first of the modules' files that has a fault is refused by its name
 pub returns : goal.returns
