@@ -88,6 +88,8 @@ impl Shelf for MemShelf {
         ensures faults { shelf_faults self.old ≤ shelf_faults self.new }
         ensures still { (result ≢ Err Failed) → shelf_faults self.new ≡ shelf_faults self.old }
         ensures misses { shelf_misses self.old ≤ shelf_misses self.new }
+        ensures unmissed { (result ≢ Err Absent) → (result ≢ Err TooLong) →
+            shelf_misses self.new ≡ shelf_misses self.old }
         ensures counted { shelf_calls self.new ≡ next_count (shelf_calls self.old) }
         ensures same_fails { shelf_fails self.new ≡ shelf_fails self.old }
     {
@@ -124,6 +126,7 @@ impl Shelf for MemShelf {
         ensures faults { shelf_faults self.old ≤ shelf_faults self.new }
         ensures still { (result ≢ Err Failed) → shelf_faults self.new ≡ shelf_faults self.old }
         ensures misses { shelf_misses self.old ≤ shelf_misses self.new }
+        ensures unmissed { shelf_misses self.new ≡ shelf_misses self.old }
         ensures counted { shelf_calls self.new ≡ next_count (shelf_calls self.old) }
         ensures same_fails { shelf_fails self.new ≡ shelf_fails self.old }
     {
