@@ -1,18 +1,15 @@
 -- Which words the matches have.
-use Rattle.std.proofs.Common.{◌≡◌, List, [], ◌∷◌, Option, Some, None, refl, sym, ap, ap₂, ◌∙◌, codes, unwrap_or, drop, option_map, IfSome}
+use Rattle.std.proofs.Common.{◌≡◌, List, [], ◌∷◌, Option, Some, None, refl, ap, ◌∙◌, codes, unwrap_or, drop}
 use Rattle.std.specs.Prelude.{All, slice_get}
 use Rattle.std.proofs.lemmas.List.Elements.{All-head}
-use Rattle.std.proofs.lemmas.Option.{none-some}
-use Rattle.clap.specs.Matches.{first_value, found_of}
+use Rattle.clap.specs.Matches.{found_of}
 use Rattle.clap.specs.Simple.{HasMatchesOf, matches_of}
 use Rattle.clap.specs.Walk.{Row, Text, Walk, all_of, finished, first_of, reading_by, rows_of}
 use Rattle.clap.specs.declared.parser.matches.ArgMatches.{ArgMatches}
 use Rattle.clap.specs.declared.parser.matches.ValueSource.TheVariants.{CommandLine}
 use Rattle.clap.proofs.WalkLemmas.{first_value-rows, raw_values-rows}
-use Rattle.cfi_args.specs.declared.split.Split.{Split}
 use Rattle.cfi_args.specs.Words.{IsOperand}
-use Rattle.cfi_args.specs.Parse.{HasWords, operands_in, others_rule, reader}
-use Rattle.cfi_args.specs.Split.{IsSplit, command_in, operands_of}
+use Rattle.cfi_args.specs.Parse.{HasWords, others_rule, reader}
 use Rattle.cfi_args.proofs.WalkLemmas.{first_row, rules}
 use Rattle.cfi_args.proofs.TakesLemmas.{walk_of_one, walk_of_more}
 
@@ -58,16 +55,3 @@ has_words words m all matches =
       operands = ap (λ (found : Option (List Text)). unwrap_or found [])
           (raw_values-rows (found_of m) (codes "words") ∙ ap (all_of (codes "words")) rows) ∙ operands_are words;
     }
-
--- what is read off the matches is the words
-pub split_is : (words : List Text) (m : ArgMatches) (found : Option Split) → All IsOperand words → HasWords words m
-    → option_map command_in found ≡ first_value (found_of m) (codes "command")
-    → IfSome found (λ split. operands_of split ≡ operands_in m) → IsSplit words found
-split_is [] m None all has command operands = λ both. both.1 refl
-split_is [] m (Some split) all has command operands = absurd (none-some _ (sym (command ∙ has.command)))
-split_is (first ∷ rest) m None all has command operands = absurd (none-some _ (command ∙ has.command))
-split_is (first ∷ rest) m (Some split) all has command operands =
-    let named : command_in split ≡ first =
-    ap (λ (found : Option Text). unwrap_or found first) (command ∙ has.command) in
-    let others : operands_of split ≡ rest = operands ∙ has.operands in
-    (all, sym (ap₂ (λ (x : Text) (xs : List Text). x ∷ xs) named others))

@@ -16,22 +16,27 @@ pub take-rest : (bytes : List ℕ) (done : ℕ) → take (length bytes - done) (
 take-rest bytes done = take_all _ _ (omega (arith, length-drop done bytes))
 
 -- two pieces of some bytes, one after the other
-pub Appends-take : (before now after : Option (List ℕ)) (bytes rest : List ℕ) (done count : ℕ) → Appends before now (take done bytes) → rest ≡ drop done bytes → Appends now after (take count rest) → Appends before after (take (done + count) bytes)
+pub Appends-take : (before now after : Option (List ℕ)) (bytes rest : List ℕ) (done count : ℕ)
+    → Appends before now (take done bytes) → rest ≡ drop done bytes → Appends now after (take count rest)
+    → Appends before after (take (done + count) bytes)
 Appends-take None now after bytes rest done count front is more = tt
 Appends-take (Some xs) (Some ys) (Some zs) bytes rest done count front is more =
     let piece : zs ≡ ys ++ take count (drop done bytes) = rw (← is) more in
-    piece ∙ ap (λ (l : List ℕ). l ++ take count (drop done bytes)) front ∙ append_assoc xs _ _ ∙ ap (λ (l : List ℕ). xs ++ l) (take-plus done count bytes)
+    piece ∙ ap (λ (l : List ℕ). l ++ take count (drop done bytes)) front ∙ append_assoc xs _ _
+    ∙ ap (λ (l : List ℕ). xs ++ l) (take-plus done count bytes)
 Appends-take (Some xs) (Some ys) None bytes rest done count front is more = more
 Appends-take (Some xs) None after bytes rest done count front is more = absurd front
 
 -- what was read is all that was left, or its first n bytes
-pub Consumes-take : (before after : Option (List ℕ)) (bytes : List ℕ) (n : ℕ) → Consumes before after bytes → length bytes ≡ n → WhereTold before (λ left. bytes ≡ take n left)
+pub Consumes-take : (before after : Option (List ℕ)) (bytes : List ℕ) (n : ℕ) → Consumes before after bytes
+    → length bytes ≡ n → WhereTold before (λ left. bytes ≡ take n left)
 Consumes-take None after bytes n read full = tt
 Consumes-take (Some left) None bytes n read full = absurd read
 Consumes-take (Some left) (Some rest) bytes n read full = rw read (sym (take_at bytes rest n full))
 
 -- a reader at its end has given all that was left
-pub Consumes-all : (before after : Option (List ℕ)) (bytes : List ℕ) (n : ℕ) → Consumes before after bytes → IsAtEnd after → length bytes ≤ n → WhereTold before (λ left. bytes ≡ take n left)
+pub Consumes-all : (before after : Option (List ℕ)) (bytes : List ℕ) (n : ℕ) → Consumes before after bytes
+    → IsAtEnd after → length bytes ≤ n → WhereTold before (λ left. bytes ≡ take n left)
 Consumes-all None after bytes n read end short = tt
 Consumes-all (Some left) None bytes n read end short = absurd read
 Consumes-all (Some left) (Some rest) bytes n read end short =
@@ -39,7 +44,8 @@ Consumes-all (Some left) (Some rest) bytes n read end short =
     rw all (sym (take_all n bytes short))
 
 -- a reader that is at its end after a read of nothing was there before
-pub IsAtEnd-before : (before after : Option (List ℕ)) (bytes : List ℕ) (count : ℕ) → count ≡ 0 → Consumes before after (take count bytes) → IsAtEnd after → IsAtEnd before
+pub IsAtEnd-before : (before after : Option (List ℕ)) (bytes : List ℕ) (count : ℕ) → count ≡ 0
+    → Consumes before after (take count bytes) → IsAtEnd after → IsAtEnd before
 IsAtEnd-before None after bytes count nothing read end = tt
 IsAtEnd-before (Some left) None bytes count nothing read end = absurd read
 IsAtEnd-before (Some left) (Some rest) bytes count nothing read end =

@@ -10,7 +10,7 @@ pub record Puts (name bytes : List ℕ) (old new : Files) : Type 0 where
   pub here : new name ≡ Some bytes
   pub elsewhere : (other : List ℕ) → other ≢ name → new other ≡ old other
 
--- after a write that failed, the name has what stood there or some of these bytes, from the first on, and all else stays
+-- after a write that failed, the name has what stood there or some of these bytes, from the first on; all else stays
 pub record PutsPart (name bytes : List ℕ) (old new : Files) : Type 0 where
   pub here : (new name ≡ old name) ⊎ ((k : ℕ) × (new name ≡ Some (take k bytes)))
   pub elsewhere : (other : List ℕ) → other ≢ name → new other ≡ old other

@@ -71,18 +71,25 @@ impl Shelf for MemShelf {
     fn read(&mut self, name: &str) -> Result<Vec<u8>, ShelfFault>
         ensures within { IfOk result (λ bytes. vec_len bytes ≤ MAX_FILE_BYTES) }
         ensures ok { IfOk result (λ bytes. files_held self.old name.now ≡ Some bytes.items) }
-        ensures failed { IsErrOf result Failed → Rose (shelf_faults self.old) (shelf_faults self.new) }
-        ensures numbered { IsErrOf result Failed → Contains (shelf_fails self.old) (shelf_calls self.old) }
-        ensures fails { Contains (shelf_fails self.old) (shelf_calls self.old) → result ≡ Err Failed }
-        ensures absent { IsErrOf result Absent → Rose (shelf_misses self.old) (shelf_misses self.new) }
+        ensures failed { IsErrOf result Failed →
+            Rose (shelf_faults self.old) (shelf_faults self.new) }
+        ensures numbered { IsErrOf result Failed →
+            Contains (shelf_fails self.old) (shelf_calls self.old) }
+        ensures fails { Contains (shelf_fails self.old) (shelf_calls self.old) →
+            result ≡ Err Failed }
+        ensures absent { IsErrOf result Absent →
+            Rose (shelf_misses self.old) (shelf_misses self.new) }
         ensures lacks { IsErrOf result Absent → files_held self.old name.now ≡ None }
-        ensures too_long { IsErrOf result TooLong → Rose (shelf_misses self.old) (shelf_misses self.new) }
+        ensures too_long { IsErrOf result TooLong →
+            Rose (shelf_misses self.old) (shelf_misses self.new) }
         ensures exceeds { IsErrOf result TooLong →
             IsSomeAnd (files_held self.old name.now) (λ bytes. MAX_FILE_BYTES < length bytes) }
         ensures same { Some (files_held self.new) ≡ Some (files_held self.old) }
         ensures faults { shelf_faults self.old ≤ shelf_faults self.new }
         ensures still { (result ≢ Err Failed) → shelf_faults self.new ≡ shelf_faults self.old }
         ensures misses { shelf_misses self.old ≤ shelf_misses self.new }
+        ensures unmissed { (result ≢ Err Absent) → (result ≢ Err TooLong) →
+            shelf_misses self.new ≡ shelf_misses self.old }
         ensures counted { shelf_calls self.new ≡ next_count (shelf_calls self.old) }
         ensures same_fails { shelf_fails self.new ≡ shelf_fails self.old }
     {
@@ -101,18 +108,25 @@ impl Shelf for MemShelf {
     }
 
     fn write(&mut self, name: &str, bytes: &[u8]) -> Result<(), ShelfFault>
-        ensures ok { OnOk result (Puts name.now bytes.now (files_held self.old) (files_held self.new)) }
-        ensures failed { IsErrOf result Failed → Rose (shelf_faults self.old) (shelf_faults self.new) }
-        ensures numbered { IsErrOf result Failed → Contains (shelf_fails self.old) (shelf_calls self.old) }
-        ensures fails { Contains (shelf_fails self.old) (shelf_calls self.old) → result ≡ Err Failed }
-        ensures part { IsErrOf result Failed → PutsPart name.now bytes.now (files_held self.old) (files_held self.new) }
+        ensures ok { OnOk result
+            (Puts name.now bytes.now (files_held self.old) (files_held self.new)) }
+        ensures failed { IsErrOf result Failed →
+            Rose (shelf_faults self.old) (shelf_faults self.new) }
+        ensures numbered { IsErrOf result Failed →
+            Contains (shelf_fails self.old) (shelf_calls self.old) }
+        ensures fails { Contains (shelf_fails self.old) (shelf_calls self.old) →
+            result ≡ Err Failed }
+        ensures part { IsErrOf result Failed →
+            PutsPart name.now bytes.now (files_held self.old) (files_held self.new) }
         ensures err { OnErr result (files_held self.new ≡ files_held self.old) }
-        ensures memory { IsErrOf result Memory → Some (files_held self.new) ≡ Some (files_held self.old) }
+        ensures memory { IsErrOf result Memory →
+            Some (files_held self.new) ≡ Some (files_held self.old) }
         ensures no_absent { IsErrOf result Absent → ⊥ }
         ensures no_too_long { IsErrOf result TooLong → ⊥ }
         ensures faults { shelf_faults self.old ≤ shelf_faults self.new }
         ensures still { (result ≢ Err Failed) → shelf_faults self.new ≡ shelf_faults self.old }
         ensures misses { shelf_misses self.old ≤ shelf_misses self.new }
+        ensures unmissed { shelf_misses self.new ≡ shelf_misses self.old }
         ensures counted { shelf_calls self.new ≡ next_count (shelf_calls self.old) }
         ensures same_fails { shelf_fails self.new ≡ shelf_fails self.old }
     {

@@ -48,13 +48,16 @@ impl Sink for MemSink {
 
     fn write(&mut self, bytes: &[u8]) -> Result<(), SinkFault>
         ensures ok { OnOk result (bytes_held self.new ≡ bytes_held self.old ++ bytes.now) }
-        ensures failed { IsErrOf result Failed → Rose (sink_faults self.old) (sink_faults self.new) }
-        ensures numbered { IsErrOf result Failed → Contains (sink_fails self.old) (sink_calls self.old) }
+        ensures failed { IsErrOf result Failed →
+            Rose (sink_faults self.old) (sink_faults self.new) }
+        ensures numbered { IsErrOf result Failed →
+            Contains (sink_fails self.old) (sink_calls self.old) }
         ensures fails { Contains (sink_fails self.old) (sink_calls self.old) → result ≡ Err Failed }
         ensures part { IsErrOf result Failed →
             AppendsPrefix (Some (bytes_held self.old)) (Some (bytes_held self.new)) bytes.now }
         ensures err { OnErr result (bytes_held self.new ≡ bytes_held self.old) }
-        ensures memory { IsErrOf result Memory → Some (bytes_held self.new) ≡ Some (bytes_held self.old) }
+        ensures memory { IsErrOf result Memory →
+            Some (bytes_held self.new) ≡ Some (bytes_held self.old) }
         ensures faults { sink_faults self.old ≤ sink_faults self.new }
         ensures still { (result ≢ Err Failed) → sink_faults self.new ≡ sink_faults self.old }
         ensures counted { sink_calls self.new ≡ next_count (sink_calls self.old) }

@@ -30,12 +30,15 @@ pub trait Shelf {
     /// `MAX_FILE_BYTES` bytes, and `Memory`. The files stay as they were.
     fn read(&mut self, name: &str) -> Result<Vec<u8>, ShelfFault>
         ensures within { IfOk result (λ bytes. vec_len bytes ≤ MAX_FILE_BYTES) }
-        ensures ok { IfOk result (λ bytes. WhereTold (files self.old) (λ told. told name.now ≡ Some bytes.items)) }
+        ensures ok { IfOk result (λ bytes.
+            WhereTold (files self.old) (λ told. told name.now ≡ Some bytes.items)) }
         ensures failed { IsErrOf result Failed → Rose (faults self.old) (faults self.new) }
         ensures absent { IsErrOf result Absent → Rose (misses self.old) (misses self.new) }
-        ensures lacks { IsErrOf result Absent → WhereTold (files self.old) (λ told. told name.now ≡ None) }
+        ensures lacks { IsErrOf result Absent →
+            WhereTold (files self.old) (λ told. told name.now ≡ None) }
         ensures too_long { IsErrOf result TooLong → Rose (misses self.old) (misses self.new) }
-        ensures exceeds { IsErrOf result TooLong → WhereTold (files self.old) (λ told. IsSomeAnd (told name.now) (λ bytes. MAX_FILE_BYTES < length bytes)) }
+        ensures exceeds { IsErrOf result TooLong → WhereTold (files self.old) (λ told.
+            IsSomeAnd (told name.now) (λ bytes. MAX_FILE_BYTES < length bytes)) }
         ensures same { files self.new ≡ files self.old }
         ensures faults { faults self.old ≤ faults self.new }
         ensures misses { misses self.old ≤ misses self.new };
@@ -45,7 +48,8 @@ pub trait Shelf {
     /// `Failed` where the shelf failed: under the name stands what stood there, or some of the bytes from the first
     /// on. `Memory`: the files stay. No other fault comes. Files of other names stay as they were.
     fn write(&mut self, name: &str, bytes: &[u8]) -> Result<(), ShelfFault>
-        ensures ok { OnOk result (WhereKeptTold (files self.old) (files self.new) (Puts name.now bytes.now)) }
+        ensures ok { OnOk result
+            (WhereKeptTold (files self.old) (files self.new) (Puts name.now bytes.now)) }
         ensures failed { IsErrOf result Failed → Rose (faults self.old) (faults self.new) }
         ensures part { IsErrOf result Failed →
             WhereKeptTold (files self.old) (files self.new) (PutsPart name.now bytes.now) }

@@ -23,7 +23,8 @@ pub trait Sink {
     fn write(&mut self, bytes: &[u8]) -> Result<(), SinkFault>
         ensures ok { OnOk result (Appends (written self.old) (written self.new) bytes.now) }
         ensures failed { IsErrOf result Failed → Rose (faults self.old) (faults self.new) }
-        ensures part { IsErrOf result Failed → AppendsPrefix (written self.old) (written self.new) bytes.now }
+        ensures part { IsErrOf result Failed →
+            AppendsPrefix (written self.old) (written self.new) bytes.now }
         ensures memory { IsErrOf result Memory → written self.new ≡ written self.old }
         ensures faults { faults self.old ≤ faults self.new };
 }

@@ -24,12 +24,15 @@ fn show<F: Shelf, S: Sink, G: Gate>(
     sink: &mut S,
     gate: &G,
 ) -> Result<(), ShowFault>
-    ensures ok { OnOk result (WhereTold (F.files shelf.old) (λ files. IfSome (files name.now) (λ bytes.
+    ensures ok { OnOk result (WhereTold (F.files shelf.old) (λ files.
+        IfSome (files name.now) (λ bytes.
         Appends (S.written sink.old) (S.written sink.new) bytes))) }
-    ensures unread { IsErrOf result (Read ShelfFailed) → Rose (F.faults shelf.old) (F.faults shelf.new) }
+    ensures unread { IsErrOf result (Read ShelfFailed) →
+        Rose (F.faults shelf.old) (F.faults shelf.new) }
     ensures absent { IsErrOf result (Read Absent) →
         WhereTold (F.files shelf.old) (λ files. files name.now ≡ None) }
-    ensures unwritten { IsErrOf result (Write SinkFailed) → Rose (S.faults sink.old) (S.faults sink.new) }
+    ensures unwritten { IsErrOf result (Write SinkFailed) →
+        Rose (S.faults sink.old) (S.faults sink.new) }
 {
     gate.line(0);
     let bytes = shelf.read(name).map_err(ShowFault::Read)?;

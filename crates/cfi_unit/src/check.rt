@@ -14,8 +14,8 @@ use rv_insn::{ImmOp, Insn, encode};
 /// The number of words of a check.
 pub const WORDS: usize = 14;
 
-/// The words of a check: the target into x31, its range test, the two IDs and their comparison, the retry, the halt, the
-/// jump.
+/// The words of a check: the target into x31, its range test, the two IDs and their comparison, the retry, the halt and
+/// the jump.
 pub fn words_by(link: bool, rs1: u32, imm: i32, slot: u32) -> [u32; WORDS]
     requires fits { IsUnit (units.Check link rs1 imm slot) }
     ensures { result ≡ words_of (units.Check link rs1 imm slot) }

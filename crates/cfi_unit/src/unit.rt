@@ -3,7 +3,7 @@ use rv_insn::{Cond, Insn, LoadKind, StoreKind};
 /// A guest's own instructions name x0 to x27 alone; x28 to x31 belong to the instrumentation.
 pub const FREE_REGISTERS: u32 = 28;
 
-/// Slots of branches are below this: so many checks fit into the code's 65,536 words.
+/// Slots of branches are below this: one more than the checks that fit into the code's 65,536 words.
 pub const SLOTS: u32 = 4_682;
 
 /// The address of the Bary ID of slot 0; that of slot b is 4 b after it.

@@ -1,7 +1,7 @@
 //! What the arithmetic and the comparisons of RV32I give.
 //!
-//! Stands on `rv_insn`; the machines call it. Proved: each result is that of `specs/Alu.antt`. Tested: results at border
-//! operands, by the manual. Open: nothing.
+//! Stands on `rv_insn`; the machines call it. Proved: each result is that of `specs/Alu.antt`. Only tested: that those
+//! results are the manual's, at border operands. Open: nothing.
 #![tactic(auto)]
 
 mod alu;

@@ -6,6 +6,7 @@ use std::alloc::{AllocError, Global};
 
 /// The words that bytes are, four bytes to a word, the lowest first.
 ///
+/// The number of bytes is a multiple of four.
 /// RISC-V Unprivileged ISA 20191213, 1.5: instructions lie in memory as little-endian parcels.
 pub fn words_of(alloc: Global, bytes: &[u8]) -> Result<Vec<u32>, AllocError>
     requires whole { length bytes.now % 4 ≡ 0 }
