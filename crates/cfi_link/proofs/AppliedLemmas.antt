@@ -1,10 +1,8 @@
 -- Relocations that are applied, one after the other.
-use Rattle.std.proofs.Common.{◌≡◌, ◌∙◌, ℕ, ◌+◌, ◌<◌, ◌≤◌, List, [], ◌∷◌, ◌++◌, length, get_or, drop, take, map, filter, cond, Bool, true, false, Option, Result, Ok, Err, sym, ap, refl}
+use Rattle.std.proofs.Common.{◌≡◌, ◌∙◌, ℕ, ◌+◌, ◌<◌, ◌≤◌, List, [], ◌∷◌, ◌++◌, length, get_or, drop, take, map, filter, true, false, Option, Result, Ok, Err, sym, ap}
 use Rattle.std.proofs.lemmas.List.{at_drop_more, drop_all, map-append, append-nil}
 use Rattle.std.proofs.lemmas.List.Elements.{filter_more}
-use Rattle.elf_read.specs.declared.object.Reloc.{Reloc}
 use Rattle.rv_reloc.specs.declared.fault.RelocFault.{RelocFault}
-use Rattle.cfi_link.specs.declared.fault.LinkFault.{LinkFault}
 use Rattle.cfi_link.specs.declared.fault.LinkFault.TheVariants.{BadReloc}
 use Rattle.cfi_link.specs.declared.joined.OwnReloc.{OwnReloc}
 use Rattle.cfi_link.specs.Applied.{target_of, applied_to, or_bad, applied_from, renumbered, is_kept, kept_in}

@@ -1,5 +1,5 @@
 -- Sizes within the limits, and sizes that are counted up to the greatest number.
-use Rattle.std.proofs.Common.{◌≡◌, ◌∙◌, ℕ, ◌+◌, ◌*◌, ◌-◌, ◌%◌, ◌<◌, ◌≤◌, ◌^◌, List, length, take, get_or, min, Option, Some, None, leb, refl, sym, ap, inl, inr, arith, cond, Bool}
+use Rattle.std.proofs.Common.{◌≡◌, ◌∙◌, ℕ, ◌+◌, ◌*◌, ◌<◌, ◌≤◌, ◌^◌, List, length, take, get_or, Option, Some, None, leb, refl, sym, ap, inl, inr, arith, cond, Bool}
 use Rattle.std.proofs.lemmas.Bool.{cases_lt, lt-leb, le-leb}
 use Rattle.elf_read.specs.declared.fault.Limit.{Limit}
 use Rattle.elf_read.specs.declared.join.TheConstants.{MAX_SYMBOLS, MAX_RELOCS, MAX_WORDS, MAX_DATA}
@@ -8,7 +8,7 @@ use Rattle.cfi_aux.specs.declared.format.TheConstants.{MAX_FUNCTIONS, MAX_BRANCH
 use Rattle.cfi_aux.specs.declared.modules.Module.{Module}
 use Rattle.cfi_link.specs.declared.limits.Sizes.{Sizes}
 use Rattle.cfi_link.specs.Gap.{gap}
-use Rattle.cfi_link.specs.Joined.{Joined, with_module, joined_of, start_of}
+use Rattle.cfi_link.specs.Joined.{Joined, with_module, joined_of}
 use Rattle.cfi_link.specs.Room.{HasRoom}
 use Rattle.cfi_link.specs.Faults.{sizes_of, unless_above, passed, passed_by}
 use Rattle.cfi_link.specs.Capped.{GREATEST, capped, capped_sizes, with_sizes}

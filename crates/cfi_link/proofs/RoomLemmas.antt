@@ -1,14 +1,11 @@
 -- What a module that breaks no rule has fits into numbers of four bytes where there is room.
-use Rattle.std.proofs.Common.{◌≡◌, ℕ, ◌+◌, ◌<◌, ◌≤◌, ◌^◌, List, length, All, Option, Some, None, arith}
+use Rattle.std.proofs.Common.{ℕ, ◌+◌, ◌<◌, ◌^◌, length, All, Option, Some, None, arith}
 use Rattle.std.proofs.lemmas.List.Elements.{All-weaker, All-from_recursion}
 use Rattle.elf_read.specs.declared.object.Object.{Object}
-use Rattle.elf_read.specs.declared.object.Symbol.{Symbol}
-use Rattle.elf_read.specs.declared.object.Reloc.{Reloc}
 use Rattle.elf_read.specs.declared.object.Place.{Place}
 use Rattle.elf_read.specs.declared.object.Place.TheVariants as places
 use Rattle.elf_read.specs.declared.object.Area.{Area}
 use Rattle.elf_read.specs.declared.object.Area.TheVariants as areas
-use Rattle.cfi_types.specs.Node.{Node}
 use Rattle.cfi_types.specs.Kind.{nodes_of}
 use Rattle.cfi_types.specs.Spelling.{NamesBelow}
 use Rattle.cfi_aux.specs.declared.modules.Module.{Module}

@@ -1,5 +1,5 @@
 -- The symbols of the output, one more.
-use Rattle.std.proofs.Common.{append_assoc, ◌≡◌, ◌∙◌, ℕ, ◌+◌, ◌<◌, ◌≤◌, List, [], ◌∷◌, ◌++◌, length, get_or, take, drop, map, cond, Bool, true, false, Option, sym, ap, refl}
+use Rattle.std.proofs.Common.{append_assoc, ◌≡◌, ◌∙◌, ℕ, ◌+◌, ◌<◌, List, [], ◌∷◌, ◌++◌, length, get_or, take, drop, map, cond, sym, ap}
 use Rattle.std.specs.List.{enumerate_from}
 use Rattle.std.proofs.lemmas.List.{map_push, at_drop_more}
 use Rattle.elf_read.specs.declared.object.Symbol.{Symbol}

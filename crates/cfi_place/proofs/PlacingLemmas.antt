@@ -1,11 +1,10 @@
 -- What a sound module and a room give to the steps of placing.
-use Rattle.std.proofs.Common.{◌≡◌, ℕ, ◌+◌, ◌*◌, ◌/◌, ◌^◌, ◌<◌, ◌≤◌, Bool, true, List, [], ◌∷◌, map, All, length, get_or, Option, None, Result, Ok, refl, sym, ap, ◌∙◌, subst, ⊎_elim, arith}
+use Rattle.std.proofs.Common.{◌≡◌, ℕ, ◌+◌, ◌*◌, ◌/◌, ◌^◌, ◌<◌, ◌≤◌, true, List, All, length, get_or, Option, None, Ok, refl, sym, ap, ◌∙◌, subst, ⊎_elim, arith}
 use Rattle.std.proofs.lemmas.Bool.{cases_lt}
 use Rattle.std.proofs.lemmas.List.{get_or_read}
 use Rattle.std.proofs.lemmas.List.FromFn.{length-map-range_with_len}
 use Rattle.elf_read.specs.declared.object.Object.{Object}
 use Rattle.elf_read.specs.declared.object.Symbol.{Symbol}
-use Rattle.elf_read.specs.declared.object.Reloc.{Reloc}
 use Rattle.elf_read.specs.declared.object.Area.{Area}
 use Rattle.elf_read.specs.declared.object.Area.TheVariants as areas
 use Rattle.elf_read.specs.declared.object.Place.{Place}
@@ -18,13 +17,12 @@ use Rattle.cfi_aux.specs.Placed.{address_of, exports_of}
 use Rattle.cfi_aux.specs.Placed as aux
 use Rattle.rv_reloc.specs.Bytes.{word_at}
 use Rattle.cfi_place.specs.declared.room.Room.{Room}
-use Rattle.cfi_place.specs.declared.fault.PlaceFault.{PlaceFault}
 use Rattle.cfi_place.specs.Names.{Names, first_in}
-use Rattle.cfi_place.specs.Value.{own_in, value_by, value_of, values_by, undefined_in}
+use Rattle.cfi_place.specs.Value.{own_in, values_by, undefined_in}
 use Rattle.cfi_place.specs.Relocated.{Areas, size_in, address_in, IsReady}
 use Rattle.cfi_place.specs.Slots.{HasSlots}
 use Rattle.cfi_place.specs.Functions.{placed_functions}
-use Rattle.cfi_place.specs.Placed.{words_in, values_in, unless_undefined, where_fits, code_fits, data_fits, relocated, placed_by}
+use Rattle.cfi_place.specs.Placed.{words_in, values_in, code_fits, data_fits, relocated, placed_by}
 
 -- the addresses of a module that fits into 32 bits
 pub record FitsAt (object : Object) (room : Room) : Type 0 where
