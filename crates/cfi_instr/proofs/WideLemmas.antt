@@ -33,10 +33,6 @@ short-stays false true new is o r = is
 short-stays true reaches new is o r = absurd (false≢true (sym o))
 short-stays false false new is o r = absurd (false≢true r)
 
-reaches-then : (reaches new : Bool) → new ≡ (false || not reaches) → new ≡ false → reaches ≡ true
-reaches-then true new is n = refl
-reaches-then false new is n = absurd (false≢true (sym n ∙ is))
-
 -- the set stays within each one that is enough
 pub within-next : (t : Words) (symbols : List Symbol) (old new : List Bool) (offsets : List ℕ)
     → offsets ≡ offsets_of t old → length new ≡ count_of t
@@ -62,17 +58,6 @@ within-next t symbols old new offsets placed size within wider other enough = λ
     let past : is_long new w ≡ false = get_or_past new w false (omega arith) in
     absurd (false≢true (sym past ∙ is)))
     (cases_lt w (count_of t))
-
--- where a round changes nothing, the set is enough
-pub enough-then : (t : Words) (symbols : List Symbol) (old new : List Bool) (offsets : List ℕ)
-    → offsets ≡ offsets_of t old → IsWider t symbols offsets old new → new ≡ old → IsEnough t symbols new
-enough-then t symbols old new offsets placed wider same = λ w lt short.
-    let was : is_long old w ≡ false = ap (λ (xs : List Bool). is_long xs w) (sym same) ∙ short in
-    let is : is_long new w ≡ (false || not (word_reaches t symbols offsets w)) =
-    wider w lt ∙ ap (λ (b : Bool). b || not (word_reaches t symbols offsets w)) was in
-    let near : word_reaches t symbols offsets w ≡ true =
-    reaches-then (word_reaches t symbols offsets w) (is_long new w) is short in
-    ap (λ (xs : List ℕ). word_reaches t symbols xs w) (ap (offsets_of t) same ∙ sym placed) ∙ near
 
 -- ---- one word of a round
 

@@ -1,6 +1,6 @@
 -- Which branches must be long: the least set for which every other branch reaches its target. A branch that is not
 -- long has a displacement from -4096 to 4092 (RISC-V Unprivileged ISA 20191213, 2.5, the B immediate).
-use Rattle.std.specs.Prelude.{◌≡◌, ℕ, ◌+◌, ◌/◌, ◌<◌, Bool, true, false, ◌&&◌, nat_le, List, length, Option, Some, None, slice_index, if◌then◌else◌}
+use Rattle.std.specs.Prelude.{◌≡◌, ℕ, ◌+◌, ◌/◌, ◌<◌, Bool, true, false, ◌&&◌, nat_le, List, length, Option, Some, None, slice_index, if◌then◌else◌, ⊤}
 use Rattle.std.specs.List.{sum_by}
 use Rattle.elf_read.specs.declared.object.Symbol.{Symbol}
 use Rattle.rv_insn.specs.declared.insn.Insn.{Insn}
@@ -60,7 +60,7 @@ pub record IsLeast (t : Words) (symbols : List Symbol) (long : List Bool) : Type
 abbrev pub IsPassed : Words → List Symbol → InstrFault → Type 0
 IsPassed t symbols faults.TooLong =
     (long : List Bool) → IsEnough t symbols long → MAX_WORDS < place_of t long (count_of t)
-IsPassed t symbols faults.Memory = Unit {0}
+IsPassed t symbols faults.Memory = ⊤
 IsPassed t symbols fault = ⊥
 
 -- how many words are not long

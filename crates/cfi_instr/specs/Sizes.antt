@@ -1,6 +1,6 @@
 -- How many words the unit of each item has, and where it begins in the output. `long` says of each word of the input
 -- whether it is a long branch; offsets are in bytes.
-use Rattle.std.specs.Prelude.{ℕ, ◌+◌, ◌*◌, ◌/◌, ◌<◌, ◌≤◌, Bool, false, if◌then◌else◌, List, map, Option, Some, None, slice_index, slice_index_or}
+use Rattle.std.specs.Prelude.{ℕ, ◌+◌, ◌*◌, ◌/◌, ◌<◌, ◌≤◌, Bool, false, if◌then◌else◌, List, map, Option, Some, None, slice_index, slice_index_or, ⊤}
 use Rattle.std.specs.List.{range_with_len}
 use Rattle.elf_read.specs.Places.{total_of}
 use Rattle.rv_insn.specs.declared.insn.Insn.{Insn}
@@ -53,5 +53,5 @@ AreSmall offsets = (w : ℕ) → slice_index offsets w ≤ MAX_BYTES
 -- the output is longer than it may be, unless memory ran out
 abbrev pub IsOver : Words → (long : List Bool) → InstrFault → Type 0
 IsOver t long faults.TooLong = MAX_WORDS < place_of t long (count_of t)
-IsOver t long faults.Memory = Unit {0}
+IsOver t long faults.Memory = ⊤
 IsOver t long fault = ⊥

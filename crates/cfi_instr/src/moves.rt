@@ -1,6 +1,6 @@
 //! Where symbols and relocations go.
 
-ghost use Rattle.std.specs.Prelude.{◌≡◌, ◌≤◌, ℤ, map, IfOk};
+ghost use Rattle.std.specs.Prelude.{◌≡◌, map, IfOk};
 ghost use Rattle.cfi_items.specs.Target.{symbol_of};
 ghost use Rattle.cfi_instr.specs.Sizes.{AreSmall};
 ghost use Rattle.cfi_instr.specs.Moves.{value_in, moved_symbol, addend_to, addend_in, addend_by, is_of_long, kind_in, offset_in, moved_reloc};

@@ -18,8 +18,8 @@ pub const CHECK_WORDS: u32 = 14;
 /// Words of a long branch: the inverse branch, and a jump.
 pub const LONG_WORDS: u32 = 2;
 
-/// The output has at most so many words.
-pub const MAX_WORDS: u32 = 65_520;
+/// The output has at most so many words, as the text of each object.
+pub const MAX_WORDS: u32 = elf_read::MAX_WORDS as u32;
 
 /// The bytes of so many words.
 pub const MAX_BYTES: u32 = 4 * MAX_WORDS;

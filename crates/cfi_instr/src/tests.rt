@@ -61,6 +61,21 @@ fn module_by(alloc: Global, words: &[u32], size: u32, relocs: &[Reloc]) -> Resul
     Ok(module_of(alloc, object)?)
 }
 
+// What comes of instrumenting such a module.
+fn outcome_of(
+    rt: &impl Abort,
+    alloc: Global,
+    words: &[u32],
+    size: u32,
+    relocs: &[Reloc],
+) -> Result<Result<Module, InstrFault>, Fail> {
+    let unplaced = module_by(alloc, words, size, relocs)?;
+    assert!(rt; unplaced.object.text.len() < 100_000);
+    let found = unplaced.object.relocs.as_slice();
+    assert!(rt; found.len() < 100);
+    Ok(instrument(alloc, &unplaced))
+}
+
 // The module, instrumented.
 fn output_of(
     rt: &impl Abort,
@@ -69,11 +84,7 @@ fn output_of(
     size: u32,
     relocs: &[Reloc],
 ) -> Result<Module, Fail> {
-    let unplaced = module_by(alloc, words, size, relocs)?;
-    assert!(rt; unplaced.object.text.len() < 100_000);
-    let found = unplaced.object.relocs.as_slice();
-    assert!(rt; found.len() < 100);
-    Ok(instrument(alloc, &unplaced)?)
+    Ok(outcome_of(rt, alloc, words, size, relocs)??)
 }
 
 // Whether the text of a module begins with these words.
@@ -122,6 +133,31 @@ fn branches_at_the_limit(rt: HostRuntime) -> Result<(), Fail> {
     assert!(rt; begins(alloc, &near, &[0x7eb50ee3, NOP])?);
     let far = branch_over(&rt, alloc, 0x7eb506e3, 1017)?;
     assert!(rt; begins(alloc, &far, &[0x00b51463, 0x0000106f, NOP])?);
+    Ok(())
+}
+
+// A return after 10,917 loads, 65,516 words of output, and so many instructions that do nothing.
+fn after_loads(
+    rt: &impl Abort,
+    alloc: Global,
+    count: usize,
+) -> Result<Result<Module, InstrFault>, Fail> {
+    let mut words = vec![in alloc; LOAD; 10_917]?;
+    for _ in 0..count {
+        words.push(NOP)?;
+    }
+    words.push(RET)?;
+    assert!(rt; words.len() < 20_000);
+    outcome_of(rt, alloc, &words, 4 * words.len() as u32, &[])
+}
+
+#[test]
+fn outputs_at_the_limit(rt: HostRuntime) -> Result<(), Fail> {
+    let alloc = rt.alloc();
+    let longest = after_loads(&rt, alloc, 4)??;
+    assert_eq!(rt; longest.object.text.len(), 4 * 65_520);
+    let fault = after_loads(&rt, alloc, 5)?.err();
+    assert_eq!(rt; fault, Some(InstrFault::TooLong));
     Ok(())
 }
 

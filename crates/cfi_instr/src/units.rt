@@ -1,8 +1,6 @@
 //! The units that the items of a text become.
 
-ghost use Rattle.std.specs.Prelude.{◌≡◌, ◌+◌, ◌*◌, ◌<◌, ◌≤◌, ◌^◌, ℤ, pos, [], ◌∷◌, slice_index};
-ghost use Rattle.cfi_items.specs.Words.{insn_at};
-ghost use Rattle.cfi_items.specs.Insns.{holds, is_linked};
+ghost use Rattle.std.specs.Prelude.{◌≡◌, ◌*◌, ◌<◌, ◌^◌};
 ghost use Rattle.cfi_items.specs.Jumps.{ordinal_of};
 ghost use Rattle.cfi_instr.specs.Sizes.{AreSmall};
 ghost use Rattle.cfi_instr.specs.Units.{inverse, distance, displacement_from, unit_of, off_of, short_unit, over, long_jump, is_wide, pair_unit};

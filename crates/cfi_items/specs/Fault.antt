@@ -1,6 +1,6 @@
 -- Which modules can be instrumented but for the length of the output, and the first fault of one that can not: a row
 -- is tried after those before it, and within a row the least place decides.
-use Rattle.std.specs.Prelude.{◌≡◌, ℕ, ◌+◌, ◌*◌, Bool, List, length}
+use Rattle.std.specs.Prelude.{◌≡◌, ℕ, ◌+◌, ◌*◌, Bool, List, length, ⊤}
 use Rattle.elf_read.specs.Places.{IsFirst, IsNone}
 use Rattle.elf_read.specs.declared.object.Symbol.{Symbol}
 use Rattle.elf_read.specs.declared.object.Reloc.{Reloc}
@@ -117,4 +117,4 @@ IsFirstFlaw p (faults.NoKind o) = IsUnkind p o
 IsFirstFlaw p (faults.Switch k) = IsSwitchFault p k
 IsFirstFlaw p (faults.FallsThrough k) = IsFallingFault p k
 IsFirstFlaw p faults.TooLong = ⊥
-IsFirstFlaw p faults.Memory = Unit {0}
+IsFirstFlaw p faults.Memory = ⊤

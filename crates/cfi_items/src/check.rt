@@ -80,14 +80,13 @@ fn check_ends(source: &Source, unplaced: &Module) -> Result<(), InstrFault>
 {
     let functions = unplaced.records.functions.as_slice();
     let branches = unplaced.records.branches.as_slice();
-    match source.first_bad_switch(functions, branches) {
-        Some(k) => return Err(InstrFault::Switch(k as u32)),
-        None => (),
+    if let Some(k) = source.first_bad_switch(functions, branches) {
+        return Err(InstrFault::Switch(k as u32));
     }
-    match source.first_falling(functions) {
-        Some(k) => Err(InstrFault::FallsThrough(k as u32)),
-        None => Ok(()),
+    if let Some(k) = source.first_falling(functions) {
+        return Err(InstrFault::FallsThrough(k as u32));
     }
+    Ok(())
 }
 
 // No row has a fault, in the words that are read of a module.

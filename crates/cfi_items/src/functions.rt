@@ -1,6 +1,6 @@
 //! The functions of a module over the items of its text.
 
-ghost use Rattle.std.specs.Prelude.{◌≡◌, ◌*◌, ◌+◌, ◌<◌, ◌≤◌, ◌^◌, length, IfSome, IfNone};
+ghost use Rattle.std.specs.Prelude.{◌≡◌, ◌+◌, ◌<◌, ◌^◌, length, IfSome, IfNone};
 ghost use Rattle.elf_read.specs.Places.{IsFirst, IsNone};
 ghost use Rattle.cfi_items.specs.Words.{count_of};
 ghost use Rattle.cfi_items.specs.Functions.{end_of, covers, is_covered, are_together, is_entry, is_own_item, end_before, is_code, has_code, is_well_formed, is_malformed, runs_off, falls_through};

@@ -1,6 +1,6 @@
 //! What instructions are, and which the instrumenter refuses.
 
-ghost use Rattle.std.specs.Prelude.{◌≡◌, ℤ};
+ghost use Rattle.std.specs.Prelude.{◌≡◌};
 ghost use Rattle.cfi_items.specs.Insns.{is_lui, is_auipc, is_jal, is_jalr, is_branch, is_store, is_addi, has_low, is_zero, is_nop, link_of, is_link, is_linked, is_unlinked, is_taken, is_reserved, is_trap, is_bad_link};
 
 use cfi_unit::FREE_REGISTERS;

@@ -1,7 +1,6 @@
 //! The items of a text.
 
-ghost use Rattle.std.specs.Prelude.{◌≡◌, ◌+◌, ◌<◌, ◌^◌};
-ghost use Rattle.cfi_items.specs.Words.{count_of};
+ghost use Rattle.std.specs.Prelude.{◌≡◌, ◌<◌, ◌^◌};
 ghost use Rattle.cfi_items.specs.Insns.{holds, is_jalr, is_auipc};
 ghost use Rattle.cfi_items.specs.Items.{is_pair, is_inner, is_item, is_item_at, is_bound_at, item_of, is_indirect};
 

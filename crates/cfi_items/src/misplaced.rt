@@ -1,14 +1,11 @@
 //! Misplaced relocations.
 
-ghost use Rattle.std.specs.Prelude.{◌≡◌, ◌+◌, ◌*◌, ◌/◌, ◌<◌, ◌≤◌, ◌^◌, ℕ, List, length, slice_index_or, false, true, not, ◌&&◌, ◌||◌, IfSome, IfNone, IfOk};
-ghost use Rattle.std.specs.List.{list_any};
+ghost use Rattle.std.specs.Prelude.{◌≡◌, ◌/◌, ◌<◌, ◌^◌, ℕ, length, slice_index_or, false, ◌||◌, IfSome, IfNone, IfOk};
 ghost use Rattle.elf_read.specs.Places.{IsFirst, IsNone};
-ghost use Rattle.elf_read.specs.declared.object.Reloc.{Reloc};
-ghost use Rattle.rv_insn.specs.declared.insn.Insn.{Insn};
-ghost use Rattle.cfi_items.specs.Words.{count_of, is_of_text};
+ghost use Rattle.cfi_items.specs.Words.{count_of};
 ghost use Rattle.cfi_items.specs.Target.{symbol_of};
 ghost use Rattle.cfi_items.specs.Items.{item_of};
-ghost use Rattle.cfi_items.specs.Misplaced.{has_form, fits_on, is_on, sits_by, is_bound, leads_to_bound, names_well, is_placed_by, is_misplaced};
+ghost use Rattle.cfi_items.specs.Misplaced.{has_form, fits_on, is_on, sits_by, leads_to_bound, names_well, is_placed_by, is_misplaced};
 
 use crate::functions::is_covered;
 use crate::insns::{has_low, is_auipc, is_branch, is_jal, is_lui, is_store};

@@ -1,9 +1,8 @@
 //! Stray jumps and branches.
 
-ghost use Rattle.std.specs.Prelude.{◌≡◌, ◌+◌, ◌*◌, ◌<◌, ◌^◌, IfSome, IfNone};
+ghost use Rattle.std.specs.Prelude.{◌≡◌, ◌*◌, ◌<◌, ◌^◌, IfSome, IfNone};
 ghost use Rattle.elf_read.specs.Places.{IsFirst, IsNone};
-ghost use Rattle.cfi_items.specs.Words.{count_of, insn_at};
-ghost use Rattle.cfi_items.specs.Insns.{holds, is_unlinked};
+ghost use Rattle.cfi_items.specs.Words.{count_of};
 ghost use Rattle.cfi_items.specs.Stray.{branches_well, jumps_well, leads_well, calls_well, goes_well, is_stray};
 
 use crate::functions::is_entry;

@@ -1,6 +1,6 @@
 //! Where direct jumps and relocations lead.
 
-ghost use Rattle.std.specs.Prelude.{◌≡◌, ◌+◌, ◌*◌, ◌<◌, ◌^◌};
+ghost use Rattle.std.specs.Prelude.{◌≡◌, ◌*◌, ◌<◌, ◌^◌};
 ghost use Rattle.std.specs.Option.{option_copied};
 ghost use Rattle.cfi_items.specs.Target.{offset_from, aim_by, symbol_of, aim_at_name, aim_at_symbol, aim_of, aim_of_jump, aim_of_pair};
 

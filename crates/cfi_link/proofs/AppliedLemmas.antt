@@ -1,13 +1,10 @@
 -- Relocations that are applied, one after the other.
-use Rattle.std.proofs.Common.{◌≡◌, ◌∙◌, ℕ, ◌+◌, ◌<◌, ◌≤◌, List, [], ◌∷◌, ◌++◌, length, get_or, drop, take, map, filter, cond, Bool, true, false, Option, Result, Ok, Err, sym, ap, refl}
-use Rattle.std.proofs.lemmas.List.{at_drop_more, drop_all, map-append, append-nil}
-use Rattle.std.proofs.lemmas.List.Elements.{filter_more}
-use Rattle.elf_read.specs.declared.object.Reloc.{Reloc}
+use Rattle.std.proofs.Common.{◌≡◌, ◌∙◌, ℕ, ◌+◌, ◌<◌, ◌≤◌, List, length, get_or, drop, Option, Result, Ok, Err, sym, ap}
+use Rattle.std.proofs.lemmas.List.{at_drop_more, drop_all}
 use Rattle.rv_reloc.specs.declared.fault.RelocFault.{RelocFault}
-use Rattle.cfi_link.specs.declared.fault.LinkFault.{LinkFault}
 use Rattle.cfi_link.specs.declared.fault.LinkFault.TheVariants.{BadReloc}
 use Rattle.cfi_link.specs.declared.joined.OwnReloc.{OwnReloc}
-use Rattle.cfi_link.specs.Applied.{target_of, applied_to, or_bad, applied_from, renumbered, is_kept, kept_in}
+use Rattle.cfi_link.specs.Applied.{target_of, applied_to, or_bad, applied_from, kept_in}
 
 applied-more : (reaches : List (Option ℕ)) (relocs : List OwnReloc) (k : ℕ) (text : List ℕ) (d : OwnReloc)
     → k < length relocs → applied_from reaches (drop k relocs) text
@@ -47,25 +44,6 @@ applied-all reaches relocs k text le =
     ap (λ (rest : List OwnReloc). applied_from reaches rest text) (drop_all k relocs le)
 
 -- ---- what is kept
-
-pub kept-more : (reaches : List (Option ℕ)) (numbers : List ℕ) (relocs : List OwnReloc) (k : ℕ) (d : OwnReloc)
-    → k < length relocs → is_kept reaches (get_or relocs k d) ≡ true
-    → kept_in reaches numbers (take (k + 1) relocs)
-    ≡ kept_in reaches numbers (take k relocs) ++ renumbered numbers (get_or relocs k d).reloc ∷ []
-kept-more reaches numbers relocs k d lt kept =
-    let more = filter_more (is_kept reaches) relocs k d lt in
-    rw (more, kept)
-    (map-append (λ (own : OwnReloc). renumbered numbers own.reloc) (filter (is_kept reaches) (take k relocs))
-    (get_or relocs k d ∷ []))
-
-pub kept-other : (reaches : List (Option ℕ)) (numbers : List ℕ) (relocs : List OwnReloc) (k : ℕ) (d : OwnReloc)
-    → k < length relocs → is_kept reaches (get_or relocs k d) ≡ false
-    → kept_in reaches numbers (take (k + 1) relocs) ≡ kept_in reaches numbers (take k relocs)
-kept-other reaches numbers relocs k d lt other =
-    let more = filter_more (is_kept reaches) relocs k d lt in
-    rw (more, other)
-    (ap (map (λ (own : OwnReloc). renumbered numbers own.reloc))
-    (append-nil (filter (is_kept reaches) (take k relocs))))
 
 -- ---- equal lists
 

@@ -1,6 +1,6 @@
 -- Modules joined in order: one more, and what the first of them have.
-use Rattle.std.proofs.Common.{◌≡◌, ◌∙◌, ℕ, ◌+◌, ◌<◌, ◌≤◌, ◌^◌, List, [], ◌∷◌, ◌++◌, length, take, drop, get_or, map, fold, replicate, refl, sym, ap, subst, arith, length-append, drop-cons, add-one}
-use Rattle.std.proofs.lemmas.List.{length-map, take_more, length-replicate, length-take-le, take-append-drop, at_drop_more}
+use Rattle.std.proofs.Common.{◌≡◌, ◌∙◌, ℕ, ◌+◌, ◌<◌, ◌≤◌, List, [], ◌∷◌, ◌++◌, length, take, drop, get_or, map, fold, replicate, refl, sym, ap, subst, arith, length-append}
+use Rattle.std.proofs.lemmas.List.{length-map, take_more, length-replicate, length-take-le, take-append-drop}
 use Rattle.std.proofs.lemmas.List.Sums.{fold-append}
 use Rattle.std.proofs.lemmas.List.FromFn.{length-enumerate_from}
 use Rattle.cfi_aux.specs.declared.modules.Module.{Module}

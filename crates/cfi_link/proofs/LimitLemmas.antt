@@ -1,5 +1,5 @@
 -- Sizes within the limits, and sizes that are counted up to the greatest number.
-use Rattle.std.proofs.Common.{◌≡◌, ◌∙◌, ℕ, ◌+◌, ◌*◌, ◌-◌, ◌%◌, ◌<◌, ◌≤◌, ◌^◌, List, length, take, get_or, min, Option, Some, None, leb, refl, sym, ap, inl, inr, arith, cond, Bool}
+use Rattle.std.proofs.Common.{◌≡◌, ◌∙◌, ℕ, ◌+◌, ◌*◌, ◌<◌, ◌≤◌, ◌^◌, List, length, take, get_or, Option, None, leb, refl, sym, ap, inl, inr, arith}
 use Rattle.std.proofs.lemmas.Bool.{cases_lt, lt-leb, le-leb}
 use Rattle.elf_read.specs.declared.fault.Limit.{Limit}
 use Rattle.elf_read.specs.declared.join.TheConstants.{MAX_SYMBOLS, MAX_RELOCS, MAX_WORDS, MAX_DATA}
@@ -8,7 +8,7 @@ use Rattle.cfi_aux.specs.declared.format.TheConstants.{MAX_FUNCTIONS, MAX_BRANCH
 use Rattle.cfi_aux.specs.declared.modules.Module.{Module}
 use Rattle.cfi_link.specs.declared.limits.Sizes.{Sizes}
 use Rattle.cfi_link.specs.Gap.{gap}
-use Rattle.cfi_link.specs.Joined.{Joined, with_module, joined_of, start_of}
+use Rattle.cfi_link.specs.Joined.{Joined, with_module, joined_of}
 use Rattle.cfi_link.specs.Room.{HasRoom}
 use Rattle.cfi_link.specs.Faults.{sizes_of, unless_above, passed, passed_by}
 use Rattle.cfi_link.specs.Capped.{GREATEST, capped, capped_sizes, with_sizes}
@@ -125,20 +125,3 @@ capped-within limit number small =
       | inl above ↦ lt-leb (capped number) limit (omega arith) ∙ sym (lt-leb number limit above)
       | inr within ↦ le-leb (capped number) limit (omega arith) ∙ sym (le-leb number limit within)
     ]
-
-unless-capped : (limit number : ℕ) (what : Limit) (a b : Option Limit) → limit < GREATEST → a ≡ b
-    → unless_above limit (capped number) what a ≡ unless_above limit number what b
-unless-capped limit number what a b small same =
-    ap (λ (next : Option Limit). unless_above limit (capped number) what next) same
-    ∙ ap (λ (fits : Bool). cond fits b (Some what)) (capped-within limit number small)
-
--- what capped sizes pass
-pub passed-capped : (sizes : Sizes) → passed (capped_sizes sizes) ≡ passed sizes
-passed-capped sizes =
-    unless-capped MAX_SYMBOLS sizes.symbols _ _ _ (omega arith)
-    (unless-capped MAX_RELOCS sizes.relocs _ _ _ (omega arith)
-    (unless-capped (4 * MAX_WORDS) sizes.text _ _ _ (omega arith)
-    (unless-capped MAX_DATA sizes.static_data _ _ _ (omega arith)
-    (unless-capped MAX_NODES sizes.types _ _ _ (omega arith)
-    (unless-capped MAX_FUNCTIONS sizes.functions _ _ _ (omega arith)
-    (unless-capped MAX_BRANCHES sizes.branches _ _ _ (omega arith) refl))))))

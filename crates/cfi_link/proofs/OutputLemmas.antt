@@ -1,14 +1,14 @@
 -- What joined modules make breaks no rule.
-use Rattle.std.proofs.Common.{◌≡◌, ◌∙◌, ℕ, zero, suc, ◌+◌, ◌%◌, ◌<◌, ◌≤◌, ◌^◌, ◌&&◌, ◌||◌, not, Bool, true, false, cond, eqb, List, [], ◌∷◌, ◌++◌, length, take, get_or, map, filter, count_by, All, Option, Some, None, option_map, refl, sym, ap, subst, inl, inr, arith, length-append}
+use Rattle.std.proofs.Common.{◌≡◌, ◌∙◌, ℕ, zero, suc, ◌+◌, ◌<◌, ◌≤◌, ◌&&◌, ◌||◌, not, Bool, true, false, List, [], ◌∷◌, ◌++◌, length, get_or, filter, count_by, All, Option, Some, None, option_map, refl, sym, ap, subst, inl, inr, arith, length-append}
 use Rattle.std.specs.List.{enumerate_from, AllPairs}
 use Rattle.std.specs.Str.{bytes_eq}
-use Rattle.std.proofs.lemmas.Bool.{cases_Bool, cases_lt, eqb-true}
+use Rattle.std.proofs.lemmas.Bool.{cases_Bool, eqb-true}
 use Rattle.std.proofs.lemmas.Slice.Eq.{bytes_eq-Decides}
 use Rattle.std.proofs.lemmas.List.{length-map, get_or-map}
 use Rattle.std.proofs.lemmas.List.Filters.{length-filter_both}
 use Rattle.std.proofs.lemmas.List.Sums.{length-filter}
 use Rattle.std.proofs.lemmas.List.FromFn.{length-enumerate_from, get_or-enumerate_from}
-use Rattle.std.proofs.lemmas.List.Elements.{All-weaker, All-map, All-append, All-cons, All-nil, All-get_or, All-filter, All-same, filter_passes}
+use Rattle.std.proofs.lemmas.List.Elements.{All-weaker, All-map, All-append, All-cons, All-nil, All-get_or, All-filter, filter_passes}
 use Rattle.std.proofs.lemmas.List.Kept.{AllPairs-cons, AllPairs-filter}
 use Rattle.elf_read.specs.declared.object.Object.{Object}
 use Rattle.elf_read.specs.declared.object.Symbol.{Symbol}

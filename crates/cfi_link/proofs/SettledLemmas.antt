@@ -1,14 +1,14 @@
 -- The symbols of the output, one more.
-use Rattle.std.proofs.Common.{append_assoc, ◌≡◌, ◌∙◌, ℕ, ◌+◌, ◌<◌, ◌≤◌, List, [], ◌∷◌, ◌++◌, length, get_or, take, drop, map, cond, Bool, true, false, Option, sym, ap, refl}
+use Rattle.std.proofs.Common.{append_assoc, ◌≡◌, ◌∙◌, ℕ, ◌+◌, ◌<◌, List, [], ◌∷◌, ◌++◌, length, get_or, take, map, sym, ap}
 use Rattle.std.specs.List.{enumerate_from}
-use Rattle.std.proofs.lemmas.List.{map_push, at_drop_more}
+use Rattle.std.proofs.lemmas.List.{map_push}
 use Rattle.elf_read.specs.declared.object.Symbol.{Symbol}
 use Rattle.cfi_place.specs.Names.{Names}
 use Rattle.elf_read.specs.declared.object.Reloc.{Reloc}
 use Rattle.cfi_link.specs.declared.joined.OwnReloc.{OwnReloc}
 use Rattle.cfi_link.specs.declared.start.Start.{Start}
 use Rattle.cfi_link.specs.Joined.{own_reloc_at}
-use Rattle.cfi_link.specs.Chosen.{is_local_symbol, settled_symbol, settled, numbers_from, reach_of}
+use Rattle.cfi_link.specs.Chosen.{settled_symbol, settled, reach_of}
 use Rattle.cfi_link.proofs.ChosenLemmas.{enumerate-more}
 
 pub settled-more : (chosen : Names) (symbols : List Symbol) (k : ℕ) (d : Symbol) → k < length symbols
@@ -25,13 +25,6 @@ pub reaches-more : (chosen : Names) (all symbols : List Symbol) (k : ℕ) (d : S
 reaches-more chosen all symbols k d lt =
     ap (map (reach_of all chosen)) (settled-more chosen symbols k d lt)
     ∙ map_push (reach_of all chosen) (settled chosen (take k symbols)) (settled_symbol chosen (k, get_or symbols k d))
-
-pub numbers-more : (local other : ℕ) (symbols : List Symbol) (k : ℕ) (d : Symbol) → k < length symbols
-    → numbers_from local other (drop k symbols)
-    ≡ cond (is_local_symbol (get_or symbols k d)) (local ∷ numbers_from (local + 1) other (drop (k + 1) symbols))
-    (other ∷ numbers_from local (other + 1) (drop (k + 1) symbols))
-numbers-more local other symbols k d lt =
-    at_drop_more (λ (rest : List Symbol). numbers_from local other rest) symbols k d lt
 
 -- relocations of a module, one more
 pub relocs-more : (start : Start) (owner : ℕ) (relocs : List Reloc) (k : ℕ) (d : Reloc) → k < length relocs

@@ -1,8 +1,8 @@
 -- What each of joined modules has breaks no rule among all.
-use Rattle.std.proofs.Common.{◌≡◌, ◌∙◌, ℕ, zero, suc, ◌+◌, ◌%◌, ◌<◌, ◌≤◌, ◌^◌, Bool, true, false, List, [], ◌∷◌, ◌++◌, length, take, get_or, map, All, Option, Some, None, option_map, fold, refl, sym, ap, subst, arith, add-one, length-append}
+use Rattle.std.proofs.Common.{◌≡◌, ℕ, ◌+◌, ◌%◌, ◌<◌, ◌≤◌, ◌^◌, List, [], ◌∷◌, length, map, All, Option, Some, None, option_map, fold, refl, sym, subst, arith}
 use Rattle.std.specs.List.{enumerate_from}
 use Rattle.std.proofs.lemmas.List.{length-map}
-use Rattle.std.proofs.lemmas.List.Elements.{All-weaker, All-map, All-append, All-head, All-tail, All-cons, All-nil, All-get_or, All-from_recursion}
+use Rattle.std.proofs.lemmas.List.Elements.{All-weaker, All-map, All-append, All-head, All-tail, All-cons, All-nil, All-from_recursion}
 use Rattle.elf_read.specs.declared.object.Object.{Object}
 use Rattle.elf_read.specs.declared.object.Symbol.{Symbol}
 use Rattle.elf_read.specs.declared.object.Reloc.{Reloc}
@@ -10,16 +10,13 @@ use Rattle.elf_read.specs.declared.object.Place.{Place}
 use Rattle.elf_read.specs.declared.object.Place.TheVariants as places
 use Rattle.elf_read.specs.declared.object.Area.{Area}
 use Rattle.elf_read.specs.declared.object.Area.TheVariants as areas
-use Rattle.cfi_types.specs.Node.{Node}
 use Rattle.cfi_types.specs.Kind.{nodes_of}
 use Rattle.cfi_types.specs.Spelling.{IsNode, NamesBelow}
 use Rattle.cfi_aux.specs.declared.modules.Module.{Module}
-use Rattle.cfi_aux.specs.declared.records.Function.{Function}
 use Rattle.cfi_aux.specs.declared.records.Kind.{Kind}
 use Rattle.cfi_aux.specs.declared.records.Kind.TheVariants as branches
 use Rattle.cfi_aux.specs.Records.{words_of, CanBeWritten}
 use Rattle.cfi_aux.specs.Sound.{IsInside, HasField, HasSymbol, IsSoundSymbol, IsSoundReloc, IsSoundModule}
-use Rattle.cfi_link.specs.declared.joined.OwnReloc.{OwnReloc}
 use Rattle.cfi_link.specs.declared.start.Start.{Start}
 use Rattle.cfi_link.specs.Joined.{Joined, nothing, with_module, joined_of, start_of, value_at, offset_at, symbol_at, reloc_at, own_reloc_at, node_at, function_at, branch_at, shifted}
 use Rattle.cfi_link.specs.Room.{HasRoom}

@@ -1,5 +1,5 @@
 -- Two modules that tests link.
-use Rattle.std.proofs.Common.{ℕ, ◌<◌, ◌^◌, List, [], ◌∷◌, length, arith}
+use Rattle.std.proofs.Common.{◌<◌, ◌^◌, [], ◌∷◌, length, arith}
 use Rattle.std.specs.Prelude.{All}
 use Rattle.std.proofs.lemmas.List.Elements.{All-nil, All-cons}
 use Rattle.cfi_aux.specs.Records.{CanBeWritten}

@@ -1,6 +1,6 @@
 -- Which definition of a name is chosen among the symbols of joined modules (System V ELF, symbol binding): a global one
 -- before a weak one, the first of each. The others become references.
-use Rattle.std.specs.Prelude.{ℕ, ◌+◌, Bool, true, false, not, ◌==◌, ◌&&◌, if◌then◌else◌, List, [], ◌∷◌, ◌++◌, length, take, map, filter, count_by, Option, Some, None, is_some, option_and_then}
+use Rattle.std.specs.Prelude.{ℕ, ◌+◌, Bool, true, false, not, ◌==◌, ◌&&◌, if◌then◌else◌, List, [], ◌∷◌, ◌++◌, map, filter, count_by, Option, Some, None, is_some, option_and_then}
 use Rattle.std.specs.Option.{option_or}
 use Rattle.std.specs.List.{enumerate_from, slice_get}
 use Rattle.elf_read.specs.declared.object.Symbol.{Symbol}
@@ -8,15 +8,11 @@ use Rattle.elf_read.specs.declared.object.Binding.{Binding}
 use Rattle.elf_read.specs.declared.object.Binding.TheVariants as bindings
 use Rattle.elf_read.specs.declared.object.Place.{Place}
 use Rattle.elf_read.specs.declared.object.Place.TheVariants as places
+use Rattle.cfi_aux.specs.Placed.{is_global_binding}
 use Rattle.cfi_aux.specs.Sound.{is_exported, is_defined}
 use Rattle.cfi_place.specs.Names.{Names, first_in}
 
 -- ---- definitions
-
-abbrev pub is_global : Binding → Bool
-is_global bindings.Global = true
-is_global bindings.Local = false
-is_global bindings.Weak = false
 
 abbrev pub is_weak : Binding → Bool
 is_weak bindings.Weak = true
@@ -30,7 +26,7 @@ is_local bindings.Weak = false
 
 -- a symbol that defines its name as a global one, as a weak one, for other modules at all
 abbrev pub defines_global : Symbol → Bool
-defines_global s = is_global s.binding && is_defined s.place
+defines_global s = is_global_binding s.binding && is_defined s.place
 
 abbrev pub defines_weak : Symbol → Bool
 defines_weak s = is_weak s.binding && is_defined s.place

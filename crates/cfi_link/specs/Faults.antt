@@ -1,5 +1,5 @@
 -- Why modules can not be linked: the first fault, by the order of the variants and then by the least place.
-use Rattle.std.specs.Prelude.{◌≡◌, ℕ, ◌*◌, ◌/◌, ◌%◌, ◌<◌, ◌≤◌, Bool, true, false, not, ◌==◌, nat_le, if◌then◌else◌, List, length, take, map, All, Option, Some, None, IsSomeAnd, Result, Ok, Err, ⊤}
+use Rattle.std.specs.Prelude.{◌≡◌, ℕ, ◌*◌, ◌/◌, ◌%◌, ◌<◌, Bool, true, false, not, ◌==◌, nat_le, if◌then◌else◌, List, length, take, All, Option, Some, None, IsSomeAnd, Result, Err, ⊤}
 use Rattle.std.specs.List.{list_any, slice_get}
 use Rattle.elf_read.specs.declared.fault.Limit.{Limit}
 use Rattle.elf_read.specs.declared.fault.Limit.TheVariants as limits

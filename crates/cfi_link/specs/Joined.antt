@@ -1,7 +1,7 @@
 -- Modules joined in order. What a module brings comes after what stands, and its numbers go up by what stands: places
 -- in text by the bytes of text, places in data by where its data begins, numbers of symbols by the symbols, numbers of
 -- nodes by the nodes. The data of a module begins at a multiple of 16; a gap is zero.
-use Rattle.std.specs.Prelude.{ℕ, ◌+◌, ◌%◌, ◌^◌, List, [], ◌++◌, length, map, fold, replicate, Option, option_map}
+use Rattle.std.specs.Prelude.{ℕ, ◌+◌, ◌%◌, ◌^◌, List, [], ◌++◌, length, map, fold, replicate, option_map}
 use Rattle.std.specs.List.{enumerate_from}
 use Rattle.elf_read.specs.declared.object.Symbol.{Symbol}
 use Rattle.elf_read.specs.declared.object.Place.{Place}

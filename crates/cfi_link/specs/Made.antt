@@ -1,5 +1,5 @@
 -- Joined modules that break no rule, and why they make no module.
-use Rattle.std.specs.Prelude.{◌≡◌, ℕ, ◌%◌, ◌<◌, ◌^◌, List, length, map, All, Option, Some, None, Err, ⊤}
+use Rattle.std.specs.Prelude.{◌≡◌, ◌%◌, ◌<◌, ◌^◌, length, map, All, Some, None, Err, ⊤}
 use Rattle.elf_read.specs.declared.object.Object.{Object}
 use Rattle.cfi_types.specs.Spelling.{IsNode, NamesBelow}
 use Rattle.cfi_aux.specs.Records.{words_of}

@@ -1,6 +1,6 @@
 //! Modules joined in order.
 
-ghost use Rattle.std.specs.Prelude.{◌≡◌, ◌+◌, ◌<◌, ◌^◌, ◌++◌, None, All, OnOk, IfOk, length};
+ghost use Rattle.std.specs.Prelude.{◌≡◌, ◌+◌, ◌<◌, ◌^◌, None, All, OnOk, IfOk, length};
 ghost use Rattle.cfi_aux.specs.Sound.{IsSoundModule};
 ghost use Rattle.cfi_link.specs.Joined.{nothing, with_data, start_of, with_module, joined_of};
 ghost use Rattle.cfi_link.specs.Gap.{gap};

@@ -69,7 +69,7 @@ fn parts_of(
     Ok((bytes, relocs))
 }
 
-// The records that joined modules make, and the bytes of the types and of them.
+// The bytes of the types and of the records.
 fn spelled(
     alloc: Global,
     types: &TypeTable,

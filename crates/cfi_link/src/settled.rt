@@ -1,6 +1,6 @@
 //! The symbols of the output.
 
-ghost use Rattle.std.specs.Prelude.{◌≡◌, ◌<◌, ◌^◌, ◌++◌, filter, not, length, IfOk};
+ghost use Rattle.std.specs.Prelude.{◌≡◌, ◌<◌, ◌^◌, length, IfOk};
 ghost use Rattle.cfi_link.specs.Chosen.{is_local_symbol, settled_symbol, settled, in_order};
 ghost use Rattle.cfi_link.specs.Kept.{chosen_by};
 

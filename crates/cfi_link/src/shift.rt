@@ -1,9 +1,9 @@
 //! Symbols, relocations and nodes of a module, shifted to where it begins.
 
-ghost use Rattle.std.specs.Prelude.{◌≡◌, ◌+◌, ◌<◌, ◌^◌, ◌++◌, ℕ, List, All, map, length, IfOk, OnOk};
+ghost use Rattle.std.specs.Prelude.{◌≡◌, ◌<◌, ◌^◌, ◌++◌, All, map, length, IfOk, OnOk};
 ghost use Rattle.std.specs.List.{enumerate_from};
 ghost use Rattle.cfi_types.specs.Kind.{number_count, numbers_of, nodes_of};
-ghost use Rattle.cfi_link.specs.Joined.{value_at, symbol_at, offset_at, reloc_at, own_reloc_at, node_at};
+ghost use Rattle.cfi_link.specs.Joined.{value_at, symbol_at, reloc_at, own_reloc_at, node_at};
 ghost use Rattle.cfi_link.specs.Room.{HasValue, HasPlace, HasNodes};
 
 use crate::joined::OwnReloc;

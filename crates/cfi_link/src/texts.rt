@@ -1,7 +1,6 @@
 //! Whether the texts of modules are units from their start to their end.
 
-ghost use Rattle.std.specs.Prelude.{◌≡◌, ◌<◌, ◌≤◌, ◌^◌, true, false, List, All, length, IfSome, IfNone, IfErr, OnOk};
-ghost use Rattle.cfi_place.specs.Placed.{words_in};
+ghost use Rattle.std.specs.Prelude.{◌≡◌, ◌<◌, ◌^◌, All, length, IfSome, IfNone, IfErr, OnOk};
 ghost use Rattle.cfi_link.specs.Kept.{IsTextFault};
 ghost use Rattle.cfi_link.specs.Faults.{has_text, AreUnits, StopsAt, HaveTexts};
 

@@ -1,8 +1,8 @@
 -- A global function stands where the global symbols of text have its name.
-use Rattle.std.proofs.Common.{◌≡◌, ℕ, suc, ◌<◌, ◌&&◌, ◌==◌, Bool, true, false, List, [], ◌∷◌, length, get_or, Option, refl, sym, ap, ◌∙◌, inl, inr, arith, ◌++◌, ◌+◌, map, filter, take}
+use Rattle.std.proofs.Common.{◌≡◌, ℕ, suc, ◌<◌, ◌&&◌, ◌==◌, true, false, List, [], ◌∷◌, length, get_or, Option, refl, sym, ap, ◌∙◌, inl, inr, arith, ◌++◌, ◌+◌, map, filter, take}
 use Rattle.std.specs.List.{list_any, AllPairs}
 use Rattle.std.specs.Str.{bytes_eq}
-use Rattle.std.proofs.lemmas.Bool.{cases_Bool, and_parts, and_from, false≢true}
+use Rattle.std.proofs.lemmas.Bool.{cases_Bool, and_parts, false≢true}
 use Rattle.std.proofs.lemmas.List.{append-nil, map-append}
 use Rattle.std.proofs.lemmas.List.Elements.{filter_more}
 use Rattle.std.proofs.lemmas.List.Folds.{list_any_none}
@@ -15,7 +15,6 @@ use Rattle.elf_read.specs.declared.object.Place.TheVariants as places
 use Rattle.cfi_aux.specs.declared.records.Function.{Function}
 use Rattle.cfi_aux.specs.Sound.{is_exported, is_defined, are_rivals}
 use Rattle.cfi_aux.specs.Placed.{is_global_binding, is_text, names_function, is_global}
-use Rattle.cfi_aux.specs.declared.placed.PlacedFunction.{PlacedFunction}
 use Rattle.cfi_place.specs.Names.{Names, first_in}
 use Rattle.cfi_place.specs.Functions.{is_global_text, globals_in, stands_at, has_global, make_function, placed_functions}
 use Rattle.cfi_place.proofs.NameLemmas.{bytes_eq-sym}

@@ -1,5 +1,5 @@
 -- Units that are read from a place on, and the slots of their checks.
-use Rattle.std.proofs.Common.{◌≡◌, ℕ, ◌+◌, ◌≤◌, List, [], ◌∷◌, ◌++◌, length, refl, sym, ap, ◌∙◌, arith}
+use Rattle.std.proofs.Common.{◌≡◌, ℕ, ◌+◌, ◌≤◌, List, [], ◌∷◌, ◌++◌, length, sym, ap, ◌∙◌, arith}
 use Rattle.cfi_unit.specs.declared.unit.Unit.{Unit as CodeUnit}
 use Rattle.cfi_unit.specs.declared.unit.Unit.TheVariants as units
 use Rattle.cfi_unit.specs.Unit.{size_of}
@@ -23,13 +23,6 @@ pub record Reads (source : List ℕ) (first : ℕ) (start : List ℕ) (at slot :
   pub joins : (code : List CodeUnit) → ReadFrom source at code
       → (all : List CodeUnit) × ReadFrom source 0 all
       × (with_slots first (checks_from 0 all) start ≡ with_slots slot (checks_from at code) words)
-
-pub reads_none : (source : List ℕ) (slot : ℕ) (words : List ℕ) → Reads source slot words 0 slot words
-reads_none source slot words = record {
-  within = omega arith;
-  small = omega arith;
-  joins = λ code read. (code, read, refl);
-}
 
 length-check_at : (at : ℕ) (unit : CodeUnit) → length (check_at at unit) ≤ size_of unit
 length-check_at at (units.Plain insn) = omega arith

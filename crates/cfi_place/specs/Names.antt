@@ -1,5 +1,5 @@
 -- Addresses by name. A function serves as the finite map.
-use Rattle.std.specs.Prelude.{◌≡◌, ℕ, ◌&&◌, not, List, Option, Some, is_some, if◌then◌else◌}
+use Rattle.std.specs.Prelude.{ℕ, ◌&&◌, not, List, Option, Some, is_some, if◌then◌else◌}
 use Rattle.std.specs.BTreeMap.{get_by_text}
 use Rattle.std.specs.Map.{lookup}
 use Rattle.std.specs.Str.{bytes_eq}

@@ -13,7 +13,7 @@ use Rattle.cfi_place.specs.declared.fault.PlaceFault.{PlaceFault}
 use Rattle.cfi_place.specs.declared.fault.PlaceFault.TheVariants as faults
 use Rattle.cfi_place.specs.Names.{Names}
 use Rattle.cfi_place.specs.Value.{own_in, values_by, undefined_in}
-use Rattle.cfi_place.specs.Relocated.{Areas, areas_of, high_parts, relocated_from, ◌>>=◌}
+use Rattle.cfi_place.specs.Relocated.{Areas, areas_of, high_parts, relocated_from}
 use Rattle.cfi_place.specs.Slots.{HasSlots}
 use Rattle.cfi_place.specs.Functions.{placed_functions}
 

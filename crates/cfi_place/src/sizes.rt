@@ -1,6 +1,6 @@
 //! Whether a module fits into its room.
 
-ghost use Rattle.std.specs.Prelude.{◌≡◌, ◌*◌, ◌/◌, ◌≤◌, true, length, Result, OnOk, IfErr};
+ghost use Rattle.std.specs.Prelude.{◌≡◌, ◌≤◌, true, Result, OnOk, IfErr};
 ghost use Rattle.cfi_place.specs.declared.fault.PlaceFault.{PlaceFault};
 ghost use Rattle.cfi_place.specs.declared.fault.PlaceFault.TheVariants as faults;
 ghost use Rattle.cfi_place.specs.declared.room.TheConstants.{DATA_END};

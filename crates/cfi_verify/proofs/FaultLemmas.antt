@@ -62,12 +62,6 @@ module _ (m : Placed) (loaded : List Placed) where
   pub clear_three : m.words ≢ [] → InsnsBelow m.words (length m.words) → Clear 3
   clear_three some insns = clear_more 2 (clear_two some) (none_illegal insns)
 
-  least_empty : (other : VerifyFault) → number_of other ≡ 1 → Stands m loaded other → 0 ≤ place_of other
-  least_empty other e = λ s. omega arith
-
-  pub first_empty : m.words ≡ [] → IsFirstFault m loaded faults.Empty
-  first_empty empty = is_first faults.Empty empty clear_one least_empty
-
   least_illegal : (o at : ℕ) → o ≡ 4 * at → IsFirstIllegal m.words at → (other : VerifyFault) → number_of other ≡ 2 →
       Stands m loaded other → o ≤ place_of other
   least_illegal o at here first (faults.Illegal k) e = λ s.

@@ -79,9 +79,6 @@ module _ (functions : List PlacedFunction) (at n : ℕ) (split : SplitsEnds func
       (λ (high : n ≤ has.0). high)
       (cases_lt has.0 n)
 
-  pub no_home_left : n ≡ length functions → (f : PlacedFunction) → Contains functions f → ¬ LiesIn f at
-  no_home_left none f has = λ lies. absurd (omega (arith, home_from f has lies, has.1, none))
-
   module _ (order : AreInOrder functions) (d : PlacedFunction) (inside : n < length functions) where
     -- a function after the number n begins where that one ends or after it
     home_after : (f : PlacedFunction) → (has : Contains functions f) → n < has.0 →

@@ -1,12 +1,11 @@
 -- Which units stand before a word and from it on, and what follows for functions.
 use Rattle.std.proofs.Common.{◌≡◌, ◌↔◌, ℕ, ◌-◌, ◌<◌, ◌≤◌, List, length, get_or, true, ap, sym, ◌∙◌, ⊎_elim, arith}
-use Rattle.std.specs.List.{AllWithin, Contains}
+use Rattle.std.specs.List.{Contains}
 use Rattle.std.specs.List.Sorted.{IsNonDecreasingBy}
 use Rattle.std.proofs.lemmas.Bool.{cases_lt}
 use Rattle.std.proofs.lemmas.List.{get_or_default}
 use Rattle.std.proofs.lemmas.List.Elements.{Contains-get_or}
 use Rattle.cfi_aux.specs.declared.placed.PlacedFunction.{PlacedFunction}
-use Rattle.cfi_unit.specs.declared.unit.Unit.{Unit as CodeUnit}
 use Rattle.cfi_verify.specs.declared.spot.Spot.{Spot}
 use Rattle.cfi_verify.specs.Spots.{BeginsUnit}
 use Rattle.cfi_verify.specs.Functions.{end_of, LiesIn, may_be_last, EndsWell}
@@ -60,16 +59,6 @@ begins_first spots rise at n d split within = (
 
 -- ---- padding
 
-pub all_idle : (spots : List Spot) (from to low high : ℕ) (unit : CodeUnit) → Splits spots from low →
-    Splits spots to high → AllWithin (λ (spot : Spot). spot.unit ≡ unit) spots low high → (spot : Spot) →
-    Contains spots spot → from ≤ spot.at → spot.at < to → spot.unit ≡ unit
-all_idle spots from to low high unit a b all spot has more less =
-    let is : get_or spots has.0 spot ≡ spot = has.2 in
-    let place : (get_or spots has.0 spot).at ≡ spot.at = ap (λ (s : Spot). s.at) is in
-    ap (λ (s : Spot). s.unit) (sym is)
-    ∙ all has.0 spot (number_above spots from low a has.0 spot (omega (arith, place, more)))
-    (number_below spots to high b has.0 spot has.1 (omega (arith, place, less)))
-
 -- the last unit before the end of a function
 module _ (spots : List Spot) (rise : AreRising spots) (f : PlacedFunction) (n : ℕ)
     (split : Splits spots (end_of f) n) where
@@ -77,10 +66,6 @@ module _ (spots : List Spot) (rise : AreRising spots) (f : PlacedFunction) (n : 
   of_function : (spot : Spot) → (has : Contains spots spot) → LiesIn f spot.at → has.0 < n
   of_function spot has lies =
       number_below spots (end_of f) n split has.0 spot has.1 (omega (arith, ap (λ (s : Spot). s.at) has.2, lies.1))
-
-  pub none_ends : (number : ℕ) → n ≡ 0 → ¬ EndsWell spots number f
-  none_ends number none = λ e.
-      let last = e.1 in absurd (omega (arith, of_function e.0 last.has last.lies, none))
 
   -- whether the last unit before the end is the function's, and may be its last
   pub ends_last : (number : ℕ) (d : Spot) → 0 < n → f.first ≤ (get_or spots (n - 1) d).at →

@@ -1,5 +1,5 @@
 -- What is known after the first units of words were read.
-use Rattle.std.proofs.Common.{◌≡◌, ℕ, ◌+◌, ◌-◌, ◌*◌, ◌<◌, ◌≤◌, List, [], ◌∷◌, ◌++◌, length, take, drop, refl, ap, sym, subst, ◌∙◌, ⊎_elim, arith, length-append}
+use Rattle.std.proofs.Common.{◌≡◌, ℕ, ◌+◌, ◌-◌, ◌<◌, ◌≤◌, List, [], ◌∷◌, ◌++◌, length, take, drop, refl, ap, sym, subst, ◌∙◌, ⊎_elim, arith, length-append}
 use Rattle.std.specs.List.{flat_map}
 use Rattle.std.proofs.Math.Seq.{take-add}
 use Rattle.std.proofs.lemmas.Bool.{cases_lt}
@@ -10,7 +10,7 @@ use Rattle.cfi_unit.specs.Unit.{words_of, size_of}
 use Rattle.cfi_unit.specs.Code.{BeginsAt, UnitCode}
 use Rattle.cfi_unit.proofs.CodeLemmas.{length-words_of, BeginsAt-within, BeginsAt-word, UnitCode-append}
 use Rattle.cfi_verify.specs.declared.spot.Spot.{Spot}
-use Rattle.cfi_verify.specs.Spots.{spots_of, AreSpots, IsInsnAt, StopsAt}
+use Rattle.cfi_verify.specs.Spots.{spots_of, AreSpots, IsInsnAt}
 use Rattle.cfi_verify.specs.Reading.{InsnsBelow}
 
 -- the words before a place are units, which stand at these places, and each is an instruction
@@ -87,16 +87,4 @@ read_all words at spots read done = record {
   code = read.body;
   units = subst (λ (ws : List ℕ). UnitCode ws read.body) (take_all at words done) read.code;
   places = read.places;
-}
-
--- no unit begins here
-pub read_stops : (words : List ℕ) (at : ℕ) (spots : List Spot) → IsReadTo words at spots → at < length words →
-    ((unit : CodeUnit) → ¬ BeginsAt words at unit) → StopsAt words (4 * at)
-read_stops words at spots read within stops = record {
-  at = at;
-  here = refl;
-  within = within;
-  body = read.body;
-  units = read.code;
-  stops = stops;
 }

@@ -1,6 +1,6 @@
 //! The function in which a word lies.
 
-ghost use Rattle.std.specs.Prelude.{◌≡◌, ℕ, ◌+◌, ◌<◌, Some, IfSome, IsTrue, ◌↔◌};
+ghost use Rattle.std.specs.Prelude.{◌≡◌, Some, IfSome, IsTrue, ◌↔◌};
 ghost use Rattle.std.specs.List.{Contains};
 ghost use Rattle.cfi_aux.specs.declared.placed.PlacedFunction.{PlacedFunction as Function};
 ghost use Rattle.cfi_verify.specs.Functions.{end_of, LiesIn};

@@ -2,7 +2,7 @@
 //!
 //! Stands on `cfi_unit`, `cfi_aux`, `cfi_types`, `cfi_list`, `elf_read`, `rv_insn` and `thiserror`. Proved: `verify`
 //! answers the first fault of `specs/Faults.antt`, and Ok exactly where none stands. Only tested: that ample memory is
-//! enough, the texts of faults, and words against an assembler. Open: when memory runs out.
+//! enough, and words against an assembler. Open: when memory runs out, and the texts of faults.
 #![tactic(auto)]
 
 mod branches;
@@ -16,6 +16,8 @@ mod reader;
 mod search;
 mod spot;
 mod target;
+#[cfg(test)]
+mod tests;
 mod verifier;
 
 pub use checks::CheckSpot;
@@ -23,6 +25,3 @@ pub use fault::VerifyFault;
 pub use laws::{one_first_fault, some_module_verifies, verified_has_no_fault};
 pub use spot::Spot;
 pub use verifier::verify;
-
-#[cfg(test)]
-mod tests;

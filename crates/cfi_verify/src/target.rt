@@ -1,6 +1,6 @@
 //! Where branches and jumps lead.
 
-ghost use Rattle.std.specs.Prelude.{◌≡◌, ℕ, List, ◌*◌, ◌<◌, ◌^◌, Some, IfSome, IfNone, IsTrue, ◌↔◌};
+ghost use Rattle.std.specs.Prelude.{◌≡◌, ℕ, List, ◌<◌, ◌^◌, Some, IfSome, IfNone, IsTrue, ◌↔◌};
 ghost use Rattle.std.specs.List.Sorted.{IsNonDecreasing};
 ghost use Rattle.cfi_aux.specs.declared.placed.Placed.{Placed as Module};
 ghost use Rattle.cfi_verify.specs.Lists.{Each, IsFirstBreak};

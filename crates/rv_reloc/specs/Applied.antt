@@ -1,5 +1,5 @@
 -- What bytes become when a relocation is applied to them, or why it can not be (RISC-V ELF psABI, "Relocations").
-use Rattle.std.specs.Prelude.{ℕ, ◌+◌, List, Option, Some, None, option_map, Result, Ok, Err}
+use Rattle.std.specs.Prelude.{ℕ, ◌+◌, List, Option, Some, None, Result, Ok, Err}
 use Rattle.elf_read.specs.declared.object.Reloc.{Reloc}
 use Rattle.rv_reloc.specs.declared.fault.RelocFault.{RelocFault}
 use Rattle.rv_reloc.specs.declared.table.Form.{Form}

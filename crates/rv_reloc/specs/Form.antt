@@ -1,6 +1,6 @@
 -- Instructions with a number in their immediate: a case for each form that has the field, which the others have not.
 -- All else of the instruction stays (RISC-V ELF psABI, "Relocations").
-use Rattle.std.specs.Prelude.{ℕ, ◌^◌, ℤ, Bool, true, ◌&&◌, Option, Some, None}
+use Rattle.std.specs.Prelude.{ℕ, ◌^◌, ℤ, Bool, true, Option, Some, None}
 use Rattle.rv_insn.specs.declared.insn.Insn.{Insn}
 use Rattle.rv_insn.specs.declared.insn.Insn.TheVariants as insns
 use Rattle.rv_insn.specs.declared.insn.ImmOp.{ImmOp}

@@ -1,8 +1,7 @@
 //! Relocations of RISC-V: the field of one, filled with its value.
 //!
 //! Stands on `rv_insn`, `elf_read` and `thiserror`. Proved: `apply` writes exactly what `specs/Applied.antt` says, or
-//! refuses for its first fault and writes nothing. Only tested: the words against GNU ld, the texts of faults. Open:
-//! nothing.
+//! refuses for its first fault and writes nothing. Only tested: the words against GNU ld. Open: the texts of faults.
 #![tactic(auto)]
 
 mod applied;

@@ -14,13 +14,13 @@ returns-in-Some-first_falling-clause-fault c =
       subst (λ (bs : List Kind). IsNone (has_bad_switch t c.args.unplaced.now.records.functions bs) (count_of t))
           c.as_slice-branches.ensures
           (subst (λ (fs : List Function). IsNone (has_bad_switch t fs c.as_slice-branches.result.now) (count_of t))
-          c.as_slice-functions.ensures c.in-None.ensures.none),
+          c.as_slice-functions.ensures c.in_default.ensures.none),
       subst (λ (fs : List Function). IsFirst (falls_through t fs) (length fs) c.in-Some-first_falling.k)
           c.as_slice-functions.ensures c.in-Some-first_falling.ensures.some,
     )
 
-pub returns-in-None-first_falling-clause-ok : goal.returns-in-None-first_falling-clause-ok
-returns-in-None-first_falling-clause-ok c =
+pub returns-clause-ok : goal.returns-clause-ok
+returns-clause-ok c =
     let t = c.args.source.now in
     record {
       linked = c.requires.linked;
@@ -28,8 +28,8 @@ returns-in-None-first_falling-clause-ok c =
           subst (λ (bs : List Kind). IsNone (has_bad_switch t c.args.unplaced.now.records.functions bs) (count_of t))
           c.as_slice-branches.ensures
           (subst (λ (fs : List Function). IsNone (has_bad_switch t fs c.as_slice-branches.result.now) (count_of t))
-          c.as_slice-functions.ensures c.in-None.ensures.none);
+          c.as_slice-functions.ensures c.in_default.ensures.none);
       ends =
           subst (λ (fs : List Function). IsNone (falls_through t fs) (length fs)) c.as_slice-functions.ensures
-          c.in-None-first_falling.ensures.none;
+          c.in_default-first_falling.ensures.none;
     }

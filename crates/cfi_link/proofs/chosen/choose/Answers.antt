@@ -1,6 +1,4 @@
-use Rattle.std.proofs.Common.{if◌then◌else◌, Some, None}
-use Rattle.cfi_place.specs.Names.{find_in}
-use Rattle.cfi_link.specs.Chosen.{is_second, twice_in}
+use Rattle.cfi_link.specs.Chosen.{twice_in}
 use Rattle.cfi_link.proofs.ChosenLemmas.{has_none, has_more, has_all, once_all, twice_is, twice_fault}
 use Rattle.cfi_link.proofs.chosen.choose.Goals as goal
 

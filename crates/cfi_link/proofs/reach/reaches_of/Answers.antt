@@ -1,4 +1,4 @@
-use Rattle.std.proofs.Common.{◌≡◌, ◌∙◌, ◌+◌, ◌++◌, ◌∷◌, [], List, Option, ℕ, ap, sym}
+use Rattle.std.proofs.Common.{ap}
 use Rattle.elf_read.specs.declared.object.Symbol.{Symbol}
 use Rattle.cfi_link.specs.Chosen.{settled_symbol, reach_of}
 use Rattle.cfi_link.specs.Kept.{chosen_by}

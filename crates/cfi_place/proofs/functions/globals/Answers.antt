@@ -1,7 +1,7 @@
 -- The names that the map has are those of the symbols so far.
 use Rattle.std.proofs.Common.{◌≡◌, ◌∙◌, ap, sym, subst, true, false, ℕ, List, get_or}
 use Rattle.cfi_place.specs.Names.{find_in, first_in, with_name}
-use Rattle.cfi_place.specs.Functions.{is_global_text, globals_in}
+use Rattle.cfi_place.specs.Functions.{is_global_text}
 use Rattle.cfi_place.proofs.NameLemmas.{names-push}
 use Rattle.cfi_place.proofs.FunctionLemmas.{globals_in-other, globals_in-more}
 use Rattle.cfi_place.proofs.functions.globals.Goals as goal

@@ -1,4 +1,4 @@
-use Rattle.std.proofs.Common.{◌≡◌, ◌∙◌, ◌<◌, ◌^◌, ap, sym, subst, refl, rules, List, All, ℕ, Option, Ok}
+use Rattle.std.proofs.Common.{◌≡◌, ◌∙◌, ◌<◌, ◌^◌, sym, subst, refl, rules, List, All, ℕ, Option, Ok}
 use Rattle.elf_read.specs.declared.object.Symbol.{Symbol}
 use Rattle.cfi_aux.specs.Placed.{address_of}
 use Rattle.cfi_place.specs.Names.{find_in}

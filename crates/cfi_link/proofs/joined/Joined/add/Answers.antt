@@ -1,8 +1,7 @@
 -- Each list has what it had and what the module brings.
-use Rattle.std.proofs.Common.{◌≡◌, ◌∙◌, ◌++◌, ◌+◌, List, ℕ, ap, sym, map}
+use Rattle.std.proofs.Common.{◌∙◌, ◌++◌, ◌+◌, List, ℕ, ap, sym, map}
 use Rattle.std.specs.List.{enumerate_from}
 use Rattle.elf_read.specs.declared.object.Reloc.{Reloc}
-use Rattle.cfi_link.specs.declared.start.Start.{Start}
 use Rattle.cfi_link.specs.Joined.{Joined, with_module, with_data, start_of, symbol_at, own_reloc_at, node_at, function_at, branch_at}
 use Rattle.cfi_link.proofs.JoinedLemmas.{same_joined, mapped_is}
 use Rattle.cfi_link.proofs.joined.Joined.add.Goals as goal
