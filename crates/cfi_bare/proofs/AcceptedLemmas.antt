@@ -7,7 +7,7 @@ use Rattle.cfi_unit.specs.declared.unit.Unit.TheVariants.{Jump}
 use Rattle.cfi_unit.specs.Code.{BeginsAt}
 use Rattle.cfi_unit.proofs.UnitLemmas.{size_pos}
 use Rattle.cfi_unit.proofs.CodeLemmas.{BeginsAt-within}
-use Rattle.cfi_model.specs.declared.places.TheConstants.{BASE}
+use Rattle.cfi_word.specs.declared.layout.TheConstants.{FIRST_BASE}
 use Rattle.cfi_aux.specs.declared.placed.Placed.{Placed}
 use Rattle.cfi_aux.specs.declared.placed.PlacedFunction.{PlacedFunction}
 use Rattle.rv_reloc.specs.Bytes.{word_at}
@@ -45,7 +45,7 @@ function = record { first = 0; count = 1; ty = 1; taken = false; global = false;
 
 abbrev placed : Placed
 placed = record {
-  base = BASE;
+  base = FIRST_BASE;
   slot_base = 0;
   data_base = DATA_START;
   words = word;

@@ -13,9 +13,8 @@ use Rattle.cfi_unit.specs.Code.{UnitCode}
 use Rattle.cfi_unit.specs.declared.unit.TheConstants.{SLOTS}
 use Rattle.cfi_word.specs.declared.lists.Image.{Image}
 use Rattle.cfi_word.specs.declared.ids.TheConstants.{FIELD_MAX}
-use Rattle.cfi_word.specs.declared.layout.TheConstants.{MAX_CODE_WORDS}
+use Rattle.cfi_word.specs.declared.layout.TheConstants.{MAX_CODE_WORDS, FIRST_BASE}
 use Rattle.cfi_word.specs.Table.{slots_of}
-use Rattle.cfi_model.specs.declared.places.TheConstants.{BASE}
 use Rattle.cfi_model.specs.Closed.{idle, code_of, StandsIn, IsStartOf, LeadsToStart, ReturnsToStart, StaysInside}
 use Rattle.cfi_verify.specs.Functions.{may_be_last}
 use Rattle.cfi_bare.specs.declared.modules.TheConstants.{MAX_WORDS}
@@ -48,25 +47,25 @@ copies_rest n = refl
 -- the code of an image
 length-code_with : (words : List ℕ) → length words ≤ MAX_WORDS → length (code_with words) ≡ MAX_CODE_WORDS
 length-code_with words fits =
-    let rest = MAX_CODE_WORDS - BASE - length words in
+    let rest = MAX_CODE_WORDS - FIRST_BASE - length words in
     omega (
       arith,
-      length-append (copies BASE 0 ++ words) (copies rest 0),
-      length-append (copies BASE 0) words,
-      length-copies BASE 0,
+      length-append (copies FIRST_BASE 0 ++ words) (copies rest 0),
+      length-append (copies FIRST_BASE 0) words,
+      length-copies FIRST_BASE 0,
       length-copies rest 0,
     )
 
 drop-code_with : (words : List ℕ) →
-    drop BASE (code_with words) ≡ words ++ replicate (MAX_CODE_WORDS - BASE - length words) 0
+    drop FIRST_BASE (code_with words) ≡ words ++ replicate (MAX_CODE_WORDS - FIRST_BASE - length words) 0
 drop-code_with words =
-    let rest = MAX_CODE_WORDS - BASE - length words in
-    let whole : code_with words ≡ copies BASE 0 ++ (words ++ copies rest 0) =
-    append_assoc (copies BASE 0) words (copies rest 0) in
-    let after : drop BASE (copies BASE 0 ++ (words ++ copies rest 0)) ≡ words ++ copies rest 0 =
-    subst (λ (n : ℕ). drop n (copies BASE 0 ++ (words ++ copies rest 0)) ≡ words ++ copies rest 0)
-    (length-copies BASE 0) (drop-append_seam (copies BASE 0) (words ++ copies rest 0)) in
-    ap (drop BASE) whole ∙ after ∙ ap (λ (ws : List ℕ). words ++ ws) (copies_rest rest)
+    let rest = MAX_CODE_WORDS - FIRST_BASE - length words in
+    let whole : code_with words ≡ copies FIRST_BASE 0 ++ (words ++ copies rest 0) =
+    append_assoc (copies FIRST_BASE 0) words (copies rest 0) in
+    let after : drop FIRST_BASE (copies FIRST_BASE 0 ++ (words ++ copies rest 0)) ≡ words ++ copies rest 0 =
+    subst (λ (n : ℕ). drop n (copies FIRST_BASE 0 ++ (words ++ copies rest 0)) ≡ words ++ copies rest 0)
+    (length-copies FIRST_BASE 0) (drop-append_seam (copies FIRST_BASE 0) (words ++ copies rest 0)) in
+    ap (drop FIRST_BASE) whole ∙ after ∙ ap (λ (ws : List ℕ). words ++ ws) (copies_rest rest)
 
 -- a unit that control can leave at its end is not the last
 not_last : (body : List CodeUnit) (number : ℕ) (unit : CodeUnit) → EndsUnlinked body →
@@ -86,14 +85,14 @@ next_start : (body : List CodeUnit) (address : ℕ) (unit : CodeUnit) → EndsUn
     StandsIn body address unit → may_be_last unit ≡ false → IsStartOf body (address + 4 * size_of unit)
 next_start body address unit ends stands goes_on =
     let here : slice_get body stands.0 ≡ Some unit = stands.1 in
-    let at : address ≡ 4 * (BASE + place_in body stands.0) = stands.2 in (
+    let at : address ≡ 4 * (FIRST_BASE + place_in body stands.0) = stands.2 in (
       stands.0 + 1,
       not_last body stands.0 unit ends here goes_on,
       omega (arith, place_more body stands.0 unit here),
     )
 
 -- the address that a displacement leads to is a start
-far_start : (body : List CodeUnit) (address at : ℕ) (off : ℤ) → address ≡ 4 * (BASE + at) →
+far_start : (body : List CodeUnit) (address at : ℕ) (off : ℤ) → address ≡ 4 * (FIRST_BASE + at) →
     LeadsToUnit body at off → LeadsToStart body address off
 far_start body address at (pos n) here leads =
     let to : leads.0 ≡ place_in body leads.2.0 = leads.2.2 in
@@ -102,7 +101,7 @@ far_start body address at (pos n) here leads =
 far_start body address at (negsuc n) here leads =
     let to : leads.0 ≡ place_in body leads.2.0 = leads.2.2 in
     let goes : 4 * leads.0 + n + 1 ≡ 4 * at = leads.1 in
-    (4 * (BASE + leads.0), omega arith, (leads.2.0, leads.2.1, omega arith))
+    (4 * (FIRST_BASE + leads.0), omega arith, (leads.2.0, leads.2.1, omega arith))
 
 -- each unit of the words is one
 unit_fits : (words : List ℕ) (body : List CodeUnit) (address : ℕ) (unit : CodeUnit) → UnitCode words body →
@@ -160,7 +159,7 @@ closed_file words image fits runnable is =
     let runs = found.1 in
     let ends = runs.ends in
     let some : length body - 1 < length body = slice_get_within body (length body - 1) ends.0 ends.1 in
-    let rest = MAX_CODE_WORDS - BASE - length words in
+    let rest = MAX_CODE_WORDS - FIRST_BASE - length words in
     let slots : SLOTS ≤ length image.bary =
     omega (arith, ap length is.bary, length-copies (slots_of MAX_CODE_WORDS) FIELD_MAX) in
     record {
@@ -188,7 +187,7 @@ closed_file words image fits runnable is =
         zeros = rest;
         code = record {
           fit = runs.code.fit;
-          spelled = ap (drop BASE) is.code ∙ drop-code_with words
+          spelled = ap (drop FIRST_BASE) is.code ∙ drop-code_with words
               ∙ ap (λ (ws : List ℕ). ws ++ replicate rest 0)
               (runs.code.spelled ∙ sym (append-nil (code_of body)));
           busy = busy body ends;

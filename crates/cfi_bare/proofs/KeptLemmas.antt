@@ -54,11 +54,13 @@ kept n slot at (units.Jump link off ∷ code) words fits = kept n slot (at + 1) 
 kept n slot at (units.Service ∷ code) words fits = kept n slot (at + 1) code words (omega (arith, fits))
 
 -- words that are equal up to a unit's end begin the same unit
-begins_same : (old new : List ℕ) (at : ℕ) (unit : CodeUnit) → take (at + size_of unit) new ≡ take (at + size_of unit) old
+begins_same : (old new : List ℕ) (at : ℕ) (unit : CodeUnit)
+    → take (at + size_of unit) new ≡ take (at + size_of unit) old
     → BeginsAt old at unit → BeginsAt new at unit
 begins_same old new at unit same begins = record {
   fits = begins.fits;
-  spelled = sym (drop-take at (size_of unit) new) ∙ ap (drop at) same ∙ drop-take at (size_of unit) old ∙ begins.spelled;
+  spelled = sym (drop-take at (size_of unit) new) ∙ ap (drop at) same ∙ drop-take at (size_of unit) old
+      ∙ begins.spelled;
 }
 
 -- ---- units without checks
@@ -148,10 +150,14 @@ module _ (old : List ℕ) where
   no_slots : (slot at : ℕ) (code : List CodeUnit) → IsKept slot at code
   no_slots slot at [] = λ new found read is spelled other. refl
   no_slots slot at (units.Plain insn ∷ code) = after slot at (units.Plain insn) code refl (no_slots slot (at + 1) code)
-  no_slots slot at (units.Load kind rd rs1 imm ∷ code) = after slot at (units.Load kind rd rs1 imm) code refl (no_slots slot (at + 6) code)
-  no_slots slot at (units.Store kind rs1 rs2 imm ∷ code) = after slot at (units.Store kind rs1 rs2 imm) code refl (no_slots slot (at + 6) code)
-  no_slots slot at (units.Branch cond rs1 rs2 off ∷ code) = after slot at (units.Branch cond rs1 rs2 off) code refl (no_slots slot (at + 1) code)
-  no_slots slot at (units.Jump link off ∷ code) = after slot at (units.Jump link off) code refl (no_slots slot (at + 1) code)
+  no_slots slot at (units.Load kind rd rs1 imm ∷ code) =
+      after slot at (units.Load kind rd rs1 imm) code refl (no_slots slot (at + 6) code)
+  no_slots slot at (units.Store kind rs1 rs2 imm ∷ code) =
+      after slot at (units.Store kind rs1 rs2 imm) code refl (no_slots slot (at + 6) code)
+  no_slots slot at (units.Branch cond rs1 rs2 off ∷ code) =
+      after slot at (units.Branch cond rs1 rs2 off) code refl (no_slots slot (at + 1) code)
+  no_slots slot at (units.Jump link off ∷ code) =
+      after slot at (units.Jump link off) code refl (no_slots slot (at + 1) code)
   no_slots slot at (units.Service ∷ code) = after slot at units.Service code refl (no_slots slot (at + 1) code)
   no_slots slot at (units.Check link rs1 imm number ∷ code) = λ new found read is spelled other.
       let check : CodeUnit = units.Check link rs1 imm number in

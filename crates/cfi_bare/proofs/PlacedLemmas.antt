@@ -7,7 +7,7 @@ use Rattle.cfi_unit.proofs.CodeLemmas.{BeginsAt-one}
 use Rattle.cfi_aux.specs.declared.placed.Placed.{Placed}
 use Rattle.cfi_aux.specs.declared.placed.PlacedFunction.{PlacedFunction}
 use Rattle.cfi_aux.specs.declared.records.Kind.{Kind}
-use Rattle.cfi_model.specs.declared.places.TheConstants.{BASE}
+use Rattle.cfi_word.specs.declared.layout.TheConstants.{FIRST_BASE}
 use Rattle.cfi_place.specs.declared.fault.PlaceFault.TheVariants as faults
 use Rattle.cfi_place.specs.Relocated.{Areas, areas_of, relocated_from}
 use Rattle.cfi_place.specs.Slots.{ReadFrom, checks_from, with_slot, with_slots, HasSlots}
@@ -61,7 +61,8 @@ module _ (bytes : List ℕ) (branches : List Kind) (placed : Placed) (p : IsPlac
       ap length slots.2 ∙ length-with_slots 0 (checks_from 0 slots.0) (words_in bytes) ∙ length-words_in bytes
 
 -- its one function has them all
-functions_whole : (bytes words : List ℕ) (functions : List PlacedFunction) → functions ≡ placed_functions [] (bare_functions bytes)
+functions_whole : (bytes words : List ℕ) (functions : List PlacedFunction)
+    → functions ≡ placed_functions [] (bare_functions bytes)
     → length words ≡ length bytes / 4 → words ≢ []
     → (f : PlacedFunction) × (functions ≡ f ∷ []) × (f.first ≡ 0) × (f.count ≡ length words)
 functions_whole [] [] functions is count some = absurd (some refl)
@@ -71,7 +72,8 @@ functions_whole (b ∷ bytes) words functions is count some = (_, is, refl, sym 
 pub whole : (bytes : List ℕ) (branches : List Kind) (placed : Placed) → IsPlacedFile bytes branches placed
     → placed.words ≢ [] → IsWhole placed placed.words
 whole bytes branches placed p some =
-    let f = functions_whole bytes placed.words placed.functions p.functions (length-placed bytes branches placed p) some in
+    let f = functions_whole bytes placed.words placed.functions p.functions (length-placed bytes branches placed p)
+    some in
     record {
       base = p.base;
       same = refl;
@@ -86,7 +88,7 @@ whole bytes branches placed p some =
 -- such a module with these words
 abbrev placed_with : (bytes words : List ℕ) → List Kind → Placed
 placed_with bytes words branches = record {
-  base = BASE;
+  base = FIRST_BASE;
   slot_base = 0;
   data_base = bare_room.data_base;
   words = words;
@@ -100,7 +102,7 @@ placed_with bytes words branches = record {
 placed_is : (bytes : List ℕ) (branches : List Kind) (placed : Placed) (p : IsPlacedFile bytes branches placed)
     → placed ≡ placed_with bytes placed.words branches
 placed_is bytes branches placed p =
-    let base : placed.base ≡ BASE = p.base in
+    let base : placed.base ≡ FIRST_BASE = p.base in
     let slot_base : placed.slot_base ≡ 0 = p.slot_base in
     let data_base : placed.data_base ≡ bare_room.data_base = p.data_base in
     let static_data : placed.static_data ≡ [] =

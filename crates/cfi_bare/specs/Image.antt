@@ -4,9 +4,8 @@ use Rattle.cfi_unit.specs.declared.unit.Unit.{Unit as CodeUnit}
 use Rattle.cfi_unit.specs.Code.{UnitCode}
 use Rattle.cfi_word.specs.declared.lists.Image.{Image}
 use Rattle.cfi_word.specs.declared.ids.TheConstants.{FIELD_MAX}
-use Rattle.cfi_word.specs.declared.layout.TheConstants.{MAX_CODE_WORDS}
+use Rattle.cfi_word.specs.declared.layout.TheConstants.{MAX_CODE_WORDS, FIRST_BASE}
 use Rattle.cfi_word.specs.Table.{slots_of}
-use Rattle.cfi_model.specs.declared.places.TheConstants.{BASE}
 use Rattle.cfi_model.specs.Closed.{IsClosedBy, IsStartOf}
 
 -- so many copies of a value
@@ -15,7 +14,7 @@ copies count value = replicate count value
 
 -- the code area with these words: 0 below the first module's place, the words, and 0 after them
 abbrev pub code_with : (words : List ℕ) → List ℕ
-code_with words = (copies BASE 0 ++ words) ++ copies (MAX_CODE_WORDS - BASE - length words) 0
+code_with words = (copies FIRST_BASE 0 ++ words) ++ copies (MAX_CODE_WORDS - FIRST_BASE - length words) 0
 
 -- the image of words: no address has a class, and no slot may go anywhere
 pub record IsImageOf (words : List ℕ) (image : Image) : Type 0 where
@@ -28,4 +27,4 @@ pub record IsClosedFile (words : List ℕ) (image : Image) : Type 0 where
   pub body : List CodeUnit
   pub units : UnitCode words body
   pub closed : IsClosedBy MAX_CODE_WORDS image body
-  pub entry : IsStartOf body (4 * BASE)
+  pub entry : IsStartOf body (4 * FIRST_BASE)

@@ -4,8 +4,7 @@ use Rattle.std.specs.Prelude.{ℕ, List, [], ◌∷◌, length, codes, None, fal
 use Rattle.elf_read.specs.declared.object.Object.{Object}
 use Rattle.cfi_types.specs.Node.{Node, make_node}
 use Rattle.cfi_types.specs.declared.kind.TheConstants.{VOID, FUNC}
-use Rattle.cfi_word.specs.declared.layout.TheConstants.{MAX_CODE_WORDS}
-use Rattle.cfi_model.specs.declared.places.TheConstants.{BASE}
+use Rattle.cfi_word.specs.declared.layout.TheConstants.{MAX_CODE_WORDS, FIRST_BASE}
 use Rattle.cfi_aux.specs.declared.records.Function.{Function}
 use Rattle.cfi_aux.specs.declared.records.Kind.{Kind}
 use Rattle.cfi_aux.specs.declared.modules.Module.{Module}
@@ -41,7 +40,7 @@ bare_module bytes branches = record {
 
 -- its place, and the names that are known there
 abbrev pub bare_room : Room
-bare_room = record { base = BASE; slot_base = 0; data_base = DATA_START; code_words = MAX_CODE_WORDS }
+bare_room = record { base = FIRST_BASE; slot_base = 0; data_base = DATA_START; code_words = MAX_CODE_WORDS }
 
 abbrev pub no_names : Names
 no_names name = None

@@ -68,7 +68,8 @@ impl BareCode {
     }
 }
 
-/// The image that runs a function: its code from word `BASE` on, no class at any address, and no target for any slot.
+/// The image that runs a function: its code from the first module's place on, no class at any address, and no target
+/// for any slot.
 ///
 /// The lists have the lengths of a table of `MAX_CODE_WORDS` code words. `Err` where memory is out.
 pub fn image_of(alloc: Global, code: &BareCode) -> Result<Image, AllocError>

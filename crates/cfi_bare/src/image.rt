@@ -4,13 +4,18 @@ ghost use Rattle.std.specs.Prelude.{◌≡◌, ◌≤◌, length, IfOk};
 ghost use Rattle.cfi_bare.specs.Image.{copies as copies_of, code_with, IsImageOf, IsClosedFile};
 ghost use Rattle.cfi_bare.specs.Runnable.{IsRunnable};
 ghost use Rattle.cfi_bare.specs.declared.modules.TheConstants.{MAX_WORDS};
+ghost use Rattle.cfi_word.specs.declared.layout.TheConstants.{MAX_CODE_WORDS};
+ghost use Rattle.cfi_word.specs.Table.{slots_of};
 
-use cfi_model::BASE;
-use cfi_word::{FIELD_MAX, Image, MAX_CODE_WORDS, Numbers};
+use cfi_word::{FIELD_MAX, FIRST_BASE, Image, Layout, MAX_CODE_WORDS, Numbers};
 use std::alloc::{AllocError, Global};
 
-/// The number of words of a check, of which each slot of the code is one's.
-const CHECK_WORDS: u32 = 14;
+// The number of branch slots of the largest table.
+fn most_slots() -> u32
+    ensures { result ≡ slots_of MAX_CODE_WORDS }
+{
+    Layout::new(MAX_CODE_WORDS).unwrap().slots()
+}
 
 // So many copies of a value.
 #[tactic(auto, unfolding(crate::specs::Image::copies))]
@@ -25,8 +30,8 @@ fn code_of(alloc: Global, words: &[u32]) -> Result<Vec<u32>, AllocError>
     requires { length words.now ≤ MAX_WORDS }
     ensures { IfOk result (λ code. code.items ≡ code_with words.now) }
 {
-    let mut code = copies(alloc, BASE, 0)?;
-    let rest = copies(alloc, MAX_CODE_WORDS - BASE - words.len() as u32, 0)?;
+    let mut code = copies(alloc, FIRST_BASE, 0)?;
+    let rest = copies(alloc, MAX_CODE_WORDS - FIRST_BASE - words.len() as u32, 0)?;
     code.extend_from_slice(words)?;
     code.extend_from_slice(&rest)?;
     Ok(code)
@@ -41,7 +46,7 @@ pub fn image_of_words(alloc: Global, words: &[u32]) -> Result<Image, AllocError>
 {
     let code = code_of(alloc, words)?;
     let tary = copies(alloc, MAX_CODE_WORDS, 0)?;
-    let bary = copies(alloc, MAX_CODE_WORDS / CHECK_WORDS + 1, FIELD_MAX)?;
+    let bary = copies(alloc, most_slots(), FIELD_MAX)?;
     Ok(Image {
         tary: Numbers::from_vec(tary),
         bary: Numbers::from_vec(bary),

@@ -6,22 +6,21 @@ ghost use Rattle.cfi_bare.specs.Module.{bare_types, bare_functions, bare_object,
 
 use cfi_aux::{Function, Kind, Module, Placed, Records};
 use cfi_list::Items;
-use cfi_model::BASE;
 use cfi_place::{DATA_START, Room, Symbols as Names, place};
 use cfi_types::{FUNC, TypeNode, TypeTable, VOID};
-use cfi_word::MAX_CODE_WORDS;
+use cfi_word::{FIRST_BASE, MAX_CODE_WORDS};
 use elf_read::{Bytes, Name, Object, Relocs, Symbols};
 use std::alloc::{AllocError, Global};
 
-/// The most words of a bare file: the code area's, but for its first 16.
-pub const MAX_WORDS: u32 = 65_520;
+/// The most words of a bare file: those of the largest code from the first module's place on.
+pub const MAX_WORDS: u32 = MAX_CODE_WORDS - FIRST_BASE;
 
 /// The number of the type of a bare file's function: a function of no parameters that gives Void.
 pub const FUNCTION_TYPE: u32 = 1;
 
 // The place of a bare file: that of the first module of the largest code.
 const ROOM: Room = Room {
-    base: BASE,
+    base: FIRST_BASE,
     slot_base: 0,
     data_base: DATA_START,
     code_words: MAX_CODE_WORDS,

@@ -1,6 +1,6 @@
 use crate::{BareFault, accept, image_of};
-use cfi_model::BASE;
 use cfi_verify::VerifyFault;
+use cfi_word::FIRST_BASE;
 use std::alloc::{AllocError, Global};
 use std::process::Abort;
 use std::test::Fail;
@@ -132,7 +132,7 @@ fn image_of_one_jump(rt: HostRuntime) -> Result<(), Fail> {
     assert_eq!(rt; image.code.as_slice().len(), 65_536);
     assert_eq!(rt; image.tary.as_slice().first().copied(), Some(0));
     assert_eq!(rt; image.bary.as_slice().first().copied(), Some(16_383));
-    let word = image.code.as_slice().get(BASE as usize).copied();
+    let word = image.code.as_slice().get(FIRST_BASE as usize).copied();
     assert_eq!(rt; word, Some(0x0000006f));
     Ok(())
 }

@@ -122,7 +122,8 @@ module _ (h : History) (code : List ℕ) (p : State) (retries : ℕ) where
   next_access (units.Check link rs1 imm slot) at r begun t fits =
       let unit : CodeUnit = units.Check link rs1 imm slot in
       let target : ℕ = displaced (register p rs1) imm in
-      elim (check_goes_on h code p link rs1 imm slot at.here retries begun.more begun.two begun.values target begun.place
+      elim (check_goes_on h code p link rs1 imm slot at.here retries begun.more begun.two begun.values target
+      begun.place
       r begun.is begun.holds t fits) [
         | inl next ↦ inl next
         | inr e ↦

@@ -20,7 +20,8 @@ use Rattle.cfi_model.proofs.CheckLemmas.{looks}
 abbrev checked_by : (low whole allowed : Bool) → (pick : ℕ) → (link : Bool) → (target : ℕ) → State → State
 checked_by low whole allowed pick link target p =
     state p (cond ((low && whole) && allowed) (regs_with p.regs (link_register link) (after 56 p.pc)) p.regs)
-    (cond ((low && whole) && allowed) target p.pc) p.memory (cond (low && whole) (picked pick p.log) p.log) (p.units + 1)
+    (cond ((low && whole) && allowed) target p.pc) p.memory (cond (low && whole) (picked pick p.log) p.log)
+    (p.units + 1)
     (p.steps + cond low (cond whole (cond allowed 10 13) 8) 4)
     (cond ((low && whole) && allowed) p.stop (Some (Halt target)))
 

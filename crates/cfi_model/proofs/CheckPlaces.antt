@@ -117,7 +117,8 @@ CheckHolds h p more slot t v Differed = IsTried h p slot t v.bary v.tary × (id_
 CheckHolds h p more slot t v Compared = IsTried h p slot t v.bary v.tary × (id_in v.bary ≢ id_in v.tary)
 CheckHolds h p more slot t v Lowered = IsTried h p slot t v.bary v.tary × (id_in v.bary ≢ id_in v.tary)
 CheckHolds h p more slot t v Refused =
-    IsTried h p slot t v.bary v.tary × (id_in v.bary ≢ id_in v.tary) × (low_half (id_in v.tary) ≡ low_half (id_in v.bary))
+    IsTried h p slot t v.bary v.tary × (id_in v.bary ≢ id_in v.tary)
+    × (low_half (id_in v.tary) ≡ low_half (id_in v.bary))
 CheckHolds h p more slot t v Allowed = IsTried h p slot t v.bary v.tary × (id_in v.bary ≡ id_in v.tary)
 
 -- tries are repeated where two epochs' versions differ

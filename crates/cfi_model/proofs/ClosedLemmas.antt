@@ -7,9 +7,8 @@ use Rattle.cfi_unit.specs.declared.unit.Unit.{Unit as CodeUnit}
 use Rattle.cfi_unit.specs.declared.unit.Unit.TheVariants as units
 use Rattle.cfi_word.specs.declared.lists.Image.{Image}
 use Rattle.cfi_word.specs.declared.ids.TheConstants.{FIELD_MAX}
-use Rattle.cfi_word.specs.declared.layout.TheConstants.{MIN_CODE_WORDS}
+use Rattle.cfi_word.specs.declared.layout.TheConstants.{MIN_CODE_WORDS, FIRST_BASE}
 use Rattle.cfi_word.specs.Table.{IsSize, slots_of}
-use Rattle.cfi_model.specs.declared.places.TheConstants.{BASE}
 use Rattle.cfi_model.specs.Closed.{code_of, place_of, idle, StandsIn, StaysInside, IsStartOf, IsReadAs, HasClasses, IsClosed}
 
 -- the one unit
@@ -23,7 +22,7 @@ abbrev pub image_of : (code_words : ℕ) → Image
 image_of code_words = record {
   tary = replicate code_words 0;
   bary = replicate (slots_of code_words) FIELD_MAX;
-  code = replicate BASE 0 ++ code_of body ++ replicate (code_words - (BASE + 1)) 0;
+  code = replicate FIRST_BASE 0 ++ code_of body ++ replicate (code_words - (FIRST_BASE + 1)) 0;
 }
 
 -- no place of a list of equal numbers holds more
@@ -33,7 +32,7 @@ at_most (suc count) most zero = omega arith
 at_most (suc count) most (suc k) = at_most count most k
 
 code_length : (code_words : ℕ) → MIN_CODE_WORDS ≤ code_words → length (image_of code_words).code ≡ code_words
-code_length code_words least = omega (arith, length-replicate {A = ℕ} (code_words - (BASE + 1)) 0)
+code_length code_words least = omega (arith, length-replicate {A = ℕ} (code_words - (FIRST_BASE + 1)) 0)
 
 classes : (code_words : ℕ) → IsSize code_words → HasClasses code_words (image_of code_words)
 classes code_words size = record {
@@ -55,7 +54,7 @@ busy : Some jump ≢ Some idle
 unfolding IsJump
 busy same = subst IsJump (same_Some jump idle same) tt
 
-read_as : (code_words : ℕ) → IsReadAs (image_of code_words).code body 0 (code_words - (BASE + 1))
+read_as : (code_words : ℕ) → IsReadAs (image_of code_words).code body 0 (code_words - (FIRST_BASE + 1))
 read_as code_words = record {
   fit = ((omega arith, refl), tt);
   spelled = refl;
@@ -86,7 +85,7 @@ closed code_words size = (
   record {
     classes = classes code_words size;
     idles = 0;
-    zeros = code_words - (BASE + 1);
+    zeros = code_words - (FIRST_BASE + 1);
     code = read_as code_words;
     inside = stays (length (image_of code_words).bary);
     targets = λ k held. (let none = at_most code_words 0 k in absurd (held (omega arith)));

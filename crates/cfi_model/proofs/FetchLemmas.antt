@@ -58,7 +58,8 @@ walks h code p unit here all spelled k within steps x28 x29 x30 x31 bary tary ne
 
 -- the same address and count, written otherwise
 pub counts : (p : State) (pc pc' steps steps' x28 x29 x30 x31 : ℕ) (bary tary wait : _) → pc ≡ pc' → steps ≡ steps'
-    → inner p p.units pc steps x28 x29 x30 x31 bary tary wait ≡ inner p p.units pc' steps' x28 x29 x30 x31 bary tary wait
+    → inner p p.units pc steps x28 x29 x30 x31 bary tary wait
+    ≡ inner p p.units pc' steps' x28 x29 x30 x31 bary tary wait
 counts p pc pc' steps steps' x28 x29 x30 x31 bary tary wait a b =
     same_inner p _ _ _ _ _ _ _ _ _ _ _ _ _ _ bary tary wait refl a b refl refl refl refl
 

@@ -7,7 +7,8 @@ use Rattle.cfi_model.specs.State.{State, register, regs_with}
 use Rattle.cfi_model.specs.Raw.{Raw, reg, with_reg}
 
 -- the policy state with some parts replaced
-abbrev pub state : State → (regs : List ℕ) → (pc : ℕ) → (memory : List ℕ) → List Log → (units steps : ℕ) → Option Stop → State
+abbrev pub state : State → (regs : List ℕ) → (pc : ℕ) → (memory : List ℕ) → List Log → (units steps : ℕ) → Option Stop
+    → State
 state p regs pc memory log units steps stop =
     record p { regs = regs; pc = pc; memory = memory; log = log; units = units; steps = steps; stop = stop }
 

@@ -49,24 +49,30 @@ inside_masked : (h : History) (code : List ℕ) (p : State) (unit : CodeUnit) (r
     → (x28 x29 x30 : ℕ) (place : masked.MaskedPlace) (r : Raw)
     → r ≡ masked.masked_raw p retries address x28 x29 x30 place → IsInside h code retries p r
 inside_masked h code p unit n address a size few x28 x29 x30 masked.Aimed r is =
-    inside h code p unit n a 1 0 1 _ _ _ _ _ _ _ r (is ∙ again p n 1 (p.pc + 4 * 1) _ _ _ _ _ _ _) (omega arith) (omega arith)
+    inside h code p unit n a 1 0 1 _ _ _ _ _ _ _ r (is ∙ again p n 1 (p.pc + 4 * 1) _ _ _ _ _ _ _) (omega arith)
+    (omega arith)
     (λ some. absurd (some refl))
 inside_masked h code p unit n address a size few x28 x29 x30 masked.Shifted r is =
-    inside h code p unit n a 2 0 2 _ _ _ _ _ _ _ r (is ∙ again p n 2 (p.pc + 4 * 2) _ _ _ _ _ _ _) (omega arith) (omega arith)
+    inside h code p unit n a 2 0 2 _ _ _ _ _ _ _ r (is ∙ again p n 2 (p.pc + 4 * 2) _ _ _ _ _ _ _) (omega arith)
+    (omega arith)
     (λ some. absurd (some refl))
 inside_masked h code p unit n address a size few x28 x29 x30 masked.Cut r is =
-    inside h code p unit n a 3 0 3 _ _ _ _ _ _ _ r (is ∙ again p n 3 (p.pc + 4 * 3) _ _ _ _ _ _ _) (omega arith) (omega arith)
+    inside h code p unit n a 3 0 3 _ _ _ _ _ _ _ r (is ∙ again p n 3 (p.pc + 4 * 3) _ _ _ _ _ _ _) (omega arith)
+    (omega arith)
     (λ some. absurd (some refl))
 inside_masked h code p unit n address a size few x28 x29 x30 masked.Based r is =
-    inside h code p unit n a 4 0 4 _ _ _ _ _ _ _ r (is ∙ again p n 4 (p.pc + 4 * 4) _ _ _ _ _ _ _) (omega arith) (omega arith)
+    inside h code p unit n a 4 0 4 _ _ _ _ _ _ _ r (is ∙ again p n 4 (p.pc + 4 * 4) _ _ _ _ _ _ _) (omega arith)
+    (omega arith)
     (λ some. absurd (some refl))
 inside_masked h code p unit n address a size few x28 x29 x30 masked.Merged r is =
-    inside h code p unit n a 5 0 5 _ _ _ _ _ _ _ r (is ∙ again p n 5 (p.pc + 4 * 5) _ _ _ _ _ _ _) (omega arith) (omega arith)
+    inside h code p unit n a 5 0 5 _ _ _ _ _ _ _ r (is ∙ again p n 5 (p.pc + 4 * 5) _ _ _ _ _ _ _) (omega arith)
+    (omega arith)
     (λ some. absurd (some refl))
 
 -- within a check
 inside_check : (h : History) (code : List ℕ) (p : State) (retries slot target : ℕ) (link : Bool) (rs1 : ℕ) (imm : ℤ)
-    → At h code p (units.Check link rs1 imm slot) → (more : ℕ) → (more ≢ 0 → IsRetried h (units.Check link rs1 imm slot))
+    → At h code p (units.Check link rs1 imm slot) → (more : ℕ)
+    → (more ≢ 0 → IsRetried h (units.Check link rs1 imm slot))
     → (v : check.Values) (place : check.CheckPlace) (r : Raw)
     → r ≡ check.check_raw p (retries + more) slot target v place → IsInside h code retries p r
 inside_check h code p retries slot target link rs1 imm a more two v check.Aimed r is =
@@ -102,16 +108,19 @@ inside_check h code p retries slot target link rs1 imm a more two v check.Refuse
 inside_check h code p retries slot target link rs1 imm a more two v check.Allowed r is =
     inside h code p _ retries a 13 more 9 _ _ _ _ _ _ _ r is (omega arith) (omega arith) two
 
-pub shown_within : (h : History) (code : List ℕ) (p : State) (unit : CodeUnit) (retries : ℕ) (r : Raw) → At h code p unit
+pub shown_within : (h : History) (code : List ℕ) (p : State) (unit : CodeUnit) (retries : ℕ) (r : Raw)
+    → At h code p unit
     → Begun h p unit retries r → IsInside h code retries p r
 shown_within h code p (units.Plain insn) retries r a begun = absurd begun
 shown_within h code p (units.Branch c rs1 rs2 off) retries r a begun = absurd begun
 shown_within h code p (units.Jump link off) retries r a begun = absurd begun
 shown_within h code p (units.Load kind rd rs1 imm) retries r a begun =
-    inside_masked h code p (units.Load kind rd rs1 imm) retries _ a refl refl begun.x28 begun.x29 begun.x30 begun.place r
+    inside_masked h code p (units.Load kind rd rs1 imm) retries _ a refl refl begun.x28 begun.x29 begun.x30
+    begun.place r
     begun.is
 shown_within h code p (units.Store kind rs1 rs2 imm) retries r a begun =
-    inside_masked h code p (units.Store kind rs1 rs2 imm) retries _ a refl refl begun.x28 begun.x29 begun.x30 begun.place
+    inside_masked h code p (units.Store kind rs1 rs2 imm) retries _ a refl refl begun.x28 begun.x29 begun.x30
+    begun.place
     r begun.is
 shown_within h code p (units.Check link rs1 imm slot) retries r a begun =
     inside_check h code p retries slot _ link rs1 imm a begun.more begun.two begun.values begun.place r begun.is
@@ -122,6 +131,7 @@ shown_within h code p units.Service retries r a begun =
     let wait : Option Wait = Some (waits.Service (asked p)) in
     inside h code p units.Service retries a 1 0 1 begun.x28 begun.x29 begun.x30 begun.x31 None None wait r
     (begun.is
-    ∙ ap (λ pc. inner p p.units pc (p.steps + 9 * retries + 1) begun.x28 begun.x29 begun.x30 begun.x31 None None wait) place
+    ∙ ap (λ pc. inner p p.units pc (p.steps + 9 * retries + 1) begun.x28 begun.x29 begun.x30 begun.x31 None None wait)
+    place
     ∙ ap (λ s. inner p p.units (p.pc + 4 * 1) s begun.x28 begun.x29 begun.x30 begun.x31 None None wait) steps)
     (omega arith) (omega arith) (λ some. absurd (some refl))

@@ -80,7 +80,8 @@ target_starts h code known epoch slot target is within granted =
 
 -- the unit has ended under the policy of an epoch
 pub ends_as : (h : History) (code : List ℕ) (retries more : ℕ) (p : State) (unit : CodeUnit) → At h code p unit
-    → (epoch : ℕ) → IsEpoch h epoch → (kept : Option ℕ) → AsksUnder h epoch kept unit p → (reply : Reply) → IsAnswered unit reply p → IsRising unit (h.policy epoch) p
+    → (epoch : ℕ) → IsEpoch h epoch → (kept : Option ℕ) → AsksUnder h epoch kept unit p → (reply : Reply)
+    → IsAnswered unit reply p → IsRising unit (h.policy epoch) p
     → Targets h (allows_at h epoch) unit p → HasTwo h more
     → (more ≢ 0 → 0 < pick_entries (effect unit (h.policy epoch) (allows_at h epoch) reply p).log)
     → (r : Raw) → IsBetween (retries + more) (effect unit (h.policy epoch) (allows_at h epoch) reply p) r
@@ -113,12 +114,14 @@ ends_as h code retries more p unit at epoch is kept under reply answered rising 
 
 -- a unit that is no check has ended, with no try
 pub plainly : (h : History) (code : List ℕ) (retries : ℕ) (p : State) (unit : CodeUnit) → (at : At h code p unit)
-    → (kept : Option ℕ) → AsksUnder h at.epoch kept unit p → (reply : Reply) → IsAnswered unit reply p → IsRising unit (h.policy at.epoch) p
+    → (kept : Option ℕ) → AsksUnder h at.epoch kept unit p → (reply : Reply) → IsAnswered unit reply p
+    → IsRising unit (h.policy at.epoch) p
     → Targets h (allows_at h at.epoch) unit p
     → (r : Raw) → IsBetween retries (effect unit (h.policy at.epoch) (allows_at h at.epoch) reply p) r
     → Ended h code retries kept p r
 plainly h code retries p unit at kept under reply answered rising targets r between =
     let same : retries ≡ retries + 0 = omega arith in
-    ends_as h code retries 0 p unit at at.epoch at.is kept under reply answered rising targets (λ some. absurd (some refl))
+    ends_as h code retries 0 p unit at at.epoch at.is kept under reply answered rising targets
+    (λ some. absurd (some refl))
     (λ some. absurd (some refl)) r
     (subst (λ n. IsBetween n (effect unit (h.policy at.epoch) (allows_at h at.epoch) reply p) r) same between)

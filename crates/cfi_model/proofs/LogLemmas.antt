@@ -31,7 +31,8 @@ ends_with log e h =
     let all = whole log (within log e h) in
     cc
 
-pub set_last : (log : List Log) (x : Log) → 0 < length log → slice_set log (length log - 1) x ≡ take (length log - 1) log ++ x ∷ []
+pub set_last : (log : List Log) (x : Log) → 0 < length log
+    → slice_set log (length log - 1) x ≡ take (length log - 1) log ++ x ∷ []
 set_last log x h =
     let more = take_more_set log (length log - 1) x (omega arith) in
     let same = length-set log (length log - 1) x in
@@ -41,7 +42,8 @@ set_last log x h =
 -- the last entry of a log that was pushed to
 pub last_push : (log : List Log) (x : Log) → last_of (log ++ x ∷ []) ≡ Some x
 last_push log x =
-    slice_get_read (log ++ x ∷ []) (length log + 1) (length (log ++ x ∷ []) - 1) x (sym (length_push log x)) (omega (arith, length_push log x)) (sym (get_or_push log x x _ (omega (arith, length_push log x))))
+    slice_get_read (log ++ x ∷ []) (length log + 1) (length (log ++ x ∷ []) - 1) x (sym (length_push log x))
+    (omega (arith, length_push log x)) (sym (get_or_push log x x _ (omega (arith, length_push log x))))
 
 pub opens_push : (log : List Log) (x : Log) → opens (log ++ x ∷ []) ≡ opens log + cond (is_open x) 1 0
 opens_push log x = grind (arith, common_steps)
@@ -76,8 +78,10 @@ room_same front policy count other h =
     }
 
 -- the last policy of a log that ends with a pick
-pub policy_at_end : (log : List Log) (policy count : ℕ) → last_of log ≡ Some (Pick policy count) → last_policy log ≡ policy
-policy_at_end log policy count h = ap last_policy (ends_with log (Pick policy count) h) ∙ policy_push (front_of log) (Pick policy count)
+pub policy_at_end : (log : List Log) (policy count : ℕ) → last_of log ≡ Some (Pick policy count)
+    → last_policy log ≡ policy
+policy_at_end log policy count h = ap last_policy (ends_with log (Pick policy count) h)
+    ∙ policy_push (front_of log) (Pick policy count)
 
 -- a pick of another policy at the end has a lower one
 pub spent_below : (log : List Log) (policy : ℕ) (e : Option Log) → last_of log ≡ e → is_pick_of policy e ≡ false
@@ -121,7 +125,8 @@ pub opens_set : (log : List Log) (policy count other : ℕ) → last_of log ≡ 
 opens_set log policy count other is =
     let e = ends_with log (Pick policy count) is in
     let n = set_last log (Pick policy other) (within log _ is) in
-    ap opens n ∙ opens_push (front_of log) (Pick policy other) ∙ sym (ap opens e ∙ opens_push (front_of log) (Pick policy count))
+    ap opens n ∙ opens_push (front_of log) (Pick policy other)
+    ∙ sym (ap opens e ∙ opens_push (front_of log) (Pick policy count))
 
 -- a log with room for a pick more is not full
 pub room_bound : (log : List Log) (policy : ℕ) → HasRoom (log ++ Pick policy 1 ∷ []) → length log < MAX_LOG

@@ -108,7 +108,8 @@ masked_goes_on h code p unit rs1 imm access here spelled n address x28 x29 x30 B
       x30 = 0x40000000;
       place = Merged;
       is = walks h code p unit here (masked rs1 imm access) spelled 4 (omega arith) _ _ _ _ _ _ _ _ r is
-          (merges p (p.pc + 4 * 4) (p.steps + 9 * n + 4) x28 x29 (address % 2 ^ 20) None None (omega arith) (omega arith)
+          (merges p (p.pc + 4 * 4) (p.steps + 9 * n + 4) x28 x29 (address % 2 ^ 20) None None (omega arith)
+          (omega arith)
           ∙ counts p _ _ _ _ _ _ _ _ None None None (omega arith) (omega arith)) t fits;
     })
 masked_goes_on h code p unit rs1 imm access here spelled n address x28 x29 x30 Merged r is t fits =

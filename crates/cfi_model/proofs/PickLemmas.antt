@@ -53,7 +53,8 @@ set_again log policy count x is =
 
 after_pick : (log : List Log) (policy : ℕ) (b : Bool) → is_pick_of policy (last_of log) ≡ b
     → AfterPick policy log
-    (cond b (slice_set log (length log - 1) (Pick policy (picks_of policy (last_of log) + 1))) (log ++ Pick policy 1 ∷ []))
+    (cond b (slice_set log (length log - 1) (Pick policy (picks_of policy (last_of log) + 1)))
+    (log ++ Pick policy 1 ∷ []))
 after_pick log policy true is =
     let entry = ends_in_pick log policy (last_of log) refl is in
     set_again log policy (picks_of policy (last_of log) + 1) entry.0 entry.1

@@ -46,7 +46,8 @@ no_unit zeros u begins = no_zero (replicate zeros 0) 0 u begins 0 (size_pos u) (
 begins_with : (u : CodeUnit) (tail : List ℕ) → IsUnit u → BeginsAt (words_of u ++ tail) 0 u
 begins_with u tail fits = record {
   fits = fits;
-  spelled = subst (λ k. take k (words_of u ++ tail) ≡ words_of u) (length-words_of u) (take-append_seam (words_of u) tail);
+  spelled = subst (λ k. take k (words_of u ++ tail) ≡ words_of u) (length-words_of u)
+      (take-append_seam (words_of u) tail);
 }
 
 -- the words of units and then zeros are those of one list of units
@@ -114,7 +115,8 @@ read_once code a b i j n m p q =
     ap (λ xs. xs ++ replicate n 0) (flat_map-append words_of a (replicate i idle))
     ∙ sym p.spelled ∙ q.spelled
     ∙ sym (ap (λ xs. xs ++ replicate m 0) (flat_map-append words_of b (replicate j idle))) in
-    let same : us ≡ vs = same_units us vs n m (fits_append a _ p.fit (idles_fit i)) (fits_append b _ q.fit (idles_fit j))
+    let same : us ≡ vs = same_units us vs n m (fits_append a _ p.fit (idles_fit i))
+    (fits_append b _ q.fit (idles_fit j))
     words in
     let least = not_shorter a b i j same q.busy in
     let most = not_shorter b a j i (sym same) p.busy in

@@ -137,7 +137,8 @@ reached h code known (t ∷ takes) p retries r running along =
           }
     ]
 
-pub raw_shows : (h : History) (code : List ℕ) → IsHistory h code → (old : State) → IsReady h old → (retries : ℕ) (r : Raw)
+pub raw_shows : (h : History) (code : List ℕ) → IsHistory h code → (old : State) → IsReady h old
+    → (retries : ℕ) (r : Raw)
     → IsBetween retries old r → (takes : List Take) → Along h code r takes
     → (settled : ℕ) × (new : State) × IsShown h code retries old r takes settled new
 raw_shows h code known old ready retries r between takes along =

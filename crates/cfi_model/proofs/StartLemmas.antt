@@ -10,7 +10,7 @@ use Rattle.cfi_unit.specs.Unit.{IsUnit, words_of, size_of}
 use Rattle.cfi_unit.specs.Code.{BeginsAt}
 use Rattle.cfi_unit.proofs.CodeLemmas.{BeginsAt-within, length-words_of}
 use Rattle.cfi_unit.proofs.UnitLemmas.{size_pos}
-use Rattle.cfi_model.specs.declared.places.TheConstants.{BASE}
+use Rattle.cfi_word.specs.declared.layout.TheConstants.{FIRST_BASE}
 use Rattle.cfi_model.specs.Closed.{code_of, idle, place_of, IsReadAs, IsStartOf, StandsIn}
 use Rattle.cfi_model.specs.History.{History, IsHistory, IsEpoch, IsStart}
 use Rattle.cfi_model.specs.Shows.{Stands}
@@ -35,7 +35,7 @@ split us n u h =
 -- the unit's words stand at its place
 begins_in : (code : List ℕ) (body : List CodeUnit) (idles zeros n : ℕ) (u : CodeUnit)
     → IsReadAs code body idles zeros → slice_get body n ≡ Some u
-    → BeginsAt code (BASE + length (code_of (take n body))) u
+    → BeginsAt code (FIRST_BASE + length (code_of (take n body))) u
 begins_in code body idles zeros n u read h =
     let before : List ℕ = code_of (take n body) in
     let after : List ℕ = code_of (drop (suc n) body) in
@@ -44,15 +44,15 @@ begins_in code body idles zeros n u read h =
     let tail : List ℕ = (after ++ idle_words) ++ zero_words in
     let parts : code_of body ≡ before ++ (words_of u ++ after) =
     ap code_of (split body n u h) ∙ flat_map-append words_of (take n body) (u ∷ drop (suc n) body) in
-    let whole : drop BASE code ≡ before ++ (words_of u ++ tail) =
+    let whole : drop FIRST_BASE code ≡ before ++ (words_of u ++ tail) =
     read.spelled
     ∙ ap (λ xs. (xs ++ idle_words) ++ zero_words) parts
     ∙ ap (λ xs. xs ++ zero_words) (append_assoc before (words_of u ++ after) idle_words)
     ∙ append_assoc before ((words_of u ++ after) ++ idle_words) zero_words
     ∙ ap (λ xs. before ++ xs) (ap (λ xs. xs ++ zero_words) (append_assoc (words_of u) after idle_words)
     ∙ append_assoc (words_of u) (after ++ idle_words) zero_words) in
-    let there : drop (BASE + length before) code ≡ words_of u ++ tail =
-    sym (drop-drop (length before) BASE code) ∙ ap (drop (length before)) whole
+    let there : drop (FIRST_BASE + length before) code ≡ words_of u ++ tail =
+    sym (drop-drop (length before) FIRST_BASE code) ∙ ap (drop (length before)) whole
     ∙ drop-append_seam before (words_of u ++ tail) in
     let size = length-words_of u in
     let front : take (size_of u) (words_of u ++ tail) ≡ words_of u =
@@ -115,7 +115,7 @@ unit_starts h code epoch n u known is item =
     let inside = BeginsAt-within code _ u begins in
     let some = size_pos u in
     let most = known.size.most in
-    let place : place_of body n / 4 ≡ BASE + length (code_of (take n body)) = omega arith in
+    let place : place_of body n / 4 ≡ FIRST_BASE + length (code_of (take n body)) = omega arith in
     record {
       epoch = epoch;
       is = is;

@@ -20,7 +20,9 @@ load_counts : (area : Area) (kind : LoadKind) (rd units : ℕ) (r : Raw) → Has
     → (load_at area kind rd units r).base.steps ≡ r.base.steps + 1
 load_counts (Private offset) kind rd units r has = either (is_aligned (load_width kind) offset) _ _ _ refl refl
 load_counts (TaryId address) kind rd units r has =
-    ap (λ b. (cond b (cond (is_aligned 4 address) (waiting (waits.Tary address rd) units r) (stopped (Halt address) r)) r).base.steps) has
+    let word : Raw =
+    cond (is_aligned 4 address) (waiting (waits.Tary address rd) units r) (stopped (Halt address) r) in
+    ap (λ b. (cond b word r).base.steps) has
     ∙ either (is_aligned 4 address) (waiting (waits.Tary address rd) units r) (stopped (Halt address) r) _ refl refl
 load_counts (BaryId slot) kind rd units r has =
     ap (λ b. (cond b (waiting (waits.Bary slot rd) units r) r).base.steps) has

@@ -10,7 +10,7 @@ use Rattle.cfi_unit.specs.Unit.{IsUnit, words_of}
 use Rattle.cfi_word.specs.declared.lists.Image.{Image}
 use Rattle.cfi_word.specs.declared.ids.TheConstants.{FIELD_MAX}
 use Rattle.cfi_word.specs.Table.{slots_of}
-use Rattle.cfi_model.specs.declared.places.TheConstants.{BASE}
+use Rattle.cfi_word.specs.declared.layout.TheConstants.{FIRST_BASE}
 
 -- `addi x0,x0,0`
 abbrev pub idle : CodeUnit
@@ -23,12 +23,12 @@ code_of body = flat_map words_of body
 -- code is read as units from the first module on: first `body`, then so many idle ones, then words of 0
 pub record IsReadAs (code : List ℕ) (body : List CodeUnit) (idles zeros : ℕ) : Type 0 where
   pub fit : AllByRecursion IsUnit body
-  pub spelled : drop BASE code ≡ (code_of body ++ code_of (replicate idles idle)) ++ replicate zeros 0
+  pub spelled : drop FIRST_BASE code ≡ (code_of body ++ code_of (replicate idles idle)) ++ replicate zeros 0
   pub busy : slice_get body (length body - 1) ≢ Some idle
 
 -- the address of a unit of the body, by its number
 abbrev pub place_of : (body : List CodeUnit) → (number : ℕ) → ℕ
-place_of body number = 4 * (BASE + length (code_of (take number body)))
+place_of body number = 4 * (FIRST_BASE + length (code_of (take number body)))
 
 -- a unit of the body stands at the address
 abbrev pub StandsIn : (body : List CodeUnit) → (address : ℕ) → CodeUnit → Type 0

@@ -17,7 +17,8 @@ pub fn some_image_is_closed()
 
 /// A machine at its start can run some unit, under each policy.
 pub fn some_unit_can_run()
-    ensures { (policy : ℕ) → policy ≤ MAX_POLICY → (code : List ℕ) × CanRun code policy (plain_opened 0 0 []) }
+    ensures { (policy : ℕ) → policy ≤ MAX_POLICY →
+        (code : List ℕ) × CanRun code policy (plain_opened 0 0 []) }
 {}
 
 /// Some machine may be answered, under each policy.

@@ -1,8 +1,8 @@
 //! The policy machine, which runs code unit by unit, and the states and steps of the raw machine.
 //!
 //! Stands on `cfi_unit`, `cfi_word`, `rv_insn` and `rv_alu`. Proved: `Plain` is the machine of `specs/Effect.antt`,
-//! and private data, log and output are what `specs/` says; over a closed image the raw machine shows the policy machine
-//! (`raw_shows_policy`); some image is closed. Tested: each kind of unit, by the manual. Open: nothing.
+//! and private data, log and output are what `specs/` says; over a closed image the raw machine shows the policy
+//! machine (`raw_shows_policy`); some image is closed. Tested: each kind of unit, by the manual. Open: nothing.
 #![tactic(auto)]
 
 mod act;
@@ -23,8 +23,8 @@ pub use data::{PrivateData, load_width, store_width};
 pub use log_book::LogBook;
 pub use output::Output;
 pub use places::{
-    ARGUMENT, BASE, CAUSE, CODE_BYTES, DATA, DATA_BYTES, EXIT, MAX_LOG, MAX_OPENS, MAX_OUTPUT,
-    OPEN, PUT, QUIET, REFUSED, SERVICE, STACK, TARY, TOO_MANY,
+    ARGUMENT, CAUSE, CODE_BYTES, DATA, DATA_BYTES, EXIT, MAX_LOG, MAX_OPENS, MAX_OUTPUT, OPEN, PUT,
+    QUIET, REFUSED, SERVICE, STACK, TARY, TOO_MANY,
 };
 pub use plain::Plain;
 pub use shows::{an_opened_guest_shows, raw_shows_policy};

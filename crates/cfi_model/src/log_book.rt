@@ -27,8 +27,8 @@ impl Model for LogBook {
 
     ghost view = { λ book. book.entries.items };
 
-    ghost invariant = { λ book. (book.logged ≡ opens book.entries.items) × HasRoom book.entries.items
-        × (MAX_LOG ≤ vec_capacity book.entries) };
+    ghost invariant = { λ book. (book.logged ≡ opens book.entries.items)
+        × HasRoom book.entries.items × (MAX_LOG ≤ vec_capacity book.entries) };
 }
 
 // How many picks under the policy the last entry counts, where it counts such picks.

@@ -19,7 +19,8 @@ impl Model for Output {
 
     ghost view = { λ output. output.bytes.items };
 
-    ghost invariant = { λ output. (vec_len output.bytes ≤ MAX_OUTPUT) × (MAX_OUTPUT ≤ vec_capacity output.bytes) };
+    ghost invariant = { λ output. (vec_len output.bytes ≤ MAX_OUTPUT)
+        × (MAX_OUTPUT ≤ vec_capacity output.bytes) };
 }
 
 impl Output {

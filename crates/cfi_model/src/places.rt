@@ -1,3 +1,5 @@
+use cfi_word::MAX_CODE_WORDS;
+
 /// The first address of private data.
 pub const DATA: u32 = 0x4000_0000;
 
@@ -7,14 +9,11 @@ pub const DATA_BYTES: u32 = 0x10_0000;
 /// The address of the Tary ID of code address 0; that of code address a is a after it.
 pub const TARY: u32 = 0x1000_0000;
 
-/// The number of bytes of code.
-pub const CODE_BYTES: u32 = 0x4_0000;
-
-/// The word of the code at which the first module is placed.
-pub const BASE: u32 = 16;
+/// The number of bytes of the largest code.
+pub const CODE_BYTES: u32 = 4 * MAX_CODE_WORDS;
 
 /// What x2 holds at the start, the address after private data.
-pub const STACK: u32 = 0x4010_0000;
+pub const STACK: u32 = DATA + DATA_BYTES;
 
 /// The most bytes that a guest's output holds.
 pub const MAX_OUTPUT: usize = 65_536;

@@ -42,7 +42,20 @@ impl Model for Plain {
 
     ghost Value = { PlainState };
 
-    ghost view = { λ m. record { state = record { number = m.number; regs = m.regs; pc = m.pc; memory = m.memory; output = m.output; log = m.log; units = m.units; steps = m.steps; stop = m.stop }; waits = m.waits } };
+    ghost view = { λ m. record {
+      state = record {
+        number = m.number;
+        regs = m.regs;
+        pc = m.pc;
+        memory = m.memory;
+        output = m.output;
+        log = m.log;
+        units = m.units;
+        steps = m.steps;
+        stop = m.stop;
+      };
+      waits = m.waits;
+    } };
 
     ghost invariant = { λ m. IsCounted m.units m.steps m.log m.waits };
 }
@@ -63,7 +76,7 @@ impl Plain {
         memory.fill(fills);
         let mut regs = [0; FREE_REGISTERS as usize];
         regs[2] = STACK;
-        regs[10] = number;
+        regs[ARGUMENT as usize] = number;
         Ok(Plain {
             number,
             regs,

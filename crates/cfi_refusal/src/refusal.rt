@@ -49,7 +49,8 @@ pub enum Refusal {
 /// Single spaces stand between the words, numbers are decimal, and places of code are in bytes. Want of memory is no
 /// refusal: the fault of that name is written for completeness alone.
 pub fn put_refusal(text: &mut String, refusal: &Refusal) -> Result<(), AllocError>
-    ensures { OnOk result (string_bytes text.new ≡ string_bytes text.old ++ refusal_text refusal.now) }
+    ensures { OnOk result
+        (string_bytes text.new ≡ string_bytes text.old ++ refusal_text refusal.now) }
 {
     match refusal {
         Refusal::Bare(fault) => put_bare(text, *fault),

@@ -57,7 +57,8 @@ fn layout_of(plan: &Plan) -> Layout
 pub fn placed_files(alloc: Global, plan: &Plan, files: &[Bytes]) -> Result<Series, FilesFault>
     requires plan { IsPlan plan.now }
     requires small { All IsShortFile files.now }
-    ensures ok { IfOk result (λ series. ArePlacedFiles plan.now.code_words files.now series.placed) }
+    ensures ok { IfOk result (λ series.
+        ArePlacedFiles plan.now.code_words files.now series.placed) }
     ensures fault { IfErr result (IsFilesFault plan.now.code_words files.now) }
 {
     let modules = read_modules(alloc, files)?;

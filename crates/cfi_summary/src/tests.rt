@@ -1,102 +1,27 @@
-ghost use Rattle.std.specs.Prelude.{◌<◌, ◌≤◌, ◌^◌, length, All, IfOk};
+ghost use Rattle.std.specs.Prelude.{◌≤◌, length, IfOk};
 ghost use Rattle.elf_read.specs.declared.rela.TheConstants.{MAX_FILE};
 ghost use Rattle.cfi_plan.specs.Plan.{IsPlan};
-ghost use Rattle.cfi_tools.specs.Modules.{IsShortFile};
 
 use crate::{FilesFault, graph_text, placed_files, verified_text};
 use cfi_place::PlaceFault;
 use cfi_plan::{Plan, read_plan};
-use cfi_tools::{FileFault, assembled, instrumented, linked};
+use cfi_tools::{FileFault, assembled, instrumented};
 use cfi_unit::Bytes;
 use cfi_verify::VerifyFault;
 use elf_read::ElfFault;
 use std::alloc::Global;
 use std::test::Fail;
 
-// Two functions that others may point to, one that picks among them, and one with a switch.
-const LIBRARY: &str = "\
-.node int 32 1\n\
-.node func 0 0\n\
-.func twice 1 taken\n\
-add a0,a0,a0\n\
-ret\n\
-.endfunc\n\
-.func incr 1 taken\n\
-addi a0,a0,1\n\
-ret\n\
-.endfunc\n\
-.globl sel\n\
-.func sel 1\n\
-la t0,table\n\
-slli t1,a0,2\n\
-add t0,t0,t1\n\
-lw t0,0(t0)\n\
-li a0,5\n\
-.kind tail 1\n\
-jr t0\n\
-.endfunc\n\
-.globl choose\n\
-.func choose 1\n\
-la t0,jt\n\
-slli t1,a0,2\n\
-add t0,t0,t1\n\
-lw t0,0(t0)\n\
-.kind switch L0 L1\n\
-jr t0\n\
-L0: li a0,65\n\
-ret\n\
-L1: li a0,66\n\
-ret\n\
-.endfunc\n\
-.data\n\
-table: .word twice\n\
-.word incr\n\
-jt: .word L0\n\
-.word L1\n\
-";
+// A function that returns, and 16 bytes of data.
+const CALLED: &str =
+    ".node void\n.node func 0\n.globl f\n.func f 1\nret\n.endfunc\n.data\n.word 1\n.word 2\n.word 3\n.word 4\n";
 
-// Calls the library, opens the plug-in, and calls it through a pointer.
-const HOST: &str = "\
-.node int 32 1\n\
-.node func 0 0\n\
-.node void\n\
-.node func 2\n\
-.globl _start\n\
-.func _start 3\n\
-li a0,0\n\
-call sel\n\
-li a7,2\n\
-ecall\n\
-li a0,1\n\
-call choose\n\
-li a7,2\n\
-ecall\n\
-li a7,4\n\
-li a0,2\n\
-ecall\n\
-mv t0,a0\n\
-li a0,7\n\
-.kind call 1\n\
-jalr ra,0(t0)\n\
-li a7,2\n\
-ecall\n\
-li a0,0\n\
-li a7,1\n\
-ecall\n\
-j .+0\n\
-.endfunc\n\
-";
+// Calls it.
+const CALLER: &str =
+    ".node void\n.node func 0\n.globl main\n.func main 1\ncall f\nj .+0\n.endfunc\n";
 
-// Adds 60.
-const PLUGIN: &str = "\
-.node int 32 1\n\
-.node func 0 0\n\
-.globl plus60\n\
-.func plus60 1 taken\n\
-addi a0,a0,60\n\
-ret\n\
-.endfunc\n\
-";
+// A plan of both, in this order.
+const PLAN: &str = "plan 1\nmodule f f.o start\nmodule m m.o start\nguest main\n";
 
 // The object of a source.
 fn object_of(alloc: Global, source: &str) -> Result<Bytes, Fail>
@@ -126,121 +51,71 @@ fn file_of(alloc: Global, source: &str) -> Result<Bytes, Fail>
     Ok(Bytes::from_vec(file))
 }
 
-// The plan of the host and its modules, with the plug-in or without.
-fn plan_of(alloc: Global, text: &[u8]) -> Result<Plan, Fail>
-    requires { length text.now < 2 ^ 32 }
+// The plan of a text.
+fn plan_of(alloc: Global, text: &str) -> Result<Plan, Fail>
     ensures { IfOk result IsPlan }
 {
-    Ok(read_plan(alloc, text).ok().ok_or("a plan")?)
-}
-
-// The file of the module that files are linked into.
-fn linked_of(alloc: Global, files: &[Bytes]) -> Result<Bytes, Fail>
-    requires small { All IsShortFile files.now }
-    requires count { length files.now < 2 ^ 32 }
-    ensures { IfOk result IsShortFile }
-{
-    let file = linked(alloc, files).ok().ok_or("linked")?;
-    if file.len() > 1 << 20 {
-        return Err("a long file".into());
+    if text.len() >= 1 << 20 {
+        return Err("a long plan".into());
     }
-    Ok(Bytes::from_vec(file))
+    Ok(read_plan(alloc, text.as_bytes()).ok().ok_or("a plan")?)
 }
 
-// The words of the modules of files, one module after the other.
-fn words_of(alloc: Global, plan: &Plan, files: &[Bytes]) -> Result<Vec<u32>, Fail>
-    requires plan { IsPlan plan.now }
-    requires small { All IsShortFile files.now }
-{
-    let series = placed_files(alloc, plan, files).ok().ok_or("placed")?;
-    let mut words = Vec::new(alloc);
-    for placed in series.modules() {
-        words.extend_from_slice(placed.words.as_slice())?;
-    }
-    Ok(words)
-}
-
-// Linked into one module, or placed one after the other, the library and the host are the same words, and their
-// branches go to the same addresses.
+// The return is a check of 14 words with slot 0, the call one word and the jump another.
 #[test]
-fn linked_first(rt: HostRuntime) -> Result<(), Fail> {
+fn places(rt: HostRuntime) -> Result<(), Fail> {
     let alloc = rt.alloc();
-    let plan = plan_of(alloc, b"plan 1\nguest f\n")?;
-    let files = [file_of(alloc, LIBRARY)?, file_of(alloc, HOST)?];
-    let one = [linked_of(alloc, &files)?];
-    let apart = words_of(alloc, &plan, &files)?;
-    let together = words_of(alloc, &plan, &one)?;
-    assert_eq!(rt; together.as_slice(), apart.as_slice());
-    let apart = graph_text(alloc, &plan, &files).ok().ok_or("groups")?;
-    let together = graph_text(alloc, &plan, &one).ok().ok_or("groups")?;
-    assert_eq!(rt; together.as_slice(), apart.as_slice());
-    Ok(())
-}
-
-#[test]
-fn example(rt: HostRuntime) -> Result<(), Fail> {
-    let alloc = rt.alloc();
-    let text =
-        b"plan 1\nmodule lib lib.o start\nmodule main main.o start\nmodule plug plug.o late\nguest _start\n";
-    let plan = plan_of(alloc, text)?;
-    let files = [
-        file_of(alloc, LIBRARY)?,
-        file_of(alloc, HOST)?,
-        file_of(alloc, PLUGIN)?,
-    ];
+    let plan = plan_of(alloc, PLAN)?;
+    let files = [file_of(alloc, CALLED)?, file_of(alloc, CALLER)?];
     let series = placed_files(alloc, &plan, &files).ok().ok_or("placed")?;
     let mut rooms = Vec::new(alloc);
     for placed in series.modules() {
         rooms.push((placed.base, placed.slot_base, placed.data_base))?;
     }
-    let expected = [
-        (16, 0, 0x40000000),
-        (125, 6, 0x40000010),
-        (158, 7, 0x40000010),
-    ];
+    let expected = [(16, 0, 0x40000000), (30, 1, 0x40000010)];
     assert_eq!(rt;
         rooms.as_slice(),
         expected.as_slice(),
         "words, slots and data follow on"
     );
-    assert_eq!(rt; plan.modules.as_slice().len(), files.len());
-    let text = verified_text(alloc, &plan, &files).ok().ok_or("verified")?;
-    assert_eq!(rt;
-        text.as_slice(),
-        b"ok lib 109 6\nok main 33 1\nok plug 15 1\n".as_slice()
-    );
     Ok(())
 }
 
 #[test]
+fn verified(rt: HostRuntime) -> Result<(), Fail> {
+    let alloc = rt.alloc();
+    let plan = plan_of(alloc, PLAN)?;
+    let files = [file_of(alloc, CALLED)?, file_of(alloc, CALLER)?];
+    assert_eq!(rt; plan.modules.as_slice().len(), files.len());
+    let text = verified_text(alloc, &plan, &files).ok().ok_or("verified")?;
+    assert_eq!(rt; text.as_slice(), b"ok f 14 1\nok m 2 0\n".as_slice());
+    Ok(())
+}
+
+// The call stands at word 30, so that the function returns to word 31.
+#[test]
 fn groups(rt: HostRuntime) -> Result<(), Fail> {
     let alloc = rt.alloc();
-    let text = b"plan 1\nmodule lib lib.o start\nmodule main main.o start\nguest _start\n";
-    let plan = plan_of(alloc, text)?;
-    let files = [file_of(alloc, LIBRARY)?, file_of(alloc, HOST)?];
+    let plan = plan_of(alloc, PLAN)?;
+    let files = [file_of(alloc, CALLED)?, file_of(alloc, CALLER)?];
     let text = graph_text(alloc, &plan, &files).ok().ok_or("groups")?;
-    let expected =
-        "class 0 1 : 000001fc 00000260\nclass 2 6 : 00000040 0000007c\nclass 3 : 0000017c 000001b8\nclass 4 5 : 0000020c\n";
-    assert_eq!(rt; text.as_slice(), expected.as_bytes());
+    assert_eq!(rt; text.as_slice(), b"class 0 : 0000007c\n".as_slice());
     Ok(())
 }
 
 #[test]
 fn faults(rt: HostRuntime) -> Result<(), Fail> {
     let alloc = rt.alloc();
-    let plan = plan_of(alloc, b"plan 1\nguest f\n")?;
-    let host = [file_of(alloc, HOST)?];
+    let plan = plan_of(alloc, "plan 1\nguest f\n")?;
+    let caller = [file_of(alloc, CALLER)?];
     assert!(rt;
         matches!(
-            placed_files(alloc, &plan, &host),
+            placed_files(alloc, &plan, &caller),
             Err(FilesFault::Place(0, PlaceFault::Undefined(_)))
         ),
-        "nobody defines what the host calls"
+        "nobody defines what is called"
     );
-    let bare = [object_of(
-        alloc,
-        ".node void\n.node func 0\n.func f 1\nret\n.endfunc\n",
-    )?];
+    let bare = [object_of(alloc, CALLED)?];
     assert!(rt;
         matches!(
             placed_files(alloc, &plan, &bare),
@@ -248,7 +123,7 @@ fn faults(rt: HostRuntime) -> Result<(), Fail> {
         ),
         "a return is no unit"
     );
-    let files = [file_of(alloc, HOST)?, Bytes::from_vec(Vec::new(alloc))];
+    let files = [file_of(alloc, CALLER)?, Bytes::from_vec(Vec::new(alloc))];
     assert!(rt;
         matches!(
             placed_files(alloc, &plan, &files),

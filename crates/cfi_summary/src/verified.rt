@@ -40,9 +40,9 @@ fn lines_of(alloc: Global, modules: &[PlanModule], placed: &[Placed]) -> Result<
     Ok(text)
 }
 
-/// The line `ok NAME WORDS CHECKS` of each module of a plan, whose files these are, where all place and verify in order.
+/// The line `ok NAME WORDS CHECKS` of each module of a plan, where all place and verify in order.
 ///
-/// The plan has a module for each file. The fault is the first of the files.
+/// `files` are those of the plan's modules, one for each. The fault is the first of the files.
 pub fn verified_text(alloc: Global, plan: &Plan, files: &[Bytes]) -> Result<Vec<u8>, FilesFault>
     requires plan { IsPlan plan.now }
     requires count { length plan.now.modules ≡ length files.now }

@@ -1,9 +1,8 @@
 -- The sizes of a module that was read.
-use Rattle.std.proofs.Common.{◌≡◌, ◌+◌, ◌≤◌, ◌<◌, ◌^◌, ℕ, zero, suc, List, [], ◌∷◌, ◌++◌, length, Bool, true, false, not, refl, ap, ◌∙◌, inl, inr, arith, length-append, if◌then◌else◌}
-use Rattle.std.proofs.lemmas.Bool.{cases_Bool}
+use Rattle.std.proofs.Common.{◌≡◌, ◌≤◌, ◌<◌, ◌^◌, ℕ, zero, suc, List, [], ◌∷◌, length, Bool, true, false, not, refl, ap, ◌∙◌, arith, length-append, if◌then◌else◌}
 use Rattle.elf_read.specs.Header.{section_count}
 use Rattle.elf_read.specs.Object.{kept_count, kept_reloc, reloc_of, relocs_of}
-use Rattle.elf_read.specs.Places.{joined, count_where, total_of}
+use Rattle.elf_read.specs.Places.{joined, count_where}
 use Rattle.elf_read.specs.Relocation.{rela_count, rela_at, kind_of, is_dropped}
 use Rattle.elf_read.specs.Fault.{kept_relocs}
 use Rattle.elf_read.specs.declared.object.Object.{Object}

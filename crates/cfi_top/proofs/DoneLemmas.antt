@@ -116,7 +116,8 @@ module _ (input bytes : List ℕ) (shelf shelf' : ShelfView) (sink sink' : SinkV
   asm_done output (answers.Unread unread) made whole = absurd made
   asm_done output (answers.Refused name refusal) made whole = absurd made
 
-  instrument_done : (output : List ℕ) (answer : Answer) → IsMade (commands.Instrument input output) (bytes ∷ []) more answer
+  instrument_done : (output : List ℕ) (answer : Answer)
+      → IsMade (commands.Instrument input output) (bytes ∷ []) more answer
       → IsWhole (output_of answer) shelf shelf' sink sink' → HasInstrumented input output shelf shelf' sink sink'
   instrument_done output (answers.Save name file) made whole = record {
     bytes = bytes;
@@ -229,7 +230,8 @@ pub linked_of : (words : List (List ℕ)) (shelf shelf' : ShelfView) (sink sink'
     → HasLinked output inputs shelf shelf' sink sink'
 linked_of words shelf shelf' sink sink' status ends output inputs fits e =
     let done = command_done words shelf shelf' sink sink' status e (commands.Link output inputs) fits ends in
-    link_done output inputs done.files done.more shelf shelf' sink sink' done.read.inputs done.answer done.made done.delivered
+    link_done output inputs done.files done.more shelf shelf' sink sink' done.read.inputs done.answer done.made
+    done.delivered
 
 pub verified_of : (words : List (List ℕ)) (shelf shelf' : ShelfView) (sink sink' : SinkView) (status : ℕ)
     → Ends words shelf shelf' sink sink' status → (input : List ℕ)

@@ -5,17 +5,17 @@ use Rattle.std.proofs.lemmas.Grind.{get_or-set_at}
 use Rattle.std.proofs.lemmas.List.{length-set, length-replicate, get_or-set_other, get_or-replicate, get_or_past}
 use Rattle.cfi_word.specs.declared.lists.Image.{Image}
 use Rattle.cfi_word.specs.declared.ids.TheConstants.{FIELD_MAX}
-use Rattle.cfi_model.specs.declared.places.TheConstants.{BASE}
+use Rattle.cfi_word.specs.declared.layout.TheConstants.{FIRST_BASE}
 use Rattle.cfi_model.specs.Closed.{IsStartOf, IsReadAs, StaysInside}
 use Rattle.cfi_bare.specs.Image.{IsClosedFile}
 
 -- the classes of the addresses
-set_most : (xs : List ℕ) (class k : ℕ) → class ≤ FIELD_MAX → BASE < length xs → slice_index xs k ≤ FIELD_MAX
-    → slice_index (slice_set xs BASE class) k ≤ FIELD_MAX
+set_most : (xs : List ℕ) (class k : ℕ) → class ≤ FIELD_MAX → FIRST_BASE < length xs → slice_index xs k ≤ FIELD_MAX
+    → slice_index (slice_set xs FIRST_BASE class) k ≤ FIELD_MAX
 set_most xs class k fits inside most =
-    elim (cases_eq k BASE) [
-      | inl same ↦ omega (arith, fits, get_or-set_at xs BASE k class 0 same inside)
-      | inr other ↦ omega (arith, most, get_or-set_other xs BASE k class 0 other)
+    elim (cases_eq k FIRST_BASE) [
+      | inl same ↦ omega (arith, fits, get_or-set_at xs FIRST_BASE k class 0 same inside)
+      | inr other ↦ omega (arith, most, get_or-set_other xs FIRST_BASE k class 0 other)
     ]
 
 -- the classes of the slots
@@ -30,12 +30,12 @@ slots_some : (n class k : ℕ) → class ≢ 0 → k < n → slice_index (replic
 slots_some n class k some within none = some (sym (get_or-replicate n k class 0 within) ∙ none)
 
 pub closed_to_entry : (words : List ℕ) (old new : Image) (class : ℕ) → class ≢ 0 → class ≤ FIELD_MAX
-    → IsClosedFile words old → new.code ≡ old.code → new.tary ≡ slice_set old.tary BASE class
+    → IsClosedFile words old → new.code ≡ old.code → new.tary ≡ slice_set old.tary FIRST_BASE class
     → new.bary ≡ replicate (length old.bary) class → IsClosedFile words new
 closed_to_entry words old new class some fits file code tary bary =
     let closed = file.closed in
     let body = file.body in
-    let inside : BASE < length old.tary = omega (arith, closed.classes.tary_length) in
+    let inside : FIRST_BASE < length old.tary = omega (arith, closed.classes.tary_length) in
     let slots : length new.bary ≡ length old.bary = ap length bary ∙ length-replicate (length old.bary) class in
     record {
       body = body;
@@ -43,7 +43,7 @@ closed_to_entry words old new class some fits file code tary bary =
       entry = file.entry;
       closed = record {
         classes = record {
-          tary_length = ap length tary ∙ length-set old.tary BASE class ∙ closed.classes.tary_length;
+          tary_length = ap length tary ∙ length-set old.tary FIRST_BASE class ∙ closed.classes.tary_length;
           bary_length = slots ∙ closed.classes.bary_length;
           code_length = ap length code ∙ closed.classes.code_length;
           tary_most = λ k.
@@ -62,12 +62,12 @@ closed_to_entry words old new class some fits file code tary bary =
         inside = λ address unit stands.
             subst (λ (n : ℕ). StaysInside body n address unit) (sym slots) (closed.inside address unit stands);
         targets = λ k reached.
-            elim (cases_eq k BASE) [
+            elim (cases_eq k FIRST_BASE) [
               | inl same ↦ subst (λ (n : ℕ). IsStartOf body (4 * n)) (sym same) file.entry
               | inr other ↦
                   closed.targets k
                   (λ none. reached (ap (λ (xs : List ℕ). slice_index xs k) tary
-                  ∙ get_or-set_other old.tary BASE k class 0 other ∙ none))
+                  ∙ get_or-set_other old.tary FIRST_BASE k class 0 other ∙ none))
             ];
       };
     }

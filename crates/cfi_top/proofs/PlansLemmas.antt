@@ -1,5 +1,5 @@
 -- What is known of the files of a plan.
-use Rattle.std.proofs.Common.{◌≡◌, ◌∙◌, ◌<◌, ℕ, List, [], ◌∷◌, length, map, Option, Some, None, Result, Ok, Err, refl, sym, ap, subst, arith}
+use Rattle.std.proofs.Common.{◌≡◌, ◌∙◌, ℕ, List, [], ◌∷◌, length, Option, Some, None, Result, Ok, Err, refl, sym, ap, subst, arith}
 use Rattle.std.proofs.lemmas.List.{length-map}
 use Rattle.std.specs.Prelude.{◌≢◌, slice_get, IsSomeAnd, option_map}
 use Rattle.std.proofs.lemmas.Option.{slice_get_within, slice_get-map}
@@ -9,6 +9,8 @@ use Rattle.cfi_plan.specs.declared.fault.PlanFault.{PlanFault}
 use Rattle.cfi_plan.specs.declared.fault.PlanFault.TheVariants as plan_faults
 use Rattle.cfi_plan.specs.Draft.{Fails}
 use Rattle.cfi_plan.specs.Reading.{plan_in}
+use Rattle.cfi_refusal.specs.declared.refusal.Refusal.{Refusal}
+use Rattle.cfi_refusal.specs.declared.refusal.Refusal.TheVariants.{Elf, Aux, Place, Verify}
 use Rattle.cfi_summary.specs.declared.fault.FilesFault.{FilesFault}
 use Rattle.cfi_summary.specs.declared.fault.FilesFault.TheVariants as summary
 use Rattle.cfi_summary.specs.Files.{IsFilesFault}
@@ -19,7 +21,7 @@ use Rattle.cfi_tools.specs.declared.reading.FileFault.TheVariants as faults
 use Rattle.cfi_top.specs.declared.answer.Answer.{Answer}
 use Rattle.cfi_top.specs.declared.answer.Answer.TheVariants as answers
 use Rattle.cfi_top.specs.declared.command.Command.TheVariants as commands
-use Rattle.cfi_top.specs.Outcome.{IsModuleRefused, RefusesPlan, IsWorked}
+use Rattle.cfi_top.specs.Outcome.{SaysFault, IsModuleRefused, RefusesPlan, IsWorked}
 use Rattle.cfi_top.specs.Plans.{files_in, files_of, named_files}
 use Rattle.cfi_top.proofs.LinkLemmas.{some_within}
 use Rattle.cfi_top.specs.Refused.{IsAmong, IsFileRefused, IsFilesRefused, plan_refused}
@@ -103,18 +105,28 @@ module _ (plan bytes : List ℕ) (files : List (List ℕ)) where
         slice_get-map (λ (m : PlanModule). m.file) p.modules number
         ∙ ap (option_map (λ (m : PlanModule). m.file)) here
 
-    refused_at : (number : ℕ) (one : PlanModule) (fault : ℕ → FilesFault) → slice_get p.modules number ≡ Some one
-        → IsFilesFault p.code_words files (fault number) → IsModuleRefused bytes files one.file fault
-    refused_at number one fault here first =
-        record { plan = p; is = is; number = number; named = file_at number one here; first = first }
+    refused_at : (number : ℕ) (one : PlanModule) (fault : FilesFault) (refusal : Refusal)
+        → slice_get p.modules number ≡ Some one → IsFilesFault p.code_words files fault
+        → SaysFault refusal number fault → IsModuleRefused bytes files one.file refusal
+    refused_at number one fault refusal here first said = record {
+      plan = p;
+      is = is;
+      fault = fault;
+      first = first;
+      number = number;
+      said = said;
+      named = file_at number one here;
+    }
 
     file_stands : (number : ℕ) (one : PlanModule) (fault : FileFault) (answer : Answer)
         → slice_get p.modules number ≡ Some one → IsFilesFault p.code_words files (summary.File number fault)
         → IsFileRefused one.file fault answer → Stands answer
     file_stands number one (faults.Elf fault) answer here first said =
-        subst Stands (sym said) (refused_at number one (λ k. summary.File k (faults.Elf fault)) here first)
+        subst Stands (sym said)
+        (refused_at number one (summary.File number (faults.Elf fault)) (Elf fault) here first refl)
     file_stands number one (faults.Aux fault) answer here first said =
-        subst Stands (sym said) (refused_at number one (λ k. summary.File k (faults.Aux fault)) here first)
+        subst Stands (sym said)
+        (refused_at number one (summary.File number (faults.Aux fault)) (Aux fault) here first refl)
     file_stands number one faults.Memory answer here first said = absurd said
 
     pub files_stand : (fault : FilesFault) (answer : Answer) → IsFilesFault p.code_words files fault
@@ -124,10 +136,11 @@ module _ (plan bytes : List ℕ) (files : List (List ℕ)) where
         file_stands number one.0 fault answer one.1 first one.2
     files_stand (summary.Place number fault) answer first said =
         let one = found_at _ (slice_get p.modules number) said in
-        subst Stands (sym one.2) (refused_at number one.0 (λ k. summary.Place k fault) one.1 first)
+        subst Stands (sym one.2) (refused_at number one.0 (summary.Place number fault) (Place fault) one.1 first refl)
     files_stand (summary.Verify number fault) answer first said =
         let one = found_at _ (slice_get p.modules number) said in
-        subst Stands (sym one.2) (refused_at number one.0 (λ k. summary.Verify k fault) one.1 first)
+        subst Stands (sym one.2)
+        (refused_at number one.0 (summary.Verify number fault) (Verify fault) one.1 first refl)
     files_stand summary.Memory answer first said = absurd said
 
   -- it is what the commands on plans come to

@@ -2,12 +2,11 @@
 use Rattle.std.proofs.Common.{◌≡◌, ℕ, ◌+◌, ◌*◌, Option, Some, None, List, [], ◌∷◌, length, refl, sym, ap, subst, ◌∙◌, arith}
 use Rattle.std.specs.Prelude.{Result, Ok, Err, IfOk}
 use Rattle.cfi_word.specs.declared.lists.Image.{Image}
-use Rattle.cfi_word.specs.declared.layout.TheConstants.{MAX_CODE_WORDS}
+use Rattle.cfi_word.specs.declared.layout.TheConstants.{MAX_CODE_WORDS, FIRST_BASE}
 use Rattle.cfi_word.specs.Table.{IsSize}
 use Rattle.cfi_report.specs.declared.report.GuestPart.{GuestPart}
 use Rattle.cfi_model.specs.declared.act.Wait.{Wait}
 use Rattle.cfi_model.specs.declared.act.Wait.TheVariants as waits
-use Rattle.cfi_model.specs.declared.places.TheConstants.{BASE}
 use Rattle.cfi_model.specs.Closed.{IsClosed, IsClosedBy, IsStartIn}
 use Rattle.cfi_model.specs.Service.{Reply}
 use Rattle.cfi_model.specs.State.{State}
@@ -46,14 +45,14 @@ bare_can words image fuel file =
     let whole : length image.code ≡ MAX_CODE_WORDS = file.closed.classes.code_length in
     let closed : IsClosed (length image.code) image =
     (file.body, subst (λ n. IsClosedBy n image file.body) (sym whole) file.closed) in
-    let start : IsStartIn image (4 * BASE) = record {
+    let start : IsStartIn image (4 * FIRST_BASE) = record {
       body = file.body;
       idles = file.closed.idles;
       zeros = file.closed.zeros;
       code = file.closed.code;
       starts = file.entry;
     } in
-    opened_can image (size_is image whole) closed 0 (4 * BASE) [] start fuel
+    opened_can image (size_is image whole) closed 0 (4 * FIRST_BASE) [] start fuel
 
 -- a service's end counts no instruction
 serve_steps : (wait : Option Wait) (r : Raw) (reply : Reply) → (serve_as wait r reply).base.steps ≡ r.base.steps
@@ -71,10 +70,12 @@ pub run_is : (words : List ℕ) (image : Image) (fuel : ℕ) (guest : Raw) (part
 run_is words image fuel guest part placed file ended says =
     let can = bare_can words image fuel file in
     let path = ended.path in
-    let shown = raw_shows (fixed image) image.code (known image fuel bare_start can) bare_start.base can.ready 0 bare_start
+    let shown = raw_shows (fixed image) image.code (known image fuel bare_start can) bare_start.base can.ready 0
+    bare_start
     (between image fuel bare_start can) path.takes path.along in
     let last = shown.2 in
-    let counted = runs_units (fixed image) image.code (kept_along bare_start path.takes) bare_start.base shown.1 last.runs in
+    let counted = runs_units (fixed image) image.code (kept_along bare_start path.takes) bare_start.base shown.1
+    last.runs in
     let same = shows_units (fixed image) image.code shown.0 shown.1 (run_of bare_start path.takes) last.shows in
     let units : length (kept_along bare_start path.takes) ≡ part.units =
     omega (arith, ap (λ p. p.units) says, ap (λ r. r.base.units) ended.is, ap (λ r. r.base.units) path.is) in

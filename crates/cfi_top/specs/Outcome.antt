@@ -70,26 +70,30 @@ pub record IsNamedBad (names files : List (List ℕ)) (name : List ℕ) (fault :
   pub named : slice_get names number ≡ Some name
   pub first : IsFirstBadFile files number fault
 
--- the bytes are a plan, and the file of this name is the first of its modules' that has a fault
-pub record IsModuleRefused (bytes : List ℕ) (files : List (List ℕ)) (name : List ℕ) (fault : (number : ℕ) → FilesFault)
-    : Type 0 where
+-- the refusal says that the file of the module of this number has this fault
+abbrev pub SaysFault : Refusal → (number : ℕ) → FilesFault → Type 0
+SaysFault (Elf fault) number found = found ≡ summary.File number (faults.Elf fault)
+SaysFault (Aux fault) number found = found ≡ summary.File number (faults.Aux fault)
+SaysFault (Place fault) number found = found ≡ summary.Place number fault
+SaysFault (Verify fault) number found = found ≡ summary.Verify number fault
+SaysFault refusal number found = ⊥
+
+-- the bytes are a plan, and the file of this name, which one of its modules has, is refused for the first fault of the
+-- modules' files
+pub record IsModuleRefused (bytes : List ℕ) (files : List (List ℕ)) (name : List ℕ) (refusal : Refusal) : Type 0 where
   pub plan : ModulePlan
   pub is : plan_in bytes ≡ Ok plan
+  pub fault : FilesFault
+  pub first : IsFilesFault plan.code_words files fault
   pub number : ℕ
+  pub said : SaysFault refusal number fault
   pub named : slice_get (files_of plan) number ≡ Some name
-  pub first : IsFilesFault plan.code_words files (fault number)
 
 -- why the bytes of a plan, or the files that it names, are refused, and the file that is at fault
 abbrev pub RefusesPlan : (plan bytes : List ℕ) → (files : List (List ℕ)) → (name : List ℕ) → Refusal → Type 0
 RefusesPlan plan bytes files name (Plan fault) =
     (name ≡ plan) × (plan_in bytes ≡ Err fault) × (fault ≢ plan_faults.Memory)
-RefusesPlan plan bytes files name (Elf fault) =
-    IsModuleRefused bytes files name (λ k. summary.File k (faults.Elf fault))
-RefusesPlan plan bytes files name (Aux fault) =
-    IsModuleRefused bytes files name (λ k. summary.File k (faults.Aux fault))
-RefusesPlan plan bytes files name (Place fault) = IsModuleRefused bytes files name (λ k. summary.Place k fault)
-RefusesPlan plan bytes files name (Verify fault) = IsModuleRefused bytes files name (λ k. summary.Verify k fault)
-RefusesPlan plan bytes files name refusal = ⊥
+RefusesPlan plan bytes files name refusal = IsModuleRefused bytes files name refusal
 
 -- why a command refuses its files, and the file that is at fault: the first of the faults
 abbrev pub Refuses : Command → (files more : List (List ℕ)) → (name : List ℕ) → Refusal → Type 0

@@ -2,7 +2,7 @@
 use Rattle.std.specs.Prelude.{◌≡◌, ℕ, ◌*◌, List, [], length, codes}
 use Rattle.cfi_word.specs.declared.lists.Image.{Image}
 use Rattle.cfi_report.specs.declared.report.GuestPart.{GuestPart}
-use Rattle.cfi_model.specs.declared.places.TheConstants.{BASE}
+use Rattle.cfi_word.specs.declared.layout.TheConstants.{FIRST_BASE}
 use Rattle.cfi_model.specs.State.{State}
 use Rattle.cfi_model.specs.Raw.{Raw, raw_opened}
 use Rattle.cfi_model.specs.History.{fixed}
@@ -13,7 +13,7 @@ use Rattle.cfi_top.specs.declared.run.TheConstants.{BARE_GUEST}
 
 -- the guest of a bare file at its start
 abbrev pub bare_start : Raw
-bare_start = raw_opened BARE_GUEST (4 * BASE) []
+bare_start = raw_opened BARE_GUEST (4 * FIRST_BASE) []
 
 -- what a report says of a guest in this state
 abbrev pub part_of : Raw → GuestPart
@@ -28,8 +28,8 @@ part_of r = record {
 }
 
 -- The file's image is closed. The guest was run over it until it stopped, with at most the fuel, and the part says the
--- state that it is then in. Until the fuel stopped it, it shows the policy machine after as many units as the part says,
--- each under the pairs of the image's classes.
+-- state that it is then in. Until the fuel stopped it, it shows the policy machine after as many units as the part
+-- says, each under the pairs of the image's classes.
 pub record IsRun (words : List ℕ) (fuel : ℕ) (part : GuestPart) : Type 0 where
   pub image : Image
   pub placed : IsImageOf words image

@@ -4,11 +4,12 @@ use Rattle.cfi_plan.specs.declared.journal.ModuleLine.{ModuleLine}
 use Rattle.cfi_report.specs.declared.report.Report.{Report}
 use Rattle.cfi_report.specs.declared.report.GuestPart.{GuestPart}
 use Rattle.cfi_report.specs.Report.{text_of}
-use Rattle.cfi_model.specs.declared.places.TheConstants.{BASE, DATA}
+use Rattle.cfi_word.specs.declared.layout.TheConstants.{FIRST_BASE}
+use Rattle.cfi_model.specs.declared.places.TheConstants.{DATA}
 
 -- where the file's words lie
 abbrev pub bare_module : ModuleLine
-bare_module = record { number = 0; name = codes "bare"; base = BASE; slot = 0; data_base = DATA; policy = 0 }
+bare_module = record { number = 0; name = codes "bare"; base = FIRST_BASE; slot = 0; data_base = DATA; policy = 0 }
 
 abbrev pub bare_report : GuestPart → Report
 bare_report part = record { epoch = 0; policy = 0; modules = bare_module ∷ []; journal = []; guests = part ∷ [] }

@@ -32,8 +32,12 @@ const LOST: &str =
 // A return.
 const RET: &str = ".node void\n.node func 0\n.globl main\n.func main 1\nret\n.endfunc\n";
 
+// The groups of the library and the host.
+const HOST_GROUPS: &str =
+    "class 0 1 : 000001fc 00000260\nclass 2 6 : 00000040 0000007c\nclass 3 : 0000017c 000001b8\nclass 4 5 : 0000020c\n";
+
 // The files of a shelf that are no objects: sources, plans, and one that is nothing.
-const TEXTS: [(&str, &str); 16] = [
+const TEXTS: [(&str, &str); 17] = [
     ("lib.s", LIB),
     ("main.s", MAIN),
     ("plug.s", PLUG),
@@ -48,6 +52,10 @@ const TEXTS: [(&str, &str); 16] = [
     (
         "host.plan",
         "plan 1\nmodule lib lib start\nmodule main main start\nguest _start\n",
+    ),
+    (
+        "linked.plan",
+        "plan 1\nmodule m linked start\nguest _start\n",
     ),
     (
         "alone.plan",
@@ -122,6 +130,10 @@ fn linking(rt: HostRuntime) -> Result<(), Fail> {
         ("link both main lib.o", 5, "refused both link NotUnit 1 4\n"),
         ("link both lib empty", 5, "refused empty elf Short 0\n"),
         ("link both empty absent", 3, "absent absent\n"),
+        // Linked into one module, or placed one after the other, the two have the same groups.
+        ("link linked lib main", 0, ""),
+        ("verify linked.plan", 0, "ok m 142 7\n"),
+        ("graph linked.plan", 0, HOST_GROUPS),
     ];
     print(&rt, rt.alloc(), &mut shelf, &rows)?;
     // The host's 33 words follow the library's 109: its calls lead back to `sel` at 120 and `choose` at 220, and its
@@ -162,11 +174,7 @@ fn modules_of_plans(rt: HostRuntime) -> Result<(), Fail> {
 fn groups_of_plans(rt: HostRuntime) -> Result<(), Fail> {
     let mut shelf = modules(&rt, rt.alloc())?;
     let rows = [
-        (
-            "graph host.plan",
-            0,
-            "class 0 1 : 000001fc 00000260\nclass 2 6 : 00000040 0000007c\nclass 3 : 0000017c 000001b8\nclass 4 5 : 0000020c\n",
-        ),
+        ("graph host.plan", 0, HOST_GROUPS),
         // The plug-in's return joins those of the library's functions, and its function, at word 158, joins these.
         (
             "graph plan",

@@ -2,6 +2,7 @@ ghost use Rattle.std.specs.Prelude.{◌≡◌, ◌≤◌, ◌∷◌, [], length,
 ghost use Rattle.cfi_top.specs.Outside.{shelf_view};
 ghost use Rattle.cfi_top.specs.Reading.{HasRead, IsUnread, IsFound};
 
+use crate::names::text_of;
 use cfi_io::{Shelf, ShelfFault};
 use cfi_list::Items;
 use cfi_plan::Text;
@@ -65,7 +66,7 @@ pub fn read_files<F: Shelf>(
         match read_one(shelf, name.as_str())? {
             Ok(bytes) => files.push(bytes)?,
             Err(cause) => {
-                let name = Text::from_string(name.as_str().to_string(alloc)?);
+                let name = text_of(alloc, name.as_str())?;
                 return Ok(Err(Unread { name, cause }));
             }
         }

@@ -1,5 +1,5 @@
 ghost use Rattle.std.specs.Prelude.{◌≡◌, ◌≤◌, ◌<◌, ◌*◌, IfOk};
-ghost use Rattle.cfi_model.specs.declared.places.TheConstants.{BASE};
+ghost use Rattle.cfi_word.specs.declared.layout.TheConstants.{FIRST_BASE};
 ghost use Rattle.cfi_fixed.specs.Fixed.{CanRunOver};
 ghost use Rattle.cfi_fixed.specs.Bare.{HasEnded};
 ghost use Rattle.cfi_top.specs.Run.{IsRun, part_of};
@@ -9,10 +9,9 @@ use cfi_bare::{BareCode, image_of};
 use cfi_fixed::{run_fixed, serve_bare};
 use cfi_io::Gate;
 use cfi_list::Items;
-use cfi_model::BASE;
 use cfi_report::GuestPart;
 use cfi_unit::Bytes;
-use cfi_word::Image;
+use cfi_word::{FIRST_BASE, Image};
 use rv_guest::Guest;
 use std::alloc::{AllocError, Global};
 
@@ -58,7 +57,7 @@ pub fn run_bare<G: Gate>(
     ensures { IfOk result (IsRun code.now fuel) }
 {
     let image = image_of(alloc, code)?;
-    let mut guest = Guest::open(alloc, BARE_GUEST, 4 * BASE, &[])?;
+    let mut guest = Guest::open(alloc, BARE_GUEST, 4 * FIRST_BASE, &[])?;
     run_guest(&mut guest, &image, gate, fuel);
     part_of(alloc, &guest)
 }

@@ -1,20 +1,22 @@
 ghost use Rattle.std.specs.Prelude.{◌≡◌, IfOk, codes};
 ghost use Rattle.cfi_top.specs.Text.{bare_module, bare_report, report_text};
 
+use crate::names::text_of;
 use cfi_list::Items;
-use cfi_model::{BASE, DATA};
+use cfi_model::DATA;
 use cfi_plan::{ModuleLine, Text};
 use cfi_report::{GuestPart, Report, write_report};
+use cfi_word::FIRST_BASE;
 use std::alloc::{AllocError, Global};
 
 /// The name of a bare file's module, and of its guest's entry.
 pub fn bare_name(alloc: Global) -> Result<Text, AllocError>
     ensures { IfOk result (λ name. name ≡ codes "bare") }
 {
-    let name = "bare".to_string(alloc)?;
-    Ok(Text::from_string(name))
+    text_of(alloc, "bare")
 }
 
+// Where the file's words lie.
 fn bare_module(alloc: Global) -> Result<ModuleLine, AllocError>
     ensures { IfOk result (λ one. one ≡ bare_module) }
 {
@@ -22,7 +24,7 @@ fn bare_module(alloc: Global) -> Result<ModuleLine, AllocError>
     Ok(ModuleLine {
         number: 0,
         name,
-        base: BASE,
+        base: FIRST_BASE,
         slot: 0,
         data_base: DATA,
         policy: 0,

@@ -28,7 +28,8 @@ read_held words k h = grind (arith, nat_tests, free_read)
 
 -- the first registers after a write
 pub write_free : (words : List ℕ) (k value : ℕ) → k ≢ 0
-    → free_of (slice_set words k value) ≡ (if nat_lt k FREE_REGISTERS then regs_with (free_of words) k value else free_of words)
+    → free_of (slice_set words k value)
+    ≡ (if nat_lt k FREE_REGISTERS then regs_with (free_of words) k value else free_of words)
 write_free words k value h = grind (arith, nat_tests, free_set, free_past)
 
 -- one of the others

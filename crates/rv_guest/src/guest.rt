@@ -41,7 +41,26 @@ impl Model for Guest {
 
     ghost Value = { Raw };
 
-    ghost view = { λ g. record { base = record { number = g.number; regs = g.regs.free; pc = g.pc; memory = g.memory; output = g.output; log = g.log; units = g.units; steps = g.steps; stop = g.stop }; x28 = g.regs.x28; x29 = g.regs.x29; x30 = g.regs.x30; x31 = g.regs.x31; bary = g.bary; tary = g.tary; waits = g.waits } };
+    ghost view = { λ g. record {
+      base = record {
+        number = g.number;
+        regs = g.regs.free;
+        pc = g.pc;
+        memory = g.memory;
+        output = g.output;
+        log = g.log;
+        units = g.units;
+        steps = g.steps;
+        stop = g.stop;
+      };
+      x28 = g.regs.x28;
+      x29 = g.regs.x29;
+      x30 = g.regs.x30;
+      x31 = g.regs.x31;
+      bary = g.bary;
+      tary = g.tary;
+      waits = g.waits;
+    } };
 
     ghost invariant = { λ g. IsCounted g.units g.steps g.log g.tary g.waits };
 }

@@ -35,11 +35,11 @@ impl Plain {
     fn proceed(&mut self)
         requires going { self.old.waits ≡ false }
         requires few { self.old.state.units + 1 < 2 ^ 32 }
-        ensures { self.new ≡ record self.old { state = going_to (after 4 self.old.state.pc) 1 self.old.state } }
+        ensures { let s = self.old.state in self.new ≡ record self.old {
+          state = going_to (after 4 s.pc) 1 s;
+        } }
     {
-        self.pc = self.pc.wrapping_add(4);
-        self.units += 1;
-        self.steps += 1;
+        self.go_to(self.pc.wrapping_add(4));
     }
 
     fn exit(&mut self)
@@ -88,7 +88,9 @@ impl Plain {
         ensures asks { IsTrue (nat_lt (opens self.old.state.log) MAX_OPENS) →
             self.new ≡ record self.old { waits = true } }
         ensures full { let s = self.old.state in nat_lt (opens s.log) MAX_OPENS ≡ false →
-            self.new ≡ record self.old { state = going_to (after 4 s.pc) 1 (served Opens too_many s) } }
+            self.new ≡ record self.old {
+              state = going_to (after 4 s.pc) 1 (served Opens too_many s);
+            } }
     {
         if self.log.opens() < MAX_OPENS {
             self.waits = true;
@@ -110,7 +112,8 @@ impl Plain {
         requires going { self.old.waits ≡ false }
         requires few { self.old.state.units + 1 < 2 ^ 32 }
         ensures { let a = answer.now in let s = self.old.state in self.new ≡ record self.old {
-          state = going_to (after 4 s.pc) 1 (served Opens (reply_of a.address a.cause a.policy a.fills.now) s);
+          state = going_to (after 4 s.pc) 1
+              (served Opens (reply_of a.address a.cause a.policy a.fills.now) s);
         } }
     {
         let module = self.argument();

@@ -86,7 +86,7 @@ impl Plain {
     }
 
     // Ends a unit of one instruction.
-    fn go_to(&mut self, to: u32)
+    pub(crate) fn go_to(&mut self, to: u32)
         requires going { self.old.waits ≡ false }
         requires few { self.old.state.units + 1 < 2 ^ 32 }
         ensures { self.new ≡ record self.old { state = going_to to 1 self.old.state } }
@@ -120,16 +120,15 @@ impl Plain {
             }
             _ => {}
         }
-        self.pc = self.pc.wrapping_add(4);
-        self.units += 1;
-        self.steps += 1;
+        self.go_to(self.pc.wrapping_add(4));
     }
 
     fn jump(&mut self, link: bool, to: u32)
         requires going { self.old.waits ≡ false }
         requires few { self.old.state.units + 1 < 2 ^ 32 }
         ensures { let s = self.old.state in self.new ≡ record self.old {
-          state = going_to to 1 (record s { regs = regs_with s.regs (link_register link) (after 4 s.pc) });
+          state = going_to to 1
+              (record s { regs = regs_with s.regs (link_register link) (after 4 s.pc) });
         } }
     {
         if link {
@@ -170,9 +169,10 @@ impl Plain {
         requires rs1 { rs1 < FREE_REGISTERS }
         requires going { self.old.waits ≡ false }
         requires few { self.old.state.units + 1 < 2 ^ 32 }
-        ensures { let s = self.old.state in let offset = masked_at rs1 imm s in self.new ≡ record self.old {
-          state = load_effect (load_width kind) (loaded kind s.memory offset) offset rd s;
-        } }
+        ensures { let s = self.old.state in let offset = masked_at rs1 imm s in
+            self.new ≡ record self.old {
+              state = load_effect (load_width kind) (loaded kind s.memory offset) offset rd s;
+            } }
     {
         let offset = self.masked(rs1, imm);
         let fits = offset % load_width(kind) == 0;
@@ -188,9 +188,11 @@ impl Plain {
         requires rs2 { rs2 < FREE_REGISTERS }
         requires going { self.old.waits ≡ false }
         requires few { self.old.state.units + 1 < 2 ^ 32 }
-        ensures { let s = self.old.state in let offset = masked_at rs1 imm s in self.new ≡ record self.old {
-          state = store_effect (store_width kind) offset (stored kind s.memory offset (register s rs2)) s;
-        } }
+        ensures { let s = self.old.state in let offset = masked_at rs1 imm s in
+            self.new ≡ record self.old {
+              state = store_effect (store_width kind) offset
+                  (stored kind s.memory offset (register s rs2)) s;
+            } }
     {
         let offset = self.masked(rs1, imm);
         let fits = offset % store_width(kind) == 0;
@@ -207,7 +209,9 @@ impl Plain {
         requires rises { last_policy self.old.state.log ≤ policy }
         requires most { policy ≤ MAX_POLICY }
         requires few { self.old.state.units + 1 < 2 ^ 32 }
-        ensures { self.new ≡ record self.old { state = checked policy allowed link target self.old.state } }
+        ensures { self.new ≡ record self.old {
+          state = checked policy allowed link target self.old.state;
+        } }
     {
         self.units += 1;
         if target >= CODE_BYTES {

@@ -5,9 +5,8 @@ use crate::{BareCode, run_fixed};
 use cfi_aux::Kind;
 use cfi_bare::{FUNCTION_TYPE, MAX_WORDS, image_of};
 use cfi_list::Items;
-use cfi_model::BASE;
 use cfi_unit::{Log, Stop};
-use cfi_word::{Image, Numbers};
+use cfi_word::{FIRST_BASE, Image, Numbers};
 use rv_guest::Guest;
 use std::alloc::{AllocError, Global};
 use std::process::Abort;
@@ -25,7 +24,7 @@ fn image_to_entry(alloc: Global, words: &BareCode) -> Result<Image, AllocError>
 {
     let Image { tary, bary, code } = image_of(alloc, words)?;
     let mut classes = tary.into_vec();
-    classes[BASE as usize] = 1;
+    classes[FIRST_BASE as usize] = 1;
     let slots = vec![in alloc; 1u32; bary.as_slice().len()]?;
     Ok(Image {
         tary: Numbers::from_vec(classes),
@@ -72,7 +71,7 @@ fn run(
     let found = BareCode::with_checks(alloc, &bytes, kinds)?;
     let code = found.ok().ok_or("refused")?;
     let image = image_for(alloc, &code, allowed)?;
-    let mut guest = Guest::open(alloc, 0, 4 * BASE, &[])?;
+    let mut guest = Guest::open(alloc, 0, 4 * FIRST_BASE, &[])?;
     let _ = run_fixed(&mut guest, &image, fuel);
     Ok(guest)
 }

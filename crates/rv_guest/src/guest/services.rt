@@ -13,8 +13,8 @@ use cfi_unit::{Answer, Stop};
 impl Guest {
     /// Ends an open with its answer.
     ///
-    /// The policy is at most 255 and not below the last one that is logged, the fills lie inside private data, and
-    /// where `MAX_OPENS` opens are logged the cause is `TOO_MANY`.
+    /// The policy is at most `MAX_POLICY` and not below the last one that is logged, the fills lie inside private data,
+    /// and where `MAX_OPENS` opens are logged the cause is `TOO_MANY`.
     pub fn answer(&mut self, answer: &Answer<'_>)
         requires { let a = answer.now in
             MayAnswer (reply_of a.address a.cause a.policy a.fills.now) self.old }

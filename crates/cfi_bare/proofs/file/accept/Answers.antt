@@ -10,7 +10,8 @@ returns-in-Ok c =
     let bytes = c.args.bytes.now in
     let file : IsVerifiedFile bytes c.from_vec.result c.in-Ok.code = search rules in
     let verified : IsVerifiedFile bytes [] c.in-Ok.code =
-    subst (λ (kinds : List Kind). IsVerifiedFile bytes kinds c.in-Ok.code) (c.from_vec.ensures ∙ c.new.ensures.items) file in
+    subst (λ (kinds : List Kind). IsVerifiedFile bytes kinds c.in-Ok.code) (c.from_vec.ensures ∙ c.new.ensures.items)
+    file in
     let bare : IsBare bytes = search rules in
     let sized : AreWords bytes = search rules in
     record {

@@ -1,4 +1,3 @@
-use Rattle.std.proofs.Common.{arith}
 use Rattle.cfi_types.proofs.Tables.{small_count, small_fields}
 use Rattle.cfi_tools.proofs.InstrumentingLemmas.{short_text, few_relocs}
 use Rattle.cfi_tools.proofs.instrumenting.instrumented.Goals as goal

@@ -1,4 +1,4 @@
-use Rattle.std.proofs.Common.{rules, ◌≡◌, ◌+◌, ◌∷◌, ◌++◌, [], length, take, All, sym, subst}
+use Rattle.std.proofs.Common.{rules, ◌≡◌, ◌+◌, length, take, All, sym, subst}
 use Rattle.std.specs.Prelude.{◌≢◌}
 use Rattle.std.proofs.lemmas.List.Elements.{All-push}
 use Rattle.cfi_aux.specs.Sound.{IsSoundModule}

@@ -7,4 +7,5 @@ use Rattle.cfi_model.proofs.log_book.LogBook.cause.Goals as goal
 -- the last entry is no pick
 pub returns-clause-last : goal.returns-clause-last
 returns-clause-last c =
-    ap last_picks c.push_reserved.ensures.items ∙ ap picks_in (last_push c.self.inside.entries.items (Cause c.args.number c.args.cause))
+    ap last_picks c.push_reserved.ensures.items
+    ∙ ap picks_in (last_push c.self.inside.entries.items (Cause c.args.number c.args.cause))

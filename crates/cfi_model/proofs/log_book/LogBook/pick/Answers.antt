@@ -8,7 +8,8 @@ use Rattle.cfi_model.proofs.log_book.LogBook.pick.Goals as goal
 pub invariant_of-self : goal.invariant_of-self
 invariant_of-self c =
     let log = c.self.inside.entries.items in
-    let is : last_of log ≡ Some (Pick c.args.policy c.in-Some.count) = ap last_of (sym c.as_slice.ensures.value) ∙ c.in-Some.ensures.some in
+    let is : last_of log ≡ Some (Pick c.args.policy c.in-Some.count) =
+    ap last_of (sym c.as_slice.ensures.value) ∙ c.in-Some.ensures.some in
     let n : c.len-last.result ≡ length log = search rules in
     let opens_same = opens_set log c.args.policy c.in-Some.count _ is in
     let room = room_set log c.args.policy c.in-Some.count _ is c.self.invariant.1 in
@@ -29,5 +30,8 @@ invariant_of-self-in-None c =
     let other = rw c.as_slice.ensures.value at c.in-None.ensures.none in
     let more = room_more log c.args.policy c.self.invariant.1 other (search rules) c.requires.most in
     let opens_same = opens_push log (Pick c.args.policy 1) in
-    rw c.push_reserved.ensures.items
-    (omega (arith, c.self.invariant.0, opens_same), more, omega (arith, c.self.invariant.2, c.push_reserved.ensures.capacity))
+    rw c.push_reserved.ensures.items (
+      omega (arith, c.self.invariant.0, opens_same),
+      more,
+      omega (arith, c.self.invariant.2, c.push_reserved.ensures.capacity),
+    )

@@ -1,5 +1,5 @@
 use Rattle.std.proofs.Common.{rules, ◌≡◌, ◌∙◌, length, slice_set, replicate, refl, arith}
-use Rattle.cfi_model.specs.declared.places.TheConstants.{BASE}
+use Rattle.cfi_word.specs.declared.layout.TheConstants.{FIRST_BASE}
 use Rattle.cfi_top.proofs.EntryImageLemmas.{closed_to_entry}
 use Rattle.cfi_top.proofs.tests.checks.image_to_entry.Goals as goal
 
@@ -7,7 +7,7 @@ use Rattle.cfi_top.proofs.tests.checks.image_to_entry.Goals as goal
 pub returns : goal.returns
 returns c =
     let image = c.in_ok-tary.field-0 in
-    let tary : c.from_vec.result ≡ slice_set image.tary BASE 1 = search rules in
+    let tary : c.from_vec.result ≡ slice_set image.tary FIRST_BASE 1 = search rules in
     let slots : c.in_ok-slots.slots.items ≡ replicate (length image.bary) 1 = search rules in
     closed_to_entry c.args.words.now image _ 1 (λ none. omega arith) (omega arith) c.in_ok-tary.ensures.closed refl tary
     (c.from_vec-2.ensures ∙ slots)
