@@ -127,4 +127,6 @@ lines_of-Follows report apart =
 
 pub last_stage-lines_of : (report : Report) → last_stage stages.Start (lines_of report) ≡ stages.Ended
 last_stage-lines_of report =
-    last_stage-append stages.Start (line.Title ∷ line.Force report.epoch report.policy ∷ map line.Module report.modules ++ map line.Journal report.journal ++ flat_map guest_lines report.guests) (line.End ∷ [])
+    last_stage-append stages.Start
+    (line.Title ∷ line.Force report.epoch report.policy ∷ map line.Module report.modules
+    ++ map line.Journal report.journal ++ flat_map guest_lines report.guests) (line.End ∷ [])

@@ -216,7 +216,8 @@ pub fault-left : (text rest : List ℕ) (number : ℕ) (draft : Draft) (at : Sta
     → at ≡ draft.stage → is_whole at ≡ true → 0 < length rest → IsFirstFault text number
 fault-left text rest number draft at h same whole some =
     let here = whole-HasNoNext draft.stage rest (sym (ap is_whole same) ∙ whole) in
-    read-fault text rest number draft h here (λ done none. let size : length rest ≡ 0 = ap length none in omega (arith, some, size))
+    read-fault text rest number draft h here (λ done none.
+    let size : length rest ≡ 0 = ap length none in omega (arith, some, size))
 
 no_bytes : (rest : List ℕ) → length rest ≡ 0 → rest ≡ []
 no_bytes [] h = refl

@@ -150,7 +150,8 @@ four-says verb word other end =
     keyed (λ v. IsWhat (v ∷ word ∷ other ∷ end ∷ [])) verb (codes "load") _ _
     (number _ word _ (λ n fits e. number _ end _ (λ m fits' e'. loaded_four-says word other end n m fits e fits' e')))
     (twice (λ v w. IsWhat (v ∷ w ∷ other ∷ end ∷ [])) verb word _ _ _ _
-    (number _ other _ (λ n fits e. number _ end _ (λ m fits' e'. told _ (RefreshVersions n m) ((tt, (tt, (fits, (fits', tt)))), rw (e, e') refl))))
+    (number _ other _ (λ n fits e. number _ end _ (λ m fits' e'.
+    told _ (RefreshVersions n m) ((tt, (tt, (fits, (fits', tt)))), rw (e, e') refl))))
     (nothing _))
 
 loaded_five-says : (word other first end : List ℕ) (n m k : ℕ) → n < 2 ^ 32 → word ≡ dec_text n → m < 2 ^ 32
@@ -159,9 +160,12 @@ loaded_five-says : (word other first end : List ℕ) (n m k : ℕ) → n < 2 ^ 3
 unfolding loaded_five
 loaded_five-says word other first end n m k fits e fits' e' fits'' e'' =
     let P = λ (w : List ℕ). IsWhat (codes "load" ∷ word ∷ w ∷ first ∷ end ∷ []) in
-    keyed P other (codes "ok") _ _ (told _ (LoadOk n m k) ((tt, (fits, (tt, (fits', (fits'', tt))))), rw (e, e', e'') refl))
-    (keyed P other (codes "verify") _ _ (told _ (LoadVerify n m k) ((tt, (fits, (tt, (fits', (fits'', tt))))), rw (e, e', e'') refl))
-    (keyed P other (codes "versions") _ _ (told _ (LoadVersions n m k) ((tt, (fits, (tt, (fits', (fits'', tt))))), rw (e, e', e'') refl))
+    keyed P other (codes "ok") _ _ (told _ (LoadOk n m k)
+    ((tt, (fits, (tt, (fits', (fits'', tt))))), rw (e, e', e'') refl))
+    (keyed P other (codes "verify") _ _ (told _ (LoadVerify n m k)
+    ((tt, (fits, (tt, (fits', (fits'', tt))))), rw (e, e', e'') refl))
+    (keyed P other (codes "versions") _ _ (told _ (LoadVersions n m k)
+    ((tt, (fits, (tt, (fits', (fits'', tt))))), rw (e, e', e'') refl))
     (nothing _)))
 
 five-says : (verb word other first end : List ℕ)
@@ -211,16 +215,21 @@ pair-says keyword word =
     (keyed P keyword (codes "stop") _ _
     (keyed (λ w. IsSaid (codes "stop" ∷ w ∷ [])) word (codes "fuel") _ _
     (told _ (line.Stop (Some Fuel)) (((tt, (tt, tt)), tt), refl)) (nothing _))
-    (keyed P keyword (codes "units") _ _ (last_number _ word line.Units (λ n fits e. (((tt, (fits, tt)), tt), rw e refl)))
-    (keyed P keyword (codes "steps") _ _ (last_number _ word line.Steps (λ n fits e. (((tt, (fits, tt)), tt), rw e refl))) (nothing _)))))
+    (keyed P keyword (codes "units") _ _ (last_number _ word line.Units
+    (λ n fits e. (((tt, (fits, tt)), tt), rw e refl)))
+    (keyed P keyword (codes "steps") _ _ (last_number _ word line.Steps
+    (λ n fits e. (((tt, (fits, tt)), tt), rw e refl))) (nothing _)))))
 
 stop-says : (word end : List ℕ) → Says (IsSaid (codes "stop" ∷ word ∷ end ∷ [])) (stop_form word end)
 unfolding stop_form
 stop-says word end =
     let P = λ (w : List ℕ). IsSaid (codes "stop" ∷ w ∷ end ∷ []) in
-    keyed P word (codes "exit") _ _ (last_number _ end (λ code. line.Stop (Some (Exit code))) (λ n fits e. (((tt, (tt, (fits, tt))), tt), rw e refl)))
-    (keyed P word (codes "halt") _ _ (last_address _ end (λ place. line.Stop (Some (Halt place))) (λ n fits e. (((tt, (tt, (fits, tt))), tt), rw e refl)))
-    (keyed P word (codes "align") _ _ (last_address _ end (λ place. line.Stop (Some (Align place))) (λ n fits e. (((tt, (tt, (fits, tt))), tt), rw e refl)))
+    keyed P word (codes "exit") _ _ (last_number _ end (λ code. line.Stop (Some (Exit code)))
+    (λ n fits e. (((tt, (tt, (fits, tt))), tt), rw e refl)))
+    (keyed P word (codes "halt") _ _ (last_address _ end (λ place. line.Stop (Some (Halt place)))
+    (λ n fits e. (((tt, (tt, (fits, tt))), tt), rw e refl)))
+    (keyed P word (codes "align") _ _ (last_address _ end (λ place. line.Stop (Some (Align place)))
+    (λ n fits e. (((tt, (tt, (fits, tt))), tt), rw e refl)))
     (nothing _)))
 
 force-says : (epoch policy : List ℕ) → Says (IsSaid (codes "force" ∷ epoch ∷ policy ∷ [])) (force_form epoch policy)
@@ -274,7 +283,8 @@ module-says : (a b c d e f : List ℕ) → Says (IsSaid (codes "module" ∷ a �
     (module_form a b c d e f)
 unfolding module_form
 module-says a b c d e f =
-    number _ a _ (λ n hn en. named _ b _ (λ is. number _ c _ (λ base hb eb. number _ d _ (λ slot hs es. address _ e _ (λ place hp ep. number _ f _ (λ policy hq eq.
+    number _ a _ (λ n hn en. named _ b _ (λ is. number _ c _ (λ base hb eb.
+    number _ d _ (λ slot hs es. address _ e _ (λ place hp ep. number _ f _ (λ policy hq eq.
     told _ (line.Module (record { number = n; name = b; base = base; slot = slot; data_base = place; policy = policy }))
     (((tt, (hn, (is, (hb, (hs, (hp, (hq, tt))))))), tt), rw (en, eb, es, ep, eq) refl)))))))
 

@@ -152,7 +152,9 @@ no_end word (next ∷ words) h =
 
 -- the same of a line, whose first word has a byte
 
-some_words : (P : List (List ℕ) → Type 0) → ((byte : ℕ) (word : List ℕ) (words : List (List ℕ)) → P ((byte ∷ word) ∷ words)) → (one : Line) → P (line_words one)
+some_words : (P : List (List ℕ) → Type 0)
+    → ((byte : ℕ) (word : List ℕ) (words : List (List ℕ)) → P ((byte ∷ word) ∷ words)) → (one : Line)
+    → P (line_words one)
 some_words P h line.Title = h _ _ _
 some_words P h (line.Force e p) = h _ _ _
 some_words P h (line.Module one) = h _ _ _
@@ -183,4 +185,9 @@ long byte word (next ∷ words) = omega arith
 
 -- a line has two bytes or more
 pub line_text-long : (one : Line) → 2 ≤ length (line_text one)
-line_text-long one = omega (arith, some_words (λ words. 1 ≤ length (join_with_byte 32 words)) long one, length-append (join_with_byte 32 (line_words one)) (10 ∷ []))
+line_text-long one =
+    omega (
+      arith,
+      some_words (λ words. 1 ≤ length (join_with_byte 32 words)) long one,
+      length-append (join_with_byte 32 (line_words one)) (10 ∷ []),
+    )

@@ -83,7 +83,8 @@ fit (byte ∷ bytes) h = let parts = and_parts _ _ h in (ltb-true byte 256 parts
 pub pairs_in-back : (bytes : List ℕ) → Each (λ byte. byte < 256) bytes → pairs_in (hex_text bytes) ≡ Some bytes
 unfolding pairs_in
 pairs_in-back bytes fits =
-    rw (pair_values-hex bytes fits) (cond-true _ _ _ (and_from _ _ (small bytes fits) ((bytes_eq-Decides (hex_text bytes) (hex_text bytes)).1 refl)))
+    rw (pair_values-hex bytes fits) (cond-true _ _ _ (and_from _ _ (small bytes fits)
+    ((bytes_eq-Decides (hex_text bytes) (hex_text bytes)).1 refl)))
 
 pub pairs_in-some : (word bytes : List ℕ) → Each (λ byte. byte < 256) bytes → word ≡ hex_text bytes
     → pairs_in word ≡ Some bytes
