@@ -44,7 +44,7 @@ section_there bytes k sound within defined relative =
     (nat_lt section (section_count bytes)) three good)
 
 -- a kept symbol in a section is in a loaded one
-kept_loaded : (bytes : List ℕ) (k : ℕ) → is_left_out bytes k ≡ false
+pub kept_loaded : (bytes : List ℕ) (k : ℕ) → is_left_out bytes k ≡ false
     → is_in_section bytes (symbol_at bytes k) ≡ true → is_loaded bytes (symbol_at bytes k).section ≡ true
 unfolding is_left_out
 kept_loaded bytes k kept inside =
