@@ -1,14 +1,10 @@
 -- The line that words say is written with these words.
-use Rattle.std.proofs.Common.{◌≡◌, ℕ, ◌^◌, ◌<◌, Bool, true, false, cond, ◌&&◌, List, [], ◌∷◌, map, Option, Some, None, option_and_then, nat_eq, refl, sym, subst, arith, IfSome}
+use Rattle.std.proofs.Common.{◌≡◌, ℕ, ◌^◌, ◌<◌, false, List, [], ◌∷◌, map, Option, Some, None, nat_eq, refl, sym, arith}
+use Rattle.std.specs.List.{AllByRecursion}
 use Rattle.std.specs.Prelude.{codes}
-use Rattle.std.specs.Option.{option_map}
-use Rattle.std.specs.Str.{bytes_eq}
-use Rattle.std.proofs.lemmas.Bool.{cond_both, and_parts}
+use Rattle.std.proofs.lemmas.Bool.{cond_both}
 use Rattle.std.proofs.lemmas.Bool.Decides.{nat_tests}
-use Rattle.std.proofs.lemmas.Slice.Eq.{bytes_eq-Decides}
 use Rattle.cfi_text.specs.Decimal.{dec_text}
-use Rattle.cfi_text.specs.Hex.{hex8_text}
-use Rattle.cfi_text.specs.Names.{is_name, name_in}
 use Rattle.cfi_plan.specs.declared.journal.Who.{Who}
 use Rattle.cfi_plan.specs.declared.journal.Who.TheVariants.{Script, Guest}
 use Rattle.cfi_plan.specs.declared.journal.JournalLine.{JournalLine}
@@ -18,13 +14,10 @@ use Rattle.cfi_unit.specs.declared.log.Stop.TheVariants.{Exit, Halt, Align, Fuel
 use Rattle.cfi_report.specs.declared.line.Line.{Line}
 use Rattle.cfi_report.specs.declared.line.Line.TheVariants as line
 use Rattle.cfi_report.specs.Line.{field_text, who_field, what_fields, line_words}
-use Rattle.cfi_report.specs.Report.{Each, IsField, IsLine}
-use Rattle.cfi_report.specs.Form.{number_in, address_in, bytes_in, who_in, what_two, loaded_three, what_three, loaded_four, what_four, loaded_five, what_five, entry_form, journal_form, lone_form, pair_form, stop_form, force_form, guest_form, pick_form, three_form, opened_form, four_form, module_form, seven_form, form_of}
-use Rattle.cfi_report.proofs.WordLemmas.{Spells, number_in-says, address_in-says, bytes_in-says}
-
--- what is said, if anything, is so
-pub record Says {A : Type 0} (P : A → Type 0) (form : Option A) : Type 0 where
-  pub says : IfSome form P
+use Rattle.cfi_report.specs.Report.{IsField, IsLine}
+use Rattle.cfi_report.specs.Form.{bytes_in, who_in, what_two, loaded_three, what_three, loaded_four, what_four, loaded_five, what_five, entry_form, journal_form, lone_form, pair_form, stop_form, force_form, guest_form, pick_form, three_form, opened_form, four_form, module_form, seven_form, form_of}
+use Rattle.cfi_report.proofs.WordLemmas.{bytes_in-says}
+use Rattle.cfi_report.proofs.FormLemmas.{Says, nothing, keyed, twice, as_value, number, address, last_number, last_address, named, told}
 
 -- a line with these words
 abbrev pub IsSaid : List (List ℕ) → Line → Type 0
@@ -32,76 +25,11 @@ IsSaid words one = IsLine one × (line_words one ≡ words)
 
 -- what came of a call, in these words
 abbrev IsWhat : List (List ℕ) → JournalLine → Type 0
-IsWhat words what = Each IsField (what_fields what) × (map field_text (what_fields what) ≡ words)
+IsWhat words what = AllByRecursion IsField (what_fields what) × (map field_text (what_fields what) ≡ words)
 
 -- who asked, in this word
 abbrev IsWho : List ℕ → Who → Type 0
 IsWho word who = IsField (who_field who) × (field_text (who_field who) ≡ word)
-
-nothing : {A : Type 0} (P : A → Type 0) → Says P None
-nothing P = record { says = tt }
-
--- the parts of a form
-
-module _ {A : Type 0} where
-  -- a fixed word
-  keyed : (P : List ℕ → A → Type 0) (keyword word : List ℕ) (x y : Option A) → Says (P word) x → Says (P keyword) y
-      → Says (P keyword) (cond (bytes_eq keyword word) x y)
-  keyed P keyword word x y said other =
-      cond_both (bytes_eq keyword word) x y (Says (P keyword))
-      (λ h. subst (λ (w : List ℕ). Says (P w) x) (sym ((bytes_eq-Decides keyword word).0 h)) said) (λ _. other)
-
-  -- two fixed words
-  twice : (P : List ℕ → List ℕ → A → Type 0) (a b v w : List ℕ) (x y : Option A) → Says (P v w) x → Says (P a b) y
-      → Says (P a b) (cond (bytes_eq a v && bytes_eq b w) x y)
-  twice P a b v w x y said other =
-      let same = λ (h : (bytes_eq a v && bytes_eq b w) ≡ true).
-      let parts = and_parts _ _ h in
-      let first = (bytes_eq-Decides a v).0 parts.0 in
-      let last = (bytes_eq-Decides b w).0 parts.1 in
-      subst (λ (t : List ℕ). Says (P t b) x) (sym first) (subst (λ (t : List ℕ). Says (P v t) x) (sym last) said) in
-      cond_both (bytes_eq a v && bytes_eq b w) x y (Says (P a b)) same (λ _. other)
-
-  -- a word that spells a value
-  with_value : {V : Type 0} {fits : V → Type 0} {text : V → List ℕ} (P : A → Type 0) (word : List ℕ)
-      (found : Option V) (f : V → Option A) → Spells fits text word found
-      → ((v : V) → fits v → word ≡ text v → Says P (f v)) → Says P (option_and_then f found)
-  with_value P word None f h each = nothing P
-  with_value P word (Some v) f h each = each v h.spells.0 h.spells.1
-
-  as_value : {V : Type 0} {fits : V → Type 0} {text : V → List ℕ} (P : A → Type 0) (word : List ℕ) (found : Option V)
-      (f : V → A) → Spells fits text word found → ((v : V) → fits v → word ≡ text v → P (f v))
-      → Says P (option_map f found)
-  as_value P word None f h each = nothing P
-  as_value P word (Some v) f h each = record { says = each v h.spells.0 h.spells.1 }
-
-  number : (P : A → Type 0) (word : List ℕ) (f : ℕ → Option A)
-      → ((n : ℕ) → n < 2 ^ 32 → word ≡ dec_text n → Says P (f n)) → Says P (option_and_then f (number_in word))
-  number P word f each = with_value P word (number_in word) f (number_in-says word) each
-
-  address : (P : A → Type 0) (word : List ℕ) (f : ℕ → Option A)
-      → ((n : ℕ) → n < 2 ^ 32 → word ≡ hex8_text n → Says P (f n)) → Says P (option_and_then f (address_in word))
-  address P word f each = with_value P word (address_in word) f (address_in-says word) each
-
-  last_number : (P : A → Type 0) (word : List ℕ) (f : ℕ → A) → ((n : ℕ) → n < 2 ^ 32 → word ≡ dec_text n → P (f n))
-      → Says P (option_map f (number_in word))
-  last_number P word f each = as_value P word (number_in word) f (number_in-says word) each
-
-  last_address : (P : A → Type 0) (word : List ℕ) (f : ℕ → A) → ((n : ℕ) → n < 2 ^ 32 → word ≡ hex8_text n → P (f n))
-      → Says P (option_map f (address_in word))
-  last_address P word f each = as_value P word (address_in word) f (address_in-says word) each
-
-  named : (P : A → Type 0) (word : List ℕ) (f : List ℕ → Option A) → (is_name word ≡ true → Says P (f word))
-      → Says P (option_and_then f (name_in word))
-  named P word f each = by_test (is_name word) (λ h. each h)
-    where
-      by_test : (test : Bool) → (test ≡ true → Says P (f word))
-          → Says P (option_and_then f (cond test (Some word) None))
-      by_test true h = h refl
-      by_test false h = nothing P
-
-  told : (P : A → Type 0) (x : A) → P x → Says P (Some x)
-  told P x h = record { says = h }
 
 -- who asked
 
