@@ -45,7 +45,8 @@ module _ {A : Type 0} where
   with_value P word None f h each = nothing P
   with_value P word (Some v) f h each = each v h.spells.0 h.spells.1
 
-  pub as_value : {V : Type 0} {fits : V → Type 0} {text : V → List ℕ} (P : A → Type 0) (word : List ℕ) (found : Option V)
+  pub as_value : {V : Type 0} {fits : V → Type 0} {text : V → List ℕ} (P : A → Type 0) (word : List ℕ)
+      (found : Option V)
       (f : V → A) → Spells fits text word found → ((v : V) → fits v → word ≡ text v → P (f v))
       → Says P (option_map f found)
   as_value P word None f h each = nothing P
@@ -63,7 +64,8 @@ module _ {A : Type 0} where
       → Says P (option_map f (number_in word))
   last_number P word f each = as_value P word (number_in word) f (number_in-says word) each
 
-  pub last_address : (P : A → Type 0) (word : List ℕ) (f : ℕ → A) → ((n : ℕ) → n < 2 ^ 32 → word ≡ hex8_text n → P (f n))
+  pub last_address : (P : A → Type 0) (word : List ℕ) (f : ℕ → A)
+      → ((n : ℕ) → n < 2 ^ 32 → word ≡ hex8_text n → P (f n))
       → Says P (option_map f (address_in word))
   last_address P word f each = as_value P word (address_in word) f (address_in-says word) each
 
