@@ -46,8 +46,7 @@ module _ {A : Type 0} where
   with_value P word (Some v) f h each = each v h.spells.0 h.spells.1
 
   pub as_value : {V : Type 0} {fits : V → Type 0} {text : V → List ℕ} (P : A → Type 0) (word : List ℕ)
-      (found : Option V)
-      (f : V → A) → Spells fits text word found → ((v : V) → fits v → word ≡ text v → P (f v))
+      (found : Option V) (f : V → A) → Spells fits text word found → ((v : V) → fits v → word ≡ text v → P (f v))
       → Says P (option_map f found)
   as_value P word None f h each = nothing P
   as_value P word (Some v) f h each = record { says = each v h.spells.0 h.spells.1 }
@@ -65,8 +64,7 @@ module _ {A : Type 0} where
   last_number P word f each = as_value P word (number_in word) f (number_in-says word) each
 
   pub last_address : (P : A → Type 0) (word : List ℕ) (f : ℕ → A)
-      → ((n : ℕ) → n < 2 ^ 32 → word ≡ hex8_text n → P (f n))
-      → Says P (option_map f (address_in word))
+      → ((n : ℕ) → n < 2 ^ 32 → word ≡ hex8_text n → P (f n)) → Says P (option_map f (address_in word))
   last_address P word f each = as_value P word (address_in word) f (address_in-says word) each
 
   pub named : (P : A → Type 0) (word : List ℕ) (f : List ℕ → Option A) → (is_name word ≡ true → Says P (f word))
