@@ -58,7 +58,8 @@ fn entries_of<'a>(table: &SymbolTable<'a>, s: usize) -> &'a [u8]
     ensures same { result.now ≡ contents table.now s }
     ensures whole { RELA_SIZE * rela_count table.now s ≤ length result.now }
 {
-    table.sections.file.contents(s)
+    let _sections = &table.sections;
+    table.contents(s)
 }
 
 /// Entry `i` of section `s`.

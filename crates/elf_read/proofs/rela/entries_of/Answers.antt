@@ -10,5 +10,5 @@ returns-clause-whole c =
     let bytes = c.args.table.now in
     let sections : HasSections bytes = subst HasSections c.table.view_is c.table.invariant.0 in
     let whole = relas_within bytes c.args.s sections c.requires.within in
-    let same : c.contents.result.now ≡ contents bytes c.args.s = cc in
+    let same : c.contents.result.now ≡ contents bytes c.args.s = c.contents.ensures in
     rw same whole
