@@ -12,7 +12,7 @@ use Rattle.elf_read.specs.declared.object.Reloc.{Reloc}
 use Rattle.elf_read.specs.declared.object.Area.{Area}
 use Rattle.elf_write.specs.declared.part.Part.{Part}
 use Rattle.elf_write.specs.declared.part.Part.TheVariants.{Null, Text, Data, Types, Records, TextRelas, DataRelas, Symbols, SymbolNames, SectionNames}
-use Rattle.elf_write.specs.Part.{name_of}
+use Rattle.elf_write.specs.Part.{name_of, parts_of}
 use Rattle.elf_write.specs.Contents.{ended, names_of, is_in, rela_entry, relas_of}
 use Rattle.elf_write.specs.File.{sections_of, contents_of, padding, padded, body_of, table_place, header_of, part_header, file_header, bytes_of, IsWritable}
 use Rattle.elf_write.specs.Limits.{IsWithinLimits}
@@ -82,8 +82,21 @@ pub names-short : (symbols : List Symbol) → All (λ symbol. length symbol.name
 unfolding names_of
 names-short symbols short = omega (arith, names-from symbols short)
 
--- no section of an object within the limits holds more than the names of symbols may
-contents-short : (object : Object) → IsWithinLimits object → (part : Part) → length (contents_of object part) ≤ 4194305
+-- no more bytes than this are in a section of an object within the limits, nor in the zeros after it
+most_of : Part → ℕ
+most_of Null = 3
+most_of Text = 262083
+most_of Data = 524291
+most_of Types = 1052679
+most_of Records = 23728719
+most_of TextRelas = 786435
+most_of DataRelas = 786435
+most_of Symbols = 262163
+most_of SymbolNames = 4194308
+most_of SectionNames = 133
+
+contents-short : (object : Object) → IsWithinLimits object → (part : Part)
+    → length (contents_of object part) + 3 ≤ most_of part
 contents-short object limits Null = omega arith
 contents-short object limits Text = omega (arith, limits.text)
 contents-short object limits Data = omega (arith, limits.static_data)
@@ -103,6 +116,24 @@ contents-short object limits SectionNames =
           object.types) (is_some object.records),
     )
 
+-- all of some sections
+all_of : List Part → ℕ
+all_of [] = 0
+all_of (part ∷ parts) = most_of part + all_of parts
+
+body-short : (object : Object) → IsWithinLimits object → (parts : List Part) → length (body_of object parts) ≤ all_of parts
+body-short object limits [] = omega arith
+body-short object limits (part ∷ parts) =
+    let rest = body-short object limits parts in
+    let sum = length-append (padded (contents_of object part)) (body_of object parts) in
+    omega (arith, rest, sum, padded-below (contents_of object part), contents-short object limits part)
+
+sections-short : (types records : Bool) → all_of (parts_of types records) ≤ 31597250
+sections-short true true = omega arith
+sections-short true false = omega arith
+sections-short false true = omega arith
+sections-short false false = omega arith
+
 -- so the file is short
 pub file-short : (object : Object) → IsWithinLimits object → length (bytes_of object) ≤ 50331647
 unfolding bytes_of
@@ -112,12 +143,12 @@ file-short object limits =
     let headers = joined (header_of object) (length sections) in
     let front = length-append header (body_of object sections) in
     let all = length-append (header ++ body_of object sections) headers in
-    let body = pieces-short (λ (part : Part). padded (contents_of object part)) 4194308 sections
-    (λ part. omega (arith, padded-below (contents_of object part), contents-short object limits part)) in
+    let body = body-short object limits sections in
+    let sizes = sections-short (is_some object.types) (is_some object.records) in
     let table = length-joined (header_of object) 40 (length sections) (λ k. length-header object _ _ _) in
     let count = parts_count (is_some object.types) (is_some object.records) in
     let few = count-small (is_some object.types) (is_some object.records) in
-    omega (arith, front, all, body, table, count, few, length-file_header (table_place object) (length sections))
+    omega (arith, front, all, body, sizes, table, count, few, length-file_header (table_place object) (length sections))
 
 pub writable : (object : Object) → IsWithinLimits object → IsWritable object
 writable object limits = record { size = omega (arith, file-short object limits); infos = limits.infos }

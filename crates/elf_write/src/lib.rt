@@ -16,4 +16,4 @@ mod tests;
 mod word;
 
 pub use crate::file::write_object;
-pub use crate::limits::{MAX_RECORDS, is_within_limits};
+pub use crate::limits::{MAX_RECORDS, MAX_TYPES, is_within_limits};

@@ -8,16 +8,20 @@ use elf_read::{
     Bytes, MAX_DATA, MAX_NAME, MAX_RELOCS, MAX_SYMBOLS, MAX_WORDS, Object, Reloc, Symbol,
 };
 
-/// The greatest number of bytes of a section of types or of records.
-pub const MAX_RECORDS: usize = 1_048_576;
+/// The greatest number of bytes of a section of types: 1,024 nodes with 255 fields each.
+pub const MAX_TYPES: usize = 1_052_676;
 
-/// Whether bytes that may be there are not too many.
-fn are_few(bytes: &Option<Bytes>) -> bool
-    ensures { IsTrue result ↔ (length (bytes_or_none bytes.now) ≤ MAX_RECORDS) }
+/// The greatest number of bytes of a section of records: 16,384 functions with names of 255 bytes, and 4,680 switches
+/// with 1,024 places each.
+pub const MAX_RECORDS: usize = 23_728_716;
+
+/// Whether there are at most so many of the bytes that may be there.
+fn are_few(bytes: &Option<Bytes>, most: usize) -> bool
+    ensures { IsTrue result ↔ (length (bytes_or_none bytes.now) ≤ most) }
 {
     match bytes {
         None => true,
-        Some(bytes) => bytes.len() <= MAX_RECORDS,
+        Some(bytes) => bytes.len() <= most,
     }
 }
 
@@ -56,8 +60,8 @@ fn passes_none(object: &Object) -> bool
         && object.static_data.len() <= MAX_DATA
         && object.symbols.as_slice().len() <= MAX_SYMBOLS
         && object.relocs.as_slice().len() <= MAX_RELOCS
-        && are_few(&object.types)
-        && are_few(&object.records)
+        && are_few(&object.types, MAX_TYPES)
+        && are_few(&object.records, MAX_RECORDS)
         && have_short_names(object.symbols.as_slice())
         && have_small_infos(object.relocs.as_slice())
 }
@@ -65,7 +69,7 @@ fn passes_none(object: &Object) -> bool
 /// Whether an object is within the limits, so that it can be written, and its file can be read.
 ///
 /// At most `MAX_WORDS` words of text, `MAX_DATA` bytes of data, `MAX_SYMBOLS` symbols, `MAX_RELOCS` relocations,
-/// `MAX_RECORDS` bytes of types and of records, and `MAX_NAME` bytes in each name.
+/// `MAX_TYPES` bytes of types, `MAX_RECORDS` bytes of records, and `MAX_NAME` bytes in each name.
 pub fn is_within_limits(object: &Object) -> bool
     ensures same { IsTrue result ↔ IsWithinLimits object.now }
     ensures writable { IsTrue result → IsWritable object.now }
