@@ -112,8 +112,7 @@ contents-short object limits SectionNames =
       arith,
       names,
       parts_count (is_some object.types) (is_some object.records),
-      count-small (is_some
-          object.types) (is_some object.records),
+      count-small (is_some object.types) (is_some object.records),
     )
 
 -- all of some sections
@@ -121,7 +120,8 @@ all_of : List Part → ℕ
 all_of [] = 0
 all_of (part ∷ parts) = most_of part + all_of parts
 
-body-short : (object : Object) → IsWithinLimits object → (parts : List Part) → length (body_of object parts) ≤ all_of parts
+body-short : (object : Object) → IsWithinLimits object → (parts : List Part)
+    → length (body_of object parts) ≤ all_of parts
 body-short object limits [] = omega arith
 body-short object limits (part ∷ parts) =
     let rest = body-short object limits parts in
