@@ -14,7 +14,8 @@ use Rattle.cfi_aux.specs.Format.{is_whole, is_func, has_count}
 use Rattle.cfi_aux.specs.Records.{number_of, words_of, branch_bytes, IsBranchWord, IsBranch}
 use Rattle.cfi_aux.specs.Reading.{Reader, word_where, and_with, seen_as, each}
 use Rattle.cfi_aux.specs.Faults.{place_at, body_at, branch_at}
-use Rattle.cfi_aux.proofs.Formats.{Takes, ok_is, Reads, Reads-with, Agree, Reads-as}
+use Rattle.cfi_types.proofs.Parts.{Takes}
+use Rattle.cfi_aux.proofs.Formats.{ok_is, Reads, Reads-with, Agree, Reads-as}
 use Rattle.cfi_aux.proofs.Words.{Passes, Reads-word}
 use Rattle.cfi_aux.proofs.Lists.{AreGood, Reads-each}
 

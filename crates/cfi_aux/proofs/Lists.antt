@@ -9,7 +9,8 @@ use Rattle.cfi_aux.specs.declared.fault.AuxFault.{AuxFault}
 use Rattle.cfi_aux.specs.declared.fault.AuxFault.TheVariants.{Short, BadRecord}
 use Rattle.cfi_aux.specs.Reading.{Reader, ◌>>=◌, unless_bad, each}
 use Rattle.cfi_aux.specs.Faults.{text_at, zeroes_at}
-use Rattle.cfi_aux.proofs.Formats.{IsBytes, IsBytes-drop, then_ok, unless_bad_ok, ok_is, Takes, Takes-then, Reads}
+use Rattle.cfi_types.proofs.Parts.{IsBytes, IsBytes-drop, Takes, Takes-then}
+use Rattle.cfi_aux.proofs.Formats.{then_ok, unless_bad_ok, ok_is, Reads}
 
 -- so many values, each of which is good
 abbrev pub AreGood : {A : Type 0} → (A → Type 0) → (count : ℕ) → List A → Type 0

@@ -11,7 +11,7 @@ use Rattle.std.proofs.lemmas.List.Sums.{fails_before_first}
 use Rattle.std.proofs.lemmas.Str.{is_utf8-from_IsUtf8, IsUtf8-nil}
 use Rattle.elf_read.specs.Section.{is_text}
 use Rattle.elf_read.specs.Symbol as elf
-use Rattle.elf_read.specs.Symbol.{symbol_at, symbol_count, binding_of, type_of, stored_name, name_of, is_well_named, is_in_section, is_left_out, is_definition, defines, is_bad_info, is_nameless, is_local_undefined, is_past_section, is_second_definition, is_bad_symbol}
+use Rattle.elf_read.specs.Symbol.{symbol_at, binding_of, type_of, stored_name, name_of, is_well_named, is_bad_info}
 use Rattle.elf_read.specs.Object.{kept_binding, kept_place}
 use Rattle.elf_read.specs.declared.symbol.TheConstants.{LOCAL, GLOBAL, WEAK, SECTION, UNDEFINED, ABSOLUTE}
 use Rattle.elf_read.proofs.SectionLemmas.{or_false}

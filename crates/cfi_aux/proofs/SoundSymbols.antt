@@ -2,38 +2,29 @@
 use Rattle.std.proofs.Common.{◌≡◌, ◌+◌, ◌<◌, ◌≤◌, ◌==◌, ◌&&◌, ◌||◌, not, ℕ, zero, suc, List, [], ◌∷◌, length, Bool, true, false, All, nat_lt, refl, sym, ap, ◌∙◌, ⊎_elim, inl, inr, arith}
 use Rattle.std.specs.List.{AllPairs}
 use Rattle.std.specs.Str.{bytes_eq}
-use Rattle.std.proofs.lemmas.Bool.{cases_Bool, and_parts, and_from, eqb-false, ltb-false, lt-ltb, not-false, false_from_ne_true, false≢true, cases_lt}
+use Rattle.std.proofs.lemmas.Bool.{cases_Bool, and_parts, and_from, eqb-false, ltb-false, lt-ltb, false_from_ne_true, false≢true, cases_lt}
 use Rattle.std.proofs.lemmas.List.{append-nil}
 use Rattle.std.proofs.lemmas.List.Elements.{All-from_recursion}
 use Rattle.std.proofs.lemmas.List.Quantifiers.{all_pairs_push}
 use Rattle.elf_read.specs.Places.{joined, some_below}
 use Rattle.elf_read.specs.Header.{section_count}
 use Rattle.elf_read.specs.Section.{section_at, is_loaded, is_text}
-use Rattle.elf_read.specs.Symbol.{symbol_at, symbol_count, binding_of, type_of, name_of, is_in_section, is_left_out, is_definition, defines, is_nameless, is_local_undefined, is_past_section, is_second_definition, is_bad_symbol}
+use Rattle.elf_read.specs.Symbol.{symbol_at, symbol_count, binding_of, name_of, is_in_section, is_left_out, is_definition, defines, is_nameless, is_local_undefined, is_past_section, is_second_definition, is_bad_symbol}
 use Rattle.elf_read.specs.Join.{text_size, text_end, data_end, data_start, start_of}
 use Rattle.elf_read.specs.Object.{kept_binding, kept_place, kept_value, kept_symbol, symbols_of}
 use Rattle.elf_read.specs.Fault.{IsSound}
-use Rattle.elf_read.specs.declared.symbol.TheConstants.{LOCAL, FILE, UNDEFINED, ABSOLUTE}
+use Rattle.elf_read.specs.declared.symbol.TheConstants.{LOCAL, UNDEFINED, ABSOLUTE}
 use Rattle.elf_read.specs.declared.object.Object.{Object}
 use Rattle.elf_read.specs.declared.object.Symbol.{Symbol}
 use Rattle.elf_read.proofs.SectionLemmas.{or_false, and_false}
 use Rattle.elf_read.proofs.SymbolLemmas.{IsGoodSymbol}
 use Rattle.elf_read.proofs.JoinLemmas.{total_of-part, data_end-part, loaded_cases}
-use Rattle.elf_read.proofs.KeepLemmas.{sound_symbol, section_there}
+use Rattle.elf_read.proofs.KeepLemmas.{sound_symbol, section_there, kept_loaded}
 use Rattle.cfi_aux.specs.Sound.{is_exported, is_defined, are_rivals, IsInside, IsSoundSymbol}
 use Rattle.cfi_aux.proofs.JoinedLists.{joined_all}
 use Rattle.cfi_aux.proofs.SoundNames.{name_good, exported_is, not_local, defined_is, not_both}
 
 -- ---- values
-
-kept_loaded : (bytes : List ℕ) (k : ℕ) → is_left_out bytes k ≡ false → is_in_section bytes (symbol_at bytes k) ≡ true
-    → is_loaded bytes (symbol_at bytes k).section ≡ true
-unfolding is_left_out
-kept_loaded bytes k kept inside =
-    let symbol = symbol_at bytes k in
-    let last = (or_false ((k == 0) || (type_of symbol == FILE))
-    (is_in_section bytes symbol && not (is_loaded bytes symbol.section)) kept).1 in
-    not-false _ (and_false (is_in_section bytes symbol) (not (is_loaded bytes symbol.section)) inside last)
 
 not_past : (bytes : List ℕ) (k : ℕ) → is_past_section bytes k ≡ false
     → is_in_section bytes (symbol_at bytes k) ≡ true → is_loaded bytes (symbol_at bytes k).section ≡ true

@@ -16,7 +16,8 @@ use Rattle.cfi_aux.specs.declared.records.Kind.{Kind}
 use Rattle.cfi_aux.specs.Records.{function_bytes, branch_bytes, spelling, IsFunction, IsBranch, AreRecords}
 use Rattle.cfi_aux.specs.Reading.{unless_bad, Gives, word_at, and_with, and_also, each}
 use Rattle.cfi_aux.specs.Faults.{function_at, branch_at, version_at, count_at, lists_at, records_of, records_at, records_in}
-use Rattle.cfi_aux.proofs.Formats.{IsBytes, then_ok, unless_bad_ok, ok_is, Takes, Reads, Reads-with, Reads-also, Agree, Reads-as}
+use Rattle.cfi_types.proofs.Parts.{IsBytes, Takes}
+use Rattle.cfi_aux.proofs.Formats.{then_ok, unless_bad_ok, ok_is, Reads, Reads-with, Reads-also, Agree, Reads-as}
 use Rattle.cfi_aux.proofs.Words.{Passes, word_takes, Reads-word}
 use Rattle.cfi_aux.proofs.Lists.{AreGood, Reads-each}
 use Rattle.cfi_aux.proofs.Functions.{Reads-function}

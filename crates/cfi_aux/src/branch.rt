@@ -1,6 +1,6 @@
 //! Records of branches.
 
-ghost use Rattle.std.specs.Prelude.{◌≡◌, ◌≤◌};
+ghost use Rattle.std.specs.Prelude.{◌≤◌};
 ghost use Rattle.cfi_aux.specs.Reading.{Gives, each};
 ghost use Rattle.cfi_aux.specs.Faults.{place_at, body_at, branch_at};
 

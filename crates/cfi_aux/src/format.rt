@@ -25,35 +25,35 @@ pub const RETURN: u32 = 2;
 /// The kind of a branch that is the jump of a switch.
 pub const SWITCH: u32 = 3;
 
-/// The word counts bytes of whole instructions.
+/// Whether the word counts bytes of whole instructions.
 pub fn is_whole(word: u32) -> bool
     ensures { result ≡ is_whole word }
 {
     word % 4 == 0
 }
 
-/// The word may be a function's length.
+/// Whether the word may be a function's length in bytes.
 pub fn is_length(word: u32) -> bool
     ensures { result ≡ is_length word }
 {
     word % 4 == 0 && word != 0
 }
 
-/// The word may be a function's flags.
+/// Whether the word may be a function's flags.
 pub fn is_flag(word: u32) -> bool
     ensures { result ≡ is_flag word }
 {
     word <= 1
 }
 
-/// The word may be a name's number of bytes.
+/// Whether the word may be a name's number of bytes.
 pub fn is_name_length(word: u32) -> bool
     ensures { result ≡ is_name_length word }
 {
     1 <= word && word <= MAX_NAME
 }
 
-/// The word is the number of a node that is there and is the type of a function.
+/// Whether the word is the number of a node that is there and is the type of a function.
 pub fn is_func(types: &TypeTable, word: u32) -> bool
     ensures { result ≡ is_func types.now word }
 {
@@ -62,7 +62,7 @@ pub fn is_func(types: &TypeTable, word: u32) -> bool
     number < nodes.len() && nodes[number].kind() == FUNC
 }
 
-/// A branch of the kind may have `count` words.
+/// Whether a branch of the kind may have `count` words.
 pub fn has_count(kind: u32, count: u32) -> bool
     ensures { result ≡ has_count kind count }
 {

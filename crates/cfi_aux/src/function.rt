@@ -1,6 +1,5 @@
 //! Records of functions.
 
-ghost use Rattle.std.specs.Prelude.{◌≡◌};
 ghost use Rattle.cfi_aux.specs.Reading.{Gives, each};
 ghost use Rattle.cfi_aux.specs.Faults.{function_at};
 

@@ -54,10 +54,11 @@ fn all_of(alloc: Global, bytes: &[u8], types: &TypeTable) -> Result<Records, Aux
 /// are of four bytes, the lowest first. A fault is the first from left to right. MCFI, auxiliary information.
 pub fn read_records(alloc: Global, bytes: &[u8], types: &TypeTable) -> Result<Records, AuxFault>
     // What is read are records, and the bytes are their spelling.
-    ensures ok { IfOk result (λ records. AreRecords types.now records × (bytes.now ≡ spelling records)) }
+    ensures ok { IfOk result (λ records.
+        AreRecords types.now records × (bytes.now ≡ spelling records)) }
     // What is spelled so is read.
-    ensures only { (records : Records) → AreRecords types.now records → bytes.now ≡ spelling records →
-        Gives (λ found. found) result (Ok records) }
+    ensures only { (records : Records) → AreRecords types.now records →
+        bytes.now ≡ spelling records → Gives (λ found. found) result (Ok records) }
     // Which fault it is.
     ensures fault { Gives (λ found. found) result (records_in types.now bytes.now) }
 {

@@ -165,7 +165,8 @@ fn add(
 
 // An object of one word of text, `jalr x0,0(x1)`, and these sections.
 fn object(alloc: Global, types: Option<&[u8]>, records: Option<&[u8]>) -> Result<Object, AllocError>
-    ensures { IfOk result (λ object. All (λ s. address_of 16 0x40000000 s < 2 ^ 32) object.symbols) }
+    ensures { IfOk result (λ object.
+        All (λ s. address_of 16 0x40000000 s < 2 ^ 32) object.symbols) }
 {
     let types = match types {
         Some(items) => Some(bytes(alloc, items)?),

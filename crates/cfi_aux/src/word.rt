@@ -1,6 +1,6 @@
 //! Words from the front of bytes.
 
-ghost use Rattle.std.specs.Prelude.{◌≡◌, ◌≤◌, ℕ, nat_le, IfOk};
+ghost use Rattle.std.specs.Prelude.{◌≤◌, nat_le, IfOk};
 ghost use Rattle.cfi_aux.specs.declared.fault.AuxFault.TheVariants.{BadRecord};
 ghost use Rattle.cfi_aux.specs.Reading.{Gives, word_at, word_where};
 ghost use Rattle.cfi_aux.specs.Format.{is_whole, is_length, is_flag, is_name_length, is_func, has_count};
@@ -54,7 +54,8 @@ pub fn count_from(limit: u32, bytes: &[u8]) -> Result<(u32, &[u8]), AuxFault>
 /// Where a function begins or a switch leads, in record `number`.
 #[tactic(auto, unfolding(crate::specs::Reading::word_where))]
 pub fn place_from(number: u32, bytes: &[u8]) -> Result<(u32, &[u8]), AuxFault>
-    ensures { Gives (λ x. (x.0, x.1.now)) result (word_where is_whole (BadRecord number) bytes.now) }
+    ensures { Gives (λ x. (x.0, x.1.now)) result
+        (word_where is_whole (BadRecord number) bytes.now) }
 {
     let (word, rest) = word_from(bytes)?;
     if !is_whole(word) {
@@ -66,7 +67,8 @@ pub fn place_from(number: u32, bytes: &[u8]) -> Result<(u32, &[u8]), AuxFault>
 /// The length of the function of record `number`.
 #[tactic(auto, unfolding(crate::specs::Reading::word_where))]
 pub fn length_from(number: u32, bytes: &[u8]) -> Result<(u32, &[u8]), AuxFault>
-    ensures { Gives (λ x. (x.0, x.1.now)) result (word_where is_length (BadRecord number) bytes.now) }
+    ensures { Gives (λ x. (x.0, x.1.now)) result
+        (word_where is_length (BadRecord number) bytes.now) }
 {
     let (word, rest) = word_from(bytes)?;
     if !is_length(word) {

@@ -1,4 +1,4 @@
-ghost use Rattle.std.specs.Prelude.{◌≡◌, ℕ, Ok, Err, MatchResult};
+ghost use Rattle.std.specs.Prelude.{◌≡◌, Ok, Err};
 ghost use Rattle.cfi_plan.specs.Draft.{Draft as Said, empty, taken, one_if, plan_of, Gives};
 
 use crate::fault::PlanFault;

@@ -22,7 +22,8 @@ pub fn give_number(
 ) -> Result<(), AllocError>
     ensures ok { OnOk result ((other : List ℕ) → get_by_text names.new other
         ≡ (if bytes_eq name.now other then Some number else get_by_text names.old other)) }
-    ensures err { OnErr result ((other : List ℕ) → get_by_text names.new other ≡ get_by_text names.old other) }
+    ensures err { OnErr result ((other : List ℕ) →
+        get_by_text names.new other ≡ get_by_text names.old other) }
 {
     let key = String::from_str(alloc, name.as_str())?;
     names.insert(key, number)?;

@@ -1,5 +1,6 @@
 -- The words of a line say this line.
 use Rattle.std.proofs.Common.{◌≡◌, ℕ, ◌^◌, ◌<◌, false, List, ◌∷◌, length, map, Option, Some, None, nat_eq, refl, sym, ap, ◌∙◌, subst, arith}
+use Rattle.std.specs.List.{AllByRecursion}
 use Rattle.std.specs.Prelude.{codes}
 use Rattle.std.specs.Option.{option_map}
 use Rattle.std.specs.Str.{bytes_eq}
@@ -17,7 +18,7 @@ use Rattle.cfi_unit.specs.declared.log.Stop.TheVariants.{Exit, Halt, Align, Fuel
 use Rattle.cfi_report.specs.declared.line.Line.{Line}
 use Rattle.cfi_report.specs.declared.line.Line.TheVariants as line
 use Rattle.cfi_report.specs.Line.{field_text, who_field, what_fields, line_words}
-use Rattle.cfi_report.specs.Report.{Each, IsField, IsLine}
+use Rattle.cfi_report.specs.Report.{IsField, IsLine}
 use Rattle.cfi_report.specs.Form.{number_in, who_in, what_two, loaded_three, what_three, loaded_four, what_four, loaded_five, what_five, journal_form, lone_form, pair_form, stop_form, force_form, guest_form, pick_form, three_form, opened_form, four_form, module_form, seven_form, form_of}
 use Rattle.cfi_report.proofs.WordLemmas.{number_in-back, address_in-back, bytes_in-back, differs}
 
@@ -45,7 +46,7 @@ abbrev journal_line : (who : Who) → JournalLine → Option Line
 journal_line who what = Some (line.Journal (record { who = who; what = what }))
 
 module _ (who : Who) (asked : who_in (field_text (who_field who)) ≡ Some who) where
-  journal-back : (what : JournalLine) → Each IsField (what_fields what)
+  journal-back : (what : JournalLine) → AllByRecursion IsField (what_fields what)
       → form_of (journal_words who what) ≡ journal_line who what
   unfolding four_form journal_form seven_form what_two what_three what_four what_five loaded_three loaded_four
       loaded_five

@@ -1,5 +1,6 @@
 -- Lines that were read are the first lines of some report.
 use Rattle.std.proofs.Common.{◌≡◌, ◌^◌, ◌<◌, List, [], ◌∷◌, ◌++◌, Some, refl, sym, ap, ◌∙◌, subst, append_assoc, arith}
+use Rattle.std.specs.List.{AllByRecursion}
 use Rattle.std.proofs.lemmas.List.{append-nil}
 use Rattle.cfi_unit.specs.declared.log.Stop.TheVariants.{Fuel}
 use Rattle.cfi_report.specs.declared.line.Line.{Line}
@@ -7,7 +8,7 @@ use Rattle.cfi_report.specs.declared.line.Line.TheVariants as line
 use Rattle.cfi_report.specs.declared.stage.Stage.{Stage}
 use Rattle.cfi_report.specs.declared.stage.Stage.TheVariants as stages
 use Rattle.cfi_report.specs.declared.report.Report.{Report}
-use Rattle.cfi_report.specs.Report.{Each, IsLine, lines_of, IsReport}
+use Rattle.cfi_report.specs.Report.{IsLine, lines_of, IsReport}
 use Rattle.cfi_report.specs.Draft.{Draft, report_of, with_line}
 use Rattle.cfi_report.proofs.OrderLemmas.{with_line-stage, Follows, last_stage, last_stage-append}
 use Rattle.cfi_report.proofs.BuiltLemmas.{with_lines}
@@ -29,7 +30,7 @@ closing stages.Ended = []
 -- they may follow, and lead to the end
 record Closes (at : Stage) (last_lines : List Line) : Type 0 where
   follow : Follows at last_lines
-  lines : Each IsLine last_lines
+  lines : AllByRecursion IsLine last_lines
   last : last_stage at last_lines ≡ stages.Ended
 
 zero_fits : 0 < 2 ^ 32
@@ -90,7 +91,7 @@ closing-Closes stages.Units =
     record { follow = (refl, (refl, tt)); lines = (steps-IsLine, (end-IsLine, tt)); last = refl }
 closing-Closes stages.Ended = record { follow = tt; lines = tt; last = refl }
 
-extend : (more : List Line) (draft : Draft) (lines : List Line) → IsReached draft lines → Each IsLine more
+extend : (more : List Line) (draft : Draft) (lines : List Line) → IsReached draft lines → AllByRecursion IsLine more
     → Follows draft.stage more → IsReached (with_lines draft more) (lines ++ more)
 extend [] draft lines h is follow = rw (append-nil lines) h
 extend (one ∷ more) draft lines h is follow =

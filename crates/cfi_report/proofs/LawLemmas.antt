@@ -61,4 +61,7 @@ pub same_fault : (text : List ℕ) (n m : ℕ) → IsFirstFault text n → IsFir
 same_fault text n m h g =
     let later : n < m → n ≡ m = λ less. absurd (not_before text n m h g less) in
     let earlier : m < n → n ≡ m = λ less. absurd (not_before text m n g h less) in
-    elim (cases_order n m) [ inl same ↦ same | inr other ↦ elim other [ inl less ↦ later less | inr less ↦ earlier less ] ]
+    elim (cases_order n m) [
+      | inl same ↦ same
+      | inr other ↦ elim other [ inl less ↦ later less | inr less ↦ earlier less ]
+    ]

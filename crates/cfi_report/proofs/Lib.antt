@@ -6,6 +6,7 @@ pub mod NextLemmas
 pub mod OrderLemmas
 pub mod ReachedLemmas
 pub mod ReadLemmas
+pub mod FormLemmas
 pub mod SaidLemmas
 pub mod SolidLemmas
 pub mod WordLemmas

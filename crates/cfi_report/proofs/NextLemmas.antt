@@ -1,12 +1,12 @@
 -- A text that begins with a line begins with no other, and the code finds this line.
 use Rattle.std.proofs.Common.{◌≡◌, ℕ, ◌≤◌, ◌==◌, true, false, List, [], ◌∷◌, ◌++◌, length, Some, None, refl, sym, ap, ◌∙◌, arith, append_assoc, length-append}
-use Rattle.std.specs.List.{join_with_byte, slice_split}
+use Rattle.std.specs.List.{join_with_byte, slice_split, AllByRecursion}
 use Rattle.std.proofs.lemmas.List.Splits.{slice_split_at, slice_split_none, join_with_byte-slice_split, length-slice_split}
 use Rattle.std.proofs.lemmas.Bool.{false≢true}
 use Rattle.cfi_report.specs.declared.line.Line.{Line}
 use Rattle.cfi_report.specs.declared.stage.Stage.{Stage}
 use Rattle.cfi_report.specs.Line.{line_words, line_text}
-use Rattle.cfi_report.specs.Report.{Each, IsLine, lines_text}
+use Rattle.cfi_report.specs.Report.{IsLine, lines_text}
 use Rattle.cfi_report.specs.Draft.{may_follow}
 use Rattle.cfi_report.specs.Next.{IsNext, HasNoNext}
 use Rattle.cfi_report.specs.Form.{Lacks, words_in, form_of}
@@ -78,7 +78,8 @@ same_line one other xs ys h g same =
     (lines, next.1)
 
 -- a text that begins with lines, and with as many or more others, begins with these first
-pub follow_on : (lines others : List Line) (rest more : List ℕ) → Each IsLine lines → Each IsLine others
+pub follow_on : (lines others : List Line) (rest more : List ℕ) → AllByRecursion IsLine lines
+    → AllByRecursion IsLine others
     → length lines ≤ length others → lines_text lines ++ rest ≡ lines_text others ++ more
     → (tail : List Line) × ((others ≡ lines ++ tail) × (rest ≡ lines_text tail ++ more))
 follow_on [] others rest more h g few same = (others, (refl, same))
@@ -91,7 +92,8 @@ follow_on (one ∷ lines) (other ∷ others) rest more h g few same =
     (next.0, (cc (first.0, next.1.0), next.1.1))
 
 -- so does a text that is lines as a whole
-pub whole_follows : (lines others : List Line) (rest : List ℕ) → Each IsLine lines → Each IsLine others
+pub whole_follows : (lines others : List Line) (rest : List ℕ) → AllByRecursion IsLine lines
+    → AllByRecursion IsLine others
     → lines_text lines ++ rest ≡ lines_text others
     → (tail : List Line) × ((others ≡ lines ++ tail) × (rest ≡ lines_text tail))
 whole_follows [] others rest h g same = (others, (refl, same))

@@ -1,7 +1,7 @@
 -- In which order the lines of a report stand.
 use Rattle.std.proofs.Common.{◌≡◌, true, List, [], ◌∷◌, ◌++◌, map, Option, Some, None, refl, sym, subst, append_assoc}
 use Rattle.std.specs.Prelude.{⊤}
-use Rattle.std.specs.List.{flat_map}
+use Rattle.std.specs.List.{flat_map, AllByRecursion}
 use Rattle.cfi_plan.specs.declared.journal.ModuleLine.{ModuleLine}
 use Rattle.cfi_plan.specs.declared.journal.Entry.{Entry}
 use Rattle.cfi_unit.specs.declared.log.Log.{Log}
@@ -11,7 +11,7 @@ use Rattle.cfi_report.specs.declared.stage.Stage.{Stage}
 use Rattle.cfi_report.specs.declared.stage.Stage.TheVariants as stages
 use Rattle.cfi_report.specs.declared.report.Report.{Report}
 use Rattle.cfi_report.specs.declared.report.GuestPart.{GuestPart}
-use Rattle.cfi_report.specs.Report.{Each, AreApart, ending_lines, guest_lines, lines_of}
+use Rattle.cfi_report.specs.Report.{AreApart, ending_lines, guest_lines, lines_of}
 use Rattle.cfi_report.specs.Draft.{Draft, may_follow, takes_journal, takes_guests, with_line}
 
 -- what the last line is then
@@ -93,7 +93,7 @@ ending-follow : (guest : GuestPart) (rest : List Line) (last : Option Log) → F
 ending-follow guest rest last h = (refl, (refl, (refl, (refl, h))))
 
 guests-follow : (guests : List GuestPart) (rest : List Line) (at : Stage) → takes_guests at ≡ true
-    → Each (λ (guest : GuestPart). AreApart guest.log) guests
+    → AllByRecursion (λ (guest : GuestPart). AreApart guest.log) guests
     → ((to : Stage) → takes_guests to ≡ true → Follows to rest) → Follows at (flat_map guest_lines guests ++ rest)
 guests-follow [] rest at takes apart h = h at takes
 guests-follow (guest ∷ guests) rest at takes apart h =
@@ -111,7 +111,7 @@ journal_then_guests stages.Journal h = refl
 journal_then_guests _ h = cc
 
 -- the lines of a report stand in order
-pub lines_of-Follows : (report : Report) → Each (λ (guest : GuestPart). AreApart guest.log) report.guests
+pub lines_of-Follows : (report : Report) → AllByRecursion (λ (guest : GuestPart). AreApart guest.log) report.guests
     → Follows stages.Start (lines_of report)
 lines_of-Follows report apart =
     let last : List Line = line.End ∷ [] in
@@ -127,4 +127,6 @@ lines_of-Follows report apart =
 
 pub last_stage-lines_of : (report : Report) → last_stage stages.Start (lines_of report) ≡ stages.Ended
 last_stage-lines_of report =
-    last_stage-append stages.Start (line.Title ∷ line.Force report.epoch report.policy ∷ map line.Module report.modules ++ map line.Journal report.journal ++ flat_map guest_lines report.guests) (line.End ∷ [])
+    last_stage-append stages.Start
+    (line.Title ∷ line.Force report.epoch report.policy ∷ map line.Module report.modules
+    ++ map line.Journal report.journal ++ flat_map guest_lines report.guests) (line.End ∷ [])

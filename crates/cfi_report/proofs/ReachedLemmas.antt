@@ -1,6 +1,6 @@
 -- What is known of a draft, by the lines that were read: they are the first lines of a report.
 use Rattle.std.proofs.Common.{◌≡◌, true, List, [], ◌∷◌, ◌++◌, map, Option, Some, None, refl, sym, ap, ◌∙◌, subst, append_assoc}
-use Rattle.std.specs.List.{flat_map}
+use Rattle.std.specs.List.{flat_map, AllByRecursion}
 use Rattle.std.proofs.lemmas.List.{append-nil}
 use Rattle.std.proofs.lemmas.List.Concat.{flat_map-append}
 use Rattle.cfi_unit.specs.declared.log.Log.{Log}
@@ -9,14 +9,14 @@ use Rattle.cfi_report.specs.declared.line.Line.TheVariants as line
 use Rattle.cfi_report.specs.declared.stage.Stage.{Stage}
 use Rattle.cfi_report.specs.declared.stage.Stage.TheVariants as stages
 use Rattle.cfi_report.specs.declared.report.GuestPart.{GuestPart}
-use Rattle.cfi_report.specs.Report.{Each, IsLine, differ, AreApart, guest_lines, lines_of, IsReport}
+use Rattle.cfi_report.specs.Report.{IsLine, differ, AreApart, guest_lines, lines_of, IsReport}
 use Rattle.cfi_report.specs.Draft.{Draft, empty, report_of, may_follow, is_start, is_titled, takes_modules, takes_journal, takes_guests, takes_log, takes_out, takes_stop, takes_units, takes_steps, part_of, with_line}
 use Rattle.cfi_report.proofs.OrderLemmas.{stage_after, with_line-stage, last_stage, last_stage-append}
 use Rattle.cfi_report.proofs.BuiltLemmas.{with_lines, with_lines-append}
 
 -- the guests' adjacent picks differ
 abbrev AreAllApart : List GuestPart → Type 0
-AreAllApart guests = Each (λ (guest : GuestPart). AreApart guest.log) guests
+AreAllApart guests = AllByRecursion (λ (guest : GuestPart). AreApart guest.log) guests
 
 -- the lines before the present guest's
 abbrev front : Draft → List Line
@@ -64,20 +64,22 @@ AreKept stages.Ended draft = AreAllApart draft.guests
 pub record IsReached (draft : Draft) (read : List Line) : Type 0 where
   pub stage : last_stage stages.Start read ≡ draft.stage
   pub built : draft ≡ with_lines empty read
-  pub lines : Each IsLine read
+  pub lines : AllByRecursion IsLine read
   pub so_far : read ≡ so_far draft.stage draft
   pub kept : AreKept draft.stage draft
 
 pub empty-IsReached : IsReached empty []
 empty-IsReached = record { stage = refl; built = refl; lines = tt; so_far = refl; kept = (refl, refl, refl) }
 
-pub Each-append : {A : Type 0} (P : A → Type 0) (xs ys : List A) → Each P xs → Each P ys → Each P (xs ++ ys)
-Each-append P [] ys h g = g
-Each-append P (x ∷ xs) ys h g = (h.0, Each-append P xs ys h.1 g)
+pub AllByRecursion-append : {A : Type 0} (P : A → Type 0) (xs ys : List A) → AllByRecursion P xs
+    → AllByRecursion P ys → AllByRecursion P (xs ++ ys)
+AllByRecursion-append P [] ys h g = g
+AllByRecursion-append P (x ∷ xs) ys h g = (h.0, AllByRecursion-append P xs ys h.1 g)
 
-pub Each-first : {A : Type 0} (P : A → Type 0) (xs ys : List A) → Each P (xs ++ ys) → Each P xs
-Each-first P [] ys h = tt
-Each-first P (x ∷ xs) ys h = (h.0, Each-first P xs ys h.1)
+pub AllByRecursion-first : {A : Type 0} (P : A → Type 0) (xs ys : List A) → AllByRecursion P (xs ++ ys)
+    → AllByRecursion P xs
+AllByRecursion-first P [] ys h = tt
+AllByRecursion-first P (x ∷ xs) ys h = (h.0, AllByRecursion-first P xs ys h.1)
 
 -- a further entry that differs from the last one
 apart-push : (first : List Log) (last entry : Log) → AreApart (first ++ last ∷ []) → differ last entry ≡ true
@@ -230,7 +232,8 @@ next draft lines (line.Steps count) may so kept =
           (flat_map guest_lines (draft.guests ++ part_of draft count ∷ []))
           (line.Steps count)
           (flat_map-append guest_lines draft.guests (part_of draft count ∷ []))),
-      Each-append (λ (guest : GuestPart). AreApart guest.log) draft.guests (part_of draft count ∷ []) h.1 (h.2, tt),
+      AllByRecursion-append (λ (guest : GuestPart). AreApart guest.log) draft.guests (part_of draft count ∷ []) h.1
+          (h.2, tt),
     )
 next draft lines line.End may so kept =
     let h = guests draft lines draft.stage may so kept in
@@ -246,7 +249,7 @@ next-IsReached draft lines one h is may =
     record {
       stage = last_stage-append stages.Start lines (one ∷ []) ∙ at;
       built = ap (λ (d : Draft). with_line d one) h.built ∙ sym (with_lines-append empty lines (one ∷ []));
-      lines = Each-append IsLine lines (one ∷ []) h.lines (is, tt);
+      lines = AllByRecursion-append IsLine lines (one ∷ []) h.lines (is, tt);
       so_far = after.0 ∙ ap (λ (s : Stage). so_far s new) at;
       kept = subst (λ (s : Stage). AreKept s new) at after.1;
     }
@@ -256,6 +259,9 @@ pub ended-IsReport : (draft : Draft) (lines : List Line) → IsReached draft lin
     → IsReport (report_of draft) × (lines_of (report_of draft) ≡ lines)
 ended-IsReport draft lines h ends =
     let same : lines ≡ lines_of (report_of draft) = h.so_far ∙ ap (λ (s : Stage). so_far s draft) ends in (
-      record { lines = subst (Each IsLine) same h.lines; apart = subst (λ (s : Stage). AreKept s draft) ends h.kept },
+      record {
+        lines = subst (AllByRecursion IsLine) same h.lines;
+        apart = subst (λ (s : Stage). AreKept s draft) ends h.kept;
+      },
       sym same,
     )

@@ -1,5 +1,6 @@
 -- What is known while a text is read, and when it is a report.
 use Rattle.std.proofs.Common.{◌≡◌, ℕ, ◌+◌, ◌-◌, ◌^◌, ◌<◌, ◌≤◌, true, false, List, [], ◌∷◌, ◌++◌, length, take, drop, refl, sym, ap, ◌∙◌, subst, append_assoc, arith, length-append, length-take, take_all}
+use Rattle.std.specs.List.{AllByRecursion}
 use Rattle.std.proofs.lemmas.List.{append-nil, take-append-le, take-append-drop}
 use Rattle.std.proofs.lemmas.Bool.{false≢true}
 use Rattle.std.proofs.lemmas.List.Concat.{flat_map-append}
@@ -9,13 +10,13 @@ use Rattle.cfi_report.specs.declared.stage.Stage.{Stage}
 use Rattle.cfi_report.specs.declared.stage.Stage.TheVariants as stages
 use Rattle.cfi_report.specs.declared.report.Report.{Report}
 use Rattle.cfi_report.specs.Line.{line_text}
-use Rattle.cfi_report.specs.Report.{Each, IsLine, lines_of, lines_text, text_of, IsReport, CanBegin, IsFirstFault}
+use Rattle.cfi_report.specs.Report.{IsLine, lines_of, lines_text, text_of, IsReport, CanBegin, IsFirstFault}
 use Rattle.cfi_report.specs.Draft.{Draft, empty, report_of, may_follow, is_whole, with_line}
 use Rattle.cfi_report.specs.Next.{IsNext, HasNoNext}
 use Rattle.cfi_report.proofs.BuiltLemmas.{with_lines, lines_of-built}
 use Rattle.cfi_report.proofs.NextLemmas.{follow_on, whole_follows}
 use Rattle.cfi_report.proofs.OrderLemmas.{Follows, Follows-rest, last_stage, lines_of-Follows, last_stage-lines_of}
-use Rattle.cfi_report.proofs.ReachedLemmas.{IsReached, empty-IsReached, next-IsReached, ended-IsReport, Each-first}
+use Rattle.cfi_report.proofs.ReachedLemmas.{IsReached, empty-IsReached, next-IsReached, ended-IsReport, AllByRecursion-first}
 use Rattle.cfi_report.proofs.ClosingLemmas.{some_report}
 use Rattle.cfi_report.proofs.SolidLemmas.{line_text-long}
 
@@ -86,18 +87,18 @@ ends draft lines report h same =
     ∙ h.stage in
     subst (λ (s : Stage). is_whole s ≡ true) last refl
 
-Each-last : {A : Type 0} (P : A → Type 0) (xs ys : List A) → Each P (xs ++ ys) → Each P ys
-Each-last P [] ys h = h
-Each-last P (x ∷ xs) ys h = Each-last P xs ys h.1
+AllByRecursion-last : {A : Type 0} (P : A → Type 0) (xs ys : List A) → AllByRecursion P (xs ++ ys) → AllByRecursion P ys
+AllByRecursion-last P [] ys h = h
+AllByRecursion-last P (x ∷ xs) ys h = AllByRecursion-last P xs ys h.1
 
 module _ (text rest : List ℕ) (number : ℕ) (draft : Draft) (h : IsRead text rest number draft) where
   -- no report goes on here
   stuck : HasNoNext draft.stage rest → (report : Report) (one : Line) (more : List Line) (after : List ℕ)
       → IsReport report → lines_of report ≡ h.lines ++ one ∷ more → rest ≡ line_text one ++ after → ⊥
   stuck never report one more after is same stands =
-      let lines = subst (Each IsLine) same is.lines in
+      let lines = subst (AllByRecursion IsLine) same is.lines in
       never one after (record {
-        line = (Each-last IsLine h.lines (one ∷ more) lines).0;
+        line = (AllByRecursion-last IsLine h.lines (one ∷ more) lines).0;
         follows = goes_on draft h.lines one more report h.reached is same;
         stands = stands;
       })
@@ -141,7 +142,7 @@ module _ (text rest : List ℕ) (number : ℕ) (draft : Draft) (h : IsRead text 
       let all : firsts ++ lasts ≡ lines_of report = take-append-drop number (lines_of report) in
       let size : length firsts ≡ length h.lines + 1 = omega
       (arith, length-take number (lines_of report), b.within, h.number) in
-      let good = Each-first IsLine firsts lasts (subst (Each IsLine) (sym all) is.lines) in
+      let good = AllByRecursion-first IsLine firsts lasts (subst (AllByRecursion IsLine) (sym all) is.lines) in
       let next = follow_on h.lines firsts rest b.rest h.reached.lines good (omega (arith, size))
       (sym h.text ∙ b.begins) in
       by_rest report is lasts b.rest firsts all size next.0 next.1.0 next.1.1
@@ -216,7 +217,8 @@ pub fault-left : (text rest : List ℕ) (number : ℕ) (draft : Draft) (at : Sta
     → at ≡ draft.stage → is_whole at ≡ true → 0 < length rest → IsFirstFault text number
 fault-left text rest number draft at h same whole some =
     let here = whole-HasNoNext draft.stage rest (sym (ap is_whole same) ∙ whole) in
-    read-fault text rest number draft h here (λ done none. let size : length rest ≡ 0 = ap length none in omega (arith, some, size))
+    read-fault text rest number draft h here (λ done none.
+    let size : length rest ≡ 0 = ap length none in omega (arith, some, size))
 
 no_bytes : (rest : List ℕ) → length rest ≡ 0 → rest ≡ []
 no_bytes [] h = refl

@@ -1,14 +1,10 @@
 -- The line that words say is written with these words.
-use Rattle.std.proofs.Common.{◌≡◌, ℕ, ◌^◌, ◌<◌, Bool, true, false, cond, ◌&&◌, List, [], ◌∷◌, map, Option, Some, None, option_and_then, nat_eq, refl, sym, subst, arith, IfSome}
+use Rattle.std.proofs.Common.{◌≡◌, ℕ, ◌^◌, ◌<◌, false, List, [], ◌∷◌, map, Option, Some, None, nat_eq, refl, sym, arith}
+use Rattle.std.specs.List.{AllByRecursion}
 use Rattle.std.specs.Prelude.{codes}
-use Rattle.std.specs.Option.{option_map}
-use Rattle.std.specs.Str.{bytes_eq}
-use Rattle.std.proofs.lemmas.Bool.{cond_both, and_parts}
+use Rattle.std.proofs.lemmas.Bool.{cond_both}
 use Rattle.std.proofs.lemmas.Bool.Decides.{nat_tests}
-use Rattle.std.proofs.lemmas.Slice.Eq.{bytes_eq-Decides}
 use Rattle.cfi_text.specs.Decimal.{dec_text}
-use Rattle.cfi_text.specs.Hex.{hex8_text}
-use Rattle.cfi_text.specs.Names.{is_name, name_in}
 use Rattle.cfi_plan.specs.declared.journal.Who.{Who}
 use Rattle.cfi_plan.specs.declared.journal.Who.TheVariants.{Script, Guest}
 use Rattle.cfi_plan.specs.declared.journal.JournalLine.{JournalLine}
@@ -18,13 +14,10 @@ use Rattle.cfi_unit.specs.declared.log.Stop.TheVariants.{Exit, Halt, Align, Fuel
 use Rattle.cfi_report.specs.declared.line.Line.{Line}
 use Rattle.cfi_report.specs.declared.line.Line.TheVariants as line
 use Rattle.cfi_report.specs.Line.{field_text, who_field, what_fields, line_words}
-use Rattle.cfi_report.specs.Report.{Each, IsField, IsLine}
-use Rattle.cfi_report.specs.Form.{number_in, address_in, bytes_in, who_in, what_two, loaded_three, what_three, loaded_four, what_four, loaded_five, what_five, entry_form, journal_form, lone_form, pair_form, stop_form, force_form, guest_form, pick_form, three_form, opened_form, four_form, module_form, seven_form, form_of}
-use Rattle.cfi_report.proofs.WordLemmas.{Spells, number_in-says, address_in-says, bytes_in-says}
-
--- what is said, if anything, is so
-pub record Says {A : Type 0} (P : A → Type 0) (form : Option A) : Type 0 where
-  pub says : IfSome form P
+use Rattle.cfi_report.specs.Report.{IsField, IsLine}
+use Rattle.cfi_report.specs.Form.{bytes_in, who_in, what_two, loaded_three, what_three, loaded_four, what_four, loaded_five, what_five, entry_form, journal_form, lone_form, pair_form, stop_form, force_form, guest_form, pick_form, three_form, opened_form, four_form, module_form, seven_form, form_of}
+use Rattle.cfi_report.proofs.WordLemmas.{bytes_in-says}
+use Rattle.cfi_report.proofs.FormLemmas.{Says, nothing, keyed, twice, as_value, number, address, last_number, last_address, named, told}
 
 -- a line with these words
 abbrev pub IsSaid : List (List ℕ) → Line → Type 0
@@ -32,76 +25,11 @@ IsSaid words one = IsLine one × (line_words one ≡ words)
 
 -- what came of a call, in these words
 abbrev IsWhat : List (List ℕ) → JournalLine → Type 0
-IsWhat words what = Each IsField (what_fields what) × (map field_text (what_fields what) ≡ words)
+IsWhat words what = AllByRecursion IsField (what_fields what) × (map field_text (what_fields what) ≡ words)
 
 -- who asked, in this word
 abbrev IsWho : List ℕ → Who → Type 0
 IsWho word who = IsField (who_field who) × (field_text (who_field who) ≡ word)
-
-nothing : {A : Type 0} (P : A → Type 0) → Says P None
-nothing P = record { says = tt }
-
--- the parts of a form
-
-module _ {A : Type 0} where
-  -- a fixed word
-  keyed : (P : List ℕ → A → Type 0) (keyword word : List ℕ) (x y : Option A) → Says (P word) x → Says (P keyword) y
-      → Says (P keyword) (cond (bytes_eq keyword word) x y)
-  keyed P keyword word x y said other =
-      cond_both (bytes_eq keyword word) x y (Says (P keyword))
-      (λ h. subst (λ (w : List ℕ). Says (P w) x) (sym ((bytes_eq-Decides keyword word).0 h)) said) (λ _. other)
-
-  -- two fixed words
-  twice : (P : List ℕ → List ℕ → A → Type 0) (a b v w : List ℕ) (x y : Option A) → Says (P v w) x → Says (P a b) y
-      → Says (P a b) (cond (bytes_eq a v && bytes_eq b w) x y)
-  twice P a b v w x y said other =
-      let same = λ (h : (bytes_eq a v && bytes_eq b w) ≡ true).
-      let parts = and_parts _ _ h in
-      let first = (bytes_eq-Decides a v).0 parts.0 in
-      let last = (bytes_eq-Decides b w).0 parts.1 in
-      subst (λ (t : List ℕ). Says (P t b) x) (sym first) (subst (λ (t : List ℕ). Says (P v t) x) (sym last) said) in
-      cond_both (bytes_eq a v && bytes_eq b w) x y (Says (P a b)) same (λ _. other)
-
-  -- a word that spells a value
-  with_value : {V : Type 0} {fits : V → Type 0} {text : V → List ℕ} (P : A → Type 0) (word : List ℕ)
-      (found : Option V) (f : V → Option A) → Spells fits text word found
-      → ((v : V) → fits v → word ≡ text v → Says P (f v)) → Says P (option_and_then f found)
-  with_value P word None f h each = nothing P
-  with_value P word (Some v) f h each = each v h.spells.0 h.spells.1
-
-  as_value : {V : Type 0} {fits : V → Type 0} {text : V → List ℕ} (P : A → Type 0) (word : List ℕ) (found : Option V)
-      (f : V → A) → Spells fits text word found → ((v : V) → fits v → word ≡ text v → P (f v))
-      → Says P (option_map f found)
-  as_value P word None f h each = nothing P
-  as_value P word (Some v) f h each = record { says = each v h.spells.0 h.spells.1 }
-
-  number : (P : A → Type 0) (word : List ℕ) (f : ℕ → Option A)
-      → ((n : ℕ) → n < 2 ^ 32 → word ≡ dec_text n → Says P (f n)) → Says P (option_and_then f (number_in word))
-  number P word f each = with_value P word (number_in word) f (number_in-says word) each
-
-  address : (P : A → Type 0) (word : List ℕ) (f : ℕ → Option A)
-      → ((n : ℕ) → n < 2 ^ 32 → word ≡ hex8_text n → Says P (f n)) → Says P (option_and_then f (address_in word))
-  address P word f each = with_value P word (address_in word) f (address_in-says word) each
-
-  last_number : (P : A → Type 0) (word : List ℕ) (f : ℕ → A) → ((n : ℕ) → n < 2 ^ 32 → word ≡ dec_text n → P (f n))
-      → Says P (option_map f (number_in word))
-  last_number P word f each = as_value P word (number_in word) f (number_in-says word) each
-
-  last_address : (P : A → Type 0) (word : List ℕ) (f : ℕ → A) → ((n : ℕ) → n < 2 ^ 32 → word ≡ hex8_text n → P (f n))
-      → Says P (option_map f (address_in word))
-  last_address P word f each = as_value P word (address_in word) f (address_in-says word) each
-
-  named : (P : A → Type 0) (word : List ℕ) (f : List ℕ → Option A) → (is_name word ≡ true → Says P (f word))
-      → Says P (option_and_then f (name_in word))
-  named P word f each = by_test (is_name word) (λ h. each h)
-    where
-      by_test : (test : Bool) → (test ≡ true → Says P (f word))
-          → Says P (option_and_then f (cond test (Some word) None))
-      by_test true h = h refl
-      by_test false h = nothing P
-
-  told : (P : A → Type 0) (x : A) → P x → Says P (Some x)
-  told P x h = record { says = h }
 
 -- who asked
 
@@ -150,7 +78,8 @@ four-says verb word other end =
     keyed (λ v. IsWhat (v ∷ word ∷ other ∷ end ∷ [])) verb (codes "load") _ _
     (number _ word _ (λ n fits e. number _ end _ (λ m fits' e'. loaded_four-says word other end n m fits e fits' e')))
     (twice (λ v w. IsWhat (v ∷ w ∷ other ∷ end ∷ [])) verb word _ _ _ _
-    (number _ other _ (λ n fits e. number _ end _ (λ m fits' e'. told _ (RefreshVersions n m) ((tt, (tt, (fits, (fits', tt)))), rw (e, e') refl))))
+    (number _ other _ (λ n fits e. number _ end _ (λ m fits' e'.
+    told _ (RefreshVersions n m) ((tt, (tt, (fits, (fits', tt)))), rw (e, e') refl))))
     (nothing _))
 
 loaded_five-says : (word other first end : List ℕ) (n m k : ℕ) → n < 2 ^ 32 → word ≡ dec_text n → m < 2 ^ 32
@@ -159,9 +88,12 @@ loaded_five-says : (word other first end : List ℕ) (n m k : ℕ) → n < 2 ^ 3
 unfolding loaded_five
 loaded_five-says word other first end n m k fits e fits' e' fits'' e'' =
     let P = λ (w : List ℕ). IsWhat (codes "load" ∷ word ∷ w ∷ first ∷ end ∷ []) in
-    keyed P other (codes "ok") _ _ (told _ (LoadOk n m k) ((tt, (fits, (tt, (fits', (fits'', tt))))), rw (e, e', e'') refl))
-    (keyed P other (codes "verify") _ _ (told _ (LoadVerify n m k) ((tt, (fits, (tt, (fits', (fits'', tt))))), rw (e, e', e'') refl))
-    (keyed P other (codes "versions") _ _ (told _ (LoadVersions n m k) ((tt, (fits, (tt, (fits', (fits'', tt))))), rw (e, e', e'') refl))
+    keyed P other (codes "ok") _ _ (told _ (LoadOk n m k)
+    ((tt, (fits, (tt, (fits', (fits'', tt))))), rw (e, e', e'') refl))
+    (keyed P other (codes "verify") _ _ (told _ (LoadVerify n m k)
+    ((tt, (fits, (tt, (fits', (fits'', tt))))), rw (e, e', e'') refl))
+    (keyed P other (codes "versions") _ _ (told _ (LoadVersions n m k)
+    ((tt, (fits, (tt, (fits', (fits'', tt))))), rw (e, e', e'') refl))
     (nothing _)))
 
 five-says : (verb word other first end : List ℕ)
@@ -211,16 +143,21 @@ pair-says keyword word =
     (keyed P keyword (codes "stop") _ _
     (keyed (λ w. IsSaid (codes "stop" ∷ w ∷ [])) word (codes "fuel") _ _
     (told _ (line.Stop (Some Fuel)) (((tt, (tt, tt)), tt), refl)) (nothing _))
-    (keyed P keyword (codes "units") _ _ (last_number _ word line.Units (λ n fits e. (((tt, (fits, tt)), tt), rw e refl)))
-    (keyed P keyword (codes "steps") _ _ (last_number _ word line.Steps (λ n fits e. (((tt, (fits, tt)), tt), rw e refl))) (nothing _)))))
+    (keyed P keyword (codes "units") _ _ (last_number _ word line.Units
+    (λ n fits e. (((tt, (fits, tt)), tt), rw e refl)))
+    (keyed P keyword (codes "steps") _ _ (last_number _ word line.Steps
+    (λ n fits e. (((tt, (fits, tt)), tt), rw e refl))) (nothing _)))))
 
 stop-says : (word end : List ℕ) → Says (IsSaid (codes "stop" ∷ word ∷ end ∷ [])) (stop_form word end)
 unfolding stop_form
 stop-says word end =
     let P = λ (w : List ℕ). IsSaid (codes "stop" ∷ w ∷ end ∷ []) in
-    keyed P word (codes "exit") _ _ (last_number _ end (λ code. line.Stop (Some (Exit code))) (λ n fits e. (((tt, (tt, (fits, tt))), tt), rw e refl)))
-    (keyed P word (codes "halt") _ _ (last_address _ end (λ place. line.Stop (Some (Halt place))) (λ n fits e. (((tt, (tt, (fits, tt))), tt), rw e refl)))
-    (keyed P word (codes "align") _ _ (last_address _ end (λ place. line.Stop (Some (Align place))) (λ n fits e. (((tt, (tt, (fits, tt))), tt), rw e refl)))
+    keyed P word (codes "exit") _ _ (last_number _ end (λ code. line.Stop (Some (Exit code)))
+    (λ n fits e. (((tt, (tt, (fits, tt))), tt), rw e refl)))
+    (keyed P word (codes "halt") _ _ (last_address _ end (λ place. line.Stop (Some (Halt place)))
+    (λ n fits e. (((tt, (tt, (fits, tt))), tt), rw e refl)))
+    (keyed P word (codes "align") _ _ (last_address _ end (λ place. line.Stop (Some (Align place)))
+    (λ n fits e. (((tt, (tt, (fits, tt))), tt), rw e refl)))
     (nothing _)))
 
 force-says : (epoch policy : List ℕ) → Says (IsSaid (codes "force" ∷ epoch ∷ policy ∷ [])) (force_form epoch policy)
@@ -274,7 +211,8 @@ module-says : (a b c d e f : List ℕ) → Says (IsSaid (codes "module" ∷ a �
     (module_form a b c d e f)
 unfolding module_form
 module-says a b c d e f =
-    number _ a _ (λ n hn en. named _ b _ (λ is. number _ c _ (λ base hb eb. number _ d _ (λ slot hs es. address _ e _ (λ place hp ep. number _ f _ (λ policy hq eq.
+    number _ a _ (λ n hn en. named _ b _ (λ is. number _ c _ (λ base hb eb.
+    number _ d _ (λ slot hs es. address _ e _ (λ place hp ep. number _ f _ (λ policy hq eq.
     told _ (line.Module (record { number = n; name = b; base = base; slot = slot; data_base = place; policy = policy }))
     (((tt, (hn, (is, (hb, (hs, (hp, (hq, tt))))))), tt), rw (en, eb, es, ep, eq) refl)))))))
 

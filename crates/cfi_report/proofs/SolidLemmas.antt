@@ -1,6 +1,6 @@
 -- No word of a line has a space, and no line has a line feed but at its end.
 use Rattle.std.proofs.Common.{◌≡◌, ℕ, ◌/◌, ◌%◌, ◌<◌, ◌≤◌, Bool, true, false, nat_eq, nat_lt, List, [], ◌∷◌, length, map, Some, None, refl, ap, ◌∙◌, arith, length-append}
-use Rattle.std.specs.List.{list_all, join_with_byte}
+use Rattle.std.specs.List.{list_all, join_with_byte, AllByRecursion}
 use Rattle.std.proofs.lemmas.Bool.{and_parts, and_from, lt-ltb, ltb-true, ne_eqb}
 use Rattle.std.proofs.lemmas.Bool.Decides.{nat_tests}
 use Rattle.std.proofs.lemmas.List.Elements.{All-nil, All-cons, All-append}
@@ -18,7 +18,7 @@ use Rattle.cfi_unit.specs.declared.log.Stop.TheVariants.{Exit, Halt, Align, Fuel
 use Rattle.cfi_report.specs.declared.line.Line.{Line}
 use Rattle.cfi_report.specs.declared.line.Line.TheVariants as line
 use Rattle.cfi_report.specs.Line.{Field, Word, Decimal, Address, Name, Bytes, field_text, bytes_text, who_field, what_fields, line_fields, line_words, line_text}
-use Rattle.cfi_report.specs.Report.{Each, IsField, IsLine}
+use Rattle.cfi_report.specs.Report.{IsField, IsLine}
 use Rattle.cfi_report.specs.Form.{Lacks, words_in}
 
 -- each byte of the word is above a space
@@ -117,13 +117,13 @@ line-fixed line.End = refl
 abbrev IsSolid : List ℕ → Type 0
 IsSolid word = solid word ≡ true
 
-fields-solid : (fields : List Field) → Each IsField fields → list_all fixed fields ≡ true
-    → Each IsSolid (map field_text fields)
+fields-solid : (fields : List Field) → AllByRecursion IsField fields → list_all fixed fields ≡ true
+    → AllByRecursion IsSolid (map field_text fields)
 fields-solid [] h f = tt
 fields-solid (field ∷ fields) h f =
     let parts = and_parts _ _ f in (field-solid field h.0 parts.0, fields-solid fields h.1 parts.1)
 
-words-solid : (one : Line) → IsLine one → Each IsSolid (line_words one)
+words-solid : (one : Line) → IsLine one → AllByRecursion IsSolid (line_words one)
 words-solid one h = fields-solid (line_fields one) h.0 (line-fixed one)
 
 -- a solid word has no byte up to a space
@@ -135,7 +135,7 @@ lacks byte low (first ∷ word) h =
     All-cons (λ other. nat_eq other byte ≡ false) first word other (lacks byte low word parts.1)
 
 -- words that spaces part
-parted : (word : List ℕ) (words : List (List ℕ)) → Each IsSolid (word ∷ words)
+parted : (word : List ℕ) (words : List (List ℕ)) → AllByRecursion IsSolid (word ∷ words)
     → words_in (join_with_byte 32 (word ∷ words)) ≡ word ∷ words
 unfolding words_in
 parted word [] h = slice_split_none _ word (lacks 32 (omega arith) word h.0)
@@ -143,7 +143,7 @@ parted word (next ∷ words) h =
     slice_split_at _ word 32 (join_with_byte 32 (next ∷ words)) (lacks 32 (omega arith) word h.0) refl
     ∙ ap (λ (l : List (List ℕ)). word ∷ l) (parted next words h.1)
 
-no_end : (word : List ℕ) (words : List (List ℕ)) → Each IsSolid (word ∷ words)
+no_end : (word : List ℕ) (words : List (List ℕ)) → AllByRecursion IsSolid (word ∷ words)
     → Lacks 10 (join_with_byte 32 (word ∷ words))
 no_end word [] h = lacks 10 (omega arith) word h.0
 no_end word (next ∷ words) h =
@@ -152,7 +152,9 @@ no_end word (next ∷ words) h =
 
 -- the same of a line, whose first word has a byte
 
-some_words : (P : List (List ℕ) → Type 0) → ((byte : ℕ) (word : List ℕ) (words : List (List ℕ)) → P ((byte ∷ word) ∷ words)) → (one : Line) → P (line_words one)
+some_words : (P : List (List ℕ) → Type 0)
+    → ((byte : ℕ) (word : List ℕ) (words : List (List ℕ)) → P ((byte ∷ word) ∷ words)) → (one : Line)
+    → P (line_words one)
 some_words P h line.Title = h _ _ _
 some_words P h (line.Force e p) = h _ _ _
 some_words P h (line.Module one) = h _ _ _
@@ -169,12 +171,12 @@ some_words P h line.End = h _ _ _
 
 pub line_words-parted : (one : Line) → IsLine one → words_in (join_with_byte 32 (line_words one)) ≡ line_words one
 line_words-parted one h =
-    some_words (λ words. Each IsSolid words → words_in (join_with_byte 32 words) ≡ words)
+    some_words (λ words. AllByRecursion IsSolid words → words_in (join_with_byte 32 words) ≡ words)
     (λ byte word words. parted (byte ∷ word) words) one (words-solid one h)
 
 pub line_words-no_end : (one : Line) → IsLine one → Lacks 10 (join_with_byte 32 (line_words one))
 line_words-no_end one h =
-    some_words (λ words. Each IsSolid words → Lacks 10 (join_with_byte 32 words))
+    some_words (λ words. AllByRecursion IsSolid words → Lacks 10 (join_with_byte 32 words))
     (λ byte word words. no_end (byte ∷ word) words) one (words-solid one h)
 
 long : (byte : ℕ) (word : List ℕ) (words : List (List ℕ)) → 1 ≤ length (join_with_byte 32 ((byte ∷ word) ∷ words))
@@ -183,4 +185,9 @@ long byte word (next ∷ words) = omega arith
 
 -- a line has two bytes or more
 pub line_text-long : (one : Line) → 2 ≤ length (line_text one)
-line_text-long one = omega (arith, some_words (λ words. 1 ≤ length (join_with_byte 32 words)) long one, length-append (join_with_byte 32 (line_words one)) (10 ∷ []))
+line_text-long one =
+    omega (
+      arith,
+      some_words (λ words. 1 ≤ length (join_with_byte 32 words)) long one,
+      length-append (join_with_byte 32 (line_words one)) (10 ∷ []),
+    )

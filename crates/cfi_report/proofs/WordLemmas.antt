@@ -2,7 +2,7 @@
 use Rattle.std.proofs.Common.{◌≡◌, ℕ, ◌*◌, ◌^◌, ◌<◌, ◌≤◌, ◌&&◌, ◌==◌, Bool, true, false, cond, List, [], ◌∷◌, ◌++◌, length, get_or, drop, Option, Some, None, IfSome, nat_lt, refl, sym, ap, ◌∙◌, arith, append_assoc, length-append}
 use Rattle.std.proofs.lemmas.List.{append-nil}
 use Rattle.std.specs.Prelude.{codes}
-use Rattle.std.specs.List.{list_all, slice_split}
+use Rattle.std.specs.List.{list_all, slice_split, AllByRecursion}
 use Rattle.std.specs.Str.{bytes_eq}
 use Rattle.std.specs.Str.Parse.{digits_value}
 use Rattle.std.proofs.lemmas.Bool.{cond-true, cond-false, and_parts, and_from, lt-ltb, ltb-true, false_from_ne_true, false≢true}
@@ -14,7 +14,6 @@ use Rattle.cfi_text.specs.Decimal.{dec_text}
 use Rattle.cfi_text.specs.Hex.{hex_digits, hex8_text, hex_text}
 use Rattle.cfi_text.proofs.HexLemmas.{value-hex_digits, length-hex_digits}
 use Rattle.cfi_report.specs.Form.{Lacks, words_in, form_of, number_in, address_in, pair_values, is_hex, pairs_in, bytes_in}
-use Rattle.cfi_report.specs.Report.{Each}
 use Rattle.cfi_report.specs.Line.{bytes_text}
 
 -- a number below a limit, of which the word is the text
@@ -66,30 +65,33 @@ address_in-none word never = spelled-none _ _ _ _ (never (digits_value 16 word))
 
 -- bytes in two digits each
 
-pair_values-hex : (bytes : List ℕ) → Each (λ byte. byte < 256) bytes → pair_values (hex_text bytes) ≡ bytes
+pair_values-hex : (bytes : List ℕ) → AllByRecursion (λ byte. byte < 256) bytes → pair_values (hex_text bytes) ≡ bytes
 pair_values-hex [] fits = refl
 pair_values-hex (byte ∷ bytes) fits =
     let value : digits_value 16 (hex_digits 2 byte) ≡ byte = value-hex_digits 2 byte (omega (arith, fits.0)) in
     rw (value, pair_values-hex bytes fits.1) refl
 
-small : (bytes : List ℕ) → Each (λ byte. byte < 256) bytes → list_all (λ byte. nat_lt byte 256) bytes ≡ true
+small : (bytes : List ℕ) → AllByRecursion (λ byte. byte < 256) bytes → list_all (λ byte. nat_lt byte 256) bytes ≡ true
 small [] fits = refl
 small (byte ∷ bytes) fits = and_from _ _ (lt-ltb byte 256 fits.0) (small bytes fits.1)
 
-fit : (bytes : List ℕ) → list_all (λ byte. nat_lt byte 256) bytes ≡ true → Each (λ byte. byte < 256) bytes
+fit : (bytes : List ℕ) → list_all (λ byte. nat_lt byte 256) bytes ≡ true → AllByRecursion (λ byte. byte < 256) bytes
 fit [] h = tt
 fit (byte ∷ bytes) h = let parts = and_parts _ _ h in (ltb-true byte 256 parts.0, fit bytes parts.1)
 
-pub pairs_in-back : (bytes : List ℕ) → Each (λ byte. byte < 256) bytes → pairs_in (hex_text bytes) ≡ Some bytes
+pub pairs_in-back : (bytes : List ℕ) → AllByRecursion (λ byte. byte < 256) bytes
+    → pairs_in (hex_text bytes) ≡ Some bytes
 unfolding pairs_in
 pairs_in-back bytes fits =
-    rw (pair_values-hex bytes fits) (cond-true _ _ _ (and_from _ _ (small bytes fits) ((bytes_eq-Decides (hex_text bytes) (hex_text bytes)).1 refl)))
+    rw (pair_values-hex bytes fits) (cond-true _ _ _ (and_from _ _ (small bytes fits)
+    ((bytes_eq-Decides (hex_text bytes) (hex_text bytes)).1 refl)))
 
-pub pairs_in-some : (word bytes : List ℕ) → Each (λ byte. byte < 256) bytes → word ≡ hex_text bytes
+pub pairs_in-some : (word bytes : List ℕ) → AllByRecursion (λ byte. byte < 256) bytes → word ≡ hex_text bytes
     → pairs_in word ≡ Some bytes
 pairs_in-some word bytes fits text = rw text (pairs_in-back bytes fits)
 
-pub pairs_in-none : (word : List ℕ) → ((bytes : List ℕ) → Each (λ byte. byte < 256) bytes → word ≡ hex_text bytes → ⊥)
+pub pairs_in-none : (word : List ℕ) → ((bytes : List ℕ) → AllByRecursion (λ byte. byte < 256) bytes
+    → word ≡ hex_text bytes → ⊥)
     → pairs_in word ≡ None
 unfolding pairs_in
 pairs_in-none word never =
@@ -108,7 +110,7 @@ abbrev pub IsSmall : ℕ → Type 0
 IsSmall n = n < 2 ^ 32
 
 abbrev pub AreBytes : List ℕ → Type 0
-AreBytes bytes = Each (λ byte. byte < 256) bytes
+AreBytes bytes = AllByRecursion (λ byte. byte < 256) bytes
 
 module _ {V : Type 0} (fits : V → Type 0) (text : V → List ℕ) (word : List ℕ) where
   one : (test : Bool) (value : V) → (test ≡ true → fits value × (word ≡ text value))

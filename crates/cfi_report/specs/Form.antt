@@ -128,7 +128,8 @@ unfoldable pub pair_form : (keyword word : List ℕ) → Option Line
 pair_form keyword word =
     if bytes_eq keyword (codes "report") then (if bytes_eq word (codes "1") then Some line.Title else None)
     else (if bytes_eq keyword (codes "out") then option_map line.Out (bytes_in word)
-    else (if bytes_eq keyword (codes "stop") then (if bytes_eq word (codes "fuel") then Some (line.Stop (Some Fuel)) else None)
+    else (if bytes_eq keyword (codes "stop")
+    then (if bytes_eq word (codes "fuel") then Some (line.Stop (Some Fuel)) else None)
     else (if bytes_eq keyword (codes "units") then option_map line.Units (number_in word)
     else (if bytes_eq keyword (codes "steps") then option_map line.Steps (number_in word)
     else None))))

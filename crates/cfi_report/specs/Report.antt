@@ -1,6 +1,6 @@
 -- A report's text: its lines in order. Which reports there are, and the first line of a text from which on it is none.
 use Rattle.std.specs.Prelude.{◌≡◌, ℕ, ◌-◌, ◌^◌, ◌<◌, ◌≤◌, Bool, true, not, ◌==◌, ⊤, List, [], ◌∷◌, ◌++◌, length, take, map, None, Result, Ok, Err}
-use Rattle.std.specs.List.{flat_map}
+use Rattle.std.specs.List.{flat_map, AllByRecursion}
 use Rattle.cfi_text.specs.Names.{is_name}
 use Rattle.cfi_unit.specs.declared.log.Log.{Log}
 use Rattle.cfi_unit.specs.declared.log.Log.TheVariants.{Pick}
@@ -36,18 +36,13 @@ lines_text lines = flat_map line_text lines
 abbrev pub text_of : Report → List ℕ
 text_of report = lines_text (lines_of report)
 
--- the fact holds of each item
-abbrev pub Each : {A : Type 0} → (A → Type 0) → List A → Type 0
-Each P [] = ⊤
-Each P (item ∷ items) = P item × Each P items
-
 -- a number has 32 bits, a byte has 8, and a name is one
 abbrev pub IsField : Field → Type 0
 IsField (Word word) = ⊤
 IsField (Decimal number) = number < 2 ^ 32
 IsField (Address address) = address < 2 ^ 32
 IsField (Name name) = is_name name ≡ true
-IsField (Bytes bytes) = Each (λ byte. byte < 256) bytes
+IsField (Bytes bytes) = AllByRecursion (λ byte. byte < 256) bytes
 
 -- a pick counts one check or more, and a guest has stopped
 abbrev pub MayStand : Line → Type 0
@@ -57,7 +52,7 @@ MayStand _ = ⊤
 
 -- what may stand on a line
 abbrev pub IsLine : Line → Type 0
-IsLine one = Each IsField (line_fields one) × MayStand one
+IsLine one = AllByRecursion IsField (line_fields one) × MayStand one
 
 -- two picks of one policy are one
 abbrev pub differ : Log → Log → Bool
@@ -72,8 +67,8 @@ AreApart (entry ∷ next ∷ log) = (differ entry next ≡ true) × AreApart (ne
 
 -- a report that is written so, and read: what its lines say may stand there, and adjacent picks of a guest differ
 pub record IsReport (report : Report) : Type 0 where
-  pub lines : Each IsLine (lines_of report)
-  pub apart : Each (λ (guest : GuestPart). AreApart guest.log) report.guests
+  pub lines : AllByRecursion IsLine (lines_of report)
+  pub apart : AllByRecursion (λ (guest : GuestPart). AreApart guest.log) report.guests
 
 -- the text begins with the report's first n lines, of which there are so many
 pub record BeginsAs (text : List ℕ) (n : ℕ) (report : Report) : Type 0 where

@@ -1,5 +1,5 @@
-ghost use Rattle.std.specs.Prelude.{◌≡◌, OnOk, [], ◌∷◌, ◌++◌};
-ghost use Rattle.cfi_report.specs.Draft.{Draft as Said, empty, report_of, with_line, part_of};
+ghost use Rattle.std.specs.Prelude.{◌≡◌, OnOk};
+ghost use Rattle.cfi_report.specs.Draft.{Draft as Said, empty, report_of, with_line};
 
 use crate::line::Line;
 use crate::report::{GuestPart, Report};

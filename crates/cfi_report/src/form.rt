@@ -1,4 +1,4 @@
-ghost use Rattle.std.specs.Prelude.{◌≡◌, [], ◌∷◌, IfOk};
+ghost use Rattle.std.specs.Prelude.{◌≡◌, IfOk};
 ghost use Rattle.cfi_report.specs.Form.{words_in, form_of, lone_form, pair_form, three_form, force_form, guest_form, pick_form, stop_form, four_form, opened_form, seven_form, module_form};
 
 use crate::journal::{journal, what_five, what_four, what_three, what_two};

@@ -1,4 +1,4 @@
-ghost use Rattle.std.specs.Prelude.{◌≡◌, ℕ, ◌^◌, ◌<◌, ◌++◌, ◌∷◌, List, length, IfOk, IfErr, IfSome, IfNone, OnSome};
+ghost use Rattle.std.specs.Prelude.{◌≡◌, ◌^◌, ◌<◌, length, IfOk, IfErr, IfSome, IfNone};
 ghost use Rattle.cfi_report.specs.Next.{IsNext, HasNoNext};
 ghost use Rattle.cfi_report.specs.Report.{text_of, IsReport, IsCause, Gives};
 

@@ -1,9 +1,7 @@
 ghost use Rattle.std.specs.Prelude.{◌≡◌, ◌++◌, ◌∷◌, [], OnOk, Option, Some, codes};
-ghost use Rattle.std.specs.List.{join_with_byte};
-ghost use Rattle.cfi_text.specs.Decimal.{dec_text};
 ghost use Rattle.cfi_unit.specs.declared.log.Log.TheVariants.{Pick, Open, Cause};
 ghost use Rattle.cfi_report.specs.declared.line.Line.TheVariants as line;
-ghost use Rattle.cfi_report.specs.Line.{line_text, who_field, what_fields, log_fields, stop_fields, field_text, spaced, Word, Decimal};
+ghost use Rattle.cfi_report.specs.Line.{line_text, who_field, what_fields, stop_fields, field_text, spaced, Word, Decimal};
 
 use crate::put::{put, put_address, put_bytes, put_end, put_number, put_word};
 use cfi_plan::{Entry, JournalLine, Who};

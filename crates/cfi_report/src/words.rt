@@ -1,8 +1,7 @@
-ghost use Rattle.std.specs.Prelude.{◌≡◌, ℕ, ◌+◌, ◌<◌, ◌++◌, ◌∷◌, [], length, IfOk, IfSome, IfNone, MatchOption, Option};
+ghost use Rattle.std.specs.Prelude.{◌≡◌, ℕ, ◌+◌, ◌<◌, ◌++◌, ◌∷◌, [], IfOk, IfSome, IfNone, MatchOption, Option};
 ghost use Rattle.std.specs.List.{position};
-ghost use Rattle.cfi_text.specs.Hex.{hex_digits, hex_text};
+ghost use Rattle.cfi_text.specs.Hex.{hex_digits};
 ghost use Rattle.cfi_report.specs.Form.{Lacks, words_in, number_in, address_in, pairs_in, bytes_in};
-ghost use Rattle.cfi_report.specs.Report.{Each};
 
 use cfi_text::{read_dec, read_hex_digit, read_hex8};
 use cfi_unit::Bytes;
@@ -87,7 +86,8 @@ fn pairs(alloc: Global, word: &[u8]) -> Result<Option<Bytes>, AllocError>
 // The byte of two digits.
 fn pair(high: u8, low: u8) -> Option<u8>
     ensures some { IfSome result (λ byte. hex_digits 2 byte ≡ high ∷ low ∷ []) }
-    ensures only { (byte : ℕ) → byte < 256 → hex_digits 2 byte ≡ high ∷ low ∷ [] → result ≡ Some byte }
+    ensures only { (byte : ℕ) → byte < 256 → hex_digits 2 byte ≡ high ∷ low ∷ [] →
+        result ≡ Some byte }
 {
     let high = read_hex_digit(high)?;
     let low = read_hex_digit(low)?;

@@ -65,7 +65,8 @@ module _ (nodes xs ys : List Node) (s r : ℕ) (left : StandsAt nodes xs s) (rig
         moved.0,
         sym (shifted_numbers s x) ∙ moved.1 ∙ shifted_numbers r y,
         all_zip_within (length xs) (length ys) (λ c e. Same d nodes (s + c) nodes (r + e)) (λ c e. Same d xs c ys e)
-            (table_same d) (nodes_of x) (nodes_of y) (names_below xs a left.closed la) (names_below ys b right.closed lb)
+            (table_same d) (nodes_of x) (nodes_of y) (names_below xs a left.closed la)
+            (names_below ys b right.closed lb)
             (all_zip_from_maps (λ c e. Same d nodes c nodes e) (λ k. s + k) (λ k. r + k) (nodes_of x)
             (nodes_of y) maps),
       )

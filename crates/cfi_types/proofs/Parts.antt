@@ -12,10 +12,10 @@ use Rattle.cfi_types.specs.Reading.{◌>>=◌, unless_bad, Fails, word_at}
 abbrev pub IsBytes : List ℕ → Type 0
 IsBytes bytes = (i : ℕ) → get_or bytes i 0 < 256
 
-IsBytes-drop : (n : ℕ) (bytes : List ℕ) → IsBytes bytes → IsBytes (drop n bytes)
+pub IsBytes-drop : (n : ℕ) (bytes : List ℕ) → IsBytes bytes → IsBytes (drop n bytes)
 IsBytes-drop n bytes h i = rw get_or-drop (h (n + i))
 
-IsBytes-take : (n : ℕ) (bytes : List ℕ) → IsBytes bytes → IsBytes (take n bytes)
+pub IsBytes-take : (n : ℕ) (bytes : List ℕ) → IsBytes bytes → IsBytes (take n bytes)
 IsBytes-take n bytes h i =
     elim (cases_lt i n) [
       | inl lt ↦ rw (get_or-take n bytes i 0 lt) (h i)
@@ -49,24 +49,24 @@ pub Takes-then : (a x b y c : List ℕ) → Takes a x b → Takes b y c → Take
 Takes-then a x b y c p q =
     record { parts = p.parts ∙ ap (λ (t : List ℕ). x ++ t) q.parts ∙ sym (append_assoc x y c); rest_fits = q.rest_fits }
 
-guard_ok : {A : Type 0} (b : Bool) (d : TypeFault) (x y : A) → cond b (Err d) (Ok x) ≡ Ok y → (b ≡ false) × (x ≡ y)
+guard_ok : {A E : Type 0} (b : Bool) (d : E) (x y : A) → cond b (Err d) (Ok x) ≡ Ok y → (b ≡ false) × (x ≡ y)
 guard_ok true d x y e = absurd cc
 guard_ok false d x y e = (refl, cc)
 
--- a number of some width, as `word_at` reads one of four bytes
-abbrev number_at : Width → List ℕ → Result (ℕ × List ℕ) TypeFault
-number_at w bytes =
-    cond (ltb (length bytes) (byte_len w)) (Err Short)
+-- a number of some width, as `word_at` reads one of four bytes; the fault where bytes are missing is any
+abbrev pub number_at : {E : Type 0} → (short : E) → Width → List ℕ → Result (ℕ × List ℕ) E
+number_at short w bytes =
+    cond (ltb (length bytes) (byte_len w)) (Err short)
     (Ok (from_le_bytes w (take (byte_len w) bytes), drop (byte_len w) bytes))
 
-record IsWide (w : Width) (limit : ℕ) : Type 0 where
+pub record IsWide (w : Width) (limit : ℕ) : Type 0 where
   pub len : (n : ℕ) → length (to_le_bytes w n) ≡ byte_len w
   pub back : (bytes : List ℕ) → length bytes ≡ byte_len w → IsBytes bytes
       → to_le_bytes w (from_le_bytes w bytes) ≡ bytes
   pub again : (n : ℕ) → n < limit → from_le_bytes w (to_le_bytes w n) ≡ n
   pub below : (bytes : List ℕ) → IsBytes bytes → from_le_bytes w bytes < limit
 
-wide32 : IsWide w32 (2 ^ 32)
+pub wide32 : IsWide w32 (2 ^ 32)
 wide32 = record {
   len = λ n. refl;
   back = λ bytes len fits. le_bytes_4 bytes _ len fits refl;
@@ -74,10 +74,11 @@ wide32 = record {
   below = λ bytes fits. omega (arith, fits 0, fits 1, fits 2, fits 3);
 }
 
-number_takes : (w : Width) (limit : ℕ) (wide : IsWide w limit) (bytes : List ℕ) (n : ℕ) (rest : List ℕ)
-    → IsBytes bytes → number_at w bytes ≡ Ok (n, rest) → Takes bytes (to_le_bytes w n) rest × (n < limit)
-number_takes w limit wide bytes n rest fits e =
-    let g = guard_ok (ltb (length bytes) (byte_len w)) Short
+pub number_takes : {E : Type 0} (short : E) (w : Width) (limit : ℕ) (wide : IsWide w limit) (bytes : List ℕ) (n : ℕ)
+    (rest : List ℕ) → IsBytes bytes → number_at short w bytes ≡ Ok (n, rest)
+    → Takes bytes (to_le_bytes w n) rest × (n < limit)
+number_takes short w limit wide bytes n rest fits e =
+    let g = guard_ok (ltb (length bytes) (byte_len w)) short
     (from_le_bytes w (take (byte_len w) bytes), drop (byte_len w) bytes) (n, rest) e in
     let long : byte_len w ≤ length bytes = ltb-false _ _ g.0 in
     let n-is : from_le_bytes w (take (byte_len w) bytes) ≡ n = ap (λ (p : ℕ × List ℕ). p.0) g.1 in
@@ -94,9 +95,9 @@ number_takes w limit wide bytes n rest fits e =
       rw (← n-is) (wide.below (take (byte_len w) bytes) (IsBytes-take (byte_len w) bytes fits)),
     )
 
-number_again : (w : Width) (limit : ℕ) (wide : IsWide w limit) (n : ℕ) (rest : List ℕ) → n < limit
-    → number_at w (to_le_bytes w n ++ rest) ≡ Ok (n, rest)
-number_again w limit wide n rest lt =
+pub number_again : {E : Type 0} (short : E) (w : Width) (limit : ℕ) (wide : IsWide w limit) (n : ℕ) (rest : List ℕ)
+    → n < limit → number_at short w (to_le_bytes w n ++ rest) ≡ Ok (n, rest)
+number_again short w limit wide n rest lt =
     let len = wide.len n in
     let long : ltb (length (to_le_bytes w n ++ rest)) (byte_len w) ≡ false =
     le-ltb _ _ (omega (arith, length-append (to_le_bytes w n) rest)) in
@@ -109,10 +110,10 @@ number_again w limit wide n rest lt =
 
 pub word_takes : (bytes : List ℕ) (n : ℕ) (rest : List ℕ) → IsBytes bytes → word_at bytes ≡ Ok (n, rest)
     → Takes bytes (word n) rest × (n < 2 ^ 32)
-word_takes bytes n rest fits e = number_takes w32 (2 ^ 32) wide32 bytes n rest fits e
+word_takes bytes n rest fits e = number_takes Short w32 (2 ^ 32) wide32 bytes n rest fits e
 
 pub word_again : (n : ℕ) (rest : List ℕ) → n < 2 ^ 32 → word_at (word n ++ rest) ≡ Ok (n, rest)
-word_again n rest lt = number_again w32 (2 ^ 32) wide32 n rest lt
+word_again n rest lt = number_again Short w32 (2 ^ 32) wide32 n rest lt
 
 -- ---- one after the other
 

@@ -1,8 +1,7 @@
 //! Refines one class of all nodes until it stands still.
 
-ghost use Rattle.std.specs.Prelude.{◌≡◌, ◌↔◌, ℕ, ◌<◌, ◌^◌, length, vec_len, slice_index, IfOk};
-ghost use Rattle.cfi_types.specs.Same.{Equal};
-ghost use Rattle.cfi_types.specs.Splitting.{IsClosed, IsLow};
+ghost use Rattle.std.specs.Prelude.{◌<◌, ◌^◌, length, IfOk};
+ghost use Rattle.cfi_types.specs.Splitting.{IsClosed};
 ghost use Rattle.cfi_types.specs.Refining.{AreLeaders};
 
 use crate::node::TypeNode;

@@ -16,7 +16,8 @@ use Rattle.elf_read.specs.declared.fault.Limit.TheVariants.{Sections, Symbols, R
 none_first : (test : ℕ → Bool) (count k : ℕ) → IsNone test count → IsFirst test count k → ⊥
 none_first test count k none first = both_ways (test k) (none k first.within) first.here
 
-none_rela : (bytes : List ℕ) (test : ℕ → ℕ → Bool) (k s i : ℕ) → IsNoRela bytes test (section_count bytes) → IsFirstRela bytes test k s i → ⊥
+none_rela : (bytes : List ℕ) (test : ℕ → ℕ → Bool) (k s i : ℕ) → IsNoRela bytes test (section_count bytes)
+    → IsFirstRela bytes test k s i → ⊥
 none_rela bytes test k s i none first = both_ways (test s i) (none s first.within i first.first.within) first.first.here
 
 not_short : (bytes : List ℕ) (offset : ℕ) → IsSound bytes → IsShort bytes offset → ⊥
@@ -83,9 +84,17 @@ one_object bytes a b is_a is_b =
     let relocs = is_a.relocs ∙ sym is_b.relocs in
     let types = is_a.types ∙ sym is_b.types in
     let records = is_a.records ∙ sym is_b.records in
-    λ i. record { text = text i; static_data = static_data i; symbols = symbols i; relocs = relocs i; types = types i; records = records i }
+    λ i. record {
+      text = text i;
+      static_data = static_data i;
+      symbols = symbols i;
+      relocs = relocs i;
+      types = types i;
+      records = records i;
+    }
 
 -- an answer that has these clauses is the object that there is, unless memory ran out
-pub only_answer : (bytes : List ℕ) (r : Result Object ElfFault) → IfOk r (IsObject bytes) → IfErr r (IsFirstFault bytes) → (object : Object) → IsObject bytes object → (r ≡ Ok object) ⊎ (r ≡ Err Memory)
+pub only_answer : (bytes : List ℕ) (r : Result Object ElfFault) → IfOk r (IsObject bytes)
+    → IfErr r (IsFirstFault bytes) → (object : Object) → IsObject bytes object → (r ≡ Ok object) ⊎ (r ≡ Err Memory)
 only_answer bytes (Ok found) ok fault object is = inl (ap (λ x. Ok x) (one_object bytes found object ok.kept is.kept))
 only_answer bytes (Err f) ok fault object is = inr (ap (λ x. Err x) (only_memory bytes f is.sound fault))

@@ -66,7 +66,8 @@ data_end-later bytes k (suc more) =
     let same : k + suc more ≡ suc (k + more) = omega arith in
     rw same (omega (arith, later, next))
 
-pub data_end-part : (bytes : List ℕ) (k count : ℕ) → k < count → is_data bytes k ≡ true → data_start bytes k + (section_at bytes k).size ≤ data_end bytes count
+pub data_end-part : (bytes : List ℕ) (k count : ℕ) → k < count → is_data bytes k ≡ true
+    → data_start bytes k + (section_at bytes k).size ≤ data_end bytes count
 data_end-part bytes k count lt is =
     let end : data_end bytes (suc k) ≡ data_start bytes k + (section_at bytes k).size = rw is refl in
     let later = data_end-later bytes (suc k) (count - suc k) in
@@ -75,14 +76,16 @@ data_end-part bytes k count lt is =
     omega (arith, end, within)
 
 -- a loaded section is text or data
-pub loaded_cases : (bytes : List ℕ) (k : ℕ) → is_loaded bytes k ≡ true → is_text bytes k ≡ false → is_data bytes k ≡ true
+pub loaded_cases : (bytes : List ℕ) (k : ℕ) → is_loaded bytes k ≡ true → is_text bytes k ≡ false
+    → is_data bytes k ≡ true
 unfolding is_text is_data
 loaded_cases bytes k loaded other =
     let flag : has_flag (section_at bytes k) EXECINSTR ≡ false = rw loaded at other in
     rw (loaded, flag) refl
 
 -- within the limits, a loaded section ends before 524288
-pub start-small : (bytes : List ℕ) (k : ℕ) → IsSound bytes → k < section_count bytes → is_loaded bytes k ≡ true → start_of bytes k + (section_at bytes k).size ≤ 524288
+pub start-small : (bytes : List ℕ) (k : ℕ) → IsSound bytes → k < section_count bytes → is_loaded bytes k ≡ true
+    → start_of bytes k + (section_at bytes k).size ≤ 524288
 unfolding start_of text_size
 start-small bytes k sound within loaded = ⊎_elim
     (λ is.

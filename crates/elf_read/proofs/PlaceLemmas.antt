@@ -3,7 +3,8 @@ use Rattle.std.proofs.Common.{◌≡◌, ◌+◌, ◌-◌, ◌<◌, ℕ, zero, s
 use Rattle.elf_read.specs.Places.{first_from, first_where}
 
 -- past numbers that do not pass, the first is the first from there on
-pub first_from-past : (test : ℕ → Bool) (at more left : ℕ) → ((j : ℕ) → j < at + more → test j ≡ false) → first_from test at (more + left) ≡ first_from test (at + more) left
+pub first_from-past : (test : ℕ → Bool) (at more left : ℕ) → ((j : ℕ) → j < at + more → test j ≡ false)
+    → first_from test at (more + left) ≡ first_from test (at + more) left
 first_from-past test at zero left none =
     let place : at + 0 ≡ at = omega arith in
     let rest : 0 + left ≡ left = omega arith in
@@ -17,7 +18,8 @@ first_from-past test at (suc more) left none =
     rw (count, here, next, place) refl
 
 -- the first that passes is where it stands
-pub first_where-is : (test : ℕ → Bool) (count k : ℕ) → k < count → test k ≡ true → ((j : ℕ) → j < k → test j ≡ false) → first_where test count ≡ k
+pub first_where-is : (test : ℕ → Bool) (count k : ℕ) → k < count → test k ≡ true
+    → ((j : ℕ) → j < k → test j ≡ false) → first_where test count ≡ k
 unfolding first_where
 first_where-is test count k within here before =
     let left : ℕ = count - k - 1 in
@@ -27,7 +29,8 @@ first_where-is test count k within here before =
     rw (split, past, none, here) refl
 
 -- where none passes, it is the count
-pub first_where-none : (test : ℕ → Bool) (count : ℕ) → ((j : ℕ) → j < count → test j ≡ false) → first_where test count ≡ count
+pub first_where-none : (test : ℕ → Bool) (count : ℕ) → ((j : ℕ) → j < count → test j ≡ false)
+    → first_where test count ≡ count
 unfolding first_where
 first_where-none test count before =
     let past = first_from-past test 0 count 0 (λ j h. before j (omega arith)) in

@@ -20,7 +20,8 @@ rela_there bytes s some = ⊎_elim
     (cases_Bool (is_rela bytes s))
 
 -- and changes a loaded section that is there
-pub rela_target : (bytes : List ℕ) (s : ℕ) → is_rela bytes s ≡ true → ((section_at bytes s).info < section_count bytes) × (is_loaded bytes (section_at bytes s).info ≡ true)
+pub rela_target : (bytes : List ℕ) (s : ℕ) → is_rela bytes s ≡ true
+    → ((section_at bytes s).info < section_count bytes) × (is_loaded bytes (section_at bytes s).info ≡ true)
 unfolding is_rela
 rela_target bytes s is =
     let parts = and_parts _ (is_loaded bytes (section_at bytes s).info) is in
@@ -28,17 +29,22 @@ rela_target bytes s is =
     (ltb-true _ _ kinds.1, parts.1)
 
 -- the contents of a kept section that the file has are in it
-pub contents_within : (bytes : List ℕ) (k : ℕ) → HasSections bytes → k < section_count bytes → is_kept bytes k ≡ true → ((section_at bytes k).kind == NOBITS) ≡ false
+pub contents_within : (bytes : List ℕ) (k : ℕ) → HasSections bytes → k < section_count bytes
+    → is_kept bytes k ≡ true → ((section_at bytes k).kind == NOBITS) ≡ false
     → (section_at bytes k).offset + (section_at bytes k).size ≤ length bytes
 unfolding is_short
 contents_within bytes k sections within kept stored =
     let section = section_at bytes k in
     let whole = sections.contents.whole k within in
     let here : (is_kept bytes k && not (section.kind == NOBITS)) ≡ true = rw (kept, stored) refl in
-    let inside = and_false (is_kept bytes k && not (section.kind == NOBITS)) (nat_lt (length bytes) (section.offset + section.size)) here whole in
+    let inside =
+    and_false (is_kept bytes k && not (section.kind == NOBITS)) (nat_lt (length bytes)
+    (section.offset + section.size)) here whole in
     ltb-false _ _ inside
 
-pub length-contents : (bytes : List ℕ) (k : ℕ) → (section_at bytes k).offset + (section_at bytes k).size ≤ length bytes → length (contents bytes k) ≡ (section_at bytes k).size
+pub length-contents : (bytes : List ℕ) (k : ℕ)
+    → (section_at bytes k).offset + (section_at bytes k).size ≤ length bytes
+    → length (contents bytes k) ≡ (section_at bytes k).size
 unfolding contents
 length-contents bytes k within =
     let section = section_at bytes k in
@@ -47,7 +53,8 @@ length-contents bytes k within =
     omega (arith, cut, rest)
 
 -- a section with kept relocations is kept, and is no NOBITS
-rela_stored : (bytes : List ℕ) (s : ℕ) → is_rela bytes s ≡ true → (is_kept bytes s ≡ true) × (((section_at bytes s).kind == NOBITS) ≡ false)
+rela_stored : (bytes : List ℕ) (s : ℕ) → is_rela bytes s ≡ true
+    → (is_kept bytes s ≡ true) × (((section_at bytes s).kind == NOBITS) ≡ false)
 unfolding is_rela is_kept
 rela_stored bytes s is =
     let parts = and_parts _ (is_loaded bytes (section_at bytes s).info) is in
@@ -56,7 +63,8 @@ rela_stored bytes s is =
     (or_true _ (is_rela bytes s) is, rw kind refl)
 
 -- the entries of a section are in the file
-pub relas_within : (bytes : List ℕ) (s : ℕ) → HasSections bytes → s < section_count bytes → 12 * rela_count bytes s ≤ length (contents bytes s)
+pub relas_within : (bytes : List ℕ) (s : ℕ) → HasSections bytes → s < section_count bytes
+    → 12 * rela_count bytes s ≤ length (contents bytes s)
 unfolding rela_count
 relas_within bytes s sections within = ⊎_elim
     (λ there.
@@ -71,7 +79,8 @@ relas_within bytes s sections within = ⊎_elim
     (cases_Bool (is_rela bytes s))
 
 -- no section has more entries than fit the file
-pub rela_count-le : (bytes : List ℕ) (s : ℕ) → HasSections bytes → s < section_count bytes → rela_count bytes s ≤ length bytes / 12
+pub rela_count-le : (bytes : List ℕ) (s : ℕ) → HasSections bytes → s < section_count bytes
+    → rela_count bytes s ≤ length bytes / 12
 unfolding rela_count
 rela_count-le bytes s sections within = ⊎_elim
     (λ there.
@@ -85,7 +94,8 @@ rela_count-le bytes s sections within = ⊎_elim
     (cases_Bool (is_rela bytes s))
 
 -- nor have all of them
-relas_before-le : (bytes : List ℕ) (s : ℕ) → HasSections bytes → s ≤ section_count bytes → relas_before bytes s ≤ s * (length bytes / 12)
+relas_before-le : (bytes : List ℕ) (s : ℕ) → HasSections bytes → s ≤ section_count bytes
+    → relas_before bytes s ≤ s * (length bytes / 12)
 relas_before-le bytes zero sections within = omega arith
 relas_before-le bytes (suc s) sections within =
     let before = relas_before-le bytes s sections (omega arith) in
@@ -93,7 +103,8 @@ relas_before-le bytes (suc s) sections within =
     omega arith
 
 -- so their numbers are below 2 ^ 32
-pub relas-small : (bytes : List ℕ) (s : ℕ) → HasSections bytes → s < section_count bytes → length bytes ≤ 50331647 → relas_before bytes s + rela_count bytes s < 2 ^ 32
+pub relas-small : (bytes : List ℕ) (s : ℕ) → HasSections bytes → s < section_count bytes → length bytes ≤ 50331647
+    → relas_before bytes s + rela_count bytes s < 2 ^ 32
 relas-small bytes s sections within small =
     let all = relas_before-le bytes (suc s) sections (omega arith) in
     let each : length bytes / 12 ≤ 4194303 = omega arith in

@@ -10,7 +10,8 @@ use Rattle.elf_read.specs.declared.section.TheConstants.{SYMTAB, STRTAB, CFI_TYP
 use Rattle.elf_read.specs.declared.symbol.TheConstants.{SYMBOL_SIZE}
 
 -- a first place that is there passes the test
-pub first_from-passes : (test : ℕ → Bool) (at left : ℕ) → first_from test at left < at + left → test (first_from test at left) ≡ true
+pub first_from-passes : (test : ℕ → Bool) (at left : ℕ) → first_from test at left < at + left
+    → test (first_from test at left) ≡ true
 first_from-passes test at zero lt = absurd (omega arith)
 first_from-passes test at (suc left) lt = ⊎_elim
     (λ yes.
@@ -22,7 +23,8 @@ first_from-passes test at (suc left) lt = ⊎_elim
     rw past (first_from-passes test (at + 1) left within))
     (cases_Bool (test at))
 
-pub first_where-passes : (test : ℕ → Bool) (count : ℕ) → first_where test count < count → test (first_where test count) ≡ true
+pub first_where-passes : (test : ℕ → Bool) (count : ℕ) → first_where test count < count
+    → test (first_where test count) ≡ true
 unfolding first_where
 first_where-passes test count lt = first_from-passes test 0 count (omega arith)
 
@@ -69,22 +71,35 @@ good_section bytes k h =
     let upto_c = or_false (a || b || c) d upto_d.0 in
     let upto_b = or_false (a || b) c upto_c.0 in
     let upto_a = or_false a b upto_b.0 in
-    record { refused = upto_a.0; text = upto_a.1; alignment = upto_b.1; types = upto_c.1; records = upto_d.1; table = upto_e.1; target = upto_f.1; rela = upto_g.1 }
+    record {
+      refused = upto_a.0;
+      text = upto_a.1;
+      alignment = upto_b.1;
+      types = upto_c.1;
+      records = upto_d.1;
+      table = upto_e.1;
+      target = upto_f.1;
+      rela = upto_g.1;
+    }
 
 -- the symbol table of good sections links to a table of names
-pub symbol_link : (bytes : List ℕ) → HasSections bytes → has_symbols bytes ≡ true → has_kind bytes STRTAB (section_at bytes (symbol_table bytes)).link ≡ true
+pub symbol_link : (bytes : List ℕ) → HasSections bytes → has_symbols bytes ≡ true
+    → has_kind bytes STRTAB (section_at bytes (symbol_table bytes)).link ≡ true
 unfolding is_bad_symbol_table
 symbol_link bytes sections some =
     let table = symbol_table bytes in
     let section = section_at bytes table in
     let within : table < section_count bytes = ltb-true _ _ some in
-    let kind : (section.kind == SYMTAB) ≡ true = first_where-passes (λ k. (section_at bytes k).kind == SYMTAB) (section_count bytes) within in
+    let kind : (section.kind == SYMTAB) ≡ true =
+    first_where-passes (λ k. (section_at bytes k).kind == SYMTAB) (section_count bytes) within in
     let good = (good_section bytes table (sections.good table within)).table in
-    let parts = and_false _ (not (section.size % SYMBOL_SIZE == 0) || not (has_kind bytes STRTAB section.link)) kind good in
+    let parts =
+    and_false _ (not (section.size % SYMBOL_SIZE == 0) || not (has_kind bytes STRTAB section.link)) kind good in
     not-false _ ((or_false _ (not (has_kind bytes STRTAB section.link)) parts).1)
 
 -- so its names are in a section that is there
-pub symbol_link-within : (bytes : List ℕ) → HasSections bytes → has_symbols bytes ≡ true → (section_at bytes (symbol_table bytes)).link < section_count bytes
+pub symbol_link-within : (bytes : List ℕ) → HasSections bytes → has_symbols bytes ≡ true
+    → (section_at bytes (symbol_table bytes)).link < section_count bytes
 symbol_link-within bytes sections some =
     let kind = symbol_link bytes sections some in
     ltb-true _ _ ((and_parts _ _ kind).0)

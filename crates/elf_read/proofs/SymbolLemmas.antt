@@ -9,14 +9,17 @@ use Rattle.elf_read.specs.Symbol.{is_well_named, stored_name, symbol_at, symbol_
 use Rattle.elf_read.proofs.SectionLemmas.{or_false}
 
 -- a name is well formed where its end, its length and its bytes are
-pub well_named : (bytes : List ℕ) (k : ℕ) (from text : List ℕ) → from ≡ drop (symbol_at bytes k).name (symbol_names bytes) → list_any (λ byte. byte == 0) from ≡ true
+pub well_named : (bytes : List ℕ) (k : ℕ) (from text : List ℕ)
+    → from ≡ drop (symbol_at bytes k).name (symbol_names bytes) → list_any (λ byte. byte == 0) from ≡ true
     → text ≡ before_first (λ byte. byte == 0) from → length text ≤ 255 → IsUtf8 text → is_well_named bytes k ≡ true
 unfolding is_well_named stored_name
 well_named bytes k from text stands ends is short valid =
     let name : text ≡ stored_name bytes k = rw (← stands) is in
-    let ended : list_any (λ byte. byte == 0) (drop (symbol_at bytes k).name (symbol_names bytes)) ≡ true = rw (← stands) ends in
+    let ended : list_any (λ byte. byte == 0) (drop (symbol_at bytes k).name (symbol_names bytes)) ≡ true =
+    rw (← stands) ends in
     let short_name : nat_le (length (stored_name bytes k)) 255 ≡ true = rw (← name) (le-leb _ _ short) in
-    let valid_name : (utf8_valid_len (stored_name bytes k) == length (stored_name bytes k)) ≡ true = rw (← name) (eq-eqb _ _ (utf8_valid_len-IsUtf8 text valid)) in
+    let valid_name : (utf8_valid_len (stored_name bytes k) == length (stored_name bytes k)) ≡ true =
+    rw (← name) (eq-eqb _ _ (utf8_valid_len-IsUtf8 text valid)) in
     and_from _ _ (and_from _ _ ended short_name) valid_name
 
 -- a symbol breaks none of the rules
@@ -43,7 +46,14 @@ good_symbol bytes k h =
     let upto_c = or_false (a || b || c) d upto_d.0 in
     let upto_b = or_false (a || b) c upto_c.0 in
     let upto_a = or_false a b upto_b.0 in
-    record { info = upto_a.0; place = upto_a.1; name = not-false _ upto_b.1; named = upto_c.1; defined = upto_d.1; value = upto_e.1 }
+    record {
+      info = upto_a.0;
+      place = upto_a.1;
+      name = not-false _ upto_b.1;
+      named = upto_c.1;
+      defined = upto_d.1;
+      value = upto_e.1;
+    }
 
 -- a look-up finds what was there, or what was put there
 pub looked_up : (b : Bool) (old : Option ℕ) (x : ℕ) → is_some (cond b (Some x) old) ≡ (is_some old || b)

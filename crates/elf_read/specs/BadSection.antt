@@ -12,7 +12,8 @@ use Rattle.elf_read.specs.declared.relocation.TheConstants.{RELA_SIZE}
 unfoldable pub is_refused : List ℕ → (k : ℕ) → Bool
 is_refused bytes k =
     let section = section_at bytes k in
-    has_flag section ALLOC && (has_flag section TLS || (nat_le INIT_ARRAY section.kind && nat_le section.kind PREINIT_ARRAY))
+    has_flag section ALLOC
+    && (has_flag section TLS || (nat_le INIT_ARRAY section.kind && nat_le section.kind PREINIT_ARRAY))
 
 -- it is text without bytes in the file, or not of whole words
 unfoldable pub is_bad_text : List ℕ → (k : ℕ) → Bool
@@ -41,14 +42,16 @@ unfoldable pub is_bad_target : List ℕ → (k : ℕ) → Bool
 is_bad_target bytes k =
     let section = section_at bytes k in
     nat_lt section.info (section_count bytes)
-    && (((section.kind == RELA || section.kind == REL) && (is_types bytes section.info || is_records bytes section.info))
+    && (((section.kind == RELA || section.kind == REL)
+    && (is_types bytes section.info || is_records bytes section.info))
     || (section.kind == REL && is_loaded bytes section.info))
 
 -- it has kept relocations, and its size is no multiple of an entry's, or its link is not the first symbol table
 unfoldable pub is_bad_rela : List ℕ → (k : ℕ) → Bool
 is_bad_rela bytes k =
     let section = section_at bytes k in
-    is_rela bytes k && (not (section.size % RELA_SIZE == 0) || not (has_symbols bytes) || not (section.link == symbol_table bytes))
+    is_rela bytes k
+    && (not (section.size % RELA_SIZE == 0) || not (has_symbols bytes) || not (section.link == symbol_table bytes))
 
 -- its name has an end in the table of names
 unfoldable pub is_named : List ℕ → (k : ℕ) → Bool
@@ -56,5 +59,7 @@ is_named bytes k = list_any (λ byte. byte == 0) (drop (section_at bytes k).name
 
 -- section k breaks a rule
 unfoldable pub is_bad_section : List ℕ → (k : ℕ) → Bool
-is_bad_section bytes k = is_refused bytes k || is_bad_text bytes k || is_misaligned bytes k || is_second bytes CFI_TYPES.now k
-    || is_second bytes CFI_RECORDS.now k || is_bad_symbol_table bytes k || is_bad_target bytes k || is_bad_rela bytes k || not (is_named bytes k)
+is_bad_section bytes k =
+    is_refused bytes k || is_bad_text bytes k || is_misaligned bytes k || is_second bytes CFI_TYPES.now k
+    || is_second bytes CFI_RECORDS.now k || is_bad_symbol_table bytes k || is_bad_target bytes k || is_bad_rela bytes k
+    || not (is_named bytes k)

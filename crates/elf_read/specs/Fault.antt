@@ -19,7 +19,8 @@ use Rattle.elf_read.specs.declared.join.TheConstants.{MAX_SYMBOLS, MAX_RELOCS, M
 -- the table of section names is in the file
 pub record HasNames (bytes : List ℕ) : Type 0 where
   pub shape : HasShape bytes
-  pub names : (section_at bytes (names_number bytes)).offset + (section_at bytes (names_number bytes)).size ≤ length bytes
+  pub names : (section_at bytes (names_number bytes)).offset + (section_at bytes (names_number bytes)).size
+      ≤ length bytes
 
 -- the contents of kept sections are in the file
 pub record HasContents (bytes : List ℕ) : Type 0 where
@@ -72,13 +73,18 @@ pub record IsSound (bytes : List ℕ) : Type 0 where
   pub words : kept_words bytes ≤ MAX_WORDS
   pub data_size : kept_data bytes ≤ MAX_DATA
 
--- what begins at this offset passes the file's end: the header, the section headers, the section names or a section's contents
+-- what begins at this offset passes the file's end: the header, the section headers, the section names or a
+-- section's contents
 abbrev pub IsShort : List ℕ → (offset : ℕ) → Type 0
 IsShort bytes offset =
     ((length bytes < HEADER_SIZE) × (offset ≡ 0))
-    ⊎ (IsRelocatable bytes × (section_count bytes ≤ MAX_SECTIONS) × (length bytes < table_offset bytes + ENTRY_SIZE * section_count bytes) × (offset ≡ table_offset bytes))
-    ⊎ (HasShape bytes × (length bytes < (section_at bytes (names_number bytes)).offset + (section_at bytes (names_number bytes)).size) × (offset ≡ (section_at bytes (names_number bytes)).offset))
-    ⊎ (HasNames bytes × ((k : ℕ) × IsFirst (is_short bytes) (section_count bytes) k × (offset ≡ (section_at bytes k).offset)))
+    ⊎ (IsRelocatable bytes × (section_count bytes ≤ MAX_SECTIONS)
+    × (length bytes < table_offset bytes + ENTRY_SIZE * section_count bytes) × (offset ≡ table_offset bytes))
+    ⊎ (HasShape bytes
+    × (length bytes < (section_at bytes (names_number bytes)).offset + (section_at bytes (names_number bytes)).size)
+    × (offset ≡ (section_at bytes (names_number bytes)).offset))
+    ⊎ (HasNames bytes
+    × ((k : ℕ) × IsFirst (is_short bytes) (section_count bytes) k × (offset ≡ (section_at bytes k).offset)))
 
 -- section k is the first that breaks a rule; the rules of the table itself stand at 0
 abbrev pub IsBadSection : List ℕ → (k : ℕ) → Type 0
@@ -91,20 +97,28 @@ abbrev pub IsPassed : List ℕ → Limit → Type 0
 IsPassed bytes Sections = IsRelocatable bytes × (MAX_SECTIONS < section_count bytes)
 IsPassed bytes Symbols = HasPlaces bytes × (MAX_SYMBOLS < kept_symbols bytes)
 IsPassed bytes Relocs = HasPlaces bytes × (kept_symbols bytes ≤ MAX_SYMBOLS) × (MAX_RELOCS < kept_relocs bytes)
-IsPassed bytes Words = HasPlaces bytes × (kept_symbols bytes ≤ MAX_SYMBOLS) × (kept_relocs bytes ≤ MAX_RELOCS) × (MAX_WORDS < kept_words bytes)
-IsPassed bytes Data = HasPlaces bytes × (kept_symbols bytes ≤ MAX_SYMBOLS) × (kept_relocs bytes ≤ MAX_RELOCS) × (kept_words bytes ≤ MAX_WORDS) × (MAX_DATA < kept_data bytes)
+IsPassed bytes Words =
+    HasPlaces bytes × (kept_symbols bytes ≤ MAX_SYMBOLS) × (kept_relocs bytes ≤ MAX_RELOCS)
+    × (MAX_WORDS < kept_words bytes)
+IsPassed bytes Data =
+    HasPlaces bytes × (kept_symbols bytes ≤ MAX_SYMBOLS) × (kept_relocs bytes ≤ MAX_RELOCS)
+    × (kept_words bytes ≤ MAX_WORDS) × (MAX_DATA < kept_data bytes)
 IsPassed bytes _ = ⊥
 
--- the fault is the file's first: its pass has a case there and none before, and no earlier pass has one. Want of memory may come at any file.
+-- the fault is the file's first: its pass has a case there and none before, and no earlier pass has one. Want of
+-- memory may come at any file.
 abbrev pub IsFirstFault : List ℕ → ElfFault → Type 0
 IsFirstFault bytes (Short offset) = IsShort bytes offset
 IsFirstFault bytes NotElf32 = (HEADER_SIZE ≤ length bytes) × (is_elf32 bytes ≡ false)
 IsFirstFault bytes NotRiscv = (HEADER_SIZE ≤ length bytes) × (is_elf32 bytes ≡ true) × (machine_of bytes ≢ MACHINE)
-IsFirstFault bytes NotRelocatable = (HEADER_SIZE ≤ length bytes) × (is_elf32 bytes ≡ true) × (machine_of bytes ≡ MACHINE) × (type_of bytes ≢ RELOCATABLE)
+IsFirstFault bytes NotRelocatable =
+    (HEADER_SIZE ≤ length bytes) × (is_elf32 bytes ≡ true) × (machine_of bytes ≡ MACHINE)
+    × (type_of bytes ≢ RELOCATABLE)
 IsFirstFault bytes (BadSection k) = IsBadSection bytes k
 IsFirstFault bytes (BadSymbol k) = HasSections bytes × IsFirst (is_bad_symbol bytes) (symbol_count bytes) k
 IsFirstFault bytes (BadReloc k) = HasSymbols bytes × ((s i : ℕ) × IsFirstRela bytes (is_bad_rela_at bytes) k s i)
-IsFirstFault bytes (UnknownReloc k kind) = HasRelas bytes × ((s i : ℕ) × IsFirstRela bytes (is_unknown_at bytes) k s i × (kind ≡ kind_of (rela_at bytes s i)))
+IsFirstFault bytes (UnknownReloc k kind) =
+    HasRelas bytes × ((s i : ℕ) × IsFirstRela bytes (is_unknown_at bytes) k s i × (kind ≡ kind_of (rela_at bytes s i)))
 IsFirstFault bytes (Common k) = HasKinds bytes × IsFirst (is_common bytes) (symbol_count bytes) k
 IsFirstFault bytes (TooMany limit) = IsPassed bytes limit
 IsFirstFault bytes Memory = Unit {0}

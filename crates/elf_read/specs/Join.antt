@@ -32,7 +32,8 @@ aligned n alignment = (n + (alignment - 1)) / alignment * alignment
 -- where the data of the sections before k ends, and where that of section k begins
 abbrev pub data_end : List ℕ → (k : ℕ) → ℕ
 data_end bytes zero = 0
-data_end bytes (suc k) = if is_data bytes k then aligned (data_end bytes k) (alignment_of bytes k) + (section_at bytes k).size
+data_end bytes (suc k) =
+    if is_data bytes k then aligned (data_end bytes k) (alignment_of bytes k) + (section_at bytes k).size
     else data_end bytes k
 
 abbrev pub data_start : List ℕ → (k : ℕ) → ℕ
@@ -40,11 +41,13 @@ data_start bytes k = aligned (data_end bytes k) (alignment_of bytes k)
 
 -- the contents of data section k, which are zero where the file has none
 unfoldable pub data_contents : List ℕ → (k : ℕ) → List ℕ
-data_contents bytes k = if (section_at bytes k).kind == NOBITS then replicate (section_at bytes k).size 0 else contents bytes k
+data_contents bytes k =
+    if (section_at bytes k).kind == NOBITS then replicate (section_at bytes k).size 0 else contents bytes k
 
 -- what section k adds to the data: the gap before it, and its contents
 unfoldable pub data_of : List ℕ → (k : ℕ) → List ℕ
-data_of bytes k = if is_data bytes k then replicate (data_start bytes k - data_end bytes k) 0 ++ data_contents bytes k else []
+data_of bytes k =
+    if is_data bytes k then replicate (data_start bytes k - data_end bytes k) 0 ++ data_contents bytes k else []
 
 -- the data: the data sections, each at its alignment
 abbrev pub joined_data : List ℕ → List ℕ

@@ -40,7 +40,12 @@ kept_value bytes k =
 
 unfoldable pub kept_symbol : List ℕ → (k : ℕ) → Symbol
 kept_symbol bytes k =
-    record { name = name_of bytes k; binding = kept_binding bytes k; place = kept_place bytes k; value = kept_value bytes k }
+    record {
+      name = name_of bytes k;
+      binding = kept_binding bytes k;
+      place = kept_place bytes k;
+      value = kept_value bytes k;
+    }
 
 -- what symbol k adds to the list of symbols
 unfoldable pub symbols_of : List ℕ → (k : ℕ) → List Symbol

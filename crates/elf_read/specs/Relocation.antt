@@ -64,7 +64,8 @@ is_bad_reference bytes rela = not (symbol_of rela == 0)
 unfoldable pub is_outside : List ℕ → (target : ℕ) → Rela → Bool
 is_outside bytes target rela = nat_lt (section_at bytes target).size (rela.offset + field_size (kind_of rela))
 
--- it does not fit what the section `target` has: in text its offset is no multiple of 4 or it is a kind of data, in data it is an instruction's
+-- it does not fit what the section `target` has: in text its offset is no multiple of 4 or it is a kind of data, in
+-- data it is an instruction's
 unfoldable pub is_misplaced : List ℕ → (target : ℕ) → Rela → Bool
 is_misplaced bytes target rela = (is_text bytes target && (not (rela.offset % 4 == 0) || is_of_data (kind_of rela)))
     || (is_data bytes target && is_of_instruction (kind_of rela))

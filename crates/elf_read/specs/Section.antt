@@ -42,7 +42,8 @@ has_flag section flag = not (bit_and section.flags flag == 0)
 unfoldable pub is_loaded : List ℕ → (k : ℕ) → Bool
 is_loaded bytes k =
     let section = section_at bytes k in
-    (section.kind == PROGBITS || section.kind == NOBITS) && has_flag section ALLOC && not (has_name bytes k EH_FRAME.now)
+    (section.kind == PROGBITS || section.kind == NOBITS) && has_flag section ALLOC
+    && not (has_name bytes k EH_FRAME.now)
 
 -- a loaded section is text where it is executable, else data
 unfoldable pub is_text : List ℕ → (k : ℕ) → Bool
@@ -77,7 +78,8 @@ has_kind bytes kind k = nat_lt k (section_count bytes) && (section_at bytes k).k
 
 -- section k holds the names of the first symbol table's symbols
 unfoldable pub is_symbol_names : List ℕ → (k : ℕ) → Bool
-is_symbol_names bytes k = has_symbols bytes && (section_at bytes (symbol_table bytes)).link == k && has_kind bytes STRTAB k
+is_symbol_names bytes k =
+    has_symbols bytes && (section_at bytes (symbol_table bytes)).link == k && has_kind bytes STRTAB k
 
 -- section k has relocations of loaded section `info`
 unfoldable pub is_rela : List ℕ → (k : ℕ) → Bool
@@ -87,7 +89,8 @@ is_rela bytes k =
 
 -- the sections that are kept: loaded ones, types, records, the first symbol table and its names, and relocations
 unfoldable pub is_kept : List ℕ → (k : ℕ) → Bool
-is_kept bytes k = is_loaded bytes k || is_types bytes k || is_records bytes k || k == symbol_table bytes || is_symbol_names bytes k
+is_kept bytes k =
+    is_loaded bytes k || is_types bytes k || is_records bytes k || k == symbol_table bytes || is_symbol_names bytes k
     || is_rela bytes k
 
 -- the contents of kept section k pass the file's end

@@ -1,4 +1,5 @@
--- The symbols of the first symbol table, by their numbers (System V ELF, "Symbol Table"), and the rules that one may break.
+-- The symbols of the first symbol table, by their numbers (System V ELF, "Symbol Table"), and the rules that one
+-- may break.
 use Rattle.std.specs.Prelude.{◌+◌, ◌*◌, ◌/◌, ◌%◌, ℕ, Bool, not, ◌&&◌, ◌||◌, ◌==◌, if◌then◌else◌, nat_lt, nat_le, List, [], length, drop, slice_index}
 use Rattle.std.specs.List.{list_any, before_first}
 use Rattle.std.specs.Str.{bytes_eq}
@@ -88,7 +89,8 @@ is_bad_info bytes k =
 unfoldable pub is_bad_place : List ℕ → (k : ℕ) → Bool
 is_bad_place bytes k =
     let symbol = symbol_at bytes k in
-    not (symbol.section == UNDEFINED || symbol.section == ABSOLUTE || symbol.section == COMMON || nat_lt symbol.section (section_count bytes))
+    not (symbol.section == UNDEFINED || symbol.section == ABSOLUTE || symbol.section == COMMON
+    || nat_lt symbol.section (section_count bytes))
 
 -- it is global or weak and has no name
 unfoldable pub is_nameless : List ℕ → (k : ℕ) → Bool
@@ -104,7 +106,8 @@ is_local_undefined bytes k =
 unfoldable pub is_past_section : List ℕ → (k : ℕ) → Bool
 is_past_section bytes k =
     let symbol = symbol_at bytes k in
-    is_in_section bytes symbol && is_loaded bytes symbol.section && nat_lt (section_at bytes symbol.section).size symbol.value
+    is_in_section bytes symbol && is_loaded bytes symbol.section
+    && nat_lt (section_at bytes symbol.section).size symbol.value
 
 -- an earlier symbol defines the name that it defines
 unfoldable pub is_second_definition : List ℕ → (k : ℕ) → Bool
@@ -112,7 +115,8 @@ is_second_definition bytes k = is_definition bytes k && some_below (defines byte
 
 -- symbol k breaks a rule
 unfoldable pub is_bad_symbol : List ℕ → (k : ℕ) → Bool
-is_bad_symbol bytes k = is_bad_info bytes k || is_bad_place bytes k || not (is_well_named bytes k) || is_nameless bytes k
+is_bad_symbol bytes k =
+    is_bad_info bytes k || is_bad_place bytes k || not (is_well_named bytes k) || is_nameless bytes k
     || is_local_undefined bytes k || is_past_section bytes k || is_second_definition bytes k
 
 -- symbol k is a common block

@@ -119,7 +119,8 @@ fn is_bad_rela(sections: &Sections<'_>, k: usize) -> bool
 #[tactic(auto, unfolding(crate::specs::BadSection::is_named))]
 fn is_named(sections: &Sections<'_>, ended: usize, k: usize) -> bool
     requires within { k < section_count sections.now }
-    requires ended { (i : ℕ) → list_any (λ byte. byte == 0) (drop i (section_names sections.now)) ≡ nat_lt i ended }
+    requires ended { (i : ℕ) →
+        list_any (λ byte. byte == 0) (drop i (section_names sections.now)) ≡ nat_lt i ended }
     ensures { result ≡ is_named sections.now k }
 {
     let start = sections.file.section(k).name as usize;
@@ -130,7 +131,8 @@ fn is_named(sections: &Sections<'_>, ended: usize, k: usize) -> bool
 #[tactic(auto, unfolding(crate::specs::BadSection::is_bad_section))]
 fn is_bad_section(sections: &Sections<'_>, ended: usize, k: usize) -> bool
     requires within { k < section_count sections.now }
-    requires ended { (i : ℕ) → list_any (λ byte. byte == 0) (drop i (section_names sections.now)) ≡ nat_lt i ended }
+    requires ended { (i : ℕ) →
+        list_any (λ byte. byte == 0) (drop i (section_names sections.now)) ≡ nat_lt i ended }
     ensures { result ≡ is_bad_section sections.now k }
 {
     is_refused(sections, k)

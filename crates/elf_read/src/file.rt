@@ -162,7 +162,8 @@ impl<'a> File<'a> {
 
     /// The number of the first section of this type, or the number of sections.
     pub fn first_of_kind(&self, kind: u32) -> usize
-        ensures { result ≡ first_where (λ k. nat_eq (section_at self.now k).kind kind) (section_count self.now) }
+        ensures { result ≡
+            first_where (λ k. nat_eq (section_at self.now k).kind kind) (section_count self.now) }
     {
         let count = self.count();
         for k in 0..count {
@@ -175,7 +176,8 @@ impl<'a> File<'a> {
 
     /// The number of the first section of types or of records, by its name, or the number of sections.
     pub fn first_record(&self, name: &[u8]) -> usize
-        ensures { result ≡ first_where (is_record_section self.now name.now) (section_count self.now) }
+        ensures { result ≡
+            first_where (is_record_section self.now name.now) (section_count self.now) }
     {
         let count = self.count();
         for k in 0..count {

@@ -1,4 +1,4 @@
-ghost use Rattle.std.specs.Prelude.{◌≡◌, IfOk, IfErr};
+ghost use Rattle.std.specs.Prelude.{IfOk, IfErr};
 ghost use Rattle.elf_read.specs.Header.{IsRelocatable, HasTable, HasShape};
 ghost use Rattle.elf_read.specs.Fault.{IsFirstFault};
 

@@ -1,9 +1,9 @@
-ghost use Rattle.std.specs.Prelude.{◌≡◌, ◌<◌, ◌≤◌, ◌+◌, ◌++◌, ℕ, false, length, IfOk, OnOk, IfErr, vec_len};
+ghost use Rattle.std.specs.Prelude.{◌≡◌, ◌<◌, ◌+◌, ◌++◌, false, IfOk, OnOk, IfErr};
 ghost use Rattle.elf_read.specs.Header.{section_count};
 ghost use Rattle.elf_read.specs.Places.{joined};
-ghost use Rattle.elf_read.specs.Symbol.{symbol_count, is_left_out, symbol_at};
+ghost use Rattle.elf_read.specs.Symbol.{symbol_count, is_left_out};
 ghost use Rattle.elf_read.specs.Relocation.{rela_count};
-ghost use Rattle.elf_read.specs.Object.{kept_binding, kept_place, kept_value, kept_symbol, symbols_of, area_of, reference_of, kept_reloc, reloc_of, relocs_of, IsKept};
+ghost use Rattle.elf_read.specs.Object.{kept_binding, kept_place, kept_value, kept_symbol, symbols_of, area_of, reference_of, kept_reloc, reloc_of, relocs_of};
 ghost use Rattle.elf_read.specs.Layout.{IsLayout, IsNumbering};
 ghost use Rattle.elf_read.specs.Fault.{IsFirstFault, HasPlaces, IsSound, IsObject};
 
@@ -124,7 +124,8 @@ fn keep_symbols(
 ) -> Result<Symbols, AllocError>
     requires sound { IsSound table.now }
     requires layout { IsLayout table.now layout.now }
-    ensures { IfOk result (λ symbols. symbols ≡ joined (symbols_of table.now) (symbol_count table.now)) }
+    ensures { IfOk result (λ symbols.
+        symbols ≡ joined (symbols_of table.now) (symbol_count table.now)) }
 {
     let mut out = Vec::new(alloc);
     for k in 0..table.count() {
@@ -255,7 +256,8 @@ fn keep_relocs(
     requires sound { IsSound table.now }
     requires layout { IsLayout table.now layout.now }
     requires numbers { IsNumbering table.now numbers.now }
-    ensures { IfOk result (λ relocs. relocs ≡ joined (relocs_of table.now) (section_count table.now)) }
+    ensures { IfOk result (λ relocs.
+        relocs ≡ joined (relocs_of table.now) (section_count table.now)) }
 {
     let mut out = Vec::new(alloc);
     for s in 0..table.section_count() {

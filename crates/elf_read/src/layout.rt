@@ -2,6 +2,7 @@ ghost use Rattle.std.specs.Prelude.{◌≡◌, ◌<◌, ◌≤◌, ◌+◌, ◌*
 ghost use Rattle.elf_read.specs.Header.{section_count};
 ghost use Rattle.elf_read.specs.Join.{aligned, alignment_of, text_size, text_end, data_end, start_of};
 ghost use Rattle.elf_read.specs.Layout.{IsLayout};
+ghost use Rattle.elf_read.specs.declared.join.TheConstants.{MAX_ALIGNMENT};
 
 use crate::join::MAX_ALIGNMENT;
 use crate::symbol_table::SymbolTable;
@@ -22,7 +23,7 @@ pub struct Layout {
 #[tactic(auto, unfolding(crate::specs::Join::aligned))]
 pub fn align_up(n: usize, alignment: usize) -> usize
     requires some { 0 < alignment }
-    requires small { alignment ≤ 16 }
+    requires small { alignment ≤ MAX_ALIGNMENT }
     requires fits { n < 2 ^ 60 }
     ensures same { result ≡ aligned n alignment }
     ensures above { n ≤ result }
@@ -37,7 +38,7 @@ pub fn alignment_of(table: &SymbolTable<'_>, k: usize) -> usize
     requires within { k < section_count table.now }
     ensures same { result ≡ alignment_of table.now k }
     ensures some { 0 < result }
-    ensures small { result ≤ 16 }
+    ensures small { result ≤ MAX_ALIGNMENT }
 {
     let alignment = table.section(k).alignment;
     alignment.max(1).min(MAX_ALIGNMENT) as usize
@@ -63,7 +64,7 @@ pub fn data_end_of(table: &SymbolTable<'_>, k: usize, end: usize) -> usize
     requires fits { end < 2 ^ 60 }
     ensures same { result ≡ data_end table.now (k + 1) }
     ensures above { end ≤ result }
-    ensures near { result < end + 4294967312 }
+    ensures near { result < end + 2 ^ 32 + MAX_ALIGNMENT }
 {
     if !table.is_data(k) {
         return end;

@@ -1,6 +1,5 @@
-ghost use Rattle.std.specs.Prelude.{◌≡◌, ◌<◌, ◌≤◌, ◌+◌, ◌^◌, ℕ, length, slice_index, IfOk, IfErr};
+ghost use Rattle.std.specs.Prelude.{◌≡◌, ◌<◌, ◌^◌, IfOk, IfErr};
 ghost use Rattle.elf_read.specs.Header.{section_count};
-ghost use Rattle.elf_read.specs.Symbol.{symbol_count};
 ghost use Rattle.elf_read.specs.Object.{symbol_number, kept_count};
 ghost use Rattle.elf_read.specs.Layout.{IsLayout, IsNumbering};
 ghost use Rattle.elf_read.specs.Fault.{IsFirstFault, HasPlaces, IsSound, kept_symbols, kept_relocs};

@@ -1,8 +1,9 @@
-ghost use Rattle.std.specs.Prelude.{◌≡◌, ◌<◌, ◌≤◌, ◌*◌, ◌+◌, ◌^◌, ℕ, length, IfOk, IfErr, IfSome, IfNone};
+ghost use Rattle.std.specs.Prelude.{◌≡◌, ◌<◌, ◌≤◌, ◌*◌, ◌+◌, ◌^◌, length, IfOk, IfErr, IfSome, IfNone};
 ghost use Rattle.elf_read.specs.Places.{IsFirst, IsNone};
 ghost use Rattle.elf_read.specs.Header.{section_count};
 ghost use Rattle.elf_read.specs.Section.{section_at, contents};
 ghost use Rattle.elf_read.specs.Fault.{IsFirstFault, HasSymbols, HasRelas, HasKinds};
+ghost use Rattle.elf_read.specs.declared.relocation.TheConstants.{RELA_SIZE};
 ghost use Rattle.elf_read.specs.Relocation.{rela_count, rela_at, symbol_of, kind_of, is_bad_reference, is_outside, is_misplaced, is_bad_rela_at, is_unknown_at};
 
 use crate::fault::ElfFault;
@@ -55,7 +56,7 @@ pub fn target_of(table: &SymbolTable<'_>, s: usize) -> usize
 fn entries_of<'a>(table: &SymbolTable<'a>, s: usize) -> &'a [u8]
     requires within { s < section_count table.now }
     ensures same { result.now ≡ contents table.now s }
-    ensures whole { 12 * rela_count table.now s ≤ length result.now }
+    ensures whole { RELA_SIZE * rela_count table.now s ≤ length result.now }
 {
     let _sections = &table.sections;
     table.contents(s)

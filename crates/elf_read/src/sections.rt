@@ -1,7 +1,7 @@
-ghost use Rattle.std.specs.Prelude.{◌≡◌, ◌<◌, ◌≤◌, ℕ, nat_lt, List, drop, IfOk, IfErr};
+ghost use Rattle.std.specs.Prelude.{◌≡◌, ◌<◌, ◌≤◌, ℕ, List, IfOk, IfErr};
 ghost use Rattle.elf_read.specs.Header.{section_count};
 ghost use Rattle.elf_read.specs.declared.header.TheConstants.{MAX_SECTIONS};
-ghost use Rattle.elf_read.specs.Section.{section_at, is_types, is_records, has_symbols, has_kind, is_symbol_names, is_rela, is_kept, is_short, symbol_table, first_named};
+ghost use Rattle.elf_read.specs.Section.{is_types, is_records, has_symbols, has_kind, is_symbol_names, is_rela, is_kept, is_short, symbol_table, first_named};
 ghost use Rattle.elf_read.specs.Fault.{IsFirstFault, HasNames, HasContents};
 
 use crate::fault::ElfFault;

@@ -1,4 +1,4 @@
-ghost use Rattle.std.specs.Prelude.{◌≡◌, ◌<◌, ◌≤◌, ◌^◌, ◌%◌, ◌/◌, ◌&&◌, ◌==◌, ℕ, Bool, List, length, IfSome, is_some};
+ghost use Rattle.std.specs.Prelude.{◌≡◌, ◌<◌, ◌≤◌, ◌^◌, ◌%◌, ◌/◌, ◌&&◌, ◌==◌, ℕ, List, length, IfSome, is_some};
 ghost use Rattle.elf_read.specs.Header.{section_count};
 ghost use Rattle.elf_read.specs.declared.header.TheConstants.{MAX_SECTIONS};
 ghost use Rattle.elf_read.specs.Section.{section_at, contents, is_loaded, is_text, is_data, is_record_section};
@@ -103,7 +103,8 @@ impl<'a> SymbolTable<'a> {
 
     /// The number of the first section of types or of records, by its name, or the number of sections.
     pub fn first_record(&self, name: &[u8]) -> usize
-        ensures { result ≡ first_where (is_record_section self.now name.now) (section_count self.now) }
+        ensures { result ≡
+            first_where (is_record_section self.now name.now) (section_count self.now) }
     {
         self.sections.file.first_record(name)
     }

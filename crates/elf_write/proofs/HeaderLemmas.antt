@@ -6,7 +6,7 @@ use Rattle.std.proofs.Math.Seq.{drop-append-add}
 use Rattle.byteorder.specs.Numbers.{little_number-reads_back}
 use Rattle.elf_read.specs.Words.{u16_at, u32_at}
 use Rattle.elf_read.specs.Places.{joined}
-use Rattle.elf_read.specs.Header.{is_elf32, machine_of, type_of, table_offset, section_count, entry_size, IsRelocatable, HasTable, HasShape}
+use Rattle.elf_read.specs.Header.{is_elf32, machine_of, type_of, table_offset, section_count, entry_size}
 use Rattle.elf_read.specs.Header as header
 use Rattle.elf_read.specs.declared.object.Object.{Object}
 use Rattle.elf_write.specs.declared.part.Part.{Part}

@@ -15,7 +15,7 @@ use Rattle.elf_read.specs.declared.object.Binding.TheVariants as bindings
 use Rattle.elf_read.specs.declared.object.Place.{Place}
 use Rattle.elf_read.specs.declared.object.Place.TheVariants as places
 use Rattle.elf_write.specs.Contents.{names_of, no_symbol, symbol_name_place, binding_number, section_number}
-use Rattle.elf_write.specs.Whole.{IsWhole, IsGoodSymbol, HasName, HasPlace, greatest_value}
+use Rattle.elf_write.specs.Whole.{IsWhole, HasName, HasPlace, greatest_value}
 use Rattle.elf_write.specs.Whole as whole_specs
 use Rattle.elf_write.proofs.SymbolLemmas.{names_within}
 use Rattle.elf_write.proofs.HeaderLemmas.{few_sections}

@@ -83,7 +83,7 @@ unfolding names_of
 names-short symbols short = omega (arith, names-from symbols short)
 
 -- no more bytes than this are in a section of an object within the limits, nor in the zeros after it
-most_of : Part → ℕ
+abbrev most_of : Part → ℕ
 most_of Null = 3
 most_of Text = 262083
 most_of Data = 524291
@@ -112,16 +112,16 @@ contents-short object limits SectionNames =
       arith,
       names,
       parts_count (is_some object.types) (is_some object.records),
-      count-small (is_some
-          object.types) (is_some object.records),
+      count-small (is_some object.types) (is_some object.records),
     )
 
 -- all of some sections
-all_of : List Part → ℕ
+abbrev all_of : List Part → ℕ
 all_of [] = 0
 all_of (part ∷ parts) = most_of part + all_of parts
 
-body-short : (object : Object) → IsWithinLimits object → (parts : List Part) → length (body_of object parts) ≤ all_of parts
+body-short : (object : Object) → IsWithinLimits object → (parts : List Part)
+    → length (body_of object parts) ≤ all_of parts
 body-short object limits [] = omega arith
 body-short object limits (part ∷ parts) =
     let rest = body-short object limits parts in

@@ -14,7 +14,7 @@ use Rattle.elf_read.specs.declared.object.Symbol.{Symbol}
 use Rattle.elf_read.proofs.SymbolLemmas.{well_named}
 use Rattle.elf_write.specs.Contents.{names_of, no_symbol, symbol_name_place, binding_number, section_number}
 use Rattle.elf_write.specs.File.{IsWritable}
-use Rattle.elf_write.specs.Whole.{IsWhole, IsGoodSymbol, HasName, HasPlace, greatest_value}
+use Rattle.elf_write.specs.Whole.{IsWhole, IsGoodSymbol}
 use Rattle.elf_write.specs.Whole as whole_specs
 use Rattle.elf_write.proofs.SizeLemmas.{names-fit}
 use Rattle.elf_write.proofs.SectionLemmas.{AreSections}

@@ -1,5 +1,4 @@
-ghost use Rattle.std.specs.Prelude.{◌≡◌, ◌+◌, ◌<◌, ◌^◌, ◌++◌, ◌==◌, if◌then◌else◌, ℕ, length, count_by, replicate, OnOk, All};
-ghost use Rattle.std.specs.List.{flat_map};
+ghost use Rattle.std.specs.Prelude.{◌≡◌, ◌+◌, ◌<◌, ◌^◌, ◌++◌, ◌==◌, if◌then◌else◌, length, count_by, OnOk, All};
 ghost use Rattle.elf_write.specs.Contents.{ended, names_of, binding_number, section_number, symbol_entry, null_entry, symbol_table, is_local, info_of, rela_entry, is_in, relas_of};
 
 use crate::word::{put_halves, put_words};

@@ -1,10 +1,10 @@
-ghost use Rattle.std.specs.Prelude.{◌≡◌, ◌+◌, ◌*◌, ◌<◌, ◌≤◌, ◌^◌, ◌++◌, ◌==◌, if◌then◌else◌, length, take, get_or, OnOk, IfOk, All};
+ghost use Rattle.std.specs.Prelude.{◌≡◌, ◌+◌, ◌<◌, ◌^◌, ◌++◌, ◌==◌, if◌then◌else◌, length, take, OnOk, IfOk, All};
 ghost use Rattle.std.specs.List.{flat_map};
 ghost use Rattle.elf_read.specs.Places.{joined};
 ghost use Rattle.elf_write.specs.declared.part.Part.TheVariants.{Null};
 ghost use Rattle.elf_write.specs.Part.{name_of};
 ghost use Rattle.elf_write.specs.Contents.{names_of, info_of};
-ghost use Rattle.elf_write.specs.File.{sections_of, bytes_or_none, contents_of, padding, padded, body_of, symbols_number, names_number, link_of, info_of_part, name_place, place_of, part_header, header_of, file_header, IsWritable, bytes_of};
+ghost use Rattle.elf_write.specs.File.{sections_of, bytes_or_none, contents_of, padding, padded, body_of, link_of, info_of_part, name_place, part_header, header_of, file_header, IsWritable, bytes_of};
 
 use crate::contents::{local_count, put_names, put_relas, put_symbols};
 use crate::part::{Part, alignment_of, entry_size_of, flags_of, kind_of, name_of, parts_of};
@@ -78,7 +78,8 @@ fn put_padded(
     requires parts { parts.now ≡ sections_of object.now }
     requires names { length (names_of object.now.symbols) < 2 ^ 32 }
     requires infos { All (λ reloc. info_of reloc < 2 ^ 32) object.now.relocs }
-    ensures bytes { OnOk result (out.new.items ≡ out.old.items ++ padded (contents_of object.now part)) }
+    ensures bytes { OnOk result
+        (out.new.items ≡ out.old.items ++ padded (contents_of object.now part)) }
     ensures size { IfOk result (λ size. size ≡ length (contents_of object.now part)) }
 {
     let begin = out.len();
@@ -125,7 +126,8 @@ fn put_header(
 ) -> Result<(), AllocError>
     requires symbols { length object.now.symbols + 1 < 2 ^ 32 }
     requires size { size ≡ length (contents_of object.now part) }
-    ensures { OnOk result (out.new.items ≡ out.old.items ++ part_header object.now part name place) }
+    ensures { OnOk result
+        (out.new.items ≡ out.old.items ++ part_header object.now part name place) }
 {
     let words = [
         name,
@@ -200,7 +202,8 @@ fn put_parts(
     requires writable { IsWritable object.now }
     requires parts { parts.now ≡ sections_of object.now }
     ensures body { IfOk result (λ made. made.0.items ≡ body_of object.now parts.now) }
-    ensures headers { IfOk result (λ made. made.1.items ≡ joined (header_of object.now) (length parts.now)) }
+    ensures headers { IfOk result (λ made.
+        made.1.items ≡ joined (header_of object.now) (length parts.now)) }
 {
     let mut body = Vec::new(alloc);
     let mut headers = Vec::new(alloc);

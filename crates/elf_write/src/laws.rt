@@ -11,7 +11,8 @@ ghost use Rattle.elf_write.specs.Whole.{IsWhole};
 /// Each object within the limits can be written, and its file is short enough to be read.
 pub fn limits_fit()
     ensures writable { (object : Object) → IsWithinLimits object → IsWritable object }
-    ensures short { (object : Object) → IsWithinLimits object → length (bytes_of object) ≤ MAX_FILE }
+    ensures short { (object : Object) → IsWithinLimits object →
+        length (bytes_of object) ≤ MAX_FILE }
 {}
 
 /// Some object is within the limits: the empty one.

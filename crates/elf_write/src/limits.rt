@@ -1,4 +1,4 @@
-ghost use Rattle.std.specs.Prelude.{◌≡◌, ◌≤◌, ◌<◌, ◌^◌, ◌↔◌, All, IsTrue, length};
+ghost use Rattle.std.specs.Prelude.{◌≤◌, ◌<◌, ◌^◌, ◌↔◌, All, IsTrue, length};
 ghost use Rattle.elf_read.specs.declared.rela.TheConstants.{MAX_FILE};
 ghost use Rattle.elf_write.specs.Contents.{info_of};
 ghost use Rattle.elf_write.specs.File.{bytes_or_none, bytes_of, IsWritable};

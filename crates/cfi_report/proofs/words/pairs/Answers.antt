@@ -17,4 +17,5 @@ returns-then-not-is_empty c =
 pub returns : goal.returns
 returns c =
     let none : length c.loop-rest.rest.now ≡ 0 = search rules in
-    ap Some c.from_vec.ensures ∙ sym (pairs_in-end c.args.word.now c.loop-rest.bytes.items c.loop-rest.rest.now c.loop-rest.invariant none)
+    ap Some c.from_vec.ensures ∙ sym (pairs_in-end c.args.word.now c.loop-rest.bytes.items c.loop-rest.rest.now
+    c.loop-rest.invariant none)

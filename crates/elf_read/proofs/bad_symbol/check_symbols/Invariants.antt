@@ -9,4 +9,5 @@ use Rattle.elf_read.proofs.bad_symbol.check_symbols.Given as goal
 abbrev pub invariant-loop-k : goal.invariant-loop-k
 invariant-loop-k l =
     IsNone (is_bad_symbol l.table) l.k
-    × ((q : List ℕ) → is_some (get_by (λ key. slice_cmp nat_cmp q key.now) l.defined) ≡ some_below (defines l.table q) l.k)
+    × ((q : List ℕ) → is_some (get_by (λ key. slice_cmp nat_cmp q key.now) l.defined)
+    ≡ some_below (defines l.table q) l.k)

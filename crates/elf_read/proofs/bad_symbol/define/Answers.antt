@@ -18,5 +18,6 @@ returns-in_ok-insert-clause-ok c = λ q.
     let def : is_definition bytes c.args.k ≡ true = cc in
     let named : name ≡ name_of bytes c.args.k = c.in-Some.ensures.some in
     let gains = btree_map_updates_str name c.args.defined.now c.insert.new.self _ c.in_ok-insert.ensures.updates q in
-    let same : bytes_eq name q ≡ (is_definition bytes c.args.k && bytes_eq (name_of bytes c.args.k) q) = rw (def, named) refl in
+    let same : bytes_eq name q ≡ (is_definition bytes c.args.k && bytes_eq (name_of bytes c.args.k) q) =
+    rw (def, named) refl in
     ap is_some gains ∙ looked_up (bytes_eq name q) old c.args.k ∙ ap (λ b. is_some old || b) same

@@ -10,9 +10,11 @@ pub returns-then-is_definition : goal.returns-then-is_definition
 unfolding is_second_definition
 returns-then-is_definition c =
     let bytes = c.args.table.now in
-    let looked : c.contains_key.result ≡ is_some (get_by (λ key. slice_cmp nat_cmp c.args.name.now key.now) c.args.defined.now) = c.contains_key.ensures in
+    let looked : c.contains_key.result ≡ is_some (get_by (λ key. slice_cmp nat_cmp c.args.name.now key.now)
+    c.args.defined.now) = c.contains_key.ensures in
     let named = ap (λ q. is_some (get_by (λ key. slice_cmp nat_cmp q key.now) c.args.defined.now)) c.requires.name in
     let known = c.requires.defined (name_of bytes c.args.k) in
-    let found : c.contains_key.result ≡ some_below (defines bytes (name_of bytes c.args.k)) c.args.k = looked ∙ named ∙ known in
+    let found : c.contains_key.result ≡ some_below (defines bytes (name_of bytes c.args.k)) c.args.k =
+    looked ∙ named ∙ known in
     let def : is_definition bytes c.args.k ≡ true = cc in
     rw def found

@@ -6,16 +6,22 @@ use Rattle.elf_read.proofs.keep.offset_of.Goals as goal
 
 pub overflow_add-result : goal.overflow_add-result
 overflow_add-result c =
-    let read = offset_read c.args.table.now c.args.layout.now _ c.args.s c.args.i _ _ c.requires.sound c.requires.layout c.requires.within c.requires.entry c.target_of.ensures.same c.rela_at.ensures c.index-start.ensures in
+    let read =
+    offset_read c.args.table.now c.args.layout.now _ c.args.s c.args.i _ _ c.requires.sound c.requires.layout
+    c.requires.within c.requires.entry c.target_of.ensures.same c.rela_at.ensures c.index-start.ensures in
     omega (arith, read)
 
 pub overflow_cast-result-2 : goal.overflow_cast-result-2
 overflow_cast-result-2 c =
-    let read = offset_read c.args.table.now c.args.layout.now _ c.args.s c.args.i _ _ c.requires.sound c.requires.layout c.requires.within c.requires.entry c.target_of.ensures.same c.rela_at.ensures c.index-start.ensures in
+    let read =
+    offset_read c.args.table.now c.args.layout.now _ c.args.s c.args.i _ _ c.requires.sound c.requires.layout
+    c.requires.within c.requires.entry c.target_of.ensures.same c.rela_at.ensures c.index-start.ensures in
     omega (arith, read)
 
 pub returns : goal.returns
 unfolding kept_reloc
 returns c =
-    let read = offset_read c.args.table.now c.args.layout.now _ c.args.s c.args.i _ _ c.requires.sound c.requires.layout c.requires.within c.requires.entry c.target_of.ensures.same c.rela_at.ensures c.index-start.ensures in
+    let read =
+    offset_read c.args.table.now c.args.layout.now _ c.args.s c.args.i _ _ c.requires.sound c.requires.layout
+    c.requires.within c.requires.entry c.target_of.ensures.same c.rela_at.ensures c.index-start.ensures in
     read.0

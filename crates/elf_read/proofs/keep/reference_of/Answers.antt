@@ -9,7 +9,8 @@ use Rattle.elf_read.proofs.keep.reference_of.Goals as goal
 pub bounds-numbers-symbol : goal.bounds-numbers-symbol
 bounds-numbers-symbol c =
     let bytes = c.args.table.now in
-    let symbol : c.symbol_of-symbol.result ≡ symbol_of (rela_at bytes c.args.s c.args.i) = rw (← c.rela_at.ensures) c.symbol_of-symbol.ensures in
+    let symbol : c.symbol_of-symbol.result ≡ symbol_of (rela_at bytes c.args.s c.args.i) =
+    rw (← c.rela_at.ensures) c.symbol_of-symbol.ensures in
     let some : symbol_of (rela_at bytes c.args.s c.args.i) ≢ 0 = rw (← symbol) c.if-symbol-eq0.false in
     let there = reference_there bytes c.args.s c.args.i c.requires.sound c.requires.within c.requires.entry some in
     omega (arith, symbol, there, c.requires.numbers.len)
@@ -17,7 +18,8 @@ bounds-numbers-symbol c =
 pub overflow_cast-result : goal.overflow_cast-result
 overflow_cast-result c =
     let bytes = c.args.table.now in
-    let symbol : c.symbol_of-symbol.result ≡ symbol_of (rela_at bytes c.args.s c.args.i) = rw (← c.rela_at.ensures) c.symbol_of-symbol.ensures in
+    let symbol : c.symbol_of-symbol.result ≡ symbol_of (rela_at bytes c.args.s c.args.i) =
+    rw (← c.rela_at.ensures) c.symbol_of-symbol.ensures in
     let some : symbol_of (rela_at bytes c.args.s c.args.i) ≢ 0 = rw (← symbol) c.if-symbol-eq0.false in
     let there = reference_there bytes c.args.s c.args.i c.requires.sound c.requires.within c.requires.entry some in
     let number = c.requires.numbers.each c.symbol_of-symbol.result (omega (arith, symbol, there)) in
@@ -28,7 +30,8 @@ pub returns : goal.returns
 unfolding reference_of
 returns c =
     let bytes = c.args.table.now in
-    let symbol : c.symbol_of-symbol.result ≡ symbol_of (rela_at bytes c.args.s c.args.i) = rw (← c.rela_at.ensures) c.symbol_of-symbol.ensures in
+    let symbol : c.symbol_of-symbol.result ≡ symbol_of (rela_at bytes c.args.s c.args.i) =
+    rw (← c.rela_at.ensures) c.symbol_of-symbol.ensures in
     let some : symbol_of (rela_at bytes c.args.s c.args.i) ≢ 0 = rw (← symbol) c.if-symbol-eq0.false in
     let there = reference_there bytes c.args.s c.args.i c.requires.sound c.requires.within c.requires.entry some in
     let number = c.requires.numbers.each c.symbol_of-symbol.result (omega (arith, symbol, there)) in

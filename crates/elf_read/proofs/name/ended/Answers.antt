@@ -12,7 +12,8 @@ returns-in-Some-clause-some c =
     let i = c.in-Some.i in
     let here = c.in-Some.ensures.some in
     let place : position_or_len (λ byte. byte == 0) bytes ≡ i =
-    position_or_len_is (λ byte. byte == 0) bytes i 0 (omega (arith, here)) (λ k h. ne_eqb _ _ (c.in-Some.ensures.before k h)) (λ h. eq-eqb _ _ here.1) in
+    position_or_len_is (λ byte. byte == 0) bytes i 0 (omega (arith, here))
+    (λ k h. ne_eqb _ _ (c.in-Some.ensures.before k h)) (λ h. eq-eqb _ _ here.1) in
     c.split_at.ensures.front ∙ ap (λ n. take n bytes) (sym place)
 
 pub returns-in-None-clause-none : goal.returns-in-None-clause-none

@@ -16,5 +16,6 @@ pub returns : goal.returns
 returns c =
     let test = λ (k : ℕ). has_name c.args.self.now k c.args.name.now in
     let count : c.loop-k.k ≡ section_count c.args.self.now = omega arith in
-    let none : (j : ℕ) → j < section_count c.args.self.now → test j ≡ false = λ j h. c.loop-k.invariant j (omega arith) in
+    let none : (j : ℕ) → j < section_count c.args.self.now → test j ≡ false =
+    λ j h. c.loop-k.invariant j (omega arith) in
     c.count-count.ensures.same ∙ sym (first_where-none test (section_count c.args.self.now) none)

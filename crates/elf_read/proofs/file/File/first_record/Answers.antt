@@ -16,5 +16,6 @@ pub returns : goal.returns
 returns c =
     let test = λ (k : ℕ). is_record_section c.args.self.now c.args.name.now k in
     let count : c.loop-k.k ≡ section_count c.args.self.now = omega arith in
-    let none : (j : ℕ) → j < section_count c.args.self.now → test j ≡ false = λ j h. c.loop-k.invariant j (omega arith) in
+    let none : (j : ℕ) → j < section_count c.args.self.now → test j ≡ false =
+    λ j h. c.loop-k.invariant j (omega arith) in
     c.count-count.ensures.same ∙ sym (first_where-none test (section_count c.args.self.now) none)

@@ -8,4 +8,5 @@ pub returns-clause-cases : goal.returns-clause-cases
 returns-clause-cases c =
     let bytes = c.args.self.now in
     let from : c.rest.result.now ≡ drop (symbol_at bytes c.args.k).name (symbol_names bytes) = cc in
-    sym (well_named bytes c.args.k _ _ from c.in_ok-stored.ensures.ends c.in_ok-stored.ensures.some (omega arith) c.in-Ok.ensures.cases.1)
+    sym (well_named bytes c.args.k _ _ from c.in_ok-stored.ensures.ends c.in_ok-stored.ensures.some (omega arith)
+    c.in-Ok.ensures.cases.1)
