@@ -1,7 +1,5 @@
 -- What the lines of a source make, one after the other: each adds to the draft, or has the least of its faults.
-use Rattle.std.specs.Prelude.{ℕ, ◌+◌, ◌-◌, ◌*◌, ◌^◌, Bool, true, false, not, ◌||◌, ◌&&◌, ◌==◌, nat_lt, nat_le, ℤ, pos, negsuc, List, [], ◌∷◌, ◌++◌, length, map, replicate, if◌then◌else◌, Option, Some, None, is_some, is_none, unwrap_or, option_map}
-use Rattle.std.specs.List.{list_all}
-use Rattle.std.specs.Str.{bytes_eq}
+use Rattle.std.specs.Prelude.{ℕ, ◌+◌, ◌-◌, ◌*◌, ◌^◌, Bool, true, false, ◌&&◌, nat_lt, nat_le, ℤ, pos, negsuc, List, [], ◌∷◌, ◌++◌, length, map, replicate, if◌then◌else◌, Option, Some, None, unwrap_or, option_map}
 use Rattle.elf_read.specs.declared.object.Area.{Area}
 use Rattle.elf_read.specs.declared.object.Area.TheVariants as areas
 use Rattle.elf_read.specs.declared.object.Reloc.{Reloc}
@@ -18,6 +16,7 @@ use Rattle.rv_line.specs.declared.statement.Datum.{Datum}
 use Rattle.rv_line.specs.declared.statement.Datum.TheVariants as data_words
 use Rattle.rv_line.specs.declared.statement.Statement.{Statement}
 use Rattle.rv_line.specs.declared.statement.Statement.TheVariants as statements
+use Rattle.rv_line.specs.Operand.{◌>>=◌}
 use Rattle.rv_names.specs.declared.names.Entry.{Entry}
 use Rattle.rv_asm.specs.declared.file.File.{File}
 use Rattle.rv_asm.specs.declared.spot.Spot.{Spot}
@@ -25,7 +24,7 @@ use Rattle.rv_asm.specs.declared.words.Words.{Words}
 use Rattle.rv_names.specs.Names.{text_value}
 use Rattle.rv_asm.specs.Node.{func_in, node_of}
 use Rattle.rv_asm.specs.Relocs.{reloc_by, relocs_of}
-use Rattle.rv_asm.specs.Words.{◌>>=◌, word_bytes, words_bytes, size_of, low_word, words_of}
+use Rattle.rv_asm.specs.Words.{word_bytes, words_bytes, size_of, low_word, words_of}
 
 -- what the lines so far have made: text and data, their relocations, the nodes, functions and branches of the records,
 -- the kind that the next indirect jump has, and the function that is open, of length 0

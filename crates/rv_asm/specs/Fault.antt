@@ -19,6 +19,7 @@ use Rattle.rv_names.specs.Names.{definition_in, text_value}
 use Rattle.rv_asm.specs.Node.{func_in, names_nodes}
 use Rattle.rv_asm.specs.Reference.{reference_of, is_partner}
 
+-- the area is data
 abbrev pub is_data : Area → Bool
 is_data areas.Text = false
 is_data areas.Data = true
@@ -78,7 +79,8 @@ is_astray file draft rest spot (statements.Jalr rd rs1 imm) =
     is_data spot.area || (file.records && is_none draft.kind)
 is_astray file draft rest spot instruction = is_data spot.area
 
--- UnknownName: the file does not define an exported name, or its text does not define a name of a switch or of an `auipc`
+-- UnknownName: the file does not define an exported name, or its text does not define a name of a switch or of an
+-- `auipc`
 abbrev pub in_text : (table : List Entry) → (name : List ℕ) → Bool
 in_text table name = is_some (text_value table name)
 

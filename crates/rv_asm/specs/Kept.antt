@@ -1,11 +1,8 @@
 -- What the code's types keep beside what clauses see: limits that records are within.
-use Rattle.std.specs.Prelude.{◌≡◌, ◌<◌, ◌≤◌, ◌^◌, ℕ, List, length, Option, Some, None, All}
+use Rattle.std.specs.Prelude.{◌<◌, ◌≤◌, ◌^◌, length, All}
 use Rattle.std.specs.Option.{ForSome}
 use Rattle.cfi_types.specs.declared.kind.TheConstants.{MAX_NODES}
-use Rattle.cfi_types.specs.Node.{Node}
 use Rattle.cfi_aux.specs.declared.format.TheConstants.{MAX_FUNCTIONS, MAX_BRANCHES}
-use Rattle.cfi_aux.specs.declared.records.Function.{Function}
-use Rattle.cfi_aux.specs.declared.records.Kind.{Kind}
 use Rattle.cfi_aux.specs.Records.{words_of}
 use Rattle.rv_asm.specs.declared.survey.Survey.TheInside.{Inside as Surveyed}
 use Rattle.rv_asm.specs.declared.draft.Draft.TheInside.{Inside as Drafted}

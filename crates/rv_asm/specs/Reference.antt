@@ -1,5 +1,5 @@
 -- The name that a statement refers to by a relocation, and the relocation's kind (RISC-V ELF psABI).
-use Rattle.std.specs.Prelude.{ℕ, Bool, true, false, ◌||◌, ◌==◌, List, if◌then◌else◌, Option, Some, None}
+use Rattle.std.specs.Prelude.{ℕ, Bool, ◌||◌, ◌==◌, List, Option, Some, None}
 use Rattle.elf_read.specs.declared.relocation.TheConstants as relocs
 use Rattle.rv_asm.specs.declared.reference.Reference.{Reference}
 use Rattle.rv_line.specs.declared.statement.Statement.{Statement}

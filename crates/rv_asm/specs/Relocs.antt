@@ -1,5 +1,5 @@
 -- The relocations of a statement, in the order of their fields.
-use Rattle.std.specs.Prelude.{ℕ, ◌+◌, Bool, ◌&&◌, pos, List, [], ◌∷◌, if◌then◌else◌, Option, Some, None, is_some}
+use Rattle.std.specs.Prelude.{ℕ, ◌&&◌, pos, List, [], ◌∷◌, if◌then◌else◌, Option, Some, None, is_some}
 use Rattle.elf_read.specs.declared.object.Area.{Area}
 use Rattle.elf_read.specs.declared.object.Area.TheVariants as areas
 use Rattle.elf_read.specs.declared.object.Reloc.{Reloc}

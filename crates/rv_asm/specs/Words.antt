@@ -1,9 +1,7 @@
 -- The words that a statement of text makes: one or two. A number is judged by its field, of which the instruction has
 -- the range (RISC-V Unprivileged ISA 20191213, 2.3); what a relocation will fill in is 0.
-use Rattle.std.specs.Prelude.{ℕ, ◌+◌, ◌-◌, ◌*◌, ◌/◌, ◌%◌, ◌^◌, ◌==◌, Bool, true, false, ◌&&◌, nat_lt, ℤ, pos, negsuc, ◌-ℤ◌, List, [], ◌∷◌, ◌++◌, if◌then◌else◌, Option, Some, None, is_some, option_and_then}
+use Rattle.std.specs.Prelude.{ℕ, ◌+◌, ◌-◌, ◌/◌, ◌%◌, ◌^◌, ◌==◌, Bool, ◌&&◌, nat_lt, ℤ, pos, negsuc, ◌-ℤ◌, List, ◌++◌, if◌then◌else◌, Option, Some, None, is_some}
 use Rattle.std.specs.Int.{w32, to_le_bytes}
-use Rattle.elf_read.specs.declared.object.Area.{Area}
-use Rattle.elf_read.specs.declared.object.Area.TheVariants as areas
 use Rattle.rv_insn.specs.declared.insn.ImmOp.{ImmOp}
 use Rattle.rv_insn.specs.declared.insn.ImmOp.TheVariants.{Addi}
 use Rattle.rv_insn.specs.declared.insn.Insn.{Insn}
@@ -22,14 +20,11 @@ use Rattle.rv_line.specs.declared.statement.Target.{Target}
 use Rattle.rv_line.specs.declared.statement.Target.TheVariants as targets
 use Rattle.rv_line.specs.declared.statement.Datum.{Datum}
 use Rattle.rv_line.specs.declared.statement.Datum.TheVariants as data_words
+use Rattle.rv_line.specs.Operand.{◌>>=◌}
 use Rattle.rv_names.specs.declared.names.Entry.{Entry}
 use Rattle.rv_names.specs.Names.{text_value}
 use Rattle.rv_asm.specs.declared.words.Words.{Words}
 use Rattle.rv_asm.specs.declared.words.Words.TheVariants.{One, Two}
-
-infixl 10 ◌>>=◌
-abbrev pub ◌>>=◌ : {A B : Type 0} → Option A → (A → Option B) → Option B
-o >>= f = option_and_then f o
 
 -- the bytes of a word, the lowest first
 abbrev pub word_bytes : (word : ℕ) → List ℕ
@@ -132,7 +127,8 @@ abbrev pub number_words : Datum → Option Words
 number_words (data_words.Number number) = Some (One (low_word number))
 number_words (data_words.Name name) = None
 
--- the words of a statement that stands at this place of the text; none where a number is outside its field
+-- the words of a statement that stands at this place of the text; none where a number is outside its field, and of a
+-- statement that has none
 abbrev pub words_of : (table : List Entry) → (at : ℕ) → Statement → Option Words
 words_of table at (statements.Op op rd rs1 rs2) = Some (one (insns.Op op rd rs1 rs2))
 words_of table at (statements.OpImm op rd rs1 imm) = do

@@ -1,6 +1,5 @@
 //! What a statement makes.
 
-ghost use Rattle.std.specs.Prelude.{◌≡◌};
 ghost use Rattle.rv_asm.specs.Draft.{with_statement};
 ghost use Rattle.rv_asm.specs.Assembled.{or_range, Gives};
 
@@ -24,7 +23,8 @@ impl Draft {
         spot: Spot,
         statement: &Statement,
     ) -> Result<(), AsmFault>
-        ensures { Gives result self.new (or_range number (with_statement file.now spot self.old statement.now)) }
+        ensures { Gives result self.new
+            (or_range number (with_statement file.now spot self.old statement.now)) }
     {
         match statement {
             Statement::Blank | Statement::Text | Statement::Data | Statement::Globl(_) => Ok(()),

@@ -1,9 +1,8 @@
 //! The assembler.
 
-ghost use Rattle.std.specs.Prelude.{◌≡◌, ◌+◌, ◌^◌, ◌<◌, length, IfOk, map};
-ghost use Rattle.rv_asm.specs.Assembled.{within, with_said, with_row, with_rows, object_of, ended, object_by, object_in, file_of, Gives, IsDue};
+ghost use Rattle.std.specs.Prelude.{◌+◌, ◌^◌, ◌<◌, length};
+ghost use Rattle.rv_asm.specs.Assembled.{with_said, with_row, with_rows, object_in, Gives, IsDue};
 ghost use Rattle.rv_asm.specs.Draft.{empty};
-ghost use Rattle.rv_names.specs.Names.{symbol_of};
 
 use crate::check::{is_twice, is_unknown};
 use crate::draft::Draft;
@@ -48,7 +47,8 @@ fn add_row(
     rest: &[Row],
     row: &Row,
 ) -> Result<(), AsmFault>
-    ensures { Gives result draft.new (with_row file.now draft.old rest.now row.now row.now.statement) }
+    ensures { Gives result draft.new
+        (with_row file.now draft.old rest.now row.now row.now.statement) }
 {
     match &row.statement {
         Some(statement) => add_said(alloc, draft, file, rest, row, statement),
@@ -71,7 +71,7 @@ fn draft_of(alloc: Global, file: &File, rows: &[Row]) -> Result<Draft, AsmFault>
 
 /// The object that a source makes, or its first faulty line.
 ///
-/// `text` is the source, of lines that end at 0x0a. The least faulty line decides, then the least of its faults in the
+/// `text` is the source, of lines that end at 0x0a. The first faulty line decides, then the least of its faults in the
 /// order of the variants; `Memory` is the one further answer. RISC-V Unprivileged ISA 20191213, chapter 25, and RISC-V
 /// ELF psABI: mnemonics, operands and relocations.
 pub fn assemble(alloc: Global, text: &[u8]) -> Result<Object, AsmFault>

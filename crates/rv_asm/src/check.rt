@@ -1,6 +1,6 @@
 //! The faults of a line.
 
-ghost use Rattle.std.specs.Prelude.{◌≡◌, ◌++◌, length};
+ghost use Rattle.std.specs.Prelude.{◌≡◌};
 ghost use Rattle.std.specs.Option.{option_copied, option_map};
 ghost use Rattle.rv_asm.specs.Reference.{shown};
 ghost use Rattle.rv_asm.specs.Fault.{is_kind, is_jump, says, of_jumps, jump_follows, lacks_partner, is_unknown, is_elsewhere, is_again, is_label, begins_again, is_twice};

@@ -5,10 +5,11 @@ ghost use Rattle.rv_asm.specs.Words.{distance, offset_of, pair, number_words, wo
 ghost use Rattle.rv_insn.specs.declared.insn.ImmOp.TheVariants.{Addi};
 ghost use Rattle.rv_insn.specs.declared.insn.Insn.TheVariants as insns;
 
-use crate::words::{
-    Words, branch_field, high_field, imm_field, jump_field, li_words, low_field, low_word, one,
-    pair,
+use crate::forms::{
+    auipc_words, branch_words, imm_op_words, jal_words, jalr_words, load_words, lui_words,
+    op_words, store_words,
 };
+use crate::words::{Words, li_words, low_word, one, pair};
 use rv_insn::{ImmOp, Insn};
 use rv_line::{Datum, Register, Statement, Target};
 use rv_names::Names;
@@ -82,78 +83,39 @@ fn number_words(datum: &Datum) -> Option<Words>
 pub fn words_of(names: &Names, at: u32, statement: &Statement) -> Option<Words>
     ensures { result ≡ words_of names.now at statement.now }
 {
-    let words = match statement {
-        Statement::Op { op, rd, rs1, rs2 } => one(Insn::Op {
-            op: *op,
-            rd: rd.number(),
-            rs1: rs1.number(),
-            rs2: rs2.number(),
-        }),
-        Statement::OpImm { op, rd, rs1, imm } => one(Insn::OpImm {
-            op: *op,
-            rd: rd.number(),
-            rs1: rs1.number(),
-            imm: imm_field(*op, imm)?,
-        }),
-        Statement::Load { kind, rd, rs1, imm } => one(Insn::Load {
-            kind: *kind,
-            rd: rd.number(),
-            rs1: rs1.number(),
-            imm: low_field(imm)?,
-        }),
+    match statement {
+        Statement::Op { op, rd, rs1, rs2 } => Some(op_words(*op, *rd, *rs1, *rs2)),
+        Statement::OpImm { op, rd, rs1, imm } => imm_op_words(*op, *rd, *rs1, imm),
+        Statement::Load { kind, rd, rs1, imm } => load_words(*kind, *rd, *rs1, imm),
         Statement::Store {
             kind,
             rs1,
             rs2,
             imm,
-        } => one(Insn::Store {
-            kind: *kind,
-            rs1: rs1.number(),
-            rs2: rs2.number(),
-            imm: low_field(imm)?,
-        }),
+        } => store_words(*kind, *rs1, *rs2, imm),
         Statement::Branch {
             cond,
             rs1,
             rs2,
             target,
-        } => one(Insn::Branch {
-            cond: *cond,
-            rs1: rs1.number(),
-            rs2: rs2.number(),
-            off: branch_field(offset_of(names, at, target))?,
-        }),
-        Statement::Lui { rd, imm } => one(Insn::Lui {
-            rd: rd.number(),
-            imm: high_field(imm)?,
-        }),
-        Statement::Auipc { rd, imm } => one(Insn::Auipc {
-            rd: rd.number(),
-            imm: high_field(imm)?,
-        }),
-        Statement::Jal { rd, target } => one(Insn::Jal {
-            rd: rd.number(),
-            off: jump_field(offset_of(names, at, target))?,
-        }),
-        Statement::Jalr { rd, rs1, imm } => one(Insn::Jalr {
-            rd: rd.number(),
-            rs1: rs1.number(),
-            imm: low_field(imm)?,
-        }),
-        Statement::Fence => Words::One(FULL_FENCE),
-        Statement::Ecall => one(Insn::Ecall),
-        Statement::Ebreak => one(Insn::Ebreak),
-        Statement::Li { rd, number } => li_words(*rd, low_word(*number)),
-        Statement::La { rd, .. } => la_words(*rd),
-        Statement::Ret => one(Insn::Jalr {
+        } => branch_words(*cond, *rs1, *rs2, offset_of(names, at, target)),
+        Statement::Lui { rd, imm } => lui_words(*rd, imm),
+        Statement::Auipc { rd, imm } => auipc_words(*rd, imm),
+        Statement::Jal { rd, target } => jal_words(*rd, offset_of(names, at, target)),
+        Statement::Jalr { rd, rs1, imm } => jalr_words(*rd, *rs1, imm),
+        Statement::Fence => Some(Words::One(FULL_FENCE)),
+        Statement::Ecall => Some(one(Insn::Ecall)),
+        Statement::Ebreak => Some(one(Insn::Ebreak)),
+        Statement::Li { rd, number } => Some(li_words(*rd, low_word(*number))),
+        Statement::La { rd, .. } => Some(la_words(*rd)),
+        Statement::Ret => Some(one(Insn::Jalr {
             rd: 0,
             rs1: 1,
             imm: 0,
-        }),
-        Statement::Call(_) => far_words(1, 1),
-        Statement::Tail(_) => far_words(0, 6),
-        Statement::Word(datum) => return number_words(datum),
-        _ => return None,
-    };
-    Some(words)
+        })),
+        Statement::Call(_) => Some(far_words(1, 1)),
+        Statement::Tail(_) => Some(far_words(0, 6)),
+        Statement::Word(datum) => number_words(datum),
+        _ => None,
+    }
 }

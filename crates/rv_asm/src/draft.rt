@@ -81,7 +81,8 @@ impl Draft {
         words: Words,
     ) -> Result<(), AsmFault>
         requires { length added.now ≤ 2 }
-        ensures { Gives result self.new (or_range number (with_words spot self.old added.now words)) }
+        ensures { Gives result self.new
+            (or_range number (with_words spot self.old added.now words)) }
     {
         let end = spot.text_end as usize + words.size() as usize;
         if end > 4 * MAX_WORDS || !self.has_relocs(added.len()) {
@@ -101,7 +102,8 @@ impl Draft {
         spot: Spot,
         statement: &Statement,
     ) -> Result<(), AsmFault>
-        ensures { Gives result self.new (or_range number (with_code file.now spot self.old statement.now)) }
+        ensures { Gives result self.new
+            (or_range number (with_code file.now spot self.old statement.now)) }
     {
         let Some(words) = words_of(&file.names, spot.text_end, statement) else {
             return Err(AsmFault::Range(number));
@@ -152,7 +154,8 @@ impl Draft {
         spot: Spot,
         datum: &Datum,
     ) -> Result<(), AsmFault>
-        ensures { Gives result self.new (or_range number (with_datum file.now.names spot self.old datum.now)) }
+        ensures { Gives result self.new
+            (or_range number (with_datum file.now.names spot self.old datum.now)) }
     {
         match datum {
             Datum::Number(value) => self.add_data(number, spot, low_word(*value), &[]),
@@ -184,7 +187,8 @@ impl Draft {
         datum: &Datum,
     ) -> Result<(), AsmFault>
         requires { statement.now ≡ statements.Word datum.now }
-        ensures { Gives result self.new (or_range number (with_word spot.area file.now spot self.old datum.now)) }
+        ensures { Gives result self.new
+            (or_range number (with_word spot.area file.now spot self.old datum.now)) }
     {
         match spot.area {
             Area::Text => self.add_code(alloc, number, file, spot, statement),

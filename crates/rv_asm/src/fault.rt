@@ -1,3 +1,5 @@
+//! Why a text makes no object.
+
 use std::alloc::{AllocError, AllocFailed};
 use thiserror::Error;
 

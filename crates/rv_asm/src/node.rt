@@ -1,6 +1,6 @@
 //! The nodes of a source.
 
-ghost use Rattle.std.specs.Prelude.{◌≡◌, ◌≤◌, ◌<◌, ◌^◌, length, map, drop, IfOk, IfSome};
+ghost use Rattle.std.specs.Prelude.{◌≡◌, ◌≤◌, ◌<◌, length, map, drop, IfOk, IfSome};
 ghost use Rattle.cfi_types.specs.declared.kind.TheConstants.{MAX_FIELDS};
 ghost use Rattle.std.specs.List.{list_all};
 ghost use Rattle.cfi_types.specs.Kind.{number_count};
@@ -12,7 +12,7 @@ use cfi_types::{ARRAY, FUNC, INT, MAX_FIELDS, PTR, REAL, STRUCT, TypeNode, UNION
 use rv_line::NodeKind;
 use std::alloc::{AllocError, Global};
 
-/// The number of a kind.
+// The number of a kind.
 fn number_of(kind: NodeKind) -> u32
     ensures { result ≡ number_of kind }
 {

@@ -1,6 +1,6 @@
 //! What the lines of a source have made so far: its records.
 
-ghost use Rattle.std.specs.Prelude.{◌≡◌, ◌<◌, ◌^◌, length, Ok};
+ghost use Rattle.std.specs.Prelude.{◌<◌, ◌^◌, length, Ok};
 ghost use Rattle.std.specs.Option.{ForSome};
 ghost use Rattle.cfi_aux.specs.Records.{words_of};
 ghost use Rattle.rv_asm.specs.Node.{node_of};
@@ -27,7 +27,8 @@ impl Draft {
         kind: NodeKind,
         fields: &[i64],
     ) -> Result<(), AsmFault>
-        ensures { Gives result self.new (or_range number (with_node self.old (node_of kind fields.now))) }
+        ensures { Gives result self.new
+            (or_range number (with_node self.old (node_of kind fields.now))) }
     {
         let Some(node) = node_of(alloc, kind, fields)? else {
             return Err(AsmFault::Range(number));

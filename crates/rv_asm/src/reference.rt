@@ -1,6 +1,6 @@
 //! The names that statements refer to.
 
-ghost use Rattle.std.specs.Prelude.{◌≡◌, ℕ, List};
+ghost use Rattle.std.specs.Prelude.{◌≡◌};
 ghost use Rattle.std.specs.Option.{option_map};
 ghost use Rattle.rv_asm.specs.Reference.{shown, low_reference, high_reference, target_reference, datum_reference, reference_of, is_leap, is_partner};
 

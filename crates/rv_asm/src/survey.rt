@@ -1,14 +1,12 @@
 //! The first reading of a source: where its lines stand, and its names.
 
-ghost use Rattle.std.specs.Prelude.{◌≡◌, ◌+◌, ◌<◌, ◌≤◌, ◌^◌, length, IfOk, OnOk, Option, Some, None};
-ghost use Rattle.std.specs.Option.{option_map};
+ghost use Rattle.std.specs.Prelude.{◌≡◌, ◌<◌, ◌≤◌, ◌^◌, length, IfOk, OnOk};
 ghost use Rattle.cfi_text.specs.Lines.{numbered_lines};
-ghost use Rattle.rv_line.specs.declared.statement.Statement.TheVariants as statements;
 ghost use Rattle.rv_names.specs.Names.{with_name, with_definition, with_names};
 ghost use Rattle.rv_asm.specs.Assembled.{file_of};
 ghost use Rattle.rv_asm.specs.Reference.{reference_of};
 ghost use Rattle.rv_asm.specs.Spot.{pair_label};
-ghost use Rattle.rv_asm.specs.Survey.{Survey as Said, definition_at, with_reference, with_statement, with_said, with_label, names_of, with_kind, nothing, row_of, with_line, with_lines};
+ghost use Rattle.rv_asm.specs.Survey.{definition_at, with_reference, with_statement, names_of, nothing, with_line, with_lines};
 
 use crate::file::File;
 use crate::reference::reference_of;
@@ -33,9 +31,6 @@ pub struct Survey {
 }
 
 impl Model for Survey {
-    ghost use Rattle.rv_asm.specs.Assembled.{file_of};
-    ghost use Rattle.rv_asm.specs.Reference.{reference_of};
-    ghost use Rattle.rv_asm.specs.Spot.{pair_label};
     ghost use Rattle.rv_asm.specs.Survey.{Survey as Said};
 
     ghost Value = { Said };
@@ -63,7 +58,8 @@ fn add_pair(
     spot: Spot,
     name: &Name,
 ) -> Result<(), AllocError>
-    ensures { OnOk result (names.new ≡ with_name (with_definition names.old (pair_label spot.pairs) (definition_at number spot)) name.now) }
+    ensures { OnOk result (names.new ≡ with_name
+        (with_definition names.old (pair_label spot.pairs) (definition_at number spot)) name.now) }
 {
     let label = pair_label(alloc, spot.pairs)?;
     names.define(alloc, label.as_str(), definition_at(number, spot))?;

@@ -1,13 +1,13 @@
 //! The words of the statements of text.
 
-ghost use Rattle.std.specs.Prelude.{◌≡◌, ◌++◌, ◌^◌, ◌<◌, ◌≤◌, pos, ℤ, OnOk, IfSome};
+ghost use Rattle.std.specs.Prelude.{◌≡◌, ◌++◌, ◌^◌, ◌<◌, ◌≤◌, OnOk, IfSome};
 ghost use Rattle.rv_insn.specs.Fields.{signed};
-ghost use Rattle.rv_insn.specs.Insn.{InRange, IsShift, IsImmOf, word_of};
+ghost use Rattle.rv_insn.specs.Insn.{InRange, IsShift, IsImmOf};
 ghost use Rattle.rv_insn.specs.Rows.{imm_funct7};
 ghost use Rattle.rv_insn.specs.Word.{IsSigned, IsEven};
 ghost use Rattle.rv_insn.specs.declared.insn.ImmOp.TheVariants.{Addi};
 ghost use Rattle.rv_insn.specs.declared.insn.Insn.TheVariants as insns;
-ghost use Rattle.rv_asm.specs.Words.{words_bytes, size_of, low_word, signed_field, offset_field, unsigned_field, low_field, shift_field, imm_field, high_field, one, high_part, low_part, li_words, pair};
+ghost use Rattle.rv_asm.specs.Words.{words_bytes, size_of, low_word, signed_field, offset_field, low_field, shift_field, imm_field, high_field, one, low_part, li_words, pair};
 
 use rv_insn::{ImmOp, Insn, encode};
 use rv_line::{High, Low, Register};

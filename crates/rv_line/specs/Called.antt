@@ -1,5 +1,6 @@
 -- What a keyword names: an operation, an access or a condition by its mnemonic, another statement by its own word.
 use Rattle.std.specs.Prelude.{ℕ, List, codes, find, if◌then◌else◌, Option, Some, None}
+use Rattle.std.specs.Option.{option_or}
 use Rattle.std.specs.Str.{bytes_eq}
 use Rattle.rv_insn.specs.declared.insn.Cond.{Cond}
 use Rattle.rv_insn.specs.declared.insn.LoadKind.{LoadKind}
@@ -65,12 +66,9 @@ directive_called word =
     else (if bytes_eq word (codes ".endfunc") then Some keywords.EndFunc
     else (if bytes_eq word (codes ".kind") then Some keywords.Kind else None))))))))
 
-abbrev pub keyword_or : Option Keyword → Option Keyword → Option Keyword
-keyword_or None other = other
-keyword_or (Some keyword) other = Some keyword
-
+-- the keyword that a word is
 abbrev pub keyword_called : (word : List ℕ) → Option Keyword
-keyword_called word = keyword_or (mnemonic_called word) (keyword_or (short_called word) (directive_called word))
+keyword_called word = option_or (mnemonic_called word) (option_or (short_called word) (directive_called word))
 
 -- the kinds of type nodes
 unfoldable pub node_kind_called : (word : List ℕ) → Option NodeKind

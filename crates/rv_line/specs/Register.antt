@@ -1,5 +1,6 @@
 -- Registers by their names (RISC-V ELF psABI, integer register convention): x0 to x31, or the names of their use.
 use Rattle.std.specs.Prelude.{ℕ, ◌+◌, ◌==◌, nat_lt, List, [], ◌∷◌, codes, if◌then◌else◌, Option, Some, None, option_and_then}
+use Rattle.std.specs.Option.{option_or}
 use Rattle.std.specs.Str.{bytes_eq}
 use Rattle.rv_line.specs.Number.{number_in}
 
@@ -30,10 +31,6 @@ abbrev pub lettered_register : (word : List ℕ) → Option ℕ
 lettered_register [] = None
 lettered_register (letter ∷ digits) = option_and_then (numbered_register letter) (number_in digits)
 
-abbrev pub or_else : Option ℕ → Option ℕ → Option ℕ
-or_else None other = other
-or_else (Some register) other = Some register
-
 -- the register that the word names
 abbrev pub register_in : (word : List ℕ) → Option ℕ
-register_in word = or_else (named_register word) (lettered_register word)
+register_in word = option_or (named_register word) (lettered_register word)

@@ -23,7 +23,7 @@ use Rattle.cfi_text.specs.Names.{name_in}
 use Rattle.rv_line.specs.Number.{integer_in}
 use Rattle.rv_line.specs.Register.{register_in}
 use Rattle.rv_line.specs.Called.{op_called, imm_op_called, load_called, store_called, cond_called, keyword_called, node_kind_called}
-use Rattle.rv_line.specs.Operand.{◌>>=◌, word_in, two_in, three_in, low_in, high_in, place_in, target_in, datum_in}
+use Rattle.rv_line.specs.Operand.{◌>>=◌, only_word, word_in, two_in, three_in, low_in, high_in, place_in, target_in, datum_in}
 
 -- `add rd,rs1,rs2` and its kin
 unfoldable pub op_form : Op → (rest : List ℕ) → Option Statement
@@ -229,9 +229,7 @@ switch_of (name ∷ names) = Some (statements.KindSwitch (name ∷ names))
 
 -- a number that is the only word
 abbrev pub only_integer : (words : List (List ℕ)) → Option ℤ
-only_integer [] = None
-only_integer (word ∷ []) = integer_in word
-only_integer (word ∷ other ∷ words) = None
+only_integer words = option_and_then integer_in (only_word words)
 
 unfoldable pub kind_by : (kind : List ℕ) → (words : List (List ℕ)) → Option Statement
 kind_by kind words =

@@ -1,8 +1,6 @@
 //! What the keywords of a source name.
 
-ghost use Rattle.std.specs.Prelude.{◌≡◌, find};
-ghost use Rattle.std.specs.Str.{bytes_eq};
-ghost use Rattle.rv_insn.specs.InsnOf.{conds, load_kinds, store_kinds, imm_ops, ops};
+ghost use Rattle.std.specs.Prelude.{◌≡◌};
 ghost use Rattle.rv_text.specs.Names.{cond_name, load_name, store_name, imm_op_name, op_name};
 ghost use Rattle.rv_line.specs.Called.{op_called, imm_op_called, load_called, store_called, cond_called, mnemonic_called, short_called, directive_called, keyword_called, node_kind_called};
 

@@ -17,7 +17,8 @@ use std::alloc::{AllocError, Global};
 
 // The numbers that the words are. `None` where one is none.
 fn integers_of(alloc: Global, text: &[u8]) -> Result<Option<Vec<i64>>, AllocError>
-    ensures { IfOk result (λ found. option_map (λ v. v.items) found ≡ integers_in (words_in text.now)) }
+    ensures { IfOk result
+        (λ found. option_map (λ v. v.items) found ≡ integers_in (words_in text.now)) }
 {
     let mut numbers = Vec::new(alloc);
     let mut rest = text;
@@ -33,7 +34,8 @@ fn integers_of(alloc: Global, text: &[u8]) -> Result<Option<Vec<i64>>, AllocErro
 
 // The names that the words are. `None` where one is none.
 fn names_of(alloc: Global, text: &[u8]) -> Result<Option<Vec<Name>>, AllocError>
-    ensures { IfOk result (λ found. option_map (λ v. v.items) found ≡ names_in (words_in text.now)) }
+    ensures { IfOk result
+        (λ found. option_map (λ v. v.items) found ≡ names_in (words_in text.now)) }
 {
     let mut names = Vec::new(alloc);
     let mut rest = text;
@@ -139,7 +141,8 @@ fn switch_of(names: Vec<Name>) -> Option<Statement>
 }
 
 fn switch_form(alloc: Global, rest: &[u8]) -> Result<Option<Statement>, AllocError>
-    ensures { IfOk result (λ found. found ≡ option_and_then switch_of (names_in (words_in rest.now))) }
+    ensures { IfOk result
+        (λ found. found ≡ option_and_then switch_of (names_in (words_in rest.now))) }
 {
     match names_of(alloc, rest)? {
         Some(names) => Ok(switch_of(names)),

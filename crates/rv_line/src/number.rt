@@ -8,7 +8,7 @@ use cfi_text::read_dec;
 /// The greatest number of a source.
 const MAX: u64 = 4_294_967_295;
 
-/// One more than the greatest number below which a source may go.
+/// How far below zero the least number of a source is.
 const LEAST: u64 = 2_147_483_648;
 
 /// The decimal number of 64 bits that a word spells.

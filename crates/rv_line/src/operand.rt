@@ -1,7 +1,7 @@
 //! The operands of an instruction.
 
-ghost use Rattle.std.specs.Prelude.{◌≡◌, ◌<◌, ◌≤◌, length, position, Some, None, MatchOption, IfOk, IfSome};
-ghost use Rattle.rv_line.specs.Operand.{word_in, is_byte, is_empty, cut, two_in, three_in, low_by, low_reference_in, high_by, high_reference_in, closed_in, low_in, high_in, base_in, number_place_in, reference_place_in, place_in, target_in, datum_in};
+ghost use Rattle.std.specs.Prelude.{◌≡◌, ◌<◌, length, position, Some, None, MatchOption, IfOk, IfSome};
+ghost use Rattle.rv_line.specs.Operand.{word_in, is_byte, cut, two_in, three_in, low_by, low_reference_in, high_by, high_reference_in, closed_in, low_in, high_in, base_in, number_place_in, reference_place_in, place_in, target_in, datum_in};
 
 use crate::names::name_of;
 use crate::number::{integer_of, small_number_of};
@@ -13,7 +13,8 @@ use std::alloc::{AllocError, Global};
 
 /// The only word of a text.
 pub fn word_of(text: &[u8]) -> Option<&[u8]>
-    ensures { MatchOption result (word_in text.now ≡ None) (λ word. word_in text.now ≡ Some word.now) }
+    ensures { MatchOption result (word_in text.now ≡ None)
+        (λ word. word_in text.now ≡ Some word.now) }
 {
     let Some((word, rest)) = next_word(text) else {
         return None;
@@ -135,7 +136,8 @@ fn high_reference_of(alloc: Global, front: &[u8]) -> Result<Option<High>, AllocE
 // What stands before a closing parenthesis that ends the word.
 #[tactic(auto, unfolding(crate::specs::Operand::closed_in))]
 fn closed_of(word: &[u8]) -> Option<&[u8]>
-    ensures { MatchOption result (closed_in word.now ≡ None) (λ front. closed_in word.now ≡ Some front.now) }
+    ensures { MatchOption result (closed_in word.now ≡ None)
+        (λ front. closed_in word.now ≡ Some front.now) }
 {
     let Some((front, back)) = cut_at(word, b')') else {
         return None;

@@ -1,6 +1,6 @@
 //! Registers by their names.
 
-ghost use Rattle.std.specs.Prelude.{◌≡◌, ◌<◌, IfSome};
+ghost use Rattle.std.specs.Prelude.{◌≡◌, ◌<◌};
 ghost use Rattle.rv_line.specs.Register.{named_register, numbered_register, lettered_register, register_in};
 
 use crate::number::decimal_of;

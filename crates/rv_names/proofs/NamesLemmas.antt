@@ -1,47 +1,39 @@
 -- Numbers, definitions and changes of names in a table.
-use Rattle.std.proofs.Common.{◌≡◌, ℕ, zero, suc, ◌+◌, ◌<◌, Bool, true, false, List, [], ◌∷◌, ◌++◌, length, set, Option, Some, None, option_map, if◌then◌else◌, slice_get, refl, ap, arith, ◌∙◌, sym, subst, ⊎_elim, is_some, not, get_or}
+use Rattle.std.proofs.Common.{◌≡◌, ℕ, zero, suc, ◌<◌, Bool, true, false, List, [], ◌∷◌, ◌++◌, length, set, Option, Some, None, option_map, if◌then◌else◌, slice_get, refl, ap, arith, ◌∙◌, sym, subst, ⊎_elim, is_some, get_or}
 use Rattle.std.proofs.lemmas.Bool.{cases_Bool}
 use Rattle.std.proofs.lemmas.Slice.Eq.{bytes_eq-Decides}
+use Rattle.std.specs.Option.{option_or}
 use Rattle.std.specs.Str.{bytes_eq}
 use Rattle.rv_names.specs.declared.names.Definition.{Definition}
 use Rattle.rv_names.specs.declared.names.Entry.{Entry}
-use Rattle.rv_names.specs.Names.{is_named, or_else, number_in, definition_in, fresh, with_name, changed, defined, with_definition, with_export, exported}
+use Rattle.rv_names.specs.Names.{is_named, number_in, definition_in, fresh, with_name, changed, defined}
 
-or_else-none : (number : Option ℕ) → or_else number None ≡ number
-or_else-none None = refl
-or_else-none (Some number) = refl
+option_or-none : (number : Option ℕ) → option_or number None ≡ number
+option_or-none None = refl
+option_or-none (Some number) = refl
 
 -- a new name gets one
 pub given : (get gives : List ℕ → Option ℕ) (name other : List ℕ) (number : ℕ) → get name ≡ None →
     gives other ≡ (if bytes_eq name other then Some number else get other) →
-    gives other ≡ or_else (get other) (if bytes_eq name other then Some number else None)
+    gives other ≡ option_or (get other) (if bytes_eq name other then Some number else None)
 given get gives name other number missing is =
     ⊎_elim (λ (same : bytes_eq name other ≡ true).
     (let none : get other ≡ None = subst (λ (o : List ℕ). get o ≡ None)
     ((bytes_eq-Decides name other).0 same) missing in
     is ∙ (rw (none, same) refl)))
-    (λ (apart : bytes_eq name other ≡ false). is ∙ (rw apart (sym (or_else-none (get other)))))
+    (λ (apart : bytes_eq name other ≡ false). is ∙ (rw apart (sym (option_or-none (get other)))))
     (cases_Bool (bytes_eq name other))
 
 -- what is read at a place stands there
-pub at_place : (table : List Entry) (i : ℕ) (entry : Entry) → i < length table → entry ≡ get_or table i entry →
+at_place : (table : List Entry) (i : ℕ) (entry : Entry) → i < length table → entry ≡ get_or table i entry →
     slice_get table i ≡ Some entry
 at_place [] i entry h read = absurd (omega arith)
 at_place (first ∷ table) zero entry h read = ap (λ (e : Entry). Some e) (sym read)
 at_place (first ∷ table) (suc k) entry h read = at_place table k entry (omega arith) read
 
--- a test for nothing
-pub none-some : (test : Bool) (definition : Option Definition) → is_some definition ≡ not test → test ≡ true →
-    is_some definition ≡ false
-none-some test definition is holds = is ∙ ap not holds
-
-pub some-none : (test : Bool) (definition : Option Definition) → is_some definition ≡ not test → test ≡ false →
-    is_some definition ≡ true
-some-none test definition is fails = is ∙ ap not fails
-
 push_step : (b c : Bool) (n : ℕ) (found : Option ℕ) →
-    (if b then Some 0 else option_map suc (or_else found (if c then Some n else None)))
-    ≡ or_else (if b then Some 0 else option_map suc found) (if c then Some (suc n) else None)
+    (if b then Some 0 else option_map suc (option_or found (if c then Some n else None)))
+    ≡ option_or (if b then Some 0 else option_map suc found) (if c then Some (suc n) else None)
 push_step true c n found = refl
 push_step false true n None = refl
 push_step false false n None = refl
@@ -50,7 +42,7 @@ push_step false c n (Some number) = refl
 -- an entry at the end has a number where its name is new
 pub number_in-push : (table : List Entry) (entry : Entry) (name : List ℕ) →
     number_in (table ++ entry ∷ []) name
-    ≡ or_else (number_in table name) (if is_named name entry then Some (length table) else None)
+    ≡ option_or (number_in table name) (if is_named name entry then Some (length table) else None)
 number_in-push [] entry name = refl
 number_in-push (first ∷ table) entry name =
     rw (number_in-push table entry name)
@@ -173,46 +165,26 @@ definition_in-missing (first ∷ table) name h =
     undefined_step (is_named name first) (number_in table name) first.definition (definition_in table name)
     (λ e. definition_in-missing table name e) h
 
--- a list with an item that it has
-set_same : {X : Type 0} (xs : List X) (i : ℕ) (x : X) → slice_get xs i ≡ Some x → set xs i x ≡ xs
-set_same [] i x there = refl
-set_same (first ∷ xs) zero x there =
-    let same : x ≡ first = cc in
-    ap (λ y. y ∷ xs) same
-set_same (first ∷ xs) (suc k) x there = ap (λ ys. first ∷ ys) (set_same xs k x there)
+-- what is read at a name's number stands there
+pub named-there : (table : List Entry) (name : List ℕ) (i : ℕ) (entry : Entry) → number_in table name ≡ Some i →
+    entry ≡ get_or table i entry → slice_get table i ≡ Some entry
+named-there table name i entry found read = at_place table i entry (number_in-bound table name i found) read
 
-defined-new : (definition : Definition) (entry : Entry) → is_some entry.definition ≡ false →
-    defined definition entry ≡ record entry { definition = Some definition }
-defined-new definition entry new = rw new refl
+-- the entry that a name has, once it occurs, is changed where it stands
+pub changed-at : (change : Entry → Entry) (old table : List Entry) (name : List ℕ) (i : ℕ) (entry : Entry) →
+    table ≡ with_name old name → number_in table name ≡ Some i → slice_get table i ≡ Some entry →
+    set table i (change entry) ≡ changed change (with_name old name) name
+changed-at change old table name i entry same found there =
+    sym (changed-set change table name i entry found there) ∙ ap (λ (t : List Entry). changed change t name) same
 
-defined-old : (definition : Definition) (entry : Entry) → is_some entry.definition ≡ true →
-    defined definition entry ≡ entry
-defined-old definition entry old = rw old refl
+-- a definition leaves the name
+same_name : (b : Bool) (definition : Definition) (entry : Entry) →
+    (if b then entry else record entry { definition = Some definition }).name ≡ entry.name
+same_name true definition entry = refl
+same_name false definition entry = refl
 
-module _ (old table : List Entry) (name : List ℕ) (place : ℕ) (entry : Entry) (same : table ≡ with_name old name)
-    (found : number_in table name ≡ Some place) (there : slice_get table place ≡ Some entry)
-  where
-    -- a new definition
-    pub define-new : (definition : Definition) → is_some entry.definition ≡ false →
-        set table place (record entry { definition = Some definition }) ≡ with_definition old name definition
-    define-new definition new =
-        ap (set table place) (sym (defined-new definition entry new))
-        ∙ sym (changed-set (defined definition) table name place entry found there)
-        ∙ ap (λ (t : List Entry). changed (defined definition) t name) same
-
-    -- a name that is defined stays as it is
-    pub define-old : (definition : Definition) → is_some entry.definition ≡ true →
-        table ≡ with_definition old name definition
-    define-old definition old_one =
-        sym (set_same table place entry there)
-        ∙ ap (set table place) (sym (defined-old definition entry old_one))
-        ∙ sym (changed-set (defined definition) table name place entry found there)
-        ∙ ap (λ (t : List Entry). changed (defined definition) t name) same
-
-    pub export-at : set table place (exported entry) ≡ with_export old name
-    export-at =
-        sym (changed-set exported table name place entry found there)
-        ∙ ap (λ (t : List Entry). changed exported t name) same
+pub defined-name : (definition : Definition) (entry : Entry) → (defined definition entry).name ≡ entry.name
+defined-name definition entry = same_name (is_some entry.definition) definition entry
 
 bytes_eq-same : (name : List ℕ) → bytes_eq name name ≡ true
 bytes_eq-same name = (bytes_eq-Decides name name).1 refl

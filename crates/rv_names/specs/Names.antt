@@ -17,11 +17,6 @@ use Rattle.rv_names.specs.declared.names.Entry.{Entry}
 abbrev pub is_named : (name : List ℕ) → Entry → Bool
 is_named name entry = bytes_eq entry.name name
 
--- the first of two numbers
-abbrev pub or_else : Option ℕ → Option ℕ → Option ℕ
-or_else None other = other
-or_else (Some number) other = Some number
-
 -- the number of a name
 abbrev pub number_in : (table : List Entry) → (name : List ℕ) → Option ℕ
 number_in [] name = None

@@ -1,9 +1,10 @@
 //! The names of a source.
 
-ghost use Rattle.std.specs.Prelude.{◌≡◌, ◌++◌, ◌∷◌, [], ◌<◌, ◌≤◌, length, List, ℕ, Some, None, if◌then◌else◌, IfOk, OnOk, OnErr, map};
+ghost use Rattle.std.specs.Prelude.{◌≡◌, ◌++◌, ◌∷◌, [], length, List, ℕ, Some, None, if◌then◌else◌, IfOk, OnOk, OnErr, map};
 ghost use Rattle.std.specs.BTreeMap.{get_by_text};
+ghost use Rattle.std.specs.Option.{option_or};
 ghost use Rattle.std.specs.Str.{bytes_eq};
-ghost use Rattle.rv_names.specs.Names.{or_else, number_in, definition_in, text_value, with_name, with_definition, with_export, in_order, place_of, symbol_of, value_of};
+ghost use Rattle.rv_names.specs.Names.{number_in, definition_in, text_value, with_name, with_definition, with_export, in_order, place_of, symbol_of, value_of};
 
 use elf_read::{Area, Binding, Name, Place, Symbol, Symbols};
 use std::alloc::{AllocError, Global};
@@ -82,7 +83,7 @@ pub struct Names {
     numbers: BTreeMap<String, u32>,
 }
 
-// Clauses see the entries.
+// Clauses see the entries. A call that lacks memory leaves them as they were.
 impl Model for Names {
     ghost use Rattle.std.specs.Prelude.{List};
     ghost use Rattle.rv_names.specs.declared.names.Entry.{Entry};
@@ -104,8 +105,10 @@ fn give_number(
     number: u32,
 ) -> Result<(), AllocError>
     ensures ok { OnOk result ((other : List ℕ) → get_by_text numbers.new other
-        ≡ or_else (get_by_text numbers.old other) (if bytes_eq name.now other then Some number else None)) }
-    ensures err { OnErr result ((other : List ℕ) → get_by_text numbers.new other ≡ get_by_text numbers.old other) }
+        ≡ option_or (get_by_text numbers.old other)
+        (if bytes_eq name.now other then Some number else None)) }
+    ensures err { OnErr result
+        ((other : List ℕ) → get_by_text numbers.new other ≡ get_by_text numbers.old other) }
 {
     if numbers.get(name).is_some() {
         return Ok(());
@@ -162,7 +165,8 @@ impl Names {
 
     /// Adds an entry at the end. More than 2^32 - 1 are want of memory.
     pub fn push(&mut self, alloc: Global, entry: Entry) -> Result<(), AllocError>
-        ensures { OnOk result (self.new ≡ self.old ++ entry ∷ []) }
+        ensures ok { OnOk result (self.new ≡ self.old ++ entry ∷ []) }
+        ensures err { OnErr result (self.new ≡ self.old) }
     {
         let number = self.entries.len();
         if number >= u32::MAX as usize {
@@ -176,8 +180,9 @@ impl Names {
 
     // The place of a name's entry, which is added where there is none.
     fn place_of(&mut self, alloc: Global, name: &str) -> Result<usize, AllocError>
-        ensures same { OnOk result (self.new ≡ with_name self.old name.now) }
+        ensures ok { OnOk result (self.new ≡ with_name self.old name.now) }
         ensures place { IfOk result (λ place. number_in self.new name.now ≡ Some place) }
+        ensures err { OnErr result (self.new ≡ self.old) }
     {
         if let Some(number) = self.number_of(name) {
             return Ok(number as usize);
@@ -194,7 +199,8 @@ impl Names {
 
     /// A name occurs.
     pub fn mention(&mut self, alloc: Global, name: &str) -> Result<(), AllocError>
-        ensures { OnOk result (self.new ≡ with_name self.old name.now) }
+        ensures ok { OnOk result (self.new ≡ with_name self.old name.now) }
+        ensures err { OnErr result (self.new ≡ self.old) }
     {
         self.place_of(alloc, name)?;
         Ok(())
@@ -207,18 +213,18 @@ impl Names {
         name: &str,
         definition: Definition,
     ) -> Result<(), AllocError>
-        ensures { OnOk result (self.new ≡ with_definition self.old name.now definition) }
+        ensures ok { OnOk result (self.new ≡ with_definition self.old name.now definition) }
+        ensures err { OnErr result (self.new ≡ self.old) }
     {
         let place = self.place_of(alloc, name)?;
-        if self.entries[place].definition.is_none() {
-            self.entries[place].definition = Some(definition);
-        }
+        self.entries[place].define(definition);
         Ok(())
     }
 
     /// A name is seen by other objects.
     pub fn export(&mut self, alloc: Global, name: &str) -> Result<(), AllocError>
-        ensures { OnOk result (self.new ≡ with_export self.old name.now) }
+        ensures ok { OnOk result (self.new ≡ with_export self.old name.now) }
+        ensures err { OnErr result (self.new ≡ self.old) }
     {
         let place = self.place_of(alloc, name)?;
         self.entries[place].exported = true;
@@ -257,7 +263,16 @@ impl Names {
 }
 
 impl Entry {
-    ghost use Rattle.rv_names.specs.Names.{is_local, symbol_of};
+    ghost use Rattle.rv_names.specs.Names.{defined, is_local, symbol_of};
+
+    // Its first definition stands.
+    fn define(&mut self, definition: Definition)
+        ensures { self.new ≡ defined definition self.old }
+    {
+        if self.definition.is_none() {
+            self.definition = Some(definition);
+        }
+    }
 
     /// Whether the name is defined and not exported.
     pub fn is_local(&self) -> bool

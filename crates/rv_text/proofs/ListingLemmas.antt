@@ -85,7 +85,8 @@ Listed-piece words old new at p f l = record {
   within = IsPiece-within words at p f;
   some = λ rest h.
       let all = l.some (p ∷ rest) (f, h) in
-      (all.0, all.1, all.2 ∙ sym (append_assoc l.done (piece_lines words at p) (lines_from words (at + piece_size p) rest)));
+      let lines = lines_from words (at + piece_size p) rest in
+      (all.0, all.1, all.2 ∙ sym (append_assoc l.done (piece_lines words at p) lines));
   only = λ pieces h.
       let left = l.only pieces h in
       let first = ReadAs-piece words at p left.0 f left.1 in (
@@ -101,8 +102,8 @@ pub Listed-step : (words old new lines : List ℕ) (at : ℕ) (mark : List ℕ) 
 Listed-step words old new lines at mark size found text l =
     let step = Listed-piece words old new at found.0 found.1 l in
     let same : lines ≡ piece_lines words at found.0 =
-    text ∙ ap (λ m. marked_lines words at m size) found.2 ∙ ap (λ n. marked_lines words at (piece_mark found.0) n) found.3
-    in
+    text ∙ ap (λ m. marked_lines words at m size) found.2
+    ∙ ap (λ n. marked_lines words at (piece_mark found.0) n) found.3 in
     subst (λ n. Listed words old (new ++ lines) (at + n)) (sym found.3)
     (subst (λ ls. Listed words old (new ++ ls) (at + piece_size found.0)) (sym same) step)
 

@@ -1,6 +1,6 @@
 //! The listing of words.
 
-ghost use Rattle.std.specs.Prelude.{◌≡◌, ◌++◌, ◌+◌, ◌*◌, ◌^◌, ◌<◌, ◌≤◌, ℕ, List, Option, OnOk, OnErr, length, drop};
+ghost use Rattle.std.specs.Prelude.{◌≡◌, ◌++◌, ◌+◌, ◌*◌, ◌^◌, ◌<◌, ◌≤◌, List, Option, OnOk, OnErr, length, drop};
 ghost use Rattle.cfi_unit.specs.declared.unit.Unit.{Unit as CodeUnit};
 ghost use Rattle.rv_text.specs.Listing.{mark_of, IsPieceAt, ReadAs, line_of, plain_lines, marked_lines, listing_of, IsListing, AppendsPart};
 

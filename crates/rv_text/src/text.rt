@@ -1,6 +1,6 @@
 //! The text of an instruction.
 
-ghost use Rattle.std.specs.Prelude.{◌≡◌, ◌++◌, ◌+◌, ◌^◌, ◌<◌, OnOk, OnErr, string_bytes};
+ghost use Rattle.std.specs.Prelude.{◌≡◌, ◌++◌, ◌+◌, ◌<◌, OnOk, OnErr, string_bytes};
 ghost use Rattle.rv_insn.specs.Insn.{InRange};
 ghost use Rattle.rv_text.specs.Text.{IsNoFence, text_of, word_text, word_number, fence_text, upper_text, jump_text, branch_text, place_text, immediate_text, registers_text};
 

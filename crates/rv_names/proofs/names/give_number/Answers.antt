@@ -1,4 +1,4 @@
-use Rattle.std.proofs.Common.{◌≡◌, Some, None, if◌then◌else◌, rules, arith}
+use Rattle.std.proofs.Common.{◌≡◌, Some, None, if◌then◌else◌, arith}
 use Rattle.std.proofs.lemmas.Map.Text.{text_keys}
 use Rattle.std.specs.BTreeMap.{get_by_text}
 use Rattle.std.specs.Str.{bytes_eq}

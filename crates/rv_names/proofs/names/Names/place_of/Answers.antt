@@ -4,12 +4,12 @@ use Rattle.rv_names.specs.Names.{number_in, fresh}
 use Rattle.rv_names.proofs.NamesLemmas.{with_name-found, with_name-missing, number_in-new}
 use Rattle.rv_names.proofs.names.Names.place_of.Goals as goal
 
-pub returns-in-Some-clause-same : goal.returns-in-Some-clause-same
-returns-in-Some-clause-same c =
+pub returns-in-Some-clause-ok : goal.returns-in-Some-clause-ok
+returns-in-Some-clause-ok c =
     sym (with_name-found c.args.self.now c.args.name.now c.in-Some.number (sym c.number_of.ensures ∙ c.in-Some.is))
 
-pub returns-clause-same : goal.returns-clause-same
-returns-clause-same c =
+pub returns-clause-ok : goal.returns-clause-ok
+returns-clause-ok c =
     let missing : number_in c.args.self.now c.args.name.now ≡ None = sym c.number_of.ensures ∙ c.in_default.is in
     let pushed : c.push.new.self ≡ c.args.self.now ++ fresh c.args.name.now ∷ [] = grind (arith, common_steps) in
     pushed ∙ sym (with_name-missing c.args.self.now c.args.name.now missing)
