@@ -1,24 +1,11 @@
 -- Steps of a search along rows, and what it ends with.
-use Rattle.std.proofs.Common.{◌≡◌, ◌≢◌, ◌∙◌, ℕ, zero, suc, ◌+◌, ◌<◌, ◌≤◌, ◌⊎◌, Bool, true, false, List, [], ◌∷◌, ◌++◌, length, get_or, set, slice_index, slice_index_or, replicate, refl, sym, ap, subst, inl, inr, arith, rules, All}
+use Rattle.std.proofs.Common.{◌≡◌, ◌≢◌, ◌∙◌, ℕ, zero, suc, ◌+◌, ◌<◌, ◌≤◌, ◌⊎◌, Bool, true, false, List, [], ◌∷◌, ◌++◌, length, set, slice_index, slice_index_or, replicate, refl, sym, ap, subst, inl, inr, arith}
 use Rattle.std.specs.List.{Contains}
 use Rattle.std.proofs.lemmas.Bool.{cases_eq, cases_lt, false≢true}
 use Rattle.std.proofs.lemmas.List.{length-set, length-append, get_or-set_same, get_or-set_other, get_or_append_left, get_or_default, get_or_past, get_or-replicate, length-replicate}
-use Rattle.std.proofs.lemmas.List.Elements.{Contains-append_left, Contains-append_right, Contains-append_cases, Contains-get_or, Contains-push, Contains-push_cases}
+use Rattle.std.proofs.lemmas.List.Elements.{Contains-append_left, Contains-get_or, Contains-push, Contains-push_cases}
 use Rattle.cfi_flow.specs.Reach.{IsWalk, AreReached, IsMarked, AreClear, unmarked, IsVisited, IsCleared}
-use Rattle.cfi_flow.proofs.Members.{no_member, member_first, member_of_one}
-
--- no node was visited yet
-pub visited_none : (marks : List Bool) (order : List ℕ) → IsVisited marks order [] marks order
-visited_none marks order = record {
-  len = refl;
-  longer = omega arith;
-  stays = λ j h. refl;
-  kept = λ k h. h;
-  done = λ k h. absurd (no_member k h);
-  fresh = λ k h. inl h;
-  listed = λ k h. inl h;
-  count = refl;
-}
+use Rattle.cfi_flow.proofs.Members.{member_first, member_of_one}
 
 -- one mark fewer is missing
 pub count_marked : (marks : List Bool) (x : ℕ) → x < length marks → (IsMarked marks x → ⊥)
@@ -228,14 +215,6 @@ search_within rows from marks order i j s lt =
     let m : slice_index order j < length marks =
     marked_within marks (slice_index order j) (s.marked (slice_index order j) (Contains-get_or order j 0 lt)) in
     omega (arith, m, s.len)
-
--- no mark was taken away yet
-pub cleared_none : (marks : List Bool) → IsCleared marks [] marks
-cleared_none marks = record {
-  len = refl;
-  gone = λ k h. absurd (no_member k h);
-  only = λ k h. h;
-}
 
 -- the mark of the next node is taken away
 pub cleared_more : (marks : List Bool) (nodes : List ℕ) (m : List Bool) (x : ℕ) → IsCleared marks nodes m

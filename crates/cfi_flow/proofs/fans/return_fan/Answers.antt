@@ -1,4 +1,4 @@
-use Rattle.std.proofs.Common.{ℕ, ◌<◌, List, length, get_or, arith, sym, subst, All}
+use Rattle.std.proofs.Common.{◌<◌, length, get_or, arith, sym, subst, All}
 use Rattle.std.proofs.lemmas.List.Elements.{All-from_get_or, Contains-get_or}
 use Rattle.cfi_flow.proofs.fans.return_fan.Goals as goal
 

@@ -1,4 +1,4 @@
-use Rattle.std.proofs.Common.{◌≡◌, ℕ, ◌+◌, ◌<◌, ◌++◌, ◌∷◌, [], List, length, take, get_or, rules, arith, vec_len}
+use Rattle.std.proofs.Common.{◌≡◌, ◌+◌, ◌<◌, ◌++◌, ◌∷◌, [], length, take, get_or, rules, arith, vec_len}
 use Rattle.std.proofs.lemmas.List.{take_more}
 use Rattle.cfi_flow.proofs.ReachLemmas.{cleared_more, cleared_is}
 use Rattle.cfi_flow.proofs.reach.clear.Goals as goal

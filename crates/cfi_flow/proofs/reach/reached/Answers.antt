@@ -1,4 +1,4 @@
-use Rattle.std.proofs.Common.{◌≡◌, ℕ, ◌+◌, ◌<◌, ◌≤◌, ◌∷◌, [], List, Bool, true, false, length, replicate, set, slice_index, slice_index_or, ap, rules, arith, sym, subst, ◌∙◌, vec_len, All}
+use Rattle.std.proofs.Common.{◌≡◌, ◌<◌, ◌≤◌, ◌∷◌, [], true, length, set, slice_index, slice_index_or, ap, rules, arith, sym, subst, ◌∙◌, vec_len, All}
 use Rattle.std.proofs.lemmas.List.{get_or_read}
 use Rattle.std.proofs.lemmas.List.Elements.{All-from_get_or}
 use Rattle.cfi_flow.specs.Reach.{IsVisited, IsCleared}
