@@ -26,7 +26,8 @@ class_in-id_of class version c v = ap gathered_of (high_half-id_of class version
 
 pub version_in-id_of : (class version : ℕ) → IsField version → version_in (id_of class version) ≡ version
 unfolding version_in
-version_in-id_of class version v = ap gathered_of (low_half-id_of class version v) ∙ gathered_of-spread_of_marked version v
+version_in-id_of class version v =
+    ap gathered_of (low_half-id_of class version v) ∙ gathered_of-spread_of_marked version v
 
 -- the low half does not depend on the class
 pub low_half-id_of_any : (class other version : ℕ) → low_half (id_of class version) ≡ low_half (id_of other version)
@@ -34,13 +35,15 @@ unfolding id_of
 low_half-id_of_any class other version = omega arith
 
 -- equal low halves have equal versions
-pub same_versions : (class other old new : ℕ) → IsField old → IsField new → low_half (id_of class old) ≡ low_half (id_of other new) → old ≡ new
+pub same_versions : (class other old new : ℕ) → IsField old → IsField new
+    → low_half (id_of class old) ≡ low_half (id_of other new) → old ≡ new
 unfolding version_in
 same_versions class other old new o n e =
     sym (version_in-id_of class old o) ∙ ap gathered_of e ∙ version_in-id_of other new n
 
 -- equal IDs of one version have equal classes
-pub same_classes : (class other version : ℕ) → IsField class → IsField other → id_of class version ≡ id_of other version → class ≡ other
+pub same_classes : (class other version : ℕ) → IsField class → IsField other
+    → id_of class version ≡ id_of other version → class ≡ other
 unfolding id_of
 same_classes class other version c o e = omega arith
 

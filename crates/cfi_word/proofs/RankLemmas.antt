@@ -8,7 +8,8 @@ pub rank-code : (code_words index : ℕ) → index < code_words → rank code_wo
 unfolding rank
 rank-code code_words index h = grind (arith, nat_tests)
 
-pub rank-tary : (code_words index : ℕ) → index < code_words → rank code_words (tary_word code_words index) ≡ code_words + index
+pub rank-tary : (code_words index : ℕ) → index < code_words
+    → rank code_words (tary_word code_words index) ≡ code_words + index
 unfolding rank
 rank-tary code_words index h = grind (arith, nat_tests)
 
@@ -26,6 +27,7 @@ unfolding rank
 rank-lt code_words word h = grind (arith, nat_tests)
 
 -- two words are not stored at once
-pub same_words : (code_words one other : ℕ) → IsStored code_words one → IsStored code_words other → rank code_words one ≡ rank code_words other → one ≡ other
+pub same_words : (code_words one other : ℕ) → IsStored code_words one → IsStored code_words other
+    → rank code_words one ≡ rank code_words other → one ≡ other
 unfolding rank
 same_words code_words one other h k e = grind (arith, nat_tests)

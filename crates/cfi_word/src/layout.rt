@@ -20,6 +20,9 @@ pub const MIN_CODE_WORDS: u32 = 1024;
 /// The greatest number of code words of a table.
 pub const MAX_CODE_WORDS: u32 = 65536;
 
+/// The code word at which the first module begins. No module begins before it.
+pub const FIRST_BASE: u32 = 16;
+
 /// This number of code words is no multiple of `MIN_CODE_WORDS` from it to `MAX_CODE_WORDS`.
 #[derive(Clone, Copy, Debug, PartialEq, Eq, Error)]
 #[error("{0} code words are no size of a table")]
