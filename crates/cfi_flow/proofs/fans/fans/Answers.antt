@@ -46,3 +46,8 @@ loop-node-preserved c =
           c.in_ok-pointer_fan.ensures c.in_ok-return_fan.ensures.fan);
       clear = c.in_ok-return_fan.ensures.clear;
     }
+
+pub returns : goal.returns
+returns c =
+    let end : c.loop-node.node ≡ c.args.flow.now.nodes = omega (arith, c.loop-node-test.false, c.loop-node.auto.node-end) in
+    subst (λ n. AreFans c.args.flow.now n c.loop-node.fans.items) end c.loop-node.invariant.fans
