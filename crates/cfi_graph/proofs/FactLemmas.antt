@@ -2,7 +2,6 @@
 use Rattle.std.proofs.Common.{◌≡◌, ◌⊎◌, ◌∙◌, ℕ, ◌+◌, Bool, false, ℤ, List, [], ◌∷◌, ◌++◌, refl, sym, ap, subst, inl, inr}
 use Rattle.std.specs.List.{AllPairs}
 use Rattle.cfi_flow.specs.declared.links.Link.{Link}
-use Rattle.cfi_unit.specs.declared.unit.Unit.TheVariants as units
 use Rattle.cfi_aux.specs.declared.placed.Placed.{Placed}
 use Rattle.cfi_aux.specs.declared.records.Kind.TheVariants as kinds
 use Rattle.cfi_graph.specs.declared.fact.Fact.{Fact}
