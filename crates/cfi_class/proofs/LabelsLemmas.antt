@@ -207,3 +207,10 @@ module _ (joins : (slot address : ℕ) → Type 0) (slots all code_words : ℕ) 
         subst (λ n. (n ≡ get_or tary word 0) ↔ Chain joins slot (4 * word)) (sym (fills.kept slot lower))
         (are.classes slot word lower there edge reached);
   }
+
+  pub filled_in_order : AreInOrder joins numbers → AreInOrder joins bary
+  filled_in_order order slot number edge some low =
+      let lower = inside slot edge.0 edge.1 in
+      let earlier = order slot number edge some (subst (λ n. number ≤ n) (fills.kept slot lower) low) in
+      let within : earlier.0 < slots = omega (arith, earlier.1, lower) in
+      (earlier.0, earlier.1, earlier.2, fills.kept earlier.0 within ∙ earlier.3)

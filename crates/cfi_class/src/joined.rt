@@ -1,4 +1,4 @@
-ghost use Rattle.std.specs.Prelude.{◌≡◌, ◌↔◌, ◌+◌, ◌<◌, ◌^◌, All, IfOk, IsTrue};
+ghost use Rattle.std.specs.Prelude.{◌↔◌, ◌+◌, ◌<◌, ◌^◌, All, IfOk, IsTrue};
 ghost use Rattle.cfi_word.specs.Chain.{Chain};
 ghost use Rattle.cfi_class.specs.Labels.{HasEdge, IsWithin};
 

@@ -1,4 +1,4 @@
-ghost use Rattle.std.specs.Prelude.{◌≡◌, ◌+◌, ◌<◌, ◌^◌, All, IfOk};
+ghost use Rattle.std.specs.Prelude.{◌+◌, ◌<◌, ◌^◌, All, IfOk};
 ghost use Rattle.cfi_word.specs.declared.ids.TheConstants.{FIELD_MAX};
 ghost use Rattle.cfi_class.specs.Labels.{HasEdge, IsWithin, CanBeLabelled};
 ghost use Rattle.cfi_class.specs.Labels.{AreNumbers, AreInOrder, AreLabels};
@@ -53,8 +53,9 @@ pub fn label(
     layout: &Layout,
 ) -> Result<Labels, AllocError>
     requires { CanBeLabelled edges.now slots layout.now }
-    ensures { IfOk result (λ labels.
+    ensures labels { IfOk result (λ labels.
         AreLabels (HasEdge edges.now) layout.now labels.tary labels.bary) }
+    ensures order { IfOk result (λ labels. AreInOrder (HasEdge edges.now) labels.bary) }
 {
     let Labels { tary, bary } = numbers(alloc, edges, slots, layout.code_words())?;
     let mut bary = bary.into_vec();

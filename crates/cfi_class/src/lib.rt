@@ -1,8 +1,8 @@
 //! Class numbers of branch slots and code addresses: what chains of edges join has one class.
 //!
 //! Stands on `cfi_word`; `cfi_policy` calls it. Proved: a slot and a code address get one number exactly where a chain
-//! of edges joins them, and exactly those without an edge get the number that says so; `numbers` counts classes in the
-//! order of their least slots; whether a chain joins two is told exactly. Only tested: that `label` counts them so too.
+//! of edges joins them, and exactly those without an edge get the number that says so; classes are numbered in the
+//! order of their least slots; whether a chain joins two is told exactly. Only tested: that ample memory is enough.
 //! Open: nothing.
 #![tactic(auto)]
 

@@ -1,7 +1,6 @@
 //! One pass over the edges: which slots and code words they link, and which slots have one.
 
-ghost use Rattle.std.specs.Prelude.{◌≡◌, ℕ, ◌+◌, ◌<◌, ◌≤◌, ◌^◌, All, IfOk};
-ghost use Rattle.cfi_word.specs.declared.layout.TheConstants.{MAX_CODE_WORDS};
+ghost use Rattle.std.specs.Prelude.{◌+◌, ◌<◌, ◌^◌, All, IfOk};
 ghost use Rattle.cfi_class.specs.Labels.{HasEdge, IsWithin};
 ghost use Rattle.cfi_class.specs.Linked.{IsForestOf};
 ghost use Rattle.cfi_class.specs.Numbering.{MarksUsed};

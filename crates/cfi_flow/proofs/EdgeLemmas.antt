@@ -1,5 +1,5 @@
 -- Edges of fans.
-use Rattle.std.proofs.Common.{◌≡◌, ◌∙◌, ℕ, zero, suc, ◌+◌, ◌<◌, ◌⊎◌, List, [], ◌∷◌, ◌++◌, length, map, get_or, refl, sym, ap, subst, inl, inr, arith, rules}
+use Rattle.std.proofs.Common.{◌≡◌, ℕ, zero, suc, List, [], ◌∷◌, ◌++◌, map, ap, subst, inl, inr}
 use Rattle.std.specs.List.{Contains, flat_map}
 use Rattle.std.proofs.lemmas.List.Elements.{Contains-append_left, Contains-append_right, Contains-append_cases}
 use Rattle.cfi_word.specs.declared.lists.Edge.{Edge}
@@ -7,9 +7,9 @@ use Rattle.cfi_word.specs.Chain.{ChainOf, Chain}
 use Rattle.cfi_flow.specs.declared.links.Link.{Link}
 use Rattle.cfi_flow.specs.declared.links.Flow.{Flow}
 use Rattle.cfi_flow.specs.declared.fan.Fan.{Fan}
-use Rattle.cfi_flow.specs.Flow.{Links, GoesBy, Goes, IsSound, PointsAt, ReturnsAt}
-use Rattle.cfi_flow.specs.Fans.{Joins, JoinsOne, AreFans, edge, edge_of, all_of, spokes, few_of, IsListed}
-use Rattle.cfi_flow.proofs.Members.{no_member, member_first, member_later, member_map, from_map, member_flat, from_flat}
+use Rattle.cfi_flow.specs.Flow.{Links, Goes, IsSound}
+use Rattle.cfi_flow.specs.Fans.{Joins, AreFans, edge, edge_of, all_of, spokes, few_of, IsListed}
+use Rattle.cfi_flow.proofs.Members.{no_member, member_first, member_map, from_map, member_flat, from_flat}
 use Rattle.cfi_flow.proofs.RowLemmas.{make_link, link_is}
 use Rattle.cfi_flow.proofs.FanLemmas.{below_nodes}
 
@@ -142,26 +142,6 @@ few_whole flow fans sound are slot address g =
                 (spokes_join j.fan.slots.items j.fan.targets.items slot address j.joins.0 j.joins.1);
           }
     ]
-
--- ---- spokes as they are made
-
-pub spokes_are : (slots targets : List ℕ) (b t : ℕ) → 0 < length slots → 0 < length targets → b ≡ get_or slots 0 b
-    → t ≡ get_or targets 0 t → spokes slots targets ≡ map (edge b) targets ++ map (λ s. edge s t) slots
-spokes_are [] targets b t h k e f = absurd (omega (arith, h))
-spokes_are (s ∷ slots) [] b t h k e f = absurd (omega (arith, k))
-spokes_are (s ∷ slots) (u ∷ targets) b t h k e f =
-    let here : s ≡ b = sym e in
-    let there : u ≡ t = sym f in
-    ap (λ x. map (edge x) (u ∷ targets) ++ map (λ y. edge y u) (s ∷ slots)) here
-    ∙ ap (λ x. map (edge b) (u ∷ targets) ++ map (λ y. edge y x) (s ∷ slots)) there
-
-suc_not_zero : (n : ℕ) → suc n ≡ 0 → ⊥
-suc_not_zero n h = absurd (omega (arith, h))
-
-pub no_spokes : (slots targets : List ℕ) → (length slots ≡ 0) ⊎ (length targets ≡ 0) → spokes slots targets ≡ []
-no_spokes [] targets h = refl
-no_spokes (s ∷ slots) [] h = refl
-no_spokes (s ∷ slots) (t ∷ targets) h = absurd (elim h [ inl a ↦ suc_not_zero (length slots) a | inr a ↦ suc_not_zero (length targets) a ])
 
 -- the same edges, listed anew
 pub chain_kept : (xs ys : List Edge) → ((e : Edge) → Contains xs e → Contains ys e) → (slot address : ℕ)

@@ -1,15 +1,15 @@
 -- What the fans of a node join, and the fans of one node more.
-use Rattle.std.proofs.Common.{◌≡◌, ◌∙◌, ℕ, zero, suc, ◌+◌, ◌<◌, ◌⊎◌, List, [], ◌∷◌, ◌++◌, length, get_or, slice_index_or, refl, sym, ap, subst, inl, inr, arith, rules, All}
-use Rattle.std.specs.List.{Contains, flat_map, AllByRecursion}
+use Rattle.std.proofs.Common.{◌≡◌, ℕ, zero, suc, ◌+◌, ◌<◌, ◌⊎◌, List, [], ◌∷◌, ◌++◌, length, get_or, sym, subst, inl, inr, arith, All}
+use Rattle.std.specs.List.{Contains}
 use Rattle.std.proofs.lemmas.Bool.{cases_lt}
 use Rattle.std.proofs.lemmas.List.Elements.{All-contains, All-from_get_or, recursion_from_All, Contains-get_or, Contains-append_left, Contains-push, Contains-push_cases}
 use Rattle.cfi_flow.specs.declared.links.Link.{Link}
 use Rattle.cfi_flow.specs.declared.links.Flow.{Flow}
 use Rattle.cfi_flow.specs.declared.fan.Fan.{Fan}
 use Rattle.cfi_flow.specs.declared.fans.FlowRows.{FlowRows}
-use Rattle.cfi_flow.specs.Rows.{AreRows, ends_from}
-use Rattle.cfi_flow.specs.Reach.{IsWalk, AreReached}
-use Rattle.cfi_flow.specs.Flow.{Links, IsPath, Reaches, PointsAt, ReturnsAt, GoesBy, IsSound, AreBelow, BeginBelow}
+use Rattle.cfi_flow.specs.Rows.{AreRows}
+use Rattle.cfi_flow.specs.Reach.{IsWalk}
+use Rattle.cfi_flow.specs.Flow.{Links, IsPath, PointsAt, ReturnsAt, GoesBy, IsSound, AreBelow, BeginBelow}
 use Rattle.cfi_flow.specs.Fans.{Joins, JoinsOne, AreFans}
 use Rattle.cfi_flow.specs.FlowRows.{row_of, AreFlowRows, HaveNodes, IsPointerFan, IsReturnFan}
 use Rattle.cfi_flow.proofs.Members.{no_member, member_flat, from_flat}

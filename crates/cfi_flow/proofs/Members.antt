@@ -1,6 +1,6 @@
 -- Members of lists that are made from lists.
-use Rattle.std.proofs.Common.{◌≡◌, ◌∙◌, slice_index_or, ℕ, zero, suc, ◌+◌, ◌<◌, ◌⊎◌, Bool, true, false, cond, List, [], ◌∷◌, ◌++◌, length, map, filter, Option, Some, None, refl, sym, ap, subst, inl, inr, arith, rules}
-use Rattle.std.specs.List.{Contains, filter_map, flat_map}
+use Rattle.std.proofs.Common.{◌≡◌, ◌∙◌, slice_index_or, ◌<◌, ◌⊎◌, Bool, true, false, cond, List, [], ◌∷◌, map, filter, refl, sym, ap, subst, inl, inr, arith}
+use Rattle.std.specs.List.{Contains, flat_map}
 use Rattle.std.proofs.lemmas.List.Elements.{Contains-append_left, Contains-append_right, Contains-append_cases}
 
 pub member_first : {X : Type 0} (x : X) (xs : List X) → Contains (x ∷ xs) x

@@ -1,24 +1,11 @@
 -- Steps of a search along rows, and what it ends with.
-use Rattle.std.proofs.Common.{◌≡◌, ◌≢◌, ◌∙◌, ℕ, zero, suc, ◌+◌, ◌<◌, ◌≤◌, ◌⊎◌, Bool, true, false, List, [], ◌∷◌, ◌++◌, length, get_or, set, slice_index, slice_index_or, replicate, refl, sym, ap, subst, inl, inr, arith, rules, All}
+use Rattle.std.proofs.Common.{◌≡◌, ◌∙◌, ℕ, zero, suc, ◌+◌, ◌<◌, ◌≤◌, ◌⊎◌, Bool, true, false, List, [], ◌∷◌, ◌++◌, length, set, slice_index, slice_index_or, replicate, refl, sym, ap, subst, inl, inr, arith}
 use Rattle.std.specs.List.{Contains}
 use Rattle.std.proofs.lemmas.Bool.{cases_eq, cases_lt, false≢true}
 use Rattle.std.proofs.lemmas.List.{length-set, length-append, get_or-set_same, get_or-set_other, get_or_append_left, get_or_default, get_or_past, get_or-replicate, length-replicate}
-use Rattle.std.proofs.lemmas.List.Elements.{Contains-append_left, Contains-append_right, Contains-append_cases, Contains-get_or, Contains-push, Contains-push_cases}
-use Rattle.cfi_flow.specs.Reach.{IsWalk, AreReached, IsMarked, unmarked, IsVisited}
-use Rattle.cfi_flow.proofs.Members.{no_member, member_first, member_of_one}
-
--- no node was visited yet
-pub visited_none : (marks : List Bool) (order : List ℕ) → IsVisited marks order [] marks order
-visited_none marks order = record {
-  len = refl;
-  longer = omega arith;
-  stays = λ j h. refl;
-  kept = λ k h. h;
-  done = λ k h. absurd (no_member k h);
-  fresh = λ k h. inl h;
-  listed = λ k h. inl h;
-  count = refl;
-}
+use Rattle.std.proofs.lemmas.List.Elements.{Contains-append_left, Contains-get_or, Contains-push, Contains-push_cases}
+use Rattle.cfi_flow.specs.Reach.{IsWalk, AreReached, IsMarked, AreClear, unmarked, IsVisited, IsCleared}
+use Rattle.cfi_flow.proofs.Members.{member_first, member_of_one}
 
 -- one mark fewer is missing
 pub count_marked : (marks : List Bool) (x : ℕ) → x < length marks → (IsMarked marks x → ⊥)
@@ -102,9 +89,11 @@ pub record IsSearch (rows : List (List ℕ)) (from : ℕ) (marks : List Bool) (o
   pub sound : (k : ℕ) → Contains order k → (steps : ℕ) × IsWalk rows steps from k
   pub closed : (j : ℕ) → j < i → (k : ℕ) → Contains (slice_index_or rows (slice_index order j) []) k → IsMarked marks k
 
-unmarked_all : (n : ℕ) → unmarked (replicate n false) ≡ n
-unmarked_all zero = refl
-unmarked_all (suc n) = let rest : unmarked (replicate n false) ≡ n = unmarked_all n in omega (arith, rest)
+unmarked_none : (marks : List Bool) → ((k : ℕ) → IsMarked marks k → ⊥) → unmarked marks ≡ length marks
+unmarked_none [] none = refl
+unmarked_none (true ∷ marks) none = absurd (none 0 refl)
+unmarked_none (false ∷ marks) none =
+    let rest : unmarked marks ≡ length marks = unmarked_none marks (λ k h. none (suc k) h) in omega (arith, rest)
 
 none_marked : (n k : ℕ) → IsMarked (replicate n false) k → ⊥
 none_marked n k h =
@@ -115,25 +104,29 @@ none_marked n k h =
           let is : false ≡ true = sym (get_or_past (replicate n false) k false past) ∙ h in absurd (false≢true is)
     ]
 
+-- new marks are clear
+pub clear_begins : (count : ℕ) (marks : List Bool) → marks ≡ replicate count false → AreClear count marks
+clear_begins count marks e = record {
+  len = ap length e ∙ length-replicate count false;
+  none = λ k m. none_marked count k (subst (λ b. IsMarked b k) e m);
+}
+
 -- the search begins
 pub search_begins : (rows : List (List ℕ)) (from : ℕ) (marks : List Bool) → from < length rows
-    → marks ≡ replicate (length rows) false
-    → IsSearch rows from (set marks from true) (from ∷ []) 0
-search_begins rows from marks h e =
-    let len : length marks ≡ length rows = ap length e ∙ length-replicate (length rows) false in
-    let below : from < length marks = omega (arith, len) in
-    let fresh : IsMarked marks from → ⊥ = λ m. none_marked (length rows) from (subst (λ b. IsMarked b from) e m) in
-    let one : unmarked (set marks from true) + 1 ≡ unmarked marks = count_marked marks from below fresh in
-    let all : unmarked marks ≡ length rows = ap unmarked e ∙ unmarked_all (length rows) in
+    → AreClear (length rows) marks → IsSearch rows from (set marks from true) (from ∷ []) 0
+search_begins rows from marks h clear =
+    let below : from < length marks = omega (arith, h, clear.len) in
+    let one : unmarked (set marks from true) + 1 ≡ unmarked marks = count_marked marks from below (clear.none from) in
+    let all : unmarked marks ≡ length marks = unmarked_none marks clear.none in
     record {
-      len = length-set marks from true ∙ len;
-      count = let l : length (from ∷ []) ≡ 1 = refl in omega (arith, one, all, l);
+      len = length-set marks from true ∙ clear.len;
+      count = let l : length (from ∷ []) ≡ 1 = refl in omega (arith, one, all, l, clear.len);
       at = omega arith;
       marked = λ k m.
           subst (λ j. IsMarked (set marks from true) j) (member_of_one from k m) (get_or-set_same marks from true false below);
       listed = λ k m. elim (mark_from marks from k m) [
         | inl s ↦ subst (λ j. Contains (from ∷ []) j) (sym s) (member_first from [])
-        | inr a ↦ absurd (none_marked (length rows) k (subst (λ b. IsMarked b k) e a))
+        | inr a ↦ absurd (clear.none k a)
       ];
       start = member_first from [];
       sound = λ k m. (0, member_of_one from k m);
@@ -222,6 +215,39 @@ search_within rows from marks order i j s lt =
     let m : slice_index order j < length marks =
     marked_within marks (slice_index order j) (s.marked (slice_index order j) (Contains-get_or order j 0 lt)) in
     omega (arith, m, s.len)
+
+-- the mark of the next node is taken away
+pub cleared_more : (marks : List Bool) (nodes : List ℕ) (m : List Bool) (x : ℕ) → IsCleared marks nodes m
+    → x < length m → IsCleared marks (nodes ++ x ∷ []) (set m x false)
+cleared_more marks nodes m x c below =
+    let here : IsMarked (set m x false) x → ⊥ = λ h.
+    let is : false ≡ true = sym (get_or-set_same m x false false below) ∙ h in absurd (false≢true is) in
+    let from : (k : ℕ) → IsMarked (set m x false) k → IsMarked m k = λ k h. elim (cases_eq k x) [
+      | inl e ↦ absurd (here (subst (λ j. IsMarked (set m x false) j) e h))
+      | inr n ↦ sym (get_or-set_other m x k false false n) ∙ h
+    ] in
+    record {
+      len = length-set m x false ∙ c.len;
+      gone = λ k h marked. elim (Contains-push_cases nodes x k h) [
+        | inl a ↦ c.gone k a (from k marked)
+        | inr e ↦ here (subst (λ j. IsMarked (set m x false) j) (sym e) marked)
+      ];
+      only = λ k h. c.only k (from k h);
+    }
+
+-- equal lists are cleared alike
+pub cleared_is : (marks : List Bool) (nodes nodes' : List ℕ) (m m' : List Bool) → nodes' ≡ nodes → m' ≡ m
+    → IsCleared marks nodes m → IsCleared marks nodes' m'
+cleared_is marks nodes nodes' m m' e f c =
+    subst (λ n. IsCleared marks n m') (sym e) (subst (λ n. IsCleared marks nodes n) (sym f) c)
+
+-- the marks of a search are clear again
+pub search_clears : (rows : List (List ℕ)) (from : ℕ) (marks : List Bool) (order : List ℕ) (i : ℕ) (m : List Bool)
+    → IsSearch rows from marks order i → IsCleared marks order m → AreClear (length rows) m
+search_clears rows from marks order i m s c = record {
+  len = c.len ∙ s.len;
+  none = λ k h. c.gone k (s.listed k (c.only k h)) h;
+}
 
 -- equal lists are visited alike
 pub visited_is : (marks : List Bool) (order row row' : List ℕ) (m m' : List Bool) (o o' : List ℕ)

@@ -18,6 +18,11 @@ pub record AreReached (rows : List (List ℕ)) (from : ℕ) (order : List ℕ) :
 abbrev pub IsMarked : List Bool → ℕ → Type 0
 IsMarked marks k = slice_index_or marks k false ≡ true
 
+-- so many marks, and no node is marked
+pub record AreClear (count : ℕ) (marks : List Bool) : Type 0 where
+  pub len : length marks ≡ count
+  pub none : (k : ℕ) → IsMarked marks k → ⊥
+
 -- how many are not marked
 abbrev pub unmarked : List Bool → ℕ
 unmarked [] = 0
@@ -34,3 +39,9 @@ pub record IsVisited (marks : List Bool) (order row : List ℕ) (new_marks : Lis
   pub fresh : (k : ℕ) → Contains new_order k → Contains order k ⊎ (Contains row k)
   pub listed : (k : ℕ) → IsMarked new_marks k → IsMarked marks k ⊎ Contains new_order k
   pub count : unmarked new_marks + length new_order ≡ unmarked marks + length order
+
+-- these nodes are not marked any more, and no other one is that was not
+pub record IsCleared (marks : List Bool) (nodes : List ℕ) (new_marks : List Bool) : Type 0 where
+  pub len : length new_marks ≡ length marks
+  pub gone : (k : ℕ) → Contains nodes k → IsMarked new_marks k → ⊥
+  pub only : (k : ℕ) → IsMarked new_marks k → IsMarked marks k

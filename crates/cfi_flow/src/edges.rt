@@ -100,7 +100,8 @@ pub fn all_edges(alloc: Global, flow: &Flow) -> Result<Vec<Edge>, AllocError>
 
 /// Few edges of a flow, by slot and then by address, each once: a chain of them joins what any edge joins.
 ///
-/// For each node there are at most as many as branches and addresses meet there, and not one for each pair of them.
+/// For each node there are at most as many as branches and addresses meet there, and not one for each pair of them; no
+/// clause says so.
 pub fn few_edges(alloc: Global, flow: &Flow) -> Result<Vec<Edge>, AllocError>
     requires { IsSound flow.now }
     ensures { IfOk result (λ edges. AreFewEdges flow.now edges.items) }

@@ -4,6 +4,7 @@ ghost use Rattle.std.specs.Prelude.{◌≡◌, ◌<◌, ◌++◌, length, All, I
 ghost use Rattle.std.specs.List.{flat_map};
 ghost use Rattle.cfi_flow.specs.Flow.{IsSound};
 ghost use Rattle.cfi_flow.specs.Fans.{AreFans};
+ghost use Rattle.cfi_flow.specs.Reach.{AreClear};
 ghost use Rattle.cfi_flow.specs.FlowRows.{row_of, AreFlowRows, HaveNodes, IsPointerFan, IsReturnFan};
 
 use crate::fan::Fan;
@@ -71,11 +72,18 @@ fn pointer_fan(alloc: Global, rows: &FlowRows, node: u32) -> Result<Fan, AllocEr
     })
 }
 
-// The fan of the returns from a node.
-fn return_fan(alloc: Global, rows: &FlowRows, node: u32) -> Result<Fan, AllocError>
+// The fan of the returns from a node. No node is marked before, and none afterwards.
+fn return_fan(
+    alloc: Global,
+    marks: &mut Vec<bool>,
+    rows: &FlowRows,
+    node: u32,
+) -> Result<Fan, AllocError>
     requires nodes { HaveNodes (length rows.now.arrows) rows.now }
     requires node { node < length rows.now.arrows }
-    ensures { IfOk result (λ fan. IsReturnFan rows.now node fan) }
+    requires clear { AreClear (length rows.now.arrows) marks.old.items }
+    ensures fan { IfOk result (λ fan. IsReturnFan rows.now node fan) }
+    ensures clear { OnOk result (AreClear (length rows.now.arrows) marks.new.items) }
 {
     let sites = rows.sites.row(node);
     if sites.is_empty() {
@@ -84,7 +92,7 @@ fn return_fan(alloc: Global, rows: &FlowRows, node: u32) -> Result<Fan, AllocErr
             targets: Vec::new(alloc),
         });
     }
-    let order = reached(alloc, &rows.arrows, node)?;
+    let order = reached(alloc, marks, &rows.arrows, node)?;
     Ok(Fan {
         slots: joined(alloc, order.as_slice(), &rows.returns)?,
         targets: Vec::from_slice(alloc, sites)?,
@@ -97,10 +105,11 @@ pub(crate) fn fans(alloc: Global, flow: &Flow) -> Result<Vec<Fan>, AllocError>
     ensures { IfOk result (λ fans. AreFans flow.now flow.now.nodes fans.items) }
 {
     let rows = flow_rows(alloc, flow)?;
+    let mut marks = vec![in alloc; false; rows.arrows.count()]?;
     let mut fans = Vec::new(alloc);
     for node in 0..flow.nodes {
         fans.push(pointer_fan(alloc, &rows, node)?)?;
-        fans.push(return_fan(alloc, &rows, node)?)?;
+        fans.push(return_fan(alloc, &mut marks, &rows, node)?)?;
     }
     Ok(fans)
 }

@@ -1,9 +1,9 @@
 //! Control flow over numbered nodes: which branches may go to which code addresses.
 //!
 //! A node is what may be entered: a function, or all functions that pointers of one type may lead to. Stands on
-//! `cfi_word`. Proved: the edges of a flow are exactly those that it states, in order, each once; and a few of them,
-//! not one for each pair, have chains that join what any edge joins; the rows of links are where the links from each
-//! number lead. Only tested: that ample memory is enough. Open: nothing.
+//! `cfi_word`. Proved: the edges of a flow are exactly those that it states, in order, each once; some of them have
+//! chains that join what any edge joins; the rows of links are where the links from each number lead. Only tested: that
+//! these edges are few, and that ample memory is enough. Open: nothing.
 #![tactic(auto)]
 
 mod edges;

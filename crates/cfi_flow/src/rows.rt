@@ -1,6 +1,6 @@
 //! Links by where they begin.
 
-ghost use Rattle.std.specs.Prelude.{◌≡◌, ◌<◌, ◌++◌, ◌∷◌, [], length, replicate, slice_set, slice_index_or, All, IfOk, OnOk};
+ghost use Rattle.std.specs.Prelude.{◌≡◌, ◌<◌, ◌++◌, ◌∷◌, [], length, replicate, slice_set, slice_index_or, IfOk, OnOk};
 ghost use Rattle.cfi_flow.specs.Rows.{AreRows};
 ghost use Rattle.cfi_flow.specs.Flow.{BeginBelow};
 

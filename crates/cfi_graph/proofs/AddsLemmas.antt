@@ -1,5 +1,5 @@
 -- Lists of facts to which facts are added.
-use Rattle.std.proofs.Common.{◌≡◌, ◌⊎◌, ◌↔◌, ℕ, ◌+◌, ◌<◌, List, [], ◌∷◌, ◌++◌, refl, sym, subst, inl, inr, arith}
+use Rattle.std.proofs.Common.{◌≡◌, ◌⊎◌, ◌↔◌, ℕ, ◌+◌, ◌<◌, List, [], ◌∷◌, ◌++◌, refl, subst, inl, inr, arith}
 use Rattle.std.specs.Prelude.{Result, Ok, Err, OnOk, IfOk}
 use Rattle.std.specs.List.{Contains}
 use Rattle.std.proofs.lemmas.Bool.{cases_lt}
@@ -59,10 +59,6 @@ adds_list old more = record {
 -- what one of the numbers below tells
 abbrev pub TellsBelow : (count : ℕ) → (ℕ → Fact → Type 0) → Fact → Type 0
 TellsBelow count Tells fact = (number : ℕ) × (number < count) × Tells number fact
-
-pub adds_below_none : (list : List Fact) (Tells : ℕ → Fact → Type 0) → Adds list list (TellsBelow 0 Tells)
-adds_below_none list Tells =
-    adds_none list (TellsBelow 0 Tells) (λ fact told. let below : told.0 < 0 = told.1 in omega (arith, below))
 
 pub adds_below_more : (old mid new : List Fact) (Tells : ℕ → Fact → Type 0) (count : ℕ)
     → Adds old mid (TellsBelow count Tells) → Adds mid new (Tells count) → Adds old new (TellsBelow (count + 1) Tells)

@@ -1,12 +1,10 @@
 -- A flow that says what modules tell names its own nodes.
-use Rattle.std.proofs.Common.{◌≡◌, ◌∙◌, ◌⊎◌, ℕ, ◌+◌, ◌<◌, ◌≤◌, Bool, true, false, ℤ, List, length, get_or, Option, Some, refl, sym, ap, subst, inl, inr, arith}
+use Rattle.std.proofs.Common.{◌≡◌, ℕ, ◌<◌, ◌≤◌, Bool, true, false, ℤ, List, length, get_or, Some, sym, subst, inl, inr, arith}
 use Rattle.std.specs.Prelude.{slice_get, All}
-use Rattle.std.specs.List.{Contains}
 use Rattle.std.proofs.lemmas.List.Elements.{Contains-get_or}
 use Rattle.cfi_flow.specs.declared.links.Link.{Link}
 use Rattle.cfi_flow.specs.declared.links.Flow.{Flow}
-use Rattle.cfi_flow.specs.Flow.{Links, BeginBelow, AreBelow, IsSound}
-use Rattle.cfi_word.specs.declared.layout.TheConstants.{MAX_CODE_WORDS}
+use Rattle.cfi_flow.specs.Flow.{BeginBelow, AreBelow, IsSound}
 use Rattle.cfi_types.specs.Classes.{AreClasses}
 use Rattle.cfi_aux.specs.declared.placed.Placed.{Placed}
 use Rattle.cfi_aux.specs.declared.placed.PlacedFunction.{PlacedFunction}
@@ -16,9 +14,8 @@ use Rattle.cfi_graph.specs.declared.fact.Fact.{Fact}
 use Rattle.cfi_graph.specs.declared.fact.Fact.TheVariants as facts
 use Rattle.cfi_graph.specs.Shaped.{AreApart}
 use Rattle.cfi_graph.specs.Calls.{HasKind}
-use Rattle.cfi_graph.specs.Facts.{type_node, function_node, LiesInNode, IsJumpFact, IsBranchFact, IsFunctionFact, IsTold}
+use Rattle.cfi_graph.specs.Facts.{type_node, LiesInNode, IsJumpFact, IsBranchFact, IsFunctionFact, IsTold}
 use Rattle.cfi_graph.specs.Reading.{tables_of, node_count}
-use Rattle.cfi_graph.proofs.FactLemmas.{link}
 use Rattle.cfi_graph.proofs.BoundLemmas.{inside, branch_names}
 use Rattle.cfi_graph.proofs.NodeLemmas.{StandsAt, shaped_at, node_low}
 use Rattle.cfi_graph.proofs.ReadLemmas.{TellsFlow, Tell, unit_cases}

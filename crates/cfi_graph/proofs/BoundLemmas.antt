@@ -1,15 +1,14 @@
 -- Units, functions and branches of shaped modules lie within their words.
-use Rattle.std.proofs.Common.{◌≡◌, ◌∙◌, ℕ, zero, suc, ◌+◌, ◌*◌, ◌<◌, ◌≤◌, List, [], ◌∷◌, ◌++◌, length, take, get_or, Option, Some, None, refl, sym, ap, subst, arith, length-append}
-use Rattle.std.specs.Prelude.{slice_get, All}
+use Rattle.std.proofs.Common.{◌≡◌, ◌∙◌, ℕ, zero, suc, ◌+◌, ◌<◌, ◌≤◌, List, [], ◌∷◌, length, take, get_or, Some, refl, ap, arith, length-append}
+use Rattle.std.specs.Prelude.{slice_get}
 use Rattle.std.specs.List.{Contains, flat_map}
 use Rattle.std.proofs.lemmas.List.Elements.{All-contains}
 use Rattle.std.proofs.lemmas.Option.{none-some, same_Some, slice_get_within, slice_get-get_or, get_or_from_slice_get}
 use Rattle.cfi_unit.specs.declared.unit.Unit.{Unit as CodeUnit}
 use Rattle.cfi_unit.specs.declared.unit.Unit.TheVariants as units
 use Rattle.cfi_unit.specs.Unit.{words_of, size_of}
-use Rattle.cfi_unit.specs.Code.{UnitCode}
 use Rattle.cfi_unit.proofs.UnitLemmas.{size_pos}
-use Rattle.cfi_unit.proofs.CodeLemmas.{length-words_of, UnitCode-one}
+use Rattle.cfi_unit.proofs.CodeLemmas.{length-words_of}
 use Rattle.cfi_word.specs.declared.layout.TheConstants.{MAX_CODE_WORDS}
 use Rattle.cfi_aux.specs.declared.placed.Placed.{Placed}
 use Rattle.cfi_aux.specs.declared.placed.PlacedFunction.{PlacedFunction}
@@ -18,7 +17,7 @@ use Rattle.cfi_aux.specs.declared.records.Kind.TheVariants as kinds
 use Rattle.cfi_graph.specs.declared.fact.TheConstants.{CHECK_WORDS}
 use Rattle.cfi_graph.specs.Code.{place_of, Stands}
 use Rattle.cfi_graph.specs.Calls.{HasKind}
-use Rattle.cfi_graph.specs.Shaped.{slot_of, IsPart, IsPlace, IsNamed, IsShapedAs, IsShaped}
+use Rattle.cfi_graph.specs.Shaped.{slot_of, IsPart, IsPlace, IsNamed, IsShaped}
 use Rattle.cfi_graph.specs.Reading.{NamesInside}
 
 -- ---- members by number

@@ -1,8 +1,7 @@
 -- What calls and switches tell, and functions, as the facts that are added for them.
-use Rattle.std.proofs.Common.{◌≡◌, ◌⊎◌, ◌∙◌, ℕ, ◌+◌, ◌*◌, Bool, true, false, ℤ, List, [], ◌∷◌, ◌++◌, map, Option, Some, None, refl, sym, ap, subst, inl, inr, arith}
+use Rattle.std.proofs.Common.{◌≡◌, ◌⊎◌, ◌∙◌, ℕ, ◌+◌, ◌*◌, Bool, true, ℤ, List, [], ◌∷◌, ◌++◌, map, Some, refl, sym, ap, subst, inl, inr, arith}
 use Rattle.std.specs.List.{Contains}
 use Rattle.std.specs.Prelude.{slice_get}
-use Rattle.std.proofs.lemmas.Bool.{false≢true}
 use Rattle.std.proofs.lemmas.Option.{same_Some, none-some}
 use Rattle.cfi_flow.proofs.Members.{member_map, from_map}
 use Rattle.cfi_unit.specs.declared.unit.Unit.{Unit as CodeUnit}
@@ -13,42 +12,12 @@ use Rattle.cfi_aux.specs.declared.records.Kind.{Kind}
 use Rattle.cfi_aux.specs.declared.records.Kind.TheVariants as kinds
 use Rattle.cfi_graph.specs.declared.fact.Fact.{Fact}
 use Rattle.cfi_graph.specs.declared.fact.Fact.TheVariants as facts
-use Rattle.cfi_graph.specs.declared.fact.TheConstants.{CHECK_WORDS}
-use Rattle.cfi_graph.specs.Code.{address_of, entry_of}
+use Rattle.cfi_graph.specs.Code.{entry_of}
 use Rattle.cfi_graph.specs.Shaped.{slot_of}
 use Rattle.cfi_graph.specs.Calls.{HasKind}
 use Rattle.cfi_graph.specs.Facts.{type_node, function_node, listed_fact, IsBranchFact, IsUnitFact, IsFunctionFact, Adds}
-use Rattle.cfi_graph.proofs.AddsLemmas.{adds_two, adds_list, adds_as, adds_none}
+use Rattle.cfi_graph.proofs.AddsLemmas.{adds_two, adds_list, adds_as}
 use Rattle.cfi_graph.proofs.FactLemmas.{link, link_is}
-
--- ---- a call through a pointer
-
-module _ (classes : List (List ℕ)) (number : ℕ) (m : Placed) (at slot node : ℕ) where
-  two_of_call : (fact : Fact) → IsBranchFact classes number m at slot (kinds.Call node) fact
-      → (facts.Pointer (link (type_node classes number node) slot) ≡ fact)
-      ⊎ (facts.Site (link (type_node classes number node) (address_of m (at + CHECK_WORDS))) ≡ fact)
-  two_of_call (facts.Pointer l) told =
-      inl (ap facts.Pointer (link_is l (type_node classes number node) slot told.0 told.1))
-  two_of_call (facts.Site l) told =
-      inr (ap facts.Site (link_is l (type_node classes number node) (address_of m (at + CHECK_WORDS)) told.0 told.1))
-  two_of_call (facts.Arrow l) told = absurd told
-  two_of_call (facts.Return l) told = absurd told
-  two_of_call (facts.Entry l) told = absurd told
-  two_of_call (facts.Listed l) told = absurd told
-
-  pub call_adds : (from to : ℕ) (old : List Fact) → from ≡ type_node classes number node
-      → to ≡ address_of m (at + CHECK_WORDS)
-      → Adds old ((old ++ facts.Pointer (link from slot) ∷ []) ++ facts.Site (link from to) ∷ [])
-      (IsBranchFact classes number m at slot (kinds.Call node))
-  call_adds from to old is after =
-      subst (λ f. Adds old ((old ++ facts.Pointer (link f slot) ∷ []) ++ facts.Site (link f to) ∷ [])
-      (IsBranchFact classes number m at slot (kinds.Call node))) (sym is)
-      (subst (λ t. Adds old ((old ++ facts.Pointer (link (type_node classes number node) slot) ∷ [])
-      ++ facts.Site (link (type_node classes number node) t) ∷ [])
-      (IsBranchFact classes number m at slot (kinds.Call node))) (sym after)
-      (adds_two old (facts.Pointer (link (type_node classes number node) slot))
-      (facts.Site (link (type_node classes number node) (address_of m (at + CHECK_WORDS))))
-      (IsBranchFact classes number m at slot (kinds.Call node)) (refl, refl) (refl, refl) two_of_call))
 
 -- ---- a switch
 
@@ -126,14 +95,6 @@ module _ (classes : List (List ℕ)) (number : ℕ) (m : Placed) (at slot : ℕ)
 -- ---- functions
 
 module _ (classes : List (List ℕ)) (number : ℕ) (m : Placed) (f : PlacedFunction) where
-  pub not_taken : f.taken ≡ false → (fact : Fact) → IsFunctionFact classes number m f fact → ⊥
-  not_taken is (facts.Arrow l) told = false≢true (sym is ∙ told.0)
-  not_taken is (facts.Entry l) told = false≢true (sym is ∙ told.0)
-  not_taken is (facts.Site l) told = told
-  not_taken is (facts.Return l) told = told
-  not_taken is (facts.Pointer l) told = told
-  not_taken is (facts.Listed l) told = told
-
   two_of_function : (fact : Fact) → IsFunctionFact classes number m f fact
       → (facts.Arrow (link (type_node classes number f.ty) (function_node m f)) ≡ fact)
       ⊎ (facts.Entry (link (type_node classes number f.ty) (entry_of m f)) ≡ fact)

@@ -1,19 +1,18 @@
 -- Classes of types as numbers of nodes: there are fewer of them than type nodes.
-use Rattle.std.proofs.Common.{◌≡◌, ◌∙◌, ℕ, zero, suc, ◌+◌, ◌<◌, ◌≤◌, ◌^◌, ◌⊎◌, inl, inr, max, List, [], ◌∷◌, ◌++◌, length, map, take, get_or, Option, Some, None, refl, sym, ap, subst, arith, length-append}
+use Rattle.std.proofs.Common.{◌≡◌, ◌∙◌, ℕ, zero, suc, ◌+◌, ◌<◌, ◌≤◌, inl, inr, max, List, [], ◌∷◌, length, map, take, get_or, Some, refl, sym, ap, arith, length-append}
 use Rattle.std.proofs.lemmas.List.{length-map}
-use Rattle.std.specs.Prelude.{slice_get, slice_index_or, All}
+use Rattle.std.specs.Prelude.{slice_get, slice_index_or}
 use Rattle.std.specs.Option.{option_map}
 use Rattle.std.specs.List.{Contains, flat_map}
-use Rattle.std.proofs.lemmas.Option.{same_Some, slice_get-map, slice_get-get_or, get_or_from_slice_get}
+use Rattle.std.proofs.lemmas.Option.{same_Some, slice_get-map, slice_get-get_or}
 use Rattle.std.proofs.lemmas.List.Elements.{All-contains, Contains-get_or}
 use Rattle.cfi_flow.proofs.Members.{member_cases, no_member, member_flat}
-use Rattle.cfi_word.specs.declared.layout.TheConstants.{MAX_CODE_WORDS}
 use Rattle.cfi_types.specs.Node.{Node}
 use Rattle.cfi_types.specs.Classes.{table_of, class_of, IsPlace, InOrder, AreClasses}
 use Rattle.cfi_aux.specs.declared.placed.Placed.{Placed}
 use Rattle.cfi_graph.specs.Shaped.{IsShaped}
 use Rattle.cfi_graph.specs.Facts.{type_node}
-use Rattle.cfi_graph.specs.Reading.{tables_of, type_count, node_count, HaveGraph, HasClasses, CanAllBeRead}
+use Rattle.cfi_graph.specs.Reading.{tables_of, type_count, node_count, HaveGraph, CanAllBeRead}
 use Rattle.cfi_graph.proofs.BoundLemmas.{contains_at}
 use Rattle.cfi_graph.proofs.NodeLemmas.{table_is, table_within, place_is}
 

@@ -1,13 +1,12 @@
 -- Where there is a direct edge, control goes along a flow that says what modules tell.
-use Rattle.std.proofs.Common.{◌≡◌, ◌↔◌, ◌⊎◌, ◌∙◌, ℕ, zero, suc, ◌+◌, ◌*◌, ◌<◌, Bool, true, false, ℤ, pos, negsuc, List, length, Option, Some, refl, sym, ap, subst, inl, inr, arith}
+use Rattle.std.proofs.Common.{◌≡◌, ◌∙◌, ℕ, zero, suc, ◌+◌, ◌<◌, Bool, true, false, ℤ, List, length, Some, refl, sym, ap, subst, inl, inr}
 use Rattle.std.specs.Prelude.{slice_get, IsTrue}
 use Rattle.std.specs.List.{Contains}
 use Rattle.cfi_flow.specs.declared.links.Flow.{Flow}
-use Rattle.cfi_flow.specs.Flow.{Links, IsPath, Reaches, PointsAt, ReturnsAt, Goes}
+use Rattle.cfi_flow.specs.Flow.{Links, Reaches, Goes}
 use Rattle.cfi_unit.specs.declared.unit.Unit.{Unit as CodeUnit}
 use Rattle.cfi_unit.specs.declared.unit.Unit.TheVariants as units
 use Rattle.cfi_unit.specs.Unit.{size_of}
-use Rattle.cfi_word.specs.declared.layout.TheConstants.{MAX_CODE_WORDS}
 use Rattle.cfi_types.specs.Classes.{AreClasses}
 use Rattle.cfi_aux.specs.declared.placed.Placed.{Placed}
 use Rattle.cfi_aux.specs.declared.placed.PlacedFunction.{PlacedFunction}
@@ -15,12 +14,11 @@ use Rattle.cfi_aux.specs.declared.records.Kind.{Kind}
 use Rattle.cfi_aux.specs.declared.records.Kind.TheVariants as kinds
 use Rattle.cfi_graph.specs.declared.fact.Fact.{Fact}
 use Rattle.cfi_graph.specs.declared.fact.Fact.TheVariants as facts
-use Rattle.cfi_graph.specs.declared.fact.TheConstants.{CHECK_WORDS}
 use Rattle.cfi_graph.specs.Code.{Stands, address_of, entry_of, Leads}
 use Rattle.cfi_graph.specs.Shaped.{AreApart}
-use Rattle.cfi_graph.specs.Calls.{HasKind, IsFunction, MayPoint, IsCall, IsTailCall, LiesIn, ReturnsTo, TailCalls, IsReached}
+use Rattle.cfi_graph.specs.Calls.{HasKind, IsFunction, MayPoint, IsCall, IsTailCall, LiesIn, IsReached}
 use Rattle.cfi_graph.specs.Direct.{IsPointee, IsReturnTarget, GoesTo, DirectEdge}
-use Rattle.cfi_graph.specs.Facts.{type_node, function_node, LeadsToWord, IsFirst, LiesInNode, IsUnitFact, IsTold}
+use Rattle.cfi_graph.specs.Facts.{type_node, function_node, LeadsToWord, LiesInNode, IsUnitFact, IsTold}
 use Rattle.cfi_graph.specs.Reading.{tables_of}
 use Rattle.cfi_graph.proofs.FactLemmas.{link}
 use Rattle.cfi_graph.proofs.BoundLemmas.{at_contains, inside, branch_names}

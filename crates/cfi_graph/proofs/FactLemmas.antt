@@ -1,21 +1,14 @@
 -- What jumps, branches and functions tell, as the facts that are added for them.
-use Rattle.std.proofs.Common.{◌≡◌, ◌⊎◌, ◌∙◌, ℕ, ◌+◌, ◌*◌, ◌<◌, Bool, true, false, ℤ, List, [], ◌∷◌, ◌++◌, map, Option, Some, None, refl, sym, ap, subst, inl, inr, arith}
-use Rattle.std.specs.List.{Contains, AllPairs}
+use Rattle.std.proofs.Common.{◌≡◌, ◌⊎◌, ◌∙◌, ℕ, ◌+◌, Bool, false, ℤ, List, [], ◌∷◌, ◌++◌, refl, sym, ap, subst, inl, inr}
+use Rattle.std.specs.List.{AllPairs}
 use Rattle.cfi_flow.specs.declared.links.Link.{Link}
-use Rattle.cfi_unit.specs.declared.unit.Unit.{Unit as CodeUnit}
-use Rattle.cfi_unit.specs.declared.unit.Unit.TheVariants as units
 use Rattle.cfi_aux.specs.declared.placed.Placed.{Placed}
-use Rattle.cfi_aux.specs.declared.placed.PlacedFunction.{PlacedFunction}
-use Rattle.cfi_aux.specs.declared.records.Kind.{Kind}
 use Rattle.cfi_aux.specs.declared.records.Kind.TheVariants as kinds
 use Rattle.cfi_graph.specs.declared.fact.Fact.{Fact}
 use Rattle.cfi_graph.specs.declared.fact.Fact.TheVariants as facts
-use Rattle.cfi_graph.specs.declared.fact.TheConstants.{CHECK_WORDS}
-use Rattle.cfi_graph.specs.Code.{address_of, entry_of}
-use Rattle.cfi_graph.specs.Shaped.{Precedes, slot_of}
-use Rattle.cfi_graph.specs.Calls.{HasKind}
-use Rattle.cfi_graph.specs.Facts.{type_node, function_node, LeadsToWord, IsFirst, LiesInNode, listed_fact, IsJumpFact, IsBranchFact, IsUnitFact, IsFunctionFact, Adds}
-use Rattle.cfi_graph.proofs.AddsLemmas.{adds_none, adds_one, adds_two, adds_list, adds_as}
+use Rattle.cfi_graph.specs.Shaped.{Precedes}
+use Rattle.cfi_graph.specs.Facts.{type_node, LeadsToWord, IsFirst, LiesInNode, IsJumpFact, IsBranchFact, Adds}
+use Rattle.cfi_graph.proofs.AddsLemmas.{adds_one, adds_two}
 use Rattle.cfi_graph.proofs.PlaceLemmas.{word_one, first_one}
 
 abbrev pub link : (a b : ℕ) → Link
@@ -26,41 +19,6 @@ pub link_is : (l : Link) (a b : ℕ) → l.from ≡ a → l.to ≡ b → link a 
 link_is l a b from to = ap (λ x. link x b) (sym from) ∙ ap (λ y. link l.from y) (sym to)
 
 -- ---- jumps
-
-pub jump_leads_nowhere : (m : Placed) (at : ℕ) (linked : Bool) (off : ℤ)
-    → ((word : ℕ) → LeadsToWord (m.base + at) off word → ⊥) → (fact : Fact) → IsJumpFact m at linked off fact → ⊥
-jump_leads_nowhere m at true off no_word (facts.Site l) told = no_word l.from told.0
-jump_leads_nowhere m at true off no_word (facts.Arrow l) told = told
-jump_leads_nowhere m at true off no_word (facts.Return l) told = told
-jump_leads_nowhere m at true off no_word (facts.Pointer l) told = told
-jump_leads_nowhere m at true off no_word (facts.Entry l) told = told
-jump_leads_nowhere m at true off no_word (facts.Listed l) told = told
-jump_leads_nowhere m at false off no_word (facts.Arrow l) told = no_word l.to told.1
-jump_leads_nowhere m at false off no_word (facts.Site l) told = told
-jump_leads_nowhere m at false off no_word (facts.Return l) told = told
-jump_leads_nowhere m at false off no_word (facts.Pointer l) told = told
-jump_leads_nowhere m at false off no_word (facts.Entry l) told = told
-jump_leads_nowhere m at false off no_word (facts.Listed l) told = told
-
-one_site : (m : Placed) (at : ℕ) (off : ℤ) (word : ℕ) → LeadsToWord (m.base + at) off word → (fact : Fact)
-    → IsJumpFact m at true off fact → facts.Site (link word (address_of m (at + 1))) ≡ fact
-one_site m at off word leads (facts.Site l) told =
-    ap facts.Site (link_is l word (address_of m (at + 1)) (word_one (m.base + at) off l.from word told.0 leads) told.1)
-one_site m at off word leads (facts.Arrow l) told = absurd told
-one_site m at off word leads (facts.Return l) told = absurd told
-one_site m at off word leads (facts.Pointer l) told = absurd told
-one_site m at off word leads (facts.Entry l) told = absurd told
-one_site m at off word leads (facts.Listed l) told = absurd told
-
--- a jump that links adds the place to which its call comes back
-pub site_adds : (m : Placed) (at : ℕ) (linked : Bool) (off : ℤ) (word to : ℕ) (old : List Fact) → linked ≡ true
-    → LeadsToWord (m.base + at) off word → to ≡ address_of m (at + 1)
-    → Adds old (old ++ facts.Site (link word to) ∷ []) (IsJumpFact m at linked off)
-site_adds m at linked off word to old is leads after =
-    subst (λ l. Adds old (old ++ facts.Site (link word to) ∷ []) (IsJumpFact m at l off)) (sym is)
-    (subst (λ t. Adds old (old ++ facts.Site (link word t) ∷ []) (IsJumpFact m at true off)) (sym after)
-    (adds_one old (facts.Site (link word (address_of m (at + 1)))) (IsJumpFact m at true off) (leads, refl)
-    (one_site m at off word leads)))
 
 -- the facts of a word that lies in no function
 module _ (m : Placed) (at : ℕ) (no_first : (first : ℕ) → IsFirst m.functions at first → ⊥) where

@@ -1,29 +1,25 @@
 -- Where control goes along a flow that says what modules tell, there is a direct edge.
-use Rattle.std.proofs.Common.{◌≡◌, ◌↔◌, ◌⊎◌, ◌∙◌, ℕ, zero, suc, ◌+◌, ◌*◌, ◌<◌, ◌≤◌, Bool, true, false, ℤ, pos, negsuc, List, length, Option, Some, refl, sym, ap, subst, inl, inr, arith}
+use Rattle.std.proofs.Common.{◌≡◌, ◌⊎◌, ◌∙◌, ℕ, zero, suc, ◌+◌, ◌*◌, ◌<◌, Bool, true, false, ℤ, List, length, Some, refl, sym, ap, subst, inl, inr, arith}
 use Rattle.std.specs.Prelude.{slice_get, IsTrue}
 use Rattle.std.specs.List.{Contains}
 use Rattle.cfi_flow.specs.declared.links.Flow.{Flow}
-use Rattle.cfi_flow.specs.Flow.{Links, IsPath, Reaches, PointsAt, ReturnsAt, Goes}
+use Rattle.cfi_flow.specs.Flow.{IsPath}
 use Rattle.cfi_unit.specs.declared.unit.Unit.TheVariants as units
-use Rattle.cfi_word.specs.declared.layout.TheConstants.{MAX_CODE_WORDS}
 use Rattle.cfi_types.specs.Classes.{AreClasses}
 use Rattle.cfi_aux.specs.declared.placed.Placed.{Placed}
 use Rattle.cfi_aux.specs.declared.placed.PlacedFunction.{PlacedFunction}
 use Rattle.cfi_aux.specs.declared.records.Kind.{Kind}
 use Rattle.cfi_aux.specs.declared.records.Kind.TheVariants as kinds
-use Rattle.cfi_graph.specs.declared.fact.Fact.{Fact}
 use Rattle.cfi_graph.specs.declared.fact.Fact.TheVariants as facts
-use Rattle.cfi_graph.specs.declared.fact.TheConstants.{CHECK_WORDS}
 use Rattle.cfi_graph.specs.Code.{Stands, address_of, entry_of, Leads}
 use Rattle.cfi_graph.specs.Shaped.{AreApart}
-use Rattle.cfi_graph.specs.Calls.{HasKind, IsFunction, MayPoint, IsCall, IsTailCall, LiesIn, ReturnsTo, TailCalls, IsReached}
-use Rattle.cfi_graph.specs.Direct.{IsPointee, IsReturnTarget, GoesTo, DirectEdge}
-use Rattle.cfi_graph.specs.Facts.{type_node, function_node, LeadsToWord, IsFirst, LiesInNode, IsJumpFact, IsBranchFact, IsFunctionFact, FunctionTells, IsTold}
+use Rattle.cfi_graph.specs.Calls.{HasKind, IsFunction, MayPoint, LiesIn, TailCalls, IsReached}
+use Rattle.cfi_graph.specs.Facts.{type_node, function_node, LeadsToWord, LiesInNode, IsJumpFact, IsBranchFact, IsTold}
 use Rattle.cfi_graph.specs.Reading.{tables_of}
 use Rattle.cfi_graph.proofs.FactLemmas.{link}
 use Rattle.cfi_graph.proofs.BoundLemmas.{contains_at, inside, branch_names}
-use Rattle.cfi_graph.proofs.NodeLemmas.{StandsAt, same_types, shaped_at, node_low, same_numbers, same_modules, same_functions}
-use Rattle.cfi_graph.proofs.ReadLemmas.{TellsFlow, CheckTells, JumpTells, unit_cases}
+use Rattle.cfi_graph.proofs.NodeLemmas.{StandsAt, same_types, shaped_at, node_low, same_numbers, same_functions}
+use Rattle.cfi_graph.proofs.ReadLemmas.{TellsFlow, unit_cases}
 
 -- the node stands for a function from which f of m is reached
 pub record IsEntered (ms : List Placed) (classes : List (List ℕ)) (m : Placed) (f : PlacedFunction)

@@ -1,22 +1,20 @@
 -- Nodes: a code word begins one function, and equal types alone have one class.
-use Rattle.std.proofs.Common.{◌≡◌, ◌↔◌, ◌⊎◌, ◌∙◌, ℕ, ◌+◌, ◌*◌, ◌<◌, ◌≤◌, List, [], length, map, get_or, Option, Some, None, refl, sym, ap, subst, inl, inr, arith}
-use Rattle.std.specs.Prelude.{slice_get, All}
+use Rattle.std.proofs.Common.{◌≡◌, ◌↔◌, ◌∙◌, ℕ, ◌+◌, ◌<◌, ◌≤◌, List, [], length, get_or, Some, sym, ap, subst, inl, inr, arith}
+use Rattle.std.specs.Prelude.{slice_get}
 use Rattle.std.specs.Option.{option_map}
-use Rattle.std.specs.List.{Contains, AllPairs}
+use Rattle.std.specs.List.{Contains}
 use Rattle.std.proofs.lemmas.Bool.{cases_lt}
 use Rattle.std.proofs.lemmas.Option.{same_Some, slice_get-map, slice_get_within, get_or_from_slice_get}
 use Rattle.std.proofs.lemmas.List.Elements.{All-contains}
 use Rattle.cfi_word.specs.declared.layout.TheConstants.{MAX_CODE_WORDS}
-use Rattle.cfi_types.specs.Node.{Node}
 use Rattle.cfi_types.specs.Same.{Equal}
 use Rattle.cfi_types.specs.Classes.{table_of, class_of, IsPlace, AreClasses}
 use Rattle.cfi_aux.specs.declared.placed.Placed.{Placed}
 use Rattle.cfi_aux.specs.declared.placed.PlacedFunction.{PlacedFunction}
-use Rattle.cfi_graph.specs.Calls.{LiesIn}
-use Rattle.cfi_graph.specs.Shaped.{IsShaped, IsShapedAs, IsBefore, AreApart, Precedes}
+use Rattle.cfi_graph.specs.Shaped.{IsShaped, IsBefore, AreApart}
 use Rattle.cfi_graph.specs.Facts.{type_node, function_node}
 use Rattle.cfi_graph.specs.Reading.{tables_of}
-use Rattle.cfi_graph.proofs.BoundLemmas.{contains_at, IsInside, inside}
+use Rattle.cfi_graph.proofs.BoundLemmas.{contains_at, inside}
 use Rattle.cfi_graph.proofs.PlaceLemmas.{function_one}
 
 -- the function of the module of the number

@@ -1,5 +1,5 @@
 -- Offsets lead to one word, and a word lies in one function.
-use Rattle.std.proofs.Common.{◌≡◌, ◌⊎◌, ◌∙◌, ℕ, ◌+◌, ◌*◌, ◌<◌, ◌≤◌, true, false, leb, leb-true, ℤ, pos, negsuc, List, length, get_or, Option, Some, refl, sym, ap, subst, inl, inr, arith}
+use Rattle.std.proofs.Common.{◌≡◌, ◌∙◌, ℕ, ◌+◌, ◌*◌, ◌<◌, ◌≤◌, true, false, leb, leb-true, ℤ, pos, negsuc, List, length, get_or, refl, sym, ap, subst, inl, inr, arith}
 use Rattle.std.specs.List.{Contains, AllPairs}
 use Rattle.std.specs.List.Sorted.{IsPartitionPoint}
 use Rattle.std.proofs.lemmas.Bool.{cases_lt, leb-false}

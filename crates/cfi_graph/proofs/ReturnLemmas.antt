@@ -1,9 +1,9 @@
 -- Where a flow that says what modules tell returns, there is a direct edge.
-use Rattle.std.proofs.Common.{◌≡◌, ◌↔◌, ◌⊎◌, ◌∙◌, ℕ, ◌+◌, ◌*◌, ◌<◌, Bool, true, false, ℤ, List, length, Option, Some, refl, sym, ap, subst, inl, inr, arith}
-use Rattle.std.specs.Prelude.{slice_get, IsTrue}
+use Rattle.std.proofs.Common.{◌≡◌, ◌∙◌, ℕ, Bool, true, false, ℤ, List, Some, sym, subst, inl, inr, arith}
+use Rattle.std.specs.Prelude.{slice_get}
 use Rattle.std.specs.List.{Contains}
 use Rattle.cfi_flow.specs.declared.links.Flow.{Flow}
-use Rattle.cfi_flow.specs.Flow.{Reaches, PointsAt, ReturnsAt, Goes}
+use Rattle.cfi_flow.specs.Flow.{Reaches, ReturnsAt}
 use Rattle.cfi_unit.specs.declared.unit.Unit.TheVariants as units
 use Rattle.cfi_types.specs.Classes.{AreClasses}
 use Rattle.cfi_aux.specs.declared.placed.Placed.{Placed}
@@ -11,18 +11,17 @@ use Rattle.cfi_aux.specs.declared.placed.PlacedFunction.{PlacedFunction}
 use Rattle.cfi_aux.specs.declared.records.Kind.{Kind}
 use Rattle.cfi_aux.specs.declared.records.Kind.TheVariants as kinds
 use Rattle.cfi_graph.specs.declared.fact.Fact.TheVariants as facts
-use Rattle.cfi_graph.specs.declared.fact.TheConstants.{CHECK_WORDS}
-use Rattle.cfi_graph.specs.Code.{Stands, address_of, entry_of}
+use Rattle.cfi_graph.specs.Code.{Stands, address_of}
 use Rattle.cfi_graph.specs.Shaped.{AreApart}
 use Rattle.cfi_graph.specs.Calls.{HasKind, ReturnsTo}
-use Rattle.cfi_graph.specs.Direct.{IsPointee, IsReturnTarget, DirectEdge}
-use Rattle.cfi_graph.specs.Facts.{type_node, function_node, LeadsToWord, LiesInNode, IsJumpFact, IsBranchFact, IsTold}
+use Rattle.cfi_graph.specs.Direct.{DirectEdge}
+use Rattle.cfi_graph.specs.Facts.{IsJumpFact, IsBranchFact, IsTold}
 use Rattle.cfi_graph.specs.Reading.{tables_of}
 use Rattle.cfi_graph.proofs.FactLemmas.{link}
 use Rattle.cfi_graph.proofs.BoundLemmas.{contains_at, branch_names}
-use Rattle.cfi_graph.proofs.NodeLemmas.{StandsAt, shaped_at}
-use Rattle.cfi_graph.proofs.ReadLemmas.{TellsFlow, CheckTells, JumpTells, unit_cases}
-use Rattle.cfi_graph.proofs.GoesLemmas.{IsEntered, LiesThere, lies_there, leads_entry, is_function, apart_nodes, may_point, entered_by}
+use Rattle.cfi_graph.proofs.NodeLemmas.{shaped_at}
+use Rattle.cfi_graph.proofs.ReadLemmas.{TellsFlow, unit_cases}
+use Rattle.cfi_graph.proofs.GoesLemmas.{IsEntered, lies_there, leads_entry, is_function, apart_nodes, may_point, entered_by}
 
 module _ (ms : List Placed) (classes : List (List ℕ)) (apart : AreApart ms)
     (are : AreClasses (tables_of ms) classes) where

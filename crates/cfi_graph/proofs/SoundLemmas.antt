@@ -1,9 +1,9 @@
 -- What a flow that says what modules tell joins is a direct edge.
-use Rattle.std.proofs.Common.{◌≡◌, ◌↔◌, ◌⊎◌, ◌∙◌, ℕ, ◌+◌, ◌*◌, ◌<◌, Bool, true, false, ℤ, List, length, Option, Some, refl, sym, ap, subst, inl, inr, arith}
+use Rattle.std.proofs.Common.{◌≡◌, ◌∙◌, ℕ, ◌<◌, Bool, true, false, ℤ, List, length, Some, sym, subst, inl, inr}
 use Rattle.std.specs.Prelude.{slice_get, IsTrue}
 use Rattle.std.specs.List.{Contains}
 use Rattle.cfi_flow.specs.declared.links.Flow.{Flow}
-use Rattle.cfi_flow.specs.Flow.{Reaches, PointsAt, ReturnsAt, Goes}
+use Rattle.cfi_flow.specs.Flow.{Goes}
 use Rattle.cfi_unit.specs.declared.unit.Unit.TheVariants as units
 use Rattle.cfi_types.specs.Classes.{AreClasses}
 use Rattle.cfi_aux.specs.declared.placed.Placed.{Placed}
@@ -11,19 +11,18 @@ use Rattle.cfi_aux.specs.declared.placed.PlacedFunction.{PlacedFunction}
 use Rattle.cfi_aux.specs.declared.records.Kind.{Kind}
 use Rattle.cfi_aux.specs.declared.records.Kind.TheVariants as kinds
 use Rattle.cfi_graph.specs.declared.fact.Fact.TheVariants as facts
-use Rattle.cfi_graph.specs.declared.fact.TheConstants.{CHECK_WORDS}
-use Rattle.cfi_graph.specs.Code.{Stands, address_of, entry_of}
+use Rattle.cfi_graph.specs.Code.{Stands, entry_of}
 use Rattle.cfi_graph.specs.Shaped.{AreApart}
-use Rattle.cfi_graph.specs.Calls.{HasKind, ReturnsTo}
-use Rattle.cfi_graph.specs.Direct.{IsPointee, IsReturnTarget, DirectEdge}
-use Rattle.cfi_graph.specs.Facts.{type_node, function_node, LeadsToWord, LiesInNode, IsJumpFact, IsBranchFact, IsTold}
+use Rattle.cfi_graph.specs.Calls.{HasKind}
+use Rattle.cfi_graph.specs.Direct.{IsPointee, DirectEdge}
+use Rattle.cfi_graph.specs.Facts.{type_node, IsJumpFact, IsBranchFact, IsTold}
 use Rattle.cfi_graph.specs.Reading.{tables_of}
 use Rattle.cfi_graph.proofs.FactLemmas.{link}
 use Rattle.cfi_graph.proofs.BoundLemmas.{contains_at, branch_names}
 use Rattle.cfi_graph.proofs.NodeLemmas.{StandsAt, shaped_at}
-use Rattle.cfi_graph.proofs.ReadLemmas.{TellsFlow, CheckTells, JumpTells, unit_cases}
+use Rattle.cfi_graph.proofs.ReadLemmas.{TellsFlow, unit_cases}
 use Rattle.cfi_graph.proofs.ReturnLemmas.{returned_edge}
-use Rattle.cfi_graph.proofs.GoesLemmas.{IsEntered, LiesThere, lies_there, leads_entry, is_function, apart_nodes, may_point, entered_by}
+use Rattle.cfi_graph.proofs.GoesLemmas.{is_function, may_point}
 
 -- an entry that a type's node may lead to
 pub record IsEntry (ms : List Placed) (classes : List (List ℕ)) (node address : ℕ) : Type 0 where

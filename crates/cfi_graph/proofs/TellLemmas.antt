@@ -1,7 +1,6 @@
 -- What units, functions and modules tell, number by number.
-use Rattle.std.proofs.Common.{◌≡◌, ◌↔◌, ◌⊎◌, ◌∙◌, ℕ, zero, suc, ◌+◌, ◌<◌, ◌≤◌, List, [], ◌∷◌, length, get_or, Option, Some, None, refl, sym, ap, subst, arith, inl, inr}
+use Rattle.std.proofs.Common.{◌≡◌, ◌∙◌, ℕ, zero, suc, ◌+◌, ◌<◌, List, [], ◌∷◌, length, get_or, Some, sym, ap, subst, arith}
 use Rattle.std.specs.Prelude.{slice_get}
-use Rattle.std.specs.List.{Contains}
 use Rattle.std.proofs.lemmas.Option.{none-some, same_Some, slice_get_within, slice_get-get_or}
 use Rattle.cfi_unit.specs.declared.unit.Unit.{Unit as CodeUnit}
 use Rattle.cfi_unit.specs.Unit.{size_of}
@@ -13,7 +12,7 @@ use Rattle.cfi_graph.specs.declared.spot.Spot.{Spot}
 use Rattle.cfi_graph.specs.declared.fact.Fact.{Fact}
 use Rattle.cfi_graph.specs.Code.{place_of, Stands}
 use Rattle.cfi_graph.specs.Spots.{spots_of}
-use Rattle.cfi_graph.specs.Facts.{IsUnitFact, IsFunctionFact, UnitTells, FunctionTells, ModuleTells, IsTold, AreFacts, Adds}
+use Rattle.cfi_graph.specs.Facts.{IsUnitFact, IsFunctionFact, UnitTells, FunctionTells, ModuleTells, AreFacts, Adds}
 use Rattle.cfi_graph.proofs.AddsLemmas.{TellsBelow, adds_as, adds_all}
 use Rattle.cfi_graph.proofs.BoundLemmas.{place_next, contains_at, at_contains}
 

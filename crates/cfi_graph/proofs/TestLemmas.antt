@@ -1,18 +1,15 @@
 -- Modules that tests write by hand, and that a graph can be made of them.
-use Rattle.std.proofs.Common.{◌≡◌, ◌∙◌, ℕ, zero, suc, ◌+◌, ◌*◌, ◌<◌, ◌≤◌, ◌^◌, Bool, true, false, ℤ, pos, negsuc, List, [], ◌∷◌, length, map, get_or, Option, Some, None, refl, sym, ap, subst, inl, inr, arith}
+use Rattle.std.proofs.Common.{◌≡◌, ◌∙◌, ℕ, zero, suc, ◌+◌, ◌<◌, ◌≤◌, ◌^◌, Bool, List, [], ◌∷◌, length, map, get_or, Some, refl, ap, arith}
 use Rattle.std.specs.Prelude.{slice_get, All}
-use Rattle.std.specs.List.{Contains, AllPairs, AllByRecursion, flat_map}
+use Rattle.std.specs.List.{AllPairs, AllByRecursion, flat_map}
 use Rattle.cfi_unit.specs.declared.unit.Unit.{Unit as CodeUnit}
 use Rattle.cfi_unit.specs.Unit.{IsUnit, words_of}
-use Rattle.cfi_word.specs.declared.layout.TheConstants.{MAX_CODE_WORDS}
-use Rattle.cfi_types.specs.Node.{Node, make_node}
+use Rattle.cfi_word.specs.declared.layout.TheConstants.{FIRST_BASE, MAX_CODE_WORDS}
+use Rattle.cfi_types.specs.Node.{Node}
 use Rattle.cfi_types.specs.Spelling.{AreTypes}
 use Rattle.cfi_aux.specs.declared.placed.Placed.{Placed}
-use Rattle.cfi_aux.specs.declared.placed.PlacedFunction.{PlacedFunction}
 use Rattle.cfi_aux.specs.declared.records.Kind.{Kind}
-use Rattle.cfi_graph.specs.declared.shape.TheConstants.{FIRST_WORD}
-use Rattle.cfi_graph.specs.Code.{place_of}
-use Rattle.cfi_graph.specs.Shaped.{slots_of, IsPart, Precedes, IsNamed, IsShapedAs, IsShaped, IsBefore, AreApart}
+use Rattle.cfi_graph.specs.Shaped.{slots_of, IsPart, Precedes, IsNamed, IsShaped, IsBefore}
 use Rattle.cfi_graph.specs.Reading.{HaveGraph, node_count}
 use Rattle.cfi_graph.specs.HandMade.{function_of, placed_of, void_and_function, function_and_void}
 
@@ -69,7 +66,7 @@ pub record IsHandMade (base slot_base : ℕ) (code : List CodeUnit) (rows : List
   pub slots : CountUp slot_base (slots_of code)
   pub named : All (IsNamed code (length types)) branches
   pub typed : All (λ f. f.ty < length types) (map function_of rows)
-  pub begins : FIRST_WORD ≤ base
+  pub begins : FIRST_BASE ≤ base
   pub ends : base + length (flat_map words_of code) ≤ MAX_CODE_WORDS
 
 pub hand_made_is_shaped : (base slot_base : ℕ) (code : List CodeUnit) (rows : List (ℕ × ℕ × ℕ × Bool))

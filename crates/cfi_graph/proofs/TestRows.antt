@@ -1,5 +1,5 @@
 -- The modules of the tests: a graph can be made of them. Words are numbered from a module's first.
-use Rattle.std.proofs.Common.{◌≡◌, ℕ, ◌<◌, Bool, true, false, ℤ, pos, negsuc, List, [], ◌∷◌, map, refl, arith, rules}
+use Rattle.std.proofs.Common.{ℕ, ◌<◌, Bool, true, false, pos, negsuc, List, [], ◌∷◌, map, refl, arith, rules}
 use Rattle.cfi_unit.specs.declared.unit.Unit.{Unit as CodeUnit}
 use Rattle.cfi_unit.specs.declared.unit.Unit.TheVariants as units
 use Rattle.cfi_aux.specs.declared.placed.Placed.{Placed}

@@ -1,5 +1,5 @@
 -- Lists of direct edges, by slot and then by address, each once.
-use Rattle.std.specs.Prelude.{◌↔◌, ℕ, List}
+use Rattle.std.specs.Prelude.{ℕ, List}
 use Rattle.cfi_word.specs.declared.lists.Edge.{Edge}
 use Rattle.cfi_word.specs.Chain.{Chain}
 use Rattle.cfi_aux.specs.declared.placed.Placed.{Placed}

@@ -4,12 +4,11 @@ use Rattle.std.specs.List.{filter_map, AllPairs}
 use Rattle.cfi_unit.specs.declared.unit.Unit.{Unit as CodeUnit}
 use Rattle.cfi_unit.specs.declared.unit.Unit.TheVariants as units
 use Rattle.cfi_unit.specs.Code.{UnitCode}
-use Rattle.cfi_word.specs.declared.layout.TheConstants.{MAX_CODE_WORDS}
+use Rattle.cfi_word.specs.declared.layout.TheConstants.{FIRST_BASE, MAX_CODE_WORDS}
 use Rattle.cfi_aux.specs.declared.placed.Placed.{Placed}
 use Rattle.cfi_aux.specs.declared.placed.PlacedFunction.{PlacedFunction}
 use Rattle.cfi_aux.specs.declared.records.Kind.{Kind}
 use Rattle.cfi_aux.specs.declared.records.Kind.TheVariants.{Call, Tail, Return, Switch}
-use Rattle.cfi_graph.specs.declared.shape.TheConstants.{FIRST_WORD}
 use Rattle.cfi_graph.specs.Code.{place_of}
 
 -- the slot of a check
@@ -54,7 +53,7 @@ pub record IsShapedAs (m : Placed) (code : List CodeUnit) : Type 0 where
   pub slots : (k : ℕ) → k < length m.branches → slice_get (slots_of code) k ≡ Some (m.slot_base + k)
   pub named : All (IsNamed code (length m.types)) m.branches
   pub typed : All (λ f. f.ty < length m.types) m.functions
-  pub begins : FIRST_WORD ≤ m.base
+  pub begins : FIRST_BASE ≤ m.base
   pub ends : m.base + length m.words ≤ MAX_CODE_WORDS
 
 -- a module is shaped: its words are units, its functions are some of them each, in order; its k-th check is its k-th

@@ -18,5 +18,5 @@ mod spot;
 
 pub use direct::{edges, spanning};
 pub use laws::{direct_is_allowed, some_module_has_graph};
-pub use shape::{FIRST_WORD, shaped_are_apart};
+pub use shape::shaped_are_apart;
 pub use spot::{Spot, spots};

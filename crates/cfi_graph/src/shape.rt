@@ -4,9 +4,6 @@ ghost use Rattle.std.specs.Prelude.{List};
 ghost use Rattle.cfi_aux.specs.declared.placed.Placed.{Placed};
 ghost use Rattle.cfi_graph.specs.Shaped.{AreApart, AreShaped};
 
-/// The first word of the code at which a module may begin.
-pub const FIRST_WORD: u32 = 16;
-
 /// Shaped modules, each of which follows the one before, are apart.
 pub fn shaped_are_apart()
     ensures { (ms : List Placed) → AreShaped ms → AreApart ms }

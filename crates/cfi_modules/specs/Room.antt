@@ -2,7 +2,7 @@
 -- multiple of 16. Places in the code are words, places of data are addresses in bytes.
 use Rattle.std.specs.Prelude.{ℕ, ◌+◌, ◌*◌, ◌/◌, List, fold, length}
 use Rattle.cfi_aux.specs.declared.placed.Placed.{Placed}
-use Rattle.cfi_graph.specs.declared.shape.TheConstants.{FIRST_WORD}
+use Rattle.cfi_word.specs.declared.layout.TheConstants.{FIRST_BASE}
 use Rattle.cfi_place.specs.declared.room.Room.{Room}
 use Rattle.cfi_place.specs.declared.room.TheConstants.{DATA_START}
 
@@ -13,7 +13,7 @@ next_multiple address = 16 * ((address + 15) / 16)
 -- the room of the first module
 abbrev pub first_room : (code_words : ℕ) → Room
 first_room code_words = record {
-  base = FIRST_WORD;
+  base = FIRST_BASE;
   slot_base = 0;
   data_base = DATA_START;
   code_words = code_words;

@@ -5,8 +5,8 @@ ghost use Rattle.cfi_place.specs.Placed.{IsRoom};
 ghost use Rattle.cfi_modules.specs.Room.{next_multiple, first_room, room_behind, room_after};
 
 use cfi_aux::Placed;
-use cfi_graph::FIRST_WORD;
 use cfi_place::{DATA_START, Room};
+use cfi_word::FIRST_BASE;
 
 // The least multiple of 16 that is not below the address.
 fn next_multiple(address: u32) -> u32
@@ -21,7 +21,7 @@ fn first_room(code_words: u32) -> Room
     ensures { result ≡ first_room code_words }
 {
     Room {
-        base: FIRST_WORD,
+        base: FIRST_BASE,
         slot_base: 0,
         data_base: DATA_START,
         code_words,

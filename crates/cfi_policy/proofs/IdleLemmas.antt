@@ -13,7 +13,7 @@ use Rattle.cfi_unit.specs.declared.unit.Unit.TheVariants as units
 use Rattle.cfi_unit.specs.Unit.{IsUnit}
 use Rattle.cfi_word.specs.declared.ids.TheConstants.{FIELD_MAX}
 use Rattle.cfi_aux.specs.declared.placed.Placed.{Placed}
-use Rattle.cfi_flow.proofs.Members.{member_first, no_member, member_of_one}
+use Rattle.cfi_flow.proofs.Members.{member_first, member_of_one}
 use Rattle.cfi_graph.specs.Shaped.{slot_of, slots_of, IsShaped, IsBefore, AreApart}
 use Rattle.cfi_policy.specs.Groups.{IsBranch}
 use Rattle.cfi_policy.specs.Idle.{IsIdleAmong, AddsIdle, AreIdle}
@@ -51,15 +51,6 @@ branch_low m (code, shape) number below =
 last_or : (number count : ℕ) → number < count + 1 → (number < count) ⊎ (number ≡ count)
 last_or number count below =
     elim (cases_lt number count) [ inl lower ↦ inl lower | inr higher ↦ inr (omega arith) ]
-
-pub none_idle : (base : ℕ) (bary old : List ℕ) → AddsIdle base 0 bary old old
-none_idle base bary old = record {
-  are = λ slot. (
-    λ has. inl has,
-    λ either. elim either [ inl has ↦ has | inr idle ↦ absurd (omega (arith, idle.1)) ],
-  );
-  order = λ low rises. rises;
-}
 
 idle_more : (base count : ℕ) (bary : List ℕ) (slot : ℕ) → IsIdleAmong base count bary slot
     → IsIdleAmong base (count + 1) bary slot
@@ -137,15 +128,6 @@ module _ (base count : ℕ) (bary old new : List ℕ) (adds : AddsIdle base coun
     }
 
 -- ---- one more module
-
-pub no_modules_idle : (bary : List ℕ) → AreIdle [] bary []
-no_modules_idle bary = record {
-  are = λ slot. (
-    λ has. absurd (no_member slot has),
-    λ both. absurd (no_member both.0.owner both.0.placed),
-  );
-  order = λ i j d less within. absurd (omega (arith, within));
-}
 
 branch_more : (ms : List Placed) (m : Placed) (slot : ℕ) → IsBranch ms slot → IsBranch (ms ++ m ∷ []) slot
 branch_more ms m slot b = record {

@@ -11,7 +11,7 @@ use Rattle.std.proofs.lemmas.List.Quantifiers.{all_pairs_push}
 use Rattle.cfi_flow.specs.declared.links.Link.{Link}
 use Rattle.cfi_flow.specs.Flow.{Links, BeginBelow}
 use Rattle.cfi_flow.specs.Rows.{AreRows}
-use Rattle.cfi_flow.proofs.Members.{member_first, no_member, member_of_one}
+use Rattle.cfi_flow.proofs.Members.{member_first, member_of_one}
 use Rattle.cfi_flow.proofs.RowLemmas.{make_link, from_row, to_row}
 use Rattle.cfi_policy.specs.ByClass.{IsMember, AreMembers, AreLinksBy, AreRowsBy}
 
@@ -46,13 +46,6 @@ member_low : (step : ℕ) (numbers : List ℕ) (number member : ℕ) → 0 < ste
     → member < step * length numbers
 member_low step numbers number member some (place, below, has, is) =
     subst (λ n. n < step * length numbers) (sym is) (mul-lt-mul_of_pos_left below some)
-
-pub no_links : (step count : ℕ) → AreLinksBy step count [] []
-no_links step count = record {
-  sound = λ number member has. absurd (no_member (make_link number member) has);
-  whole = λ number member some most is. absurd (omega (arith, is.1));
-  order = λ i j d less within. absurd (omega (arith, within));
-}
 
 module _ (step count : ℕ) (numbers : List ℕ) (links : List Link) (last : ℕ)
     (before : AreLinksBy step count numbers links) where

@@ -1,6 +1,6 @@
 //! The slots and addresses of each class.
 
-ghost use Rattle.std.specs.Prelude.{◌≡◌, ◌+◌, ◌*◌, ◌<◌, ◌^◌, length, IfOk};
+ghost use Rattle.std.specs.Prelude.{◌+◌, ◌*◌, ◌<◌, ◌^◌, length, IfOk};
 ghost use Rattle.cfi_policy.specs.ByClass.{AreLinksBy, AreRowsBy, IsCount, AreClassGroups};
 
 use crate::group::Group;

@@ -2,9 +2,8 @@
 use Rattle.std.proofs.Common.{◌≡◌, ℕ, zero, suc, ◌+◌, ◌≤◌, List, [], ◌∷◌, length, take, Some, refl, ap, subst, ◌∙◌, sym, add-one, arith}
 use Rattle.std.specs.List.{slice_get}
 use Rattle.std.proofs.lemmas.List.Elements.{All-nil, All-cons}
-use Rattle.cfi_word.specs.declared.layout.TheConstants.{MAX_CODE_WORDS}
+use Rattle.cfi_word.specs.declared.layout.TheConstants.{FIRST_BASE, MAX_CODE_WORDS}
 use Rattle.cfi_aux.specs.declared.placed.Placed.{Placed}
-use Rattle.cfi_graph.specs.declared.shape.TheConstants.{FIRST_WORD}
 use Rattle.cfi_graph.specs.Shaped.{Follows}
 use Rattle.cfi_verify.specs.Example.{loop_module}
 use Rattle.cfi_verify.specs.Faults.{IsVerified}
@@ -14,10 +13,10 @@ use Rattle.cfi_shaped.specs.Verified.{AreVerified}
 abbrev modules : List Placed
 modules = loop_module ∷ []
 
-first : (m : Placed) → slice_get modules 0 ≡ Some m → (m.base ≡ FIRST_WORD) × (m.slot_base ≡ 0)
+first : (m : Placed) → slice_get modules 0 ≡ Some m → (m.base ≡ FIRST_BASE) × (m.slot_base ≡ 0)
 first m is =
     let same : loop_module ≡ m = cc in
-    subst (λ (n : Placed). (n.base ≡ FIRST_WORD) × (n.slot_base ≡ 0)) same (refl, refl)
+    subst (λ (n : Placed). (n.base ≡ FIRST_BASE) × (n.slot_base ≡ 0)) same (refl, refl)
 
 next : (k : ℕ) (m n : Placed) → slice_get modules k ≡ Some m → slice_get modules (k + 1) ≡ Some n → Follows m n
 next k m n here there =

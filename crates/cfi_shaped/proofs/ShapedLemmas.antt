@@ -8,13 +8,12 @@ use Rattle.std.proofs.lemmas.List.{length-map}
 use Rattle.std.proofs.lemmas.List.Elements.{All-weaker}
 use Rattle.std.proofs.lemmas.Option.{slice_get-get_or, slice_get-map, slice_get_past}
 use Rattle.cfi_types.specs.Node.{Node}
-use Rattle.cfi_word.specs.declared.layout.TheConstants.{MAX_CODE_WORDS}
+use Rattle.cfi_word.specs.declared.layout.TheConstants.{FIRST_BASE, MAX_CODE_WORDS}
 use Rattle.cfi_aux.specs.Format.{is_func}
 use Rattle.cfi_aux.specs.declared.placed.Placed.{Placed}
 use Rattle.cfi_aux.specs.declared.placed.PlacedFunction.{PlacedFunction}
 use Rattle.cfi_aux.specs.declared.records.Kind.{Kind}
 use Rattle.cfi_aux.specs.declared.records.Kind.TheVariants.{Call, Tail, Return, Switch}
-use Rattle.cfi_graph.specs.declared.shape.TheConstants.{FIRST_WORD}
 use Rattle.cfi_graph.specs.Code.{place_of}
 use Rattle.cfi_graph.specs.Shaped.{slots_of, IsPart, IsPlace, IsNamed, IsShapedAs, AreShaped}
 use Rattle.cfi_verify.specs.declared.spot.Spot.{Spot}
@@ -120,7 +119,7 @@ module _ (m : Placed) (loaded : List Placed) (spots : List Spot) (v : IsVerified
       (subst (IsRecordOf m.types c.link) here (v.kinds k c (check k within)))
       (subst (AreEntriesIn m spots c.at) here (v.switches k c (check k within)))
 
-  pub shaped_as : FIRST_WORD ≤ m.base → m.base + length m.words ≤ MAX_CODE_WORDS →
+  pub shaped_as : FIRST_BASE ≤ m.base → m.base + length m.words ≤ MAX_CODE_WORDS →
       IsShapedAs m v.laid.units.code
   shaped_as begins ends =
       let slots = slots_are m.words spots v.laid.units in
@@ -146,7 +145,7 @@ module _ (m : Placed) (loaded : List Placed) (spots : List Spot) (v : IsVerified
       }
 
 -- no module begins before the first word
-low : (ms : List Placed) → AreVerified ms → (k : ℕ) (d : Placed) → k < length ms → FIRST_WORD ≤ (get_or ms k d).base
+low : (ms : List Placed) → AreVerified ms → (k : ℕ) (d : Placed) → k < length ms → FIRST_BASE ≤ (get_or ms k d).base
 low ms a zero d within =
     let here = a.first (get_or ms 0 d) (slice_get-get_or ms 0 d within) in omega (arith, here.0)
 low ms a (suc k) d within =

@@ -1,8 +1,6 @@
 use Rattle.std.proofs.Common.{All}
-use Rattle.cfi_word.specs.declared.layout.TheConstants.{MAX_CODE_WORDS}
 use Rattle.cfi_class.specs.Labels.{IsWithin}
 use Rattle.cfi_class.proofs.tests.edges_of.Given as goal
 
 abbrev pub invariant-loop-branch : goal.invariant-loop-branch
-invariant-loop-branch l =
-    All (IsWithin l.slots 1024) l.edges.items × All (IsWithin l.slots MAX_CODE_WORDS) l.edges.items
+invariant-loop-branch l = All (IsWithin l.slots 1024) l.edges.items

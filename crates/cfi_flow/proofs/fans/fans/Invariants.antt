@@ -1,5 +1,10 @@
+use Rattle.std.proofs.Common.{length}
 use Rattle.cfi_flow.specs.Fans.{AreFans}
+use Rattle.cfi_flow.specs.Reach.{AreClear}
 use Rattle.cfi_flow.proofs.fans.fans.Given as goal
 
 abbrev pub invariant-loop-node : goal.invariant-loop-node
-invariant-loop-node l = AreFans l.flow l.node l.fans.items
+invariant-loop-node l = record {
+  fans : AreFans l.flow l.node l.fans.items;
+  clear : AreClear (length l.rows.arrows) l.marks.items;
+}

@@ -1,4 +1,4 @@
-use Rattle.std.proofs.Common.{ℕ, ◌<◌, List, length, get_or, arith, sym, subst, All}
+use Rattle.std.proofs.Common.{◌<◌, length, get_or, arith, sym, subst, All}
 use Rattle.std.proofs.lemmas.List.Elements.{All-from_get_or, Contains-get_or}
 use Rattle.cfi_flow.proofs.fans.return_fan.Goals as goal
 
@@ -8,6 +8,6 @@ joined-requires c =
     let inside : All (λ k. k < length c.args.rows.now.returns) order =
     All-from_get_or (λ k. k < length c.args.rows.now.returns) order 0 (λ i h.
     let within : get_or order i 0 < length c.args.rows.now.arrows =
-    c.in_ok-order.ensures.within (get_or order i 0) (Contains-get_or order i 0 h) in
+    c.in_ok-order.ensures.reached.within (get_or order i 0) (Contains-get_or order i 0 h) in
     omega (arith, within, c.requires.nodes.returns)) in
     subst (λ xs. All (λ k. k < length c.args.rows.now.returns) xs) (sym c.as_slice.ensures.value) inside

@@ -1,4 +1,4 @@
-use Rattle.std.proofs.Common.{◌≡◌, ℕ, sym, subst}
+use Rattle.std.proofs.Common.{ℕ, sym, subst}
 use Rattle.cfi_aux.specs.declared.records.Kind.TheVariants.{Return}
 use Rattle.cfi_graph.specs.Facts.{IsFirst, IsBranchFact}
 use Rattle.cfi_graph.proofs.AddsLemmas.{adds_none}

@@ -1,4 +1,4 @@
-use Rattle.std.proofs.Common.{◌≡◌, ℕ, sym, subst}
+use Rattle.std.proofs.Common.{ℕ, sym, subst}
 use Rattle.cfi_graph.specs.Facts.{IsFirst}
 use Rattle.cfi_graph.proofs.FactLemmas.{tail_adds_one, tail_adds_two}
 use Rattle.cfi_graph.proofs.branch_facts.add_tail.Goals as goal

@@ -1,4 +1,4 @@
-use Rattle.std.proofs.Common.{◌≡◌, ◌∙◌, sym, subst}
+use Rattle.std.proofs.Common.{◌∙◌, sym, subst}
 use Rattle.cfi_flow.specs.Flow.{IsSound}
 use Rattle.cfi_graph.specs.Facts.{AreFacts}
 use Rattle.cfi_graph.specs.Flows.{IsFlowOf, GoesAs}

@@ -1,4 +1,4 @@
-use Rattle.std.proofs.Common.{◌≡◌, ◌+◌, ℕ, sym, subst, FitsSigned}
+use Rattle.std.proofs.Common.{ℕ, sym, subst, FitsSigned}
 use Rattle.std.specs.Int.{w32}
 use Rattle.std.proofs.lemmas.Int.{to_z-of_z}
 use Rattle.cfi_graph.specs.Facts.{IsFirst, IsJumpFact}

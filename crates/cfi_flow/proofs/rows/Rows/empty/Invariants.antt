@@ -1,4 +1,4 @@
-use Rattle.std.proofs.Common.{◌≡◌, List, ℕ, [], map, replicate}
+use Rattle.std.proofs.Common.{◌≡◌, [], map, replicate}
 use Rattle.cfi_flow.proofs.rows.Rows.empty.Given as goal
 
 abbrev pub invariant-loop : goal.invariant-loop
