@@ -1,5 +1,5 @@
 -- No module that verifies ends in a call: what stands last is a jump or a check that does not link, or idle.
-use Rattle.std.proofs.Common.{◌≡◌, ℕ, zero, suc, ◌+◌, ◌-◌, ◌<◌, ◌≤◌, Bool, true, false, List, [], ◌∷◌, length, take, get_or, Option, Some, None, refl, ap, sym, ◌∙◌, ⊎_elim, arith, length-append}
+use Rattle.std.proofs.Common.{◌≡◌, ℕ, zero, suc, ◌+◌, ◌-◌, ◌<◌, ◌≤◌, Bool, true, false, List, [], ◌∷◌, length, take, get_or, Option, Some, None, ap, sym, ◌∙◌, ⊎_elim, arith, length-append}
 use Rattle.std.specs.List.{Contains, flat_map, slice_get, cons_option}
 use Rattle.std.proofs.lemmas.Bool.{cases_lt, false≢true}
 use Rattle.std.proofs.lemmas.List.{get_or_default}
@@ -12,7 +12,7 @@ use Rattle.cfi_unit.proofs.UnitLemmas.{size_pos}
 use Rattle.cfi_aux.specs.declared.placed.Placed.{Placed}
 use Rattle.cfi_aux.specs.declared.placed.PlacedFunction.{PlacedFunction}
 use Rattle.cfi_graph.specs.Code.{place_of}
-use Rattle.cfi_shaped.proofs.NumberLemmas.{place_number, last_place, place_mono}
+use Rattle.cfi_shaped.proofs.NumberLemmas.{length-spots_of, place_number, last_place, place_mono}
 use Rattle.cfi_verify.specs.declared.spot.Spot.{Spot}
 use Rattle.cfi_verify.specs.declared.checks.CheckSpot.{CheckSpot}
 use Rattle.cfi_verify.specs.Spots.{spots_of, BeginsUnit, check_in, checks_of}
@@ -21,10 +21,6 @@ use Rattle.cfi_verify.specs.Faults.{IsVerifiedAs}
 use Rattle.cfi_verify.proofs.FunctionLemmas.{end_before-next}
 
 -- ---- units by their numbers
-
-length-spots_of : (a : ℕ) (code : List CodeUnit) → length (spots_of a code) ≡ length code
-length-spots_of a [] = refl
-length-spots_of a (u ∷ us) = omega (arith, length-spots_of (a + size_of u) us)
 
 abbrev spot_of : (at : ℕ) → CodeUnit → Spot
 spot_of at unit = record { at = at; unit = unit }

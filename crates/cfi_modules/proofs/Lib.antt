@@ -1,3 +1,4 @@
+pub mod ExampleLemmas
 pub mod LengthLemmas
 pub mod PlacedLemmas
 pub mod NamesLemmas

@@ -1,6 +1,6 @@
 //! What holds of modules in order.
 
-ghost use Rattle.std.specs.Prelude.{◌≡◌, ℕ, List};
+ghost use Rattle.std.specs.Prelude.{◌≡◌, ℕ, List, [], ◌∷◌};
 ghost use Rattle.cfi_aux.specs.declared.modules.Module.{Module};
 ghost use Rattle.cfi_aux.specs.declared.placed.Placed.{Placed};
 ghost use Rattle.cfi_graph.specs.Reading.{HaveGraph};
@@ -49,4 +49,9 @@ pub fn one_answer()
 /// Some module can be taken.
 pub fn some_module_can_be_taken()
     ensures { (m : Module) × CanBeTaken m }
+{}
+
+/// Some series has a module.
+pub fn some_series_has_a_module()
+    ensures { (placed : Placed) × IsSeries 1024 (placed ∷ []) }
 {}

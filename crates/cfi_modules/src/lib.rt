@@ -2,8 +2,8 @@
 //!
 //! Stands on `cfi_place`, `cfi_verify`, `cfi_shaped`, `cfi_graph`, `cfi_policy` and what these stand on. Proved: a series
 //! takes a module exactly where it places and verifies behind those that it has, and else says the module's first fault
-//! and stays as it was; the modules of a series have a graph and an image. Only tested: that ample memory is enough.
-//! Open: when memory runs out.
+//! and stays as it was; the modules of a series have a graph and an image; some series has a module. Only tested: that
+//! ample memory is enough. Open: when memory runs out.
 #![tactic(auto)]
 
 mod fault;
@@ -15,6 +15,7 @@ mod series;
 
 pub use fault::JoinFault;
 pub use laws::{
-    one_answer, series_are_verified, series_have_graph, series_have_image, some_module_can_be_taken,
+    one_answer, series_are_verified, series_have_graph, series_have_image,
+    some_module_can_be_taken, some_series_has_a_module,
 };
 pub use series::Series;

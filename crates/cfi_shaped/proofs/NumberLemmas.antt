@@ -12,7 +12,8 @@ use Rattle.cfi_verify.specs.declared.spot.Spot.{Spot}
 use Rattle.cfi_verify.specs.declared.checks.CheckSpot.{CheckSpot}
 use Rattle.cfi_verify.specs.Spots.{spots_of, AreSpots, BeginsUnit, check_in, checks_of}
 
-length-spots_of : (a : ℕ) (code : List CodeUnit) → length (spots_of a code) ≡ length code
+-- as many units with their places as units
+pub length-spots_of : (a : ℕ) (code : List CodeUnit) → length (spots_of a code) ≡ length code
 length-spots_of a [] = refl
 length-spots_of a (u ∷ us) = omega (arith, length-spots_of (a + size_of u) us)
 
