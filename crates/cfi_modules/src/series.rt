@@ -11,7 +11,7 @@ ghost use Rattle.cfi_modules.specs.Series.{with_module, JoinsTo, HasJoined, CanB
 use crate::fault::JoinFault;
 use crate::joining::join;
 use crate::laws::{series_have_graph, series_have_image};
-use crate::names::add_names;
+use crate::names::{add_names, names_of};
 use cfi_aux::{Module, Placed};
 use cfi_place::Symbols;
 use cfi_word::Layout;
@@ -24,7 +24,7 @@ use std::marker::Model;
 pub struct Series {
     code_words: u32,
     placed: Vec<Placed>,
-    // The names that they export; none once memory ran out for them, and then no further module is taken.
+    // The names that they export; none after memory ran out for them.
     symbols: Option<Symbols>,
     alloc: Global,
 }
@@ -56,8 +56,7 @@ impl Series {
     /// Adds a module behind those that are there.
     ///
     /// `Place` where it does not fit at the next free place, and then `Verify` where, placed there, a fault stands
-    /// against it beside those before it. A refusal leaves the series as it was; but where memory ran out for the names
-    /// that modules export, each later call says `Memory` too.
+    /// against it beside those before it. A refusal leaves the series as it was.
     pub fn add(&mut self, unplaced: &Module) -> Result<(), JoinFault>
         requires { CanBeTaken unplaced.now }
         ensures ok { OnOk result (HasJoined self.old self.new unplaced.now) }
@@ -66,9 +65,7 @@ impl Series {
         ensures only { (placed : PlacedModule) → JoinsTo self.old unplaced.now placed →
             (self.new ≡ with_module self.old placed) ⊎ (result ≡ Err Memory) }
     {
-        let Some(mut symbols) = self.symbols.take() else {
-            return Err(JoinFault::Memory);
-        };
+        let mut symbols = names_of(self.alloc, self.symbols.take(), &self.placed)?;
         match join(
             self.alloc,
             self.code_words,

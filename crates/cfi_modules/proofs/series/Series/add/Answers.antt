@@ -18,10 +18,10 @@ invariant_of-self-in-Ok c =
     let placed = c.self.inside.placed.items in
     let m = c.in-Ok.placed in
     let exports = flat_map (λ (p : Placed). p.exports) placed in
-    let joins = subst (λ (xs : List Placed). Joins code_words xs c.args.unplaced.now m) c.deref.ensures.value
+    let joins = subst (λ (xs : List Placed). Joins code_words xs c.args.unplaced.now m) c.deref-2.ensures.value
     c.in-Ok.ensures.ok in
-    let was : HasNames placed (Some c.in-Some.symbols) =
-    subst (HasNames placed) (sym c.in-Some.ensures.value) c.self.invariant.names in
+    let was = subst (λ (xs : List Placed). HasNames xs (Some c.in_ok-symbols.symbols)) c.deref.ensures.value
+    c.in_ok-symbols.ensures in
     let names = names_more placed m (find_in c.add_names.new.symbols) (λ name.
     c.in_ok-add_names-in-Ok.ensures exports was name
     ∙ ap (λ (pairs : List (List ℕ × ℕ)). first_in (exports ++ pairs) name) c.as_slice.ensures) in
@@ -38,7 +38,7 @@ returns-in_ok-push-in-Ok-clause-only c placed joins =
     let code_words = c.self.inside.code_words in
     let before = c.self.inside.placed.items in
     let unplaced = c.args.unplaced.now in
-    let this = subst (λ (xs : List Placed). Joins code_words xs unplaced c.in-Ok.placed) c.deref.ensures.value
+    let this = subst (λ (xs : List Placed). Joins code_words xs unplaced c.in-Ok.placed) c.deref-2.ensures.value
     c.in-Ok.ensures.ok in
     let that = subst (λ (s : Series). Joins s.code_words s.placed unplaced placed) (sym c.self.view_is) joins in
     let with_items : List Placed → Series = λ xs. record { code_words = code_words; placed = xs } in
@@ -53,7 +53,7 @@ returns-in-Err-clause-only c placed joins =
     let code_words = c.self.inside.code_words in
     let before = c.self.inside.placed.items in
     let unplaced = c.args.unplaced.now in
-    let refused = subst (λ (xs : List Placed). IsJoinFault code_words xs unplaced c.in-Err.fault) c.deref.ensures.value
+    let refused = subst (λ (xs : List Placed). IsJoinFault code_words xs unplaced c.in-Err.fault) c.deref-2.ensures.value
     c.in-Err.ensures.fault in
     let that = subst (λ (s : Series). Joins s.code_words s.placed unplaced placed) (sym c.self.view_is) joins in
     inr (ap as_refused (joins_or_refused code_words before unplaced placed c.in-Err.fault that refused))
