@@ -11,7 +11,7 @@ use Rattle.cfi_word.specs.declared.layout.TheConstants.{FIRST_BASE}
 use Rattle.cfi_aux.specs.declared.placed.Placed.{Placed}
 use Rattle.cfi_aux.specs.declared.placed.PlacedFunction.{PlacedFunction}
 use Rattle.rv_reloc.specs.Bytes.{word_at}
-use Rattle.cfi_place.specs.declared.room.TheConstants.{DATA_START}
+use Rattle.cfi_unit.specs.declared.unit.TheConstants.{DATA_START}
 use Rattle.cfi_place.specs.Relocated.{areas_of, relocated_from}
 use Rattle.cfi_place.specs.Slots.{ReadFrom}
 use Rattle.cfi_verify.specs.declared.spot.Spot.{Spot}

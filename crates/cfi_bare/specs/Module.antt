@@ -10,7 +10,7 @@ use Rattle.cfi_aux.specs.declared.records.Kind.{Kind}
 use Rattle.cfi_aux.specs.declared.modules.Module.{Module}
 use Rattle.cfi_aux.specs.declared.placed.Placed.{Placed}
 use Rattle.cfi_place.specs.declared.room.Room.{Room}
-use Rattle.cfi_place.specs.declared.room.TheConstants.{DATA_START}
+use Rattle.cfi_unit.specs.declared.unit.TheConstants.{DATA_START}
 use Rattle.cfi_place.specs.Names.{Names}
 use Rattle.cfi_place.specs.Placed.{IsPlaced}
 use Rattle.cfi_bare.specs.declared.modules.TheConstants.{FUNCTION_TYPE}

@@ -6,8 +6,9 @@ ghost use Rattle.cfi_bare.specs.Module.{bare_types, bare_functions, bare_object,
 
 use cfi_aux::{Function, Kind, Module, Placed, Records};
 use cfi_list::Items;
-use cfi_place::{DATA_START, Room, Symbols as Names, place};
+use cfi_place::{Room, Symbols as Names, place};
 use cfi_types::{FUNC, TypeNode, TypeTable, VOID};
+use cfi_unit::DATA_START;
 use cfi_word::{FIRST_BASE, MAX_CODE_WORDS};
 use elf_read::{Bytes, Name, Object, Relocs, Symbols};
 use std::alloc::{AllocError, Global};

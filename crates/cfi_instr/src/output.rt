@@ -12,13 +12,14 @@ ghost use Rattle.cfi_instr.specs.Output.{AreMoved, IsObject, IsInstrumented, IsF
 
 use crate::moves::{moved_relocs, moved_symbols};
 use crate::reach::least_long;
-use crate::records::{moved_functions, moved_kinds, types_copy};
-use crate::text::{bytes_of, words_of};
+use crate::records::{moved_functions, moved_kinds};
+use crate::text::words_of;
 use cfi_aux::{Module, Records, write_records};
 use cfi_items::{InstrFault, Source, read_items};
 use cfi_list::Items;
 use cfi_types::write_types;
 use elf_read::{Bytes, Object, Relocs, Symbols};
+use rv_words::bytes_of;
 use std::alloc::{AllocError, Global};
 
 // The bytes of the text.
@@ -113,7 +114,7 @@ pub fn instrument(alloc: Global, unplaced: &Module) -> Result<Module, InstrFault
     let (long, offsets) = least_long(alloc, &source, symbols)?;
     let records = records_of(alloc, &source, unplaced, &offsets)?;
     let object = object_of(alloc, &source, unplaced, &long, &offsets, &records)?;
-    let types = types_copy(alloc, &unplaced.types)?;
+    let types = unplaced.types.copied(alloc)?;
     Ok(Module {
         object,
         types,

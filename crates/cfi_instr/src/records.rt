@@ -8,7 +8,6 @@ use crate::sizes::moved;
 use cfi_aux::{Function, Kind};
 use cfi_items::Source;
 use cfi_list::Items;
-use cfi_types::{TypeNode, TypeTable};
 use elf_read::Name;
 use std::alloc::{AllocError, Global};
 
@@ -105,17 +104,4 @@ pub fn moved_kinds(
         found.push(moved_kind(alloc, source, offsets, kind)?)?;
     }
     Ok(found)
-}
-
-/// The same type table in memory of its own.
-pub fn types_copy(alloc: Global, types: &TypeTable) -> Result<TypeTable, AllocError>
-    ensures { IfOk result (λ copy. copy ≡ types.now) }
-{
-    let nodes = types.nodes();
-    let mut copy = Vec::with_capacity(alloc, nodes.len())?;
-    for node in nodes {
-        let fields = Vec::from_slice(alloc, node.fields())?;
-        copy.push(TypeNode::new(node.kind(), fields))?;
-    }
-    Ok(TypeTable::from_vec(copy))
 }

@@ -2,7 +2,6 @@
 
 ghost use Rattle.std.specs.Prelude.{◌≡◌, ◌*◌, ◌<◌, ◌^◌, ◌++◌, OnOk, IfOk, Some};
 ghost use Rattle.std.specs.List.{flat_map};
-ghost use Rattle.cfi_types.specs.Spelling.{word};
 ghost use Rattle.cfi_unit.specs.Unit.{words_of};
 ghost use Rattle.cfi_items.specs.Words.{count_of};
 ghost use Rattle.cfi_items.specs.Jumps.{ordinal_of};
@@ -96,15 +95,4 @@ pub fn words_of(
         }
     }
     Ok(words)
-}
-
-/// The bytes of words, the low byte first.
-pub fn bytes_of(alloc: Global, words: &[u32]) -> Result<Vec<u8>, AllocError>
-    ensures { IfOk result (λ bytes. bytes.items ≡ flat_map word words.now) }
-{
-    let mut bytes = Vec::new(alloc);
-    for word in words {
-        bytes.extend_from_slice(&word.to_le_bytes())?;
-    }
-    Ok(bytes)
 }

@@ -117,11 +117,3 @@ sizes-more joined m =
     (capped-sum _ _ ∙ ap capped (sym lengths.text)) (capped-data _ _ ∙ ap capped (sym lengths.static_data))
     (capped-sum _ _ ∙ ap capped (sym lengths.types)) (capped-sum _ _ ∙ ap capped (sym lengths.functions))
     (capped-sum _ _ ∙ ap capped (sym lengths.branches))
-
--- a limit sees a capped number as the number
-capped-within : (limit number : ℕ) → limit < GREATEST → leb (capped number) limit ≡ leb number limit
-capped-within limit number small =
-    elim (cases_lt limit number) [
-      | inl above ↦ lt-leb (capped number) limit (omega arith) ∙ sym (lt-leb number limit above)
-      | inr within ↦ le-leb (capped number) limit (omega arith) ∙ sym (le-leb number limit within)
-    ]

@@ -1,8 +1,7 @@
 //! Linking modules.
 
 ghost use Rattle.std.specs.Prelude.{◌≡◌, ◌<◌, ◌^◌, ℕ, List, None, length, IfOk, IfErr, OnOk, All};
-ghost use Rattle.std.specs.List.{flat_map};
-ghost use Rattle.cfi_types.specs.Spelling.{word, spelling as types_spelling};
+ghost use Rattle.cfi_types.specs.Spelling.{spelling as types_spelling};
 ghost use Rattle.cfi_aux.specs.Records.{CanBeWritten, spelling as records_spelling};
 ghost use Rattle.cfi_aux.specs.Sound.{IsSoundModule};
 ghost use Rattle.cfi_link.specs.Chosen.{chosen_in, twice_in};
@@ -26,18 +25,8 @@ use cfi_list::Items;
 use cfi_place::placed_words;
 use cfi_types::{TypeTable, write_types};
 use elf_read::{Bytes, Object, Reloc, Relocs, Symbol, Symbols};
+use rv_words::bytes_of;
 use std::alloc::{AllocError, Global};
-
-// The bytes of words, the low byte first.
-fn bytes_of(alloc: Global, words: &[u32]) -> Result<Vec<u8>, AllocError>
-    ensures { IfOk result (λ bytes. bytes.items ≡ flat_map word words.now) }
-{
-    let mut bytes = Vec::with_capacity(alloc, 4 * words.len())?;
-    for word in words {
-        bytes.extend_from_slice(&word.to_le_bytes())?;
-    }
-    Ok(bytes)
-}
 
 // The text that joined modules make, and their relocations that are kept.
 fn parts_of(

@@ -31,11 +31,7 @@ pub(crate) struct Source<'a> {
 }
 
 pub(crate) fn bytes_of(alloc: Global, words: &[u32]) -> Result<Bytes, AllocError> {
-    let mut out = Vec::new(alloc);
-    for word in words {
-        out.extend_from_slice(&word.to_le_bytes())?;
-    }
-    Ok(Bytes::from_vec(out))
+    Ok(Bytes::from_vec(rv_words::bytes_of(alloc, words)?))
 }
 
 fn symbols_of(alloc: Global, rows: &[(&str, Binding, Place, u32)]) -> Result<Symbols, AllocError> {

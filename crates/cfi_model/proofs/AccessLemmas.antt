@@ -5,7 +5,7 @@ use Rattle.rv_insn.specs.declared.insn.Insn.TheVariants as insns
 use Rattle.rv_insn.specs.declared.insn.LoadKind.{LoadKind}
 use Rattle.rv_insn.specs.declared.insn.StoreKind.{StoreKind}
 use Rattle.cfi_unit.specs.declared.unit.Unit.TheVariants as units
-use Rattle.cfi_model.specs.declared.places.TheConstants.{DATA}
+use Rattle.cfi_unit.specs.declared.unit.TheConstants.{DATA_START}
 use Rattle.cfi_model.specs.Data.{load_width, store_width, is_aligned, loaded, stored}
 use Rattle.cfi_model.specs.State.{State, register, regs_with}
 use Rattle.cfi_model.specs.Raw.{Raw, reg}
@@ -34,7 +34,7 @@ access_ends : (p : State) (retries x28 x29 x30 offset : ℕ) (regs memory : List
     (record (before p retries x28 x29 x30 offset) {
       base = record (before p retries x28 x29 x30 offset).base { regs = regs; memory = memory };
     }))
-    (stopped (stops.Align (DATA + offset)) (before p retries x28 x29 x30 offset)))
+    (stopped (stops.Align (DATA_START + offset)) (before p retries x28 x29 x30 offset)))
 access_ends p retries x28 x29 x30 offset regs memory true small going = record {
   base = same_state p _ _ _ _ _ _ _ _ _ _ _ _ _ _ refl refl refl refl refl (omega arith) refl;
   idle = refl;
@@ -59,7 +59,7 @@ load_ends p retries x28 x29 x30 kind rd rs1 imm pick allows reply free small goi
     let place = ap (λ a. load_at a kind rd (units_of (is_reserved rd || true)) r) (area_private o low) in
     let written = with_reg-free p p.units (p.pc + 4 * 5) (p.steps + 9 * retries + 5) x28 x29 x30 (0x40000000 + o)
     None None None rd value free in
-    let ends = ap (λ w. cond fits (ran (next r) 1 w) (stopped (stops.Align (DATA + o)) r)) written in
+    let ends = ap (λ w. cond fits (ran (next r) 1 w) (stopped (stops.Align (DATA_START + o)) r)) written in
     subst (IsBetween retries (accessed fits o (regs_with p.regs rd value) p.memory p)) (sym (place ∙ ends))
     (access_ends p retries x28 x29 x30 o (regs_with p.regs rd value) p.memory fits small going)
 

@@ -19,7 +19,8 @@ use Rattle.cfi_model.specs.declared.act.Act.{Act}
 use Rattle.cfi_model.specs.declared.act.Act.TheVariants as acts
 use Rattle.cfi_model.specs.declared.act.Wait.{Wait}
 use Rattle.cfi_model.specs.declared.act.Wait.TheVariants as waits
-use Rattle.cfi_model.specs.declared.places.TheConstants.{DATA, DATA_BYTES, TARY, CODE_BYTES}
+use Rattle.cfi_unit.specs.declared.unit.TheConstants.{DATA_START}
+use Rattle.cfi_model.specs.declared.places.TheConstants.{DATA_BYTES, TARY, CODE_BYTES}
 use Rattle.cfi_model.specs.Data.{load_width, store_width, is_aligned, loaded, stored}
 use Rattle.cfi_model.specs.Log.{picked}
 use Rattle.cfi_model.specs.State.{displaced, after}
@@ -100,7 +101,7 @@ is_within first bytes address = nat_le first address && nat_lt address (first + 
 
 abbrev pub area_of : ℕ → Area
 area_of address =
-    if is_within DATA DATA_BYTES address then Private (address - DATA) else
+    if is_within DATA_START DATA_BYTES address then Private (address - DATA_START) else
     (if is_within TARY CODE_BYTES address then TaryId (address - TARY) else
     (if is_within BARY (4 * SLOTS) address && is_aligned 4 address then BaryId ((address - BARY) / 4) else Nothing))
 
@@ -114,7 +115,7 @@ abbrev pub load_private : LoadKind → (rd offset : ℕ) → Raw → Raw
 load_private kind rd offset r =
     if is_aligned (load_width kind) offset
     then ran (next r) 1 (with_reg r rd (loaded kind r.base.memory offset))
-    else stopped (stops.Align (DATA + offset)) r
+    else stopped (stops.Align (DATA_START + offset)) r
 
 -- a load from the place of an address
 abbrev pub load_at : Area → LoadKind → (rd units : ℕ) → Raw → Raw
@@ -131,7 +132,7 @@ abbrev pub store_private : StoreKind → (offset value : ℕ) → Raw → Raw
 store_private kind offset value r =
     if is_aligned (store_width kind) offset
     then ran (next r) 1 (record r { base = record r.base { memory = stored kind r.base.memory offset value } })
-    else stopped (stops.Align (DATA + offset)) r
+    else stopped (stops.Align (DATA_START + offset)) r
 
 abbrev pub store_at : Area → StoreKind → (value : ℕ) → Raw → Raw
 store_at (Private offset) kind value r = store_private kind offset value r
@@ -181,7 +182,7 @@ begin_of r word = begin_by (insn_of word) r
 -- what a load asks for
 abbrev pub load_act : Area → LoadKind → Act
 load_act (Private offset) kind =
-    if is_aligned (load_width kind) offset then acts.Done else acts.Align (DATA + offset)
+    if is_aligned (load_width kind) offset then acts.Done else acts.Align (DATA_START + offset)
 load_act (TaryId address) kind =
     if reads_table kind
     then (if is_aligned 4 address then acts.Need (TARY + address) else acts.Halt address)
@@ -191,7 +192,7 @@ load_act Nothing kind = acts.Done
 
 abbrev pub store_act : Area → StoreKind → Act
 store_act (Private offset) kind =
-    if is_aligned (store_width kind) offset then acts.Done else acts.Align (DATA + offset)
+    if is_aligned (store_width kind) offset then acts.Done else acts.Align (DATA_START + offset)
 store_act _ kind = acts.Done
 
 -- what an instruction asks for

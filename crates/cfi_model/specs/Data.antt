@@ -7,7 +7,8 @@ use Rattle.rv_insn.specs.declared.insn.LoadKind.TheVariants.{Lb, Lh, Lw, Lbu, Lh
 use Rattle.rv_insn.specs.declared.insn.StoreKind.{StoreKind}
 use Rattle.rv_insn.specs.declared.insn.StoreKind.TheVariants.{Sb, Sh, Sw}
 use Rattle.cfi_unit.specs.declared.fill.Fill.{Fill}
-use Rattle.cfi_model.specs.declared.places.TheConstants.{DATA, DATA_BYTES}
+use Rattle.cfi_unit.specs.declared.unit.TheConstants.{DATA_START}
+use Rattle.cfi_model.specs.declared.places.TheConstants.{DATA_BYTES}
 
 -- so many bytes of 0
 unfoldable pub zeroes : (count : ℕ) → List ℕ
@@ -71,12 +72,12 @@ stored Sw bytes offset value = with_word bytes offset value
 
 -- a fill lies inside private data
 pub record IsInside (fill : Fill) : Type 0 where
-  pub first : DATA ≤ fill.at
-  pub last : fill.at - DATA + length fill.bytes ≤ DATA_BYTES
+  pub first : DATA_START ≤ fill.at
+  pub last : fill.at - DATA_START + length fill.bytes ≤ DATA_BYTES
 
 -- the data after a fill: its bytes stand from its address on
 abbrev pub filled : List ℕ → Fill → List ℕ
-filled bytes fill = splice bytes (fill.at - DATA) (fill.at - DATA + length fill.bytes) fill.bytes
+filled bytes fill = splice bytes (fill.at - DATA_START) (fill.at - DATA_START + length fill.bytes) fill.bytes
 
 -- the data after fills, one after the other
 abbrev pub filled_by : List ℕ → List Fill → List ℕ

@@ -10,7 +10,8 @@ use Rattle.cfi_unit.specs.declared.unit.Unit.TheVariants as units
 use Rattle.cfi_unit.specs.declared.log.Stop.TheVariants.{Halt, Align}
 use Rattle.cfi_unit.specs.Unit.{link_register}
 use Rattle.cfi_word.specs.declared.lists.Edge.{Edge}
-use Rattle.cfi_model.specs.declared.places.TheConstants.{DATA, DATA_BYTES, CODE_BYTES, MAX_OPENS, OPEN}
+use Rattle.cfi_unit.specs.declared.unit.TheConstants.{DATA_START}
+use Rattle.cfi_model.specs.declared.places.TheConstants.{DATA_BYTES, CODE_BYTES, MAX_OPENS, OPEN}
 use Rattle.cfi_model.specs.Data.{load_width, store_width, is_aligned, loaded, stored}
 use Rattle.cfi_model.specs.Log.{picked, opens}
 use Rattle.cfi_model.specs.State.{State, register, regs_with, displaced, after}
@@ -41,7 +42,7 @@ accessed fits offset regs memory s = record s {
   pc = if fits then after 24 s.pc else s.pc;
   units = s.units + 1;
   steps = s.steps + 6;
-  stop = if fits then s.stop else Some (Align (DATA + offset));
+  stop = if fits then s.stop else Some (Align (DATA_START + offset));
 }
 
 abbrev pub load_effect : (width value offset rd : ℕ) → State → State

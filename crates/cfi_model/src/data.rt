@@ -2,10 +2,11 @@ ghost use Rattle.std.specs.Prelude.{◌≡◌, ℕ, ◌+◌, ◌-◌, ◌*◌, �
 ghost use Rattle.std.specs.List.{All, splice};
 ghost use Rattle.cfi_model.specs.Data.{zeroes, load_width, store_width, loaded, stored, filled, filled_by, IsInside};
 ghost use Rattle.cfi_model.specs.Data.{byte_at, half_at, word_at, with_byte, with_half, with_word, sign_extended};
-ghost use Rattle.cfi_model.specs.declared.places.TheConstants.{DATA, DATA_BYTES};
+ghost use Rattle.cfi_unit.specs.declared.unit.TheConstants.{DATA_START};
+ghost use Rattle.cfi_model.specs.declared.places.TheConstants.{DATA_BYTES};
 
-use crate::places::{DATA, DATA_BYTES};
-use cfi_unit::Fill;
+use crate::places::DATA_BYTES;
+use cfi_unit::{DATA_START, Fill};
 use rv_insn::{LoadKind, StoreKind};
 use std::alloc::{AllocError, Global};
 use std::marker::Model;
@@ -151,7 +152,7 @@ impl PrivateData {
         ensures { self.new ≡ filled_by self.old fills.now }
     {
         for fill in fills {
-            self.write((fill.at - DATA) as usize, fill.bytes.as_slice());
+            self.write((fill.at - DATA_START) as usize, fill.bytes.as_slice());
         }
     }
 }

@@ -23,7 +23,7 @@ pub use data::{PrivateData, load_width, store_width};
 pub use log_book::LogBook;
 pub use output::Output;
 pub use places::{
-    ARGUMENT, CAUSE, CODE_BYTES, DATA, DATA_BYTES, EXIT, MAX_LOG, MAX_OPENS, MAX_OUTPUT, OPEN, PUT,
+    ARGUMENT, CAUSE, CODE_BYTES, DATA_BYTES, EXIT, MAX_LOG, MAX_OPENS, MAX_OUTPUT, OPEN, PUT,
     QUIET, REFUSED, SERVICE, STACK, TARY, TOO_MANY,
 };
 pub use plain::Plain;

@@ -1,9 +1,7 @@
+use cfi_unit::DATA_START;
 use cfi_word::MAX_CODE_WORDS;
 
-/// The first address of private data.
-pub const DATA: u32 = 0x4000_0000;
-
-/// The number of bytes of private data.
+/// The number of bytes of private data, which begins at `DATA_START`.
 pub const DATA_BYTES: u32 = 0x10_0000;
 
 /// The address of the Tary ID of code address 0; that of code address a is a after it.
@@ -13,7 +11,7 @@ pub const TARY: u32 = 0x1000_0000;
 pub const CODE_BYTES: u32 = 4 * MAX_CODE_WORDS;
 
 /// What x2 holds at the start, the address after private data.
-pub const STACK: u32 = DATA + DATA_BYTES;
+pub const STACK: u32 = DATA_START + DATA_BYTES;
 
 /// The most bytes that a guest's output holds.
 pub const MAX_OUTPUT: usize = 65_536;

@@ -4,7 +4,7 @@ use Rattle.std.specs.Prelude.{ℕ, ◌+◌, ◌*◌, ◌/◌, List, fold, length
 use Rattle.cfi_aux.specs.declared.placed.Placed.{Placed}
 use Rattle.cfi_word.specs.declared.layout.TheConstants.{FIRST_BASE}
 use Rattle.cfi_place.specs.declared.room.Room.{Room}
-use Rattle.cfi_place.specs.declared.room.TheConstants.{DATA_START}
+use Rattle.cfi_unit.specs.declared.unit.TheConstants.{DATA_START}
 
 -- the least multiple of 16 that is not below the address
 abbrev pub next_multiple : (address : ℕ) → ℕ

@@ -5,7 +5,8 @@ ghost use Rattle.cfi_place.specs.Placed.{IsRoom};
 ghost use Rattle.cfi_modules.specs.Room.{next_multiple, first_room, room_behind, room_after};
 
 use cfi_aux::Placed;
-use cfi_place::{DATA_START, Room};
+use cfi_place::Room;
+use cfi_unit::DATA_START;
 use cfi_word::FIRST_BASE;
 
 // The least multiple of 16 that is not below the address.

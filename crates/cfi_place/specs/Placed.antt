@@ -8,7 +8,8 @@ use Rattle.cfi_aux.specs.declared.modules.Module.{Module}
 use Rattle.cfi_aux.specs.declared.placed.Placed.{Placed}
 use Rattle.cfi_aux.specs.Placed.{exports_of}
 use Rattle.cfi_place.specs.declared.room.Room.{Room}
-use Rattle.cfi_place.specs.declared.room.TheConstants.{DATA_START, DATA_END}
+use Rattle.cfi_unit.specs.declared.unit.TheConstants.{DATA_START}
+use Rattle.cfi_place.specs.declared.room.TheConstants.{DATA_END}
 use Rattle.cfi_place.specs.declared.fault.PlaceFault.{PlaceFault}
 use Rattle.cfi_place.specs.declared.fault.PlaceFault.TheVariants as faults
 use Rattle.cfi_place.specs.Names.{Names}

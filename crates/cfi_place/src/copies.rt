@@ -4,7 +4,6 @@ ghost use Rattle.std.specs.Prelude.{◌≡◌, IfOk};
 
 use cfi_aux::Kind;
 use cfi_list::Items;
-use cfi_types::{TypeNode, TypeTable};
 use std::alloc::{AllocError, Global};
 
 fn kind_copy(alloc: Global, kind: &Kind) -> Result<Kind, AllocError>
@@ -29,17 +28,4 @@ pub fn branches_copy(alloc: Global, branches: &[Kind]) -> Result<Vec<Kind>, Allo
         copy.push(kind_copy(alloc, kind)?)?;
     }
     Ok(copy)
-}
-
-/// The same type table in memory of its own.
-pub fn types_copy(alloc: Global, types: &TypeTable) -> Result<TypeTable, AllocError>
-    ensures { IfOk result (λ copy. copy ≡ types.now) }
-{
-    let nodes = types.nodes();
-    let mut copy = Vec::with_capacity(alloc, nodes.len())?;
-    for node in nodes {
-        let fields = Vec::from_slice(alloc, node.fields())?;
-        copy.push(TypeNode::new(node.kind(), fields))?;
-    }
-    Ok(TypeTable::from_vec(copy))
 }

@@ -24,6 +24,6 @@ mod words;
 
 pub use fault::PlaceFault;
 pub use placing::place;
-pub use room::{DATA_END, DATA_START, Room};
+pub use room::{DATA_END, Room};
 pub use symbols::Symbols;
 pub use words::{placed_words, words_of};

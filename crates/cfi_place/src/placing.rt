@@ -6,7 +6,7 @@ ghost use Rattle.cfi_place.specs.Names.{find_in};
 ghost use Rattle.cfi_place.specs.Placed.{IsRoom, IsPlaced, IsFault, placed_in};
 
 use crate::bytes::placed_bytes;
-use crate::copies::{branches_copy, types_copy};
+use crate::copies::branches_copy;
 use crate::fault::PlaceFault;
 use crate::functions::placed_functions;
 use crate::room::Room;
@@ -54,7 +54,7 @@ pub fn place(
         static_data: Bytes::from_vec(static_data),
         functions: Items::from_vec(functions),
         branches: Items::from_vec(branches_copy(alloc, unplaced.records.branches.as_slice())?),
-        types: types_copy(alloc, &unplaced.types)?,
+        types: unplaced.types.copied(alloc)?,
         exports,
     })
 }

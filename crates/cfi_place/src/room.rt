@@ -1,8 +1,5 @@
 //! Where a module goes.
 
-/// The least address of private data.
-pub const DATA_START: u32 = 0x4000_0000;
-
 /// The address at or before which all static data of modules ends.
 pub const DATA_END: u32 = 0x4008_0000;
 

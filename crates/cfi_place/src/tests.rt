@@ -4,6 +4,7 @@ ghost use Rattle.cfi_place.specs.Placed.{IsRoom};
 
 use super::*;
 use cfi_aux::{Module, Placed, module_of, what_is_read_is_sound};
+use cfi_unit::DATA_START;
 use elf_read::relocation::{BRANCH, JAL, NONE};
 use elf_read::{Bytes, GLOBAL, MAX_FILE, Object, Relocs, WEAK, read_object};
 use std::alloc::{AllocError, Global};

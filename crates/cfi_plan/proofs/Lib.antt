@@ -1,4 +1,3 @@
 pub mod DraftLemmas
-pub mod NumberLemmas
 pub mod PlanLemmas
 pub mod SoundLemmas

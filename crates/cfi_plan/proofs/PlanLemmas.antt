@@ -13,10 +13,11 @@ use Rattle.cfi_plan.specs.declared.line.Line.TheVariants.{Blank, Code, Versions,
 use Rattle.cfi_plan.specs.declared.plan.PlanModule.{PlanModule}
 use Rattle.cfi_plan.specs.declared.plan.ScriptLine.{ScriptLine}
 use Rattle.cfi_plan.specs.declared.plan.ScriptLine.TheVariants as script
-use Rattle.cfi_plan.specs.declared.limits.TheConstants.{MAX_EPOCH}
+use Rattle.cfi_word.specs.declared.word.TheConstants.{MAX_EPOCH}
+use Rattle.cfi_word.specs.Table.{IsSize}
 use Rattle.cfi_plan.specs.Draft.{Draft, empty, module_of, starts, one_if, refreshes, refreshes_of, is_astray, is_within, with_line}
 use Rattle.cfi_text.specs.Names.{is_name}
-use Rattle.cfi_plan.specs.Plan.{IsCodeSize, IsVersions, IsFuel, IsNamed, AreApart, AreModules, AreGuests, IsScriptLine, IsScript}
+use Rattle.cfi_plan.specs.Plan.{IsVersions, IsFuel, IsNamed, AreApart, AreModules, AreGuests, IsScriptLine, IsScript}
 use Rattle.cfi_plan.proofs.DraftLemmas.{starts-push}
 
 -- the names of a line are names, and it makes a refresh or more
@@ -33,7 +34,7 @@ IsLine (Refresh count) = 1 ≤ count
 
 -- a draft within the limits
 pub record IsSound (draft : Draft) : Type 0 where
-  pub code : IfSome draft.code IsCodeSize
+  pub code : IfSome draft.code IsSize
   pub versions : IfSome draft.versions IsVersions
   pub first : IfSome draft.first (λ number. number ≤ MAX_EPOCH)
   pub fuel : IfSome draft.fuel IsFuel
@@ -54,7 +55,7 @@ empty-IsSound = record {
 
 -- tests of limits
 
-code_size : (number : ℕ) → (eqb (number % 1024) 0 && leb 1024 number && leb number 65536) ≡ true → IsCodeSize number
+code_size : (number : ℕ) → (eqb (number % 1024) 0 && leb 1024 number && leb number 65536) ≡ true → IsSize number
 code_size number h = record {
   multiple = grind (arith, nat_tests);
   least = grind (arith, nat_tests);

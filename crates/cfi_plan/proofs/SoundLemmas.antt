@@ -4,6 +4,8 @@ use Rattle.std.specs.Prelude.{codes}
 use Rattle.std.proofs.lemmas.Bool.Decides.{nat_tests}
 use Rattle.std.specs.Option.{option_map}
 use Rattle.std.specs.Str.{bytes_eq}
+use Rattle.cfi_word.specs.Table.{IsSize}
+use Rattle.cfi_text.specs.Decimal.{number_in}
 use Rattle.cfi_text.specs.Lines.{statement_of, numbered_lines}
 use Rattle.cfi_plan.specs.declared.line.Line.{Line}
 use Rattle.cfi_plan.specs.declared.line.Line.TheVariants.{Code, Versions, Epoch, Fuel, Module, Guest, Load, Refresh}
@@ -13,8 +15,7 @@ use Rattle.cfi_plan.specs.Draft.{Draft, empty, is_empty, is_astray, is_within, w
 use Rattle.cfi_plan.specs.Line.{form_of, pair_form, numbered_form, counted_form, module_form, start_in}
 use Rattle.cfi_text.specs.Names.{is_name, name_in}
 use Rattle.cfi_plan.specs.Files.{is_file, file_in}
-use Rattle.cfi_plan.specs.Number.{number_in}
-use Rattle.cfi_plan.specs.Plan.{IsPlan, IsCodeSize, IsVersions, IsFuel}
+use Rattle.cfi_plan.specs.Plan.{IsPlan, IsVersions, IsFuel}
 use Rattle.cfi_plan.specs.Reading.{◌>>=◌, is_head, taken_if, with_text, with_lines, plan_of_lines, plan_in}
 use Rattle.cfi_text.specs.Words.{words_in}
 use Rattle.cfi_plan.proofs.PlanLemmas.{IsLine, IsSound, empty-IsSound, line-IsSound}
@@ -175,7 +176,7 @@ plan-IsPlan : (draft : Draft) (plan : Plan) → IsSound draft → plan_of draft 
 plan-IsPlan draft plan s e =
     let h = guarded (is_empty draft.guests) _ _ plan e in
     subst IsPlan h.1 (record {
-      code_words = set IsCodeSize draft.code 65536 s.code (record {
+      code_words = set IsSize draft.code 65536 s.code (record {
         multiple = refl;
         least = omega arith;
         most = omega arith;

@@ -9,7 +9,9 @@ use Rattle.cfi_plan.specs.declared.plan.ScriptLine.{ScriptLine}
 use Rattle.cfi_plan.specs.declared.plan.ScriptLine.TheVariants as script
 use Rattle.cfi_plan.specs.declared.fault.PlanFault.{PlanFault}
 use Rattle.cfi_plan.specs.declared.fault.PlanFault.TheVariants.{Syntax, Limit, NoGuest, Memory}
-use Rattle.cfi_plan.specs.declared.limits.TheConstants.{MIN_CODE_WORDS, MAX_CODE_WORDS, MIN_VERSIONS, MAX_VERSIONS, MAX_EPOCH, MAX_FUEL, FUEL, MAX_MODULES, MAX_STARTS, MAX_GUESTS, MAX_SCRIPT, MAX_REFRESHES}
+use Rattle.cfi_word.specs.declared.layout.TheConstants.{MIN_CODE_WORDS, MAX_CODE_WORDS}
+use Rattle.cfi_word.specs.declared.word.TheConstants.{MIN_VERSIONS, MAX_VERSIONS, MAX_EPOCH}
+use Rattle.cfi_plan.specs.declared.limits.TheConstants.{MAX_FUEL, FUEL, MAX_MODULES, MAX_STARTS, MAX_GUESTS, MAX_SCRIPT, MAX_REFRESHES}
 
 -- what the lines have said
 pub record Draft : Type 0 where

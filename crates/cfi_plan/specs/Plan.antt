@@ -1,20 +1,16 @@
 -- What holds of each plan that is read, and is asked of each plan that a call takes: it is within the limits, its
 -- modules differ in name, its names are names, and its script loads modules that are there.
-use Rattle.std.specs.Prelude.{◌≡◌, ◌≢◌, ℕ, ◌%◌, ◌<◌, ◌≤◌, true, List, length, All, AllPairs}
+use Rattle.std.specs.Prelude.{◌≡◌, ◌≢◌, ℕ, ◌<◌, ◌≤◌, true, List, length, All, AllPairs}
 use Rattle.cfi_plan.specs.declared.plan.Plan.{Plan}
 use Rattle.cfi_plan.specs.declared.plan.PlanModule.{PlanModule}
 use Rattle.cfi_plan.specs.declared.plan.ScriptLine.{ScriptLine}
 use Rattle.cfi_plan.specs.declared.plan.ScriptLine.TheVariants.{Load, Refresh}
-use Rattle.cfi_plan.specs.declared.limits.TheConstants.{MIN_CODE_WORDS, MAX_CODE_WORDS, MIN_VERSIONS, MAX_VERSIONS, MAX_EPOCH, MAX_FUEL, MAX_MODULES, MAX_STARTS, MAX_GUESTS, MAX_SCRIPT, MAX_REFRESHES}
+use Rattle.cfi_word.specs.declared.word.TheConstants.{MIN_VERSIONS, MAX_VERSIONS, MAX_EPOCH}
+use Rattle.cfi_word.specs.Table.{IsSize}
+use Rattle.cfi_plan.specs.declared.limits.TheConstants.{MAX_FUEL, MAX_MODULES, MAX_STARTS, MAX_GUESTS, MAX_SCRIPT, MAX_REFRESHES}
 use Rattle.cfi_plan.specs.Draft.{starts, refreshes}
 use Rattle.cfi_text.specs.Names.{is_name}
 use Rattle.cfi_plan.specs.Files.{is_file}
-
--- a number of code words
-pub record IsCodeSize (number : ℕ) : Type 0 where
-  pub multiple : number % MIN_CODE_WORDS ≡ 0
-  pub least : MIN_CODE_WORDS ≤ number
-  pub most : number ≤ MAX_CODE_WORDS
 
 -- a number of versions
 abbrev pub IsVersions : (number : ℕ) → Type 0
@@ -57,7 +53,7 @@ pub record IsScript (modules : ℕ) (script : List ScriptLine) : Type 0 where
 
 -- a plan within the limits
 pub record IsPlan (plan : Plan) : Type 0 where
-  pub code_words : IsCodeSize plan.code_words
+  pub code_words : IsSize plan.code_words
   pub versions : IsVersions plan.versions
   pub first : plan.first ≤ MAX_EPOCH
   pub fuel : IsFuel plan.fuel

@@ -4,13 +4,13 @@ ghost use Rattle.cfi_plan.specs.Draft.{Draft as Said, empty, taken, one_if, plan
 use crate::fault::PlanFault;
 use crate::index::{give_number, number_of};
 use crate::limits::{
-    FUEL, MAX_CODE_WORDS, MAX_EPOCH, MAX_FUEL, MAX_GUESTS, MAX_MODULES, MAX_REFRESHES, MAX_SCRIPT,
-    MAX_STARTS, MAX_VERSIONS, MIN_CODE_WORDS, MIN_VERSIONS,
+    FUEL, MAX_FUEL, MAX_GUESTS, MAX_MODULES, MAX_REFRESHES, MAX_SCRIPT, MAX_STARTS,
 };
 use crate::line::Line;
 use crate::plan::{Plan, PlanModule, ScriptLine};
 use crate::text::Text;
 use cfi_list::Items;
+use cfi_word::{MAX_CODE_WORDS, MAX_EPOCH, MAX_VERSIONS, MIN_CODE_WORDS, MIN_VERSIONS};
 use std::alloc::Global;
 use std::collections::BTreeMap;
 use std::marker::Model;

@@ -21,8 +21,7 @@ mod text;
 pub use fault::PlanFault;
 pub use journal::{Entry, JournalLine, ModuleLine, Who};
 pub use limits::{
-    FUEL, MAX_CODE_WORDS, MAX_EPOCH, MAX_FUEL, MAX_GUESTS, MAX_MODULES, MAX_REFRESHES, MAX_SCRIPT,
-    MAX_STARTS, MAX_VERSIONS, MIN_CODE_WORDS, MIN_VERSIONS,
+    FUEL, MAX_FUEL, MAX_GUESTS, MAX_MODULES, MAX_REFRESHES, MAX_SCRIPT, MAX_STARTS,
 };
 pub use names::name_of;
 pub use plan::{Plan, PlanModule, ScriptLine};

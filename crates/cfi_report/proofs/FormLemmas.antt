@@ -4,11 +4,11 @@ use Rattle.std.specs.Option.{option_map}
 use Rattle.std.specs.Str.{bytes_eq}
 use Rattle.std.proofs.lemmas.Bool.{cond_both, and_parts}
 use Rattle.std.proofs.lemmas.Slice.Eq.{bytes_eq-Decides}
-use Rattle.cfi_text.specs.Decimal.{dec_text}
+use Rattle.cfi_text.specs.Decimal.{dec_text, small_number_in}
 use Rattle.cfi_text.specs.Hex.{hex8_text}
 use Rattle.cfi_text.specs.Names.{is_name, name_in}
-use Rattle.cfi_report.specs.Form.{number_in, address_in}
-use Rattle.cfi_report.proofs.WordLemmas.{Spells, number_in-says, address_in-says}
+use Rattle.cfi_report.specs.Form.{address_in}
+use Rattle.cfi_report.proofs.WordLemmas.{Spells, small_number_in-spells, address_in-spells}
 
 -- what is said, if anything, is so
 pub record Says {A : Type 0} (P : A → Type 0) (form : Option A) : Type 0 where
@@ -52,20 +52,20 @@ module _ {A : Type 0} where
   as_value P word (Some v) f h each = record { says = each v h.spells.0 h.spells.1 }
 
   pub number : (P : A → Type 0) (word : List ℕ) (f : ℕ → Option A)
-      → ((n : ℕ) → n < 2 ^ 32 → word ≡ dec_text n → Says P (f n)) → Says P (option_and_then f (number_in word))
-  number P word f each = with_value P word (number_in word) f (number_in-says word) each
+      → ((n : ℕ) → n < 2 ^ 32 → word ≡ dec_text n → Says P (f n)) → Says P (option_and_then f (small_number_in word))
+  number P word f each = with_value P word (small_number_in word) f (small_number_in-spells word) each
 
   pub address : (P : A → Type 0) (word : List ℕ) (f : ℕ → Option A)
       → ((n : ℕ) → n < 2 ^ 32 → word ≡ hex8_text n → Says P (f n)) → Says P (option_and_then f (address_in word))
-  address P word f each = with_value P word (address_in word) f (address_in-says word) each
+  address P word f each = with_value P word (address_in word) f (address_in-spells word) each
 
   pub last_number : (P : A → Type 0) (word : List ℕ) (f : ℕ → A) → ((n : ℕ) → n < 2 ^ 32 → word ≡ dec_text n → P (f n))
-      → Says P (option_map f (number_in word))
-  last_number P word f each = as_value P word (number_in word) f (number_in-says word) each
+      → Says P (option_map f (small_number_in word))
+  last_number P word f each = as_value P word (small_number_in word) f (small_number_in-spells word) each
 
   pub last_address : (P : A → Type 0) (word : List ℕ) (f : ℕ → A)
       → ((n : ℕ) → n < 2 ^ 32 → word ≡ hex8_text n → P (f n)) → Says P (option_map f (address_in word))
-  last_address P word f each = as_value P word (address_in word) f (address_in-says word) each
+  last_address P word f each = as_value P word (address_in word) f (address_in-spells word) each
 
   pub named : (P : A → Type 0) (word : List ℕ) (f : List ℕ → Option A) → (is_name word ≡ true → Says P (f word))
       → Says P (option_and_then f (name_in word))

@@ -6,14 +6,14 @@ use Rattle.std.specs.List.{list_all, slice_split, AllByRecursion}
 use Rattle.std.specs.Str.{bytes_eq}
 use Rattle.std.specs.Str.Parse.{digits_value}
 use Rattle.std.proofs.lemmas.Bool.{cond-true, cond-false, and_parts, and_from, lt-ltb, ltb-true, false_from_ne_true, false≢true}
-use Rattle.std.proofs.lemmas.Fmt.{decimal_is_IsNumeral}
 use Rattle.std.proofs.lemmas.List.Concat.{flat_map-append}
 use Rattle.std.proofs.lemmas.List.Splits.{slice_split_at, slice_split_none, length-slice_split}
 use Rattle.std.proofs.lemmas.Slice.Eq.{bytes_eq-Decides}
-use Rattle.cfi_text.specs.Decimal.{dec_text}
+use Rattle.cfi_text.specs.Decimal.{dec_text, small_number_in}
+use Rattle.cfi_text.proofs.DecimalLemmas.{small_number_in-says}
 use Rattle.cfi_text.specs.Hex.{hex_digits, hex8_text, hex_text}
 use Rattle.cfi_text.proofs.HexLemmas.{value-hex_digits, length-hex_digits}
-use Rattle.cfi_report.specs.Form.{Lacks, words_in, form_of, number_in, address_in, pair_values, is_hex, pairs_in, bytes_in}
+use Rattle.cfi_report.specs.Form.{Lacks, words_in, form_of, address_in, pair_values, is_hex, pairs_in, bytes_in}
 use Rattle.cfi_report.specs.Line.{bytes_text}
 
 -- a number below a limit, of which the word is the text
@@ -32,22 +32,6 @@ spelled-none value limit word text never =
     let parts = and_parts _ _ h in
     never (ltb-true value limit parts.0) ((bytes_eq-Decides word text).0 parts.1) in
     cond-false _ _ _ (false_from_ne_true _ is)
-
--- decimal numbers
-
-value-decimal : (n : ℕ) → n < 2 ^ 32 → digits_value 10 (dec_text n) ≡ n
-value-decimal n fits = (decimal_is_IsNumeral n (omega arith)).1
-
-pub number_in-back : (n : ℕ) → n < 2 ^ 32 → number_in (dec_text n) ≡ Some n
-unfolding number_in
-number_in-back n fits = rw (value-decimal n fits) (spelled-some n (2 ^ 32) (dec_text n) (dec_text n) fits refl)
-
-pub number_in-some : (word : List ℕ) (n : ℕ) → n < 2 ^ 32 → word ≡ dec_text n → number_in word ≡ Some n
-number_in-some word n fits text = rw text (number_in-back n fits)
-
-pub number_in-none : (word : List ℕ) → ((n : ℕ) → n < 2 ^ 32 → word ≡ dec_text n → ⊥) → number_in word ≡ None
-unfolding number_in
-number_in-none word never = spelled-none _ _ _ _ (never (digits_value 10 word))
 
 -- addresses
 
@@ -118,15 +102,12 @@ module _ {V : Type 0} (fits : V → Type 0) (text : V → List ℕ) (word : List
   one true value h = record { spells = h refl }
   one false value h = record { spells = tt }
 
-pub number_in-says : (word : List ℕ) → Spells IsSmall dec_text word (number_in word)
-unfolding number_in
-number_in-says word = one IsSmall dec_text word _ _ (λ h.
-    let parts = and_parts _ _ h in
-    (ltb-true _ _ parts.0, (bytes_eq-Decides _ _).0 parts.1))
+pub small_number_in-spells : (word : List ℕ) → Spells IsSmall dec_text word (small_number_in word)
+small_number_in-spells word = record { spells = small_number_in-says word }
 
-pub address_in-says : (word : List ℕ) → Spells IsSmall hex8_text word (address_in word)
+pub address_in-spells : (word : List ℕ) → Spells IsSmall hex8_text word (address_in word)
 unfolding address_in
-address_in-says word = one IsSmall hex8_text word _ _ (λ h.
+address_in-spells word = one IsSmall hex8_text word _ _ (λ h.
     let parts = and_parts _ _ h in
     (ltb-true _ _ parts.0, (bytes_eq-Decides _ _).0 parts.1))
 

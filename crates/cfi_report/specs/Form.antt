@@ -4,7 +4,7 @@ use Rattle.std.specs.Option.{option_map}
 use Rattle.std.specs.List.{slice_split, list_all}
 use Rattle.std.specs.Str.{bytes_eq}
 use Rattle.std.specs.Str.Parse.{digits_value}
-use Rattle.cfi_text.specs.Decimal.{dec_text}
+use Rattle.cfi_text.specs.Decimal.{small_number_in}
 use Rattle.cfi_text.specs.Hex.{hex8_text, hex_text}
 use Rattle.cfi_plan.specs.Line.{◌>>=◌}
 use Rattle.cfi_text.specs.Names.{name_in}
@@ -24,12 +24,6 @@ Lacks byte text = All (λ other. (other == byte) ≡ false) text
 -- the words of a line, which single spaces part
 unfoldable pub words_in : (text : List ℕ) → List (List ℕ)
 words_in text = slice_split (λ byte. byte == 32) text
-
--- the number of 32 bits of which the word is the decimal spelling
-unfoldable pub number_in : (word : List ℕ) → Option ℕ
-number_in word =
-    if nat_lt (digits_value 10 word) (2 ^ 32) && bytes_eq word (dec_text (digits_value 10 word))
-    then Some (digits_value 10 word) else None
 
 -- the number of 32 bits of which the word is the spelling in eight hexadecimal digits
 unfoldable pub address_in : (word : List ℕ) → Option ℕ
@@ -58,7 +52,7 @@ bytes_in word =
     else (if bytes_eq word [] then None else pairs_in word)
 
 unfoldable pub who_in : (word : List ℕ) → Option Who
-who_in word = if bytes_eq word (codes "script") then Some Script else option_map Guest (number_in word)
+who_in word = if bytes_eq word (codes "script") then Some Script else option_map Guest (small_number_in word)
 
 -- what came of a call, in two words to five
 
@@ -73,8 +67,8 @@ loaded_three end number =
 
 unfoldable pub what_three : (verb word end : List ℕ) → Option JournalLine
 what_three verb word end =
-    if bytes_eq verb (codes "load") then option_and_then (loaded_three end) (number_in word)
-    else (if bytes_eq verb (codes "refresh") && bytes_eq word (codes "ok") then option_map RefreshOk (number_in end)
+    if bytes_eq verb (codes "load") then option_and_then (loaded_three end) (small_number_in word)
+    else (if bytes_eq verb (codes "refresh") && bytes_eq word (codes "ok") then option_map RefreshOk (small_number_in end)
     else None)
 
 unfoldable pub loaded_four : (word : List ℕ) → (number last : ℕ) → Option JournalLine
@@ -85,12 +79,12 @@ loaded_four word number last =
 unfoldable pub what_four : (verb word other end : List ℕ) → Option JournalLine
 what_four verb word other end =
     if bytes_eq verb (codes "load") then (do
-      number ← number_in word
-      last ← number_in end
+      number ← small_number_in word
+      last ← small_number_in end
       loaded_four other number last)
     else (if bytes_eq verb (codes "refresh") && bytes_eq word (codes "versions") then (do
-      guest ← number_in other
-      quiet ← number_in end
+      guest ← small_number_in other
+      quiet ← small_number_in end
       Some (RefreshVersions guest quiet))
     else None)
 
@@ -103,9 +97,9 @@ loaded_five word number first last =
 unfoldable pub what_five : (verb word other first last : List ℕ) → Option JournalLine
 what_five verb word other first last =
     if bytes_eq verb (codes "load") then (do
-      number ← number_in word
-      one ← number_in first
-      two ← number_in last
+      number ← small_number_in word
+      one ← small_number_in first
+      two ← small_number_in last
       loaded_five other number one two)
     else None
 
@@ -130,13 +124,13 @@ pair_form keyword word =
     else (if bytes_eq keyword (codes "out") then option_map line.Out (bytes_in word)
     else (if bytes_eq keyword (codes "stop")
     then (if bytes_eq word (codes "fuel") then Some (line.Stop (Some Fuel)) else None)
-    else (if bytes_eq keyword (codes "units") then option_map line.Units (number_in word)
-    else (if bytes_eq keyword (codes "steps") then option_map line.Steps (number_in word)
+    else (if bytes_eq keyword (codes "units") then option_map line.Units (small_number_in word)
+    else (if bytes_eq keyword (codes "steps") then option_map line.Steps (small_number_in word)
     else None))))
 
 unfoldable pub stop_form : (word end : List ℕ) → Option Line
 stop_form word end =
-    if bytes_eq word (codes "exit") then option_map (λ code. line.Stop (Some (Exit code))) (number_in end)
+    if bytes_eq word (codes "exit") then option_map (λ code. line.Stop (Some (Exit code))) (small_number_in end)
     else (if bytes_eq word (codes "halt") then option_map (λ address. line.Stop (Some (Halt address))) (address_in end)
     else (if bytes_eq word (codes "align")
     then option_map (λ address. line.Stop (Some (Align address))) (address_in end)
@@ -144,20 +138,20 @@ stop_form word end =
 
 unfoldable pub force_form : (epoch policy : List ℕ) → Option Line
 force_form epoch policy = do
-  e ← number_in epoch
-  p ← number_in policy
+  e ← small_number_in epoch
+  p ← small_number_in policy
   Some (line.Force e p)
 
 unfoldable pub guest_form : (number entry : List ℕ) → Option Line
 guest_form number entry = do
-  n ← number_in number
+  n ← small_number_in number
   e ← name_in entry
   Some (line.Guest n e)
 
 unfoldable pub pick_form : (policy count : List ℕ) → Option Line
 pick_form policy count = do
-  p ← number_in policy
-  c ← number_in count
+  p ← small_number_in policy
+  c ← small_number_in count
   if c == 0 then None else Some (line.Log (Pick p c))
 
 unfoldable pub three_form : (keyword word end : List ℕ) → Option Line
@@ -170,25 +164,25 @@ three_form keyword word end =
 
 unfoldable pub opened_form : (word end : List ℕ) → (number : ℕ) → Option Line
 opened_form word end number =
-    if bytes_eq word (codes "cause") then option_map (λ cause. line.Log (Cause number cause)) (number_in end)
+    if bytes_eq word (codes "cause") then option_map (λ cause. line.Log (Cause number cause)) (small_number_in end)
     else (do
       address ← address_in word
-      policy ← number_in end
+      policy ← small_number_in end
       Some (line.Log (Open number address policy)))
 
 unfoldable pub four_form : (keyword word other end : List ℕ) → Option Line
 four_form keyword word other end =
-    if bytes_eq keyword (codes "open") then option_and_then (opened_form other end) (number_in word)
+    if bytes_eq keyword (codes "open") then option_and_then (opened_form other end) (small_number_in word)
     else journal_form keyword word (what_two other end)
 
 unfoldable pub module_form : (number name base slot data_base policy : List ℕ) → Option Line
 module_form number name base slot data_base policy = do
-  n ← number_in number
+  n ← small_number_in number
   called ← name_in name
-  b ← number_in base
-  s ← number_in slot
+  b ← small_number_in base
+  s ← small_number_in slot
   d ← address_in data_base
-  p ← number_in policy
+  p ← small_number_in policy
   Some (line.Module (record { number = n; name = called; base = b; slot = s; data_base = d; policy = p }))
 
 unfoldable pub seven_form : (keyword a b c d e f : List ℕ) → Option Line

@@ -3,8 +3,9 @@ ghost use Rattle.cfi_report.specs.Form.{words_in, form_of, lone_form, pair_form,
 
 use crate::journal::{journal, what_five, what_four, what_three, what_two};
 use crate::line::Line;
-use crate::words::{address, bytes, first_word, number};
+use crate::words::{address, bytes, first_word};
 use cfi_plan::{ModuleLine, name_of};
+use cfi_text::read_small_dec;
 use cfi_unit::{Log, Stop};
 use std::alloc::{AllocError, Global};
 
@@ -73,10 +74,10 @@ fn pair(alloc: Global, keyword: &[u8], word: &[u8]) -> Result<Option<Line>, Allo
         });
     }
     if keyword == b"units".as_slice() {
-        return Ok(number(word).map(Line::Units));
+        return Ok(read_small_dec(word).map(Line::Units));
     }
     if keyword == b"steps".as_slice() {
-        return Ok(number(word).map(Line::Steps));
+        return Ok(read_small_dec(word).map(Line::Steps));
     }
     Ok(None)
 }
@@ -104,8 +105,8 @@ fn three(alloc: Global, keyword: &[u8], word: &[u8], end: &[u8]) -> Result<Optio
 fn force(epoch: &[u8], policy: &[u8]) -> Option<Line>
     ensures { result ≡ force_form epoch.now policy.now }
 {
-    let epoch = number(epoch)?;
-    let policy = number(policy)?;
+    let epoch = read_small_dec(epoch)?;
+    let policy = read_small_dec(policy)?;
     Some(Line::Force(epoch, policy))
 }
 
@@ -113,7 +114,7 @@ fn force(epoch: &[u8], policy: &[u8]) -> Option<Line>
 fn guest(alloc: Global, number_word: &[u8], entry: &[u8]) -> Result<Option<Line>, AllocError>
     ensures { IfOk result (λ found. found ≡ guest_form number_word.now entry.now) }
 {
-    let Some(number) = number(number_word) else {
+    let Some(number) = read_small_dec(number_word) else {
         return Ok(None);
     };
     match name_of(alloc, entry)? {
@@ -126,8 +127,8 @@ fn guest(alloc: Global, number_word: &[u8], entry: &[u8]) -> Result<Option<Line>
 fn pick(policy: &[u8], count: &[u8]) -> Option<Line>
     ensures { result ≡ pick_form policy.now count.now }
 {
-    let policy = number(policy)?;
-    let count = number(count)?;
+    let policy = read_small_dec(policy)?;
+    let count = read_small_dec(count)?;
     if count == 0 {
         return None;
     }
@@ -139,7 +140,7 @@ fn stop(word: &[u8], end: &[u8]) -> Option<Line>
     ensures { result ≡ stop_form word.now end.now }
 {
     if word == b"exit".as_slice() {
-        return number(end).map(|code| Line::Stop(Some(Stop::Exit(code))));
+        return read_small_dec(end).map(|code| Line::Stop(Some(Stop::Exit(code))));
     }
     if word == b"halt".as_slice() {
         return address(end).map(|target| Line::Stop(Some(Stop::Halt(target))));
@@ -155,7 +156,7 @@ fn four(keyword: &[u8], word: &[u8], other: &[u8], end: &[u8]) -> Option<Line>
     ensures { result ≡ four_form keyword.now word.now other.now end.now }
 {
     if keyword == b"open".as_slice() {
-        let module = number(word)?;
+        let module = read_small_dec(word)?;
         return opened(module, other, end);
     }
     journal(keyword, word, what_two(other, end))
@@ -166,10 +167,10 @@ fn opened(module: u32, word: &[u8], end: &[u8]) -> Option<Line>
     ensures { result ≡ opened_form word.now end.now «module» }
 {
     if word == b"cause".as_slice() {
-        return number(end).map(|cause| Line::Log(Log::Cause { module, cause }));
+        return read_small_dec(end).map(|cause| Line::Log(Log::Cause { module, cause }));
     }
     let address = address(word)?;
-    let policy = number(end)?;
+    let policy = read_small_dec(end)?;
     Some(Line::Log(Log::Open {
         module,
         address,
@@ -210,22 +211,22 @@ fn module(
     ensures { IfOk result (λ found. found ≡
         module_form number_word.now name.now base.now slot.now data_base.now policy.now) }
 {
-    let Some(number_found) = number(number_word) else {
+    let Some(number_found) = read_small_dec(number_word) else {
         return Ok(None);
     };
     let Some(name) = name_of(alloc, name)? else {
         return Ok(None);
     };
-    let Some(base) = number(base) else {
+    let Some(base) = read_small_dec(base) else {
         return Ok(None);
     };
-    let Some(slot) = number(slot) else {
+    let Some(slot) = read_small_dec(slot) else {
         return Ok(None);
     };
     let Some(data_base) = address(data_base) else {
         return Ok(None);
     };
-    let Some(policy) = number(policy) else {
+    let Some(policy) = read_small_dec(policy) else {
         return Ok(None);
     };
     Ok(Some(Line::Module(ModuleLine {

@@ -2,8 +2,8 @@ ghost use Rattle.std.specs.Prelude.{◌≡◌};
 ghost use Rattle.cfi_report.specs.Form.{who_in, what_two, what_three, what_four, what_five, loaded_three, loaded_four, loaded_five, journal_form};
 
 use crate::line::Line;
-use crate::words::number;
 use cfi_plan::{Entry, JournalLine, Who};
+use cfi_text::read_small_dec;
 
 /// The line of the journal, of which this came.
 #[tactic(auto, unfolding(crate::specs::Form::journal_form))]
@@ -25,7 +25,7 @@ fn who_of(word: &[u8]) -> Option<Who>
     if word == b"script".as_slice() {
         return Some(Who::Script);
     }
-    number(word).map(Who::Guest)
+    read_small_dec(word).map(Who::Guest)
 }
 
 /// What came of a call, in two words.
@@ -45,11 +45,11 @@ pub fn what_three(verb: &[u8], word: &[u8], end: &[u8]) -> Option<JournalLine>
     ensures { result ≡ what_three verb.now word.now end.now }
 {
     if verb == b"load".as_slice() {
-        let module = number(word)?;
+        let module = read_small_dec(word)?;
         return loaded_three(end, module);
     }
     if verb == b"refresh".as_slice() && word == b"ok".as_slice() {
-        return number(end).map(|epoch| JournalLine::RefreshOk { epoch });
+        return read_small_dec(end).map(|epoch| JournalLine::RefreshOk { epoch });
     }
     None
 }
@@ -73,13 +73,13 @@ pub fn what_four(verb: &[u8], word: &[u8], other: &[u8], end: &[u8]) -> Option<J
     ensures { result ≡ what_four verb.now word.now other.now end.now }
 {
     if verb == b"load".as_slice() {
-        let module = number(word)?;
-        let last = number(end)?;
+        let module = read_small_dec(word)?;
+        let last = read_small_dec(end)?;
         return loaded_four(other, module, last);
     }
     if verb == b"refresh".as_slice() && word == b"versions".as_slice() {
-        let guest = number(other)?;
-        let quiet = number(end)?;
+        let guest = read_small_dec(other)?;
+        let quiet = read_small_dec(end)?;
         return Some(JournalLine::RefreshVersions { guest, quiet });
     }
     None
@@ -118,9 +118,9 @@ pub fn what_five(
     if verb != b"load".as_slice() {
         return None;
     }
-    let module = number(word)?;
-    let first = number(first)?;
-    let last = number(last)?;
+    let module = read_small_dec(word)?;
+    let first = read_small_dec(first)?;
+    let last = read_small_dec(last)?;
     loaded_five(other, module, first, last)
 }
 

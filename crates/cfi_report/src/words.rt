@@ -1,9 +1,9 @@
 ghost use Rattle.std.specs.Prelude.{◌≡◌, ℕ, ◌+◌, ◌<◌, ◌++◌, ◌∷◌, [], IfOk, IfSome, IfNone, MatchOption, Option};
 ghost use Rattle.std.specs.List.{position};
 ghost use Rattle.cfi_text.specs.Hex.{hex_digits};
-ghost use Rattle.cfi_report.specs.Form.{Lacks, words_in, number_in, address_in, pairs_in, bytes_in};
+ghost use Rattle.cfi_report.specs.Form.{Lacks, words_in, address_in, pairs_in, bytes_in};
 
-use cfi_text::{read_dec, read_hex_digit, read_hex8};
+use cfi_text::{read_hex_digit, read_hex8};
 use cfi_unit::Bytes;
 use std::alloc::{AllocError, Global};
 
@@ -25,21 +25,6 @@ pub fn first_word(text: &[u8]) -> (&[u8], Option<&[u8]>)
     match cut(text, b' ') {
         Some((word, rest)) => (word, Some(rest)),
         None => (text, None),
-    }
-}
-
-/// The number of 32 bits of which the word is the decimal spelling.
-pub fn number(word: &[u8]) -> Option<u32>
-    ensures { result ≡ number_in word.now }
-{
-    match read_dec(word) {
-        Some(value) => {
-            if value > u64::from(u32::MAX) {
-                return None;
-            }
-            Some(value as u32)
-        }
-        None => None,
     }
 }
 

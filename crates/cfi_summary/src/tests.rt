@@ -1,11 +1,12 @@
-ghost use Rattle.std.specs.Prelude.{◌≤◌, length, IfOk};
+ghost use Rattle.std.specs.Prelude.{◌<◌, ◌≤◌, ◌^◌, length, All, IfOk};
 ghost use Rattle.elf_read.specs.declared.rela.TheConstants.{MAX_FILE};
 ghost use Rattle.cfi_plan.specs.Plan.{IsPlan};
+ghost use Rattle.cfi_tools.specs.Modules.{IsShortFile};
 
 use crate::{FilesFault, graph_text, placed_files, verified_text};
 use cfi_place::PlaceFault;
 use cfi_plan::{Plan, read_plan};
-use cfi_tools::{FileFault, assembled, instrumented};
+use cfi_tools::{FileFault, assembled, instrumented, linked};
 use cfi_unit::Bytes;
 use cfi_verify::VerifyFault;
 use elf_read::ElfFault;
@@ -59,6 +60,49 @@ fn plan_of(alloc: Global, text: &str) -> Result<Plan, Fail>
         return Err("a long plan".into());
     }
     Ok(read_plan(alloc, text.as_bytes()).ok().ok_or("a plan")?)
+}
+
+// The file of the module that files are linked into.
+fn linked_of(alloc: Global, files: &[Bytes]) -> Result<Bytes, Fail>
+    requires small { All IsShortFile files.now }
+    requires count { length files.now < 2 ^ 32 }
+    ensures { IfOk result IsShortFile }
+{
+    let file = linked(alloc, files).ok().ok_or("linked")?;
+    if file.len() > 1 << 20 {
+        return Err("a long file".into());
+    }
+    Ok(Bytes::from_vec(file))
+}
+
+// The words of the modules of files, one module after the other.
+fn words_of(alloc: Global, plan: &Plan, files: &[Bytes]) -> Result<Vec<u32>, Fail>
+    requires plan { IsPlan plan.now }
+    requires small { All IsShortFile files.now }
+{
+    let series = placed_files(alloc, plan, files).ok().ok_or("placed")?;
+    let mut words = Vec::new(alloc);
+    for placed in series.modules() {
+        words.extend_from_slice(placed.words.as_slice())?;
+    }
+    Ok(words)
+}
+
+// Linked into one module, or placed one after the other, both are the same words, and the return goes to the same
+// address.
+#[test]
+fn linked_first(rt: HostRuntime) -> Result<(), Fail> {
+    let alloc = rt.alloc();
+    let plan = plan_of(alloc, "plan 1\nguest main\n")?;
+    let files = [file_of(alloc, CALLED)?, file_of(alloc, CALLER)?];
+    let one = [linked_of(alloc, &files)?];
+    let apart = words_of(alloc, &plan, &files)?;
+    let together = words_of(alloc, &plan, &one)?;
+    assert_eq!(rt; together.as_slice(), apart.as_slice());
+    let apart = graph_text(alloc, &plan, &files).ok().ok_or("groups")?;
+    let together = graph_text(alloc, &plan, &one).ok().ok_or("groups")?;
+    assert_eq!(rt; together.as_slice(), apart.as_slice());
+    Ok(())
 }
 
 // The return is a check of 14 words with slot 0, the call one word and the jump another.

@@ -1,14 +1,17 @@
 -- Decimal spellings by std's words for digits.
-use Rattle.std.proofs.Common.{◌≡◌, ℕ, zero, suc, ◌+◌, ◌-◌, ◌*◌, ◌^◌, ◌<◌, ◌≤◌, Option, None, Some, IfSome, List, length, get_or, take, take_all, refl, sym, ap, ◌∙◌, rules, arith}
+use Rattle.std.proofs.Common.{◌≡◌, ℕ, zero, suc, ◌+◌, ◌-◌, ◌*◌, ◌^◌, ◌<◌, ◌≤◌, ◌&&◌, Bool, true, nat_lt, nat_le, Option, None, Some, IfSome, List, length, get_or, take, take_all, refl, sym, ap, ◌∙◌, rules, arith}
 use Rattle.std.specs.Int.{IsInRange}
 use Rattle.std.specs.Char.{digit_value}
 use Rattle.std.specs.Fmt.{decimal}
+use Rattle.std.specs.Str.{bytes_eq}
 use Rattle.std.specs.Str.Parse.{AllDigits, digits_value}
+use Rattle.std.proofs.lemmas.Bool.{cond-true, cond-false, cond_both, and_parts, and_from, lt-ltb, le-leb, leb-true, ltb-true, false_from_ne_true}
 use Rattle.std.proofs.lemmas.Bool.Decides.{nat_tests}
+use Rattle.std.proofs.lemmas.Slice.Eq.{bytes_eq-Decides}
 use Rattle.std.proofs.lemmas.Int.Digits.{digits_more, digits_value_more}
 use Rattle.std.proofs.lemmas.Str.Parse.{IsNumeralModel, numerals_by_weight, digit_at, digits_value-take-le}
 use Rattle.std.proofs.lemmas.Fmt.{decimal_nonempty, digits_decimal, digits_value-decimal, first_decimal, decimal_digit, decimal-digits_value}
-use Rattle.cfi_text.specs.Decimal.{AreDigits, place_value, IsDecimal, dec_text}
+use Rattle.cfi_text.specs.Decimal.{AreDigits, place_value, IsDecimal, dec_text, number_in, at_most, small_number_in}
 
 -- the digits and their value are std's
 pub numerals : IsNumeralModel AreDigits place_value
@@ -91,8 +94,64 @@ module _ (word : List ℕ) (i value : ℕ) (so_far : Reads word i value) where
 pub IsDecimal-text : (word : List ℕ) (value : ℕ) → value < 2 ^ 64 → word ≡ dec_text value → IsDecimal word value
 IsDecimal-text word value fits is = rw is (IsDecimal-dec_text value fits)
 
--- the same of what a reader found
-pub text_of_found : (word : List ℕ) (found : Option ℕ) → IfSome found (λ value. value < 2 ^ 64) →
-    IfSome found (λ value. IsDecimal word value) → IfSome found (λ value. word ≡ dec_text value)
-text_of_found word None fits is = tt
-text_of_found word (Some value) fits is = dec_text-IsDecimal word value fits is
+-- the word is the spelling of its own value
+abbrev is_spelled : List ℕ → Bool
+is_spelled word = nat_lt (place_value word) (2 ^ 64) && bytes_eq word (dec_text (place_value word))
+
+-- the number that a word spells
+pub number_in-some : (word : List ℕ) (value : ℕ) → value < 2 ^ 64 → word ≡ dec_text value → number_in word ≡ Some value
+unfolding number_in
+number_in-some word value fits text =
+    let decimal = IsDecimal-text word value fits text in
+    let small : place_value word < 2 ^ 64 = omega (arith, decimal.same, fits) in
+    let same : word ≡ dec_text (place_value word) = rw decimal.same text in
+    let spelled = and_from _ _ (lt-ltb (place_value word) (2 ^ 64) small) ((bytes_eq-Decides word (dec_text (place_value
+    word))).1 same) in
+    cond-true (is_spelled word) _ _ spelled ∙ ap Some decimal.same
+
+pub number_in-none : (word : List ℕ) → ((value : ℕ) → value < 2 ^ 64 → word ≡ dec_text value → ⊥)
+    → number_in word ≡ None
+unfolding number_in
+number_in-none word never =
+    let spelled = λ (h : is_spelled word ≡ true).
+    let parts = and_parts _ _ h in
+    never (place_value word) (ltb-true _ _ parts.0) ((bytes_eq-Decides word (dec_text (place_value word))).0 parts.1) in
+    cond-false (is_spelled word) _ _ (false_from_ne_true (is_spelled word) spelled)
+
+-- what a reader of decimals finds is that number
+pub number_in-found : (word : List ℕ) (found : Option ℕ) → IfSome found (λ value. value < 2 ^ 64)
+    → IfSome found (λ value. IsDecimal word value)
+    → ((value : ℕ) → value < 2 ^ 64 → IsDecimal word value → found ≡ Some value) → found ≡ number_in word
+number_in-found word None fits is only =
+    sym (number_in-none word (λ value small text. let h = only value small (IsDecimal-text word value small text) in cc))
+number_in-found word (Some value) fits is only =
+    sym (number_in-some word value fits (dec_text-IsDecimal word value fits is))
+
+-- a number of a word is at most this
+pub at_most-text : (most n : ℕ) → n ≤ most → most < 2 ^ 64 → at_most most (number_in (dec_text n)) ≡ Some n
+at_most-text most n within small =
+    ap (at_most most) (number_in-some (dec_text n) n (omega arith) refl)
+    ∙ cond-true (nat_le n most) _ _ (le-leb n most within)
+
+pub small_number_in-back : (n : ℕ) → n < 2 ^ 32 → small_number_in (dec_text n) ≡ Some n
+unfolding small_number_in
+small_number_in-back n fits = at_most-text (2 ^ 32 - 1) n (omega arith) (omega arith)
+
+-- what a word says, it spells
+number_in-says : (word : List ℕ) → IfSome (number_in word) (λ n. word ≡ dec_text n)
+unfolding number_in
+number_in-says word =
+    cond_both (is_spelled word) (Some (place_value word)) None (λ o. IfSome o (λ n. word ≡ dec_text n))
+    (λ h. (bytes_eq-Decides word (dec_text (place_value word))).0 (and_parts _ _ h).1) (λ _. tt)
+
+at_most-says : (most limit : ℕ) → most < limit → (P : ℕ → Type 0) → (found : Option ℕ) → IfSome found P
+    → IfSome (at_most most found) (λ n. (n < limit) × P n)
+at_most-says most limit below P None h = tt
+at_most-says most limit below P (Some n) h =
+    cond_both (nat_le n most) (Some n) None (λ o. IfSome o (λ n. (n < limit) × P n))
+    (λ t. (omega (arith, leb-true n most t), h)) (λ _. tt)
+
+pub small_number_in-says : (word : List ℕ) → IfSome (small_number_in word) (λ n. (n < 2 ^ 32) × (word ≡ dec_text n))
+unfolding small_number_in
+small_number_in-says word =
+    at_most-says (2 ^ 32 - 1) (2 ^ 32) (omega arith) (λ n. word ≡ dec_text n) (number_in word) (number_in-says word)

@@ -1,7 +1,8 @@
 -- Decimal spellings of numbers, in ASCII: one digit or more, and no 0 ahead of another digit.
-use Rattle.std.specs.Prelude.{◌≡◌, ℕ, ◌+◌, ◌-◌, ◌*◌, ◌^◌, ◌<◌, List, [], ◌∷◌, length, slice_index, ⊤}
+use Rattle.std.specs.Prelude.{◌≡◌, ℕ, ◌+◌, ◌-◌, ◌*◌, ◌^◌, ◌<◌, ◌&&◌, nat_lt, nat_le, List, [], ◌∷◌, length, slice_index, ⊤, if◌then◌else◌, Option, Some, None}
 use Rattle.std.specs.Int.{IsInRange}
 use Rattle.std.specs.Fmt.{decimal}
+use Rattle.std.specs.Str.{bytes_eq}
 
 -- each byte is one of '0' to '9'
 abbrev pub AreDigits : List ℕ → Type 0
@@ -23,3 +24,18 @@ pub record IsDecimal (word : List ℕ) (value : ℕ) : Type 0 where
 -- the decimal spelling of a number below 2 ^ 64, as `{}` writes it
 abbrev pub dec_text : ℕ → List ℕ
 dec_text value = decimal value
+
+-- the number of 64 bits of which the word is the decimal spelling
+unfoldable pub number_in : (word : List ℕ) → Option ℕ
+number_in word =
+    if nat_lt (place_value word) (2 ^ 64) && bytes_eq word (dec_text (place_value word)) then Some (place_value word)
+    else None
+
+-- the number, where it is at most this
+abbrev pub at_most : (most : ℕ) → Option ℕ → Option ℕ
+at_most most None = None
+at_most most (Some number) = if nat_le number most then Some number else None
+
+-- the number of 32 bits of which the word is the decimal spelling
+unfoldable pub small_number_in : (word : List ℕ) → Option ℕ
+small_number_in word = at_most (2 ^ 32 - 1) (number_in word)

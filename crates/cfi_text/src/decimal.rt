@@ -1,7 +1,7 @@
 //! Decimal numbers.
 ghost use Rattle.std.specs.Prelude.{◌≡◌, ◌++◌, ◌+◌, ◌-◌, ◌*◌, ◌^◌, ◌<◌, ◌≤◌, drop, IfSome, IfNone, OnSome, OnOk, OnErr, ℕ, Some};
 ghost use Rattle.std.specs.Int.{IsInRange};
-ghost use Rattle.cfi_text.specs.Decimal.{AreDigits, place_value, IsDecimal, dec_text};
+ghost use Rattle.cfi_text.specs.Decimal.{AreDigits, place_value, IsDecimal, dec_text, number_in, small_number_in};
 
 use std::alloc::AllocError;
 
@@ -15,14 +15,22 @@ const MAX_DIGITS: usize = 20;
 pub fn read_dec(word: &[u8]) -> Option<u64>
     ensures some { IfSome result (λ value. IsDecimal word.now value) }
     ensures only { (value : ℕ) → value < 2 ^ 64 → IsDecimal word.now value → result ≡ Some value }
-    ensures text { IfSome result (λ value. word.now ≡ dec_text value) }
-    ensures back { (value : ℕ) → value < 2 ^ 64 → word.now ≡ dec_text value → result ≡ Some value }
+    ensures number { result ≡ number_in word.now }
 {
     let has_zero_ahead = word.len() > 1 && word[0] == b'0';
     if word.is_empty() || has_zero_ahead {
         return None;
     }
     value_of(word)
+}
+
+/// The number of 32 bits whose decimal spelling the word is. `None` where `read_dec` has none or a greater one.
+#[tactic(auto, unfolding(crate::specs::Decimal::small_number_in))]
+pub fn read_small_dec(word: &[u8]) -> Option<u32>
+    ensures { result ≡ small_number_in word.now }
+{
+    let number = read_dec(word)?;
+    u32::try_from(number).ok()
 }
 
 // The number that digits stand for.

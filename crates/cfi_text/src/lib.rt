@@ -12,7 +12,7 @@ mod lines;
 mod names;
 mod words;
 
-pub use decimal::{put_dec, read_dec};
+pub use decimal::{put_dec, read_dec, read_small_dec};
 pub use hex::{put_hex, put_hex8, read_hex_digit, read_hex8};
 pub use lines::{Lines, statement};
 pub use names::{MAX_NAME, name_of};

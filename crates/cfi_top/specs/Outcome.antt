@@ -30,7 +30,7 @@ use Rattle.cfi_top.specs.declared.command.Command.{Command}
 use Rattle.cfi_top.specs.declared.command.Command.TheVariants as commands
 use Rattle.cfi_top.specs.declared.answer.Answer.{Answer}
 use Rattle.cfi_top.specs.declared.answer.Answer.TheVariants as answers
-use Rattle.cfi_top.specs.declared.program.TheConstants.{FUEL}
+use Rattle.cfi_plan.specs.declared.limits.TheConstants.{FUEL}
 use Rattle.cfi_top.specs.Command.{IsCommand, Fits, inputs_of, more_of}
 use Rattle.cfi_top.specs.Outside.{ShelfView}
 use Rattle.cfi_top.specs.Plans.{IsSaid, files_of}

@@ -5,11 +5,11 @@ use Rattle.cfi_report.specs.declared.report.Report.{Report}
 use Rattle.cfi_report.specs.declared.report.GuestPart.{GuestPart}
 use Rattle.cfi_report.specs.Report.{text_of}
 use Rattle.cfi_word.specs.declared.layout.TheConstants.{FIRST_BASE}
-use Rattle.cfi_model.specs.declared.places.TheConstants.{DATA}
+use Rattle.cfi_unit.specs.declared.unit.TheConstants.{DATA_START}
 
 -- where the file's words lie
 abbrev pub bare_module : ModuleLine
-bare_module = record { number = 0; name = codes "bare"; base = FIRST_BASE; slot = 0; data_base = DATA; policy = 0 }
+bare_module = record { number = 0; name = codes "bare"; base = FIRST_BASE; slot = 0; data_base = DATA_START; policy = 0 }
 
 abbrev pub bare_report : GuestPart → Report
 bare_report part = record { epoch = 0; policy = 0; modules = bare_module ∷ []; journal = []; guests = part ∷ [] }

@@ -32,5 +32,5 @@ pub use answer::{DONE, MEMORY, NO_FILE, READ_FAULT, REFUSED, USAGE, WRITE_FAULT}
 pub use cfi_bare::{BareCode, accept};
 pub use cfi_fixed::run_fixed;
 pub use cfi_proper::{instrumented_are_proper, proper_are_refused_for_targets};
-pub use program::{Ended, FUEL, top};
+pub use program::{Ended, top};
 pub use run::run_bare;

@@ -16,9 +16,6 @@ use crate::work::outcome_of;
 use cfi_io::{Gate, Shelf, Sink};
 use std::alloc::{AllocError, Global};
 
-/// The most instructions that the guest of a bare file runs.
-pub const FUEL: u32 = 1_000_000;
-
 /// How the program ended.
 #[derive(Clone, Copy, Debug, PartialEq, Eq)]
 pub struct Ended {

@@ -3,9 +3,9 @@ ghost use Rattle.cfi_top.specs.Text.{bare_module, bare_report, report_text};
 
 use crate::names::text_of;
 use cfi_list::Items;
-use cfi_model::DATA;
 use cfi_plan::{ModuleLine, Text};
 use cfi_report::{GuestPart, Report, write_report};
+use cfi_unit::DATA_START;
 use cfi_word::FIRST_BASE;
 use std::alloc::{AllocError, Global};
 
@@ -26,7 +26,7 @@ fn bare_module(alloc: Global) -> Result<ModuleLine, AllocError>
         name,
         base: FIRST_BASE,
         slot: 0,
-        data_base: DATA,
+        data_base: DATA_START,
         policy: 0,
     })
 }

@@ -43,8 +43,8 @@ impl TypeTable {
         self.nodes
     }
 
-    // The same table in memory of its own.
-    pub(crate) fn copied(&self, alloc: Global) -> Result<TypeTable, AllocError>
+    /// The same table in memory of its own.
+    pub fn copied(&self, alloc: Global) -> Result<TypeTable, AllocError>
         ensures { IfOk result (λ table. table ≡ self.now) }
     {
         let mut nodes = Vec::with_capacity(alloc, self.nodes.len())?;

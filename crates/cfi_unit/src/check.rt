@@ -12,11 +12,11 @@ use rv_insn::fields::{imm_i, upper};
 use rv_insn::{ImmOp, Insn, encode};
 
 /// The number of words of a check.
-pub const WORDS: usize = 14;
+pub const CHECK_WORDS: usize = 14;
 
 /// The words of a check: the target into x31, its range test, the two IDs and their comparison, the retry, the halt and
 /// the jump.
-pub fn words_by(link: bool, rs1: u32, imm: i32, slot: u32) -> [u32; WORDS]
+pub fn words_by(link: bool, rs1: u32, imm: i32, slot: u32) -> [u32; CHECK_WORDS]
     requires fits { IsUnit (units.Check link rs1 imm slot) }
     ensures { result ≡ words_of (units.Check link rs1 imm slot) }
 {
@@ -68,11 +68,11 @@ pub fn unit_of(words: &[u32], rs1: u32, imm: i32) -> Option<Unit>
     requires free { IsFree rs1 }
     requires short { IsSigned (2 ^ 11) imm }
     ensures some { IfSome result (λ unit. BeginsAt words.now 0 unit) }
-    ensures size { IfSome result (λ unit. size_of unit ≡ WORDS) }
+    ensures size { IfSome result (λ unit. size_of unit ≡ CHECK_WORDS) }
     ensures only { (link : Bool) (slot : ℕ) → BeginsAt words.now 0 (units.Check link rs1 imm slot) →
         result ≡ Some (units.Check link rs1 imm slot) }
 {
-    if words.len() < WORDS {
+    if words.len() < CHECK_WORDS {
         return None;
     }
     let slot = slot_of(words[3], words[4]);

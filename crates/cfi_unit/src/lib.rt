@@ -18,8 +18,10 @@ mod spelling;
 mod tests;
 mod unit;
 
+pub use check::CHECK_WORDS;
 pub use fill::{Answer, Bytes, Fill};
 pub use log::{Log, Stop};
+pub use masked::ACCESS_WORDS;
 pub use reader::next_unit;
 pub use spelling::spell;
-pub use unit::{BARY, FREE_REGISTERS, SLOTS, Unit};
+pub use unit::{BARY, DATA_START, FREE_REGISTERS, SLOTS, Unit};

@@ -13,7 +13,7 @@ use crate::unit::Unit;
 use rv_insn::{ImmOp, Insn, decode, encode};
 
 /// The number of words of a masked access.
-pub const WORDS: usize = 6;
+pub const ACCESS_WORDS: usize = 6;
 
 // The instructions that do not depend on the access.
 const SHIFT_LEFT: u32 = 0x00cf9f93; // slli x31,x31,12
@@ -25,7 +25,7 @@ const DATA: u32 = 0x40000f37; // lui x30,0x40000
 const JOIN: u32 = 0x01efefb3; // or x31,x31,x30
 
 /// The words of an access at a register and an immediate.
-pub fn words_by(rs1: u32, imm: i32, access: Insn) -> [u32; WORDS]
+pub fn words_by(rs1: u32, imm: i32, access: Insn) -> [u32; ACCESS_WORDS]
     requires free { IsFree rs1 }
     requires short { IsSigned (2 ^ 11) imm }
     requires range { InRange access }
@@ -85,14 +85,14 @@ pub fn unit_of(words: &[u32], rs1: u32, imm: i32) -> Option<Unit>
     requires free { IsFree rs1 }
     requires short { IsSigned (2 ^ 11) imm }
     ensures some { IfSome result (λ unit. BeginsAt words.now 0 unit) }
-    ensures size { IfSome result (λ unit. size_of unit ≡ WORDS) }
+    ensures size { IfSome result (λ unit. size_of unit ≡ ACCESS_WORDS) }
     ensures load { (kind : LoadKind) (rd : ℕ) → BeginsAt words.now 0 (units.Load kind rd rs1 imm) →
         result ≡ Some (units.Load kind rd rs1 imm) }
     ensures store { (kind : StoreKind) (rs2 : ℕ) →
         BeginsAt words.now 0 (units.Store kind rs1 rs2 imm) →
         result ≡ Some (units.Store kind rs1 rs2 imm) }
 {
-    if words.len() < WORDS {
+    if words.len() < ACCESS_WORDS {
         return None;
     }
     let access = decode(words[5])?;

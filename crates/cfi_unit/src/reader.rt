@@ -7,7 +7,9 @@ ghost use Rattle.cfi_unit.specs.declared.unit.Unit.{Unit as CodeUnit};
 ghost use Rattle.cfi_unit.specs.Unit.{IsFree, IsUnit, IsLong, insns_of, size_of};
 ghost use Rattle.cfi_unit.specs.Code.{BeginsAt};
 
+use crate::check::CHECK_WORDS;
 use crate::free::is_free;
+use crate::masked::ACCESS_WORDS;
 use crate::unit::Unit;
 use crate::{check, masked};
 use rv_insn::{ImmOp, Insn, decode};
@@ -73,10 +75,10 @@ fn long_of(words: &[u32], rs1: u32, imm: i32) -> Option<(Unit, u32)>
         result ≡ Some (unit, size_of unit) }
 {
     if let Some(unit) = masked::unit_of(words, rs1, imm) {
-        return Some((unit, masked::WORDS as u32));
+        return Some((unit, ACCESS_WORDS as u32));
     }
     let unit = check::unit_of(words, rs1, imm)?;
-    Some((unit, check::WORDS as u32))
+    Some((unit, CHECK_WORDS as u32))
 }
 
 /// The unit whose spelling begins at a place, and its number of words.

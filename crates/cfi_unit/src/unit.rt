@@ -9,6 +9,9 @@ pub const SLOTS: u32 = 4_682;
 /// The address of the Bary ID of slot 0; that of slot b is 4 b after it.
 pub const BARY: u32 = 0x2000_0000;
 
+/// The address at which a guest's data begins.
+pub const DATA_START: u32 = 0x4000_0000;
+
 /// A unit of code: what a guest's program counter never stands inside.
 ///
 /// Registers are numbers below `FREE_REGISTERS`. Offsets are in bytes from the unit's own address, and even.

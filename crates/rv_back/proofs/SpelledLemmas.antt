@@ -6,22 +6,14 @@ use Rattle.std.specs.List.{starts_with}
 use Rattle.std.specs.Fmt.{decimal, signed_decimal}
 use Rattle.std.proofs.lemmas.Bool.{cond-true, cond-false, lt-ltb, le-leb}
 use Rattle.std.proofs.lemmas.Bool.Decides.{nat_tests}
-use Rattle.cfi_text.specs.Decimal.{AreDigits, dec_text}
-use Rattle.cfi_text.proofs.DecimalLemmas.{IsDecimal-dec_text}
+use Rattle.cfi_text.specs.Decimal.{AreDigits, dec_text, small_number_in}
+use Rattle.cfi_text.proofs.DecimalLemmas.{IsDecimal-dec_text, number_in-some, at_most-text}
 use Rattle.rv_insn.specs.Word.{IsSigned}
 use Rattle.rv_text.specs.Text.{offset_text}
 use Rattle.rv_line.specs.declared.statement.Target.TheVariants as targets
-use Rattle.rv_line.specs.Number.{number_in, at_most, negated, integer_in}
+use Rattle.rv_line.specs.Number.{negated, integer_in}
 use Rattle.rv_line.specs.Register.{named_register, numbered_register, register_in}
 use Rattle.rv_line.specs.Operand.{target_in}
-use Rattle.rv_line.proofs.NumberLemmas.{number_in-some}
-
-pub number_in-text : (n : ℕ) → n < 2 ^ 64 → number_in (dec_text n) ≡ Some n
-number_in-text n small = number_in-some (dec_text n) n small (IsDecimal-dec_text n small) refl
-
-at_most-text : (most n : ℕ) → n ≤ most → most < 2 ^ 64 → at_most most (number_in (dec_text n)) ≡ Some n
-at_most-text most n within small =
-    ap (at_most most) (number_in-text n (omega arith)) ∙ cond-true (nat_le n most) _ _ (le-leb n most within)
 
 -- digits do not begin as other numbers do
 and-false : (x : Bool) → (x && false) ≡ false
@@ -47,7 +39,7 @@ not_negative (c ∷ ds) h = ap (λ t. t && true) (differs c h.0)
 
 -- signed decimals
 pub integer_in-signed : (imm : ℤ) → IsSigned (2 ^ 11) imm → integer_in (signed_decimal imm) ≡ Some imm
-unfolding integer_in
+unfolding integer_in small_number_in
 integer_in-signed (pos n) h =
     let ds = dec_text n in
     let are = (IsDecimal-dec_text n (omega (arith, h))).digits in
@@ -61,12 +53,12 @@ integer_in-signed (negsuc n) h =
 pub register_in-text : (r : ℕ) → r < 32 → register_in (120 ∷ decimal r) ≡ Some r
 unfolding named_register
 register_in-text r small =
-    ap (option_and_then (numbered_register 120)) (number_in-text r (omega arith))
+    ap (option_and_then (numbered_register 120)) (number_in-some (dec_text r) r (omega arith) refl)
     ∙ cond-true (nat_lt r 32) _ _ (lt-ltb r 32 small)
 
 -- offsets
 pub target_in-text : (off : ℤ) → IsSigned (2 ^ 20) off → target_in (offset_text off) ≡ Some (targets.Offset off)
-unfolding target_in
+unfolding target_in small_number_in
 target_in-text (pos n) h =
     ap (option_map (λ n. targets.Offset (pos n))) (at_most-text (2 ^ 32 - 1) n (omega (arith, h)) (omega arith))
 target_in-text (negsuc n) h =

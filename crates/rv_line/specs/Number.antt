@@ -1,23 +1,7 @@
 -- Numbers of a source: decimal, with `-` or without, or `0x` and 1 to 8 hexadecimal digits of either case.
-use Rattle.std.specs.Prelude.{ℕ, zero, suc, ◌+◌, ◌-◌, ◌*◌, ◌^◌, ◌&&◌, nat_lt, nat_le, nat_eq, ℤ, pos, negsuc, List, [], ◌∷◌, length, drop, codes, if◌then◌else◌, Option, Some, None, option_map}
+use Rattle.std.specs.Prelude.{ℕ, zero, suc, ◌+◌, ◌-◌, ◌*◌, ◌^◌, ◌&&◌, nat_le, nat_eq, ℤ, pos, negsuc, List, [], ◌∷◌, length, drop, codes, if◌then◌else◌, Option, Some, None, option_map}
 use Rattle.std.specs.List.{starts_with}
-use Rattle.std.specs.Str.{bytes_eq}
-use Rattle.cfi_text.specs.Decimal.{place_value, dec_text}
-
--- the number of 64 bits of which the word is the decimal spelling
-unfoldable pub number_in : (word : List ℕ) → Option ℕ
-number_in word =
-    if nat_lt (place_value word) (2 ^ 64) && bytes_eq word (dec_text (place_value word)) then Some (place_value word)
-    else None
-
--- the number, where it is at most this
-abbrev pub at_most : (most : ℕ) → Option ℕ → Option ℕ
-at_most most None = None
-at_most most (Some number) = if nat_le number most then Some number else None
-
--- a decimal number of 32 bits
-abbrev pub small_number_in : (word : List ℕ) → Option ℕ
-small_number_in word = at_most (2 ^ 32 - 1) (number_in word)
+use Rattle.cfi_text.specs.Decimal.{number_in, at_most, small_number_in}
 
 -- a hexadecimal digit of either case
 abbrev pub hex_digit_in : (byte : ℕ) → Option ℕ

@@ -12,7 +12,8 @@ use Rattle.rv_line.specs.declared.statement.Datum.{Datum}
 use Rattle.rv_line.specs.declared.statement.Datum.TheVariants as data_words
 use Rattle.cfi_text.specs.Words.{words_in}
 use Rattle.cfi_text.specs.Names.{name_in}
-use Rattle.rv_line.specs.Number.{integer_in, small_number_in, negated}
+use Rattle.cfi_text.specs.Decimal.{small_number_in}
+use Rattle.rv_line.specs.Number.{integer_in, negated}
 use Rattle.rv_line.specs.Register.{register_in}
 
 infixl 10 ◌>>=◌

@@ -2,7 +2,7 @@
 use Rattle.std.specs.Prelude.{ℕ, ◌+◌, ◌==◌, nat_lt, List, [], ◌∷◌, codes, if◌then◌else◌, Option, Some, None, option_and_then}
 use Rattle.std.specs.Option.{option_or}
 use Rattle.std.specs.Str.{bytes_eq}
-use Rattle.rv_line.specs.Number.{number_in}
+use Rattle.cfi_text.specs.Decimal.{number_in}
 
 -- the registers that have a name without a number
 unfoldable pub named_register : (word : List ℕ) → Option ℕ

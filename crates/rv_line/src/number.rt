@@ -1,37 +1,12 @@
 //! Numbers of a source.
 
 ghost use Rattle.std.specs.Prelude.{◌≡◌, ◌+◌, ◌*◌, ◌^◌, ◌<◌, ◌≤◌, length, Some, IfSome};
-ghost use Rattle.rv_line.specs.Number.{number_in, small_number_in, hex_digit_in, with_digits, hex_in, negative_in, integer_in};
+ghost use Rattle.rv_line.specs.Number.{hex_digit_in, with_digits, hex_in, negative_in, integer_in};
 
-use cfi_text::read_dec;
-
-/// The greatest number of a source.
-const MAX: u64 = 4_294_967_295;
+use cfi_text::{read_dec, read_small_dec};
 
 /// How far below zero the least number of a source is.
 const LEAST: u64 = 2_147_483_648;
-
-/// The decimal number of 64 bits that a word spells.
-pub fn decimal_of(word: &[u8]) -> Option<u64>
-    ensures { result ≡ number_in word.now }
-{
-    match read_dec(word) {
-        Some(number) => Some(number),
-        None => None,
-    }
-}
-
-/// The decimal number of 32 bits that a word spells.
-pub fn small_number_of(word: &[u8]) -> Option<u32>
-    ensures { result ≡ small_number_in word.now }
-{
-    let number = decimal_of(word)?;
-    if number <= MAX {
-        Some(number as u32)
-    } else {
-        None
-    }
-}
 
 // The number of a hexadecimal digit.
 fn hex_digit_of(byte: u8) -> Option<u8>
@@ -79,7 +54,7 @@ fn hex_of(digits: &[u8]) -> Option<u32>
 fn negative_of(digits: &[u8]) -> Option<i64>
     ensures { result ≡ negative_in digits.now }
 {
-    let number = decimal_of(digits)?;
+    let number = read_dec(digits)?;
     if number <= LEAST {
         Some(-(number as i64))
     } else {
@@ -98,5 +73,5 @@ pub fn integer_of(word: &[u8]) -> Option<i64>
     if word.starts_with(b"-".as_slice()) {
         return negative_of(&word[1..]);
     }
-    small_number_of(word).map(i64::from)
+    read_small_dec(word).map(i64::from)
 }

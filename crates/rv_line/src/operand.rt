@@ -4,10 +4,10 @@ ghost use Rattle.std.specs.Prelude.{◌≡◌, ◌<◌, length, position, Some, 
 ghost use Rattle.rv_line.specs.Operand.{word_in, is_byte, cut, two_in, three_in, low_by, low_reference_in, high_by, high_reference_in, closed_in, low_in, high_in, base_in, number_place_in, reference_place_in, place_in, target_in, datum_in};
 
 use crate::names::name_of;
-use crate::number::{integer_of, small_number_of};
+use crate::number::integer_of;
 use crate::register::{Register, register_of};
 use crate::statement::{Datum, High, Low, Target};
-use cfi_text::next_word;
+use cfi_text::{next_word, read_small_dec};
 use elf_read::Name;
 use std::alloc::{AllocError, Global};
 
@@ -246,10 +246,10 @@ pub fn target_of(alloc: Global, word: &[u8]) -> Result<Option<Target>, AllocErro
     ensures { IfOk result (λ found. found ≡ target_in word.now) }
 {
     if word.starts_with(b".+".as_slice()) {
-        return Ok(small_number_of(&word[2..]).map(|n| Target::Offset(i64::from(n))));
+        return Ok(read_small_dec(&word[2..]).map(|n| Target::Offset(i64::from(n))));
     }
     if word.starts_with(b".-".as_slice()) {
-        return Ok(small_number_of(&word[2..]).map(|n| Target::Offset(-i64::from(n))));
+        return Ok(read_small_dec(&word[2..]).map(|n| Target::Offset(-i64::from(n))));
     }
     Ok(name_of(alloc, word)?.map(Target::Name))
 }

@@ -3,7 +3,7 @@
 ghost use Rattle.std.specs.Prelude.{◌≡◌, ◌<◌};
 ghost use Rattle.rv_line.specs.Register.{named_register, numbered_register, lettered_register, register_in};
 
-use crate::number::decimal_of;
+use cfi_text::read_dec;
 use std::marker::Model;
 
 /// A register, x0 to x31.
@@ -87,7 +87,7 @@ fn lettered_register(word: &[u8]) -> Option<Register>
 {
     match word {
         [] => None,
-        [letter, digits @ ..] => numbered_register(*letter, decimal_of(digits)?),
+        [letter, digits @ ..] => numbered_register(*letter, read_dec(digits)?),
     }
 }
 

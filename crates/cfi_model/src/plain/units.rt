@@ -12,9 +12,9 @@ ghost use Rattle.cfi_model.specs.declared.places.TheConstants.{DATA_BYTES};
 ghost use Rattle.cfi_word.specs.declared.word.TheConstants.{MAX_POLICY};
 
 use crate::data::{load_width, store_width};
-use crate::places::{CODE_BYTES, DATA, DATA_BYTES};
+use crate::places::{CODE_BYTES, DATA_BYTES};
 use crate::plain::Plain;
-use cfi_unit::{FREE_REGISTERS, Stop, Unit};
+use cfi_unit::{DATA_START, FREE_REGISTERS, Stop, Unit};
 use cfi_word::Edge;
 use rv_alu::{imm_op_value, is_taken, op_value};
 use rv_insn::{Insn, LoadKind, StoreKind};
@@ -158,7 +158,7 @@ impl Plain {
         if fits {
             self.pc = self.pc.wrapping_add(24);
         } else {
-            self.stop = Some(Stop::Align(DATA + offset));
+            self.stop = Some(Stop::Align(DATA_START + offset));
         }
         self.units += 1;
         self.steps += 6;

@@ -6,14 +6,15 @@ ghost use Rattle.rv_insn.specs.InsnOf.{row_of};
 ghost use Rattle.cfi_model.specs.Begin.{begin_by, act_by, load_at, load_act, store_at, store_act, area_of, units_of};
 ghost use Rattle.cfi_model.specs.Begin.{load_private, Private, TaryId, store_private, stopped, is_within};
 ghost use Rattle.cfi_model.specs.Run.{finish_of};
-ghost use Rattle.cfi_model.specs.declared.places.TheConstants.{DATA, DATA_BYTES, TARY, CODE_BYTES};
+ghost use Rattle.cfi_unit.specs.declared.unit.TheConstants.{DATA_START};
+ghost use Rattle.cfi_model.specs.declared.places.TheConstants.{DATA_BYTES, TARY, CODE_BYTES};
 ghost use Rattle.rv_guest.specs.Guest.{MayLoad};
 
 use crate::decode::{load_of, store_of};
 use crate::guest::Guest;
 use crate::guest::compute::is_own;
-use cfi_model::{Act, CODE_BYTES, DATA, DATA_BYTES, TARY, Wait, load_width, store_width};
-use cfi_unit::{BARY, SLOTS, Stop};
+use cfi_model::{Act, CODE_BYTES, DATA_BYTES, TARY, Wait, load_width, store_width};
+use cfi_unit::{BARY, DATA_START, SLOTS, Stop};
 use cfi_word::Word;
 use rv_insn::fields::{fields_of, imm_i, imm_s};
 use rv_insn::{LoadKind, StoreKind};
@@ -41,8 +42,8 @@ impl Guest {
         ensures state { self.new ≡ load_at (area_of address) kind rd (units_of reserved) self.old }
         ensures act { result ≡ load_act (area_of address) kind }
     {
-        if DATA <= address && address < DATA + DATA_BYTES {
-            return self.load_data(kind, rd, address - DATA);
+        if DATA_START <= address && address < DATA_START + DATA_BYTES {
+            return self.load_data(kind, rd, address - DATA_START);
         }
         match kind {
             LoadKind::Lw => self.load_table(rd, address, reserved),
@@ -72,7 +73,7 @@ impl Guest {
     fn load_table(&mut self, rd: u32, address: u32, reserved: bool) -> Act
         requires steps { self.old.base.steps + 1 < 2 ^ 32 }
         requires rd { rd < 32 }
-        requires apart { is_within DATA DATA_BYTES address ≡ false }
+        requires apart { is_within DATA_START DATA_BYTES address ≡ false }
         ensures state { self.new ≡ load_at (area_of address) LoadKind.Lw rd (units_of reserved) self.old }
         ensures act { result ≡ load_act (area_of address) LoadKind.Lw }
     {
@@ -121,11 +122,11 @@ impl Guest {
     fn misalign(&mut self, offset: u32) -> Act
         requires steps { self.old.base.steps + 1 < 2 ^ 32 }
         requires within { offset < DATA_BYTES }
-        ensures state { self.new ≡ stopped (Stop.Align (DATA + offset)) self.old }
-        ensures act { result ≡ Act.Align (DATA + offset) }
+        ensures state { self.new ≡ stopped (Stop.Align (DATA_START + offset)) self.old }
+        ensures act { result ≡ Act.Align (DATA_START + offset) }
     {
-        self.halt(Stop::Align(DATA + offset));
-        Act::Align(DATA + offset)
+        self.halt(Stop::Align(DATA_START + offset));
+        Act::Align(DATA_START + offset)
     }
 
     #[inline(always)]
@@ -150,8 +151,8 @@ impl Guest {
         ensures state { self.new ≡ store_at (area_of address) kind value self.old }
         ensures act { result ≡ store_act (area_of address) kind }
     {
-        if DATA <= address && address < DATA + DATA_BYTES {
-            return self.store_data(kind, address - DATA, value);
+        if DATA_START <= address && address < DATA_START + DATA_BYTES {
+            return self.store_data(kind, address - DATA_START, value);
         }
         Act::Done
     }

@@ -60,6 +60,6 @@ returns-clause-ok c =
           c.as_slice-functions.result.now c.from_vec-3.result c.as_slice-4.ensures.same c.as_slice-functions.ensures
           (c.from_vec-3.ensures ∙ c.in_ok-functions.ensures);
       branches = c.from_vec-4.ensures ∙ c.in_ok-branches_copy.ensures ∙ c.as_slice-5.ensures;
-      types = c.in_ok-types_copy.ensures;
+      types = c.in_ok-copied.ensures;
       exports = c.in_ok-exports.ensures;
     }
