@@ -18,7 +18,8 @@ use Rattle.cfi_place.specs.Slots.{ReadFrom, checks_from, with_slot, with_slots}
 use Rattle.cfi_place.specs.Placed.{words_in}
 use Rattle.cfi_verify.specs.declared.checks.CheckSpot.{CheckSpot}
 use Rattle.cfi_verify.specs.Lists.{Each}
-use Rattle.cfi_verify.specs.Spots.{spots_of, checks_of}
+use Rattle.cfi_unit.specs.Spots.{spots_of}
+use Rattle.cfi_verify.specs.Spots.{checks_of}
 use Rattle.cfi_verify.specs.Branches.{IsRecordOf, KindFits}
 use Rattle.cfi_verify.specs.Faults.{IsVerified}
 use Rattle.cfi_bare.specs.Module.{IsPlacedFile}

@@ -8,8 +8,9 @@ use Rattle.cfi_unit.specs.declared.unit.Unit.{Unit as CodeUnit}
 use Rattle.cfi_unit.specs.Unit.{words_of, size_of}
 use Rattle.cfi_unit.proofs.CodeLemmas.{length-words_of}
 use Rattle.cfi_model.specs.Closed.{code_of}
-use Rattle.cfi_verify.specs.declared.spot.Spot.{Spot}
-use Rattle.cfi_verify.specs.Spots.{spots_of, AreSpots, BeginsUnit}
+use Rattle.cfi_unit.specs.declared.spot.Spot.{Spot}
+use Rattle.cfi_unit.specs.Spots.{spots_of}
+use Rattle.cfi_verify.specs.Spots.{AreSpots, BeginsUnit}
 
 -- the place of a unit, by its number: the words of the units before it
 abbrev pub place_in : (body : List CodeUnit) → (number : ℕ) → ℕ

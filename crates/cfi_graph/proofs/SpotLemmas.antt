@@ -6,8 +6,8 @@ use Rattle.cfi_unit.specs.Unit.{size_of}
 use Rattle.cfi_unit.specs.Code.{BeginsAt, UnitCode}
 use Rattle.cfi_unit.proofs.UnitLemmas.{size_pos}
 use Rattle.cfi_unit.proofs.CodeLemmas.{BeginsAt-one, BeginsAt-within, UnitCode-first}
-use Rattle.cfi_graph.specs.declared.spot.Spot.{Spot}
-use Rattle.cfi_graph.specs.Spots.{spots_of}
+use Rattle.cfi_unit.specs.declared.spot.Spot.{Spot}
+use Rattle.cfi_unit.specs.Spots.{spots_of}
 
 -- what is left to read of the units of a code, after these
 pub record IsLeft (words : List ℕ) (at : ℕ) (spots : List Spot) (code : List CodeUnit) : Type 0 where

@@ -2,7 +2,6 @@ pub mod Code
 pub mod Shaped
 pub mod Calls
 pub mod Direct
-pub mod Spots
 pub mod Facts
 pub mod Reading
 pub mod Flows

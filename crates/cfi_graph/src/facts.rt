@@ -11,11 +11,11 @@ ghost use Rattle.cfi_graph.specs.Reading.{CanBeRead, CanAllBeRead};
 use crate::branch_facts::add_branch;
 use crate::fact::Fact;
 use crate::place::{first_at, kind_of, type_node, word_to};
-use crate::spot::{Spot, spots};
+use crate::spot::spots;
 use cfi_aux::{Placed, PlacedFunction};
 use cfi_flow::Link;
 use cfi_types::Classes;
-use cfi_unit::Unit;
+use cfi_unit::{Spot, Unit};
 use std::alloc::{AllocError, Global};
 
 // Adds what a direct jump tells.

@@ -19,4 +19,4 @@ mod spot;
 pub use direct::{edges, spanning};
 pub use laws::{direct_is_allowed, some_module_has_graph};
 pub use shape::shaped_are_apart;
-pub use spot::{Spot, spots};
+pub use spot::spots;

@@ -4,19 +4,10 @@ ghost use Rattle.std.specs.Prelude.{◌≡◌, ◌≤◌, List, length, IfOk};
 ghost use Rattle.cfi_unit.specs.declared.unit.Unit.{Unit as CodeUnit};
 ghost use Rattle.cfi_unit.specs.Code.{UnitCode};
 ghost use Rattle.cfi_word.specs.declared.layout.TheConstants.{MAX_CODE_WORDS};
-ghost use Rattle.cfi_graph.specs.Spots.{spots_of};
+ghost use Rattle.cfi_unit.specs.Spots.{spots_of};
 
-use cfi_unit::{Unit, next_unit};
+use cfi_unit::{Spot, next_unit};
 use std::alloc::{AllocError, Global};
-
-/// A unit of code, and the word at which it stands.
-#[derive(Clone, Copy, Debug, PartialEq, Eq)]
-pub struct Spot {
-    /// The number of its first word, from 0.
-    pub at: u32,
-    /// The unit.
-    pub unit: Unit,
-}
 
 /// The units of which the words are the code, each with the word at which it stands.
 ///

@@ -13,9 +13,10 @@ use Rattle.cfi_aux.specs.declared.placed.Placed.{Placed}
 use Rattle.cfi_aux.specs.declared.placed.PlacedFunction.{PlacedFunction}
 use Rattle.cfi_graph.specs.Code.{place_of}
 use Rattle.cfi_shaped.proofs.NumberLemmas.{length-spots_of, place_number, last_place, place_mono}
-use Rattle.cfi_verify.specs.declared.spot.Spot.{Spot}
+use Rattle.cfi_unit.specs.declared.spot.Spot.{Spot}
 use Rattle.cfi_verify.specs.declared.checks.CheckSpot.{CheckSpot}
-use Rattle.cfi_verify.specs.Spots.{spots_of, BeginsUnit, check_in, checks_of}
+use Rattle.cfi_unit.specs.Spots.{spots_of}
+use Rattle.cfi_verify.specs.Spots.{BeginsUnit, check_in, checks_of}
 use Rattle.cfi_verify.specs.Functions.{end_of, end_before, may_be_last, IsLastIn}
 use Rattle.cfi_verify.specs.Faults.{IsVerifiedAs}
 use Rattle.cfi_verify.proofs.FunctionLemmas.{end_before-next}

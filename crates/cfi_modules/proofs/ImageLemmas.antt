@@ -17,7 +17,7 @@ use Rattle.cfi_graph.specs.Code.{place_of, Stands}
 use Rattle.cfi_graph.specs.Calls.{HasKind, IsCall}
 use Rattle.cfi_graph.specs.Direct.{IsPointee, IsReturnTarget, GoesTo}
 use Rattle.cfi_graph.specs.Reading.{HaveGraph}
-use Rattle.cfi_verify.specs.declared.spot.Spot.{Spot}
+use Rattle.cfi_unit.specs.declared.spot.Spot.{Spot}
 use Rattle.cfi_verify.specs.declared.checks.CheckSpot.{CheckSpot}
 use Rattle.cfi_verify.specs.Spots.{check_in, checks_of}
 use Rattle.cfi_verify.specs.Branches.{IsKindOf, IsRecordOf, IsEntry, AreEntriesIn}

@@ -16,9 +16,10 @@ use Rattle.cfi_aux.specs.Sound.{IsSoundModule}
 use Rattle.cfi_place.specs.declared.room.Room.{Room}
 use Rattle.cfi_place.specs.Names.{Names}
 use Rattle.cfi_place.specs.Placed.{IsRoom, IsPlaced}
-use Rattle.cfi_verify.specs.declared.spot.Spot.{Spot}
+use Rattle.cfi_unit.specs.declared.spot.Spot.{Spot}
 use Rattle.cfi_verify.specs.declared.checks.CheckSpot.{CheckSpot}
-use Rattle.cfi_verify.specs.Spots.{spots_of, check_in, checks_of}
+use Rattle.cfi_unit.specs.Spots.{spots_of}
+use Rattle.cfi_verify.specs.Spots.{check_in, checks_of}
 use Rattle.cfi_verify.specs.Faults.{IsVerified}
 use Rattle.cfi_modules.specs.Room.{first_room, room_behind, room_after}
 use Rattle.cfi_modules.specs.Order.{names_of, Joins}

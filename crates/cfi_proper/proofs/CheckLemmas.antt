@@ -14,8 +14,9 @@ use Rattle.cfi_items.specs.Jumps.{ordinal_of}
 use Rattle.cfi_instr.specs.Sizes.{is_long, place_of}
 use Rattle.cfi_instr.specs.Units.{insn_units, units_at}
 use Rattle.cfi_verify.specs.declared.checks.CheckSpot.{CheckSpot}
-use Rattle.cfi_verify.specs.declared.spot.Spot.{Spot}
-use Rattle.cfi_verify.specs.Spots.{spots_of, check_of, checks_of}
+use Rattle.cfi_unit.specs.declared.spot.Spot.{Spot}
+use Rattle.cfi_unit.specs.Spots.{spots_of}
+use Rattle.cfi_verify.specs.Spots.{check_of, checks_of}
 use Rattle.cfi_proper.proofs.BoundLemmas.{item-parts}
 use Rattle.cfi_proper.proofs.ItemLemmas.{item_spots, spots_to, spots-more, apart, single-from}
 

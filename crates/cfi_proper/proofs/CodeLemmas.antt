@@ -11,8 +11,8 @@ use Rattle.cfi_unit.specs.declared.unit.Unit.{Unit as CodeUnit}
 use Rattle.cfi_unit.specs.Unit.{IsUnit, insns_of, words_of, size_of}
 use Rattle.cfi_unit.proofs.UnitLemmas.{IsUnit-range, size_pos}
 use Rattle.cfi_unit.proofs.CodeLemmas.{length-words_of}
-use Rattle.cfi_verify.specs.declared.spot.Spot.{Spot}
-use Rattle.cfi_verify.specs.Spots.{spots_of}
+use Rattle.cfi_unit.specs.declared.spot.Spot.{Spot}
+use Rattle.cfi_unit.specs.Spots.{spots_of}
 use Rattle.cfi_proper.proofs.SeenLemmas.{seen_spot, seen_from}
 use Rattle.cfi_proper.proofs.WordLemmas.{word-small}
 

@@ -18,10 +18,10 @@ use Rattle.cfi_items.specs.Functions.{end_of, end_before, runs_off_at}
 use Rattle.cfi_instr.specs.Sizes.{is_long, place_of, offsets_of}
 use Rattle.cfi_instr.specs.Units.{insn_units, units_at}
 use Rattle.cfi_verify.specs.Lists.{Each}
-use Rattle.cfi_verify.specs.Spots.{spots_of}
+use Rattle.cfi_unit.specs.Spots.{spots_of}
 use Rattle.cfi_verify.specs.Functions as verify
 use Rattle.cfi_verify.specs.Functions.{may_be_last}
-use Rattle.cfi_verify.specs.declared.spot.Spot.{Spot}
+use Rattle.cfi_unit.specs.declared.spot.Spot.{Spot}
 use Rattle.cfi_proper.proofs.SeenLemmas.{seen, like, last-seen}
 use Rattle.cfi_proper.proofs.CodeLemmas.{one-spot}
 use Rattle.cfi_proper.proofs.ItemLemmas.{item, item_spots, spots_to, in-item, of-item, item-range, apart, holds-within, inner-parts, item-outer, item-below, pair-outer, single-from}

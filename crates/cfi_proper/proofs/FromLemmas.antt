@@ -24,7 +24,7 @@ use Rattle.cfi_instr.specs.Output.{IsText}
 use Rattle.cfi_place.specs.declared.room.Room.{Room}
 use Rattle.cfi_place.specs.Functions.{placed_functions}
 use Rattle.cfi_place.specs.Names.{Names}
-use Rattle.cfi_verify.specs.declared.spot.Spot.{Spot}
+use Rattle.cfi_unit.specs.declared.spot.Spot.{Spot}
 use Rattle.cfi_proper.specs.Proper.{NamesFunc, IsMadeAt}
 use Rattle.cfi_proper.proofs.SeenLemmas.{seen_from, size-seen}
 use Rattle.cfi_proper.proofs.CodeLemmas.{words_in, words-cons}

@@ -19,9 +19,10 @@ use Rattle.cfi_instr.specs.Moves.{moved_function}
 use Rattle.cfi_instr.proofs.SizeLemmas.{total-grows}
 use Rattle.cfi_place.specs.Functions.{make_function}
 use Rattle.cfi_verify.specs.Lists.{Each}
-use Rattle.cfi_verify.specs.Spots.{spots_of, BeginsUnit}
+use Rattle.cfi_unit.specs.Spots.{spots_of}
+use Rattle.cfi_verify.specs.Spots.{BeginsUnit}
 use Rattle.cfi_verify.specs.Functions as verify
-use Rattle.cfi_verify.specs.declared.spot.Spot.{Spot}
+use Rattle.cfi_unit.specs.declared.spot.Spot.{Spot}
 use Rattle.cfi_proper.proofs.SeenLemmas.{of-map, same-begins}
 use Rattle.cfi_proper.proofs.ItemLemmas.{spots_to, item-begins, item-some, begins-in-all}
 use Rattle.cfi_proper.proofs.BoundLemmas.{IsBound, no_function, bound-moved, IsFormed, formed-at, before-next, rest-idle, end-bound}

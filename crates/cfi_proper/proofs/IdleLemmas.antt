@@ -20,8 +20,8 @@ use Rattle.cfi_items.specs.Functions.{end_of, covers, is_covered, end_before, is
 use Rattle.cfi_instr.specs.Sizes.{is_long, size_at, place_of, offsets_of}
 use Rattle.cfi_instr.specs.Units.{insn_units, units_at}
 use Rattle.cfi_instr.proofs.SizeLemmas.{total-grows}
-use Rattle.cfi_verify.specs.declared.spot.Spot.{Spot}
-use Rattle.cfi_verify.specs.Spots.{spots_of}
+use Rattle.cfi_unit.specs.declared.spot.Spot.{Spot}
+use Rattle.cfi_unit.specs.Spots.{spots_of}
 use Rattle.cfi_verify.specs.Functions.{IsIdle}
 use Rattle.cfi_proper.proofs.SeenLemmas.{seen, like}
 use Rattle.cfi_proper.proofs.CodeLemmas.{one-spot}

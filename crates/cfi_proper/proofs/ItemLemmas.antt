@@ -19,8 +19,9 @@ use Rattle.cfi_items.specs.Flaws.{is_illegal_at}
 use Rattle.cfi_instr.specs.Sizes.{is_long, size_by, size_at, place_of}
 use Rattle.cfi_instr.specs.Units.{is_wide, insn_units, units_at}
 use Rattle.cfi_instr.proofs.SizeLemmas.{place-more}
-use Rattle.cfi_verify.specs.declared.spot.Spot.{Spot}
-use Rattle.cfi_verify.specs.Spots.{spots_of, BeginsUnit}
+use Rattle.cfi_unit.specs.declared.spot.Spot.{Spot}
+use Rattle.cfi_unit.specs.Spots.{spots_of}
+use Rattle.cfi_verify.specs.Spots.{BeginsUnit}
 use Rattle.cfi_proper.proofs.CodeLemmas.{words_in, words-append, words-cons, spots-append, spots-range}
 
 -- the word of an instruction that is there is one of the text

@@ -18,9 +18,10 @@ use Rattle.cfi_instr.specs.Sizes.{offsets_of}
 use Rattle.cfi_instr.specs.Moves.{moved_kind}
 use Rattle.cfi_verify.specs.Branches.{IsKindOf, IsRecordOf, KindFits}
 use Rattle.cfi_verify.specs.Lists.{Each}
-use Rattle.cfi_verify.specs.Spots.{spots_of, checks_of}
+use Rattle.cfi_unit.specs.Spots.{spots_of}
+use Rattle.cfi_verify.specs.Spots.{checks_of}
 use Rattle.cfi_verify.specs.declared.checks.CheckSpot.{CheckSpot}
-use Rattle.cfi_verify.specs.declared.spot.Spot.{Spot}
+use Rattle.cfi_unit.specs.declared.spot.Spot.{Spot}
 use Rattle.cfi_proper.specs.Proper.{NamesFunc}
 use Rattle.cfi_proper.proofs.SeenLemmas.{bare, of-map, same-checks}
 use Rattle.cfi_proper.proofs.ItemLemmas.{spots_to}

@@ -6,7 +6,7 @@ use Rattle.cfi_place.specs.declared.room.Room.{Room}
 use Rattle.cfi_place.specs.Names.{Names}
 use Rattle.cfi_verify.specs.declared.fault.VerifyFault.{VerifyFault}
 use Rattle.cfi_verify.specs.declared.fault.VerifyFault.TheVariants as faults
-use Rattle.cfi_verify.specs.declared.spot.Spot.{Spot}
+use Rattle.cfi_unit.specs.declared.spot.Spot.{Spot}
 use Rattle.cfi_verify.specs.Lists.{Each, Breaks}
 use Rattle.cfi_verify.specs.Spots.{AreSpots, checks_of}
 use Rattle.cfi_verify.specs.Branches.{KindFits, EntriesFit}

@@ -14,8 +14,9 @@ use Rattle.rv_reloc.specs.Bytes.{word_at, with_word}
 use Rattle.rv_reloc.specs.Applied.{applied}
 use Rattle.cfi_place.specs.declared.room.Room.{Room}
 use Rattle.cfi_place.specs.Relocated.{Areas, ◌>>=◌, field_address, value_in, partner_in, applied_in, relocated_by, numbered, relocated_from}
-use Rattle.cfi_verify.specs.declared.spot.Spot.{Spot}
-use Rattle.cfi_verify.specs.Spots.{spots_of, BeginsUnit}
+use Rattle.cfi_unit.specs.declared.spot.Spot.{Spot}
+use Rattle.cfi_unit.specs.Spots.{spots_of}
+use Rattle.cfi_verify.specs.Spots.{BeginsUnit}
 use Rattle.cfi_proper.proofs.SeenLemmas.{seen_from, same-begins}
 use Rattle.cfi_proper.proofs.AppliedLemmas.{MayFill, IsFilled, applied-fills, same-ok}
 use Rattle.cfi_proper.proofs.CodeLemmas.{bytes_of, AreUnits}

@@ -13,9 +13,10 @@ use Rattle.rv_insn.specs.declared.insn.StoreKind.TheVariants.{Sw}
 use Rattle.cfi_unit.specs.declared.unit.Unit.{Unit as CodeUnit}
 use Rattle.cfi_unit.specs.declared.unit.Unit.TheVariants as units
 use Rattle.cfi_unit.specs.Unit.{size_of}
-use Rattle.cfi_verify.specs.declared.spot.Spot.{Spot}
+use Rattle.cfi_unit.specs.declared.spot.Spot.{Spot}
 use Rattle.cfi_verify.specs.declared.checks.CheckSpot.{CheckSpot}
-use Rattle.cfi_verify.specs.Spots.{spots_of, BeginsUnit, check_in, checks_of}
+use Rattle.cfi_unit.specs.Spots.{spots_of}
+use Rattle.cfi_verify.specs.Spots.{BeginsUnit, check_in, checks_of}
 use Rattle.cfi_verify.specs.Functions.{may_be_last}
 
 -- what is left of a unit

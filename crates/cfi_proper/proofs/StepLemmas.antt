@@ -10,8 +10,9 @@ use Rattle.cfi_unit.proofs.UnitLemmas.{first_insn}
 use Rattle.rv_reloc.specs.declared.table.Form.{Form}
 use Rattle.rv_reloc.specs.Field.{immediate}
 use Rattle.rv_reloc.specs.Bytes.{word_at, with_word}
-use Rattle.cfi_verify.specs.declared.spot.Spot.{Spot}
-use Rattle.cfi_verify.specs.Spots.{spots_of, BeginsUnit}
+use Rattle.cfi_unit.specs.declared.spot.Spot.{Spot}
+use Rattle.cfi_unit.specs.Spots.{spots_of}
+use Rattle.cfi_verify.specs.Spots.{BeginsUnit}
 use Rattle.cfi_proper.proofs.SeenLemmas.{seen, seen_from, size-seen}
 use Rattle.cfi_proper.proofs.FieldLemmas.{IsBounded, refit, head-word, first-small}
 use Rattle.cfi_proper.proofs.BytesLemmas.{length-spelled, word-here, word-set}

@@ -8,9 +8,10 @@ use Rattle.cfi_unit.specs.Unit.{words_of, size_of}
 use Rattle.cfi_unit.proofs.CodeLemmas.{length-words_of}
 use Rattle.cfi_graph.specs.Code.{place_of}
 use Rattle.cfi_graph.specs.Shaped.{slot_of, slots_of}
-use Rattle.cfi_verify.specs.declared.spot.Spot.{Spot}
+use Rattle.cfi_unit.specs.declared.spot.Spot.{Spot}
 use Rattle.cfi_verify.specs.declared.checks.CheckSpot.{CheckSpot}
-use Rattle.cfi_verify.specs.Spots.{spots_of, AreSpots, BeginsUnit, check_in, checks_of}
+use Rattle.cfi_unit.specs.Spots.{spots_of}
+use Rattle.cfi_verify.specs.Spots.{AreSpots, BeginsUnit, check_in, checks_of}
 
 -- as many units with their places as units
 pub length-spots_of : (a : ℕ) (code : List CodeUnit) → length (spots_of a code) ≡ length code

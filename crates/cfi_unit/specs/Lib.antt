@@ -1,2 +1,3 @@
 pub mod Unit
 pub mod Code
+pub mod Spots

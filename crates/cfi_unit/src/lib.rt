@@ -14,6 +14,7 @@ mod log;
 mod masked;
 mod reader;
 mod spelling;
+mod spot;
 #[cfg(test)]
 mod tests;
 mod unit;
@@ -24,4 +25,5 @@ pub use log::{Log, Stop};
 pub use masked::ACCESS_WORDS;
 pub use reader::next_unit;
 pub use spelling::spell;
+pub use spot::Spot;
 pub use unit::{BARY, DATA_START, FREE_REGISTERS, SLOTS, Unit};

@@ -9,8 +9,9 @@ use Rattle.cfi_unit.specs.declared.unit.Unit.{Unit as CodeUnit}
 use Rattle.cfi_unit.specs.Unit.{words_of, size_of}
 use Rattle.cfi_unit.specs.Code.{BeginsAt, UnitCode}
 use Rattle.cfi_unit.proofs.CodeLemmas.{length-words_of, BeginsAt-within, BeginsAt-word, UnitCode-append}
-use Rattle.cfi_verify.specs.declared.spot.Spot.{Spot}
-use Rattle.cfi_verify.specs.Spots.{spots_of, AreSpots, IsInsnAt}
+use Rattle.cfi_unit.specs.declared.spot.Spot.{Spot}
+use Rattle.cfi_unit.specs.Spots.{spots_of}
+use Rattle.cfi_verify.specs.Spots.{AreSpots, IsInsnAt}
 use Rattle.cfi_verify.specs.Reading.{InsnsBelow}
 
 -- the words before a place are units, which stand at these places, and each is an instruction

@@ -5,7 +5,7 @@ use Rattle.std.proofs.lemmas.Option.{get_or_from_slice_get, slice_get_within}
 use Rattle.cfi_aux.specs.declared.placed.Placed.{Placed}
 use Rattle.cfi_verify.specs.declared.fault.VerifyFault.{VerifyFault}
 use Rattle.cfi_verify.specs.declared.fault.VerifyFault.TheVariants as faults
-use Rattle.cfi_verify.specs.declared.spot.Spot.{Spot}
+use Rattle.cfi_unit.specs.declared.spot.Spot.{Spot}
 use Rattle.cfi_verify.specs.declared.checks.CheckSpot.{CheckSpot}
 use Rattle.cfi_verify.specs.Lists.{Each, Breaks, IsFirstBreak}
 use Rattle.cfi_verify.specs.Spots.{AreSpots, checks_of}

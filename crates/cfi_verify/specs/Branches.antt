@@ -5,7 +5,7 @@ use Rattle.cfi_aux.specs.Format.{is_func}
 use Rattle.cfi_aux.specs.declared.placed.Placed.{Placed}
 use Rattle.cfi_aux.specs.declared.records.Kind.{Kind}
 use Rattle.cfi_aux.specs.declared.records.Kind.TheVariants.{Call, Tail, Return, Switch}
-use Rattle.cfi_verify.specs.declared.spot.Spot.{Spot}
+use Rattle.cfi_unit.specs.declared.spot.Spot.{Spot}
 use Rattle.cfi_verify.specs.declared.checks.CheckSpot.{CheckSpot}
 use Rattle.cfi_verify.specs.Target.{IsAtHome}
 

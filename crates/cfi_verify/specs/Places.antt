@@ -4,7 +4,7 @@ use Rattle.std.specs.List.{Contains, AllPairs, AllWithin}
 use Rattle.std.specs.List.Sorted.{IsPermutation}
 use Rattle.cfi_aux.specs.declared.placed.Placed.{Placed}
 use Rattle.cfi_aux.specs.declared.placed.PlacedFunction.{PlacedFunction}
-use Rattle.cfi_verify.specs.declared.spot.Spot.{Spot}
+use Rattle.cfi_unit.specs.declared.spot.Spot.{Spot}
 use Rattle.cfi_verify.specs.declared.checks.CheckSpot.{CheckSpot}
 use Rattle.cfi_verify.specs.Lists.{Each, IsFirstBreak}
 use Rattle.cfi_verify.specs.Functions.{end_of, LiesIn, FitsBehind, IsIdleBehind}

@@ -1,20 +1,15 @@
 -- The units of a module's words and where they stand. Words are numbered from the module's first, from 0; places that
 -- faults name are in bytes.
-use Rattle.std.specs.Prelude.{◌≡◌, ℕ, ◌+◌, ◌*◌, ◌<◌, List, [], ◌∷◌, length, take, slice_index, Option, Some, None}
+use Rattle.std.specs.Prelude.{◌≡◌, ℕ, ◌*◌, ◌<◌, List, length, take, slice_index, Option, Some, None}
 use Rattle.std.specs.List.{Contains, filter_map}
 use Rattle.rv_insn.specs.declared.insn.Insn.{Insn}
 use Rattle.rv_insn.specs.Insn.{IsWord}
 use Rattle.cfi_unit.specs.declared.unit.Unit.{Unit as CodeUnit}
 use Rattle.cfi_unit.specs.declared.unit.Unit.TheVariants as units
-use Rattle.cfi_unit.specs.Unit.{size_of}
+use Rattle.cfi_unit.specs.Spots.{spots_of}
 use Rattle.cfi_unit.specs.Code.{BeginsAt, UnitCode}
-use Rattle.cfi_verify.specs.declared.spot.Spot.{Spot}
+use Rattle.cfi_unit.specs.declared.spot.Spot.{Spot}
 use Rattle.cfi_verify.specs.declared.checks.CheckSpot.{CheckSpot}
-
--- the units one after the other, the first at the word `at`
-abbrev pub spots_of : (at : ℕ) → List CodeUnit → List Spot
-spots_of at [] = []
-spots_of at (unit ∷ code) = record { at = at; unit = unit } ∷ spots_of (at + size_of unit) code
 
 -- the words are the code of these units, at these places
 pub record AreSpots (words : List ℕ) (spots : List Spot) : Type 0 where

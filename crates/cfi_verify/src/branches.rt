@@ -9,9 +9,9 @@ ghost use Rattle.cfi_verify.specs.Places.{AreRising, AreSmallChecks, AreInOrder,
 use crate::checks::CheckSpot;
 use crate::functions::is_func;
 use crate::home::is_at_home;
-use crate::spot::Spot;
 use cfi_aux::{Kind, Placed};
 use cfi_types::TypeTable;
+use cfi_unit::Spot;
 
 /// The place of the first check that does not name the slot of its number.
 pub fn first_misnamed(placed: &Placed, checks: &[CheckSpot]) -> Option<u32>

@@ -3,8 +3,7 @@
 ghost use Rattle.std.specs.Prelude.{◌≡◌, IfOk};
 ghost use Rattle.cfi_verify.specs.Spots.{check_of, checks_of};
 
-use crate::spot::Spot;
-use cfi_unit::Unit;
+use cfi_unit::{Spot, Unit};
 use std::alloc::{AllocError, Global};
 
 /// A check of a module, and where it stands.

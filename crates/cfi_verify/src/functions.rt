@@ -8,10 +8,9 @@ ghost use Rattle.cfi_verify.specs.Faults.{own_number};
 ghost use Rattle.cfi_verify.specs.Places.{AreRising, AreInRange, IsWithin, IsFirstUnfit};
 
 use crate::search::{begins_at, number_at};
-use crate::spot::Spot;
 use cfi_aux::{Placed, PlacedFunction};
 use cfi_types::{FUNC, TypeTable};
-use cfi_unit::Unit;
+use cfi_unit::{Spot, Unit};
 use rv_insn::{ImmOp, Insn};
 
 /// `addi x0,x0,0`, which may stand between functions.

@@ -8,8 +8,8 @@ ghost use Rattle.cfi_verify.specs.Target.{IsAtHome};
 ghost use Rattle.cfi_verify.specs.Places.{AreRising, AreInOrder, AreInRange, IsHome, SplitsEnds};
 
 use crate::search::begins_at;
-use crate::spot::Spot;
 use cfi_aux::PlacedFunction;
+use cfi_unit::Spot;
 
 // The number of the first function that ends after the word; their number where none does.
 fn number_ending(functions: &[PlacedFunction], at: u32) -> usize

@@ -14,7 +14,6 @@ mod home;
 mod laws;
 mod reader;
 mod search;
-mod spot;
 mod target;
 #[cfg(test)]
 mod tests;
@@ -23,5 +22,4 @@ mod verifier;
 pub use checks::CheckSpot;
 pub use fault::VerifyFault;
 pub use laws::{one_first_fault, some_module_verifies, verified_has_no_fault};
-pub use spot::Spot;
 pub use verifier::verify;

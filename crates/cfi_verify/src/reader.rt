@@ -5,8 +5,7 @@ ghost use Rattle.cfi_verify.specs.Spots.{AreSpots, StopsAt};
 ghost use Rattle.cfi_verify.specs.Reading.{InsnsBelow, IsFirstIllegal, IsUnread};
 
 use crate::fault::VerifyFault;
-use crate::spot::Spot;
-use cfi_unit::next_unit;
+use cfi_unit::{Spot, next_unit};
 use rv_insn::decode;
 use std::alloc::{AllocError, Global};
 

@@ -4,7 +4,7 @@ ghost use Rattle.std.specs.Prelude.{IsTrue, ◌↔◌};
 ghost use Rattle.cfi_verify.specs.Spots.{BeginsUnit};
 ghost use Rattle.cfi_verify.specs.Places.{AreRising, Splits};
 
-use crate::spot::Spot;
+use cfi_unit::Spot;
 
 /// The number of the first unit that begins at the word or after it; their number where none does.
 pub fn number_at(spots: &[Spot], at: u32) -> usize

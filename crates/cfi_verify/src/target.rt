@@ -10,9 +10,8 @@ ghost use Rattle.cfi_verify.specs.Places.{AreRising, AreSmall, AreInOrder, AreIn
 
 use crate::entries::is_entry;
 use crate::home::is_at_home;
-use crate::spot::Spot;
 use cfi_aux::Placed;
-use cfi_unit::Unit;
+use cfi_unit::{Spot, Unit};
 
 // The word that an offset leads to, where it leads to one.
 fn target_of(at: u64, off: i32) -> Option<u64>

@@ -13,9 +13,9 @@ use crate::entries::entries_of;
 use crate::fault::VerifyFault;
 use crate::functions::{first_open, first_unfit};
 use crate::reader::units_of;
-use crate::spot::Spot;
 use crate::target::first_stray;
 use cfi_aux::Placed;
+use cfi_unit::Spot;
 use std::alloc::Global;
 
 // The first fault of the slots and functions of a module whose units are read.

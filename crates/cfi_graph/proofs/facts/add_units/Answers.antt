@@ -1,6 +1,6 @@
 use Rattle.std.proofs.Common.{◌≡◌, ◌∙◌, length, sym, subst, arith}
 use Rattle.cfi_unit.specs.Code.{UnitCode}
-use Rattle.cfi_graph.specs.Spots.{spots_of}
+use Rattle.cfi_unit.specs.Spots.{spots_of}
 use Rattle.cfi_graph.specs.Facts.{Adds}
 use Rattle.cfi_graph.proofs.AddsLemmas.{TellsBelow, adds_below_more}
 use Rattle.cfi_graph.proofs.TellLemmas.{SpotTells, stand_all, spot_tells_at, units_tell}

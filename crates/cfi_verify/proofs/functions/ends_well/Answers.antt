@@ -1,7 +1,7 @@
 use Rattle.std.proofs.Common.{◌∙◌, ap, sym, leb-true, arith}
 use Rattle.rv_insn.specs.declared.insn.Insn.TheVariants.{Lui}
 use Rattle.cfi_unit.specs.declared.unit.Unit.TheVariants.{Plain}
-use Rattle.cfi_verify.specs.declared.spot.Spot.{Spot}
+use Rattle.cfi_unit.specs.declared.spot.Spot.{Spot}
 use Rattle.cfi_verify.specs.Functions.{may_be_last}
 use Rattle.cfi_verify.proofs.PlaceLemmas.{ends_last, last_is}
 use Rattle.cfi_verify.proofs.functions.ends_well.Goals as goal

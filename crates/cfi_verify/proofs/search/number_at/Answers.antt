@@ -1,7 +1,7 @@
 use Rattle.std.proofs.Common.{ltb, rules}
 use Rattle.std.proofs.lemmas.Bool.{ltb-true, ltb-false}
 use Rattle.std.proofs.lemmas.List.Sorted.{IsPartitionPoint-from_clause, IsPartitionedBy-ltb}
-use Rattle.cfi_verify.specs.declared.spot.Spot.{Spot}
+use Rattle.cfi_unit.specs.declared.spot.Spot.{Spot}
 use Rattle.cfi_verify.proofs.PlaceLemmas.{at_rises}
 use Rattle.cfi_verify.proofs.search.number_at.Goals as goal
 

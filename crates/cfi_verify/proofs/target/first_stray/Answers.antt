@@ -2,7 +2,7 @@ use Rattle.std.proofs.Common.{sym, refl, ◌∙◌}
 use Rattle.std.proofs.lemmas.Bool.{false≢true}
 use Rattle.rv_insn.specs.declared.insn.Insn.TheVariants.{Lui}
 use Rattle.cfi_unit.specs.declared.unit.Unit.TheVariants.{Plain}
-use Rattle.cfi_verify.specs.declared.spot.Spot.{Spot}
+use Rattle.cfi_unit.specs.declared.spot.Spot.{Spot}
 use Rattle.cfi_verify.specs.Target.{LeadsWell}
 use Rattle.cfi_verify.specs.Faults.{unit_place}
 use Rattle.cfi_verify.proofs.ListLemmas.{each_more, each_all, first_here}

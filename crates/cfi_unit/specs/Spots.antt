@@ -1,8 +1,8 @@
--- The units of code and where they stand.
+-- The units of code and where they stand. Words are numbered from the code's first, from 0.
 use Rattle.std.specs.Prelude.{ℕ, ◌+◌, List, [], ◌∷◌}
+use Rattle.cfi_unit.specs.declared.spot.Spot.{Spot}
 use Rattle.cfi_unit.specs.declared.unit.Unit.{Unit as CodeUnit}
 use Rattle.cfi_unit.specs.Unit.{size_of}
-use Rattle.cfi_graph.specs.declared.spot.Spot.{Spot}
 
 -- the units one after the other, the first at the word `at`
 abbrev pub spots_of : (at : ℕ) → List CodeUnit → List Spot
