@@ -20,9 +20,7 @@ mod text;
 
 pub use fault::PlanFault;
 pub use journal::{Entry, JournalLine, ModuleLine, Who};
-pub use limits::{
-    FUEL, MAX_FUEL, MAX_GUESTS, MAX_MODULES, MAX_REFRESHES, MAX_SCRIPT, MAX_STARTS,
-};
+pub use limits::{FUEL, MAX_FUEL, MAX_GUESTS, MAX_MODULES, MAX_REFRESHES, MAX_SCRIPT, MAX_STARTS};
 pub use names::name_of;
 pub use plan::{Plan, PlanModule, ScriptLine};
 pub use reading::read_plan;
