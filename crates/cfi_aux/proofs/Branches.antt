@@ -6,7 +6,8 @@ use Rattle.std.proofs.lemmas.Bool.Decides.{nat_tests}
 use Rattle.std.proofs.lemmas.List.{append-nil}
 use Rattle.cfi_types.specs.Node.{Node}
 use Rattle.cfi_types.specs.Spelling.{word}
-use Rattle.cfi_aux.specs.declared.format.TheConstants.{CALL, TAIL, RETURN, SWITCH, MAX_ENTRIES}
+use Rattle.cfi_aux.specs.declared.format.TheConstants.{CALL, TAIL, RETURN, SWITCH}
+use Rattle.cfi_word.specs.declared.limits.TheConstants.{MAX_ENTRIES}
 use Rattle.cfi_aux.specs.declared.fault.AuxFault.TheVariants.{BadRecord}
 use Rattle.cfi_aux.specs.declared.records.Kind.{Kind}
 use Rattle.cfi_aux.specs.declared.records.Kind.TheVariants.{Call, Tail, Return, Switch}
@@ -15,7 +16,8 @@ use Rattle.cfi_aux.specs.Records.{number_of, words_of, branch_bytes, IsBranchWor
 use Rattle.cfi_aux.specs.Reading.{Reader, word_where, and_with, seen_as, each}
 use Rattle.cfi_aux.specs.Faults.{place_at, body_at, branch_at}
 use Rattle.cfi_types.proofs.Parts.{Takes}
-use Rattle.cfi_aux.proofs.Formats.{ok_is, Reads, Reads-with, Agree, Reads-as}
+use Rattle.cfi_aux.proofs.Formats.{Reads, Reads-with, Agree, Reads-as}
+use Rattle.cfi_values.proofs.ThenLemmas.{ok_is}
 use Rattle.cfi_aux.proofs.Words.{Passes, Reads-word}
 use Rattle.cfi_aux.proofs.Lists.{AreGood, Reads-each}
 

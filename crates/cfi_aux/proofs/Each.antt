@@ -3,7 +3,8 @@ use Rattle.std.proofs.Common.{◌≡◌, ℕ, suc, ◌+◌, ◌-◌, ◌<◌, �
 use Rattle.std.proofs.lemmas.List.{append-nil}
 use Rattle.cfi_aux.specs.declared.fault.AuxFault.{AuxFault}
 use Rattle.cfi_aux.specs.declared.fault.AuxFault.TheVariants.{NoRecords, Types, Version, Short, BadRecord, Memory}
-use Rattle.cfi_aux.specs.Reading.{Reader, ◌>>=◌, Fails, each}
+use Rattle.cfi_aux.specs.Reading.{Reader, Fails, each}
+use Rattle.cfi_values.specs.Then.{◌>>=◌}
 
 -- what was read before, and what is still read
 abbrev pub with_front : {A : Type 0} → List A → Result (List A × List ℕ) AuxFault → Result (List A × List ℕ) AuxFault

@@ -2,25 +2,9 @@
 use Rattle.std.proofs.Common.{◌≡◌, ℕ, Bool, true, false, List, ◌++◌, Result, Ok, Err, refl, sym, ap, subst, ◌∙◌, append_assoc}
 use Rattle.cfi_types.proofs.Parts.{IsBytes, Takes, Takes-then}
 use Rattle.cfi_aux.specs.declared.fault.AuxFault.{AuxFault}
-use Rattle.cfi_aux.specs.Reading.{Reader, ◌>>=◌, unless_bad, and_with, and_also, seen_as}
-
--- the value of a step that did not fail
-pub then_ok : {A B : Type 0} (r : Result A AuxFault) (f : A → Result B AuxFault) (y : B) → (r >>= f) ≡ Ok y
-    → (x : A) × (r ≡ Ok x) × (f x ≡ Ok y)
-then_ok (Ok x) f y e = (x, refl, e)
-then_ok (Err d) f y e = absurd cc
-
--- a test that did not fail
-pub unless_bad_ok : {A : Type 0} (b : Bool) (d : AuxFault) (r : Result A AuxFault) (y : A) → unless_bad b d r ≡ Ok y
-    → (b ≡ true) × (r ≡ Ok y)
-unless_bad_ok true d r y e = (refl, e)
-unless_bad_ok false d r y e = absurd cc
-
-abbrev done : {A : Type 0} → A → Result A AuxFault
-done x = Ok x
-
-pub ok_is : {A : Type 0} (x y : A) → done x ≡ done y → x ≡ y
-ok_is x y e = cc
+use Rattle.cfi_aux.specs.Reading.{Reader, and_with, and_also, seen_as}
+use Rattle.cfi_values.specs.Then.{◌>>=◌, unless_bad}
+use Rattle.cfi_values.proofs.ThenLemmas.{then_ok, ok_is}
 
 -- a reader reads exactly what is spelled: `spell` is the spelling of a value, `good` says which values have one
 pub record Reads (X : Type 0) (spell : X → List ℕ) (good : X → Type 0) (read : Reader X) : Type 0 where

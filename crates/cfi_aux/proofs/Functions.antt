@@ -3,7 +3,7 @@ use Rattle.std.proofs.Common.{◌≡◌, ℕ, ◌≤◌, Bool, true, false, eqb,
 use Rattle.std.proofs.lemmas.Bool.Decides.{nat_tests}
 use Rattle.cfi_types.specs.Node.{Node}
 use Rattle.cfi_types.specs.Spelling.{word}
-use Rattle.cfi_aux.specs.declared.format.TheConstants.{MAX_NAME}
+use Rattle.cfi_word.specs.declared.limits.TheConstants.{MAX_NAME}
 use Rattle.cfi_aux.specs.declared.fault.AuxFault.TheVariants.{BadRecord}
 use Rattle.cfi_aux.specs.declared.records.Function.{Function}
 use Rattle.cfi_aux.specs.Format.{is_whole, is_length, is_flag, is_name_length, is_func}

@@ -7,10 +7,12 @@ use Rattle.std.proofs.lemmas.List.{take_at, drop_at, take-append-drop, length-ap
 use Rattle.std.proofs.lemmas.List.Concat.{flat_map-cons}
 use Rattle.cfi_aux.specs.declared.fault.AuxFault.{AuxFault}
 use Rattle.cfi_aux.specs.declared.fault.AuxFault.TheVariants.{Short, BadRecord}
-use Rattle.cfi_aux.specs.Reading.{Reader, ◌>>=◌, unless_bad, each}
+use Rattle.cfi_aux.specs.Reading.{Reader, each}
+use Rattle.cfi_values.specs.Then.{◌>>=◌, unless_bad}
 use Rattle.cfi_aux.specs.Faults.{text_at, zeroes_at}
 use Rattle.cfi_types.proofs.Parts.{IsBytes, IsBytes-drop, Takes, Takes-then}
-use Rattle.cfi_aux.proofs.Formats.{then_ok, unless_bad_ok, ok_is, Reads}
+use Rattle.cfi_aux.proofs.Formats.{Reads}
+use Rattle.cfi_values.proofs.ThenLemmas.{then_ok, unless_bad_ok, ok_is}
 
 -- so many values, each of which is good
 abbrev pub AreGood : {A : Type 0} → (A → Type 0) → (count : ℕ) → List A → Type 0

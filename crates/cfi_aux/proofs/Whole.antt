@@ -7,17 +7,20 @@ use Rattle.std.proofs.lemmas.Bool.{eqb-true, leb-true, le-leb, le-ltb}
 use Rattle.std.proofs.lemmas.List.{append-nil, nil_from_length, length-append}
 use Rattle.cfi_types.specs.Node.{Node}
 use Rattle.cfi_types.specs.Spelling.{word}
-use Rattle.cfi_aux.specs.declared.format.TheConstants.{VERSION, MAX_FUNCTIONS, MAX_BRANCHES}
+use Rattle.cfi_aux.specs.declared.format.TheConstants.{VERSION}
+use Rattle.cfi_word.specs.declared.limits.TheConstants.{MAX_FUNCTIONS, MAX_BRANCHES}
 use Rattle.cfi_aux.specs.declared.fault.AuxFault.{AuxFault}
 use Rattle.cfi_aux.specs.declared.fault.AuxFault.TheVariants.{Version, Short, BadRecord}
 use Rattle.cfi_aux.specs.declared.records.Function.{Function}
 use Rattle.cfi_aux.specs.declared.records.Records.{Records}
 use Rattle.cfi_aux.specs.declared.records.Kind.{Kind}
 use Rattle.cfi_aux.specs.Records.{function_bytes, branch_bytes, spelling, IsFunction, IsBranch, AreRecords}
-use Rattle.cfi_aux.specs.Reading.{unless_bad, Gives, word_at, and_with, and_also, each}
+use Rattle.cfi_aux.specs.Reading.{Gives, word_at, and_with, and_also, each}
+use Rattle.cfi_values.specs.Then.{unless_bad}
 use Rattle.cfi_aux.specs.Faults.{function_at, branch_at, version_at, count_at, lists_at, records_of, records_at, records_in}
 use Rattle.cfi_types.proofs.Parts.{IsBytes, Takes}
-use Rattle.cfi_aux.proofs.Formats.{then_ok, unless_bad_ok, ok_is, Reads, Reads-with, Reads-also, Agree, Reads-as}
+use Rattle.cfi_aux.proofs.Formats.{Reads, Reads-with, Reads-also, Agree, Reads-as}
+use Rattle.cfi_values.proofs.ThenLemmas.{then_ok, unless_bad_ok, ok_is}
 use Rattle.cfi_aux.proofs.Words.{Passes, word_takes, Reads-word}
 use Rattle.cfi_aux.proofs.Lists.{AreGood, Reads-each}
 use Rattle.cfi_aux.proofs.Functions.{Reads-function}

@@ -6,8 +6,10 @@ use Rattle.cfi_types.proofs.Parts.{IsBytes, Takes, wide32, number_takes, number_
 use Rattle.cfi_aux.specs.declared.fault.AuxFault.{AuxFault}
 use Rattle.cfi_aux.specs.declared.fault.AuxFault.TheVariants.{Short}
 use Rattle.cfi_aux.specs.Records.{Fits}
-use Rattle.cfi_aux.specs.Reading.{unless_bad, word_at, word_where}
-use Rattle.cfi_aux.proofs.Formats.{then_ok, unless_bad_ok, ok_is, Reads}
+use Rattle.cfi_aux.specs.Reading.{word_at, word_where}
+use Rattle.cfi_values.specs.Then.{unless_bad}
+use Rattle.cfi_aux.proofs.Formats.{Reads}
+use Rattle.cfi_values.proofs.ThenLemmas.{then_ok, unless_bad_ok, ok_is}
 
 pub word_takes : (bytes : List ℕ) (n : ℕ) (rest : List ℕ) → IsBytes bytes → word_at bytes ≡ Ok (n, rest)
     → Takes bytes (word n) rest × Fits n

@@ -4,7 +4,8 @@ use Rattle.std.specs.Prelude.{ℕ, zero, suc, List, [], ◌∷◌, length, take,
 use Rattle.std.specs.Int.{w32, from_le_bytes}
 use Rattle.std.specs.Str.{is_utf8}
 use Rattle.cfi_types.specs.Node.{Node}
-use Rattle.cfi_aux.specs.declared.format.TheConstants.{VERSION, MAX_FUNCTIONS, MAX_BRANCHES, CALL, TAIL, RETURN, SWITCH}
+use Rattle.cfi_aux.specs.declared.format.TheConstants.{VERSION, CALL, TAIL, RETURN, SWITCH}
+use Rattle.cfi_word.specs.declared.limits.TheConstants.{MAX_FUNCTIONS, MAX_BRANCHES}
 use Rattle.cfi_aux.specs.declared.fault.AuxFault.{AuxFault}
 use Rattle.cfi_aux.specs.declared.fault.AuxFault.TheVariants.{Version, Short, BadRecord}
 use Rattle.cfi_aux.specs.declared.records.Function.{Function}
@@ -13,7 +14,8 @@ use Rattle.cfi_aux.specs.declared.records.Kind.{Kind}
 use Rattle.cfi_aux.specs.declared.records.Kind.TheVariants.{Call, Tail, Return, Switch}
 use Rattle.cfi_aux.specs.Format.{is_whole, is_length, is_flag, is_name_length, is_func, has_count}
 use Rattle.cfi_aux.specs.Records.{padding}
-use Rattle.cfi_aux.specs.Reading.{Reader, ◌>>=◌, unless_bad, word_where, and_with, and_also, seen_as, each}
+use Rattle.cfi_aux.specs.Reading.{Reader, word_where, and_with, and_also, seen_as, each}
+use Rattle.cfi_values.specs.Then.{◌>>=◌, unless_bad}
 
 -- ---- a function
 

@@ -3,7 +3,8 @@ use Rattle.std.specs.Prelude.{ℕ, Bool, false, not, ◌==◌, ◌&&◌, ◌||�
 use Rattle.cfi_types.specs.declared.kind.TheConstants.{FUNC}
 use Rattle.cfi_types.specs.Node.{Node}
 use Rattle.cfi_types.specs.Same.{node_of}
-use Rattle.cfi_aux.specs.declared.format.TheConstants.{MAX_ENTRIES, MAX_NAME, CALL, TAIL, RETURN, SWITCH}
+use Rattle.cfi_aux.specs.declared.format.TheConstants.{CALL, TAIL, RETURN, SWITCH}
+use Rattle.cfi_word.specs.declared.limits.TheConstants.{MAX_NAME, MAX_ENTRIES}
 
 -- a number of bytes that whole instructions have
 abbrev pub is_whole : ℕ → Bool

@@ -11,7 +11,7 @@ use Rattle.cfi_aux.specs.declared.fault.AuxFault.TheVariants.{NoRecords, Types, 
 use Rattle.cfi_aux.specs.declared.modules.Module.{Module}
 use Rattle.cfi_aux.specs.declared.records.Records.{Records}
 use Rattle.cfi_aux.specs.Records.{AreRecords, spelling}
-use Rattle.cfi_aux.specs.Reading.{◌>>=◌}
+use Rattle.cfi_values.specs.Then.{◌>>=◌}
 use Rattle.cfi_aux.specs.Faults.{records_in}
 
 -- a type table and records, spelled by the two sections of the object

@@ -3,6 +3,7 @@ use Rattle.std.specs.Prelude.{◌≡◌, ℕ, zero, suc, List, [], ◌∷◌, le
 use Rattle.std.specs.Int.{w32, from_le_bytes}
 use Rattle.cfi_aux.specs.declared.fault.AuxFault.{AuxFault}
 use Rattle.cfi_aux.specs.declared.fault.AuxFault.TheVariants.{NoRecords, Types, Version, Short, BadRecord, Memory}
+use Rattle.cfi_values.specs.Then.{◌>>=◌, unless_bad}
 
 -- ---- what a call gives
 
@@ -24,16 +25,6 @@ Gives view (Err e) due = Fails e due
 
 abbrev pub Reader : Type 0 → Type 0
 Reader X = List ℕ → Result (X × List ℕ) AuxFault
-
--- goes on with what was read
-infixl 10 ◌>>=◌
-abbrev pub ◌>>=◌ : {A B : Type 0} → Result A AuxFault → (A → Result B AuxFault) → Result B AuxFault
-(Ok x) >>= f = f x
-(Err e) >>= f = Err e
-
--- goes on where a test holds, and else has the fault
-abbrev pub unless_bad : {A : Type 0} → Bool → AuxFault → Result A AuxFault → Result A AuxFault
-unless_bad fits fault on = if fits then on else Err fault
 
 -- a word
 abbrev pub word_at : Reader ℕ

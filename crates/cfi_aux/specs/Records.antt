@@ -5,7 +5,8 @@ use Rattle.std.specs.List.{flat_map, AllByRecursion}
 use Rattle.std.specs.Str.{is_utf8}
 use Rattle.cfi_types.specs.Node.{Node}
 use Rattle.cfi_types.specs.Spelling.{word}
-use Rattle.cfi_aux.specs.declared.format.TheConstants.{VERSION, MAX_FUNCTIONS, MAX_BRANCHES, CALL, TAIL, RETURN, SWITCH}
+use Rattle.cfi_aux.specs.declared.format.TheConstants.{VERSION, CALL, TAIL, RETURN, SWITCH}
+use Rattle.cfi_word.specs.declared.limits.TheConstants.{MAX_FUNCTIONS, MAX_BRANCHES}
 use Rattle.cfi_aux.specs.declared.records.Function.{Function}
 use Rattle.cfi_aux.specs.declared.records.Records.{Records}
 use Rattle.cfi_aux.specs.declared.records.Kind.{Kind}

@@ -14,7 +14,7 @@ use Rattle.elf_read.specs.declared.object.Area.{Area}
 use Rattle.elf_read.specs.declared.object.Area.TheVariants as areas
 use Rattle.elf_read.specs.Relocation.{is_dropped, is_of_data, is_of_instruction, is_known, field_size}
 use Rattle.cfi_types.specs.Spelling.{AreTypes}
-use Rattle.cfi_aux.specs.declared.format.TheConstants.{MAX_NAME}
+use Rattle.cfi_word.specs.declared.limits.TheConstants.{MAX_NAME}
 use Rattle.cfi_aux.specs.declared.modules.Module.{Module}
 
 -- ---- symbols

@@ -5,10 +5,11 @@ ghost use Rattle.cfi_aux.specs.Reading.{Gives, each};
 ghost use Rattle.cfi_aux.specs.Faults.{place_at, body_at, branch_at};
 
 use crate::fault::AuxFault;
-use crate::format::{CALL, MAX_BRANCHES, MAX_FUNCTIONS, RETURN, TAIL};
+use crate::format::{CALL, RETURN, TAIL};
+use cfi_word::limits::{MAX_BRANCHES, MAX_FUNCTIONS};
 use crate::records::Kind;
 use crate::word::{func_from, kind_from, place_from, word_count_from};
-use cfi_list::Items;
+use cfi_values::Items;
 use cfi_types::TypeTable;
 use std::alloc::Global;
 

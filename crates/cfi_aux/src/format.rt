@@ -3,19 +3,11 @@
 ghost use Rattle.std.specs.Prelude.{◌≡◌};
 ghost use Rattle.cfi_aux.specs.Format.{is_whole, is_length, is_flag, is_name_length, is_func, has_count};
 
+use cfi_word::limits::{MAX_ENTRIES, MAX_NAME};
 use cfi_types::{FUNC, TypeTable};
 
 /// The first word of the section.
 pub const VERSION: u32 = 1;
-/// The greatest number of functions of an object.
-pub const MAX_FUNCTIONS: u32 = 16384;
-/// The greatest number of branches of an object.
-pub const MAX_BRANCHES: u32 = 4680;
-/// The greatest number of entries of a switch.
-pub const MAX_ENTRIES: u32 = 1024;
-/// The greatest number of bytes of a name.
-pub const MAX_NAME: u32 = 255;
-
 /// The kind of a branch that is an indirect call.
 pub const CALL: u32 = 0;
 /// The kind of a branch that is an indirect tail call.
@@ -50,7 +42,7 @@ pub fn is_flag(word: u32) -> bool
 pub fn is_name_length(word: u32) -> bool
     ensures { result ≡ is_name_length word }
 {
-    1 <= word && word <= MAX_NAME
+    1 <= word && word as usize <= MAX_NAME
 }
 
 /// Whether the word is the number of a node that is there and is the type of a function.

@@ -1,6 +1,6 @@
 //! The records of functions and branches that a module carries, modules, and placed modules.
 //!
-//! Stands on `elf_read`, `cfi_types`, `cfi_list` and `thiserror`. Proved: records are read exactly where the bytes are
+//! Stands on `elf_read`, `cfi_types`, `cfi_values` and `thiserror`. Proved: records are read exactly where the bytes are
 //! their one spelling, and each other list of bytes has its first fault; what is written is read again; an object is a
 //! module exactly where its two sections are a type table and records; what is read of a file is a sound object; which
 //! functions are global, and what a module exports. Only tested: the texts of faults, and that ample memory is enough.
@@ -21,9 +21,7 @@ mod word;
 mod writing;
 
 pub use fault::AuxFault;
-pub use format::{
-    CALL, MAX_BRANCHES, MAX_ENTRIES, MAX_FUNCTIONS, MAX_NAME, RETURN, SWITCH, TAIL, VERSION,
-};
+pub use format::{CALL, RETURN, SWITCH, TAIL, VERSION};
 pub use laws::{some_object_is_sound, what_is_read_is_sound};
 pub use modules::{Module, module_of};
 pub use placed::{Placed, PlacedFunction, address_of, exports, is_global};

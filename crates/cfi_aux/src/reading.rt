@@ -8,11 +8,11 @@ ghost use Rattle.cfi_aux.specs.Faults.{records_at, records_in};
 
 use crate::branch::branches_from;
 use crate::fault::AuxFault;
-use crate::format::{MAX_BRANCHES, MAX_FUNCTIONS};
+use cfi_word::limits::{MAX_BRANCHES, MAX_FUNCTIONS};
 use crate::function::functions_from;
 use crate::records::Records;
 use crate::word::{after_version, count_from};
-use cfi_list::Items;
+use cfi_values::Items;
 use cfi_types::TypeTable;
 use std::alloc::Global;
 

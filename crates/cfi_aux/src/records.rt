@@ -1,6 +1,6 @@
 //! The records of a module.
 
-use cfi_list::Items;
+use cfi_values::Items;
 use elf_read::Name;
 
 /// A function of a module.

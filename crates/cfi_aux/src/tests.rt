@@ -2,9 +2,9 @@ ghost use Rattle.std.specs.Prelude.{◌<◌, ◌^◌, All, IfOk, OnOk};
 ghost use Rattle.cfi_aux.specs.Placed.{address_of};
 
 use super::*;
-use cfi_list::Items;
+use cfi_values::{Items, Bytes};
 use cfi_types::{TypeFault, read_types};
-use elf_read::{Binding, Bytes, Name, Object, Place, Relocs, Symbol, Symbols};
+use elf_read::{Binding, Name, Object, Place, Relocs, Symbol, Symbols};
 use std::alloc::{AllocError, Global};
 use std::process::Abort;
 use std::test::*;

@@ -7,16 +7,15 @@ use Rattle.cfi_unit.specs.declared.unit.Unit.TheVariants.{Jump}
 use Rattle.cfi_unit.specs.Code.{BeginsAt}
 use Rattle.cfi_unit.proofs.UnitLemmas.{size_pos}
 use Rattle.cfi_unit.proofs.CodeLemmas.{BeginsAt-within}
-use Rattle.cfi_word.specs.declared.layout.TheConstants.{FIRST_BASE}
+use Rattle.cfi_word.specs.declared.map.TheConstants.{FIRST_BASE, DATA_START}
 use Rattle.cfi_aux.specs.declared.placed.Placed.{Placed}
 use Rattle.cfi_aux.specs.declared.placed.PlacedFunction.{PlacedFunction}
 use Rattle.rv_reloc.specs.Bytes.{word_at}
-use Rattle.cfi_unit.specs.declared.unit.TheConstants.{DATA_START}
 use Rattle.cfi_place.specs.Relocated.{areas_of, relocated_from}
 use Rattle.cfi_place.specs.Slots.{ReadFrom}
 use Rattle.cfi_unit.specs.declared.spot.Spot.{Spot}
 use Rattle.cfi_verify.specs.Lists.{Each}
-use Rattle.cfi_verify.specs.Spots.{BeginsUnit}
+use Rattle.cfi_unit.specs.Spots.{BeginsUnit}
 use Rattle.cfi_verify.specs.Functions.{FitsBehind, IsLastIn, EndsWell}
 use Rattle.cfi_verify.specs.Target.{LeadsWell}
 use Rattle.cfi_verify.specs.Faults.{IsVerified}

@@ -10,17 +10,19 @@ use Rattle.cfi_unit.specs.declared.unit.Unit.{Unit as CodeUnit}
 use Rattle.cfi_unit.specs.declared.unit.Unit.TheVariants as units
 use Rattle.cfi_unit.specs.Unit.{IsUnit, size_of}
 use Rattle.cfi_unit.specs.Code.{UnitCode}
-use Rattle.cfi_unit.specs.declared.unit.TheConstants.{SLOTS}
+use Rattle.cfi_word.specs.declared.sizes.TheConstants.{SLOTS}
 use Rattle.cfi_word.specs.declared.lists.Image.{Image}
 use Rattle.cfi_word.specs.declared.ids.TheConstants.{FIELD_MAX}
-use Rattle.cfi_word.specs.declared.layout.TheConstants.{MAX_CODE_WORDS, FIRST_BASE}
+use Rattle.cfi_word.specs.declared.map.TheConstants.{FIRST_BASE}
+use Rattle.cfi_word.specs.declared.limits.TheConstants.{MAX_CODE_WORDS}
 use Rattle.cfi_word.specs.Table.{slots_of}
 use Rattle.cfi_model.specs.Closed.{idle, code_of, StandsIn, IsStartOf, LeadsToStart, ReturnsToStart, StaysInside}
 use Rattle.cfi_verify.specs.Functions.{may_be_last}
 use Rattle.cfi_bare.specs.declared.modules.TheConstants.{MAX_WORDS}
 use Rattle.cfi_bare.specs.Runnable.{IsRunnable}
 use Rattle.cfi_bare.specs.Image.{copies, code_with, IsImageOf, IsClosedFile}
-use Rattle.cfi_bare.proofs.PlaceLemmas.{place_in, place_more}
+use Rattle.cfi_bare.proofs.PlaceLemmas.{place_more}
+use Rattle.cfi_unit.specs.Spots.{place_of}
 use Rattle.cfi_bare.proofs.RunnableLemmas.{EndsUnlinked, LeadsToUnit, IsSound, sound_of}
 
 -- copies of a value
@@ -85,7 +87,7 @@ next_start : (body : List CodeUnit) (address : ℕ) (unit : CodeUnit) → EndsUn
     StandsIn body address unit → may_be_last unit ≡ false → IsStartOf body (address + 4 * size_of unit)
 next_start body address unit ends stands goes_on =
     let here : slice_get body stands.0 ≡ Some unit = stands.1 in
-    let at : address ≡ 4 * (FIRST_BASE + place_in body stands.0) = stands.2 in (
+    let at : address ≡ 4 * (FIRST_BASE + place_of body stands.0) = stands.2 in (
       stands.0 + 1,
       not_last body stands.0 unit ends here goes_on,
       omega (arith, place_more body stands.0 unit here),
@@ -95,11 +97,11 @@ next_start body address unit ends stands goes_on =
 far_start : (body : List CodeUnit) (address at : ℕ) (off : ℤ) → address ≡ 4 * (FIRST_BASE + at) →
     LeadsToUnit body at off → LeadsToStart body address off
 far_start body address at (pos n) here leads =
-    let to : leads.0 ≡ place_in body leads.2.0 = leads.2.2 in
+    let to : leads.0 ≡ place_of body leads.2.0 = leads.2.2 in
     let goes : 4 * leads.0 ≡ 4 * at + n = leads.1 in
     (leads.2.0, leads.2.1, omega arith)
 far_start body address at (negsuc n) here leads =
-    let to : leads.0 ≡ place_in body leads.2.0 = leads.2.2 in
+    let to : leads.0 ≡ place_of body leads.2.0 = leads.2.2 in
     let goes : 4 * leads.0 + n + 1 ≡ 4 * at = leads.1 in
     (4 * (FIRST_BASE + leads.0), omega arith, (leads.2.0, leads.2.1, omega arith))
 
@@ -130,11 +132,11 @@ stays_inside words body slots address (units.Store kind rs1 rs2 imm) runs most s
     next_start body address (units.Store kind rs1 rs2 imm) runs.ends stands refl
 stays_inside words body slots address (units.Branch cond rs1 rs2 off) runs most stands = (
   next_start body address (units.Branch cond rs1 rs2 off) runs.ends stands refl,
-  far_start body address (place_in body stands.0) off stands.2 (runs.leads stands.0 _ stands.1),
+  far_start body address (place_of body stands.0) off stands.2 (runs.leads stands.0 _ stands.1),
 )
 stays_inside words body slots address (units.Jump link off) runs most stands = (
   returns body address 4 (units.Jump link off) link runs.ends stands refl refl,
-  far_start body address (place_in body stands.0) off stands.2 (runs.leads stands.0 _ stands.1),
+  far_start body address (place_of body stands.0) off stands.2 (runs.leads stands.0 _ stands.1),
 )
 stays_inside words body slots address (units.Check link rs1 imm slot) runs most stands =
     let unit : CodeUnit = units.Check link rs1 imm slot in

@@ -9,16 +9,11 @@ use Rattle.cfi_unit.specs.Unit.{words_of, size_of}
 use Rattle.cfi_unit.proofs.CodeLemmas.{length-words_of}
 use Rattle.cfi_model.specs.Closed.{code_of}
 use Rattle.cfi_unit.specs.declared.spot.Spot.{Spot}
-use Rattle.cfi_unit.specs.Spots.{spots_of}
-use Rattle.cfi_verify.specs.Spots.{AreSpots, BeginsUnit}
-
--- the place of a unit, by its number: the words of the units before it
-abbrev pub place_in : (body : List CodeUnit) → (number : ℕ) → ℕ
-place_in body number = length (code_of (take number body))
+use Rattle.cfi_unit.specs.Spots.{spots_of, AreSpots, BeginsUnit, place_of}
 
 -- one of the units begins at the place
 abbrev pub HasUnitAt : (body : List CodeUnit) → (at : ℕ) → Type 0
-HasUnitAt body at = (number : ℕ) × (number < length body) × (at ≡ place_in body number)
+HasUnitAt body at = (number : ℕ) × (number < length body) × (at ≡ place_of body number)
 
 -- the words of one unit after others
 length-code_of : (us : List CodeUnit) (unit : CodeUnit) →
@@ -38,50 +33,15 @@ next_units body number unit here =
 
 -- the place after a unit
 pub place_more : (body : List CodeUnit) (number : ℕ) (unit : CodeUnit) → slice_get body number ≡ Some unit →
-    place_in body (number + 1) ≡ place_in body number + size_of unit
+    place_of body (number + 1) ≡ place_of body number + size_of unit
 place_more body number unit here =
     ap (λ (us : List CodeUnit). length (code_of us)) (next_units body number unit here)
     ∙ length-code_of (take number body) unit
 
 -- ---- units with their places
 
-pub length-spots_of : (a : ℕ) (code : List CodeUnit) → length (spots_of a code) ≡ length code
-length-spots_of a [] = refl
-length-spots_of a (u ∷ us) = omega (arith, length-spots_of (a + size_of u) us)
-
-pub spot_place : (a : ℕ) (code : List CodeUnit) (k : ℕ) (d : Spot) → k < length code →
-    (get_or (spots_of a code) k d).at ≡ a + place_in code k
-spot_place a [] k d within = absurd (omega (arith, within))
-spot_place a (u ∷ us) zero d within = omega arith
-spot_place a (u ∷ us) (suc k) d within =
-    omega (
-      arith,
-      spot_place (a + size_of u) us k d (omega (arith, within)),
-      length-append (words_of u) (flat_map words_of (take k us)),
-      length-words_of u,
-    )
-
 pub spot_unit : (a : ℕ) (code : List CodeUnit) (k : ℕ) (d : Spot) → k < length code →
     (get_or (spots_of a code) k d).unit ≡ get_or code k d.unit
 spot_unit a [] k d within = absurd (omega (arith, within))
 spot_unit a (u ∷ us) zero d within = refl
 spot_unit a (u ∷ us) (suc k) d within = spot_unit (a + size_of u) us k d (omega (arith, within))
-
--- where one begins, a unit of the code does
-pub begins_in : (words : List ℕ) (spots : List Spot) (are : AreSpots words spots) (at : ℕ) → BeginsUnit spots at →
-    HasUnitAt are.code at
-begins_in words spots are at b =
-    let k : ℕ = b.1.0 in
-    let same : get_or spots k b.0 ≡ get_or (spots_of 0 are.code) k b.0 =
-    ap (λ (xs : List Spot). get_or xs k b.0) are.places in
-    let inside : k < length are.code = omega (arith, b.1.1, ap length are.places, length-spots_of 0 are.code) in (
-      k,
-      inside,
-      omega (
-        arith,
-        b.2,
-        ap (λ (s : Spot). s.at) b.1.2,
-        ap (λ (s : Spot). s.at) same,
-        spot_place 0 are.code k b.0 inside,
-      ),
-    )

@@ -15,7 +15,9 @@ use Rattle.cfi_verify.specs.Target.{LeadsTo, LeadsHome, LeadsToEntry, MayLead, e
 use Rattle.cfi_verify.specs.Faults.{IsVerifiedAs}
 use Rattle.cfi_verify.proofs.SpotLemmas.{spots-rising, spots-within}
 use Rattle.cfi_bare.specs.Runnable.{IsWhole, IsRunnable}
-use Rattle.cfi_bare.proofs.PlaceLemmas.{place_in, HasUnitAt, length-spots_of, spot_place, spot_unit, begins_in}
+use Rattle.cfi_bare.proofs.PlaceLemmas.{HasUnitAt, spot_unit}
+use Rattle.cfi_unit.specs.Spots.{place_of}
+use Rattle.cfi_unit.proofs.SpotLemmas.{place_number, length-spots_of, spot_place}
 
 -- the last unit is a jump or a check that does not link
 abbrev pub EndsUnlinked : (body : List CodeUnit) → Type 0
@@ -37,7 +39,7 @@ pub record IsSound (words : List ℕ) (body : List CodeUnit) : Type 0 where
   pub code : UnitCode words body
   pub ends : EndsUnlinked body
   pub leads : (number : ℕ) (unit : CodeUnit) → slice_get body number ≡ Some unit
-      → LeadsInside body (place_in body number) unit
+      → LeadsInside body (place_of body number) unit
 
 -- the only one of a list
 only_one : (a x : ℕ) (xs : List ℕ) → xs ≡ a ∷ [] → Contains xs x → x ≡ a
@@ -65,7 +67,7 @@ module _ (m : Placed) (words : List ℕ) (whole : IsWhole m words) (spots : List
   unit_here k d within =
       ap (λ (xs : List Spot). (get_or xs k d).unit) v.laid.units.places ∙ spot_unit 0 body k d within
 
-  place_here : (k : ℕ) (d : Spot) → k < length body → (get_or spots k d).at ≡ place_in body k
+  place_here : (k : ℕ) (d : Spot) → k < length body → (get_or spots k d).at ≡ place_of body k
   place_here k d within =
       omega (arith, ap (λ (xs : List Spot). (get_or xs k d).at) v.laid.units.places, spot_place 0 body k d within)
 
@@ -113,7 +115,7 @@ module _ (m : Placed) (words : List ℕ) (whole : IsWhole m words) (spots : List
   -- ---- where units lead
 
   home : (at : ℕ) (off : ℤ) → LeadsHome m spots at off → LeadsToUnit body at off
-  home at off leads = (leads.0, leads.1, begins_in m.words spots v.laid.units leads.0 leads.2.unit)
+  home at off leads = (leads.0, leads.1, place_number m.words spots v.laid.units leads.0 leads.2.unit)
 
   -- the first word is a unit's
   entry : (at : ℕ) (off : ℤ) → LeadsToEntry m [] at off → LeadsToUnit body at off
@@ -136,7 +138,7 @@ module _ (m : Placed) (words : List ℕ) (whole : IsWhole m words) (spots : List
   inside at units.Service may = tt
 
   leads : (number : ℕ) (unit : CodeUnit) → slice_get body number ≡ Some unit →
-      LeadsInside body (place_in body number) unit
+      LeadsInside body (place_of body number) unit
   leads number unit here =
       let d : Spot = record { at = 0; unit = unit } in
       let within : number < length body = slice_get_within body number unit here in
@@ -145,7 +147,7 @@ module _ (m : Placed) (words : List ℕ) (whole : IsWhole m words) (spots : List
       v.targets number spot (slice_get-get_or spots number d (omega (arith, within, count))) in
       let same : spot.unit ≡ unit =
       unit_here number d within ∙ get_or_from_slice_get body number unit unit here in
-      inside (place_in body number) unit
+      inside (place_of body number) unit
       (subst (λ (k : ℕ). MayLead m [] spots k unit) (place_here number d within)
       (subst (λ (u : CodeUnit). MayLead m [] spots spot.at u) same may))
 

@@ -1,6 +1,6 @@
 -- Words that can run as one function at the first module's place.
 use Rattle.std.specs.Prelude.{◌≡◌, ℕ, List, [], ◌∷◌, length}
-use Rattle.cfi_word.specs.declared.layout.TheConstants.{FIRST_BASE}
+use Rattle.cfi_word.specs.declared.map.TheConstants.{FIRST_BASE}
 use Rattle.cfi_aux.specs.declared.placed.Placed.{Placed}
 use Rattle.cfi_aux.specs.declared.placed.PlacedFunction.{PlacedFunction}
 use Rattle.cfi_verify.specs.Faults.{IsVerified}

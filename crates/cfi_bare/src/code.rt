@@ -9,7 +9,7 @@ ghost use Rattle.cfi_bare.specs.declared.modules.TheConstants.{MAX_WORDS};
 use crate::image::image_of_words;
 use crate::modules::place_file;
 use cfi_aux::{Kind, Placed};
-use cfi_list::Items;
+use cfi_values::Items;
 use cfi_verify::{VerifyFault, verify};
 use cfi_word::Image;
 use std::alloc::{AllocError, Global};

@@ -6,7 +6,7 @@ ghost use Rattle.cfi_bare.specs.File.{IsAccepted, IsFirstRefusal};
 use crate::code::BareCode;
 use crate::fault::BareFault;
 use crate::modules::MAX_WORDS;
-use cfi_list::Items;
+use cfi_values::Items;
 use std::alloc::{AllocError, Global};
 
 /// The code of a bare file, or why it is refused.

@@ -4,10 +4,13 @@ ghost use Rattle.std.specs.Prelude.{◌≡◌, ◌≤◌, length, IfOk};
 ghost use Rattle.cfi_bare.specs.Image.{copies as copies_of, code_with, IsImageOf, IsClosedFile};
 ghost use Rattle.cfi_bare.specs.Runnable.{IsRunnable};
 ghost use Rattle.cfi_bare.specs.declared.modules.TheConstants.{MAX_WORDS};
-ghost use Rattle.cfi_word.specs.declared.layout.TheConstants.{MAX_CODE_WORDS};
+ghost use Rattle.cfi_word.specs.declared.limits.TheConstants.{MAX_CODE_WORDS};
 ghost use Rattle.cfi_word.specs.Table.{slots_of};
 
-use cfi_word::{FIELD_MAX, FIRST_BASE, Image, Layout, MAX_CODE_WORDS, Numbers};
+use cfi_word::{FIELD_MAX, Image, Layout};
+use cfi_values::Numbers;
+use cfi_word::limits::MAX_CODE_WORDS;
+use cfi_word::map::FIRST_BASE;
 use std::alloc::{AllocError, Global};
 
 // The number of branch slots of the largest table.

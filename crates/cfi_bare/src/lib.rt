@@ -1,7 +1,7 @@
 //! Bare files: the words of one function, which are accepted where they can run, and the image that runs them.
 //!
 //! Stands on `cfi_place`, which places the file's module, `cfi_verify`, which verifies it, `cfi_aux`, `cfi_types`,
-//! `cfi_list`, `elf_read`, `cfi_unit`, `cfi_word`, `cfi_model`, `rv_insn` and `thiserror`; `cfi_top` calls it. Proved:
+//! `cfi_values`, `elf_read`, `cfi_unit`, `cfi_word`, `cfi_model`, `rv_insn` and `thiserror`; `cfi_top` calls it. Proved:
 //! a file is accepted where no fault stands against its module, else refused for its first reason, and never both; the
 //! image of such words, also of ones with checks, is closed. Only tested: that memory is there where it is asked for.
 //! Open: nothing.

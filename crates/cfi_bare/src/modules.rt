@@ -5,12 +5,12 @@ ghost use Rattle.cfi_bare.specs.File.{AreWords};
 ghost use Rattle.cfi_bare.specs.Module.{bare_types, bare_functions, bare_object, bare_module, IsPlacedFile};
 
 use cfi_aux::{Function, Kind, Module, Placed, Records};
-use cfi_list::Items;
+use cfi_values::{Items, Bytes};
 use cfi_place::{Room, Symbols as Names, place};
 use cfi_types::{FUNC, TypeNode, TypeTable, VOID};
-use cfi_unit::DATA_START;
-use cfi_word::{FIRST_BASE, MAX_CODE_WORDS};
-use elf_read::{Bytes, Name, Object, Relocs, Symbols};
+use cfi_word::limits::MAX_CODE_WORDS;
+use cfi_word::map::{DATA_START, FIRST_BASE};
+use elf_read::{Name, Object, Relocs, Symbols};
 use std::alloc::{AllocError, Global};
 
 /// The most words of a bare file: those of the largest code from the first module's place on.

@@ -1,6 +1,6 @@
 use crate::{BareFault, accept, image_of};
 use cfi_verify::VerifyFault;
-use cfi_word::FIRST_BASE;
+use cfi_word::map::FIRST_BASE;
 use std::alloc::{AllocError, Global};
 use std::process::Abort;
 use std::test::Fail;

@@ -10,8 +10,7 @@ use Rattle.cfi_model.specs.declared.act.Act.{Act}
 use Rattle.cfi_model.specs.declared.act.Act.TheVariants as acts
 use Rattle.cfi_model.specs.declared.act.Wait.{Wait}
 use Rattle.cfi_model.specs.declared.act.Wait.TheVariants as waits
-use Rattle.cfi_unit.specs.declared.unit.TheConstants.{BARY}
-use Rattle.cfi_model.specs.declared.places.TheConstants.{TARY}
+use Rattle.cfi_word.specs.declared.map.TheConstants.{BARY, TARY}
 use Rattle.cfi_model.specs.Data.{load_width, store_width, is_aligned}
 use Rattle.cfi_model.specs.Raw.{Raw, address_of}
 use Rattle.cfi_model.specs.Begin.{Area, Private, TaryId, BaryId, Nothing, HasLoad, HasStore, HasStep, begin_as, act_as, load_at, load_act, store_at, store_act, area_of, waiting, stopped}

@@ -6,7 +6,8 @@ use Rattle.cfi_unit.specs.declared.fill.Fill.{Fill}
 use Rattle.cfi_word.specs.Table.{IsSize}
 use Rattle.cfi_model.proofs.FixedLemmas.{opened_ready}
 use Rattle.cfi_model.specs.Closed.{IsClosed, IsStartIn}
-use Rattle.cfi_model.specs.declared.places.TheConstants.{MAX_OPENS, TOO_MANY}
+use Rattle.cfi_word.specs.declared.services.TheConstants.{TOO_MANY, NO_MODULE, NO_FUNCTION}
+use Rattle.cfi_word.specs.declared.limits.TheConstants.{MAX_OPENS}
 use Rattle.cfi_model.specs.Log.{opens, last_policy}
 use Rattle.cfi_model.specs.State.{State, register}
 use Rattle.cfi_model.specs.Raw.{Raw, raw_opened}
@@ -19,7 +20,6 @@ use Rattle.cfi_model.specs.History.{History, IsStart, fixed}
 use Rattle.cfi_model.specs.Fits.{Fits, FitsReply, FitsOpen, Along}
 use Rattle.cfi_model.proofs.AdvanceLemmas.{Running}
 use Rattle.cfi_model.proofs.ShownLemmas.{reached}
-use Rattle.cfi_fixed.specs.declared.serve.TheConstants.{NO_MODULE, NO_FUNCTION}
 use Rattle.cfi_fixed.specs.Fixed.{IsWordTake, IsRunOver, CanRunOver, HasRunOver}
 use Rattle.cfi_fixed.specs.Bare.{bare_cause, bare_reply, AreBareTakes, IsBarePath, IsResting, IsAsking, ComesTo}
 use Rattle.cfi_fixed.proofs.WayLemmas.{run_snoc, along_snoc}

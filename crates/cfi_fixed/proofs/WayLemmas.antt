@@ -7,7 +7,7 @@ use Rattle.rv_insn.specs.InsnOf.{insn_of}
 use Rattle.cfi_unit.specs.declared.log.Stop.{Stop}
 use Rattle.cfi_unit.specs.declared.log.Stop.TheVariants as stops
 use Rattle.cfi_word.specs.declared.lists.Image.{Image}
-use Rattle.cfi_word.specs.declared.word.TheConstants.{MAX_VERSIONS}
+use Rattle.cfi_word.specs.declared.limits.TheConstants.{MAX_VERSIONS}
 use Rattle.cfi_word.specs.Ids.{IsField}
 use Rattle.cfi_word.specs.Word.{IsPackable, epoch_in}
 use Rattle.cfi_model.specs.declared.act.Wait.{Wait}

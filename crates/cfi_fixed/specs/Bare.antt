@@ -2,7 +2,8 @@
 use Rattle.std.specs.Prelude.{◌≡◌, ◌≢◌, ℕ, ◌≤◌, ◌==◌, nat_lt, if◌then◌else◌, List, [], ◌∷◌, Option, Some, None, ⊤}
 use Rattle.cfi_word.specs.declared.lists.Image.{Image}
 use Rattle.cfi_model.specs.declared.act.Wait.TheVariants as waits
-use Rattle.cfi_model.specs.declared.places.TheConstants.{MAX_OPENS, TOO_MANY}
+use Rattle.cfi_word.specs.declared.services.TheConstants.{TOO_MANY, NO_MODULE, NO_FUNCTION}
+use Rattle.cfi_word.specs.declared.limits.TheConstants.{MAX_OPENS}
 use Rattle.cfi_model.specs.Log.{opens, last_policy}
 use Rattle.cfi_model.specs.State.{State}
 use Rattle.cfi_model.specs.Service.{Reply, reply_of, argument}
@@ -11,7 +12,6 @@ use Rattle.cfi_model.specs.Run.{Take, Word, Served, take_one, run_of}
 use Rattle.cfi_model.specs.History.{fixed}
 use Rattle.cfi_model.specs.Fits.{Along}
 use Rattle.rv_guest.specs.Guest.{spent}
-use Rattle.cfi_fixed.specs.declared.serve.TheConstants.{NO_MODULE, NO_FUNCTION}
 use Rattle.cfi_fixed.specs.Fixed.{CanRunOver}
 
 -- the cause of an open's refusal: the one module, whose number is 0, has no function, and there is no other

@@ -3,7 +3,7 @@ use Rattle.std.specs.Prelude.{◌≡◌, ◌≢◌, ℕ, ◌/◌, ◌<◌, ◌�
 use Rattle.std.specs.List.{AllByRecursion}
 use Rattle.cfi_unit.specs.declared.log.Stop.TheVariants.{Fuel}
 use Rattle.cfi_word.specs.declared.lists.Image.{Image}
-use Rattle.cfi_word.specs.declared.word.TheConstants.{MAX_VERSIONS}
+use Rattle.cfi_word.specs.declared.limits.TheConstants.{MAX_VERSIONS}
 use Rattle.cfi_word.specs.Ids.{IsField}
 use Rattle.cfi_word.specs.Word.{packed}
 use Rattle.cfi_word.specs.Table.{IsSize}

@@ -1,11 +1,12 @@
 ghost use Rattle.std.specs.Prelude.{◌≡◌, ◌<◌, ◌^◌, ℕ, slice_index};
 ghost use Rattle.cfi_word.specs.Ids.{IsField};
 ghost use Rattle.cfi_word.specs.Word.{packed};
-ghost use Rattle.cfi_word.specs.declared.word.TheConstants.{MAX_VERSIONS};
+ghost use Rattle.cfi_word.specs.declared.limits.TheConstants.{MAX_VERSIONS};
 ghost use Rattle.cfi_model.specs.Run.{finish_of};
 ghost use Rattle.cfi_fixed.specs.Fixed.{CanRunOver, HasRunOver, MayFind, table_word};
 
-use cfi_word::{Image, MAX_VERSIONS, Word};
+use cfi_word::{Image, Word};
+use cfi_word::limits::MAX_VERSIONS;
 use rv_guest::{Act, Guest, Wait};
 
 // The class at a place of a list, 0 past its end.

@@ -11,4 +11,4 @@ pub mod laws;
 mod serve;
 
 pub use fixed::run_fixed;
-pub use serve::{NO_FUNCTION, NO_MODULE, serve_bare};
+pub use serve::serve_bare;

@@ -3,14 +3,9 @@ ghost use Rattle.cfi_model.specs.Log.{last_policy};
 ghost use Rattle.cfi_model.specs.Run.{serve_of};
 ghost use Rattle.cfi_fixed.specs.Bare.{bare_cause, bare_reply};
 
-use cfi_model::{EXIT, MAX_OPENS, OPEN, PUT, TOO_MANY};
+use cfi_word::services::{NO_FUNCTION, NO_MODULE, EXIT, OPEN, PUT, TOO_MANY};
+use cfi_word::limits::MAX_OPENS;
 use rv_guest::{Answer, Guest, Wait};
-
-/// The cause of an open's refusal where the plan has no such module.
-pub const NO_MODULE: u32 = 1;
-
-/// The cause of an open's refusal where the module has no function to be opened.
-pub const NO_FUNCTION: u32 = 8;
 
 // Why an open is refused.
 fn cause_of(guest: &Guest) -> u32

@@ -9,13 +9,14 @@ use Rattle.cfi_unit.specs.declared.unit.Unit.TheVariants as units
 use Rattle.cfi_unit.specs.Unit.{words_of, size_of}
 use Rattle.cfi_unit.proofs.UnitLemmas.{size_pos}
 use Rattle.cfi_unit.proofs.CodeLemmas.{length-words_of}
-use Rattle.cfi_word.specs.declared.layout.TheConstants.{MAX_CODE_WORDS}
+use Rattle.cfi_word.specs.declared.limits.TheConstants.{MAX_CODE_WORDS}
 use Rattle.cfi_aux.specs.declared.placed.Placed.{Placed}
 use Rattle.cfi_aux.specs.declared.placed.PlacedFunction.{PlacedFunction}
 use Rattle.cfi_aux.specs.declared.records.Kind.{Kind}
 use Rattle.cfi_aux.specs.declared.records.Kind.TheVariants as kinds
 use Rattle.cfi_graph.specs.declared.fact.TheConstants.{CHECK_WORDS}
-use Rattle.cfi_graph.specs.Code.{place_of, Stands}
+use Rattle.cfi_graph.specs.Code.{Stands}
+use Rattle.cfi_unit.specs.Spots.{place_of}
 use Rattle.cfi_graph.specs.Calls.{HasKind}
 use Rattle.cfi_graph.specs.Shaped.{slot_of, IsPart, IsPlace, IsNamed, IsShaped}
 use Rattle.cfi_graph.specs.Reading.{NamesInside}

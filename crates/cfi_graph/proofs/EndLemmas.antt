@@ -4,15 +4,16 @@ use Rattle.std.specs.Prelude.{slice_get}
 use Rattle.std.specs.List.{Contains, AllByRecursion}
 use Rattle.std.proofs.lemmas.Option.{none-some, same_Some, slice_get_within}
 use Rattle.std.proofs.lemmas.List.Elements.{All-contains}
-use Rattle.cfi_unit.specs.declared.unit.TheConstants.{SLOTS}
+use Rattle.cfi_word.specs.declared.sizes.TheConstants.{SLOTS}
 use Rattle.cfi_unit.specs.declared.unit.Unit.{Unit as CodeUnit}
 use Rattle.cfi_unit.specs.declared.unit.Unit.TheVariants as units
 use Rattle.cfi_unit.specs.Unit.{IsUnit, size_of}
-use Rattle.cfi_word.specs.declared.layout.TheConstants.{MAX_CODE_WORDS}
+use Rattle.cfi_word.specs.declared.limits.TheConstants.{MAX_CODE_WORDS}
 use Rattle.cfi_aux.specs.declared.placed.Placed.{Placed}
 use Rattle.cfi_aux.specs.declared.records.Kind.{Kind}
 use Rattle.cfi_aux.specs.declared.records.Kind.TheVariants as kinds
-use Rattle.cfi_graph.specs.Code.{place_of, Stands}
+use Rattle.cfi_graph.specs.Code.{Stands}
+use Rattle.cfi_unit.specs.Spots.{place_of}
 use Rattle.cfi_graph.specs.Calls.{HasKind}
 use Rattle.cfi_graph.specs.Shaped.{IsPlace, IsNamed, IsShaped, AreApart}
 use Rattle.cfi_graph.specs.Direct.{IsPointee, IsReturnTarget, GoesTo, DirectEdge}

@@ -1,5 +1,4 @@
 pub mod ShapeLemmas
-pub mod SpotLemmas
 mod AddsLemmas
 mod PlaceLemmas
 mod FactLemmas

@@ -10,8 +10,8 @@ use Rattle.cfi_aux.specs.declared.placed.Placed.{Placed}
 use Rattle.cfi_aux.specs.declared.placed.PlacedFunction.{PlacedFunction}
 use Rattle.cfi_unit.specs.declared.spot.Spot.{Spot}
 use Rattle.cfi_graph.specs.declared.fact.Fact.{Fact}
-use Rattle.cfi_graph.specs.Code.{place_of, Stands}
-use Rattle.cfi_unit.specs.Spots.{spots_of}
+use Rattle.cfi_graph.specs.Code.{Stands}
+use Rattle.cfi_unit.specs.Spots.{place_of, spots_of}
 use Rattle.cfi_graph.specs.Facts.{IsUnitFact, IsFunctionFact, UnitTells, FunctionTells, ModuleTells, AreFacts, Adds}
 use Rattle.cfi_graph.proofs.AddsLemmas.{TellsBelow, adds_as, adds_all}
 use Rattle.cfi_graph.proofs.BoundLemmas.{place_next, contains_at, at_contains}

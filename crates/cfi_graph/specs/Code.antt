@@ -7,10 +7,7 @@ use Rattle.cfi_unit.specs.Unit.{words_of}
 use Rattle.cfi_unit.specs.Code.{UnitCode}
 use Rattle.cfi_aux.specs.declared.placed.Placed.{Placed}
 use Rattle.cfi_aux.specs.declared.placed.PlacedFunction.{PlacedFunction}
-
--- the word at which a unit of a list begins, by the unit's number; the list's length gives the end
-abbrev pub place_of : List CodeUnit → (number : ℕ) → ℕ
-place_of code number = length (flat_map words_of (take number code))
+use Rattle.cfi_unit.specs.Spots.{place_of}
 
 -- the module's code has the unit at the word
 pub record Stands (m : Placed) (at : ℕ) (unit : CodeUnit) : Type 0 where

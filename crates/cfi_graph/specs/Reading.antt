@@ -1,7 +1,7 @@
 -- What may be read of placed modules: the classes of their types are numbers that nodes can have.
 use Rattle.std.specs.Prelude.{◌≡◌, ℕ, ◌+◌, ◌*◌, ◌<◌, ◌^◌, List, [], length, map, slice_get, slice_index_or, Some, All, ⊤}
 use Rattle.std.specs.List.{flat_map}
-use Rattle.cfi_word.specs.declared.layout.TheConstants.{MAX_CODE_WORDS}
+use Rattle.cfi_word.specs.declared.limits.TheConstants.{MAX_CODE_WORDS}
 use Rattle.cfi_types.specs.Node.{Node}
 use Rattle.cfi_types.specs.Spelling.{AreTypes}
 use Rattle.cfi_aux.specs.declared.placed.Placed.{Placed}

@@ -4,12 +4,13 @@ use Rattle.std.specs.List.{filter_map, AllPairs}
 use Rattle.cfi_unit.specs.declared.unit.Unit.{Unit as CodeUnit}
 use Rattle.cfi_unit.specs.declared.unit.Unit.TheVariants as units
 use Rattle.cfi_unit.specs.Code.{UnitCode}
-use Rattle.cfi_word.specs.declared.layout.TheConstants.{FIRST_BASE, MAX_CODE_WORDS}
+use Rattle.cfi_word.specs.declared.map.TheConstants.{FIRST_BASE}
+use Rattle.cfi_word.specs.declared.limits.TheConstants.{MAX_CODE_WORDS}
 use Rattle.cfi_aux.specs.declared.placed.Placed.{Placed}
 use Rattle.cfi_aux.specs.declared.placed.PlacedFunction.{PlacedFunction}
 use Rattle.cfi_aux.specs.declared.records.Kind.{Kind}
 use Rattle.cfi_aux.specs.declared.records.Kind.TheVariants.{Call, Tail, Return, Switch}
-use Rattle.cfi_graph.specs.Code.{place_of}
+use Rattle.cfi_unit.specs.Spots.{place_of}
 
 -- the slot of a check
 abbrev pub slot_of : CodeUnit → Option ℕ

@@ -2,7 +2,7 @@
 
 ghost use Rattle.std.specs.Prelude.{◌≡◌, ℕ, ◌+◌, ◌*◌, ◌<◌, ◌≤◌, ◌++◌, List, length, map, All, OnOk};
 ghost use Rattle.std.specs.List.{AllPairs};
-ghost use Rattle.cfi_word.specs.declared.layout.TheConstants.{MAX_CODE_WORDS};
+ghost use Rattle.cfi_word.specs.declared.limits.TheConstants.{MAX_CODE_WORDS};
 ghost use Rattle.cfi_aux.specs.declared.records.Kind.TheVariants.{Call, Tail, Return, Switch};
 ghost use Rattle.cfi_graph.specs.declared.fact.TheConstants.{CHECK_WORDS};
 ghost use Rattle.cfi_graph.specs.Shaped.{Precedes};

@@ -12,7 +12,8 @@ use crate::facts::facts_of;
 use cfi_aux::Placed;
 use cfi_flow::{Flow, all_edges, few_edges};
 use cfi_types::{Classes, TypeBook};
-use cfi_word::{Edge, MAX_CODE_WORDS};
+use cfi_word::Edge;
+use cfi_word::limits::MAX_CODE_WORDS;
 use std::alloc::{AllocError, Global};
 
 // The classes of the modules' types.

@@ -2,7 +2,7 @@
 
 ghost use Rattle.std.specs.Prelude.{◌≡◌, ◌+◌, ◌<◌, ◌^◌, length, Some, IfOk, OnOk};
 ghost use Rattle.std.specs.List.{AllPairs, Contains};
-ghost use Rattle.cfi_word.specs.declared.layout.TheConstants.{MAX_CODE_WORDS};
+ghost use Rattle.cfi_word.specs.declared.limits.TheConstants.{MAX_CODE_WORDS};
 ghost use Rattle.cfi_graph.specs.Shaped.{Precedes, slot_of};
 ghost use Rattle.cfi_graph.specs.Code.{Stands};
 ghost use Rattle.cfi_graph.specs.Facts.{IsJumpFact, IsUnitFact, IsFunctionFact, UnitTells, FunctionTells, ModuleTells, AreFacts, Adds};

@@ -2,7 +2,7 @@
 
 ghost use Rattle.std.specs.Prelude.{◌≡◌, ℕ, ◌<◌, ◌≤◌, ◌^◌, [], length, slice_index_or, IfSome, IsSomeAnd, Some};
 ghost use Rattle.std.specs.List.{AllPairs};
-ghost use Rattle.cfi_word.specs.declared.layout.TheConstants.{MAX_CODE_WORDS};
+ghost use Rattle.cfi_word.specs.declared.limits.TheConstants.{MAX_CODE_WORDS};
 ghost use Rattle.cfi_aux.specs.declared.records.Kind.{Kind};
 ghost use Rattle.cfi_graph.specs.Shaped.{Precedes};
 ghost use Rattle.cfi_graph.specs.Calls.{HasKind};
@@ -10,7 +10,7 @@ ghost use Rattle.cfi_graph.specs.Facts.{LeadsToWord, IsFirst, type_node};
 
 use cfi_aux::{Kind, Placed, PlacedFunction};
 use cfi_types::Classes;
-use cfi_word::MAX_CODE_WORDS;
+use cfi_word::limits::MAX_CODE_WORDS;
 
 // The code word that an offset leads to from another, where it leads to one.
 pub(crate) fn word_to(at: u32, off: i32) -> Option<u32>

@@ -25,19 +25,15 @@ use Rattle.cfi_instr.specs.Units.{units_at, units_of, AllSpell}
 use Rattle.cfi_instr.specs.Moves.{moved_symbol, moved_reloc, moved_function, moved_kind}
 use Rattle.cfi_instr.specs.Output.{IsPlan, IsText, AreMoved}
 use Rattle.cfi_instr.proofs.SpellLemmas.{all-spelled}
+use Rattle.cfi_unit.proofs.CodeLemmas.{AllByRecursion-append}
 
 -- ---- text
-
-append-all : (xs ys : List CodeUnit) → AllByRecursion IsUnit xs → AllByRecursion IsUnit ys
-    → AllByRecursion IsUnit (xs ++ ys)
-append-all [] ys all more = more
-append-all (x ∷ xs) ys all more = (all.0, append-all xs ys all.1 more)
 
 joined-all : (give : ℕ → List CodeUnit) (n : ℕ) → ((w : ℕ) → w < n → AllByRecursion IsUnit (give w))
     → AllByRecursion IsUnit (joined give n)
 joined-all give zero all = tt
 joined-all give (suc n) all =
-    append-all (joined give n) (give n) (joined-all give n (λ w lt. all w (omega arith))) (all n (omega arith))
+    AllByRecursion-append (joined give n) (give n) (joined-all give n (λ w lt. all w (omega arith))) (all n (omega arith))
 
 pub text-is : (m : Module) (t : Words) (long : List Bool) (offsets text : List ℕ) → words_in m.object ≡ t
     → AllSpell t m.object.symbols long offsets

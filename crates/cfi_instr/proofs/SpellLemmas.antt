@@ -8,7 +8,7 @@ use Rattle.rv_insn.specs.declared.insn.Insn.{Insn}
 use Rattle.rv_insn.specs.declared.insn.Insn.TheVariants as insns
 use Rattle.rv_insn.specs.Word.{IsSigned, IsEven}
 use Rattle.rv_insn.specs.Insn.{InRange}
-use Rattle.cfi_unit.specs.declared.unit.TheConstants.{SLOTS}
+use Rattle.cfi_word.specs.declared.sizes.TheConstants.{SLOTS}
 use Rattle.cfi_unit.specs.Unit.{IsUnit}
 use Rattle.cfi_items.specs.declared.target.Aim.{Aim}
 use Rattle.cfi_items.specs.declared.target.Aim.TheVariants as aims

@@ -5,7 +5,7 @@ use Rattle.rv_insn.specs.declared.insn.Insn.{Insn}
 use Rattle.rv_insn.specs.declared.insn.Insn.TheVariants as insns
 use Rattle.rv_insn.specs.Word.{IsSigned, IsEven}
 use Rattle.rv_insn.specs.Insn.{InRange}
-use Rattle.cfi_unit.specs.declared.unit.TheConstants.{SLOTS}
+use Rattle.cfi_word.specs.declared.sizes.TheConstants.{SLOTS}
 use Rattle.cfi_unit.specs.Unit.{IsFree, IsUnit}
 use Rattle.cfi_items.specs.Insns.{is_taken, is_reserved, is_trap, is_branch}
 use Rattle.cfi_instr.specs.Units.{distance, unit_of, over}

@@ -1,6 +1,6 @@
 //! The instrumenter: a module whose accesses are masked and whose indirect jumps are checked.
 //!
-//! Stands on `cfi_items`, `cfi_unit`, `cfi_aux`, `cfi_types`, `cfi_list`, `elf_read`, `rv_insn` and `rv_words`. Proved:
+//! Stands on `cfi_items`, `cfi_unit`, `cfi_aux`, `cfi_types`, `cfi_values`, `elf_read`, `rv_insn` and `rv_words`. Proved:
 //! `instrument` gives the module of `specs/Output.antt`, whose long branches are the least set that is enough, or the
 //! first fault. Only tested: that ample memory is enough, and words against an assembler. Open: when memory runs out.
 #![tactic(auto)]

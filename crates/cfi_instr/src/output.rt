@@ -16,9 +16,9 @@ use crate::records::{moved_functions, moved_kinds};
 use crate::text::words_of;
 use cfi_aux::{Module, Records, write_records};
 use cfi_items::{InstrFault, Source, read_items};
-use cfi_list::Items;
+use cfi_values::{Items, Bytes};
 use cfi_types::write_types;
-use elf_read::{Bytes, Object, Relocs, Symbols};
+use elf_read::{Object, Relocs, Symbols};
 use rv_words::bytes_of;
 use std::alloc::{AllocError, Global};
 

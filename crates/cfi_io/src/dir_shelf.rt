@@ -1,10 +1,11 @@
 //! The files of the current folder as a shelf.
 ghost use Rattle.std.specs.Prelude.{◌≡◌, ◌≤◌, ◌<◌, ℕ, length, None, vec_len, IfOk};
-ghost use Rattle.cfi_io.specs.declared.shelf.TheConstants.{MAX_FILE_BYTES};
+ghost use Rattle.cfi_word.specs.declared.limits.TheConstants.{MAX_FILE_BYTES};
 
 use crate::count::raise;
 use crate::pipe::{read_file, write_file};
-use crate::{MAX_FILE_BYTES, Shelf, ShelfFault};
+use crate::{Shelf, ShelfFault};
+use cfi_word::limits::MAX_FILE_BYTES;
 use std::alloc::Global;
 use std::io::ErrorKind;
 use std::{fs, io};

@@ -21,7 +21,7 @@ pub use fault::{ShelfFault, SinkFault};
 pub use gate::{Gate, QuietGate};
 pub use mem_shelf::MemShelf;
 pub use mem_sink::MemSink;
-pub use shelf::{MAX_FILE_BYTES, Shelf};
+pub use shelf::Shelf;
 pub use sink::Sink;
 pub use std_sink::StdSink;
 

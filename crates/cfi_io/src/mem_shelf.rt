@@ -1,14 +1,15 @@
 //! A shelf in memory, some of whose calls fail.
 ghost use Rattle.std.specs.Prelude.{◌≡◌, ◌≢◌, ◌≤◌, ◌<◌, length, Some, Contains, vec_len, IfOk, OnOk, OnErr, IsErrOf, IsSomeAnd};
 ghost use Rattle.std.specs.Option.{option_map};
-ghost use Rattle.cfi_io.specs.declared.shelf.TheConstants.{MAX_FILE_BYTES};
+ghost use Rattle.cfi_word.specs.declared.limits.TheConstants.{MAX_FILE_BYTES};
 ghost use Rattle.cfi_io.specs.declared.fault.ShelfFault.TheVariants.{Failed, Absent, TooLong, Memory};
 ghost use Rattle.cfi_io.specs.Count.{Rose, next_count};
 ghost use Rattle.cfi_io.specs.Files.{Puts, PutsPart};
 ghost use Rattle.cfi_io.specs.Held.{files_of, files_held, shelf_calls, shelf_fails, shelf_faults, shelf_misses};
 
 use crate::count::{Calls, raise};
-use crate::{MAX_FILE_BYTES, Shelf, ShelfFault};
+use crate::{Shelf, ShelfFault};
+use cfi_word::limits::MAX_FILE_BYTES;
 use std::alloc::Global;
 
 /// Files in memory, which tells them. Its calls are numbered from 0.

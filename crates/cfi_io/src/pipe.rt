@@ -1,10 +1,10 @@
 //! Loops over single reads and writes of the system.
 ghost use Rattle.std.specs.Prelude.{◌≡◌, ◌≤◌, ◌+◌, take, vec_len, IfOk, OnOk, OnErr};
 ghost use Rattle.std.specs.Io.KnownBytes.{Appends};
-ghost use Rattle.cfi_io.specs.declared.shelf.TheConstants.{MAX_FILE_BYTES};
+ghost use Rattle.cfi_word.specs.declared.limits.TheConstants.{MAX_FILE_BYTES};
 ghost use Rattle.cfi_io.specs.Told.{WhereTold, AppendsPrefix};
 
-use crate::MAX_FILE_BYTES;
+use cfi_word::limits::MAX_FILE_BYTES;
 use std::alloc::Global;
 use std::io;
 use std::io::{Read, Write};

@@ -1,15 +1,12 @@
 //! A shelf of files, each of which has a name.
 ghost use Rattle.std.specs.Prelude.{◌≡◌, ◌≤◌, ◌<◌, ℕ, length, Option, vec_len, IfOk, OnOk, IsErrOf, IsSomeAnd};
-ghost use Rattle.cfi_io.specs.declared.shelf.TheConstants.{MAX_FILE_BYTES};
+ghost use Rattle.cfi_word.specs.declared.limits.TheConstants.{MAX_FILE_BYTES};
 ghost use Rattle.cfi_io.specs.declared.fault.ShelfFault.TheVariants.{Failed, Absent, TooLong, Memory};
 ghost use Rattle.cfi_io.specs.Count.{Rose};
 ghost use Rattle.cfi_io.specs.Files.{Files, Puts, PutsPart};
 ghost use Rattle.cfi_io.specs.Told.{WhereTold, WhereKeptTold};
 
 use crate::ShelfFault;
-
-/// The most bytes that a file has where it is read.
-pub const MAX_FILE_BYTES: usize = 1048576;
 
 /// Files by name.
 ///

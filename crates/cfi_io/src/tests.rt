@@ -6,6 +6,7 @@ ghost use Rattle.cfi_io.specs.declared.tests.ShowFault.TheVariants.{Read, Write}
 ghost use Rattle.cfi_io.specs.declared.fault.ShelfFault.TheVariants.{Failed as ShelfFailed, Absent};
 ghost use Rattle.cfi_io.specs.declared.fault.SinkFault.TheVariants.{Failed as SinkFailed};
 
+use cfi_word::limits::MAX_FILE_BYTES;
 use super::*;
 use std::alloc::{AllocError, Global};
 use std::fs;

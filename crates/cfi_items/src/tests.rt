@@ -1,9 +1,9 @@
 use super::*;
 use cfi_aux::{Function, Kind, Module, Records};
-use cfi_list::Items;
+use cfi_values::{Items, Bytes};
 use cfi_types::TypeTable;
 use elf_read::relocation::{CALL, CALL_PLT, JAL, LO12_I};
-use elf_read::{Area, Binding, Bytes, Name, Object, Place, Reloc, Relocs, Symbol, Symbols};
+use elf_read::{Area, Binding, Name, Object, Place, Reloc, Relocs, Symbol, Symbols};
 use std::alloc::{AllocError, Global};
 use std::process::Abort;
 use std::test::Fail;

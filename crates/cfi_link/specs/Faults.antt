@@ -3,11 +3,9 @@ use Rattle.std.specs.Prelude.{◌≡◌, ℕ, ◌*◌, ◌/◌, ◌%◌, ◌<◌
 use Rattle.std.specs.List.{list_any, slice_get}
 use Rattle.elf_read.specs.declared.fault.Limit.{Limit}
 use Rattle.elf_read.specs.declared.fault.Limit.TheVariants as limits
-use Rattle.elf_read.specs.declared.join.TheConstants.{MAX_SYMBOLS, MAX_RELOCS, MAX_WORDS, MAX_DATA}
-use Rattle.cfi_types.specs.declared.kind.TheConstants.{MAX_NODES}
+use Rattle.cfi_word.specs.declared.limits.TheConstants.{MAX_SYMBOLS, MAX_RELOCS, MAX_WORDS, MAX_DATA, MAX_NODES, MAX_FUNCTIONS, MAX_BRANCHES}
 use Rattle.cfi_unit.specs.declared.unit.Unit.{Unit as CodeUnit}
 use Rattle.cfi_unit.specs.Code.{BeginsAt, UnitCode}
-use Rattle.cfi_aux.specs.declared.format.TheConstants.{MAX_FUNCTIONS, MAX_BRANCHES}
 use Rattle.cfi_aux.specs.declared.modules.Module.{Module}
 use Rattle.cfi_place.specs.Placed.{words_in}
 use Rattle.cfi_link.specs.declared.fault.LinkFault.{LinkFault}
@@ -16,6 +14,7 @@ use Rattle.cfi_link.specs.declared.fault.LinkFault.TheVariants as faults
 use Rattle.cfi_link.specs.Joined.{Joined, joined_of}
 use Rattle.cfi_link.specs.Chosen.{chosen_in, twice_in, reaches_of}
 use Rattle.cfi_link.specs.Applied.{applied_from}
+use Rattle.cfi_unit.specs.Spots.{AreUnits, StopsAt}
 
 -- ---- texts
 
@@ -23,17 +22,7 @@ use Rattle.cfi_link.specs.Applied.{applied_from}
 abbrev pub has_text : List Module → Bool
 has_text modules = list_any (λ m. not (length m.object.text == 0)) modules
 
--- the words are units from their start to their end
-pub record AreUnits (words : List ℕ) : Type 0 where
-  pub code : List CodeUnit
-  pub units : UnitCode words code
-
--- the words before the place `at` are units, and none begins there
-pub record StopsAt (words : List ℕ) (at : ℕ) : Type 0 where
-  pub within : at < length words
-  pub before : AreUnits (take at words)
-  pub stops : (unit : CodeUnit) → BeginsAt words at unit → ⊥
-
+-- its text is units from its start to its end
 abbrev pub HasUnits : Module → Type 0
 HasUnits m = AreUnits (words_in m.object.text)
 

@@ -1,6 +1,6 @@
 //! Modules linked into one: joined in order, with one definition of each name.
 //!
-//! Stands on `cfi_place`, `rv_reloc`, `rv_words`, `cfi_aux`, `cfi_unit`, `cfi_list`, `elf_read`, `cfi_types`,
+//! Stands on `cfi_place`, `rv_reloc`, `rv_words`, `cfi_aux`, `cfi_unit`, `cfi_values`, `elf_read`, `cfi_types`,
 //! `thiserror`, and in tests on `elf_write`. Proved: `link` answers exactly what `specs/Linked.antt` says, or the first
 //! fault, and what it answers breaks no rule of modules. Only tested: that ample memory is enough, and words against an
 //! assembler. Open: when memory runs out.
@@ -27,4 +27,3 @@ mod texts;
 
 pub use fault::LinkFault;
 pub use linking::link;
-pub use start::DATA_ALIGNMENT;

@@ -6,9 +6,9 @@ ghost use Rattle.cfi_link.specs.Faults.{sizes_of, unless_above, passed, passed_b
 ghost use Rattle.cfi_link.specs.Capped.{capped_sizes, with_sizes};
 
 use crate::start::gap;
-use cfi_aux::{MAX_BRANCHES, MAX_FUNCTIONS, Module};
-use cfi_types::MAX_NODES;
-use elf_read::{Limit, MAX_DATA, MAX_RELOCS, MAX_SYMBOLS, MAX_WORDS};
+use cfi_aux::Module;
+use cfi_word::limits::{MAX_BRANCHES, MAX_FUNCTIONS, MAX_NODES, MAX_DATA, MAX_RELOCS, MAX_SYMBOLS, MAX_WORDS};
+use elf_read::Limit;
 
 /// How much modules have together.
 #[derive(Clone, Copy, Debug, PartialEq, Eq)]

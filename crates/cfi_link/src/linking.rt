@@ -21,10 +21,10 @@ use crate::reach::reaches_of;
 use crate::settled::{in_order, settled};
 use crate::texts::check_texts;
 use cfi_aux::{Module, Records, write_records};
-use cfi_list::Items;
+use cfi_values::{Items, Bytes};
 use cfi_place::placed_words;
 use cfi_types::{TypeTable, write_types};
-use elf_read::{Bytes, Object, Reloc, Relocs, Symbol, Symbols};
+use elf_read::{Object, Reloc, Relocs, Symbol, Symbols};
 use rv_words::bytes_of;
 use std::alloc::{AllocError, Global};
 

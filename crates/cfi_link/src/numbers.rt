@@ -1,7 +1,7 @@
 //! The numbers that symbols get when local ones come before all others.
 
 ghost use Rattle.std.specs.Prelude.{◌≡◌, ◌≤◌, count_by, length, IfOk};
-ghost use Rattle.elf_read.specs.declared.join.TheConstants.{MAX_SYMBOLS};
+ghost use Rattle.cfi_word.specs.declared.limits.TheConstants.{MAX_SYMBOLS};
 ghost use Rattle.cfi_link.specs.Chosen.{is_local_symbol, numbers_of};
 
 use crate::settled::is_local;

@@ -5,7 +5,7 @@ ghost use Rattle.cfi_link.specs.Joined.{shifted, function_at, branch_at};
 
 use crate::start::Start;
 use cfi_aux::{Function, Kind};
-use cfi_list::Items;
+use cfi_values::Items;
 use elf_read::Name;
 use std::alloc::{AllocError, Global};
 

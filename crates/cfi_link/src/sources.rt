@@ -7,9 +7,8 @@ ghost use Rattle.cfi_aux.specs.Records.{CanBeWritten};
 
 use crate::{LinkFault, link};
 use cfi_aux::{Module, module_of, read_can_be_written, what_is_read_is_sound};
-use elf_read::{
-    Area, Binding, Bytes, Name, Object, Place, Reloc, Relocs, Symbol, Symbols, read_object,
-};
+use elf_read::{Area, Binding, Name, Object, Place, Reloc, Relocs, Symbol, Symbols, read_object};
+use cfi_values::Bytes;
 use elf_write::{is_within_limits, write_object};
 use std::alloc::{AllocError, Global};
 use std::process::Abort;

@@ -3,8 +3,7 @@
 ghost use Rattle.std.specs.Prelude.{◌≡◌};
 ghost use Rattle.cfi_link.specs.Gap.{gap};
 
-/// The data of each module begins at a multiple of this number of bytes.
-pub const DATA_ALIGNMENT: usize = 16;
+use cfi_word::map::DATA_ALIGNMENT;
 
 /// Where a module begins among joined ones.
 #[derive(Clone, Copy, Debug, PartialEq, Eq)]

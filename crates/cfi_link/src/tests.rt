@@ -1,7 +1,8 @@
 use crate::sources::{Source, bytes_of, link_two, outcome, shown, text_reloc};
 use cfi_aux::Module;
 use elf_read::relocation::{BRANCH, HI20, JAL, WORD};
-use elf_read::{Area, Binding, Bytes, Place, Reloc};
+use elf_read::{Area, Binding, Place, Reloc};
+use cfi_values::Bytes;
 use std::alloc::{AllocError, Global};
 use std::process::Abort;
 use std::test::Fail;

@@ -1,29 +1,27 @@
 //! Whether the texts of modules are units from their start to their end.
 
-ghost use Rattle.std.specs.Prelude.{◌≡◌, ◌<◌, ◌^◌, All, length, IfSome, IfNone, IfErr, OnOk};
+ghost use Rattle.std.specs.Prelude.{◌≡◌, ◌<◌, ◌^◌, All, length, IfOk, IfSome, IfNone, IfErr, OnOk};
 ghost use Rattle.cfi_link.specs.Kept.{IsTextFault};
-ghost use Rattle.cfi_link.specs.Faults.{has_text, AreUnits, StopsAt, HaveTexts};
+ghost use Rattle.cfi_link.specs.Faults.{has_text, HaveTexts};
+ghost use Rattle.cfi_unit.specs.Spots.{AreUnits, StopsAt};
 
 use crate::fault::LinkFault;
 use cfi_aux::Module;
 use cfi_place::words_of;
-use cfi_unit::next_unit;
-use std::alloc::Global;
+use cfi_unit::{ReadFault, read_units};
+use std::alloc::{AllocError, Global};
 
 // The first word at which units that are read from the first word on stop, where that is not the end.
-fn stray_word(words: &[u32]) -> Option<u32>
+fn stray_word(alloc: Global, words: &[u32]) -> Result<Option<u32>, AllocError>
     requires { length words.now < 2 ^ 30 }
-    ensures some { IfSome result (StopsAt words.now) }
-    ensures none { IfNone result (AreUnits words.now) }
+    ensures some { IfOk result (λ found. IfSome found (StopsAt words.now)) }
+    ensures none { IfOk result (λ found. IfNone found (AreUnits words.now)) }
 {
-    let mut at = 0;
-    while at < words.len() as u32 {
-        let Some((_, size)) = next_unit(words, at) else {
-            return Some(at);
-        };
-        at += size;
+    match read_units(alloc, words) {
+        Ok(_) => Ok(None),
+        Err(ReadFault::Stops(at)) => Ok(Some(at)),
+        Err(ReadFault::Memory) => Err(AllocError),
     }
-    None
 }
 
 // Whether some module has a word of text.
@@ -45,7 +43,7 @@ pub fn check_texts(alloc: Global, modules: &[Module]) -> Result<(), LinkFault>
     }
     for (number, one) in modules.iter().enumerate() {
         let words = words_of(alloc, one.object.text.as_slice())?;
-        if let Some(at) = stray_word(&words) {
+        if let Some(at) = stray_word(alloc, &words)? {
             return Err(LinkFault::NotUnit(number as u32, 4 * at));
         }
     }

@@ -2,7 +2,7 @@
 use Rattle.std.proofs.Common.{ℕ, ◌≤◌, true, false, pos, List, [], ◌∷◌, refl, arith}
 use Rattle.std.proofs.lemmas.List.Elements.{All-nil}
 use Rattle.cfi_unit.specs.declared.unit.Unit.TheVariants as units
-use Rattle.cfi_word.specs.declared.word.TheConstants.{MAX_POLICY}
+use Rattle.cfi_word.specs.declared.limits.TheConstants.{MAX_POLICY}
 use Rattle.cfi_model.specs.Data.{IsInside}
 use Rattle.cfi_model.specs.Service.{Reply, reply_of}
 use Rattle.cfi_model.specs.Plain.{PlainState, plain_opened, CanRun, CanEnd}

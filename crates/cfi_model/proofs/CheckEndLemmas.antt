@@ -5,7 +5,7 @@ use Rattle.rv_insn.specs.declared.insn.LoadKind.TheVariants.{Lw}
 use Rattle.cfi_unit.specs.declared.log.Stop.TheVariants.{Halt}
 use Rattle.cfi_unit.specs.Unit.{link_register}
 use Rattle.cfi_word.specs.Word.{policy_in}
-use Rattle.cfi_model.specs.declared.places.TheConstants.{CODE_BYTES}
+use Rattle.cfi_word.specs.declared.map.TheConstants.{CODE_BYTES}
 use Rattle.cfi_model.specs.Log.{picked}
 use Rattle.cfi_model.specs.State.{State, regs_with, after}
 use Rattle.cfi_model.specs.Raw.{Raw}

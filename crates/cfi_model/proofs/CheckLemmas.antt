@@ -7,7 +7,7 @@ use Rattle.rv_insn.specs.declared.insn.ImmOp.TheVariants.{Slli, Srli}
 use Rattle.rv_insn.specs.declared.insn.Op.TheVariants.{Add, Xor}
 use Rattle.rv_insn.specs.declared.insn.Cond.TheVariants.{Beq, Bne}
 use Rattle.rv_insn.specs.declared.insn.LoadKind.TheVariants.{Lw}
-use Rattle.cfi_unit.specs.declared.unit.TheConstants.{SLOTS}
+use Rattle.cfi_word.specs.declared.sizes.TheConstants.{SLOTS}
 use Rattle.cfi_unit.specs.Unit.{high_insn, low_insn, high_part, low_part, bary_address}
 use Rattle.cfi_unit.specs.declared.log.Stop.TheVariants as stops
 use Rattle.cfi_model.specs.declared.act.Wait.TheVariants as waits

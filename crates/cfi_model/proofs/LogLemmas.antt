@@ -6,8 +6,7 @@ use Rattle.std.proofs.lemmas.List.{take_all, take_more, take_more_set, length-se
 use Rattle.std.proofs.lemmas.Option.{slice_get_within, get_or_from_slice_get, slice_get_read}
 use Rattle.cfi_unit.specs.declared.log.Log.{Log}
 use Rattle.cfi_unit.specs.declared.log.Log.TheVariants.{Pick, Open, Cause}
-use Rattle.cfi_model.specs.declared.places.TheConstants.{MAX_LOG}
-use Rattle.cfi_word.specs.declared.word.TheConstants.{MAX_POLICY}
+use Rattle.cfi_word.specs.declared.limits.TheConstants.{MAX_LOG, MAX_POLICY}
 use Rattle.cfi_model.specs.Log.{HasRoom, opens, last_policy, last_of, is_pick_of, pick_entries, is_pick, is_open, policy_after, spent_by, last_picks, picks_in}
 
 -- the log but for its last entry

@@ -5,7 +5,7 @@ use Rattle.cfi_unit.specs.declared.log.Log.{Log}
 use Rattle.cfi_unit.specs.declared.log.Log.TheVariants.{Pick, Open, Cause}
 use Rattle.cfi_unit.specs.declared.unit.Unit.{Unit as CodeUnit}
 use Rattle.cfi_unit.specs.declared.unit.Unit.TheVariants as units
-use Rattle.cfi_model.specs.declared.places.TheConstants.{OPEN, TOO_MANY}
+use Rattle.cfi_word.specs.declared.services.TheConstants.{OPEN, TOO_MANY}
 use Rattle.cfi_model.specs.Log.{last_of, is_pick_of, picks_of, picked, last_policy, pick_entries, is_pick}
 use Rattle.cfi_model.specs.State.{State, register, displaced}
 use Rattle.cfi_model.specs.Service.{Reply, Service, Ends, Puts, Quiets, Opens, Unknown, served_log, succeeds, argument, asked, service_of}

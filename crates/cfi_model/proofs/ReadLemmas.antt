@@ -12,7 +12,7 @@ use Rattle.rv_insn.specs.InsnOf.{insn_of}
 use Rattle.cfi_unit.specs.declared.unit.Unit.{Unit as CodeUnit}
 use Rattle.cfi_unit.specs.Unit.{IsUnit, insns_of, words_of, size_of}
 use Rattle.cfi_unit.specs.Code.{BeginsAt}
-use Rattle.cfi_unit.proofs.CodeLemmas.{BeginsAt-insn, BeginsAt-one, length-words_of}
+use Rattle.cfi_unit.proofs.CodeLemmas.{BeginsAt-insn, BeginsAt-one, length-words_of, AllByRecursion-append}
 use Rattle.cfi_unit.proofs.UnitLemmas.{size_pos}
 use Rattle.cfi_model.specs.Closed.{code_of, idle, IsReadAs}
 
@@ -31,12 +31,6 @@ all_zero : (zeros k : ℕ) → ◌≡◌ {A = ℕ} (get_or (replicate zeros 0) k
 all_zero zero k = refl
 all_zero (suc n) zero = refl
 all_zero (suc n) (suc k) = all_zero n k
-
--- units and units are units
-fits_append : (us vs : List CodeUnit) → AllByRecursion IsUnit us → AllByRecursion IsUnit vs
-    → AllByRecursion IsUnit (us ++ vs)
-fits_append [] vs p q = q
-fits_append (u ∷ us) vs p q = (p.0, fits_append us vs p.1 q)
 
 -- zeros begin no unit
 no_unit : (zeros : ℕ) (u : CodeUnit) → BeginsAt (replicate zeros 0) 0 u → ⊥
@@ -115,8 +109,8 @@ read_once code a b i j n m p q =
     ap (λ xs. xs ++ replicate n 0) (flat_map-append words_of a (replicate i idle))
     ∙ sym p.spelled ∙ q.spelled
     ∙ sym (ap (λ xs. xs ++ replicate m 0) (flat_map-append words_of b (replicate j idle))) in
-    let same : us ≡ vs = same_units us vs n m (fits_append a _ p.fit (idles_fit i))
-    (fits_append b _ q.fit (idles_fit j))
+    let same : us ≡ vs = same_units us vs n m (AllByRecursion-append a _ p.fit (idles_fit i))
+    (AllByRecursion-append b _ q.fit (idles_fit j))
     words in
     let least = not_shorter a b i j same q.busy in
     let most = not_shorter b a j i (sym same) p.busy in

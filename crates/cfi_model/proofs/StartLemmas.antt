@@ -10,7 +10,7 @@ use Rattle.cfi_unit.specs.Unit.{IsUnit, words_of, size_of}
 use Rattle.cfi_unit.specs.Code.{BeginsAt}
 use Rattle.cfi_unit.proofs.CodeLemmas.{BeginsAt-within, length-words_of}
 use Rattle.cfi_unit.proofs.UnitLemmas.{size_pos}
-use Rattle.cfi_word.specs.declared.layout.TheConstants.{FIRST_BASE}
+use Rattle.cfi_word.specs.declared.map.TheConstants.{FIRST_BASE}
 use Rattle.cfi_model.specs.Closed.{code_of, idle, place_of, IsReadAs, IsStartOf, StandsIn}
 use Rattle.cfi_model.specs.History.{History, IsHistory, IsEpoch, IsStart}
 use Rattle.cfi_model.specs.Shows.{Stands}

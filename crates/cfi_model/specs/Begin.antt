@@ -10,7 +10,9 @@ use Rattle.rv_insn.specs.declared.insn.LoadKind.TheVariants.{Lw}
 use Rattle.rv_insn.specs.declared.insn.StoreKind.{StoreKind}
 use Rattle.rv_insn.specs.InsnOf.{insn_of}
 use Rattle.rv_alu.specs.Alu.{value_of_op, value_of_imm_op, takes}
-use Rattle.cfi_unit.specs.declared.unit.TheConstants.{FREE_REGISTERS, SLOTS, BARY}
+use Rattle.cfi_unit.specs.declared.unit.TheConstants.{FREE_REGISTERS}
+use Rattle.cfi_word.specs.declared.sizes.TheConstants.{SLOTS}
+use Rattle.cfi_word.specs.declared.map.TheConstants.{BARY, DATA_START, DATA_BYTES, TARY, CODE_BYTES}
 use Rattle.cfi_unit.specs.declared.log.Log.{Log}
 use Rattle.cfi_unit.specs.declared.log.Stop.{Stop}
 use Rattle.cfi_unit.specs.declared.log.Stop.TheVariants as stops
@@ -19,8 +21,6 @@ use Rattle.cfi_model.specs.declared.act.Act.{Act}
 use Rattle.cfi_model.specs.declared.act.Act.TheVariants as acts
 use Rattle.cfi_model.specs.declared.act.Wait.{Wait}
 use Rattle.cfi_model.specs.declared.act.Wait.TheVariants as waits
-use Rattle.cfi_unit.specs.declared.unit.TheConstants.{DATA_START}
-use Rattle.cfi_model.specs.declared.places.TheConstants.{DATA_BYTES, TARY, CODE_BYTES}
 use Rattle.cfi_model.specs.Data.{load_width, store_width, is_aligned, loaded, stored}
 use Rattle.cfi_model.specs.Log.{picked}
 use Rattle.cfi_model.specs.State.{displaced, after}

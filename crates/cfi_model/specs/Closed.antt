@@ -10,7 +10,8 @@ use Rattle.cfi_unit.specs.Unit.{IsUnit, words_of}
 use Rattle.cfi_word.specs.declared.lists.Image.{Image}
 use Rattle.cfi_word.specs.declared.ids.TheConstants.{FIELD_MAX}
 use Rattle.cfi_word.specs.Table.{slots_of}
-use Rattle.cfi_word.specs.declared.layout.TheConstants.{FIRST_BASE}
+use Rattle.cfi_word.specs.declared.map.TheConstants.{FIRST_BASE}
+use Rattle.cfi_word.specs.declared.sizes.TheConstants.{ACCESS_WORDS, CHECK_WORDS}
 
 -- `addi x0,x0,0`
 abbrev pub idle : CodeUnit
@@ -51,14 +52,14 @@ ReturnsToStart body false address = ⊤
 -- the unit at the address leads to starts, and its slot is there
 abbrev pub StaysInside : (body : List CodeUnit) → (slots : ℕ) → (address : ℕ) → CodeUnit → Type 0
 StaysInside body slots address (units.Plain insn) = IsStartOf body (address + 4)
-StaysInside body slots address (units.Load kind rd rs1 imm) = IsStartOf body (address + 24)
-StaysInside body slots address (units.Store kind rs1 rs2 imm) = IsStartOf body (address + 24)
+StaysInside body slots address (units.Load kind rd rs1 imm) = IsStartOf body (address + 4 * ACCESS_WORDS)
+StaysInside body slots address (units.Store kind rs1 rs2 imm) = IsStartOf body (address + 4 * ACCESS_WORDS)
 StaysInside body slots address (units.Branch cond rs1 rs2 off) =
     IsStartOf body (address + 4) × LeadsToStart body address off
 StaysInside body slots address (units.Jump link off) =
     ReturnsToStart body link (address + 4) × LeadsToStart body address off
 StaysInside body slots address (units.Check link rs1 imm slot) =
-    ReturnsToStart body link (address + 56) × (slot < slots)
+    ReturnsToStart body link (address + 4 * CHECK_WORDS) × (slot < slots)
 StaysInside body slots address units.Service = IsStartOf body (address + 4)
 
 -- the classes of an image of so many code words

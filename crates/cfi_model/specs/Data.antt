@@ -7,8 +7,7 @@ use Rattle.rv_insn.specs.declared.insn.LoadKind.TheVariants.{Lb, Lh, Lw, Lbu, Lh
 use Rattle.rv_insn.specs.declared.insn.StoreKind.{StoreKind}
 use Rattle.rv_insn.specs.declared.insn.StoreKind.TheVariants.{Sb, Sh, Sw}
 use Rattle.cfi_unit.specs.declared.fill.Fill.{Fill}
-use Rattle.cfi_unit.specs.declared.unit.TheConstants.{DATA_START}
-use Rattle.cfi_model.specs.declared.places.TheConstants.{DATA_BYTES}
+use Rattle.cfi_word.specs.declared.map.TheConstants.{DATA_START, DATA_BYTES}
 
 -- so many bytes of 0
 unfoldable pub zeroes : (count : ℕ) → List ℕ

@@ -10,12 +10,14 @@ use Rattle.cfi_unit.specs.declared.unit.Unit.TheVariants as units
 use Rattle.cfi_unit.specs.declared.log.Stop.TheVariants.{Halt, Align}
 use Rattle.cfi_unit.specs.Unit.{link_register}
 use Rattle.cfi_word.specs.declared.lists.Edge.{Edge}
-use Rattle.cfi_unit.specs.declared.unit.TheConstants.{DATA_START}
-use Rattle.cfi_model.specs.declared.places.TheConstants.{DATA_BYTES, CODE_BYTES, MAX_OPENS, OPEN}
+use Rattle.cfi_word.specs.declared.map.TheConstants.{DATA_START, DATA_BYTES, CODE_BYTES}
+use Rattle.cfi_word.specs.declared.services.TheConstants.{OPEN}
+use Rattle.cfi_word.specs.declared.limits.TheConstants.{MAX_OPENS}
 use Rattle.cfi_model.specs.Data.{load_width, store_width, is_aligned, loaded, stored}
 use Rattle.cfi_model.specs.Log.{picked, opens}
 use Rattle.cfi_model.specs.State.{State, register, regs_with, displaced, after}
 use Rattle.cfi_model.specs.Service.{Reply, service_of, served, asked}
+use Rattle.cfi_word.specs.declared.sizes.TheConstants.{ACCESS_WORDS, CHECK_WORDS, OUTSIDE_STEPS, MISALIGNED_STEPS, PASSED_STEPS, FORBIDDEN_STEPS}
 
 -- a unit has ended after so many instructions, and the next is at this address
 abbrev pub going_to : (to steps : ℕ) → State → State
@@ -39,9 +41,9 @@ abbrev pub accessed : (fits : Bool) → (offset : ℕ) → (regs memory : List �
 accessed fits offset regs memory s = record s {
   regs = if fits then regs else s.regs;
   memory = if fits then memory else s.memory;
-  pc = if fits then after 24 s.pc else s.pc;
+  pc = if fits then after (4 * ACCESS_WORDS) s.pc else s.pc;
   units = s.units + 1;
-  steps = s.steps + 6;
+  steps = s.steps + ACCESS_WORDS;
   stop = if fits then s.stop else Some (Align (DATA_START + offset));
 }
 
@@ -59,12 +61,14 @@ is_in_code target = nat_lt target CODE_BYTES && is_aligned 4 target
 -- how many instructions a check runs
 abbrev pub check_steps : (target : ℕ) → (allowed : Bool) → ℕ
 check_steps target allowed =
-    if nat_lt target CODE_BYTES then (if is_aligned 4 target then (if allowed then 10 else 13) else 8) else 4
+    if nat_lt target CODE_BYTES
+    then (if is_aligned 4 target then (if allowed then PASSED_STEPS else FORBIDDEN_STEPS) else MISALIGNED_STEPS)
+    else OUTSIDE_STEPS
 
 -- a check goes to its target, or stops the guest; a target in the code is a pick
 abbrev pub checked : (pick : ℕ) → (allowed : Bool) → (link : Bool) → (target : ℕ) → State → State
 checked pick allowed link target s = record s {
-  regs = if is_in_code target && allowed then regs_with s.regs (link_register link) (after 56 s.pc) else s.regs;
+  regs = if is_in_code target && allowed then regs_with s.regs (link_register link) (after (4 * CHECK_WORDS) s.pc) else s.regs;
   pc = if is_in_code target && allowed then target else s.pc;
   log = if is_in_code target then picked pick s.log else s.log;
   units = s.units + 1;

@@ -3,7 +3,8 @@ use Rattle.std.specs.Prelude.{◌≡◌, ◌≢◌, ℕ, ◌/◌, ◌≤◌, ◌
 use Rattle.cfi_word.specs.Word.{policy_in}
 use Rattle.cfi_model.specs.declared.act.Wait.{Wait}
 use Rattle.cfi_model.specs.declared.act.Wait.TheVariants as waits
-use Rattle.cfi_model.specs.declared.places.TheConstants.{OPEN, MAX_OPENS, TOO_MANY}
+use Rattle.cfi_word.specs.declared.services.TheConstants.{OPEN, TOO_MANY}
+use Rattle.cfi_word.specs.declared.limits.TheConstants.{MAX_OPENS}
 use Rattle.cfi_model.specs.Log.{opens, last_policy}
 use Rattle.cfi_model.specs.State.{State}
 use Rattle.cfi_model.specs.Service.{Reply, IsAnswer}

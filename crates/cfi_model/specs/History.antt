@@ -2,7 +2,7 @@
 -- Epochs, policies and classes are numbers; addresses are in bytes, places are word numbers, from 0.
 use Rattle.std.specs.Prelude.{◌≡◌, ◌≢◌, ℕ, ◌+◌, ◌/◌, ◌%◌, ◌≤◌, ◌<◌, ◌==◌, Bool, List, length, slice_index, Option, Some, None, ⊤}
 use Rattle.cfi_word.specs.declared.lists.Image.{Image}
-use Rattle.cfi_word.specs.declared.word.TheConstants.{MAX_EPOCH, MAX_POLICY, MIN_VERSIONS, MAX_VERSIONS}
+use Rattle.cfi_word.specs.declared.limits.TheConstants.{MAX_EPOCH, MAX_POLICY, MIN_VERSIONS, MAX_VERSIONS}
 use Rattle.cfi_word.specs.Table.{IsSize}
 use Rattle.cfi_word.specs.Word.{packed, epoch_in}
 use Rattle.cfi_model.specs.Closed.{IsClosed, IsStartIn}

@@ -3,8 +3,7 @@ use Rattle.std.specs.Prelude.{◌≡◌, ℕ, ◌+◌, ◌-◌, ◌≤◌, ◌==
 use Rattle.std.specs.List.{fold}
 use Rattle.cfi_unit.specs.declared.log.Log.{Log}
 use Rattle.cfi_unit.specs.declared.log.Log.TheVariants.{Pick, Open, Cause}
-use Rattle.cfi_model.specs.declared.places.TheConstants.{MAX_OPENS}
-use Rattle.cfi_word.specs.declared.word.TheConstants.{MAX_POLICY}
+use Rattle.cfi_word.specs.declared.limits.TheConstants.{MAX_OPENS, MAX_POLICY}
 
 -- the last entry
 abbrev pub last_of : List Log → Option Log

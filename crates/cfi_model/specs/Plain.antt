@@ -9,14 +9,14 @@ use Rattle.cfi_unit.specs.Code.{BeginsAt}
 use Rattle.cfi_word.specs.declared.lists.Edge.{Edge}
 use Rattle.cfi_model.specs.declared.step.PlainStep.{PlainStep}
 use Rattle.cfi_model.specs.declared.step.PlainStep.TheVariants.{Went, Asks, Stopped}
-use Rattle.cfi_model.specs.declared.places.TheConstants.{MAX_OPENS}
-use Rattle.cfi_word.specs.declared.word.TheConstants.{MAX_POLICY}
+use Rattle.cfi_word.specs.declared.limits.TheConstants.{MAX_OPENS, MAX_POLICY}
 use Rattle.std.specs.List.{All}
 use Rattle.cfi_model.specs.Data.{IsInside}
 use Rattle.cfi_model.specs.Log.{last_policy, last_picks, opens}
 use Rattle.cfi_model.specs.State.{State, opened, after}
 use Rattle.cfi_model.specs.Service.{Reply, Opens, served, argument, too_many}
 use Rattle.cfi_model.specs.Effect.{effect, allows_by, asks, going_to}
+use Rattle.cfi_word.specs.declared.sizes.TheConstants.{FORBIDDEN_STEPS}
 
 pub record PlainState : Type 0 where
   pub state : State
@@ -73,7 +73,7 @@ pub record CanEnd (reply : Reply) (m : PlainState) : Type 0 where
 
 -- the counts of a machine: a unit runs at most 13 instructions and makes at most one pick
 pub record IsCounted (units steps : ℕ) (log : List Log) (waits : Bool) : Type 0 where
-  pub steps_most : steps ≤ 13 * units
+  pub steps_most : steps ≤ FORBIDDEN_STEPS * units
   pub units_most : units < 2 ^ 32
   pub picks_most : last_picks log ≤ units
   pub asks_few : waits ≡ true → opens log < MAX_OPENS

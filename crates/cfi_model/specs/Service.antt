@@ -5,8 +5,8 @@ use Rattle.cfi_unit.specs.declared.log.Log.{Log}
 use Rattle.cfi_unit.specs.declared.log.Log.TheVariants as logs
 use Rattle.cfi_unit.specs.declared.log.Stop.{Stop}
 use Rattle.cfi_unit.specs.declared.log.Stop.TheVariants.{Exit}
-use Rattle.cfi_word.specs.declared.word.TheConstants.{MAX_POLICY}
-use Rattle.cfi_model.specs.declared.places.TheConstants as places
+use Rattle.cfi_word.specs.declared.limits.TheConstants.{MAX_POLICY, MAX_OPENS, MAX_OUTPUT}
+use Rattle.cfi_word.specs.declared.services.TheConstants as services
 use Rattle.std.specs.List.{All}
 use Rattle.cfi_model.specs.Data.{filled_by, IsInside}
 use Rattle.cfi_model.specs.Log.{opens, last_policy}
@@ -23,10 +23,10 @@ pub data Service : Type 0 where
 -- the service of a number
 abbrev pub service_of : ℕ → Service
 service_of number =
-    if number == places.EXIT then Ends else
-    (if number == places.PUT then Puts else
-    (if number == places.QUIET then Quiets else
-    (if number == places.OPEN then Opens else Unknown)))
+    if number == services.EXIT then Ends else
+    (if number == services.PUT then Puts else
+    (if number == services.QUIET then Quiets else
+    (if number == services.OPEN then Opens else Unknown)))
 
 -- what an open is answered: cause 0 where the module is open
 pub record Reply : Type 0 where
@@ -44,33 +44,33 @@ succeeds reply = reply.cause == 0
 
 -- the answer where no more opens are logged
 abbrev pub too_many : Reply
-too_many = reply_of 0 places.TOO_MANY 0 []
+too_many = reply_of 0 services.TOO_MANY 0 []
 
 -- the number of the service that is asked for, and its argument
 abbrev pub asked : State → ℕ
-asked s = register s places.SERVICE
+asked s = register s services.SERVICE
 
 abbrev pub argument : State → ℕ
-argument s = register s places.ARGUMENT
+argument s = register s services.ARGUMENT
 
 -- the registers with an answer in a0
 abbrev pub answered_by : State → ℕ → List ℕ
-answered_by s value = slice_set s.regs places.ARGUMENT value
+answered_by s value = slice_set s.regs services.ARGUMENT value
 
 -- a byte can be put
 abbrev pub has_room : State → Bool
-has_room s = nat_lt (length s.output) places.MAX_OUTPUT
+has_room s = nat_lt (length s.output) MAX_OUTPUT
 
 -- the address or 0 in a0, and the cause in a1
 abbrev pub opened_regs : Reply → State → List ℕ
 opened_regs reply s =
-    slice_set (answered_by s (if succeeds reply then reply.address else 0)) places.CAUSE reply.cause
+    slice_set (answered_by s (if succeeds reply then reply.address else 0)) services.CAUSE reply.cause
 
 -- the entry of an open; one that found too many is not logged
 abbrev pub opened_log : Reply → State → List Log
 opened_log reply s =
     if succeeds reply then s.log ++ logs.Open (argument s) reply.address reply.policy ∷ [] else
-    (if reply.cause == places.TOO_MANY then s.log else s.log ++ logs.Cause (argument s) reply.cause ∷ [])
+    (if reply.cause == services.TOO_MANY then s.log else s.log ++ logs.Cause (argument s) reply.cause ∷ [])
 
 -- what each service makes of the registers
 abbrev pub served_regs : Service → Reply → State → List ℕ
@@ -78,7 +78,7 @@ served_regs Ends reply s = s.regs
 served_regs Puts reply s = answered_by s (if has_room s then 1 else 0)
 served_regs Quiets reply s = s.regs
 served_regs Opens reply s = opened_regs reply s
-served_regs Unknown reply s = answered_by s places.REFUSED
+served_regs Unknown reply s = answered_by s services.REFUSED
 
 -- of private data
 abbrev pub served_memory : Service → Reply → State → List ℕ
@@ -113,6 +113,6 @@ served service reply s = record s {
 -- an answer can be logged: an open that found too many needs no entry, and a success has a policy that does not fall
 pub record IsAnswer (reply : Reply) (s : State) : Type 0 where
   pub inside : All IsInside reply.fills
-  pub few : reply.cause ≢ places.TOO_MANY → opens s.log < places.MAX_OPENS
+  pub few : reply.cause ≢ services.TOO_MANY → opens s.log < MAX_OPENS
   pub rises : reply.cause ≡ 0 → last_policy s.log ≤ reply.policy
   pub most : reply.cause ≡ 0 → reply.policy ≤ MAX_POLICY

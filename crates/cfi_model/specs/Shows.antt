@@ -1,6 +1,6 @@
 -- The raw machine shows the policy machine: the same registers x0 to x27, private data, output, log, units and stop.
 -- A raw state within a unit shows the policy state at that unit's start.
-use Rattle.std.specs.Prelude.{◌≡◌, ◌≢◌, ℕ, ◌+◌, ◌*◌, ◌/◌, ◌%◌, ◌≤◌, nat_lt, if◌then◌else◌, true, ◌⊎◌, length, List, [], ◌∷◌, ◌++◌, Option, Some, None, ⊤}
+use Rattle.std.specs.Prelude.{◌≡◌, ◌≢◌, ℕ, ◌+◌, ◌-◌, ◌*◌, ◌/◌, ◌%◌, ◌≤◌, nat_lt, if◌then◌else◌, true, ◌⊎◌, length, List, [], ◌∷◌, ◌++◌, Option, Some, None, ⊤}
 use Rattle.rv_insn.specs.InsnOf.{insn_of}
 use Rattle.cfi_unit.specs.declared.fill.Fill.{Fill}
 use Rattle.cfi_unit.specs.declared.unit.Unit.{Unit as CodeUnit}
@@ -9,7 +9,7 @@ use Rattle.cfi_unit.specs.Unit.{size_of}
 use Rattle.cfi_unit.specs.Code.{BeginsAt}
 use Rattle.cfi_word.specs.declared.lists.Image.{Image}
 use Rattle.cfi_word.specs.Table.{IsSize}
-use Rattle.cfi_model.specs.declared.places.TheConstants.{OPEN}
+use Rattle.cfi_word.specs.declared.services.TheConstants.{OPEN}
 use Rattle.cfi_model.specs.Log.{last_policy, pick_entries}
 use Rattle.cfi_model.specs.State.{State, register, displaced, opened}
 use Rattle.cfi_model.specs.Service.{Reply, asked}
@@ -20,6 +20,7 @@ use Rattle.cfi_model.specs.Begin.{HasStepBy}
 use Rattle.cfi_model.specs.Closed.{IsClosed}
 use Rattle.cfi_model.specs.History.{History, IsEpoch, IsStart, IsHistory, target_class, word_of, allows_at, fixed}
 use Rattle.cfi_model.specs.Fits.{FitsOpen, Fits, Along}
+use Rattle.cfi_word.specs.declared.sizes.TheConstants.{ACCESS_WORDS, FORBIDDEN_STEPS, RETRY_STEPS}
 
 -- the unit stands at the address
 pub record Stands (code : List ℕ) (address : ℕ) (unit : CodeUnit) : Type 0 where
@@ -77,15 +78,15 @@ moved_to address more s = record s { pc = address; steps = s.steps + more }
 
 -- no unit has begun, or it has stopped the guest
 pub record IsBetween (retries : ℕ) (s : State) (r : Raw) : Type 0 where
-  pub base : r.base ≡ moved_to r.base.pc (9 * retries) s
+  pub base : r.base ≡ moved_to r.base.pc (RETRY_STEPS * retries) s
   pub idle : r.waits ≡ None
   pub fresh : s.stop ≡ None → (r.base.pc ≡ s.pc) × (r.bary ≡ None) × (r.tary ≡ None)
 
 -- how many instructions of a unit can have been run before its last one
 abbrev pub few_of : CodeUnit → ℕ
-few_of (units.Load kind rd rs1 imm) = 5
-few_of (units.Store kind rs1 rs2 imm) = 5
-few_of (units.Check link rs1 imm slot) = 12
+few_of (units.Load kind rd rs1 imm) = ACCESS_WORDS - 1
+few_of (units.Store kind rs1 rs2 imm) = ACCESS_WORDS - 1
+few_of (units.Check link rs1 imm slot) = FORBIDDEN_STEPS - 1
 few_of units.Service = 1
 few_of _ = 0
 
@@ -106,7 +107,7 @@ pub record IsInside (h : History) (code : List ℕ) (retries : ℕ) (s : State) 
   pub retried : more ≢ 0 → IsRetried h unit
   pub few : ℕ
   pub few_most : few ≤ few_of unit
-  pub base : r.base ≡ moved_to (s.pc + 4 * at) (9 * (retries + more) + few) s
+  pub base : r.base ≡ moved_to (s.pc + 4 * at) (RETRY_STEPS * (retries + more) + few) s
 
 abbrev pub Shows : History → (code : List ℕ) → (retries : ℕ) → State → Raw → Type 0
 Shows h code retries s r = IsBetween retries s r ⊎ IsInside h code retries s r

@@ -6,7 +6,8 @@ use Rattle.cfi_unit.specs.declared.unit.TheConstants.{FREE_REGISTERS}
 use Rattle.cfi_unit.specs.declared.fill.Fill.{Fill}
 use Rattle.cfi_unit.specs.declared.log.Log.{Log}
 use Rattle.cfi_unit.specs.declared.log.Stop.{Stop}
-use Rattle.cfi_model.specs.declared.places.TheConstants.{STACK, DATA_BYTES, ARGUMENT}
+use Rattle.cfi_word.specs.declared.services.TheConstants.{ARGUMENT}
+use Rattle.cfi_word.specs.declared.map.TheConstants.{STACK, DATA_BYTES}
 use Rattle.cfi_model.specs.Data.{zeroes, filled_by}
 
 -- the guest's number, x0 to x27, the address of the next unit, private data, what was put, the log, how many units and

@@ -2,11 +2,10 @@ ghost use Rattle.std.specs.Prelude.{◌≡◌, ℕ, ◌+◌, ◌-◌, ◌*◌, �
 ghost use Rattle.std.specs.List.{All, splice};
 ghost use Rattle.cfi_model.specs.Data.{zeroes, load_width, store_width, loaded, stored, filled, filled_by, IsInside};
 ghost use Rattle.cfi_model.specs.Data.{byte_at, half_at, word_at, with_byte, with_half, with_word, sign_extended};
-ghost use Rattle.cfi_unit.specs.declared.unit.TheConstants.{DATA_START};
-ghost use Rattle.cfi_model.specs.declared.places.TheConstants.{DATA_BYTES};
+ghost use Rattle.cfi_word.specs.declared.map.TheConstants.{DATA_START, DATA_BYTES};
 
-use crate::places::DATA_BYTES;
-use cfi_unit::{DATA_START, Fill};
+use cfi_word::map::{DATA_BYTES, DATA_START};
+use cfi_unit::Fill;
 use rv_insn::{LoadKind, StoreKind};
 use std::alloc::{AllocError, Global};
 use std::marker::Model;
@@ -19,7 +18,7 @@ pub struct PrivateData {
 
 impl Model for PrivateData {
     ghost use Rattle.std.specs.Prelude.{ℕ, ◌≡◌, List, vec_len};
-    ghost use Rattle.cfi_model.specs.declared.places.TheConstants.{DATA_BYTES};
+    ghost use Rattle.cfi_word.specs.declared.map.TheConstants.{DATA_BYTES};
 
     ghost Value = { List ℕ };
 

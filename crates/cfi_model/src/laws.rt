@@ -1,7 +1,7 @@
 //! That the premises of the laws over machines can be met, and how runs of the raw machine compose.
 
 ghost use Rattle.std.specs.Prelude.{◌≡◌, ℕ, ◌≤◌, ◌++◌, [], List};
-ghost use Rattle.cfi_word.specs.declared.word.TheConstants.{MAX_POLICY};
+ghost use Rattle.cfi_word.specs.declared.limits.TheConstants.{MAX_POLICY};
 ghost use Rattle.cfi_word.specs.declared.lists.Image.{Image};
 ghost use Rattle.cfi_word.specs.Table.{IsSize};
 ghost use Rattle.cfi_model.specs.Closed.{IsClosed};

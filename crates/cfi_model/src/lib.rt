@@ -10,7 +10,6 @@ mod data;
 pub mod laws;
 mod log_book;
 mod output;
-mod places;
 mod plain;
 mod shows;
 mod step;
@@ -18,14 +17,10 @@ mod step;
 mod tests;
 
 pub use act::{Act, Wait};
-pub use cfi_unit::{Answer, Bytes, Fill, Log, Stop};
+pub use cfi_unit::{Answer, Fill, Log, Stop};
 pub use data::{PrivateData, load_width, store_width};
 pub use log_book::LogBook;
 pub use output::Output;
-pub use places::{
-    ARGUMENT, CAUSE, CODE_BYTES, DATA_BYTES, EXIT, MAX_LOG, MAX_OPENS, MAX_OUTPUT, OPEN, PUT,
-    QUIET, REFUSED, SERVICE, STACK, TARY, TOO_MANY,
-};
 pub use plain::Plain;
 pub use shows::{an_opened_guest_shows, raw_shows_policy};
 pub use step::PlainStep;

@@ -1,9 +1,8 @@
 ghost use Rattle.std.specs.Prelude.{◌≡◌, ℕ, ◌+◌, ◌<◌, ◌≤◌, ◌^◌, ◌++◌, ◌∷◌, [], List, length, IfOk, IfSome, IfNone, false};
 ghost use Rattle.cfi_model.specs.Log.{opens, last_policy, last_picks, last_of, is_pick_of, picked};
-ghost use Rattle.cfi_model.specs.declared.places.TheConstants.{MAX_OPENS};
-ghost use Rattle.cfi_word.specs.declared.word.TheConstants.{MAX_POLICY};
+ghost use Rattle.cfi_word.specs.declared.limits.TheConstants.{MAX_OPENS, MAX_POLICY};
 
-use crate::places::MAX_LOG;
+use cfi_word::limits::MAX_LOG;
 use cfi_unit::Log;
 use std::alloc::{AllocError, Global};
 use std::marker::Model;
@@ -21,7 +20,7 @@ impl Model for LogBook {
     ghost use Rattle.std.specs.Prelude.{◌≡◌, ◌≤◌, List, vec_capacity};
     ghost use Rattle.cfi_unit.specs.declared.log.Log.{Log};
     ghost use Rattle.cfi_model.specs.Log.{opens, HasRoom};
-    ghost use Rattle.cfi_model.specs.declared.places.TheConstants.{MAX_LOG};
+    ghost use Rattle.cfi_word.specs.declared.limits.TheConstants.{MAX_LOG};
 
     ghost Value = { List Log };
 

@@ -1,7 +1,7 @@
 ghost use Rattle.std.specs.Prelude.{◌≡◌, ◌<◌, ◌≤◌, ◌++◌, ◌∷◌, [], List, length, IfOk};
-ghost use Rattle.cfi_model.specs.declared.places.TheConstants.{MAX_OUTPUT};
+ghost use Rattle.cfi_word.specs.declared.limits.TheConstants.{MAX_OUTPUT};
 
-use crate::places::MAX_OUTPUT;
+use cfi_word::limits::MAX_OUTPUT;
 use std::alloc::{AllocError, Global};
 use std::marker::Model;
 
@@ -13,7 +13,7 @@ pub struct Output {
 
 impl Model for Output {
     ghost use Rattle.std.specs.Prelude.{ℕ, ◌≤◌, List, vec_len, vec_capacity};
-    ghost use Rattle.cfi_model.specs.declared.places.TheConstants.{MAX_OUTPUT};
+    ghost use Rattle.cfi_word.specs.declared.limits.TheConstants.{MAX_OUTPUT};
 
     ghost Value = { List ℕ };
 

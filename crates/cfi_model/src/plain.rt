@@ -2,7 +2,7 @@ ghost use Rattle.std.specs.Prelude.{◌≡◌, ℕ, ◌+◌, ◌<◌, ◌≤◌,
 ghost use Rattle.std.specs.List.{All};
 ghost use Rattle.cfi_unit.specs.declared.unit.Unit.{Unit as CodeUnit};
 ghost use Rattle.cfi_unit.specs.Code.{BeginsAt};
-ghost use Rattle.cfi_word.specs.declared.word.TheConstants.{MAX_POLICY};
+ghost use Rattle.cfi_word.specs.declared.limits.TheConstants.{MAX_POLICY};
 ghost use Rattle.cfi_model.specs.Data.{IsInside};
 ghost use Rattle.cfi_model.specs.Log.{last_policy};
 ghost use Rattle.cfi_unit.specs.declared.unit.TheConstants.{FREE_REGISTERS};
@@ -10,11 +10,12 @@ ghost use Rattle.cfi_unit.specs.declared.unit.TheConstants.{FREE_REGISTERS};
 use crate::data::PrivateData;
 use crate::log_book::LogBook;
 use crate::output::Output;
-use crate::places::{ARGUMENT, STACK};
+use cfi_word::Edge;
+use cfi_word::map::STACK;
+use cfi_word::services::ARGUMENT;
 use crate::step::PlainStep;
 use cfi_unit::laws::unit_within;
 use cfi_unit::{Answer, FREE_REGISTERS, Fill, Log, Stop, Unit, next_unit};
-use cfi_word::Edge;
 use std::alloc::{AllocError, Global};
 use std::marker::Model;
 

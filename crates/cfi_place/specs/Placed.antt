@@ -8,8 +8,7 @@ use Rattle.cfi_aux.specs.declared.modules.Module.{Module}
 use Rattle.cfi_aux.specs.declared.placed.Placed.{Placed}
 use Rattle.cfi_aux.specs.Placed.{exports_of}
 use Rattle.cfi_place.specs.declared.room.Room.{Room}
-use Rattle.cfi_unit.specs.declared.unit.TheConstants.{DATA_START}
-use Rattle.cfi_place.specs.declared.room.TheConstants.{DATA_END}
+use Rattle.cfi_word.specs.declared.map.TheConstants.{DATA_START, DATA_END, DATA_ALIGNMENT}
 use Rattle.cfi_place.specs.declared.fault.PlaceFault.{PlaceFault}
 use Rattle.cfi_place.specs.declared.fault.PlaceFault.TheVariants as faults
 use Rattle.cfi_place.specs.Names.{Names}
@@ -17,13 +16,14 @@ use Rattle.cfi_place.specs.Value.{own_in, values_by, undefined_in}
 use Rattle.cfi_place.specs.Relocated.{Areas, areas_of, high_parts, relocated_from}
 use Rattle.cfi_place.specs.Slots.{HasSlots}
 use Rattle.cfi_place.specs.Functions.{placed_functions}
+use Rattle.cfi_word.specs.declared.sizes.TheConstants.{CHECK_WORDS}
 
 -- a room that next free places may be
 pub record IsRoom (room : Room) : Type 0 where
   pub size : IsSize room.code_words
   pub code : room.base ≤ room.code_words
-  pub slots : 14 * room.slot_base ≤ room.base
-  pub aligned : room.data_base % 16 ≡ 0
+  pub slots : CHECK_WORDS * room.slot_base ≤ room.base
+  pub aligned : room.data_base % DATA_ALIGNMENT ≡ 0
   pub low : DATA_START ≤ room.data_base
   pub high : room.data_base ≤ DATA_END
 

@@ -3,7 +3,7 @@
 ghost use Rattle.std.specs.Prelude.{◌≡◌, IfOk};
 
 use cfi_aux::Kind;
-use cfi_list::Items;
+use cfi_values::Items;
 use std::alloc::{AllocError, Global};
 
 fn kind_copy(alloc: Global, kind: &Kind) -> Result<Kind, AllocError>

@@ -1,8 +1,5 @@
 //! Where a module goes.
 
-/// The address at or before which all static data of modules ends.
-pub const DATA_END: u32 = 0x4008_0000;
-
 /// Where a module goes: the next free places.
 #[derive(Clone, Copy, Debug, PartialEq, Eq)]
 pub struct Room {

@@ -3,12 +3,13 @@
 ghost use Rattle.std.specs.Prelude.{◌≡◌, ◌≤◌, true, Result, OnOk, IfErr};
 ghost use Rattle.cfi_place.specs.declared.fault.PlaceFault.{PlaceFault};
 ghost use Rattle.cfi_place.specs.declared.fault.PlaceFault.TheVariants as faults;
-ghost use Rattle.cfi_place.specs.declared.room.TheConstants.{DATA_END};
+ghost use Rattle.cfi_word.specs.declared.map.TheConstants.{DATA_END};
 ghost use Rattle.cfi_place.specs.Relocated.{Areas};
 ghost use Rattle.cfi_place.specs.Placed.{IsFault, where_fits, code_fits, data_fits};
 
 use crate::fault::PlaceFault;
-use crate::room::{DATA_END, Room};
+use crate::room::Room;
+use cfi_word::map::DATA_END;
 use elf_read::Object;
 
 /// Refuses a text that does not fit into the code, then data that does not fit before `DATA_END`.

@@ -4,7 +4,8 @@ ghost use Rattle.std.specs.Prelude.{◌≡◌, ◌+◌, ◌<◌, ◌≤◌, ◌^
 ghost use Rattle.cfi_unit.specs.Unit.{size_of};
 ghost use Rattle.cfi_place.specs.Slots.{check_at, with_slot, with_slots, HasSlots};
 
-use cfi_unit::{BARY, Unit, next_unit};
+use cfi_unit::{Unit, next_unit};
+use cfi_word::map::BARY;
 use rv_insn::{Insn, LoadKind, encode};
 use rv_reloc::{high_of, low_of};
 

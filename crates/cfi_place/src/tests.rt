@@ -2,11 +2,12 @@ ghost use Rattle.std.specs.Prelude.{IfOk, IsTrue};
 ghost use Rattle.cfi_aux.specs.Sound.{IsSoundModule};
 ghost use Rattle.cfi_place.specs.Placed.{IsRoom};
 
+use cfi_word::map::{DATA_END, DATA_START};
 use super::*;
 use cfi_aux::{Module, Placed, module_of, what_is_read_is_sound};
-use cfi_unit::DATA_START;
 use elf_read::relocation::{BRANCH, JAL, NONE};
-use elf_read::{Bytes, GLOBAL, MAX_FILE, Object, Relocs, WEAK, read_object};
+use elf_read::{GLOBAL, MAX_FILE, Object, Relocs, WEAK, read_object};
+use cfi_values::Bytes;
 use std::alloc::{AllocError, Global};
 use std::process::Abort;
 use std::test::Fail;

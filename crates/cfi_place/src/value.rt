@@ -8,7 +8,7 @@ ghost use Rattle.cfi_place.specs.Value.{named_value, value_of, values_by};
 use crate::room::Room;
 use crate::symbols::Symbols;
 use cfi_aux::address_of;
-use cfi_list::Items;
+use cfi_values::Items;
 use elf_read::{Binding, Name, Place, Symbol};
 use std::alloc::{AllocError, Global};
 

@@ -13,7 +13,7 @@ use Rattle.cfi_plan.specs.declared.line.Line.TheVariants.{Blank, Code, Versions,
 use Rattle.cfi_plan.specs.declared.plan.PlanModule.{PlanModule}
 use Rattle.cfi_plan.specs.declared.plan.ScriptLine.{ScriptLine}
 use Rattle.cfi_plan.specs.declared.plan.ScriptLine.TheVariants as script
-use Rattle.cfi_word.specs.declared.word.TheConstants.{MAX_EPOCH}
+use Rattle.cfi_word.specs.declared.limits.TheConstants.{MAX_EPOCH}
 use Rattle.cfi_word.specs.Table.{IsSize}
 use Rattle.cfi_plan.specs.Draft.{Draft, empty, module_of, starts, one_if, refreshes, refreshes_of, is_astray, is_within, with_line}
 use Rattle.cfi_text.specs.Names.{is_name}

@@ -13,10 +13,10 @@ use Rattle.cfi_plan.specs.declared.plan.Plan.{Plan}
 use Rattle.cfi_plan.specs.declared.fault.PlanFault.{PlanFault}
 use Rattle.cfi_plan.specs.Draft.{Draft, empty, is_empty, is_astray, is_within, with_line, taken, plan_of, IsDue}
 use Rattle.cfi_plan.specs.Line.{form_of, pair_form, numbered_form, counted_form, module_form, start_in}
-use Rattle.cfi_text.specs.Names.{is_name, name_in}
-use Rattle.cfi_plan.specs.Files.{is_file, file_in}
+use Rattle.cfi_text.specs.Names.{is_name, name_in, is_file, file_in}
 use Rattle.cfi_plan.specs.Plan.{IsPlan, IsVersions, IsFuel}
-use Rattle.cfi_plan.specs.Reading.{◌>>=◌, is_head, taken_if, with_text, with_lines, plan_of_lines, plan_in}
+use Rattle.cfi_plan.specs.Reading.{is_head, taken_if, with_text, with_lines, plan_of_lines, plan_in}
+use Rattle.cfi_values.specs.Then.{◌>>=◌}
 use Rattle.cfi_text.specs.Words.{words_in}
 use Rattle.cfi_plan.proofs.PlanLemmas.{IsLine, IsSound, empty-IsSound, line-IsSound}
 

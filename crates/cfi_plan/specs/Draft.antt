@@ -9,9 +9,7 @@ use Rattle.cfi_plan.specs.declared.plan.ScriptLine.{ScriptLine}
 use Rattle.cfi_plan.specs.declared.plan.ScriptLine.TheVariants as script
 use Rattle.cfi_plan.specs.declared.fault.PlanFault.{PlanFault}
 use Rattle.cfi_plan.specs.declared.fault.PlanFault.TheVariants.{Syntax, Limit, NoGuest, Memory}
-use Rattle.cfi_word.specs.declared.layout.TheConstants.{MIN_CODE_WORDS, MAX_CODE_WORDS}
-use Rattle.cfi_word.specs.declared.word.TheConstants.{MIN_VERSIONS, MAX_VERSIONS, MAX_EPOCH}
-use Rattle.cfi_plan.specs.declared.limits.TheConstants.{MAX_FUEL, FUEL, MAX_MODULES, MAX_STARTS, MAX_GUESTS, MAX_SCRIPT, MAX_REFRESHES}
+use Rattle.cfi_word.specs.declared.limits.TheConstants.{MIN_CODE_WORDS, MAX_CODE_WORDS, MIN_VERSIONS, MAX_VERSIONS, MAX_EPOCH, MAX_FUEL, FUEL, MAX_MODULES, MAX_STARTS, GUESTS, MAX_SCRIPT, MAX_REFRESHES}
 
 -- what the lines have said
 pub record Draft : Type 0 where
@@ -74,7 +72,7 @@ is_within draft (Epoch number) = nat_le number MAX_EPOCH
 is_within draft (Fuel number) = nat_le 1 number && nat_le number MAX_FUEL
 is_within draft (Module one) = nat_lt (length draft.modules) MAX_MODULES
     && nat_le (starts draft.modules + one_if one.start) MAX_STARTS
-is_within draft (Guest entry) = nat_lt (length draft.guests) MAX_GUESTS
+is_within draft (Guest entry) = nat_lt (length draft.guests) GUESTS
 is_within draft (Load name) = nat_lt (length draft.script) MAX_SCRIPT
 is_within draft (Refresh count) =
     nat_lt (length draft.script) MAX_SCRIPT && nat_le (refreshes draft.script + count) MAX_REFRESHES

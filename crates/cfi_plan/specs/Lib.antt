@@ -1,6 +1,5 @@
 pub mod Draft
 pub mod Kept
 pub mod Line
-pub mod Files
 pub mod Plan
 pub mod Reading

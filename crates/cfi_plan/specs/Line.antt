@@ -5,8 +5,7 @@ use Rattle.std.specs.Str.{bytes_eq}
 use Rattle.cfi_plan.specs.declared.line.Line.{Line}
 use Rattle.cfi_plan.specs.declared.line.Line.TheVariants.{Blank, Code, Versions, Epoch, Fuel, Module, Guest, Load, Refresh}
 use Rattle.cfi_text.specs.Decimal.{number_in}
-use Rattle.cfi_text.specs.Names.{name_in}
-use Rattle.cfi_plan.specs.Files.{file_in}
+use Rattle.cfi_text.specs.Names.{name_in, file_in}
 
 infixl 10 ◌>>=◌
 abbrev pub ◌>>=◌ : {A B : Type 0} → Option A → (A → Option B) → Option B

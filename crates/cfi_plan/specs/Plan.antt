@@ -5,12 +5,10 @@ use Rattle.cfi_plan.specs.declared.plan.Plan.{Plan}
 use Rattle.cfi_plan.specs.declared.plan.PlanModule.{PlanModule}
 use Rattle.cfi_plan.specs.declared.plan.ScriptLine.{ScriptLine}
 use Rattle.cfi_plan.specs.declared.plan.ScriptLine.TheVariants.{Load, Refresh}
-use Rattle.cfi_word.specs.declared.word.TheConstants.{MIN_VERSIONS, MAX_VERSIONS, MAX_EPOCH}
+use Rattle.cfi_word.specs.declared.limits.TheConstants.{MIN_VERSIONS, MAX_VERSIONS, MAX_EPOCH, MAX_FUEL, MAX_MODULES, MAX_STARTS, GUESTS, MAX_SCRIPT, MAX_REFRESHES}
 use Rattle.cfi_word.specs.Table.{IsSize}
-use Rattle.cfi_plan.specs.declared.limits.TheConstants.{MAX_FUEL, MAX_MODULES, MAX_STARTS, MAX_GUESTS, MAX_SCRIPT, MAX_REFRESHES}
 use Rattle.cfi_plan.specs.Draft.{starts, refreshes}
-use Rattle.cfi_text.specs.Names.{is_name}
-use Rattle.cfi_plan.specs.Files.{is_file}
+use Rattle.cfi_text.specs.Names.{is_name, is_file}
 
 -- a number of versions
 abbrev pub IsVersions : (number : ℕ) → Type 0
@@ -37,7 +35,7 @@ pub record AreModules (modules : List PlanModule) : Type 0 where
 
 -- the entries of guests
 pub record AreGuests (guests : List (List ℕ)) : Type 0 where
-  pub most : length guests ≤ MAX_GUESTS
+  pub most : length guests ≤ GUESTS
   pub named : All (λ entry. is_name entry ≡ true) guests
 
 -- a line of a script over this many modules

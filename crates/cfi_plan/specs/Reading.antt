@@ -10,11 +10,7 @@ use Rattle.cfi_plan.specs.Draft.{Draft, empty, taken, plan_of}
 use Rattle.cfi_plan.specs.Line.{form_of}
 use Rattle.cfi_text.specs.Words.{words_in}
 use Rattle.cfi_text.specs.Lines.{numbered_lines, statement_of}
-
-infixl 10 ◌>>=◌
-abbrev pub ◌>>=◌ : {A B : Type 0} → Result A PlanFault → (A → Result B PlanFault) → Result B PlanFault
-(Ok value) >>= next = next value
-(Err fault) >>= next = Err fault
+use Rattle.cfi_values.specs.Then.{◌>>=◌}
 
 -- the words of line 1
 abbrev pub is_head : (words : List (List ℕ)) → Bool

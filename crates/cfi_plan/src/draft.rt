@@ -3,14 +3,11 @@ ghost use Rattle.cfi_plan.specs.Draft.{Draft as Said, empty, taken, one_if, plan
 
 use crate::fault::PlanFault;
 use crate::index::{give_number, number_of};
-use crate::limits::{
-    FUEL, MAX_FUEL, MAX_GUESTS, MAX_MODULES, MAX_REFRESHES, MAX_SCRIPT, MAX_STARTS,
-};
+use cfi_word::GUESTS;
+use cfi_word::limits::{FUEL, MAX_FUEL, MAX_MODULES, MAX_REFRESHES, MAX_SCRIPT, MAX_STARTS, MAX_CODE_WORDS, MIN_CODE_WORDS, MAX_EPOCH, MAX_VERSIONS, MIN_VERSIONS};
 use crate::line::Line;
 use crate::plan::{Plan, PlanModule, ScriptLine};
-use crate::text::Text;
-use cfi_list::Items;
-use cfi_word::{MAX_CODE_WORDS, MAX_EPOCH, MAX_VERSIONS, MIN_CODE_WORDS, MIN_VERSIONS};
+use cfi_values::{Text, Items};
 use std::alloc::Global;
 use std::collections::BTreeMap;
 use std::marker::Model;
@@ -155,7 +152,7 @@ impl Draft {
     fn add_guest(&mut self, number: u32, entry: Text) -> Result<(), PlanFault>
         ensures { Gives result self.new (taken number self.old (Line.Guest entry)) }
     {
-        if self.guests.len() >= MAX_GUESTS {
+        if self.guests.len() >= GUESTS as usize {
             return Err(PlanFault::Limit(number));
         }
         self.guests.push(entry)?;

@@ -2,7 +2,7 @@ ghost use Rattle.std.specs.Prelude.{◌≡◌, ℕ, List, Some, if◌then◌else
 ghost use Rattle.std.specs.BTreeMap.{get_by_text};
 ghost use Rattle.std.specs.Str.{bytes_eq};
 
-use crate::text::Text;
+use cfi_values::Text;
 use std::alloc::{AllocError, Global};
 use std::collections::BTreeMap;
 

@@ -1,4 +1,4 @@
-use crate::text::Text;
+use cfi_values::Text;
 
 /// Where a loaded module lies.
 #[derive(Debug, PartialEq, Eq, Drop)]

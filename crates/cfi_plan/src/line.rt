@@ -2,10 +2,9 @@ ghost use Rattle.std.specs.Prelude.{◌≡◌, IfOk};
 ghost use Rattle.cfi_plan.specs.Line.{form_of, pair_form, numbered_form, counted_form, module_form, start_in};
 ghost use Rattle.cfi_text.specs.Words.{words_in};
 
-use crate::names::{file_of, name_of};
+use cfi_text::{file_of, name_of, next_word, read_dec};
 use crate::plan::PlanModule;
-use crate::text::Text;
-use cfi_text::{next_word, read_dec};
+use cfi_values::Text;
 use std::alloc::{AllocError, Global};
 
 /// A line of a plan after the first.

@@ -1,5 +1,4 @@
-use crate::text::Text;
-use cfi_list::Items;
+use cfi_values::{Text, Items};
 
 /// A module of a plan.
 #[derive(Debug, PartialEq, Eq, Drop)]

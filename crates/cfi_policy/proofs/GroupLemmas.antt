@@ -1,9 +1,9 @@
 -- The group of a class is a group of the modules: what an edge leaves or reaches has a class number.
 use Rattle.std.proofs.Common.{◌≡◌, ◌↔◌, ◌∙◌, ℕ, ◌+◌, ◌*◌, ◌/◌, ◌<◌, ◌≤◌, List, get_or, sym, subst, inl, inr, arith}
 use Rattle.std.specs.List.{Contains}
-use Rattle.cfi_unit.specs.declared.unit.TheConstants.{SLOTS}
+use Rattle.cfi_word.specs.declared.sizes.TheConstants.{SLOTS}
 use Rattle.cfi_word.specs.declared.ids.TheConstants.{FIELD_MAX}
-use Rattle.cfi_word.specs.declared.layout.TheConstants.{MAX_CODE_WORDS}
+use Rattle.cfi_word.specs.declared.limits.TheConstants.{MAX_CODE_WORDS}
 use Rattle.cfi_aux.specs.declared.placed.Placed.{Placed}
 use Rattle.cfi_class.specs.Labels.{IsUsed, IsReached, IsClass, AreNumbers}
 use Rattle.cfi_class.proofs.JoinedLemmas.{first_of_chain, last_of_chain}

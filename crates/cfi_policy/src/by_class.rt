@@ -5,7 +5,7 @@ ghost use Rattle.cfi_policy.specs.ByClass.{AreLinksBy, AreRowsBy, IsCount, AreCl
 
 use crate::group::Group;
 use cfi_flow::{Link, Rows, rows_of};
-use cfi_list::Items;
+use cfi_values::Items;
 use cfi_word::{FIELD_MAX, Labels};
 use std::alloc::{AllocError, Global};
 

@@ -9,9 +9,9 @@ use crate::idle::idle_branches;
 use cfi_aux::Placed;
 use cfi_class::numbers;
 use cfi_graph::spanning;
-use cfi_list::Items;
-use cfi_unit::SLOTS;
-use cfi_word::MAX_CODE_WORDS;
+use cfi_values::Items;
+use cfi_word::limits::MAX_CODE_WORDS;
+use cfi_word::sizes::SLOTS;
 use std::alloc::{AllocError, Global};
 
 /// Branches that may go to the same addresses, and these addresses.

@@ -1,7 +1,7 @@
 //! Branches that may go nowhere.
 
 ghost use Rattle.std.specs.Prelude.{◌≡◌, ℕ, ◌+◌, ◌<◌, length, IfOk, OnOk};
-ghost use Rattle.cfi_unit.specs.declared.unit.TheConstants.{SLOTS};
+ghost use Rattle.cfi_word.specs.declared.sizes.TheConstants.{SLOTS};
 ghost use Rattle.cfi_graph.specs.Reading.{HaveGraph};
 ghost use Rattle.cfi_policy.specs.Idle.{AddsIdle, AreIdle};
 

@@ -7,8 +7,8 @@ ghost use Rattle.cfi_graph.specs.Reading.{HaveGraph};
 use cfi_aux::Placed;
 use cfi_class::are_joined;
 use cfi_graph::spanning;
-use cfi_unit::SLOTS;
-use cfi_word::MAX_CODE_WORDS;
+use cfi_word::limits::MAX_CODE_WORDS;
+use cfi_word::sizes::SLOTS;
 use std::alloc::{AllocError, Global};
 
 /// Whether the policy of the modules lets the branch of a slot go to an address, in bytes: a chain of direct edges

@@ -7,10 +7,10 @@ ghost use Rattle.cfi_graph.specs.HandMade.{function_of, placed_of, void_and_func
 ghost use Rattle.cfi_policy.specs.Image.{HaveImage};
 
 use cfi_aux::{Kind, Placed, PlacedFunction};
-use cfi_list::Items;
+use cfi_values::{Items, Bytes};
 use cfi_types::{FUNC, TypeNode, TypeTable, VOID};
 use cfi_unit::{Unit, spell};
-use elf_read::{Bytes, Name};
+use elf_read::Name;
 use std::alloc::{AllocError, Global};
 
 // The words of the units.

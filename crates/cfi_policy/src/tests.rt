@@ -6,10 +6,9 @@ use crate::made::{call_of_another, call_of_nothing, calls, mutual_tail_calls, ta
 use crate::{Group, allowed, groups, image_from, image_of};
 use cfi_aux::Placed;
 use cfi_graph::{edges, spanning};
-use cfi_list::Items;
+use cfi_values::{Items, Bytes};
 use cfi_types::TypeTable;
 use cfi_word::{Edge, Image, Layout};
-use elf_read::Bytes;
 use std::alloc::{AllocError, Global};
 use std::test::Fail;
 

@@ -4,9 +4,9 @@ ghost use Rattle.cfi_report.specs.Draft.{Draft as Said, empty, report_of, with_l
 use crate::line::Line;
 use crate::report::{GuestPart, Report};
 use crate::stage::Stage;
-use cfi_list::Items;
-use cfi_plan::{Entry, ModuleLine, Text};
-use cfi_unit::{Bytes, Log, Stop};
+use cfi_values::{Items, Text, Bytes};
+use cfi_plan::{Entry, ModuleLine};
+use cfi_unit::{Log, Stop};
 use std::alloc::{AllocError, Global};
 use std::marker::Model;
 use std::mem;

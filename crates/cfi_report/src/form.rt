@@ -4,8 +4,8 @@ ghost use Rattle.cfi_report.specs.Form.{words_in, form_of, lone_form, pair_form,
 use crate::journal::{journal, what_five, what_four, what_three, what_two};
 use crate::line::Line;
 use crate::words::{address, bytes, first_word};
-use cfi_plan::{ModuleLine, name_of};
-use cfi_text::read_small_dec;
+use cfi_plan::ModuleLine;
+use cfi_text::{name_of, read_small_dec};
 use cfi_unit::{Log, Stop};
 use std::alloc::{AllocError, Global};
 

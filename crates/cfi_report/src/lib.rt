@@ -1,6 +1,6 @@
 //! Reports: what a run has come to, as a value and as a text.
 //!
-//! Stands on `cfi_text`, `cfi_list`, `cfi_word`, `cfi_unit`, `cfi_plan` and `thiserror`. Proved: `write_report` gives
+//! Stands on `cfi_text`, `cfi_values`, `cfi_word`, `cfi_unit`, `cfi_plan` and `thiserror`. Proved: `write_report` gives
 //! the text of `specs/Report.antt`; `read_report` takes exactly the texts of reports, and of each other text names the
 //! first line up to which no report goes. Only tested: the texts of faults, and that memory suffices. Open: nothing.
 #![tactic(auto)]

@@ -1,5 +1,6 @@
-use cfi_plan::{Entry, ModuleLine, Text};
-use cfi_unit::{Bytes, Log, Stop};
+use cfi_plan::{Entry, ModuleLine};
+use cfi_values::{Text, Bytes};
+use cfi_unit::{Log, Stop};
 
 /// A line of a report.
 #[derive(Drop)]

@@ -1,6 +1,6 @@
-use cfi_list::Items;
-use cfi_plan::{Entry, ModuleLine, Text};
-use cfi_unit::{Bytes, Log, Stop};
+use cfi_values::{Items, Text, Bytes};
+use cfi_plan::{Entry, ModuleLine};
+use cfi_unit::{Log, Stop};
 
 /// What a run has come to.
 #[derive(Debug, Drop)]

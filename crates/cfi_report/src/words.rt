@@ -4,7 +4,7 @@ ghost use Rattle.cfi_text.specs.Hex.{hex_digits};
 ghost use Rattle.cfi_report.specs.Form.{Lacks, words_in, address_in, pairs_in, bytes_in};
 
 use cfi_text::{read_hex_digit, read_hex8};
-use cfi_unit::Bytes;
+use cfi_values::Bytes;
 use std::alloc::{AllocError, Global};
 
 /// What stands before the first such byte, and what after it. `None` where there is none.

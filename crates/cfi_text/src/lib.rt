@@ -1,6 +1,6 @@
 //! Lines, words, names and numbers of texts.
 //!
-//! Stands on nothing. Proved: the readers and the writers of numbers meet the spellings of
+//! Stands on `cfi_values` and `cfi_word`. Proved: the readers and the writers of numbers meet the spellings of
 //! `specs/Decimal.antt` and `specs/Hex.antt` both ways, `Lines` and `statement` give what
 //! `specs/Lines.antt` says, and words and names are those of `specs/Words.antt` and
 //! `specs/Names.antt`. Only tested: nothing. Open: nothing.
@@ -15,7 +15,7 @@ mod words;
 pub use decimal::{put_dec, read_dec, read_small_dec};
 pub use hex::{put_hex, put_hex8, read_hex_digit, read_hex8};
 pub use lines::{Lines, statement};
-pub use names::{MAX_NAME, name_of};
+pub use names::{file_of, name_of};
 pub use words::{next_word, split_word, unblanked};
 
 #[cfg(test)]

@@ -1,27 +1,47 @@
-//! Names of sources and plans.
-ghost use Rattle.std.specs.Prelude.{◌≡◌, length, if◌then◌else◌, Some, None};
-ghost use Rattle.std.specs.Option.{option_map};
+//! Names of sources and plans, and of files.
+
+ghost use Rattle.std.specs.Prelude.{◌≡◌, length, if◌then◌else◌, Some, None, IfOk};
 ghost use Rattle.std.specs.Str.{is_utf8};
 ghost use Rattle.std.specs.List.{list_all};
-ghost use Rattle.cfi_text.specs.Names.{is_name, name_in, is_name_byte, begins_name};
+ghost use Rattle.cfi_text.specs.Names.{is_name, name_in, file_in, is_name_byte, begins_name};
 
-/// The greatest number of bytes of a name.
-pub const MAX_NAME: usize = 255;
+use cfi_values::Text;
+use cfi_word::limits::MAX_NAME;
+use std::alloc::{AllocError, Global};
 
-/// The name that a word is. `None` where it is none. It takes no memory.
-pub fn name_of(word: &[u8]) -> Option<&str>
-    ensures { option_map (λ name. name.now) result ≡ name_in word.now }
+/// The text of a word that is a name. `None` where it is none.
+pub fn name_of(alloc: Global, word: &[u8]) -> Result<Option<Text>, AllocError>
+    ensures { IfOk result (λ found. found ≡ name_in word.now) }
 {
-    if is_name(word) { text_of(word) } else { None }
+    if is_name(word) {
+        text_of(alloc, word)
+    } else {
+        Ok(None)
+    }
+}
+
+/// The text of a word that may be the name of a file. `None` where it is none.
+#[tactic(auto, unfolding(crate::specs::Names::is_file))]
+pub fn file_of(alloc: Global, word: &[u8]) -> Result<Option<Text>, AllocError>
+    ensures { IfOk result (λ found. found ≡ file_in word.now) }
+{
+    if 1 <= word.len() && word.len() <= MAX_NAME {
+        text_of(alloc, word)
+    } else {
+        Ok(None)
+    }
 }
 
 // The text of a word that is UTF-8.
-fn text_of(word: &[u8]) -> Option<&str>
-    ensures { option_map (λ text. text.now) result ≡ (if is_utf8 word.now then Some word.now else None) }
+fn text_of(alloc: Global, word: &[u8]) -> Result<Option<Text>, AllocError>
+    ensures { IfOk result (λ found. found ≡ (if is_utf8 word.now then Some word.now else None)) }
 {
     match str::from_utf8(word) {
-        Ok(text) => Some(text),
-        Err(_) => None,
+        Ok(text) => {
+            let text = String::from_str(alloc, text)?;
+            Ok(Some(Text::from_string(text)))
+        }
+        Err(_) => Ok(None),
     }
 }
 

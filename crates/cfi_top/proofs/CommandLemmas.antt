@@ -8,7 +8,7 @@ use Rattle.cfi_args.specs.Split.{IsSplit, command_in, operands_of as operands_in
 use Rattle.cfi_args.specs.Words.{IsOperand}
 use Rattle.cfi_top.specs.declared.command.Command.{Command}
 use Rattle.cfi_top.specs.declared.command.Command.TheVariants as commands
-use Rattle.cfi_top.specs.declared.command.TheConstants.{MAX_INPUTS}
+use Rattle.cfi_word.specs.declared.limits.TheConstants.{MAX_INPUTS}
 use Rattle.cfi_top.specs.Command.{name_of, operands_of, HasInputs, IsCommand}
 
 -- the command of words, read off their first

@@ -4,7 +4,7 @@ use Rattle.std.specs.Prelude.{◌≢◌}
 use Rattle.cfi_io.specs.Count.{Rose}
 use Rattle.cfi_io.specs.Files.{Files}
 use Rattle.cfi_io.specs.Told.{WhereKeptTold}
-use Rattle.cfi_refusal.specs.declared.refusal.Refusal.{Refusal}
+use Rattle.cfi_commands.specs.declared.refusal.Refusal.{Refusal}
 use Rattle.cfi_top.specs.declared.command.Command.{Command}
 use Rattle.cfi_top.specs.declared.answer.Answer.{Answer}
 use Rattle.cfi_top.specs.declared.answer.Answer.TheVariants as answers

@@ -4,9 +4,9 @@ use Rattle.std.specs.Prelude.{All, slice_get, IsSomeAnd}
 use Rattle.std.proofs.lemmas.Bool.{cases_lt}
 use Rattle.std.proofs.lemmas.List.Elements.{All-weaker}
 use Rattle.std.proofs.lemmas.Option.{slice_get_past}
-use Rattle.cfi_tools.specs.declared.reading.FileFault.{FileFault}
-use Rattle.cfi_tools.specs.declared.reading.FileFault.TheVariants as faults
-use Rattle.cfi_tools.specs.Modules.{IsShortFile, IsFirstBadFile}
+use Rattle.cfi_commands.specs.declared.reading.FileFault.{FileFault}
+use Rattle.cfi_commands.specs.declared.reading.FileFault.TheVariants as faults
+use Rattle.cfi_commands.specs.Modules.{IsShortFile, IsFirstBadFile}
 use Rattle.cfi_top.specs.declared.command.Command.TheVariants as commands
 use Rattle.cfi_top.specs.declared.answer.Answer.{Answer}
 use Rattle.cfi_top.specs.Refused.{IsFileRefused}

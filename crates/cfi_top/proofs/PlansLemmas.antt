@@ -9,15 +9,15 @@ use Rattle.cfi_plan.specs.declared.fault.PlanFault.{PlanFault}
 use Rattle.cfi_plan.specs.declared.fault.PlanFault.TheVariants as plan_faults
 use Rattle.cfi_plan.specs.Draft.{Fails}
 use Rattle.cfi_plan.specs.Reading.{plan_in}
-use Rattle.cfi_refusal.specs.declared.refusal.Refusal.{Refusal}
-use Rattle.cfi_refusal.specs.declared.refusal.Refusal.TheVariants.{Elf, Aux, Place, Verify}
-use Rattle.cfi_summary.specs.declared.fault.FilesFault.{FilesFault}
-use Rattle.cfi_summary.specs.declared.fault.FilesFault.TheVariants as summary
-use Rattle.cfi_summary.specs.Files.{IsFilesFault}
-use Rattle.cfi_tools.specs.declared.reading.FileFault.{FileFault}
-use Rattle.cfi_tools.specs.Reading.{IsFileFault}
-use Rattle.cfi_tools.proofs.ModulesLemmas.{same_count}
-use Rattle.cfi_tools.specs.declared.reading.FileFault.TheVariants as faults
+use Rattle.cfi_commands.specs.declared.refusal.Refusal.{Refusal}
+use Rattle.cfi_commands.specs.declared.refusal.Refusal.TheVariants.{Elf, Aux, Place, Verify}
+use Rattle.cfi_commands.specs.declared.fault.FilesFault.{FilesFault}
+use Rattle.cfi_commands.specs.declared.fault.FilesFault.TheVariants as summary
+use Rattle.cfi_commands.specs.Files.{IsFilesFault}
+use Rattle.cfi_commands.specs.declared.reading.FileFault.{FileFault}
+use Rattle.cfi_commands.specs.Reading.{IsFileFault}
+use Rattle.cfi_commands.proofs.ModulesLemmas.{same_count}
+use Rattle.cfi_commands.specs.declared.reading.FileFault.TheVariants as faults
 use Rattle.cfi_top.specs.declared.answer.Answer.{Answer}
 use Rattle.cfi_top.specs.declared.answer.Answer.TheVariants as answers
 use Rattle.cfi_top.specs.declared.command.Command.TheVariants as commands

@@ -3,7 +3,7 @@ use Rattle.std.proofs.Common.{◌≡◌, ◌≤◌, ℕ, List, map, Option, Some
 use Rattle.std.specs.Prelude.{◌<◌, length, IsSomeAnd}
 use Rattle.cfi_io.specs.Files.{Files}
 use Rattle.cfi_io.specs.Told.{WhereTold}
-use Rattle.cfi_io.specs.declared.shelf.TheConstants.{MAX_FILE_BYTES}
+use Rattle.cfi_word.specs.declared.limits.TheConstants.{MAX_FILE_BYTES}
 use Rattle.cfi_top.specs.declared.command.Command.{Command}
 use Rattle.cfi_top.specs.declared.reading.Cause.{Cause}
 use Rattle.cfi_top.specs.declared.reading.Cause.TheVariants.{Failed, Absent, TooLong}

@@ -5,8 +5,8 @@ use Rattle.cfi_io.specs.Files.{Files}
 use Rattle.std.proofs.lemmas.List.Elements.{All-nil, All-cons}
 use Rattle.cfi_bare.proofs.AcceptedLemmas.{accepted}
 use Rattle.cfi_bare.proofs.RefusalLemmas.{not_both}
-use Rattle.cfi_refusal.specs.declared.refusal.Refusal.{Refusal}
-use Rattle.cfi_refusal.specs.declared.refusal.Refusal.TheVariants.{Bare, Elf, Aux, Instr, Asm, Link, Plan, Place, Verify}
+use Rattle.cfi_commands.specs.declared.refusal.Refusal.{Refusal}
+use Rattle.cfi_commands.specs.declared.refusal.Refusal.TheVariants.{Bare, Elf, Aux, Instr, Asm, Link, Plan, Place, Verify}
 use Rattle.cfi_top.specs.declared.command.Command.TheVariants.{Run}
 use Rattle.cfi_top.specs.Outcome.{Refuses}
 use Rattle.cfi_top.specs.Reading.{IsShort}

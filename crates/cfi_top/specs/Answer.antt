@@ -7,8 +7,8 @@ use Rattle.cfi_top.specs.declared.answer.Output.TheVariants as outputs
 use Rattle.cfi_top.specs.declared.answer.TheConstants.{DONE, USAGE, READ_FAULT, NO_FILE, REFUSED}
 use Rattle.cfi_top.specs.declared.reading.Cause.{Cause}
 use Rattle.cfi_top.specs.declared.reading.Cause.TheVariants.{Failed, Absent, TooLong}
-use Rattle.cfi_refusal.specs.declared.refusal.Refusal.{Refusal}
-use Rattle.cfi_refusal.specs.Refusal.{refusal_text}
+use Rattle.cfi_commands.specs.declared.refusal.Refusal.{Refusal}
+use Rattle.cfi_commands.specs.Refusal.{refusal_text}
 use Rattle.cfi_top.specs.Text.{report_text}
 
 abbrev pub usage_line : List ℕ

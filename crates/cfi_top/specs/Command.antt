@@ -3,7 +3,7 @@ use Rattle.std.specs.Prelude.{◌≡◌, ℕ, ◌≤◌, List, [], ◌∷◌, le
 use Rattle.cfi_args.specs.Words.{IsOperand}
 use Rattle.cfi_top.specs.declared.command.Command.{Command}
 use Rattle.cfi_top.specs.declared.command.Command.TheVariants as commands
-use Rattle.cfi_top.specs.declared.command.TheConstants.{MAX_INPUTS}
+use Rattle.cfi_word.specs.declared.limits.TheConstants.{MAX_INPUTS}
 use Rattle.cfi_top.specs.Plans.{named_files}
 
 -- the word that names a command, and the words after it

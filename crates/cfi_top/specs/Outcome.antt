@@ -8,29 +8,29 @@ use Rattle.cfi_bare.specs.File.{IsAccepted, IsFirstRefusal}
 use Rattle.cfi_plan.specs.declared.plan.Plan.{Plan as ModulePlan}
 use Rattle.cfi_plan.specs.declared.fault.PlanFault.TheVariants as plan_faults
 use Rattle.cfi_plan.specs.Reading.{plan_in}
-use Rattle.cfi_refusal.specs.declared.refusal.Refusal.{Refusal}
-use Rattle.cfi_refusal.specs.declared.refusal.Refusal.TheVariants.{Bare, Elf, Aux, Instr, Asm, Link, Plan, Place, Verify}
+use Rattle.cfi_commands.specs.declared.refusal.Refusal.{Refusal}
+use Rattle.cfi_commands.specs.declared.refusal.Refusal.TheVariants.{Bare, Elf, Aux, Instr, Asm, Link, Plan, Place, Verify}
 use Rattle.cfi_report.specs.declared.report.GuestPart.{GuestPart}
-use Rattle.cfi_summary.specs.declared.fault.FilesFault.{FilesFault}
-use Rattle.cfi_summary.specs.declared.fault.FilesFault.TheVariants as summary
-use Rattle.cfi_summary.specs.Files.{IsFilesFault}
-use Rattle.cfi_summary.specs.Graph.{IsGraphText}
-use Rattle.cfi_summary.specs.Verified.{IsVerifiedText}
-use Rattle.cfi_tools.specs.Assembling.{IsAssembled}
-use Rattle.cfi_tools.specs.declared.reading.FileFault.{FileFault}
-use Rattle.cfi_tools.specs.declared.reading.FileFault.TheVariants as faults
-use Rattle.cfi_tools.specs.declared.instrumenting.InstrumentFault.TheVariants as instruments
-use Rattle.cfi_tools.specs.Instrumenting.{IsInstrumentedFile, IsInstrumentFault}
-use Rattle.cfi_tools.specs.declared.linking.LinkingFault.TheVariants as linkings
-use Rattle.cfi_tools.specs.Linking.{IsLinkedFile, IsLinkingFault}
-use Rattle.cfi_tools.specs.Listing.{IsObjectListing}
-use Rattle.cfi_tools.specs.Modules.{IsFirstBadFile}
-use Rattle.cfi_tools.specs.Reading.{IsFileFault}
+use Rattle.cfi_commands.specs.declared.fault.FilesFault.{FilesFault}
+use Rattle.cfi_commands.specs.declared.fault.FilesFault.TheVariants as summary
+use Rattle.cfi_commands.specs.Files.{IsFilesFault}
+use Rattle.cfi_commands.specs.Graph.{IsGraphText}
+use Rattle.cfi_commands.specs.Verified.{IsVerifiedText}
+use Rattle.cfi_commands.specs.Assembling.{IsAssembled}
+use Rattle.cfi_commands.specs.declared.reading.FileFault.{FileFault}
+use Rattle.cfi_commands.specs.declared.reading.FileFault.TheVariants as faults
+use Rattle.cfi_commands.specs.declared.instrumenting.InstrumentFault.TheVariants as instruments
+use Rattle.cfi_commands.specs.Instrumenting.{IsInstrumentedFile, IsInstrumentFault}
+use Rattle.cfi_commands.specs.declared.linking.LinkingFault.TheVariants as linkings
+use Rattle.cfi_commands.specs.Linking.{IsLinkedFile, IsLinkingFault}
+use Rattle.cfi_commands.specs.Listing.{IsObjectListing}
+use Rattle.cfi_commands.specs.Modules.{IsFirstBadFile}
+use Rattle.cfi_commands.specs.Reading.{IsFileFault}
 use Rattle.cfi_top.specs.declared.command.Command.{Command}
 use Rattle.cfi_top.specs.declared.command.Command.TheVariants as commands
 use Rattle.cfi_top.specs.declared.answer.Answer.{Answer}
 use Rattle.cfi_top.specs.declared.answer.Answer.TheVariants as answers
-use Rattle.cfi_plan.specs.declared.limits.TheConstants.{FUEL}
+use Rattle.cfi_word.specs.declared.limits.TheConstants.{FUEL}
 use Rattle.cfi_top.specs.Command.{IsCommand, Fits, inputs_of, more_of}
 use Rattle.cfi_top.specs.Outside.{ShelfView}
 use Rattle.cfi_top.specs.Plans.{IsSaid, files_of}

@@ -2,7 +2,7 @@
 use Rattle.std.specs.Prelude.{◌≡◌, ℕ, ◌<◌, ◌≤◌, List, length, map, take, slice_get, All, Some, None, IsSomeAnd, Result, Ok, Err}
 use Rattle.cfi_io.specs.Count.{Rose}
 use Rattle.cfi_io.specs.Told.{WhereTold}
-use Rattle.cfi_io.specs.declared.shelf.TheConstants.{MAX_FILE_BYTES}
+use Rattle.cfi_word.specs.declared.limits.TheConstants.{MAX_FILE_BYTES}
 use Rattle.cfi_top.specs.declared.reading.Cause.{Cause}
 use Rattle.cfi_top.specs.declared.reading.Cause.TheVariants.{Failed, Absent, TooLong}
 use Rattle.cfi_top.specs.declared.reading.Unread.{Unread}

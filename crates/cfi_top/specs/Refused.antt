@@ -2,12 +2,12 @@
 use Rattle.std.specs.Prelude.{◌≡◌, ℕ, ◌<◌, List, slice_get, IsSomeAnd, ⊤}
 use Rattle.cfi_plan.specs.declared.fault.PlanFault.{PlanFault}
 use Rattle.cfi_plan.specs.declared.plan.PlanModule.{PlanModule}
-use Rattle.cfi_refusal.specs.declared.refusal.Refusal.{Refusal}
-use Rattle.cfi_refusal.specs.declared.refusal.Refusal.TheVariants.{Elf, Aux, Plan, Place, Verify}
-use Rattle.cfi_summary.specs.declared.fault.FilesFault.{FilesFault}
-use Rattle.cfi_summary.specs.declared.fault.FilesFault.TheVariants as summary
-use Rattle.cfi_tools.specs.declared.reading.FileFault.{FileFault}
-use Rattle.cfi_tools.specs.declared.reading.FileFault.TheVariants as faults
+use Rattle.cfi_commands.specs.declared.refusal.Refusal.{Refusal}
+use Rattle.cfi_commands.specs.declared.refusal.Refusal.TheVariants.{Elf, Aux, Plan, Place, Verify}
+use Rattle.cfi_commands.specs.declared.fault.FilesFault.{FilesFault}
+use Rattle.cfi_commands.specs.declared.fault.FilesFault.TheVariants as summary
+use Rattle.cfi_commands.specs.declared.reading.FileFault.{FileFault}
+use Rattle.cfi_commands.specs.declared.reading.FileFault.TheVariants as faults
 use Rattle.cfi_top.specs.declared.answer.Answer.{Answer}
 use Rattle.cfi_top.specs.declared.answer.Answer.TheVariants as answers
 

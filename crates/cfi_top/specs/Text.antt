@@ -4,8 +4,7 @@ use Rattle.cfi_plan.specs.declared.journal.ModuleLine.{ModuleLine}
 use Rattle.cfi_report.specs.declared.report.Report.{Report}
 use Rattle.cfi_report.specs.declared.report.GuestPart.{GuestPart}
 use Rattle.cfi_report.specs.Report.{text_of}
-use Rattle.cfi_word.specs.declared.layout.TheConstants.{FIRST_BASE}
-use Rattle.cfi_unit.specs.declared.unit.TheConstants.{DATA_START}
+use Rattle.cfi_word.specs.declared.map.TheConstants.{FIRST_BASE, DATA_START}
 
 -- where the file's words lie
 abbrev pub bare_module : ModuleLine

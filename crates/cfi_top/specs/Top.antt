@@ -5,11 +5,11 @@ use Rattle.cfi_io.specs.Count.{Rose}
 use Rattle.cfi_io.specs.Files.{Files, Puts}
 use Rattle.cfi_io.specs.Told.{WhereKeptTold}
 use Rattle.cfi_report.specs.declared.report.GuestPart.{GuestPart}
-use Rattle.cfi_refusal.specs.declared.refusal.Refusal.{Refusal}
-use Rattle.cfi_tools.specs.Assembling.{IsAssembled}
-use Rattle.cfi_tools.specs.Instrumenting.{IsInstrumentedFile}
-use Rattle.cfi_tools.specs.Linking.{IsLinkedFile}
-use Rattle.cfi_tools.specs.Listing.{IsObjectListing}
+use Rattle.cfi_commands.specs.declared.refusal.Refusal.{Refusal}
+use Rattle.cfi_commands.specs.Assembling.{IsAssembled}
+use Rattle.cfi_commands.specs.Instrumenting.{IsInstrumentedFile}
+use Rattle.cfi_commands.specs.Linking.{IsLinkedFile}
+use Rattle.cfi_commands.specs.Listing.{IsObjectListing}
 use Rattle.cfi_top.specs.declared.command.Command.{Command}
 use Rattle.cfi_top.specs.declared.answer.Answer.{Answer}
 use Rattle.cfi_top.specs.Answer.{refused_line, unread_line, unread_status, output_of}

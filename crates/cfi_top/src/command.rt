@@ -3,16 +3,12 @@ ghost use Rattle.cfi_args.specs.Words.{IsOperand, texts};
 ghost use Rattle.cfi_top.specs.Command.{IsReading, inputs_of, more_of};
 ghost use Rattle.cfi_top.specs.Reading.{IsShort};
 
+use cfi_word::limits::MAX_INPUTS;
 use crate::names::{copies_of, named_files, names_of, one_name, text_of};
 use crate::reading::only;
 use cfi_args::split_words;
-use cfi_list::Items;
-use cfi_plan::Text;
-use cfi_unit::Bytes;
+use cfi_values::{Items, Text, Bytes};
 use std::alloc::{AllocError, Global};
-
-/// The most files that a command links.
-pub const MAX_INPUTS: usize = 64;
 
 /// A command of the program, with its operands, which are names of files.
 #[derive(Debug, Drop)]

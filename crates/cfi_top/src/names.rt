@@ -1,10 +1,11 @@
 //! Names of files.
 
 ghost use Rattle.std.specs.Prelude.{◌≡◌, ◌≤◌, ◌∷◌, [], length, map, IfOk};
-ghost use Rattle.cfi_io.specs.declared.shelf.TheConstants.{MAX_FILE_BYTES};
+ghost use Rattle.cfi_word.specs.declared.limits.TheConstants.{MAX_FILE_BYTES};
 ghost use Rattle.cfi_top.specs.Plans.{named_files};
 
-use cfi_plan::{PlanFault, PlanModule, Text, read_plan};
+use cfi_plan::{PlanFault, PlanModule, read_plan};
+use cfi_values::Text;
 use std::alloc::{AllocError, Global};
 
 /// The name of a file.

@@ -1,7 +1,7 @@
 //! The commands on the modules of a plan.
 
 ghost use Rattle.std.specs.Prelude.{◌≡◌, ◌≤◌, ◌∷◌, [], length, All, IfOk};
-ghost use Rattle.cfi_io.specs.declared.shelf.TheConstants.{MAX_FILE_BYTES};
+ghost use Rattle.cfi_word.specs.declared.limits.TheConstants.{MAX_FILE_BYTES};
 ghost use Rattle.cfi_top.specs.declared.command.Command.TheVariants as commands;
 ghost use Rattle.cfi_top.specs.Outcome.{IsWorked};
 ghost use Rattle.cfi_top.specs.Plans.{named_files};
@@ -9,9 +9,9 @@ ghost use Rattle.cfi_top.specs.Reading.{IsShort};
 
 use crate::answer::Answer;
 use crate::refused::{files_refused, plan_refused};
-use cfi_plan::{Text, read_plan};
-use cfi_summary::{graph_text, verified_text};
-use cfi_unit::Bytes;
+use cfi_plan::read_plan;
+use cfi_values::{Text, Bytes};
+use cfi_commands::{graph_text, verified_text};
 use std::alloc::{AllocError, Global};
 
 /// Verifies the modules of a plan, in order.

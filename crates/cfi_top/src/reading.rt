@@ -4,9 +4,7 @@ ghost use Rattle.cfi_top.specs.Reading.{HasRead, IsUnread, IsFound};
 
 use crate::names::text_of;
 use cfi_io::{Shelf, ShelfFault};
-use cfi_list::Items;
-use cfi_plan::Text;
-use cfi_unit::Bytes;
+use cfi_values::{Items, Text, Bytes};
 use std::alloc::{AllocError, Global};
 
 /// Why a file is not read.

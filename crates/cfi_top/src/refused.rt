@@ -6,10 +6,9 @@ ghost use Rattle.cfi_top.specs.Refused.{IsAmong, IsFileRefused, IsFilesRefused, 
 
 use crate::answer::Answer;
 use crate::names::text_of;
-use cfi_plan::{PlanFault, PlanModule, Text};
-use cfi_refusal::Refusal;
-use cfi_summary::FilesFault;
-use cfi_tools::FileFault;
+use cfi_plan::{PlanFault, PlanModule};
+use cfi_values::Text;
+use cfi_commands::{FileFault, FilesFault, Refusal};
 use std::alloc::{AllocError, Global};
 
 /// The refusal of a file that is no module.

@@ -1,5 +1,5 @@
 ghost use Rattle.std.specs.Prelude.{◌≡◌, ◌≤◌, ◌<◌, ◌*◌, IfOk};
-ghost use Rattle.cfi_word.specs.declared.layout.TheConstants.{FIRST_BASE};
+ghost use Rattle.cfi_word.specs.declared.map.TheConstants.{FIRST_BASE};
 ghost use Rattle.cfi_fixed.specs.Fixed.{CanRunOver};
 ghost use Rattle.cfi_fixed.specs.Bare.{HasEnded};
 ghost use Rattle.cfi_top.specs.Run.{IsRun, part_of};
@@ -8,10 +8,10 @@ use crate::text::bare_name;
 use cfi_bare::{BareCode, image_of};
 use cfi_fixed::{run_fixed, serve_bare};
 use cfi_io::Gate;
-use cfi_list::Items;
+use cfi_values::{Items, Bytes};
 use cfi_report::GuestPart;
-use cfi_unit::Bytes;
-use cfi_word::{FIRST_BASE, Image};
+use cfi_word::Image;
+use cfi_word::map::FIRST_BASE;
 use rv_guest::Guest;
 use std::alloc::{AllocError, Global};
 

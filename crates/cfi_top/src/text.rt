@@ -2,11 +2,10 @@ ghost use Rattle.std.specs.Prelude.{◌≡◌, IfOk, codes};
 ghost use Rattle.cfi_top.specs.Text.{bare_module, bare_report, report_text};
 
 use crate::names::text_of;
-use cfi_list::Items;
-use cfi_plan::{ModuleLine, Text};
+use cfi_values::{Items, Text};
+use cfi_plan::ModuleLine;
 use cfi_report::{GuestPart, Report, write_report};
-use cfi_unit::DATA_START;
-use cfi_word::FIRST_BASE;
+use cfi_word::map::{DATA_START, FIRST_BASE};
 use std::alloc::{AllocError, Global};
 
 /// The name of a bare file's module, and of its guest's entry.

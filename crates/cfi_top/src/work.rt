@@ -1,6 +1,5 @@
 ghost use Rattle.std.specs.Prelude.{◌≡◌, ◌≤◌, ◌∷◌, [], length, All, IfOk};
-ghost use Rattle.cfi_io.specs.declared.shelf.TheConstants.{MAX_FILE_BYTES};
-ghost use Rattle.cfi_top.specs.declared.command.TheConstants.{MAX_INPUTS};
+ghost use Rattle.cfi_word.specs.declared.limits.TheConstants.{MAX_FILE_BYTES, MAX_INPUTS};
 ghost use Rattle.cfi_top.specs.declared.command.Command.TheVariants as commands;
 ghost use Rattle.cfi_top.specs.Command.{HasInputs, inputs_of, more_of};
 ghost use Rattle.cfi_top.specs.Outside.{shelf_view};
@@ -16,10 +15,11 @@ use crate::refused::file_refused;
 use crate::run::run_bare;
 use cfi_bare::accept;
 use cfi_io::{Gate, Shelf};
-use cfi_plan::{FUEL, Text};
-use cfi_refusal::Refusal;
-use cfi_tools::{InstrumentFault, LinkingFault, assembled, instrumented, linked, listing_of};
-use cfi_unit::Bytes;
+use cfi_values::{Text, Bytes};
+use cfi_word::limits::FUEL;
+use cfi_commands::{
+    InstrumentFault, LinkingFault, Refusal, assembled, instrumented, linked, listing_of,
+};
 use elf_read::ElfFault;
 use rv_asm::AsmFault;
 use std::alloc::{AllocError, Global};

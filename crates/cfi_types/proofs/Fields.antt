@@ -6,8 +6,10 @@ use Rattle.cfi_types.specs.declared.fault.TypeFault.{TypeFault}
 use Rattle.cfi_types.specs.declared.fault.TypeFault.TheVariants.{BadNode}
 use Rattle.cfi_types.specs.Kind.{field_fits}
 use Rattle.cfi_types.specs.Spelling.{word, AreFields}
-use Rattle.cfi_types.specs.Reading.{◌>>=◌, unless_bad, Fails, word_at, fields_at}
-use Rattle.cfi_types.proofs.Parts.{IsBytes, bind_ok, unless_bad_ok, ok_is, Takes, Takes-then, word_takes, word_again, with_front, regroup, with_front_nil, Fails-bind}
+use Rattle.cfi_types.specs.Reading.{Fails, word_at, fields_at}
+use Rattle.cfi_values.specs.Then.{◌>>=◌, unless_bad}
+use Rattle.cfi_types.proofs.Parts.{IsBytes, Takes, Takes-then, word_takes, word_again, with_front, regroup, with_front_nil, Fails-bind}
+use Rattle.cfi_values.proofs.ThenLemmas.{then_ok, unless_bad_ok, ok_is}
 
 pub fields_go_on : (k kind count i : ℕ) (front bytes : List ℕ) (w : ℕ) (after : List ℕ)
     (total : Result (List ℕ × List ℕ) TypeFault) → i < count → word_at bytes ≡ Ok (w, after)
@@ -64,12 +66,12 @@ fields_take k kind place zero bytes x fits e =
     subst (λ (y : List ℕ × List ℕ). Takes bytes (flat_map word y.0) y.1 × (length y.0 ≡ 0) × AreFields kind place y.0)
     (ok_is ([], bytes) x e) (record { parts = refl; rest_fits = fits }, refl, tt)
 fields_take k kind place (suc count) bytes x fits e =
-    let a = bind_ok (word_at bytes)
+    let a = then_ok (word_at bytes)
     (λ w. unless_bad (field_fits kind place w.0) (BadNode k)
     (fields_at k kind (suc place) count w.1 >>= λ ws. Ok (w.0 ∷ ws.0, ws.1))) x e in
     let g = unless_bad_ok (field_fits kind place a.0.0) (BadNode k)
     (fields_at k kind (suc place) count a.0.1 >>= λ ws. Ok (a.0.0 ∷ ws.0, ws.1)) x a.2 in
-    let b = bind_ok (fields_at k kind (suc place) count a.0.1) (λ ws. Ok (a.0.0 ∷ ws.0, ws.1)) x g.1 in
+    let b = then_ok (fields_at k kind (suc place) count a.0.1) (λ ws. Ok (a.0.0 ∷ ws.0, ws.1)) x g.1 in
     let first = word_takes bytes a.0.0 a.0.1 fits a.1 in
     let second = fields_take k kind (suc place) count a.0.1 b.0 first.0.rest_fits b.1 in
     let both = Takes-then bytes (word a.0.0) a.0.1 (flat_map word b.0.0) b.0.1 first.0 second.0 in

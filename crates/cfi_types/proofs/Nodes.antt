@@ -8,8 +8,10 @@ use Rattle.cfi_types.specs.declared.fault.TypeFault.TheVariants.{BadNode}
 use Rattle.cfi_types.specs.Node.{Node, make_node}
 use Rattle.cfi_types.specs.Kind.{has_arity}
 use Rattle.cfi_types.specs.Spelling.{word, node_bytes, IsNode}
-use Rattle.cfi_types.specs.Reading.{◌>>=◌, unless_bad, Fails, word_at, fields_at, node_at, nodes_at}
-use Rattle.cfi_types.proofs.Parts.{IsBytes, bind_ok, unless_bad_ok, ok_is, Takes, Takes-then, word_takes, with_front, regroup, with_front_nil, Fails-bind}
+use Rattle.cfi_types.specs.Reading.{Fails, word_at, fields_at, node_at, nodes_at}
+use Rattle.cfi_values.specs.Then.{◌>>=◌, unless_bad}
+use Rattle.cfi_types.proofs.Parts.{IsBytes, Takes, Takes-then, word_takes, with_front, regroup, with_front_nil, Fails-bind}
+use Rattle.cfi_values.proofs.ThenLemmas.{then_ok, unless_bad_ok, ok_is}
 use Rattle.cfi_types.proofs.Fields.{fields_take}
 
 pub nodes_go_on : (count i : ℕ) (front : List Node) (bytes : List ℕ) (x : Node) (after : List ℕ)
@@ -51,19 +53,19 @@ pub node_takes : (k : ℕ) (bytes : List ℕ) (x : Node × List ℕ) → IsBytes
     → Takes bytes (node_bytes x.0) x.1 × IsNode x.0
 unfolding node_at
 node_takes k bytes x fits e =
-    let a = bind_ok (word_at bytes)
+    let a = then_ok (word_at bytes)
     (λ kind. unless_bad (leb kind.0 FUNC) (BadNode k)
     (word_at kind.1 >>= λ count. unless_bad (has_arity kind.0 count.0) (BadNode k)
     (fields_at k kind.0 0 count.0 count.1 >>= λ fields. Ok (make_node kind.0 fields.0, fields.1)))) x e in
     let g = unless_bad_ok (leb a.0.0 FUNC) (BadNode k)
     (word_at a.0.1 >>= λ count. unless_bad (has_arity a.0.0 count.0) (BadNode k)
     (fields_at k a.0.0 0 count.0 count.1 >>= λ fields. Ok (make_node a.0.0 fields.0, fields.1))) x a.2 in
-    let b = bind_ok (word_at a.0.1)
+    let b = then_ok (word_at a.0.1)
     (λ count. unless_bad (has_arity a.0.0 count.0) (BadNode k)
     (fields_at k a.0.0 0 count.0 count.1 >>= λ fields. Ok (make_node a.0.0 fields.0, fields.1))) x g.1 in
     let h = unless_bad_ok (has_arity a.0.0 b.0.0) (BadNode k)
     (fields_at k a.0.0 0 b.0.0 b.0.1 >>= λ fields. Ok (make_node a.0.0 fields.0, fields.1)) x b.2 in
-    let c = bind_ok (fields_at k a.0.0 0 b.0.0 b.0.1) (λ fields. Ok (make_node a.0.0 fields.0, fields.1)) x h.1 in
+    let c = then_ok (fields_at k a.0.0 0 b.0.0 b.0.1) (λ fields. Ok (make_node a.0.0 fields.0, fields.1)) x h.1 in
     let t0 = word_takes bytes a.0.0 a.0.1 fits a.1 in
     let t1 = word_takes a.0.1 b.0.0 b.0.1 t0.0.rest_fits b.1 in
     let t2 = fields_take k a.0.0 0 b.0.0 b.0.1 c.0 t1.0.rest_fits c.1 in
@@ -84,9 +86,9 @@ nodes_take k zero bytes x fits e =
     subst (λ (y : List Node × List ℕ). Takes bytes (flat_map node_bytes y.0) y.1 × (length y.0 ≡ 0)
     × AllByRecursion IsNode y.0) (ok_is ([], bytes) x e) (record { parts = refl; rest_fits = fits }, refl, tt)
 nodes_take k (suc count) bytes x fits e =
-    let a = bind_ok (node_at k bytes)
+    let a = then_ok (node_at k bytes)
     (λ first. nodes_at (suc k) count first.1 >>= λ others. Ok (first.0 ∷ others.0, others.1)) x e in
-    let b = bind_ok (nodes_at (suc k) count a.0.1) (λ others. Ok (a.0.0 ∷ others.0, others.1)) x a.2 in
+    let b = then_ok (nodes_at (suc k) count a.0.1) (λ others. Ok (a.0.0 ∷ others.0, others.1)) x a.2 in
     let first = node_takes k bytes a.0 fits a.1 in
     let second = nodes_take (suc k) count a.0.1 b.0 first.0.rest_fits b.1 in
     let both = Takes-then bytes (node_bytes a.0.0) a.0.1 (flat_map node_bytes b.0.0) b.0.1 first.0 second.0 in

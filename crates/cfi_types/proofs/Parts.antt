@@ -7,7 +7,8 @@ use Rattle.std.proofs.lemmas.Nat.{le_bytes_4, from_le_bytes-to_le_bytes_4}
 use Rattle.cfi_types.specs.declared.fault.TypeFault.{TypeFault}
 use Rattle.cfi_types.specs.declared.fault.TypeFault.TheVariants.{BadNode, BadIndex, Short, Memory}
 use Rattle.cfi_types.specs.Spelling.{word}
-use Rattle.cfi_types.specs.Reading.{◌>>=◌, unless_bad, Fails, word_at}
+use Rattle.cfi_types.specs.Reading.{Fails, word_at}
+use Rattle.cfi_values.specs.Then.{◌>>=◌, unless_bad}
 
 abbrev pub IsBytes : List ℕ → Type 0
 IsBytes bytes = (i : ℕ) → get_or bytes i 0 < 256
@@ -21,24 +22,6 @@ IsBytes-take n bytes h i =
       | inl lt ↦ rw (get_or-take n bytes i 0 lt) (h i)
       | inr le ↦ rw (get_or_past (take n bytes) i 0 (omega (arith, length-take n bytes))) (omega arith)
     ]
-
--- the value of a step that did not fail
-pub bind_ok : {A B : Type 0} (r : Result A TypeFault) (f : A → Result B TypeFault) (y : B) → (r >>= f) ≡ Ok y
-    → (x : A) × (r ≡ Ok x) × (f x ≡ Ok y)
-bind_ok (Ok x) f y e = (x, refl, e)
-bind_ok (Err d) f y e = absurd cc
-
--- a test that did not fail
-pub unless_bad_ok : {A : Type 0} (b : Bool) (d : TypeFault) (r : Result A TypeFault) (y : A) → unless_bad b d r ≡ Ok y
-    → (b ≡ true) × (r ≡ Ok y)
-unless_bad_ok true d r y e = (refl, e)
-unless_bad_ok false d r y e = absurd cc
-
-abbrev done : {A : Type 0} → A → Result A TypeFault
-done x = Ok x
-
-pub ok_is : {A : Type 0} (x y : A) → done x ≡ done y → x ≡ y
-ok_is x y e = cc
 
 -- what a reader took from the front
 pub record Takes (bytes text rest : List ℕ) : Type 0 where

@@ -7,14 +7,17 @@ use Rattle.std.proofs.lemmas.Bool.Decides.{nat_tests}
 use Rattle.std.proofs.lemmas.List.{append-nil, nil_from_length, drop_more, drop_all}
 use Rattle.std.proofs.lemmas.List.Concat.{flat_map-cons}
 use Rattle.std.proofs.lemmas.List.Elements.{All-from_recursion, recursion_from_All}
-use Rattle.cfi_types.specs.declared.kind.TheConstants.{FUNC, MAX_FIELDS, MAX_NODES}
+use Rattle.cfi_types.specs.declared.kind.TheConstants.{FUNC}
+use Rattle.cfi_word.specs.declared.limits.TheConstants.{MAX_FIELDS, MAX_NODES}
 use Rattle.cfi_types.specs.declared.fault.TypeFault.{TypeFault}
 use Rattle.cfi_types.specs.declared.fault.TypeFault.TheVariants.{BadNode, Short}
 use Rattle.cfi_types.specs.Node.{Node}
 use Rattle.cfi_types.specs.Kind.{nodes_of, has_arity}
 use Rattle.cfi_types.specs.Spelling.{word, node_bytes, spelling, IsNode, NamesBelow, AreTypes}
-use Rattle.cfi_types.specs.Reading.{◌>>=◌, unless_bad, Gives, word_at, node_at, nodes_at, stray_from, judged, types_in}
-use Rattle.cfi_types.proofs.Parts.{IsBytes, bind_ok, unless_bad_ok, ok_is, Takes-then, word_takes, word_again}
+use Rattle.cfi_types.specs.Reading.{Gives, word_at, node_at, nodes_at, stray_from, judged, types_in}
+use Rattle.cfi_values.specs.Then.{◌>>=◌, unless_bad}
+use Rattle.cfi_types.proofs.Parts.{IsBytes, Takes-then, word_takes, word_again}
+use Rattle.cfi_values.proofs.ThenLemmas.{then_ok, unless_bad_ok, ok_is}
 use Rattle.cfi_types.proofs.Fields.{fields_again}
 use Rattle.cfi_types.proofs.Nodes.{nodes_take}
 
@@ -129,14 +132,14 @@ pub types_take : (bytes : List ℕ) (xs : List Node) → IsBytes bytes → types
     → AreTypes xs × (bytes ≡ spelling xs)
 unfolding types_in
 types_take bytes xs fits e =
-    let a = bind_ok (word_at bytes)
+    let a = then_ok (word_at bytes)
     (λ count. unless_bad (leb count.0 MAX_NODES) (BadNode MAX_NODES)
     (nodes_at 0 count.0 count.1 >>= λ nodes. unless_bad (eqb (length nodes.1) 0) Short
     (judged nodes.0 (stray_from count.0 0 nodes.0)))) xs e in
     let g = unless_bad_ok (leb a.0.0 MAX_NODES) (BadNode MAX_NODES)
     (nodes_at 0 a.0.0 a.0.1 >>= λ nodes. unless_bad (eqb (length nodes.1) 0) Short
     (judged nodes.0 (stray_from a.0.0 0 nodes.0))) xs a.2 in
-    let b = bind_ok (nodes_at 0 a.0.0 a.0.1)
+    let b = then_ok (nodes_at 0 a.0.0 a.0.1)
     (λ nodes. unless_bad (eqb (length nodes.1) 0) Short (judged nodes.0 (stray_from a.0.0 0 nodes.0))) xs g.1 in
     let h = unless_bad_ok (eqb (length b.0.1) 0) Short (judged b.0.0 (stray_from a.0.0 0 b.0.0)) xs b.2 in
     let j = judged_ok b.0.0 xs (stray_from a.0.0 0 b.0.0) h.1 in

@@ -1,6 +1,7 @@
 -- The kinds of type nodes, and which fields a node of each kind has.
 use Rattle.std.specs.Prelude.{ℕ, Bool, true, false, ◌==◌, ◌||◌, ◌&&◌, nat_le, if◌then◌else◌, List, take, drop}
-use Rattle.cfi_types.specs.declared.kind.TheConstants.{VOID, INT, REAL, PTR, ARRAY, STRUCT, UNION, FUNC, MAX_FIELDS}
+use Rattle.cfi_types.specs.declared.kind.TheConstants.{VOID, INT, REAL, PTR, ARRAY, STRUCT, UNION, FUNC}
+use Rattle.cfi_word.specs.declared.limits.TheConstants.{MAX_FIELDS}
 use Rattle.cfi_types.specs.Node.{Node}
 
 -- how many of a node's fields, from the first on, are plain numbers; the others name nodes of its table

@@ -2,20 +2,13 @@
 use Rattle.std.specs.Prelude.{◌≡◌, ℕ, zero, suc, List, [], ◌∷◌, length, take, drop, Bool, Option, Some, None, Result, Ok, Err, nat_lt, nat_le, ◌==◌, if◌then◌else◌}
 use Rattle.std.specs.List.{list_all}
 use Rattle.std.specs.Int.{w32, from_le_bytes}
-use Rattle.cfi_types.specs.declared.kind.TheConstants.{FUNC, MAX_NODES}
+use Rattle.cfi_types.specs.declared.kind.TheConstants.{FUNC}
+use Rattle.cfi_word.specs.declared.limits.TheConstants.{MAX_NODES}
 use Rattle.cfi_types.specs.declared.fault.TypeFault.{TypeFault}
 use Rattle.cfi_types.specs.declared.fault.TypeFault.TheVariants.{BadNode, BadIndex, Short, Memory}
 use Rattle.cfi_types.specs.Node.{Node, make_node}
 use Rattle.cfi_types.specs.Kind.{nodes_of, has_arity, field_fits}
-
-infixl 10 ◌>>=◌
-abbrev pub ◌>>=◌ : {A B : Type 0} → Result A TypeFault → (A → Result B TypeFault) → Result B TypeFault
-(Ok x) >>= f = f x
-(Err e) >>= f = Err e
-
--- goes on where a test holds, and else has the fault
-abbrev pub unless_bad : {A : Type 0} → Bool → TypeFault → Result A TypeFault → Result A TypeFault
-unless_bad fits fault on = if fits then on else Err fault
+use Rattle.cfi_values.specs.Then.{◌>>=◌, unless_bad}
 
 -- what a function returned, seen by view, is what reading gives, unless memory ran out
 abbrev pub Fails : {Y : Type 0} → TypeFault → Result Y TypeFault → Type 0

@@ -3,6 +3,8 @@
 ghost use Rattle.std.specs.Prelude.{◌≡◌};
 ghost use Rattle.cfi_types.specs.Kind.{number_count, has_arity, field_fits};
 
+use cfi_word::limits::MAX_FIELDS;
+
 /// The kind of the type `void`, which has no fields.
 pub const VOID: u32 = 0;
 /// The kind of an integer: its bits (8, 16, 32 or 64), and 1 where it is signed, else 0.
@@ -19,11 +21,6 @@ pub const STRUCT: u32 = 5;
 pub const UNION: u32 = 6;
 /// The kind of a function: the node of its result, then those of its parameters.
 pub const FUNC: u32 = 7;
-
-/// The greatest number of nodes of a table.
-pub const MAX_NODES: u32 = 1024;
-/// The greatest number of fields of a node.
-pub const MAX_FIELDS: u32 = 255;
 
 // How many of a node's first fields are plain numbers.
 pub(crate) fn count_numbers(kind: u32) -> usize

@@ -22,7 +22,7 @@ mod writing;
 pub use book::TypeBook;
 pub use classes::Classes;
 pub use fault::TypeFault;
-pub use kind::{ARRAY, FUNC, INT, MAX_FIELDS, MAX_NODES, PTR, REAL, STRUCT, UNION, VOID};
+pub use kind::{ARRAY, FUNC, INT, PTR, REAL, STRUCT, UNION, VOID};
 pub use node::TypeNode;
 pub use reading::read_types;
 pub use table::TypeTable;

@@ -8,7 +8,8 @@ ghost use Rattle.cfi_types.specs.Spelling.{AreTypes, spelling};
 ghost use Rattle.cfi_types.specs.Reading.{Gives, word_at, fields_at, node_at, nodes_at, stray_from, types_in};
 
 use crate::fault::TypeFault;
-use crate::kind::{FUNC, MAX_NODES, may_be_field, may_have};
+use crate::kind::{FUNC, may_be_field, may_have};
+use cfi_word::limits::MAX_NODES;
 use crate::node::TypeNode;
 use crate::table::TypeTable;
 use std::alloc::Global;

@@ -98,7 +98,7 @@ UnitCode-first words unit code h =
     )
 
 -- code before code is code
-AllByRecursion-append : (us vs : List CodeUnit) → AllByRecursion IsUnit us → AllByRecursion IsUnit vs →
+pub AllByRecursion-append : (us vs : List CodeUnit) → AllByRecursion IsUnit us → AllByRecursion IsUnit vs →
     AllByRecursion IsUnit (us ++ vs)
 AllByRecursion-append [] vs p q = q
 AllByRecursion-append (u ∷ us) vs p q = (p.0, AllByRecursion-append us vs p.1 q)

@@ -7,7 +7,8 @@ use Rattle.rv_insn.specs.declared.insn.Insn.TheVariants as insns
 use Rattle.rv_insn.specs.declared.insn.ImmOp.TheVariants.{Addi}
 use Rattle.rv_insn.specs.Word.{IsSigned, low_bits}
 use Rattle.rv_insn.specs.Insn.{InRange}
-use Rattle.cfi_unit.specs.declared.unit.TheConstants.{SLOTS, BARY}
+use Rattle.cfi_word.specs.declared.sizes.TheConstants.{SLOTS}
+use Rattle.cfi_word.specs.declared.map.TheConstants.{BARY}
 use Rattle.cfi_unit.specs.declared.unit.Unit.{Unit as CodeUnit}
 use Rattle.cfi_unit.specs.declared.unit.Unit.TheVariants as units
 use Rattle.cfi_unit.specs.Unit.{IsFree, IsPlain, IsUnit, IsLong, masked, check, insns_of, words_of, size_of, link_register, high_part, low_part, bary_address}

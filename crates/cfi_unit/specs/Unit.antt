@@ -11,7 +11,9 @@ use Rattle.rv_insn.specs.Fields.{signed}
 use Rattle.rv_insn.specs.Rows.{imm_funct7}
 use Rattle.rv_insn.specs.Word.{IsSigned, IsEven}
 use Rattle.rv_insn.specs.Insn.{IsImmOf, IsFence, word_of}
-use Rattle.cfi_unit.specs.declared.unit.TheConstants.{FREE_REGISTERS, SLOTS, BARY}
+use Rattle.cfi_unit.specs.declared.unit.TheConstants.{FREE_REGISTERS}
+use Rattle.cfi_word.specs.declared.sizes.TheConstants.{SLOTS}
+use Rattle.cfi_word.specs.declared.map.TheConstants.{BARY}
 use Rattle.cfi_unit.specs.declared.unit.Unit.{Unit as CodeUnit}
 use Rattle.cfi_unit.specs.declared.unit.Unit.TheVariants as units
 

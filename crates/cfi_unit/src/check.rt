@@ -7,12 +7,11 @@ ghost use Rattle.cfi_unit.specs.Unit.{IsFree, IsUnit, words_of, size_of, high_in
 ghost use Rattle.cfi_unit.specs.Code.{BeginsAt};
 
 use crate::free::begins_with;
-use crate::unit::{BARY, SLOTS, Unit};
+use crate::unit::Unit;
+use cfi_word::map::BARY;
+use cfi_word::sizes::{CHECK_WORDS, SLOTS};
 use rv_insn::fields::{imm_i, upper};
 use rv_insn::{ImmOp, Insn, encode};
-
-/// The number of words of a check.
-pub const CHECK_WORDS: usize = 14;
 
 /// The words of a check: the target into x31, its range test, the two IDs and their comparison, the retry, the halt and
 /// the jump.

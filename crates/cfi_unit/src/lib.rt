@@ -1,7 +1,8 @@
 //! The units of instrumented code, the words that spell them, and what machines that run units log and are answered.
 //!
-//! Stands on `rv_insn`. Proved: `next_unit` and `spell` are the spellings of `specs/Unit.antt` both ways, and a list of
-//! words is the code of at most one list of units. Only tested: the spellings against an assembler. Open: nothing.
+//! Stands on `rv_insn`, `cfi_values` and `cfi_word`. Proved: `next_unit` and `spell` are the spellings of
+//! `specs/Unit.antt` both ways, a list of words is the code of at most one list of units, and `read_units` gives them or
+//! the word at which reading stops, by `specs/Spots.antt`. Only tested: the spellings against an assembler. Open: nothing.
 #![tactic(auto)]
 
 mod check;
@@ -13,17 +14,17 @@ pub mod laws;
 mod log;
 mod masked;
 mod reader;
+mod reading;
 mod spelling;
 mod spot;
 #[cfg(test)]
 mod tests;
 mod unit;
 
-pub use check::CHECK_WORDS;
-pub use fill::{Answer, Bytes, Fill};
+pub use fill::{Answer, Fill};
 pub use log::{Log, Stop};
-pub use masked::ACCESS_WORDS;
 pub use reader::next_unit;
+pub use reading::{ReadFault, read_units};
 pub use spelling::spell;
 pub use spot::Spot;
-pub use unit::{BARY, DATA_START, FREE_REGISTERS, SLOTS, Unit};
+pub use unit::{FREE_REGISTERS, Unit};

@@ -10,10 +10,8 @@ ghost use Rattle.cfi_unit.specs.Code.{BeginsAt};
 
 use crate::free::{begins_with, is_free};
 use crate::unit::Unit;
+use cfi_word::sizes::ACCESS_WORDS;
 use rv_insn::{ImmOp, Insn, decode, encode};
-
-/// The number of words of a masked access.
-pub const ACCESS_WORDS: usize = 6;
 
 // The instructions that do not depend on the access.
 const SHIFT_LEFT: u32 = 0x00cf9f93; // slli x31,x31,12

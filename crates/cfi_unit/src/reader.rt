@@ -7,11 +7,10 @@ ghost use Rattle.cfi_unit.specs.declared.unit.Unit.{Unit as CodeUnit};
 ghost use Rattle.cfi_unit.specs.Unit.{IsFree, IsUnit, IsLong, insns_of, size_of};
 ghost use Rattle.cfi_unit.specs.Code.{BeginsAt};
 
-use crate::check::CHECK_WORDS;
 use crate::free::is_free;
-use crate::masked::ACCESS_WORDS;
 use crate::unit::Unit;
 use crate::{check, masked};
+use cfi_word::sizes::{ACCESS_WORDS, CHECK_WORDS};
 use rv_insn::{ImmOp, Insn, decode};
 
 // The unit whose spelling is this one instruction.

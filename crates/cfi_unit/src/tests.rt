@@ -1,5 +1,6 @@
 use crate::laws::{one_code, one_unit, unit_within};
-use crate::{Answer, Bytes, Fill, Log, Stop, Unit, next_unit, spell};
+use crate::{Answer, Fill, Log, Stop, Unit, next_unit, spell};
+use cfi_values::Bytes;
 use rv_insn::{Cond, ImmOp, Insn, LoadKind, Op, StoreKind};
 use std::test::Fail;
 

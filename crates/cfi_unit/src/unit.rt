@@ -3,15 +3,6 @@ use rv_insn::{Cond, Insn, LoadKind, StoreKind};
 /// A guest's own instructions name x0 to x27 alone; x28 to x31 belong to the instrumentation.
 pub const FREE_REGISTERS: u32 = 28;
 
-/// Slots of branches are below this: one more than the checks that fit into the code's 65,536 words.
-pub const SLOTS: u32 = 4_682;
-
-/// The address of the Bary ID of slot 0; that of slot b is 4 b after it.
-pub const BARY: u32 = 0x2000_0000;
-
-/// The address at which a guest's data begins.
-pub const DATA_START: u32 = 0x4000_0000;
-
 /// A unit of code: what a guest's program counter never stands inside.
 ///
 /// Registers are numbers below `FREE_REGISTERS`. Offsets are in bytes from the unit's own address, and even.

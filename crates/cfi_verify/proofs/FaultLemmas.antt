@@ -4,10 +4,11 @@ use Rattle.std.proofs.lemmas.Bool.{cases_lt}
 use Rattle.cfi_aux.specs.declared.placed.Placed.{Placed}
 use Rattle.cfi_verify.specs.declared.fault.VerifyFault.{VerifyFault}
 use Rattle.cfi_verify.specs.declared.fault.VerifyFault.TheVariants as faults
-use Rattle.cfi_verify.specs.Spots.{StopsAt}
+use Rattle.cfi_unit.specs.Spots.{InsnsBelow}
+use Rattle.cfi_verify.specs.Spots.{IsNotUnit}
 use Rattle.cfi_verify.specs.Faults.{Stands, number_of, place_of, IsFirstFault, IsFault}
-use Rattle.cfi_verify.specs.Reading.{InsnsBelow, IsFirstIllegal, IsUnread}
-use Rattle.cfi_verify.proofs.StopLemmas.{one_stop}
+use Rattle.cfi_verify.specs.Reading.{IsFirstIllegal, IsUnread}
+use Rattle.cfi_unit.proofs.StopLemmas.{one_stop}
 
 pub bound : (fault : VerifyFault) → number_of fault < 11
 bound faults.Empty = omega arith
@@ -76,12 +77,13 @@ module _ (m : Placed) (loaded : List Placed) where
       is_first (faults.Illegal o) (at, first.within, here, first.fails) (clear_two some)
       (least_illegal o at here first)
 
-  least_stop : (o : ℕ) → StopsAt m.words o → (other : VerifyFault) → number_of other ≡ 3 → Stands m loaded other →
+  least_stop : (o : ℕ) → IsNotUnit m.words o → (other : VerifyFault) → number_of other ≡ 3 → Stands m loaded other →
       o ≤ place_of other
-  least_stop o stops (faults.NotUnit k) e = λ s. one_stop m.words o k stops s
+  least_stop o stops (faults.NotUnit k) e = λ s.
+      omega (arith, one_stop m.words stops.at s.at stops.stops s.stops, stops.here, s.here)
   least_stop o stops other e = absurd (omega (arith, e))
 
-  pub first_stop : m.words ≢ [] → InsnsBelow m.words (length m.words) → (o : ℕ) → StopsAt m.words o →
+  pub first_stop : m.words ≢ [] → InsnsBelow m.words (length m.words) → (o : ℕ) → IsNotUnit m.words o →
       IsFirstFault m loaded (faults.NotUnit o)
   first_stop some insns o stops =
       is_first (faults.NotUnit o) stops (clear_three some insns) (least_stop o stops)

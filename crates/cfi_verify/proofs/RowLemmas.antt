@@ -8,15 +8,17 @@ use Rattle.cfi_verify.specs.declared.fault.VerifyFault.TheVariants as faults
 use Rattle.cfi_unit.specs.declared.spot.Spot.{Spot}
 use Rattle.cfi_verify.specs.declared.checks.CheckSpot.{CheckSpot}
 use Rattle.cfi_verify.specs.Lists.{Each, Breaks, IsFirstBreak}
-use Rattle.cfi_verify.specs.Spots.{AreSpots, checks_of}
+use Rattle.cfi_verify.specs.Spots.{checks_of}
+use Rattle.cfi_unit.specs.Spots.{AreSpots}
 use Rattle.cfi_verify.specs.Functions.{FitsBehind, IsIdleBehind, EndsWell}
 use Rattle.cfi_verify.specs.Target.{LeadsWell}
 use Rattle.cfi_verify.specs.Branches.{NamesSlot, KindFits, EntriesFit}
 use Rattle.cfi_verify.specs.Faults.{unit_place, check_place, own_number, StandsIn, Stands, number_of, place_of, IsFirstFault, Verifies, IsLaidOut, IsVerifiedAs}
 use Rattle.cfi_verify.specs.Places.{IsFirstUnfit, IsFirstMisfit}
 use Rattle.cfi_verify.proofs.ListLemmas.{break_of, no_break, first_is_least}
-use Rattle.cfi_verify.proofs.SpotLemmas.{spots-rising, checks-within, checks-rising, rise_from, AreSpots-one}
-use Rattle.cfi_verify.proofs.StopLemmas.{code_insns, goes_on}
+use Rattle.cfi_verify.proofs.SpotLemmas.{spots-rising, checks-within, checks-rising, rise_from}
+use Rattle.cfi_unit.proofs.SpotLemmas.{AreSpots-one}
+use Rattle.cfi_unit.proofs.StopLemmas.{code_insns, no_stop}
 use Rattle.cfi_verify.proofs.FaultLemmas.{bound, Clear, clear_more, clear_three, is_first}
 
 module _ (m : Placed) (loaded : List Placed) (spots : List Spot) (are : AreSpots m.words spots) where
@@ -26,8 +28,7 @@ module _ (m : Placed) (loaded : List Placed) (spots : List Spot) (are : AreSpots
   here fault s = subst (λ (xs : List Spot). StandsIn m loaded xs fault) (AreSpots-one m.words s.0 spots s.1 are) s.2
 
   none_stop : (other : VerifyFault) → number_of other ≡ 3 → ¬ Stands m loaded other
-  none_stop (faults.NotUnit o) e = λ s.
-      let next = goes_on m.words are.code s.body s.at are.units s.units s.within in s.stops next.0 next.1
+  none_stop (faults.NotUnit o) e = λ s. no_stop m.words are.code s.at are.units s.stops
   none_stop other e = absurd (omega (arith, e))
 
   pub clear_four : m.words ≢ [] → Clear m loaded 4

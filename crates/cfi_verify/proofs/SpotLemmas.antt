@@ -9,11 +9,11 @@ use Rattle.cfi_unit.specs.declared.unit.Unit.{Unit as CodeUnit}
 use Rattle.cfi_unit.specs.declared.unit.Unit.TheVariants as units
 use Rattle.cfi_unit.specs.Unit.{words_of, size_of}
 use Rattle.cfi_unit.proofs.UnitLemmas.{size_pos}
-use Rattle.cfi_unit.proofs.CodeLemmas.{length-words_of, UnitCode-one}
+use Rattle.cfi_unit.proofs.CodeLemmas.{length-words_of}
 use Rattle.cfi_unit.specs.declared.spot.Spot.{Spot}
 use Rattle.cfi_verify.specs.declared.checks.CheckSpot.{CheckSpot}
-use Rattle.cfi_unit.specs.Spots.{spots_of}
-use Rattle.cfi_verify.specs.Spots.{AreSpots, check_in, checks_of}
+use Rattle.cfi_unit.specs.Spots.{spots_of, AreSpots}
+use Rattle.cfi_verify.specs.Spots.{check_in, checks_of}
 use Rattle.cfi_verify.specs.Places.{AreRising, AreSmall, AreSmallChecks}
 
 -- the words of the units
@@ -167,8 +167,3 @@ rise_from {T} at xs pairs i j x y first second order =
     let same : i ≡ j = omega (arith, more, order) in
     omega (arith, ap at one, ap at other, ap (λ (k : ℕ). at (get_or xs k x)) same))
     (cases_lt i j)
-
--- words have one list of units
-pub AreSpots-one : (words : List ℕ) (s t : List Spot) → AreSpots words s → AreSpots words t → s ≡ t
-AreSpots-one words s t p q =
-    p.places ∙ ap (spots_of 0) (UnitCode-one words p.code q.code p.units q.units) ∙ sym q.places

@@ -4,15 +4,16 @@ use Rattle.cfi_types.specs.Node.{make_node}
 use Rattle.cfi_types.specs.declared.kind.TheConstants.{VOID, FUNC}
 use Rattle.cfi_aux.specs.declared.placed.Placed.{Placed}
 use Rattle.cfi_aux.specs.declared.placed.PlacedFunction.{PlacedFunction}
+use Rattle.cfi_word.specs.declared.map.TheConstants.{FIRST_BASE, DATA_START}
 
 abbrev pub loop_function : PlacedFunction
 loop_function = record { first = 0; count = 1; ty = 1; taken = false; global = false; name = [] }
 
 abbrev pub loop_module : Placed
 loop_module = record {
-  base = 16;
+  base = FIRST_BASE;
   slot_base = 0;
-  data_base = 0x40000000;
+  data_base = DATA_START;
   words = 0x6f ∷ [];
   static_data = [];
   functions = loop_function ∷ [];

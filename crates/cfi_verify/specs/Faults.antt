@@ -7,7 +7,8 @@ use Rattle.cfi_verify.specs.declared.fault.VerifyFault.TheVariants as faults
 use Rattle.cfi_unit.specs.declared.spot.Spot.{Spot}
 use Rattle.cfi_verify.specs.declared.checks.CheckSpot.{CheckSpot}
 use Rattle.cfi_verify.specs.Lists.{Each, Breaks}
-use Rattle.cfi_verify.specs.Spots.{AreSpots, checks_of, IsIllegal, StopsAt}
+use Rattle.cfi_unit.specs.Spots.{AreSpots}
+use Rattle.cfi_verify.specs.Spots.{checks_of, IsIllegal, IsNotUnit}
 use Rattle.cfi_verify.specs.Functions.{FitsBehind, IsIdleBehind, EndsWell}
 use Rattle.cfi_verify.specs.Target.{LeadsWell}
 use Rattle.cfi_verify.specs.Branches.{NamesSlot, KindFits, EntriesFit}
@@ -38,7 +39,7 @@ StandsIn m loaded spots fault = ⊥
 abbrev pub Stands : (m : Placed) → (loaded : List Placed) → VerifyFault → Type 0
 Stands m loaded faults.Empty = m.words ≡ []
 Stands m loaded (faults.Illegal o) = IsIllegal m.words o
-Stands m loaded (faults.NotUnit o) = StopsAt m.words o
+Stands m loaded (faults.NotUnit o) = IsNotUnit m.words o
 Stands m loaded fault = (spots : List Spot) × AreSpots m.words spots × StandsIn m loaded spots fault
 
 -- the number of a fault's kind, and its place

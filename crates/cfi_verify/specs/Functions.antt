@@ -9,7 +9,7 @@ use Rattle.cfi_aux.specs.Format.{is_func}
 use Rattle.cfi_aux.specs.declared.placed.Placed.{Placed}
 use Rattle.cfi_aux.specs.declared.placed.PlacedFunction.{PlacedFunction}
 use Rattle.cfi_unit.specs.declared.spot.Spot.{Spot}
-use Rattle.cfi_verify.specs.Spots.{BeginsUnit}
+use Rattle.cfi_unit.specs.Spots.{BeginsUnit}
 
 -- the word after the function's last
 abbrev pub end_of : PlacedFunction → ℕ

@@ -6,20 +6,10 @@ use Rattle.rv_insn.specs.declared.insn.Insn.{Insn}
 use Rattle.rv_insn.specs.Insn.{IsWord}
 use Rattle.cfi_unit.specs.declared.unit.Unit.{Unit as CodeUnit}
 use Rattle.cfi_unit.specs.declared.unit.Unit.TheVariants as units
-use Rattle.cfi_unit.specs.Spots.{spots_of}
+use Rattle.cfi_unit.specs.Spots.{spots_of, StopsAt, IsInsnAt}
 use Rattle.cfi_unit.specs.Code.{BeginsAt, UnitCode}
 use Rattle.cfi_unit.specs.declared.spot.Spot.{Spot}
 use Rattle.cfi_verify.specs.declared.checks.CheckSpot.{CheckSpot}
-
--- the words are the code of these units, at these places
-pub record AreSpots (words : List ℕ) (spots : List Spot) : Type 0 where
-  pub code : List CodeUnit
-  pub units : UnitCode words code
-  pub places : spots ≡ spots_of 0 code
-
--- one of the units begins at the word
-abbrev pub BeginsUnit : List Spot → (at : ℕ) → Type 0
-BeginsUnit spots at = (spot : Spot) × Contains spots spot × (spot.at ≡ at)
 
 -- the check that a unit at a word is
 abbrev pub check_in : (at : ℕ) → CodeUnit → Option CheckSpot
@@ -33,20 +23,12 @@ check_of spot = check_in spot.at spot.unit
 abbrev pub checks_of : List Spot → List CheckSpot
 checks_of spots = filter_map check_of spots
 
--- the word is an instruction
-abbrev pub IsInsnAt : (words : List ℕ) → (at : ℕ) → Type 0
-IsInsnAt words at = (insn : Insn) × IsWord insn (slice_index words at)
-
 -- the word at the place is no instruction
 abbrev pub IsIllegal : (words : List ℕ) → (o : ℕ) → Type 0
 IsIllegal words o = (at : ℕ) × (at < length words) × (o ≡ 4 * at) × ¬ IsInsnAt words at
 
--- units that are read from the first word on stop at the place, before the end: the words before it are units, and
--- none begins there
-pub record StopsAt (words : List ℕ) (o : ℕ) : Type 0 where
+-- reading units from the first word on stops at the place, before the end
+pub record IsNotUnit (words : List ℕ) (o : ℕ) : Type 0 where
   pub at : ℕ
   pub here : o ≡ 4 * at
-  pub within : at < length words
-  pub body : List CodeUnit
-  pub units : UnitCode (take at words) body
-  pub stops : (unit : CodeUnit) → ¬ BeginsAt words at unit
+  pub stops : StopsAt words at

@@ -1,7 +1,7 @@
 //! Units by the words at which they stand.
 
 ghost use Rattle.std.specs.Prelude.{IsTrue, ◌↔◌};
-ghost use Rattle.cfi_verify.specs.Spots.{BeginsUnit};
+ghost use Rattle.cfi_unit.specs.Spots.{BeginsUnit};
 ghost use Rattle.cfi_verify.specs.Places.{AreRising, Splits};
 
 use cfi_unit::Spot;

@@ -3,9 +3,9 @@ use super::VerifyFault::{
 };
 use super::*;
 use cfi_aux::{Kind, Placed, PlacedFunction};
-use cfi_list::Items;
+use cfi_values::{Items, Bytes};
 use cfi_types::{FUNC, TypeNode, TypeTable, VOID};
-use elf_read::{Bytes, Name};
+use elf_read::Name;
 use std::alloc::{AllocError, Global};
 use std::process::Abort;
 use std::test::Fail;

@@ -3,7 +3,8 @@
 ghost use Rattle.std.specs.Prelude.{◌≡◌, ◌≢◌, List, [], ◌*◌, ◌<◌, ◌^◌, length, OnOk, IfErr};
 ghost use Rattle.std.specs.List.Sorted.{IsNonDecreasing};
 ghost use Rattle.cfi_aux.specs.declared.placed.Placed.{Placed as Module};
-ghost use Rattle.cfi_verify.specs.Spots.{AreSpots, checks_of};
+ghost use Rattle.cfi_verify.specs.Spots.{checks_of};
+ghost use Rattle.cfi_unit.specs.Spots.{AreSpots};
 ghost use Rattle.cfi_verify.specs.Places.{AreEntriesOf};
 ghost use Rattle.cfi_verify.specs.Faults.{Verifies, IsVerified, IsVerifiedAs, IsLaidOut, IsFault, IsFirstFault};
 

@@ -1,7 +1,9 @@
 -- The words of the shared table by number: EPOCH, a QUIET word for each guest, then CODE, TARY and BARY.
 -- CODE and TARY have a word for each code word, BARY one for each branch slot.
 use Rattle.std.specs.Prelude.{◌≡◌, ℕ, ◌+◌, ◌*◌, ◌/◌, ◌%◌, ◌<◌, ◌≤◌}
-use Rattle.cfi_word.specs.declared.layout.TheConstants.{EPOCH, FIRST_CODE, GUESTS, MIN_CODE_WORDS, MAX_CODE_WORDS}
+use Rattle.cfi_word.specs.declared.layout.TheConstants.{EPOCH, FIRST_CODE}
+use Rattle.cfi_word.specs.declared.limits.TheConstants.{GUESTS, MIN_CODE_WORDS, MAX_CODE_WORDS}
+use Rattle.cfi_word.specs.declared.sizes.TheConstants.{CHECK_WORDS}
 
 -- a number of code words that a table may have: a multiple of the least
 pub record IsSize (code_words : ℕ) : Type 0 where
@@ -9,9 +11,9 @@ pub record IsSize (code_words : ℕ) : Type 0 where
   pub least : MIN_CODE_WORDS ≤ code_words
   pub most : code_words ≤ MAX_CODE_WORDS
 
--- the number of branch slots: a check takes fourteen words, and one slot is always there
+-- the number of branch slots: as many as the checks that fit, and one more
 abbrev pub slots_of : (code_words : ℕ) → ℕ
-slots_of code_words = code_words / 14 + 1
+slots_of code_words = code_words / CHECK_WORDS + 1
 
 -- a word of the table, by its area and its place in it
 pub data Place : Type 0 where

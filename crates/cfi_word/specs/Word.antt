@@ -1,7 +1,7 @@
 -- Table words of 64 bits: the ID in bits 0 to 31, the policy number in bits 32 to 39, the epoch in bits 40 to 63.
 -- The ID's version is the epoch's remainder by the number of versions.
 use Rattle.std.specs.Prelude.{ℕ, ◌+◌, ◌*◌, ◌/◌, ◌%◌, ◌^◌, ◌≤◌}
-use Rattle.cfi_word.specs.declared.word.TheConstants.{MAX_EPOCH, MAX_POLICY, MIN_VERSIONS, MAX_VERSIONS}
+use Rattle.cfi_word.specs.declared.limits.TheConstants.{MAX_EPOCH, MAX_POLICY, MIN_VERSIONS, MAX_VERSIONS}
 use Rattle.cfi_word.specs.Ids.{IsField, id_of}
 
 -- what a table word may be packed from

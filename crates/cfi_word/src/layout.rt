@@ -2,26 +2,16 @@ ghost use Rattle.std.specs.Prelude.{◌≡◌, ℕ, ◌+◌, ◌*◌, ◌/◌, �
 ghost use Rattle.cfi_word.specs.Table.{IsSize, slots_of, words_of};
 ghost use Rattle.cfi_word.specs.Table.{quiet_word, code_word, tary_word, bary_word};
 
+use crate::limits::{GUESTS, MAX_CODE_WORDS, MIN_CODE_WORDS};
+use crate::sizes::CHECK_WORDS;
 use std::marker::Model;
 use thiserror::Error;
 
 /// The word that tells the epoch and the policy in force.
 pub const EPOCH: u32 = 0;
 
-/// The number of guests that can have a QUIET word.
-pub const GUESTS: u32 = 16;
-
 /// The first CODE word: EPOCH and the QUIET words come before it.
 pub const FIRST_CODE: u32 = 1 + GUESTS;
-
-/// The least number of code words of a table.
-pub const MIN_CODE_WORDS: u32 = 1024;
-
-/// The greatest number of code words of a table.
-pub const MAX_CODE_WORDS: u32 = 65536;
-
-/// The code word at which the first module begins. No module begins before it.
-pub const FIRST_BASE: u32 = 16;
 
 /// This number of code words is no multiple of `MIN_CODE_WORDS` from it to `MAX_CODE_WORDS`.
 #[derive(Clone, Copy, Debug, PartialEq, Eq, Error)]
@@ -69,11 +59,11 @@ impl Layout {
         self.code_words
     }
 
-    /// The number of branch slots, which is that of Bary words: a check takes fourteen code words.
+    /// The number of branch slots, which is that of Bary words: as many as the checks that fit, and one more.
     pub fn slots(&self) -> u32
         ensures { result ≡ slots_of self.now }
     {
-        self.code_words / 14 + 1
+        self.code_words / CHECK_WORDS as u32 + 1
     }
 
     /// The number of all words of the table.

@@ -7,15 +7,17 @@
 mod ids;
 mod laws;
 mod layout;
+pub mod limits;
 mod lists;
+pub mod map;
+pub mod services;
+pub mod sizes;
 #[cfg(test)]
 mod tests;
 mod word;
 
 pub use ids::{FIELD_MAX, class_of, id, version_of};
 pub use laws::{id_laws, layout_laws, rank_laws, word_laws};
-pub use layout::{
-    BadSize, EPOCH, FIRST_BASE, FIRST_CODE, GUESTS, Layout, MAX_CODE_WORDS, MIN_CODE_WORDS,
-};
-pub use lists::{Edge, Image, Labels, Numbers};
-pub use word::{MAX_EPOCH, MAX_POLICY, MAX_VERSIONS, MIN_VERSIONS, Word};
+pub use layout::{BadSize, EPOCH, FIRST_CODE, Layout};
+pub use lists::{Edge, Image, Labels};
+pub use word::Word;

@@ -1,66 +1,6 @@
-ghost use Rattle.std.specs.Prelude.{◌≡◌, ℕ, ◌==◌, List};
-ghost use Rattle.std.specs.Cmp.Lexicographic.{pointwise};
+//! Edges, labels and images.
 
-use std::marker::Model;
-
-/// A list of numbers: class numbers of a table, or the words of code.
-#[derive(Debug, Drop)]
-pub struct Numbers {
-    items: Vec<u32>,
-}
-
-// Clauses see the list.
-impl Model for Numbers {
-    ghost Value = { List ℕ };
-
-    ghost view = { λ numbers. numbers.items.items };
-}
-
-impl Numbers {
-    /// The list of a vector's numbers. It takes no memory.
-    pub fn from_vec(items: Vec<u32>) -> Numbers
-        ensures { result ≡ items.items }
-    {
-        Numbers { items }
-    }
-
-    /// The vector of the list's numbers. It takes no memory.
-    pub fn into_vec(self) -> Vec<u32>
-        ensures { result.items ≡ self }
-    {
-        let Numbers { items } = self;
-        items
-    }
-
-    /// The numbers in order.
-    pub fn as_slice(&self) -> &[u32]
-        ensures { result.now ≡ self.now }
-    {
-        self.items.as_slice()
-    }
-}
-
-impl PartialEq for Numbers {
-    ghost use Rattle.std.specs.Prelude.{◌==◌};
-    ghost use Rattle.std.specs.Cmp.Lexicographic.{pointwise, lists_per};
-    ghost use Rattle.std.specs.Cmp.Rules.{comparing};
-    ghost use Rattle.std.proofs.Common.{rules};
-
-    ghost eq = { λ a b. pointwise ◌==◌ a b };
-
-    ghost laws = { Prim.search (comparing, rules) };
-
-    fn eq(&self, other: &Numbers) -> bool {
-        self.items == other.items
-    }
-}
-
-impl Eq for Numbers {
-    ghost use Rattle.std.specs.Cmp.Rules.{comparing};
-    ghost use Rattle.std.proofs.Common.{rules};
-
-    ghost laws = { Prim.search (comparing, rules) };
-}
+use cfi_values::Numbers;
 
 /// A direct edge: this branch slot may go to this code address.
 #[derive(Clone, Copy, Debug, PartialEq, Eq, PartialOrd, Ord)]

@@ -1,4 +1,5 @@
-use crate::{BadSize, Edge, Image, Labels, Layout, Numbers, Word, class_of, id, version_of};
+use crate::{BadSize, Edge, Image, Labels, Layout, Word, class_of, id, version_of};
+use cfi_values::Numbers;
 use std::test::Fail;
 
 #[test]

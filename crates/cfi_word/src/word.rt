@@ -1,19 +1,8 @@
 ghost use Rattle.std.specs.Prelude.{◌≡◌, ◌<◌, ◌≤◌, ◌^◌};
 ghost use Rattle.cfi_word.specs.Word.{IsPackable, packed, id_in, policy_in, epoch_in};
+ghost use Rattle.cfi_word.specs.declared.limits.TheConstants.{MAX_EPOCH, MAX_POLICY};
 
 use crate::ids::id;
-
-/// The greatest epoch.
-pub const MAX_EPOCH: u32 = 16777215;
-
-/// The greatest policy number.
-pub const MAX_POLICY: u32 = 255;
-
-/// The least number of versions.
-pub const MIN_VERSIONS: u32 = 3;
-
-/// The greatest number of versions, which is how many an ID can tell apart.
-pub const MAX_VERSIONS: u32 = 16384;
 
 /// How a word of the shared tables is packed. No value of this type is made.
 pub enum Word {}

@@ -13,8 +13,8 @@ use Rattle.elf_read.specs.declared.fault.ElfFault.{ElfFault}
 use Rattle.elf_read.specs.declared.fault.ElfFault.TheVariants.{Short, NotElf32, NotRiscv, NotRelocatable, BadSection, BadSymbol, BadReloc, UnknownReloc, Common, TooMany, Memory}
 use Rattle.elf_read.specs.declared.fault.Limit.{Limit}
 use Rattle.elf_read.specs.declared.fault.Limit.TheVariants.{Sections, Symbols, Relocs, Words, Data}
-use Rattle.elf_read.specs.declared.header.TheConstants.{HEADER_SIZE, ENTRY_SIZE, MACHINE, RELOCATABLE, MAX_SECTIONS}
-use Rattle.elf_read.specs.declared.join.TheConstants.{MAX_SYMBOLS, MAX_RELOCS, MAX_WORDS, MAX_DATA}
+use Rattle.elf_read.specs.declared.header.TheConstants.{HEADER_SIZE, ENTRY_SIZE, MACHINE, RELOCATABLE}
+use Rattle.cfi_word.specs.declared.limits.TheConstants.{MAX_SECTIONS, MAX_SYMBOLS, MAX_RELOCS, MAX_WORDS, MAX_DATA}
 
 -- the table of section names is in the file
 pub record HasNames (bytes : List ℕ) : Type 0 where

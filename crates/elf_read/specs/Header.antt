@@ -2,7 +2,8 @@
 use Rattle.std.specs.Prelude.{◌≡◌, ◌+◌, ◌*◌, ◌<◌, ◌≤◌, ℕ, Bool, true, List, ◌∷◌, [], length, nat_eq}
 use Rattle.std.specs.List.{starts_with}
 use Rattle.elf_read.specs.Words.{u16_at, u32_at}
-use Rattle.elf_read.specs.declared.header.TheConstants.{HEADER_SIZE, ENTRY_SIZE, MACHINE, RELOCATABLE, MAX_SECTIONS}
+use Rattle.elf_read.specs.declared.header.TheConstants.{HEADER_SIZE, ENTRY_SIZE, MACHINE, RELOCATABLE}
+use Rattle.cfi_word.specs.declared.limits.TheConstants.{MAX_SECTIONS}
 
 -- the file begins with ELF's four bytes, the class of 32 bits, the low byte first, and version 1
 abbrev pub is_elf32 : List ℕ → Bool

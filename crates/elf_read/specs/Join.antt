@@ -4,7 +4,7 @@ use Rattle.elf_read.specs.Places.{joined, total_of}
 use Rattle.elf_read.specs.Header.{section_count}
 use Rattle.elf_read.specs.Section.{section_at, contents, is_text, is_data}
 use Rattle.elf_read.specs.declared.section.TheConstants.{NOBITS}
-use Rattle.elf_read.specs.declared.join.TheConstants.{MAX_ALIGNMENT}
+use Rattle.cfi_word.specs.declared.map.TheConstants.{DATA_ALIGNMENT}
 
 -- what section k adds to the text
 unfoldable pub text_of : List ℕ → (k : ℕ) → List ℕ
@@ -23,7 +23,7 @@ text_end bytes k = total_of (text_size bytes) k
 
 -- the alignment of data section k: 0 counts as 1, and more than 16 as 16
 unfoldable pub alignment_of : List ℕ → (k : ℕ) → ℕ
-alignment_of bytes k = min (max (section_at bytes k).alignment 1) MAX_ALIGNMENT
+alignment_of bytes k = min (max (section_at bytes k).alignment 1) DATA_ALIGNMENT
 
 -- the next multiple of the alignment from n on
 unfoldable pub aligned : (n alignment : ℕ) → ℕ

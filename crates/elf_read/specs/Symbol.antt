@@ -9,7 +9,8 @@ use Rattle.elf_read.specs.Places.{some_below}
 use Rattle.elf_read.specs.Header.{section_count}
 use Rattle.elf_read.specs.Section.{section_at, contents, is_loaded, symbol_table, has_symbols}
 use Rattle.elf_read.specs.declared.symbol.Entry.{Entry}
-use Rattle.elf_read.specs.declared.symbol.TheConstants.{SYMBOL_SIZE, LOCAL, GLOBAL, WEAK, SECTION, FILE, THREAD_LOCAL, UNDEFINED, ABSOLUTE, COMMON, MAX_NAME}
+use Rattle.elf_read.specs.declared.symbol.TheConstants.{SYMBOL_SIZE, LOCAL, GLOBAL, WEAK, SECTION, FILE, THREAD_LOCAL, UNDEFINED, ABSOLUTE, COMMON}
+use Rattle.cfi_word.specs.declared.limits.TheConstants.{MAX_NAME}
 
 -- the bytes of the first symbol table, and of the names of its symbols; none where there is no table
 unfoldable pub symbol_bytes : List ℕ → List ℕ

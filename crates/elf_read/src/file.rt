@@ -2,7 +2,7 @@ ghost use Rattle.std.specs.Prelude.{◌≡◌, ◌<◌, ◌≤◌, ◌^◌, ℕ,
 ghost use Rattle.elf_read.specs.Places.{first_where};
 ghost use Rattle.elf_read.specs.Header.{HasShape, HasTable, section_count};
 ghost use Rattle.elf_read.specs.Fault.{IsFirstFault, HasNames};
-ghost use Rattle.elf_read.specs.declared.header.TheConstants.{MAX_SECTIONS};
+ghost use Rattle.cfi_word.specs.declared.limits.TheConstants.{MAX_SECTIONS};
 ghost use Rattle.elf_read.specs.Section.{section_at, section_names, contents, has_name, is_loaded, is_text, is_data, is_record_section, first_named};
 
 use crate::fault::ElfFault;

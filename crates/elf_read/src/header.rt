@@ -2,6 +2,7 @@ ghost use Rattle.std.specs.Prelude.{IfOk, IfErr};
 ghost use Rattle.elf_read.specs.Header.{IsRelocatable, HasTable, HasShape};
 ghost use Rattle.elf_read.specs.Fault.{IsFirstFault};
 
+use cfi_word::limits::MAX_SECTIONS;
 use crate::fault::{ElfFault, Limit};
 use crate::word::{u16_at, u32_at};
 
@@ -16,9 +17,6 @@ pub const MACHINE: u16 = 243;
 
 /// e_type of a relocatable file.
 pub const RELOCATABLE: u16 = 1;
-
-/// The greatest number of sections.
-pub const MAX_SECTIONS: usize = 1024;
 
 /// ELF's four bytes, the class of 32 bits, the low byte first, and version 1.
 pub const IDENT: [u8; 7] = [0x7f, b'E', b'L', b'F', 1, 1, 1];

@@ -4,22 +4,10 @@ ghost use Rattle.elf_read.specs.Object.{record_bytes};
 ghost use Rattle.elf_read.specs.Join.{text_of, data_of, data_contents, data_end, joined_text, joined_data};
 
 use crate::layout::{align_up, alignment_of, data_end_of};
-use crate::object::Bytes;
+use cfi_values::Bytes;
 use crate::section::NOBITS;
 use crate::symbol_table::SymbolTable;
 use std::alloc::{AllocError, Global};
-
-/// The greatest alignment that joined data keeps.
-pub const MAX_ALIGNMENT: u32 = 16;
-
-/// The greatest number of symbols of an object.
-pub const MAX_SYMBOLS: usize = 16384;
-/// The greatest number of relocations of an object.
-pub const MAX_RELOCS: usize = 65536;
-/// The greatest number of words of an object's text.
-pub const MAX_WORDS: usize = 65520;
-/// The greatest number of bytes of an object's data.
-pub const MAX_DATA: usize = 524288;
 
 /// Adds `n` zero bytes.
 fn push_zeros(out: &mut Vec<u8>, n: usize) -> Result<(), AllocError>

@@ -2,9 +2,9 @@ ghost use Rattle.std.specs.Prelude.{◌≡◌, ◌<◌, ◌≤◌, ◌+◌, ◌*
 ghost use Rattle.elf_read.specs.Header.{section_count};
 ghost use Rattle.elf_read.specs.Join.{aligned, alignment_of, text_size, text_end, data_end, start_of};
 ghost use Rattle.elf_read.specs.Layout.{IsLayout};
-ghost use Rattle.elf_read.specs.declared.join.TheConstants.{MAX_ALIGNMENT};
+ghost use Rattle.cfi_word.specs.declared.map.TheConstants.{DATA_ALIGNMENT};
 
-use crate::join::MAX_ALIGNMENT;
+use cfi_word::map::DATA_ALIGNMENT;
 use crate::symbol_table::SymbolTable;
 use std::alloc::{AllocError, Global};
 
@@ -23,7 +23,7 @@ pub struct Layout {
 #[tactic(auto, unfolding(crate::specs::Join::aligned))]
 pub fn align_up(n: usize, alignment: usize) -> usize
     requires some { 0 < alignment }
-    requires small { alignment ≤ MAX_ALIGNMENT }
+    requires small { alignment ≤ DATA_ALIGNMENT }
     requires fits { n < 2 ^ 60 }
     ensures same { result ≡ aligned n alignment }
     ensures above { n ≤ result }
@@ -38,10 +38,10 @@ pub fn alignment_of(table: &SymbolTable<'_>, k: usize) -> usize
     requires within { k < section_count table.now }
     ensures same { result ≡ alignment_of table.now k }
     ensures some { 0 < result }
-    ensures small { result ≤ MAX_ALIGNMENT }
+    ensures small { result ≤ DATA_ALIGNMENT }
 {
     let alignment = table.section(k).alignment;
-    alignment.max(1).min(MAX_ALIGNMENT) as usize
+    alignment.max(1).min(DATA_ALIGNMENT as u32) as usize
 }
 
 /// How many bytes section `k` adds to the text.
@@ -64,7 +64,7 @@ pub fn data_end_of(table: &SymbolTable<'_>, k: usize, end: usize) -> usize
     requires fits { end < 2 ^ 60 }
     ensures same { result ≡ data_end table.now (k + 1) }
     ensures above { end ≤ result }
-    ensures near { result < end + 2 ^ 32 + MAX_ALIGNMENT }
+    ensures near { result < end + 2 ^ 32 + DATA_ALIGNMENT }
 {
     if !table.is_data(k) {
         return end;

@@ -29,13 +29,10 @@ mod word;
 
 pub use crate::fault::{ElfFault, Limit};
 pub use crate::header::{ENTRY_SIZE, HEADER_SIZE, IDENT, MACHINE, RELOCATABLE};
-pub use crate::join::{MAX_DATA, MAX_RELOCS, MAX_SYMBOLS, MAX_WORDS};
-pub use crate::object::{
-    Area, Binding, Bytes, Name, Object, Place, Reloc, Relocs, Symbol, Symbols,
-};
+pub use crate::object::{Area, Binding, Name, Object, Place, Reloc, Relocs, Symbol, Symbols};
 pub use crate::read::read_object;
 pub use crate::rela::MAX_FILE;
 pub use crate::section::{
     ALLOC, CFI_RECORDS, CFI_TYPES, EXECINSTR, PROGBITS, RELA, STRTAB, SYMTAB,
 };
-pub use crate::symbol::{ABSOLUTE, GLOBAL, LOCAL, MAX_NAME, SYMBOL_SIZE, UNDEFINED, WEAK};
+pub use crate::symbol::{ABSOLUTE, GLOBAL, LOCAL, SYMBOL_SIZE, UNDEFINED, WEAK};

@@ -5,7 +5,7 @@ ghost use Rattle.elf_read.specs.Layout.{IsLayout, IsNumbering};
 ghost use Rattle.elf_read.specs.Fault.{IsFirstFault, HasPlaces, IsSound, kept_symbols, kept_relocs};
 
 use crate::fault::{ElfFault, Limit};
-use crate::join::{MAX_DATA, MAX_RELOCS, MAX_SYMBOLS, MAX_WORDS};
+use cfi_word::limits::{MAX_DATA, MAX_RELOCS, MAX_SYMBOLS, MAX_WORDS};
 use crate::layout::Layout;
 use crate::rela::{kind_of, rela_at, rela_count};
 use crate::relocation::is_dropped;

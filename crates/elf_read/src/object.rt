@@ -1,90 +1,9 @@
-ghost use Rattle.std.specs.Prelude.{◌≡◌, length};
-ghost use Rattle.std.specs.String.{string_bytes};
+//! What is read of an object.
 
-use std::marker::Model;
+use cfi_values::{Bytes, Items, Text};
 
-/// Bytes, which contracts see as a list.
-#[derive(Debug, Drop)]
-pub struct Bytes {
-    bytes: Vec<u8>,
-}
-
-impl Model for Bytes {
-    ghost use Rattle.std.specs.Prelude.{ℕ, List};
-
-    ghost Value = { List ℕ };
-
-    ghost view = { λ b. b.bytes.items };
-}
-
-impl Bytes {
-    /// The bytes of a vector.
-    pub fn from_vec(bytes: Vec<u8>) -> Bytes
-        ensures same { result ≡ bytes.items }
-    {
-        Bytes { bytes }
-    }
-
-    /// The vector of these bytes.
-    pub fn into_vec(self) -> Vec<u8>
-        ensures same { result.items ≡ self }
-    {
-        self.bytes
-    }
-
-    /// The bytes as a slice.
-    pub fn as_slice(&self) -> &[u8]
-        ensures same { result.now ≡ self.now }
-        ensures len { length result.now ≡ length self.now }
-    {
-        self.bytes.as_slice()
-    }
-
-    /// How many bytes there are.
-    pub fn len(&self) -> usize
-        ensures same { result ≡ length self.now }
-    {
-        self.bytes.len()
-    }
-}
-
-/// A name, which contracts see as the list of its bytes.
-#[derive(Debug, Drop)]
-pub struct Name {
-    text: String,
-}
-
-impl Model for Name {
-    ghost use Rattle.std.specs.Prelude.{ℕ, List};
-    ghost use Rattle.std.specs.String.{string_bytes};
-
-    ghost Value = { List ℕ };
-
-    ghost view = { λ n. string_bytes n.text };
-}
-
-impl Name {
-    /// The name that a text is.
-    pub fn from_string(text: String) -> Name
-        ensures same { result ≡ string_bytes text }
-    {
-        Name { text }
-    }
-
-    /// The text of this name.
-    pub fn into_string(self) -> String
-        ensures same { string_bytes result ≡ self }
-    {
-        self.text
-    }
-
-    /// The name as a text.
-    pub fn as_str(&self) -> &str
-        ensures same { result.now ≡ self.now }
-    {
-        self.text.as_str()
-    }
-}
+/// The name of a symbol or a function.
+pub type Name = Text;
 
 /// How a symbol may be seen from other objects.
 #[derive(Clone, Copy, Debug, PartialEq, Eq)]
@@ -147,83 +66,12 @@ pub struct Reloc {
     pub addend: i32,
 }
 
-/// Symbols, which contracts see as a list.
-#[derive(Debug, Drop)]
-pub struct Symbols {
-    symbols: Vec<Symbol>,
-}
+/// The symbols of an object, in order.
+pub type Symbols = Items<Symbol>;
 
-impl Model for Symbols {
-    ghost use Rattle.std.specs.Prelude.{List};
-    ghost use Rattle.elf_read.specs.declared.object.Symbol.{Symbol};
+/// The relocations of an object, in order.
+pub type Relocs = Items<Reloc>;
 
-    ghost Value = { List Symbol };
-
-    ghost view = { λ s. s.symbols.items };
-}
-
-impl Symbols {
-    /// The symbols of a vector.
-    pub fn from_vec(symbols: Vec<Symbol>) -> Symbols
-        ensures same { result ≡ symbols.items }
-    {
-        Symbols { symbols }
-    }
-
-    /// The vector of these symbols.
-    pub fn into_vec(self) -> Vec<Symbol>
-        ensures same { result.items ≡ self }
-    {
-        self.symbols
-    }
-
-    /// The symbols as a slice.
-    pub fn as_slice(&self) -> &[Symbol]
-        ensures same { result.now ≡ self.now }
-        ensures len { length result.now ≡ length self.now }
-    {
-        self.symbols.as_slice()
-    }
-}
-
-/// Relocations, which contracts see as a list.
-#[derive(Debug, Drop)]
-pub struct Relocs {
-    relocs: Vec<Reloc>,
-}
-
-impl Model for Relocs {
-    ghost use Rattle.std.specs.Prelude.{List};
-    ghost use Rattle.elf_read.specs.declared.object.Reloc.{Reloc};
-
-    ghost Value = { List Reloc };
-
-    ghost view = { λ r. r.relocs.items };
-}
-
-impl Relocs {
-    /// The relocations of a vector.
-    pub fn from_vec(relocs: Vec<Reloc>) -> Relocs
-        ensures same { result ≡ relocs.items }
-    {
-        Relocs { relocs }
-    }
-
-    /// The vector of these relocations.
-    pub fn into_vec(self) -> Vec<Reloc>
-        ensures same { result.items ≡ self }
-    {
-        self.relocs
-    }
-
-    /// The relocations as a slice.
-    pub fn as_slice(&self) -> &[Reloc]
-        ensures same { result.now ≡ self.now }
-        ensures len { length result.now ≡ length self.now }
-    {
-        self.relocs.as_slice()
-    }
-}
 
 /// What a relocatable file has for the linker: joined text and data, symbols, relocations and records.
 #[derive(Debug, Drop)]

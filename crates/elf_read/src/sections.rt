@@ -1,6 +1,6 @@
 ghost use Rattle.std.specs.Prelude.{◌≡◌, ◌<◌, ◌≤◌, ℕ, List, IfOk, IfErr};
 ghost use Rattle.elf_read.specs.Header.{section_count};
-ghost use Rattle.elf_read.specs.declared.header.TheConstants.{MAX_SECTIONS};
+ghost use Rattle.cfi_word.specs.declared.limits.TheConstants.{MAX_SECTIONS};
 ghost use Rattle.elf_read.specs.Section.{is_types, is_records, has_symbols, has_kind, is_symbol_names, is_rela, is_kept, is_short, symbol_table, first_named};
 ghost use Rattle.elf_read.specs.Fault.{IsFirstFault, HasNames, HasContents};
 

@@ -22,9 +22,6 @@ pub const ABSOLUTE: u16 = 0xfff1;
 /// The section number of a common block.
 pub const COMMON: u16 = 0xfff2;
 
-/// The greatest length of a name, in bytes.
-pub const MAX_NAME: usize = 255;
-
 /// One symbol of the table.
 #[derive(Clone, Copy, Debug)]
 pub struct Entry {

@@ -1,6 +1,6 @@
 ghost use Rattle.std.specs.Prelude.{◌≡◌, ◌<◌, ◌≤◌, ◌^◌, ◌%◌, ◌/◌, ◌&&◌, ◌==◌, ℕ, List, length, IfSome, is_some};
 ghost use Rattle.elf_read.specs.Header.{section_count};
-ghost use Rattle.elf_read.specs.declared.header.TheConstants.{MAX_SECTIONS};
+ghost use Rattle.cfi_word.specs.declared.limits.TheConstants.{MAX_SECTIONS};
 ghost use Rattle.elf_read.specs.Section.{section_at, contents, is_loaded, is_text, is_data, is_record_section};
 ghost use Rattle.elf_read.specs.Places.{first_where};
 ghost use Rattle.elf_read.specs.Fault.{HasSections};
@@ -9,7 +9,8 @@ ghost use Rattle.elf_read.specs.Symbol.{symbol_bytes, symbol_names, symbol_count
 use crate::name::ended;
 use crate::section::Section;
 use crate::sections::Sections;
-use crate::symbol::{Entry, FILE, GLOBAL, MAX_NAME, SECTION, SYMBOL_SIZE, UNDEFINED, WEAK};
+use crate::symbol::{Entry, FILE, GLOBAL, SECTION, SYMBOL_SIZE, UNDEFINED, WEAK};
+use cfi_word::limits::MAX_NAME;
 use crate::word::{rest, u16_at, u32_at};
 use std::marker::Model;
 use std::str;

@@ -7,6 +7,7 @@ use Rattle.elf_read.specs.declared.relocation.TheConstants.{RELA_SIZE}
 use Rattle.elf_write.specs.declared.part.TheConstants.{TEXT, DATA, TEXT_RELAS, DATA_RELAS, SYMBOLS, SYMBOL_NAMES, SECTION_NAMES, WRITE}
 use Rattle.elf_write.specs.declared.part.Part.{Part}
 use Rattle.elf_write.specs.declared.part.Part.TheVariants.{Null, Text, Data, Types, Records, TextRelas, DataRelas, Symbols, SymbolNames, SectionNames}
+use Rattle.cfi_word.specs.declared.map.TheConstants.{DATA_ALIGNMENT}
 
 -- the part where it is there
 abbrev pub where_there : Bool → Part → List Part
@@ -53,7 +54,7 @@ flags_of _ = 0
 -- its alignment
 abbrev pub alignment_of : Part → ℕ
 alignment_of Null = 0
-alignment_of Data = 16
+alignment_of Data = DATA_ALIGNMENT
 alignment_of SymbolNames = 1
 alignment_of SectionNames = 1
 alignment_of _ = 4

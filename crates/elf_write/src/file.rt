@@ -9,7 +9,8 @@ ghost use Rattle.elf_write.specs.File.{sections_of, bytes_or_none, contents_of, 
 use crate::contents::{local_count, put_names, put_relas, put_symbols};
 use crate::part::{Part, alignment_of, entry_size_of, flags_of, kind_of, name_of, parts_of};
 use crate::word::{put_halves, put_words};
-use elf_read::{Area, Bytes, ENTRY_SIZE, HEADER_SIZE, IDENT, MACHINE, Object, RELOCATABLE};
+use elf_read::{Area, ENTRY_SIZE, HEADER_SIZE, IDENT, MACHINE, Object, RELOCATABLE};
+use cfi_values::Bytes;
 use std::alloc::{AllocError, Global};
 
 /// Adds the names of sections.

@@ -1,6 +1,7 @@
 ghost use Rattle.std.specs.Prelude.{◌≡◌, IfOk};
 ghost use Rattle.elf_write.specs.Part.{parts_of, name_of, kind_of, flags_of, alignment_of, entry_size_of};
 
+use cfi_word::map::DATA_ALIGNMENT;
 use elf_read::relocation::RELA_SIZE;
 use elf_read::{
     ALLOC, CFI_RECORDS, CFI_TYPES, EXECINSTR, PROGBITS, RELA, STRTAB, SYMBOL_SIZE, SYMTAB,
@@ -115,7 +116,7 @@ pub fn alignment_of(part: Part) -> u32
 {
     match part {
         Part::Null => 0,
-        Part::Data => 16,
+        Part::Data => DATA_ALIGNMENT as u32,
         Part::SymbolNames | Part::SectionNames => 1,
         _ => 4,
     }

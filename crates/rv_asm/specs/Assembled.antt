@@ -3,7 +3,7 @@ use Rattle.std.specs.Prelude.{◌≡◌, ℕ, ◌+◌, Bool, nat_lt, List, [], �
 use Rattle.cfi_text.specs.Lines.{numbered_lines}
 use Rattle.cfi_types.specs.Spelling.{spelling as types_spelling}
 use Rattle.cfi_aux.specs.Records.{spelling as records_spelling}
-use Rattle.elf_read.specs.declared.join.TheConstants.{MAX_SYMBOLS}
+use Rattle.cfi_word.specs.declared.limits.TheConstants.{MAX_SYMBOLS}
 use Rattle.elf_read.specs.declared.object.Object.{Object}
 use Rattle.rv_line.specs.declared.statement.Statement.{Statement}
 use Rattle.rv_asm.specs.declared.fault.AsmFault.{AsmFault}

@@ -4,10 +4,8 @@ use Rattle.elf_read.specs.declared.object.Area.{Area}
 use Rattle.elf_read.specs.declared.object.Area.TheVariants as areas
 use Rattle.elf_read.specs.declared.object.Reloc.{Reloc}
 use Rattle.elf_read.specs.declared.relocation.TheConstants as relocs
-use Rattle.elf_read.specs.declared.join.TheConstants.{MAX_DATA, MAX_RELOCS, MAX_WORDS}
+use Rattle.cfi_word.specs.declared.limits.TheConstants.{MAX_DATA, MAX_RELOCS, MAX_WORDS, MAX_NODES, MAX_FUNCTIONS, MAX_BRANCHES, MAX_NAME}
 use Rattle.cfi_types.specs.Node.{Node}
-use Rattle.cfi_types.specs.declared.kind.TheConstants.{MAX_NODES}
-use Rattle.cfi_aux.specs.declared.format.TheConstants.{MAX_FUNCTIONS, MAX_BRANCHES, MAX_NAME}
 use Rattle.cfi_aux.specs.declared.records.Function.{Function}
 use Rattle.cfi_aux.specs.declared.records.Kind.{Kind}
 use Rattle.cfi_aux.specs.declared.records.Kind.TheVariants as branches

@@ -1,8 +1,7 @@
 -- What the code's types keep beside what clauses see: limits that records are within.
 use Rattle.std.specs.Prelude.{◌<◌, ◌≤◌, ◌^◌, length, All}
 use Rattle.std.specs.Option.{ForSome}
-use Rattle.cfi_types.specs.declared.kind.TheConstants.{MAX_NODES}
-use Rattle.cfi_aux.specs.declared.format.TheConstants.{MAX_FUNCTIONS, MAX_BRANCHES}
+use Rattle.cfi_word.specs.declared.limits.TheConstants.{MAX_NODES, MAX_FUNCTIONS, MAX_BRANCHES}
 use Rattle.cfi_aux.specs.Records.{words_of}
 use Rattle.rv_asm.specs.declared.survey.Survey.TheInside.{Inside as Surveyed}
 use Rattle.rv_asm.specs.declared.draft.Draft.TheInside.{Inside as Drafted}

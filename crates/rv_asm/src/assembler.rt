@@ -10,7 +10,8 @@ use crate::fault::AsmFault;
 use crate::file::File;
 use crate::row::Row;
 use crate::survey::survey_of;
-use elf_read::{MAX_SYMBOLS, Object};
+use elf_read::Object;
+use cfi_word::limits::MAX_SYMBOLS;
 use rv_line::Statement;
 use std::alloc::Global;
 

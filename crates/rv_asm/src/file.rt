@@ -1,6 +1,6 @@
 //! What all lines of a source know of the whole.
 
-use cfi_list::Items;
+use cfi_values::Items;
 use rv_line::NodeKind;
 use rv_names::Names;
 

@@ -8,9 +8,9 @@ ghost use Rattle.rv_asm.specs.Assembled.{only_if, object_of};
 use crate::draft::Draft;
 use crate::file::File;
 use cfi_aux::{Records, write_records};
-use cfi_list::Items;
+use cfi_values::{Items, Bytes};
 use cfi_types::{TypeTable, write_types};
-use elf_read::{Bytes, Object, Relocs};
+use elf_read::{Object, Relocs};
 use std::alloc::{AllocError, Global};
 
 // The bytes of a type table, where the source has records.

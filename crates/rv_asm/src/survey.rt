@@ -12,7 +12,7 @@ use crate::file::File;
 use crate::reference::reference_of;
 use crate::row::Row;
 use crate::spot::{Spot, pair_label};
-use cfi_list::Items;
+use cfi_values::Items;
 use cfi_text::Lines;
 use elf_read::Name;
 use rv_line::{Line, NodeKind, Statement, read_line};

@@ -1,10 +1,10 @@
 -- A guest that may be answered, and words that may come.
 use Rattle.std.proofs.Common.{ℕ, ◌≤◌, [], Option, Some, None, refl, arith}
 use Rattle.std.proofs.lemmas.List.Elements.{All-nil}
-use Rattle.cfi_word.specs.declared.word.TheConstants.{MAX_POLICY}
+use Rattle.cfi_word.specs.declared.limits.TheConstants.{MAX_POLICY}
 use Rattle.cfi_model.specs.declared.act.Wait.{Wait}
 use Rattle.cfi_model.specs.declared.act.Wait.TheVariants as waits
-use Rattle.cfi_model.specs.declared.places.TheConstants.{OPEN}
+use Rattle.cfi_word.specs.declared.services.TheConstants.{OPEN}
 use Rattle.cfi_model.specs.Data.{IsInside}
 use Rattle.cfi_model.specs.Service.{Reply, reply_of}
 use Rattle.cfi_model.specs.Raw.{Raw, raw_opened}

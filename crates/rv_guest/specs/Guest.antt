@@ -6,8 +6,8 @@ use Rattle.cfi_unit.specs.declared.log.Stop.TheVariants.{Fuel}
 use Rattle.cfi_word.specs.Word.{policy_in}
 use Rattle.cfi_model.specs.declared.act.Wait.{Wait}
 use Rattle.cfi_model.specs.declared.act.Wait.TheVariants as waits
-use Rattle.cfi_word.specs.declared.word.TheConstants.{MAX_POLICY}
-use Rattle.cfi_model.specs.declared.places.TheConstants as places
+use Rattle.cfi_word.specs.declared.limits.TheConstants.{MAX_POLICY, MAX_OPENS}
+use Rattle.cfi_word.specs.declared.services.TheConstants as services
 use Rattle.cfi_model.specs.Data.{IsInside}
 use Rattle.cfi_model.specs.Log.{last_policy, last_picks, opens}
 use Rattle.cfi_model.specs.Service.{Reply}
@@ -48,15 +48,15 @@ MayLoad (Some (waits.Service number)) log word = ⊤
 
 -- the answer may come
 pub record MayAnswer (reply : Reply) (r : Raw) : Type 0 where
-  pub waiting : r.waits ≡ Some (waits.Service places.OPEN)
+  pub waiting : r.waits ≡ Some (waits.Service services.OPEN)
   pub inside : All IsInside reply.fills
-  pub few : reply.cause ≢ places.TOO_MANY → opens r.base.log < places.MAX_OPENS
+  pub few : reply.cause ≢ services.TOO_MANY → opens r.base.log < MAX_OPENS
   pub rises : last_policy r.base.log ≤ reply.policy
   pub most : reply.policy ≤ MAX_POLICY
 
 -- the guest waits in a service other than exit, put and open
 abbrev pub WaitsElse : Option Wait → Type 0
-WaitsElse (Some (waits.Service number)) = (number ≢ places.EXIT) × (number ≢ places.PUT) × (number ≢ places.OPEN)
+WaitsElse (Some (waits.Service number)) = (number ≢ services.EXIT) × (number ≢ services.PUT) × (number ≢ services.OPEN)
 WaitsElse (Some (waits.Tary at rd)) = ⊥
 WaitsElse (Some (waits.Bary slot rd)) = ⊥
 WaitsElse None = ⊥
@@ -78,7 +78,7 @@ WaitsIn None = ⊥
 
 -- the guest waits in a quiet
 abbrev pub is_quiet : Option Wait → Bool
-is_quiet (Some (waits.Service number)) = number == places.QUIET
+is_quiet (Some (waits.Service number)) = number == services.QUIET
 is_quiet (Some (waits.Tary at rd)) = false
 is_quiet (Some (waits.Bary slot rd)) = false
 is_quiet None = false

@@ -6,7 +6,9 @@ ghost use Rattle.cfi_model.specs.Begin.{begin_of, act_of};
 
 use crate::decode::opcode_of;
 use crate::registers::Registers;
-use cfi_model::{ARGUMENT, Act, LogBook, Output, PrivateData, STACK, Wait};
+use cfi_model::{Act, LogBook, Output, PrivateData, Wait};
+use cfi_word::map::STACK;
+use cfi_word::services::ARGUMENT;
 use cfi_unit::{Fill, Stop};
 use rv_insn::opcode;
 use std::alloc::{AllocError, Global};

@@ -1,7 +1,7 @@
 //! That the premises of a guest's calls can be met.
 
 ghost use Rattle.std.specs.Prelude.{◌≡◌, ℕ, ◌≤◌, [], List, Option};
-ghost use Rattle.cfi_word.specs.declared.word.TheConstants.{MAX_POLICY};
+ghost use Rattle.cfi_word.specs.declared.limits.TheConstants.{MAX_POLICY};
 ghost use Rattle.cfi_model.specs.declared.act.Wait.{Wait};
 ghost use Rattle.cfi_model.specs.Service.{Reply};
 ghost use Rattle.cfi_model.specs.Raw.{Raw};

@@ -13,5 +13,5 @@ mod registers;
 #[cfg(test)]
 mod tests;
 
-pub use cfi_model::{Act, Answer, Bytes, Fill, Log, Stop, Wait};
+pub use cfi_model::{Act, Answer, Fill, Log, Stop, Wait};
 pub use guest::Guest;

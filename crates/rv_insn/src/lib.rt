@@ -10,7 +10,7 @@ pub mod fields;
 mod insn;
 pub mod laws;
 pub mod opcode;
-mod rows;
+pub mod rows;
 #[cfg(test)]
 mod tests;
 

@@ -1,6 +1,6 @@
 //! The assembler's sources, line by line.
 //!
-//! Stands on `rv_insn`, `rv_text`, `cfi_list`, `cfi_text` and `elf_read`. Proved:
+//! Stands on `rv_insn`, `rv_text`, `cfi_values`, `cfi_text` and `elf_read`. Proved:
 //! `read_line` gives the line that bytes say, exactly as `specs/Line.antt` has it. Only tested: nothing. Open: nothing.
 #![tactic(auto)]
 
@@ -8,7 +8,6 @@ mod called;
 mod directives;
 mod forms;
 mod line;
-mod names;
 mod number;
 mod operand;
 mod register;

@@ -1,7 +1,7 @@
 //! What a line of a source says.
 
 use crate::register::Register;
-use cfi_list::Items;
+use cfi_values::Items;
 use elf_read::Name;
 use rv_insn::{Cond, ImmOp, LoadKind, Op, StoreKind};
 

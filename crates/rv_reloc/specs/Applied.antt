@@ -8,12 +8,7 @@ use Rattle.rv_reloc.specs.Table.{rule_of}
 use Rattle.rv_reloc.specs.Formula.{number_by}
 use Rattle.rv_reloc.specs.Field.{immediate, filled}
 use Rattle.rv_reloc.specs.Bytes.{word_at, with_word}
-
--- goes on with what a step gave
-infixl 10 ◌>>=◌
-abbrev pub ◌>>=◌ : {A B : Type 0} → Result A RelocFault → (A → Result B RelocFault) → Result B RelocFault
-(Ok x) >>= f = f x
-(Err fault) >>= f = Err fault
+use Rattle.cfi_values.specs.Then.{◌>>=◌}
 
 -- the second word that a row changes, where it changes two
 abbrev pub filled_next : (next : Option Form) → (number word : ℕ) → Result (Option ℕ) RelocFault

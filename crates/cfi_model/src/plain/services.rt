@@ -6,12 +6,11 @@ ghost use Rattle.cfi_model.specs.State.{after};
 ghost use Rattle.cfi_model.specs.Service.{IsAnswer, Service, Ends, Puts, Quiets, Opens, Unknown, served, reply_of, too_many};
 ghost use Rattle.cfi_model.specs.Effect.{going_to};
 ghost use Rattle.cfi_model.specs.Log.{opens};
-ghost use Rattle.cfi_model.specs.declared.places.TheConstants.{MAX_OPENS};
+ghost use Rattle.cfi_word.specs.declared.limits.TheConstants.{MAX_OPENS};
 ghost use Rattle.cfi_model.specs.Plain.{unit_of};
 
-use crate::places::{
-    ARGUMENT, CAUSE, EXIT, MAX_OPENS, MAX_OUTPUT, OPEN, PUT, QUIET, REFUSED, SERVICE, TOO_MANY,
-};
+use cfi_word::limits::{MAX_OPENS, MAX_OUTPUT};
+use cfi_word::services::{ARGUMENT, CAUSE, EXIT, OPEN, PUT, QUIET, REFUSED, SERVICE, TOO_MANY};
 use crate::plain::Plain;
 use cfi_unit::{Answer, Stop};
 

@@ -8,14 +8,17 @@ ghost use Rattle.cfi_model.specs.Log.{last_policy};
 ghost use Rattle.cfi_model.specs.State.{regs_with, register, displaced, after};
 ghost use Rattle.cfi_model.specs.Effect.{going_to, plain_regs, masked_at, load_effect, store_effect, checked, allows_by, accessed};
 ghost use Rattle.cfi_model.specs.Plain.{unit_of};
-ghost use Rattle.cfi_model.specs.declared.places.TheConstants.{DATA_BYTES};
-ghost use Rattle.cfi_word.specs.declared.word.TheConstants.{MAX_POLICY};
+ghost use Rattle.cfi_word.specs.declared.map.TheConstants.{DATA_BYTES};
+ghost use Rattle.cfi_word.specs.declared.limits.TheConstants.{MAX_POLICY};
 
 use crate::data::{load_width, store_width};
-use crate::places::{CODE_BYTES, DATA_BYTES};
-use crate::plain::Plain;
-use cfi_unit::{DATA_START, FREE_REGISTERS, Stop, Unit};
+use cfi_word::sizes::{
+    ACCESS_WORDS, CHECK_WORDS, FORBIDDEN_STEPS, MISALIGNED_STEPS, OUTSIDE_STEPS, PASSED_STEPS,
+};
 use cfi_word::Edge;
+use cfi_word::map::{CODE_BYTES, DATA_BYTES, DATA_START};
+use crate::plain::Plain;
+use cfi_unit::{FREE_REGISTERS, Stop, Unit};
 use rv_alu::{imm_op_value, is_taken, op_value};
 use rv_insn::{Insn, LoadKind, StoreKind};
 
@@ -156,12 +159,12 @@ impl Plain {
         } }
     {
         if fits {
-            self.pc = self.pc.wrapping_add(24);
+            self.pc = self.pc.wrapping_add(4 * ACCESS_WORDS as u32);
         } else {
             self.stop = Some(Stop::Align(DATA_START + offset));
         }
         self.units += 1;
-        self.steps += 6;
+        self.steps += ACCESS_WORDS as u32;
     }
 
     fn load(&mut self, kind: LoadKind, rd: u32, rs1: u32, imm: i32)
@@ -215,21 +218,21 @@ impl Plain {
     {
         self.units += 1;
         if target >= CODE_BYTES {
-            self.steps += 4;
+            self.steps += OUTSIDE_STEPS;
             self.stop = Some(Stop::Halt(target));
         } else if target % 4 != 0 {
-            self.steps += 8;
+            self.steps += MISALIGNED_STEPS;
             self.stop = Some(Stop::Halt(target));
         } else {
             self.log.pick(policy);
             if allowed {
                 if link {
-                    self.regs[1] = self.pc.wrapping_add(56);
+                    self.regs[1] = self.pc.wrapping_add(4 * CHECK_WORDS as u32);
                 }
-                self.steps += 10;
+                self.steps += PASSED_STEPS;
                 self.pc = target;
             } else {
-                self.steps += 13;
+                self.steps += FORBIDDEN_STEPS;
                 self.stop = Some(Stop::Halt(target));
             }
         }

@@ -6,16 +6,17 @@ ghost use Rattle.rv_insn.specs.InsnOf.{row_of};
 ghost use Rattle.cfi_model.specs.Begin.{begin_by, act_by, load_at, load_act, store_at, store_act, area_of, units_of};
 ghost use Rattle.cfi_model.specs.Begin.{load_private, Private, TaryId, store_private, stopped, is_within};
 ghost use Rattle.cfi_model.specs.Run.{finish_of};
-ghost use Rattle.cfi_unit.specs.declared.unit.TheConstants.{DATA_START};
-ghost use Rattle.cfi_model.specs.declared.places.TheConstants.{DATA_BYTES, TARY, CODE_BYTES};
+ghost use Rattle.cfi_word.specs.declared.map.TheConstants.{DATA_START, DATA_BYTES, TARY, CODE_BYTES};
 ghost use Rattle.rv_guest.specs.Guest.{MayLoad};
 
-use crate::decode::{load_of, store_of};
+use rv_insn::rows::{load_of, store_of};
 use crate::guest::Guest;
 use crate::guest::compute::is_own;
-use cfi_model::{Act, CODE_BYTES, DATA_BYTES, TARY, Wait, load_width, store_width};
-use cfi_unit::{BARY, DATA_START, SLOTS, Stop};
+use cfi_model::{Act, Wait, load_width, store_width};
 use cfi_word::Word;
+use cfi_word::map::{CODE_BYTES, DATA_BYTES, TARY, BARY, DATA_START};
+use cfi_word::sizes::SLOTS;
+use cfi_unit::Stop;
 use rv_insn::fields::{fields_of, imm_i, imm_s};
 use rv_insn::{LoadKind, StoreKind};
 

@@ -7,7 +7,8 @@ ghost use Rattle.cfi_unit.specs.declared.unit.TheConstants.{FREE_REGISTERS};
 ghost use Rattle.cfi_model.specs.Raw.{with_reg};
 ghost use Rattle.cfi_model.specs.Begin.{begin_by, act_by, ran, units_of, next, is_reserved};
 
-use crate::decode::{imm_of, imm_op_of, op_of};
+use crate::decode::imm_of;
+use rv_insn::rows::{imm_op_of, op_of};
 use crate::guest::Guest;
 use cfi_model::Act;
 use cfi_unit::FREE_REGISTERS;

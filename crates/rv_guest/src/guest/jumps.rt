@@ -7,12 +7,13 @@ ghost use Rattle.cfi_model.specs.Log.{last_picks};
 ghost use Rattle.cfi_model.specs.Begin.{begin_by, act_by, picked_by, judged, ran, units_of, is_reserved};
 ghost use Rattle.rv_guest.specs.Guest.{KeepsPolicy};
 
-use crate::decode::cond_of;
+use rv_insn::rows::cond_of;
 use crate::guest::Guest;
 use crate::guest::compute::is_own;
-use cfi_model::{Act, LogBook, SERVICE, Wait};
-use cfi_unit::Stop;
+use cfi_model::{Act, LogBook, Wait};
 use cfi_word::Word;
+use cfi_word::services::SERVICE;
+use cfi_unit::Stop;
 use rv_alu::is_taken;
 use rv_insn::fields::{fields_of, imm_b, imm_i, imm_j};
 use rv_insn::opcode;

@@ -1,14 +1,14 @@
 // What a guest's parts hold.
 
 ghost use Rattle.std.specs.Prelude.{◌≡◌, ◌<◌, ◌≤◌};
-ghost use Rattle.cfi_word.specs.declared.word.TheConstants.{MAX_POLICY};
-ghost use Rattle.cfi_model.specs.declared.places.TheConstants.{MAX_OPENS};
+ghost use Rattle.cfi_word.specs.declared.limits.TheConstants.{MAX_POLICY, MAX_OPENS};
 ghost use Rattle.cfi_model.specs.Log.{last_policy, opens};
 ghost use Rattle.cfi_model.specs.Service.{argument};
 ghost use Rattle.cfi_model.specs.Raw.{reg};
 
 use crate::guest::Guest;
-use cfi_model::{ARGUMENT, Wait};
+use cfi_model::Wait;
+use cfi_word::services::ARGUMENT;
 use cfi_unit::{Log, Stop};
 
 impl Guest {

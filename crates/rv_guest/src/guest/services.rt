@@ -1,13 +1,15 @@
 // How services end, and how a guest runs out of fuel.
 
 ghost use Rattle.std.specs.Prelude.{◌≡◌, ◌+◌, ◌<◌, ◌≤◌, ◌^◌, Some, None};
-ghost use Rattle.cfi_model.specs.declared.places.TheConstants.{EXIT, PUT};
+ghost use Rattle.cfi_word.specs.declared.services.TheConstants.{EXIT, PUT};
 ghost use Rattle.cfi_model.specs.Service.{reply_of, too_many};
 ghost use Rattle.cfi_model.specs.Run.{serve_of};
 ghost use Rattle.rv_guest.specs.Guest.{MayAnswer, WaitsElse, WaitsIn, is_quiet, is_spent, spent};
 
 use crate::guest::Guest;
-use cfi_model::{ARGUMENT, CAUSE, EXIT, MAX_OUTPUT, PUT, QUIET, REFUSED, TOO_MANY, Wait};
+use cfi_model::Wait;
+use cfi_word::limits::MAX_OUTPUT;
+use cfi_word::services::{ARGUMENT, CAUSE, EXIT, PUT, QUIET, REFUSED, TOO_MANY};
 use cfi_unit::{Answer, Stop};
 
 impl Guest {

@@ -1,22 +1,17 @@
-use Rattle.cfi_graph.proofs.SpotLemmas.{one_read, all_read, some_begins}
+use Rattle.std.proofs.Common.{sym, ap, ◌∙◌}
+use Rattle.cfi_unit.specs.Spots.{spots_of}
+use Rattle.cfi_unit.proofs.CodeLemmas.{UnitCode-one}
+use Rattle.cfi_unit.proofs.StopLemmas.{no_stop}
 use Rattle.cfi_graph.proofs.spot.spots.Goals as goal
 
--- a unit begins wherever words of code are left
-pub returns-in_default : goal.returns-in_default
-returns-in_default c = λ code units.
-    let next = some_begins c.args.words.now c.loop-at.at c.loop-at.spots.items c.loop-at.invariant c.loop-at-test.true
-    code units in
-    let found = c.next_unit.ensures.only next.0 next.1 in
-    let none = c.in_default.is in
-    cc (found, none)
+-- words are the code of one list of units
+pub returns-in-Ok : goal.returns-in-Ok
+returns-in-Ok c = λ code units.
+    let read = c.in-Ok.ensures.ok in
+    read.places ∙ ap (spots_of 0) (UnitCode-one c.args.words.now read.code code read.units units)
 
--- this turn's unit is read too
-pub loop-at-preserved : goal.loop-at-preserved
-loop-at-preserved c =
-    rw (c.in_ok-push.ensures.items, c.in-Some.ensures.size)
-    (one_read c.args.words.now c.loop-at.at c.loop-at.spots.items c.in-Some.unit c.loop-at.invariant
-    c.loop-at-test.true c.in-Some.ensures.some)
-
-pub returns : goal.returns
-returns c = λ code units.
-    all_read c.args.words.now c.loop-at.at c.loop-at.spots.items c.loop-at.invariant c.loop-at-test.false code units
+-- reading units does not stop
+pub unreachable : goal.unreachable
+unreachable c =
+    let units = c.requires.units in
+    no_stop c.args.words.now units.code _ units.units c.in-Stops.ensures.fault.0

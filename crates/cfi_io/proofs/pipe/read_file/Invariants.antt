@@ -1,6 +1,6 @@
 use Rattle.std.proofs.Common.{◌≤◌, ◌+◌, ◌-◌, vec_len}
 use Rattle.std.specs.Io.KnownBytes.{Consumes}
-use Rattle.cfi_io.specs.declared.shelf.TheConstants.{MAX_FILE_BYTES}
+use Rattle.cfi_word.specs.declared.limits.TheConstants.{MAX_FILE_BYTES}
 use Rattle.cfi_io.proofs.pipe.read_file.Given as goal
 
 abbrev pub invariant-loop-piece : goal.invariant-loop-piece

@@ -1,6 +1,6 @@
 use Rattle.std.proofs.Common.{rules, ◌≡◌, ◌∙◌, ◌≤◌, ◌∷◌, ℕ, List, length, map, Bor, sym, ap, arith}
 use Rattle.std.proofs.lemmas.List.{length-map}
-use Rattle.cfi_top.specs.declared.command.TheConstants.{MAX_INPUTS}
+use Rattle.cfi_word.specs.declared.limits.TheConstants.{MAX_INPUTS}
 use Rattle.cfi_top.proofs.CommandLemmas.{link_spelled}
 use Rattle.cfi_top.proofs.command.linking.Goals as goal
 

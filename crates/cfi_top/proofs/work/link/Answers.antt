@@ -2,8 +2,8 @@ use Rattle.std.proofs.Common.{◌≡◌, ◌∙◌, ℕ, List, length, Some, ref
 use Rattle.std.specs.Prelude.{slice_get}
 use Rattle.std.proofs.lemmas.Option.{slice_get_read}
 use Rattle.std.proofs.lemmas.Result.{IfOk-weaker}
-use Rattle.cfi_tools.specs.Linking.{IsLinkingFault}
-use Rattle.cfi_tools.specs.Modules.{IsFirstBadFile}
+use Rattle.cfi_commands.specs.Linking.{IsLinkingFault}
+use Rattle.cfi_commands.specs.Modules.{IsFirstBadFile}
 use Rattle.cfi_top.proofs.LinkLemmas.{bad_within, link_refused}
 use Rattle.cfi_top.proofs.work.link.Goals as goal
 

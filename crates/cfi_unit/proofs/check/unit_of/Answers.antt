@@ -7,6 +7,7 @@ use Rattle.cfi_unit.specs.declared.unit.Unit.TheVariants as units
 use Rattle.cfi_unit.specs.Unit.{words_of}
 use Rattle.cfi_unit.proofs.CodeLemmas.{BeginsAt-word}
 use Rattle.cfi_unit.proofs.check.unit_of.Goals as goal
+use Rattle.cfi_word.specs.declared.sizes.TheConstants.{SLOTS}
 
 pub returns-then-slot-ge-SLOTS-clause-only : goal.returns-then-slot-ge-SLOTS-clause-only
 returns-then-slot-ge-SLOTS-clause-only c = λ link slot begins.

@@ -3,7 +3,7 @@ use Rattle.std.specs.Option.{is_some, IfSome}
 use Rattle.std.proofs.lemmas.Bool.{false≢true}
 use Rattle.rv_insn.specs.declared.insn.Insn.{Insn}
 use Rattle.rv_insn.specs.Insn.{IsWord}
-use Rattle.cfi_verify.specs.Spots.{IsInsnAt}
+use Rattle.cfi_unit.specs.Spots.{IsInsnAt}
 use Rattle.cfi_verify.proofs.reader.first_illegal.Goals as goal
 
 -- a word that is decoded is an instruction

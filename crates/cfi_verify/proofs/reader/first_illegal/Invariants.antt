@@ -1,4 +1,4 @@
-use Rattle.cfi_verify.specs.Reading.{InsnsBelow}
+use Rattle.cfi_unit.specs.Spots.{InsnsBelow}
 use Rattle.cfi_verify.proofs.reader.first_illegal.Given as goal
 
 abbrev pub invariant-loop-at : goal.invariant-loop-at

@@ -1,5 +1,5 @@
 use Rattle.std.proofs.Common.{rules, ◌≡◌, ◌∙◌, length, slice_set, replicate, refl, arith}
-use Rattle.cfi_word.specs.declared.layout.TheConstants.{FIRST_BASE}
+use Rattle.cfi_word.specs.declared.map.TheConstants.{FIRST_BASE}
 use Rattle.cfi_top.proofs.EntryImageLemmas.{closed_to_entry}
 use Rattle.cfi_top.proofs.tests.checks.image_to_entry.Goals as goal
 

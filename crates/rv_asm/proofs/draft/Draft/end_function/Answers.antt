@@ -1,7 +1,7 @@
 use Rattle.std.proofs.Common.{◌≡◌, ◌<◌, ◌^◌, ◌++◌, ◌∷◌, [], length, Some, None, refl, arith, length-append}
 use Rattle.std.proofs.lemmas.Grind.{common_steps}
 use Rattle.std.proofs.lemmas.List.Elements.{All-push}
-use Rattle.cfi_aux.specs.declared.format.TheConstants.{MAX_FUNCTIONS}
+use Rattle.cfi_word.specs.declared.limits.TheConstants.{MAX_FUNCTIONS}
 use Rattle.cfi_aux.specs.declared.records.Function.{Function}
 use Rattle.rv_asm.proofs.draft.Draft.end_function.Goals as goal
 

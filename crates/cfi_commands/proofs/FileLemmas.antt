@@ -1,0 +1,95 @@
+-- That a series can take the modules of files, one after the other, and their first fault.
+use Rattle.std.proofs.Common.{◌≡◌, ℕ, ◌+◌, ◌<◌, ◌++◌, List, [], ◌∷◌, length, take, get_or, Some, All, ap, sym, subst, ◌∙◌, arith}
+use Rattle.std.proofs.lemmas.List.{take_more}
+use Rattle.std.proofs.lemmas.List.Elements.{All-nil, All-cons, All-head, All-tail}
+use Rattle.std.proofs.lemmas.Option.{slice_get-get_or}
+use Rattle.elf_read.specs.Header.{section_count}
+use Rattle.elf_read.specs.declared.object.Object.{Object}
+use Rattle.cfi_aux.specs.declared.modules.Module.{Module}
+use Rattle.cfi_aux.specs.Sound.{IsSoundModule}
+use Rattle.cfi_aux.proofs.JoinedLists.{data_length}
+use Rattle.cfi_commands.specs.Reading.{IsModuleFile}
+use Rattle.cfi_commands.specs.Modules.{AreModuleFiles}
+use Rattle.cfi_commands.proofs.ListingLemmas.{short_text}
+use Rattle.cfi_commands.proofs.InstrumentingLemmas.{few_relocs}
+use Rattle.cfi_aux.specs.declared.placed.Placed.{Placed}
+use Rattle.cfi_series.specs.declared.fault.JoinFault.{JoinFault}
+use Rattle.cfi_series.specs.declared.fault.JoinFault.TheVariants as joins
+use Rattle.cfi_series.specs.Order.{Joins, AreInOrder, IsJoinFault, IsFirstRefused}
+use Rattle.cfi_series.specs.Series.{Series, HasJoined, CanBeTaken}
+use Rattle.cfi_series.proofs.OrderLemmas.{order_more as in_order_more}
+use Rattle.cfi_commands.specs.declared.fault.FilesFault.{FilesFault}
+use Rattle.cfi_commands.specs.declared.fault.FilesFault.TheVariants as faults
+use Rattle.cfi_commands.specs.Files.{IsFilesFault, IsSeriesFault, fault_at}
+
+-- what was read of a file is small
+pub taken : (bytes : List ℕ) (m : Module) → IsModuleFile bytes m → IsSoundModule m → CanBeTaken m
+taken bytes m file sound =
+    let object = file.object in
+    let same = file.whole.object_kept in
+    let end : length object.static_data ≡ _ =
+    ap (λ (xs : List ℕ). length xs) file.is.kept.static_data
+    ∙ data_length bytes (section_count bytes) file.is.sound (omega arith) in
+    record {
+      sound = sound;
+      text = omega (arith, short_text bytes object file.is, ap (λ (o : Object). length o.text) same);
+      static_data = omega (arith, end, file.is.sound.data_size, ap (λ (o : Object). length o.static_data) same);
+      relocs = few_relocs bytes m file;
+      functions = omega (arith, file.whole.parts.good.function_count);
+    }
+
+-- what was read of files is small
+pub all_taken : (files : List (List ℕ)) (modules : List Module) → AreModuleFiles files modules
+    → All IsSoundModule modules → All CanBeTaken modules
+all_taken [] [] read sound = All-nil CanBeTaken
+all_taken [] (m ∷ modules) read sound = absurd read
+all_taken (file ∷ files) [] read sound = absurd read
+all_taken (file ∷ files) (m ∷ modules) read sound =
+    All-cons CanBeTaken m modules (taken file m read.0 (All-head IsSoundModule m modules sound))
+    (all_taken files modules read.1 (All-tail IsSoundModule m modules sound))
+
+module _ (code_words : ℕ) (modules : List Module) (k : ℕ) (m : Module) (within : k < length modules)
+    (is : m ≡ get_or modules k m) (series : Series) (same : series.code_words ≡ code_words)
+    (order : AreInOrder code_words (take k modules) series.placed) where
+  -- the module of the number joins those before it
+  pub order_more : (new : Series) → HasJoined series new m
+      → AreInOrder code_words (take (k + 1) modules) new.placed × (new.code_words ≡ code_words)
+  order_more new joined =
+      let p = joined.0 in
+      let joins : Joins code_words series.placed m p =
+      subst (λ (n : ℕ). Joins n series.placed m p) same joined.1 in
+      let more : take (k + 1) modules ≡ take k modules ++ m ∷ [] =
+      take_more modules k m within ∙ ap (λ (x : Module). take k modules ++ x ∷ []) (sym is) in
+      let placed : new.placed ≡ series.placed ++ p ∷ [] = ap (λ (s : Series). s.placed) joined.2 in (
+        subst (λ (xs : List Placed). AreInOrder code_words (take (k + 1) modules) xs) (sym placed)
+            (subst (λ (ms : List Module). AreInOrder code_words ms (series.placed ++ p ∷ [])) (sym more)
+            (in_order_more code_words (take k modules) series.placed m p order joins)),
+        ap (λ (s : Series). s.code_words) joined.2 ∙ same,
+      )
+
+  -- or is the first that does not
+  first_refused : (fault : JoinFault) → IsJoinFault series.code_words series.placed m fault
+      → IsFirstRefused code_words modules k fault
+  first_refused fault why = record {
+    refused = m;
+    is = slice_get-get_or modules k m within ∙ ap (λ (x : Module). Some x) (sym is);
+    before = series.placed;
+    order = order;
+    why = subst (λ (n : ℕ). IsJoinFault n series.placed m fault) same why;
+  }
+
+  pub series_fault : (fault : JoinFault) → IsJoinFault series.code_words series.placed m fault
+      → IsSeriesFault code_words modules (fault_at k fault)
+  series_fault (joins.Place fault) why = first_refused (joins.Place fault) why
+  series_fault (joins.Verify fault) why = first_refused (joins.Verify fault) why
+  series_fault joins.Memory why = tt
+
+-- the first fault of the files is one of their modules
+pub files_fault : (code_words : ℕ) (files : List (List ℕ)) (modules : List Module) (fault : FilesFault)
+    → AreModuleFiles files modules → IsSeriesFault code_words modules fault → IsFilesFault code_words files fault
+files_fault code_words files modules (faults.File k fault) read first = absurd first
+files_fault code_words files modules (faults.Place k fault) read first =
+    record { modules = modules; read = read; refused = first }
+files_fault code_words files modules (faults.Verify k fault) read first =
+    record { modules = modules; read = read; refused = first }
+files_fault code_words files modules faults.Memory read first = tt

@@ -1,0 +1,34 @@
+-- A file is a module, or has a fault, and never both.
+use Rattle.std.proofs.Common.{◌≡◌, ℕ, List, Result, Ok, Err, refl, sym, ap, ◌∙◌, false}
+use Rattle.std.specs.Prelude.{◌≢◌, is_ok}
+use Rattle.std.proofs.lemmas.Bool.{both_ways}
+use Rattle.elf_read.specs.declared.object.Object.{Object}
+use Rattle.elf_read.specs.Fault.{IsObject}
+use Rattle.elf_read.proofs.FaultLemmas.{one_object}
+use Rattle.cfi_aux.specs.declared.fault.AuxFault.{AuxFault}
+use Rattle.cfi_aux.specs.declared.fault.AuxFault.TheVariants.{NoRecords, Types, Version, Short, BadRecord, Memory}
+use Rattle.cfi_aux.specs.declared.modules.Module.{Module}
+use Rattle.cfi_aux.specs.Module.{module_in}
+use Rattle.cfi_aux.specs.Reading.{Fails}
+use Rattle.cfi_aux.proofs.ModuleLemmas.{module_again}
+use Rattle.cfi_commands.specs.Reading.{IsModuleFile}
+
+-- a fault that is no want of memory is what is due
+pub due_of : {Y : Type 0} (fault : AuxFault) (due : Result Y AuxFault) → fault ≢ Memory → Fails fault due
+    → due ≡ Err fault
+due_of NoRecords due other fails = fails
+due_of (Types fault) due other fails = fails
+due_of Version due other fails = fails
+due_of Short due other fails = fails
+due_of (BadRecord k) due other fails = fails
+due_of Memory due other fails = absurd (other refl)
+
+-- an answer is no fault
+ok_or_err : {X E : Type 0} {x : X} {e : E} → Ok x ≡ Err e → ⊥
+ok_or_err {X} {E} same = both_ways false refl (sym (ap (λ (r : Result X E). is_ok r) same))
+
+pub refused_is_none : (bytes : List ℕ) (object : Object) (fault : AuxFault) (m : Module) → IsObject bytes object
+    → module_in object ≡ Err fault → IsModuleFile bytes m → ⊥
+refused_is_none bytes object fault m is refused file =
+    let same : object ≡ file.object = one_object bytes object file.object is.kept file.is.kept in
+    ok_or_err (sym (module_again file.object m file.whole) ∙ ap module_in (sym same) ∙ refused)

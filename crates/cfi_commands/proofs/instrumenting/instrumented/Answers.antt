@@ -1,0 +1,17 @@
+use Rattle.cfi_types.proofs.Tables.{small_count, small_fields}
+use Rattle.cfi_commands.proofs.InstrumentingLemmas.{short_text, few_relocs}
+use Rattle.cfi_commands.proofs.instrumenting.instrumented.Goals as goal
+
+-- the parts of what was read can be counted
+pub instrument-requires : goal.instrument-requires
+instrument-requires c =
+    let unplaced = c.in_ok-unplaced.unplaced in
+    let file = c.in_ok-unplaced.ensures.ok in
+    let table = c.in_ok-unplaced.ensures.sound.table in
+    record {
+      nodes = small_count unplaced.types table;
+      fields = small_fields unplaced.types table;
+      written = c.read_can_be_written.ensures unplaced.types unplaced.records file.whole.parts.good;
+      text = short_text c.args.bytes.now unplaced file;
+      relocs = few_relocs c.args.bytes.now unplaced file;
+    }

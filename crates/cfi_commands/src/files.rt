@@ -1,0 +1,66 @@
+//! The modules of files, placed.
+
+ghost use Rattle.std.specs.Prelude.{◌≡◌, All, IfOk, IfErr};
+ghost use Rattle.cfi_plan.specs.Plan.{IsPlan};
+ghost use Rattle.cfi_commands.specs.Modules.{IsShortFile};
+ghost use Rattle.cfi_series.specs.Order.{AreInOrder};
+ghost use Rattle.cfi_series.specs.Series.{CanBeTaken};
+ghost use Rattle.cfi_commands.specs.Files.{ArePlacedFiles, IsFilesFault, IsSeriesFault, fault_at};
+
+use crate::fault::FilesFault;
+use crate::modules::read_modules;
+use cfi_aux::Module;
+use cfi_series::{JoinFault, Series};
+use cfi_plan::Plan;
+use cfi_values::Bytes;
+use cfi_word::Layout;
+use std::alloc::Global;
+
+// The fault of the module of a number.
+fn fault_at(number: usize, fault: JoinFault) -> FilesFault
+    ensures { result ≡ fault_at number fault }
+{
+    match fault {
+        JoinFault::Place(fault) => FilesFault::Place(number, fault),
+        JoinFault::Verify(fault) => FilesFault::Verify(number, fault),
+        JoinFault::Memory => FilesFault::Memory,
+    }
+}
+
+// The modules, placed in their order.
+fn place_all(alloc: Global, layout: &Layout, modules: &[Module]) -> Result<Series, FilesFault>
+    requires taken { All CanBeTaken modules.now }
+    ensures order { IfOk result (λ series. AreInOrder layout.now modules.now series.placed) }
+    ensures fault { IfErr result (IsSeriesFault layout.now modules.now) }
+{
+    let mut series = Series::new(alloc, layout);
+    for (number, unplaced) in modules.iter().enumerate() {
+        if let Err(fault) = series.add(unplaced) {
+            return Err(fault_at(number, fault));
+        }
+    }
+    Ok(series)
+}
+
+// The code words of a plan.
+fn layout_of(plan: &Plan) -> Layout
+    requires { IsPlan plan.now }
+    ensures { result ≡ plan.now.code_words }
+{
+    Layout::new(plan.code_words).unwrap()
+}
+
+/// The modules that the files are, placed in their order in the code words of the plan.
+///
+/// `files` are those of the plan's modules. All are taken as modules before the first is placed. The fault is the first
+/// of this order.
+pub fn placed_files(alloc: Global, plan: &Plan, files: &[Bytes]) -> Result<Series, FilesFault>
+    requires plan { IsPlan plan.now }
+    requires small { All IsShortFile files.now }
+    ensures ok { IfOk result (λ series.
+        ArePlacedFiles plan.now.code_words files.now series.placed) }
+    ensures fault { IfErr result (IsFilesFault plan.now.code_words files.now) }
+{
+    let modules = read_modules(alloc, files)?;
+    place_all(alloc, &layout_of(plan), modules.as_slice())
+}

@@ -1,0 +1,45 @@
+ghost use Rattle.std.specs.Prelude.{◌≡◌, ◌≤◌, ◌⊎◌, length, IfOk, IfErr, Ok, Err};
+ghost use Rattle.elf_read.specs.declared.rela.TheConstants.{MAX_FILE};
+ghost use Rattle.cfi_aux.specs.declared.modules.Module.{Module};
+ghost use Rattle.cfi_aux.specs.Sound.{IsSoundModule};
+ghost use Rattle.cfi_commands.specs.declared.reading.FileFault.TheVariants.{Memory};
+ghost use Rattle.cfi_commands.specs.Reading.{IsModuleFile, IsFileFault};
+
+use cfi_aux::{AuxFault, Module, module_of, what_is_read_is_sound};
+use elf_read::{ElfFault, read_object};
+use std::alloc::Global;
+
+/// Why a file is no module: the layer that refuses it, and its first fault.
+#[derive(Clone, Copy, Debug, PartialEq, Eq)]
+pub enum FileFault {
+    /// It is no object.
+    Elf(ElfFault),
+    /// The object is no module.
+    Aux(AuxFault),
+    /// There is no memory for the module.
+    Memory,
+}
+
+/// The module that a file is: an object, with the types and records that its two sections have.
+///
+/// `bytes` are the whole file. A fault of the object comes before one of its sections.
+pub fn read_module(alloc: Global, bytes: &[u8]) -> Result<Module, FileFault>
+    requires small { length bytes.now ≤ MAX_FILE }
+    ensures ok { IfOk result (IsModuleFile bytes.now) }
+    ensures sound { IfOk result IsSoundModule }
+    ensures fault { IfErr result (IsFileFault bytes.now) }
+    ensures only { (m : Module) → IsModuleFile bytes.now m →
+        (result ≡ Ok m) ⊎ (result ≡ Err Memory) }
+{
+    let object = match read_object(alloc, bytes) {
+        Ok(object) => object,
+        Err(ElfFault::Memory) => return Err(FileFault::Memory),
+        Err(fault) => return Err(FileFault::Elf(fault)),
+    };
+    what_is_read_is_sound();
+    match module_of(alloc, object) {
+        Ok(found) => Ok(found),
+        Err(AuxFault::Memory) => Err(FileFault::Memory),
+        Err(fault) => Err(FileFault::Aux(fault)),
+    }
+}

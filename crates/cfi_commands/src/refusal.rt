@@ -1,0 +1,84 @@
+ghost use Rattle.std.specs.Prelude.{◌≡◌, ◌++◌, OnOk, string_bytes};
+ghost use Rattle.cfi_commands.specs.Refusal.{refusal_text};
+
+use crate::asm::put_asm;
+use crate::aux::put_aux;
+use crate::bare::put_bare;
+use crate::elf::put_elf;
+use crate::instr::put_instr;
+use crate::link::put_link;
+use crate::place::put_place;
+use crate::plan::put_plan;
+use crate::verify::put_verify_fault;
+use cfi_aux::AuxFault;
+use cfi_bare::BareFault;
+use cfi_instr::InstrFault;
+use cfi_link::LinkFault;
+use cfi_place::PlaceFault;
+use cfi_plan::PlanFault;
+use cfi_verify::VerifyFault;
+use elf_read::ElfFault;
+use rv_asm::AsmFault;
+use std::alloc::AllocError;
+
+/// Why a file is refused: a layer, and its first fault.
+#[derive(Debug, Drop)]
+pub enum Refusal {
+    /// As a bare file.
+    Bare(BareFault),
+    /// As an object.
+    Elf(ElfFault),
+    /// As a module.
+    Aux(AuxFault),
+    /// As a module to be instrumented.
+    Instr(InstrFault),
+    /// As a source.
+    Asm(AsmFault),
+    /// As modules to be linked.
+    Link(LinkFault),
+    /// As a plan.
+    Plan(PlanFault),
+    /// As a module to be placed.
+    Place(PlaceFault),
+    /// As a placed module.
+    Verify(VerifyFault),
+}
+
+/// Appends the words of a refusal: the layer's name, the fault's name, and the fault's fields.
+///
+/// Single spaces stand between the words, numbers are decimal, and places of code are in bytes. Want of memory is no
+/// refusal: the fault of that name is written for completeness alone.
+pub fn put_refusal(text: &mut String, refusal: &Refusal) -> Result<(), AllocError>
+    ensures { OnOk result
+        (string_bytes text.new ≡ string_bytes text.old ++ refusal_text refusal.now) }
+{
+    match refusal {
+        Refusal::Bare(fault) => put_bare(text, *fault),
+        Refusal::Elf(fault) => {
+            text.push_str("elf ")?;
+            put_elf(text, *fault)
+        }
+        Refusal::Aux(fault) => put_aux(text, *fault),
+        Refusal::Instr(fault) => {
+            text.push_str("instr ")?;
+            put_instr(text, *fault)
+        }
+        Refusal::Asm(fault) => {
+            text.push_str("asm ")?;
+            put_asm(text, *fault)
+        }
+        Refusal::Link(fault) => {
+            text.push_str("link ")?;
+            put_link(text, fault)
+        }
+        Refusal::Plan(fault) => {
+            text.push_str("plan ")?;
+            put_plan(text, *fault)
+        }
+        Refusal::Place(fault) => {
+            text.push_str("place ")?;
+            put_place(text, fault)
+        }
+        Refusal::Verify(fault) => put_verify_fault(text, *fault),
+    }
+}

@@ -1,0 +1,150 @@
+-- What is known of a module that was made of another by instrumenting it, and placed.
+use Rattle.std.proofs.Common.{◌≡◌, ◌≢◌, ℕ, ◌+◌, ◌*◌, ◌<◌, ◌≤◌, Bool, false, List, [], ◌∷◌, map, All, length, get_or, IsTrue, refl, ap, sym, subst, ◌∙◌, ⊎_elim, arith}
+use Rattle.std.specs.List.{flat_map}
+use Rattle.std.proofs.lemmas.Bool.{cases_lt}
+use Rattle.std.proofs.lemmas.List.{length-map, get_or-map, nil_from_length}
+use Rattle.elf_read.specs.declared.object.Symbol.{Symbol}
+use Rattle.cfi_types.specs.Node.{Node}
+use Rattle.cfi_types.specs.Spelling.{word}
+use Rattle.cfi_unit.specs.declared.unit.Unit.{Unit as CodeUnit}
+use Rattle.cfi_unit.specs.Unit.{size_of}
+use Rattle.cfi_aux.specs.Format.{is_func}
+use Rattle.cfi_aux.specs.declared.modules.Module.{Module}
+use Rattle.cfi_aux.specs.declared.placed.Placed.{Placed}
+use Rattle.cfi_aux.specs.declared.records.Function.{Function}
+use Rattle.cfi_aux.specs.declared.records.Kind.{Kind}
+use Rattle.cfi_items.specs.Words.{Words, words_in as read_words, count_of}
+use Rattle.cfi_items.specs.Items.{is_inner}
+use Rattle.cfi_items.specs.Functions.{is_covered}
+use Rattle.cfi_items.specs.Fault.{parts_of, AreSound}
+use Rattle.cfi_instr.specs.Sizes.{place_of, offsets_of}
+use Rattle.cfi_instr.specs.Units.{units_of}
+use Rattle.cfi_instr.specs.Moves.{moved_function, moved_kind, moved_reloc}
+use Rattle.cfi_instr.specs.Output.{IsText}
+use Rattle.cfi_place.specs.declared.room.Room.{Room}
+use Rattle.cfi_place.specs.Functions.{placed_functions}
+use Rattle.cfi_place.specs.Names.{Names}
+use Rattle.cfi_unit.specs.declared.spot.Spot.{Spot}
+use Rattle.cfi_instr_law.specs.Proper.{NamesFunc, IsMadeAt}
+use Rattle.cfi_instr_law.proofs.SeenLemmas.{seen_from, size-seen}
+use Rattle.cfi_instr_law.proofs.CodeLemmas.{words_in, words-cons}
+use Rattle.cfi_instr_law.proofs.ItemLemmas.{place-item}
+use Rattle.cfi_instr_law.proofs.LaidLemmas.{touches, IsLaid, laid-by}
+use Rattle.cfi_instr_law.proofs.FreeLemmas.{untouched}
+
+-- units that look the same have as many words
+sizes : List Spot → ℕ
+sizes [] = 0
+sizes (s ∷ spots) = size_of s.unit + sizes spots
+
+words-seen : (touched : ℕ → Bool) (at : ℕ) (code : List CodeUnit) → words_in code ≡ sizes (seen_from touched at code)
+unfolding sizes
+words-seen touched at [] = refl
+words-seen touched at (u ∷ us) =
+    omega (arith, words-cons u us, size-seen (touched at) u, words-seen touched (at + size_of u) us)
+
+same-words : (touched : ℕ → Bool) (code other : List CodeUnit)
+    → seen_from touched 0 code ≡ seen_from touched 0 other → words_in code ≡ words_in other
+same-words touched code other same =
+    words-seen touched 0 code ∙ ap sizes same ∙ sym (words-seen touched 0 other)
+
+-- a module that was made of another, at its place
+pub record IsFrom (source : Module) (placed : Placed) : Type 0 where
+  pub long : List Bool
+  pub sound : AreSound (parts_of source)
+  pub touched : ℕ → Bool
+  pub free : (w : ℕ) → w < count_of (read_words source.object) → is_inner (read_words source.object) w ≡ false
+      → is_covered source.records.functions (4 * w) ≡ false
+      → touched (place_of (read_words source.object) long w) ≡ false
+  pub laid : IsLaid touched (units_of (read_words source.object) source.object.symbols long
+      (offsets_of (read_words source.object) long)) placed
+  pub some : 0 < length placed.words
+  pub symbols : List Symbol
+  pub functions : placed.functions ≡ placed_functions symbols
+      (map (moved_function (read_words source.object) (offsets_of (read_words source.object) long))
+      source.records.functions)
+  pub branches : placed.branches
+      ≡ map (moved_kind (read_words source.object) (offsets_of (read_words source.object) long)) source.records.branches
+  pub func_types : All (λ f. IsTrue (is_func placed.types f.ty)) source.records.functions
+  pub branch_types : All (NamesFunc placed.types) placed.branches
+
+-- its words end where the last item does
+laid-end : (t : Words) (symbols : List Symbol) (long : List Bool) (offsets : List ℕ) (touched : ℕ → Bool)
+    (placed : Placed) → IsLaid touched (units_of t symbols long offsets) placed
+    → length placed.words ≡ place_of t long (count_of t)
+laid-end t symbols long offsets touched placed laid =
+    ap (λ (ws : List ℕ). length ws) laid.units.spelled
+    ∙ same-words touched laid.code (units_of t symbols long offsets) laid.looks
+    ∙ place-item t symbols long offsets (count_of t)
+
+pub words-end : (source : Module) (placed : Placed) (s : IsFrom source placed)
+    → length placed.words ≡ place_of (read_words source.object) s.long (count_of (read_words source.object))
+words-end source placed s =
+    let t = read_words source.object in
+    laid-end t source.object.symbols s.long (offsets_of t s.long) s.touched placed s.laid
+
+-- a text that is not empty has words
+made-some : (source : Module) (long : List Bool) (offsets text : List ℕ) → IsText source long offsets text → text ≢ []
+    → 0 < place_of (read_words source.object) long (count_of (read_words source.object))
+made-some source long offsets text is some =
+    let t = read_words source.object in
+    let end : ℕ = place_of t long (count_of t) in
+    ⊎_elim (λ (less : 0 < end). less)
+    (λ (more : end ≤ 0).
+    let words : length is.words ≡ end =
+    ap (λ (ws : List ℕ). length ws) is.units.spelled
+    ∙ place-item t source.object.symbols long offsets (count_of t) in
+    let none : is.words ≡ [] = nil_from_length is.words (omega (arith, words, more)) in
+    absurd (some (is.bytes ∙ ap (λ (ws : List ℕ). flat_map word ws) none)))
+    (cases_lt 0 end)
+
+typed-before : (types : List Node) (moves : Function → Function) (functions : List Function)
+    → ((f : Function) → (moves f).ty ≡ f.ty) → All (λ f. IsTrue (is_func types f.ty)) (map moves functions)
+    → All (λ f. IsTrue (is_func types f.ty)) functions
+typed-before types moves functions same all k d inside =
+    let f = get_or functions k d in
+    let there : get_or (map moves functions) k d ≡ moves f = get_or-map moves functions k d d inside in
+    subst (λ (n : ℕ). IsTrue (is_func types n)) (ap (λ (g : Function). g.ty) there ∙ same f)
+    (all k d (subst (λ (n : ℕ). k < n) (sym (length-map functions moves)) inside))
+
+pub from-made : (source m : Module) (room : Room) (names : Names) (placed : Placed)
+    → IsMadeAt source m room names placed → IsFrom source placed
+from-made source m room names placed at =
+    let made = at.made in
+    let t = read_words source.object in
+    let long = made.long in
+    let offsets = offsets_of t long in
+    let relocs = map (moved_reloc t source.object.symbols long offsets) source.object.relocs in
+    let same : made.offsets ≡ offsets = made.plan.placed in
+    let moves = moved_function t offsets in
+    let functions = made.records.functions ∙ ap (λ (xs : List ℕ). map (moved_function t xs) source.records.functions) same in
+    let laid =
+    laid-by source m long made.sound room names placed at.fits
+    (subst (λ (xs : List ℕ). IsText source long xs m.object.text) same made.object.text)
+    (made.object.relocs
+    ∙ ap (λ (xs : List ℕ). map (moved_reloc t source.object.symbols long xs) source.object.relocs) same)
+    at.stands in
+    record {
+      long = long;
+      sound = made.sound;
+      touched = touches relocs;
+      free = untouched source long made.sound;
+      laid = laid;
+      some =
+          subst (λ (n : ℕ). 0 < n)
+          (sym (laid-end t source.object.symbols long offsets (touches relocs) placed laid))
+          (made-some source long made.offsets m.object.text made.object.text at.some);
+      symbols = m.object.symbols;
+      functions = at.stands.functions ∙ ap (placed_functions m.object.symbols) functions;
+      branches =
+          at.stands.branches ∙ made.records.branches
+          ∙ ap (λ (xs : List ℕ). map (moved_kind t xs) source.records.branches) same;
+      func_types =
+          typed-before placed.types moves source.records.functions (λ f. refl)
+          (subst (λ (fs : List Function). All (λ f. IsTrue (is_func placed.types f.ty)) fs) functions
+          (subst (λ (ns : List Node). All (λ f. IsTrue (is_func ns f.ty)) m.records.functions)
+          (sym at.stands.types) at.typed.functions));
+      branch_types =
+          subst (λ (ks : List Kind). All (NamesFunc placed.types) ks) (sym at.stands.branches)
+          (subst (λ (ns : List Node). All (NamesFunc ns) m.records.branches) (sym at.stands.types) at.typed.branches);
+    }

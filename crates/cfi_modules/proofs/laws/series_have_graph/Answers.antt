@@ -1,7 +1,0 @@
-use Rattle.cfi_modules.proofs.GraphLemmas.{have_graph}
-use Rattle.cfi_modules.proofs.laws.series_have_graph.Goals as goal
-
-pub returns : goal.returns
-returns c = λ code_words placed series.
-    let verified = c.series_are_verified.ensures code_words placed series in
-    have_graph code_words placed series (c.shaped_are_apart.ensures placed (c.verified_are_shaped.ensures placed verified))

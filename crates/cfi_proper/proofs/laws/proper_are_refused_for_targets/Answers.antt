@@ -1,5 +1,0 @@
-use Rattle.cfi_proper.proofs.ProperLemmas.{refused}
-use Rattle.cfi_proper.proofs.laws.proper_are_refused_for_targets.Goals as goal
-
-pub returns : goal.returns
-returns c = refused

@@ -1,0 +1,13 @@
+pub mod SlotLemmas
+pub mod ShapedLemmas
+pub mod OneLemmas
+pub mod ExampleLemmas
+pub mod LengthLemmas
+pub mod PlacedLemmas
+pub mod NamesLemmas
+pub mod RoomLemmas
+pub mod SeriesLemmas
+pub mod OrderLemmas
+pub mod EndLemmas
+pub mod GraphLemmas
+pub mod ImageLemmas

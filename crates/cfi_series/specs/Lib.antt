@@ -1,0 +1,4 @@
+pub mod Verified
+pub mod Room
+pub mod Order
+pub mod Series

@@ -1,0 +1,100 @@
+//! Series of placed modules.
+
+ghost use Rattle.std.specs.Prelude.{◌≡◌, [], ◌⊎◌, OnOk, OnErr, IfErr, Ok, Err};
+ghost use Rattle.cfi_aux.specs.declared.placed.Placed.{Placed as PlacedModule};
+ghost use Rattle.cfi_graph.specs.Reading.{HaveGraph};
+ghost use Rattle.cfi_policy.specs.Image.{HaveImage};
+ghost use Rattle.cfi_series.specs.declared.fault.JoinFault.TheVariants.{Memory};
+ghost use Rattle.cfi_series.specs.Order.{IsJoinFault};
+ghost use Rattle.cfi_series.specs.Series.{with_module, JoinsTo, HasJoined, CanBeTaken, IsSeries};
+
+use crate::fault::JoinFault;
+use crate::joining::join;
+use crate::laws::{series_have_graph, series_have_image};
+use crate::names::{add_names, names_of};
+use cfi_aux::{Module, Placed};
+use cfi_place::Symbols;
+use cfi_word::Layout;
+use std::alloc::Global;
+use std::marker::Model;
+
+/// Modules that were placed one after the other, each at the next free place with the exports of those before it, and
+/// verified against those before it.
+#[derive(Drop)]
+pub struct Series {
+    code_words: u32,
+    placed: Vec<Placed>,
+    // The names that they export; none after memory ran out for them.
+    symbols: Option<Symbols>,
+    alloc: Global,
+}
+
+// Clauses see the number of code words and the placed modules.
+impl Model for Series {
+    ghost use Rattle.cfi_series.specs.Series.{Series, IsKept};
+
+    ghost Value = { Series };
+
+    ghost view = { λ a. record { code_words = a.code_words; placed = a.placed.items } };
+
+    ghost invariant = { IsKept };
+}
+
+impl Series {
+    /// No modules, in the code words of the layout.
+    pub fn new(alloc: Global, layout: &Layout) -> Series
+        ensures { result ≡ record { code_words = layout.now; placed = [] } }
+    {
+        Series {
+            code_words: layout.code_words(),
+            placed: Vec::new(alloc),
+            symbols: Some(Symbols::new(alloc)),
+            alloc,
+        }
+    }
+
+    /// Adds a module behind those that are there.
+    ///
+    /// `Place` where it does not fit at the next free place, and then `Verify` where, placed there, a fault stands
+    /// against it beside those before it. A refusal leaves the series as it was.
+    pub fn add(&mut self, unplaced: &Module) -> Result<(), JoinFault>
+        requires { CanBeTaken unplaced.now }
+        ensures ok { OnOk result (HasJoined self.old self.new unplaced.now) }
+        ensures fault { IfErr result (IsJoinFault self.old.code_words self.old.placed unplaced.now) }
+        ensures same { OnErr result (self.new ≡ self.old) }
+        ensures only { (placed : PlacedModule) → JoinsTo self.old unplaced.now placed →
+            (self.new ≡ with_module self.old placed) ⊎ (result ≡ Err Memory) }
+    {
+        let mut symbols = names_of(self.alloc, self.symbols.take(), &self.placed)?;
+        match join(
+            self.alloc,
+            self.code_words,
+            &self.placed,
+            &symbols,
+            unplaced,
+        ) {
+            Ok(placed) => {
+                add_names(&mut symbols, placed.exports.as_slice())?;
+                self.placed.push(placed)?;
+                self.symbols = Some(symbols);
+                Ok(())
+            }
+            Err(fault) => {
+                self.symbols = Some(symbols);
+                Err(fault)
+            }
+        }
+    }
+
+    /// The placed modules, in their order. They have a graph and an image.
+    pub fn modules(&self) -> &[Placed]
+        ensures value { result.now ≡ self.now.placed }
+        ensures series { IsSeries self.now.code_words self.now.placed }
+        ensures graph { HaveGraph self.now.placed }
+        ensures image { HaveImage self.now.placed self.now.code_words }
+    {
+        series_have_graph();
+        series_have_image();
+        &self.placed
+    }
+}

@@ -1,5 +1,0 @@
-use Rattle.cfi_shaped.proofs.OneLemmas.{one}
-use Rattle.cfi_shaped.proofs.laws.some_modules_are_verified.Goals as goal
-
-pub returns : goal.returns
-returns c = one

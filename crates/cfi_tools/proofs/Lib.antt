@@ -1,5 +1,0 @@
-pub mod ListingLemmas
-pub mod ReadingLemmas
-pub mod InstrumentingLemmas
-pub mod ModulesLemmas
-pub mod LinkingLemmas

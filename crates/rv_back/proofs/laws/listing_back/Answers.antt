@@ -1,5 +1,0 @@
-use Rattle.rv_back.proofs.ListingLemmas.{said-listing}
-use Rattle.rv_back.proofs.laws.listing_back.Goals as goal
-
-pub returns : goal.returns
-returns c = λ words text small is. said-listing words small text is

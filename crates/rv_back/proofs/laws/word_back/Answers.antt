@@ -1,5 +1,0 @@
-use Rattle.rv_back.proofs.SayLemmas.{line_in-word}
-use Rattle.rv_back.proofs.laws.word_back.Goals as goal
-
-pub returns : goal.returns
-returns c = line_in-word
