@@ -12,7 +12,7 @@ use Rattle.cfi_aux.specs.declared.fault.AuxFault.TheVariants.{BadRecord}
 use Rattle.cfi_aux.specs.declared.records.Kind.{Kind}
 use Rattle.cfi_aux.specs.declared.records.Kind.TheVariants.{Call, Tail, Return, Switch}
 use Rattle.cfi_aux.specs.Format.{is_whole, is_func, has_count}
-use Rattle.cfi_aux.specs.Records.{number_of, words_of, branch_bytes, IsBranchWord, IsBranch}
+use Rattle.cfi_aux.specs.Records.{kind_number, kind_words, branch_bytes, IsBranchWord, IsBranch}
 use Rattle.cfi_aux.specs.Reading.{Reader, word_where, and_with, seen_as, each}
 use Rattle.cfi_aux.specs.Faults.{place_at, body_at, branch_at}
 use Rattle.cfi_types.proofs.Parts.{Takes}
@@ -23,13 +23,13 @@ use Rattle.cfi_aux.proofs.Lists.{AreGood, Reads-each}
 
 -- the words of a branch
 abbrev body_bytes : Kind → List ℕ
-body_bytes b = flat_map word (words_of b)
+body_bytes b = flat_map word (kind_words b)
 
 -- a branch of a kind with n words
 record IsBody (types : List Node) (kind n : ℕ) (b : Kind) : Type 0 where
-  number : number_of b ≡ kind
-  count : length (words_of b) ≡ n
-  words : AllByRecursion (IsBranchWord types b) (words_of b)
+  number : kind_number b ≡ kind
+  count : length (kind_words b) ≡ n
+  words : AllByRecursion (IsBranchWord types b) (kind_words b)
 
 -- the node that a call names, and the places of a switch
 abbrev node_of : Kind → ℕ
@@ -161,9 +161,9 @@ abbrev IsCounted : (types : List Node) → Counted → Type 0
 IsCounted types x = Passes is_known x.0 × (Passes (has_count x.0) x.1.0 × IsBody types x.0 x.1.0 x.1.1)
 
 abbrev counted_of : Kind → Counted
-counted_of b = (number_of b, (length (words_of b), b))
+counted_of b = (kind_number b, (length (kind_words b), b))
 
-number_known : (b : Kind) → Passes is_known (number_of b)
+number_known : (b : Kind) → Passes is_known (kind_number b)
 number_known (Call node) = (lit< tt, refl)
 number_known (Tail node) = (lit< tt, refl)
 number_known Return = (lit< tt, refl)
@@ -176,17 +176,17 @@ branches_agree : (types : List Node)
     → Agree Counted Kind counted_bytes (IsCounted types) branch_bytes (IsBranch types) (λ x. x.1.1) counted_of
 branches_agree types = record {
   spelled = λ x h. let number = h.1.1.number in let count = h.1.1.count in
-      ap (λ (kind : ℕ). word kind ++ (word (length (words_of x.1.1)) ++ body_bytes x.1.1)) number
+      ap (λ (kind : ℕ). word kind ++ (word (length (kind_words x.1.1)) ++ body_bytes x.1.1)) number
       ∙ ap (λ (n : ℕ). word x.0 ++ (word n ++ body_bytes x.1.1)) count;
   viewed = λ x h. record {
-    count = subst (λ (kind : ℕ). has_count kind (length (words_of x.1.1)) ≡ true) (sym h.1.1.number)
+    count = subst (λ (kind : ℕ). has_count kind (length (kind_words x.1.1)) ≡ true) (sym h.1.1.number)
         (subst (λ (n : ℕ). has_count x.0 n ≡ true) (sym h.1.1.count) h.1.0.1);
     words = h.1.1.words;
   };
   good_back = λ b h. (
     number_known b,
     (
-      (omega (arith, few_words (number_of b) (length (words_of b)) h.count), h.count),
+      (omega (arith, few_words (kind_number b) (length (kind_words b)) h.count), h.count),
       record { number = refl; count = refl; words = h.words },
     ),
   );

@@ -3,7 +3,7 @@ use Rattle.std.proofs.Common.{◌≡◌, ℕ, suc, ◌+◌, ◌-◌, ◌<◌, �
 use Rattle.std.proofs.lemmas.List.{append-nil}
 use Rattle.cfi_aux.specs.declared.fault.AuxFault.{AuxFault}
 use Rattle.cfi_aux.specs.declared.fault.AuxFault.TheVariants.{NoRecords, Types, Version, Short, BadRecord, Memory}
-use Rattle.cfi_aux.specs.Reading.{Reader, Fails, each}
+use Rattle.cfi_aux.specs.Reading.{Reader, ReadingFails, each}
 use Rattle.cfi_values.specs.Then.{◌>>=◌}
 
 -- what was read before, and what is still read
@@ -19,8 +19,8 @@ with_front_nil : {A : Type 0} (front : List A) (bytes : List ℕ) → with_front
 with_front_nil {A = A} front bytes = ap (λ (ns : List A). Ok (ns, bytes)) (append-nil front)
 
 -- a step's fault is the fault of the steps
-pub Fails-then : {A B : Type 0} (e : AuxFault) (r : Result A AuxFault) (f : A → Result B AuxFault) → Fails e r
-    → Fails e (r >>= f)
+pub Fails-then : {A B : Type 0} (e : AuxFault) (r : Result A AuxFault) (f : A → Result B AuxFault) → ReadingFails e r
+    → ReadingFails e (r >>= f)
 Fails-then Memory r f h = tt
 Fails-then NoRecords r f h = rw h refl
 Fails-then (Types t) r f h = rw h refl
@@ -51,16 +51,16 @@ each_go_on one end i front bytes x after total lt h so_far =
     sym step ∙ so_far
 
 pub each_ends : {A : Type 0} (e : AuxFault) (one : ℕ → Reader A) (end i : ℕ) (front : List A) (bytes : List ℕ)
-    (total : Result (List A × List ℕ) AuxFault) → i < end → Fails e (one i bytes)
-    → with_front front (each one i (end - i) bytes) ≡ total → Fails e total
+    (total : Result (List A × List ℕ) AuxFault) → i < end → ReadingFails e (one i bytes)
+    → with_front front (each one i (end - i) bytes) ≡ total → ReadingFails e total
 unfolding each
 each_ends e one end i front bytes total lt h so_far =
     let left : end - i ≡ suc (end - (i + 1)) = omega arith in
-    let step : Fails e (with_front front (each one i (suc (end - (i + 1))) bytes)) =
+    let step : ReadingFails e (with_front front (each one i (suc (end - (i + 1))) bytes)) =
     Fails-then e (each one i (suc (end - (i + 1))) bytes) (λ x. Ok (front ++ x.0, x.1))
     (Fails-then e (one i bytes)
     (λ first. each one (suc i) (end - (i + 1)) first.1 >>= λ others. Ok (first.0 ∷ others.0, others.1)) h) in
-    subst (Fails e) so_far (subst (λ n. Fails e (with_front front (each one i n bytes))) (sym left) step)
+    subst (ReadingFails e) so_far (subst (λ n. ReadingFails e (with_front front (each one i n bytes))) (sym left) step)
 
 pub each_done : {A : Type 0} (one : ℕ → Reader A) (end i : ℕ) (front : List A) (bytes : List ℕ)
     (total : Result (List A × List ℕ) AuxFault) → end ≤ i → with_front front (each one i (end - i) bytes) ≡ total

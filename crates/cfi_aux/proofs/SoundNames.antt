@@ -15,7 +15,7 @@ use Rattle.elf_read.specs.Symbol.{symbol_at, binding_of, type_of, stored_name, n
 use Rattle.elf_read.specs.Object.{kept_binding, kept_place}
 use Rattle.elf_read.specs.declared.symbol.TheConstants.{LOCAL, GLOBAL, WEAK, SECTION, UNDEFINED, ABSOLUTE}
 use Rattle.elf_read.proofs.SectionLemmas.{or_false}
-use Rattle.cfi_aux.specs.Sound.{is_exported, is_defined}
+use Rattle.elf_read.specs.Sound.{is_exported, is_defined}
 
 -- ---- names
 
@@ -92,7 +92,7 @@ exported_by : (binding : ℕ) → binding ≤ 2 → (binding == LOCAL) ≡ false
 exported_by binding le a b = grind (arith, nat_tests)
 
 pub exported_is : (bytes : List ℕ) (k : ℕ) → is_bad_info bytes k ≡ false
-    → is_exported (kept_binding bytes k) ≡ elf.is_exported (symbol_at bytes k)
+    → is_exported (kept_binding bytes k) ≡ elf.is_exported_entry (symbol_at bytes k)
 unfolding kept_binding
 exported_is bytes k h =
     let binding = binding_of (symbol_at bytes k) in

@@ -6,7 +6,7 @@ use Rattle.elf_read.specs.Places.{joined, count_where}
 use Rattle.elf_read.specs.Header.{section_count}
 use Rattle.elf_read.specs.Section.{section_at, is_loaded, is_text, is_data}
 use Rattle.elf_read.specs.Symbol.{symbol_count, is_left_out}
-use Rattle.elf_read.specs.Relocation.{rela_count, rela_at, symbol_of, kind_of, field_size, is_known, is_dropped, is_of_data, is_of_instruction, is_bad_rela_at, is_bad_reference, is_outside, is_misplaced, is_unknown_at}
+use Rattle.elf_read.specs.Relocation.{rela_count, rela_at, symbol_index, kind_of, field_size, is_known, is_dropped, is_of_data, is_of_instruction, is_bad_rela_at, is_bad_reference, is_outside, is_misplaced, is_unknown_at}
 use Rattle.elf_read.specs.Join.{text_size, text_end, data_start, start_of}
 use Rattle.elf_read.specs.Object.{kept_symbol, symbols_of, symbol_number, reference_of, area_of, kept_reloc, reloc_of, relocs_of}
 use Rattle.elf_read.specs.Fault.{IsSound}
@@ -14,7 +14,7 @@ use Rattle.elf_read.specs.declared.object.Object.{Object}
 use Rattle.elf_read.proofs.SectionLemmas.{or_false, and_false}
 use Rattle.elf_read.proofs.RelaLemmas.{rela_there, rela_target}
 use Rattle.elf_read.proofs.JoinLemmas.{total_of-part, data_end-part, loaded_cases}
-use Rattle.cfi_aux.specs.Sound.{HasField, HasSymbol, IsSoundReloc}
+use Rattle.elf_read.specs.Sound.{HasField, HasSymbol, IsSoundReloc}
 use Rattle.cfi_aux.proofs.JoinedLists.{joined_all, text_fours}
 use Rattle.cfi_aux.proofs.SoundSymbols.{HasSizes, out_adds, kept_adds}
 
@@ -76,11 +76,11 @@ known_kind : (bytes : List ℕ) (s i : ℕ) → IsSound bytes → s < section_co
 unfolding is_unknown_at
 known_kind bytes s i sound within entry = not-false _ (sound.places.kinds.known s within i entry)
 
-reference_good : (bytes : List ℕ) (s i : ℕ) → IsGoodRela bytes s i → (symbol_of (rela_at bytes s i) == 0) ≡ false
-    → (symbol_of (rela_at bytes s i) < symbol_count bytes) × (is_left_out bytes (symbol_of (rela_at bytes s i)) ≡ false)
+reference_good : (bytes : List ℕ) (s i : ℕ) → IsGoodRela bytes s i → (symbol_index (rela_at bytes s i) == 0) ≡ false
+    → (symbol_index (rela_at bytes s i) < symbol_count bytes) × (is_left_out bytes (symbol_index (rela_at bytes s i)) ≡ false)
 unfolding is_bad_reference
 reference_good bytes s i good some =
-    let symbol = symbol_of (rela_at bytes s i) in
+    let symbol = symbol_index (rela_at bytes s i) in
     let named : not (symbol == 0) ≡ true = rw some refl in
     let parts = or_false (not (nat_lt symbol (symbol_count bytes))) (is_left_out bytes symbol)
     (and_false (not (symbol == 0)) (not (nat_lt symbol (symbol_count bytes)) || is_left_out bytes symbol) named
@@ -91,11 +91,11 @@ symbol_there : (bytes : List ℕ) (object : Object) (s i : ℕ) → IsGoodRela b
     → length object.symbols ≡ symbol_number bytes (symbol_count bytes) → HasSymbol object (reference_of bytes s i)
 unfolding reference_of
 symbol_there bytes object s i good count =
-    elim (cases_Bool (symbol_of (rela_at bytes s i) == 0)) [
+    elim (cases_Bool (symbol_index (rela_at bytes s i) == 0)) [
       | inl none ↦ rw none tt
       | inr some ↦
           let there = reference_good bytes s i good some in
-          rw some (omega (arith, number_below bytes (symbol_of (rela_at bytes s i)) there.0 there.1, count))
+          rw some (omega (arith, number_below bytes (symbol_index (rela_at bytes s i)) there.0 there.1, count))
     ]
 
 -- the rules of the area

@@ -9,7 +9,7 @@ use Rattle.std.proofs.lemmas.List.Quantifiers.{all_pairs_push}
 use Rattle.elf_read.specs.Places.{joined, some_below}
 use Rattle.elf_read.specs.Header.{section_count}
 use Rattle.elf_read.specs.Section.{section_at, is_loaded, is_text}
-use Rattle.elf_read.specs.Symbol.{symbol_at, symbol_count, binding_of, name_of, is_in_section, is_left_out, is_definition, defines, is_nameless, is_local_undefined, is_past_section, is_second_definition, is_bad_symbol}
+use Rattle.elf_read.specs.Symbol.{symbol_at, symbol_count, binding_of, name_of, is_in_section, is_left_out, is_definition_at, defines, is_nameless, is_local_undefined, is_past_section, is_second_definition, is_bad_symbol}
 use Rattle.elf_read.specs.Join.{text_size, text_end, data_end, data_start, start_of}
 use Rattle.elf_read.specs.Object.{kept_binding, kept_place, kept_value, kept_symbol, symbols_of}
 use Rattle.elf_read.specs.Fault.{IsSound}
@@ -20,7 +20,7 @@ use Rattle.elf_read.proofs.SectionLemmas.{or_false, and_false}
 use Rattle.elf_read.proofs.SymbolLemmas.{IsGoodSymbol}
 use Rattle.elf_read.proofs.JoinLemmas.{total_of-part, data_end-part, loaded_cases}
 use Rattle.elf_read.proofs.KeepLemmas.{sound_symbol, section_there, kept_loaded}
-use Rattle.cfi_aux.specs.Sound.{is_exported, is_defined, are_rivals, IsInside, IsSoundSymbol}
+use Rattle.elf_read.specs.Sound.{is_exported, is_defined, are_rivals, IsInsideArea, IsSoundSymbol}
 use Rattle.cfi_aux.proofs.JoinedLists.{joined_all}
 use Rattle.cfi_aux.proofs.SoundNames.{name_good, exported_is, not_local, defined_is, not_both}
 
@@ -76,7 +76,7 @@ in_section bytes k sound within some relative =
     (there, rw some (lt-ltb section (section_count bytes) there))
 
 value_inside : (bytes : List ℕ) (object : Object) (k : ℕ) → IsSound bytes → HasSizes bytes object
-    → k < symbol_count bytes → is_left_out bytes k ≡ false → IsInside object (kept_place bytes k) (kept_value bytes k)
+    → k < symbol_count bytes → is_left_out bytes k ≡ false → IsInsideArea object (kept_place bytes k) (kept_value bytes k)
 unfolding kept_place kept_value
 value_inside bytes object k sound sizes within kept =
     let section = (symbol_at bytes k).section in
@@ -149,7 +149,7 @@ not_second bytes n sound within =
 
 no_rival : (bytes : List ℕ) (j n : ℕ) → IsSound bytes → j < n → n < symbol_count bytes
     → are_rivals (kept_symbol bytes j) (kept_symbol bytes n) ≡ false
-unfolding kept_symbol is_second_definition is_definition defines
+unfolding kept_symbol is_second_definition is_definition_at defines
 no_rival bytes j n sound lt within = false_from_ne_true _ (λ rivals.
     let j_good = sound_symbol bytes j sound (omega arith) in
     let n_good = sound_symbol bytes n sound within in
@@ -157,13 +157,13 @@ no_rival bytes j n sound lt within = false_from_ne_true _ (λ rivals.
     let n_place = and_parts _ (is_defined (kept_place bytes n)) names.0 in
     let n_binding = and_parts _ (is_exported (kept_binding bytes n)) n_place.0 in
     let j_parts = and_parts (is_exported (kept_binding bytes j)) (is_defined (kept_place bytes j)) n_binding.0 in
-    let n_definition : is_definition bytes n ≡ true =
+    let n_definition : is_definition_at bytes n ≡ true =
     and_from _ _ (sym (exported_is bytes n n_good.info) ∙ n_binding.1) (sym (defined_is bytes n) ∙ n_place.1) in
-    let j_definition : is_definition bytes j ≡ true =
+    let j_definition : is_definition_at bytes j ≡ true =
     and_from _ _ (sym (exported_is bytes j j_good.info) ∙ j_parts.0) (sym (defined_is bytes j) ∙ j_parts.1) in
     let defined : defines bytes (name_of bytes n) j ≡ true = and_from _ _ j_definition names.1 in
     let below = some_below_at (defines bytes (name_of bytes n)) n j lt defined in
-    let second = and_false (is_definition bytes n) _ n_definition (not_second bytes n sound within) in
+    let second = and_false (is_definition_at bytes n) _ n_definition (not_second bytes n sound within) in
     false≢true (sym second ∙ below))
 
 abbrev pub AreNoRivals : Symbol → Symbol → Type 0

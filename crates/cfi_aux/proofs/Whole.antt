@@ -15,7 +15,7 @@ use Rattle.cfi_aux.specs.declared.records.Function.{Function}
 use Rattle.cfi_aux.specs.declared.records.Records.{Records}
 use Rattle.cfi_aux.specs.declared.records.Kind.{Kind}
 use Rattle.cfi_aux.specs.Records.{function_bytes, branch_bytes, spelling, IsFunction, IsBranch, AreRecords}
-use Rattle.cfi_aux.specs.Reading.{Gives, word_at, and_with, and_also, each}
+use Rattle.cfi_aux.specs.Reading.{ReadingGives, next_word, and_with, and_also, each}
 use Rattle.cfi_values.specs.Then.{unless_bad}
 use Rattle.cfi_aux.specs.Faults.{function_at, branch_at, version_at, count_at, lists_at, records_of, records_at, records_in}
 use Rattle.cfi_types.proofs.Parts.{IsBytes, Takes}
@@ -44,7 +44,7 @@ version_takes bytes x fits e =
     let n = from_le_bytes w32 (take 4 bytes) in
     let v = version_by (ltb (length bytes) 4) n (drop 4 bytes) x e in
     let long : ltb (length bytes) 4 ≡ false = v.0 in
-    let read : word_at bytes ≡ Ok (n, drop 4 bytes) = rw long refl in
+    let read : next_word bytes ≡ Ok (n, drop 4 bytes) = rw long refl in
     let taken = (word_takes bytes n (drop 4 bytes) fits read).0 in
     subst (λ (rest : List ℕ). Takes bytes (word VERSION) rest) v.2
     (subst (λ (m : ℕ). Takes bytes (word m) (drop 4 bytes)) v.1 taken)
@@ -154,6 +154,6 @@ records_again types r h =
     rw read refl
 
 pub is_read : (types : List Node) (bytes : List ℕ) (answer : Result Records AuxFault) → IsBytes bytes
-    → Gives (λ r. r) answer (records_in types bytes) → IfOk answer (λ r. AreRecords types r × (bytes ≡ spelling r))
+    → ReadingGives (λ r. r) answer (records_in types bytes) → IfOk answer (λ r. AreRecords types r × (bytes ≡ spelling r))
 is_read types bytes (Ok r) fits given = records_take types bytes r fits given
 is_read types bytes (Err e) fits given = tt

@@ -5,28 +5,28 @@ use Rattle.cfi_types.specs.Spelling.{word}
 use Rattle.cfi_types.proofs.Parts.{IsBytes, Takes, wide32, number_takes, number_again}
 use Rattle.cfi_aux.specs.declared.fault.AuxFault.{AuxFault}
 use Rattle.cfi_aux.specs.declared.fault.AuxFault.TheVariants.{Short}
-use Rattle.cfi_aux.specs.Records.{Fits}
-use Rattle.cfi_aux.specs.Reading.{word_at, word_where}
+use Rattle.cfi_aux.specs.Records.{IsWordSized}
+use Rattle.cfi_aux.specs.Reading.{next_word, word_where}
 use Rattle.cfi_values.specs.Then.{unless_bad}
 use Rattle.cfi_aux.proofs.Formats.{Reads}
 use Rattle.cfi_values.proofs.ThenLemmas.{then_ok, unless_bad_ok, ok_is}
 
-pub word_takes : (bytes : List ℕ) (n : ℕ) (rest : List ℕ) → IsBytes bytes → word_at bytes ≡ Ok (n, rest)
-    → Takes bytes (word n) rest × Fits n
+pub word_takes : (bytes : List ℕ) (n : ℕ) (rest : List ℕ) → IsBytes bytes → next_word bytes ≡ Ok (n, rest)
+    → Takes bytes (word n) rest × IsWordSized n
 word_takes bytes n rest fits e = number_takes Short w32 (2 ^ 32) wide32 bytes n rest fits e
 
-pub word_again : (n : ℕ) (rest : List ℕ) → Fits n → word_at (word n ++ rest) ≡ Ok (n, rest)
+pub word_again : (n : ℕ) (rest : List ℕ) → IsWordSized n → next_word (word n ++ rest) ≡ Ok (n, rest)
 word_again n rest lt = number_again Short w32 (2 ^ 32) wide32 n rest lt
 
 -- a number that a word has, and that passes a test
 abbrev pub Passes : (test : ℕ → Bool) → ℕ → Type 0
-Passes test n = Fits n × IsTrue (test n)
+Passes test n = IsWordSized n × IsTrue (test n)
 
 where_takes : (test : ℕ → Bool) (fault : AuxFault) (bytes : List ℕ) (x : ℕ × List ℕ) → IsBytes bytes
     → word_where test fault bytes ≡ Ok x → Takes bytes (word x.0) x.1 × Passes test x.0
 unfolding word_where
 where_takes test fault bytes x fits e =
-    let a = then_ok (word_at bytes) (λ w. unless_bad (test w.0) fault (Ok w)) x e in
+    let a = then_ok (next_word bytes) (λ w. unless_bad (test w.0) fault (Ok w)) x e in
     let g = unless_bad_ok (test a.0.0) fault (Ok a.0) x a.2 in
     let one = word_takes bytes a.0.0 a.0.1 fits a.1 in
     subst (λ (y : ℕ × List ℕ). Takes bytes (word y.0) y.1 × Passes test y.0) (ok_is a.0 x g.1) (one.0, (one.1, g.0))

@@ -8,7 +8,7 @@ use Rattle.elf_read.specs.declared.object.Binding.TheVariants as bindings
 use Rattle.elf_read.specs.declared.object.Place.{Place}
 use Rattle.elf_read.specs.declared.object.Place.TheVariants as places
 use Rattle.cfi_aux.specs.declared.records.Function.{Function}
-use Rattle.cfi_aux.specs.Sound.{is_exported, is_defined}
+use Rattle.elf_read.specs.Sound.{is_exported, is_defined}
 
 abbrev pub is_global_binding : Binding → Bool
 is_global_binding bindings.Global = true

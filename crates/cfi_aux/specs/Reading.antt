@@ -8,18 +8,18 @@ use Rattle.cfi_values.specs.Then.{◌>>=◌, unless_bad}
 -- ---- what a call gives
 
 -- a call that failed met this fault, unless memory ran out
-abbrev pub Fails : {Y : Type 0} → AuxFault → (due : Result Y AuxFault) → Type 0
-Fails Memory due = Unit {0}
-Fails NoRecords due = due ≡ Err NoRecords
-Fails (Types fault) due = due ≡ Err (Types fault)
-Fails Version due = due ≡ Err Version
-Fails Short due = due ≡ Err Short
-Fails (BadRecord k) due = due ≡ Err (BadRecord k)
+abbrev pub ReadingFails : {Y : Type 0} → AuxFault → (due : Result Y AuxFault) → Type 0
+ReadingFails Memory due = Unit {0}
+ReadingFails NoRecords due = due ≡ Err NoRecords
+ReadingFails (Types fault) due = due ≡ Err (Types fault)
+ReadingFails Version due = due ≡ Err Version
+ReadingFails Short due = due ≡ Err Short
+ReadingFails (BadRecord k) due = due ≡ Err (BadRecord k)
 
 -- what a call answered, seen by view, is what is due, unless memory ran out
-abbrev pub Gives : {X Y : Type 0} → (X → Y) → Result X AuxFault → (due : Result Y AuxFault) → Type 0
-Gives view (Ok x) due = due ≡ Ok (view x)
-Gives view (Err e) due = Fails e due
+abbrev pub ReadingGives : {X Y : Type 0} → (X → Y) → Result X AuxFault → (due : Result Y AuxFault) → Type 0
+ReadingGives view (Ok x) due = due ≡ Ok (view x)
+ReadingGives view (Err e) due = ReadingFails e due
 
 -- ---- readers
 
@@ -27,12 +27,12 @@ abbrev pub Reader : Type 0 → Type 0
 Reader X = List ℕ → Result (X × List ℕ) AuxFault
 
 -- a word
-abbrev pub word_at : Reader ℕ
-word_at bytes = if nat_lt (length bytes) 4 then Err Short else Ok (from_le_bytes w32 (take 4 bytes), drop 4 bytes)
+abbrev pub next_word : Reader ℕ
+next_word bytes = if nat_lt (length bytes) 4 then Err Short else Ok (from_le_bytes w32 (take 4 bytes), drop 4 bytes)
 
 -- a word that passes a test
 unfoldable pub word_where : (test : ℕ → Bool) → AuxFault → Reader ℕ
-word_where test fault bytes = word_at bytes >>= λ w. unless_bad (test w.0) fault (Ok w)
+word_where test fault bytes = next_word bytes >>= λ w. unless_bad (test w.0) fault (Ok w)
 
 -- one, and another that depends on it
 unfoldable pub and_with : {A B : Type 0} → Reader A → (A → Reader B) → Reader (A × B)

@@ -28,28 +28,28 @@ abbrev pub function_bytes : Function → List ℕ
 function_bytes f = word f.offset ++ (word f.length ++ (word f.ty ++ (word (flag_of f.taken) ++ name_bytes f.name)))
 
 -- a branch's kind, and its words: a node, or the places of a switch
-abbrev pub number_of : Kind → ℕ
-number_of (Call node) = CALL
-number_of (Tail node) = TAIL
-number_of Return = RETURN
-number_of (Switch places) = SWITCH
+abbrev pub kind_number : Kind → ℕ
+kind_number (Call node) = CALL
+kind_number (Tail node) = TAIL
+kind_number Return = RETURN
+kind_number (Switch places) = SWITCH
 
-abbrev pub words_of : Kind → List ℕ
-words_of (Call node) = node ∷ []
-words_of (Tail node) = node ∷ []
-words_of Return = []
-words_of (Switch places) = places
+abbrev pub kind_words : Kind → List ℕ
+kind_words (Call node) = node ∷ []
+kind_words (Tail node) = node ∷ []
+kind_words Return = []
+kind_words (Switch places) = places
 
 abbrev pub branch_bytes : Kind → List ℕ
-branch_bytes b = word (number_of b) ++ (word (length (words_of b)) ++ flat_map word (words_of b))
+branch_bytes b = word (kind_number b) ++ (word (length (kind_words b)) ++ flat_map word (kind_words b))
 
 abbrev pub spelling : Records → List ℕ
 spelling r = word VERSION ++ ((word (length r.functions) ++ word (length r.branches))
     ++ (flat_map function_bytes r.functions ++ flat_map branch_bytes r.branches))
 
 -- a number that a word has
-abbrev pub Fits : ℕ → Type 0
-Fits n = n < 2 ^ 32
+abbrev pub IsWordSized : ℕ → Type 0
+IsWordSized n = n < 2 ^ 32
 
 -- a name has 1 to 255 bytes of UTF-8
 pub record IsName (name : List ℕ) : Type 0 where
@@ -58,19 +58,19 @@ pub record IsName (name : List ℕ) : Type 0 where
 
 -- a function begins at an instruction, has whole ones, at least one, and its type is one of functions
 pub record IsFunction (types : List Node) (f : Function) : Type 0 where
-  pub offset : Fits f.offset × IsTrue (is_whole f.offset)
-  pub length : Fits f.length × IsTrue (is_length f.length)
-  pub ty : Fits f.ty × IsTrue (is_func types f.ty)
+  pub offset : IsWordSized f.offset × IsTrue (is_whole f.offset)
+  pub length : IsWordSized f.length × IsTrue (is_length f.length)
+  pub ty : IsWordSized f.ty × IsTrue (is_func types f.ty)
   pub name : IsName f.name
 
 -- a word of a branch: the type of a call and of a tail call is one of functions, and a switch leads to instructions
 abbrev pub IsBranchWord : (types : List Node) → Kind → ℕ → Type 0
-IsBranchWord types (Switch places) n = Fits n × IsTrue (is_whole n)
-IsBranchWord types b n = Fits n × IsTrue (is_func types n)
+IsBranchWord types (Switch places) n = IsWordSized n × IsTrue (is_whole n)
+IsBranchWord types b n = IsWordSized n × IsTrue (is_func types n)
 
 pub record IsBranch (types : List Node) (b : Kind) : Type 0 where
-  pub count : IsTrue (has_count (number_of b) (length (words_of b)))
-  pub words : AllByRecursion (IsBranchWord types b) (words_of b)
+  pub count : IsTrue (has_count (kind_number b) (length (kind_words b)))
+  pub words : AllByRecursion (IsBranchWord types b) (kind_words b)
 
 -- records: not too many, each as it is wanted
 pub record AreRecords (types : List Node) (r : Records) : Type 0 where
@@ -84,4 +84,4 @@ pub record CanBeWritten (r : Records) : Type 0 where
   pub functions : length r.functions < 2 ^ 32
   pub branches : length r.branches < 2 ^ 32
   pub names : All (λ f. length f.name < 2 ^ 32) r.functions
-  pub words : All (λ b. length (words_of b) < 2 ^ 32) r.branches
+  pub words : All (λ b. length (kind_words b) < 2 ^ 32) r.branches

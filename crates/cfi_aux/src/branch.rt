@@ -1,7 +1,7 @@
 //! Records of branches.
 
 ghost use Rattle.std.specs.Prelude.{◌≤◌};
-ghost use Rattle.cfi_aux.specs.Reading.{Gives, each};
+ghost use Rattle.cfi_aux.specs.Reading.{ReadingGives, each};
 ghost use Rattle.cfi_aux.specs.Faults.{place_at, body_at, branch_at};
 
 use crate::fault::AuxFault;
@@ -19,7 +19,7 @@ fn places_from(
     count: u32,
     bytes: &[u8],
 ) -> Result<(Vec<u32>, &[u8]), AuxFault>
-    ensures { Gives (λ x. (x.0.items, x.1.now)) result
+    ensures { ReadingGives (λ x. (x.0.items, x.1.now)) result
         (each (place_at number) 0 count bytes.now) }
 {
     let mut places = Vec::new(alloc);
@@ -41,7 +41,7 @@ fn body_from<'a>(
     count: u32,
     bytes: &'a [u8],
 ) -> Result<(Kind, &'a [u8]), AuxFault>
-    ensures { Gives (λ x. (x.0, x.1.now)) result (body_at types.now number kind count bytes.now) }
+    ensures { ReadingGives (λ x. (x.0, x.1.now)) result (body_at types.now number kind count bytes.now) }
 {
     match kind {
         CALL => {
@@ -67,7 +67,7 @@ fn branch_from<'a>(
     number: u32,
     bytes: &'a [u8],
 ) -> Result<(Kind, &'a [u8]), AuxFault>
-    ensures { Gives (λ x. (x.0, x.1.now)) result (branch_at types.now number bytes.now) }
+    ensures { ReadingGives (λ x. (x.0, x.1.now)) result (branch_at types.now number bytes.now) }
 {
     let (kind, rest) = kind_from(number, bytes)?;
     let (count, rest) = word_count_from(kind, number, rest)?;
@@ -84,7 +84,7 @@ pub fn branches_from<'a>(
 ) -> Result<(Vec<Kind>, &'a [u8]), AuxFault>
     requires functions { first ≤ MAX_FUNCTIONS }
     requires branches { count ≤ MAX_BRANCHES }
-    ensures { Gives (λ x. (x.0.items, x.1.now)) result
+    ensures { ReadingGives (λ x. (x.0.items, x.1.now)) result
         (each (branch_at types.now) first count bytes.now) }
 {
     let mut branches = Vec::new(alloc);

@@ -1,6 +1,6 @@
 //! Records of functions.
 
-ghost use Rattle.cfi_aux.specs.Reading.{Gives, each};
+ghost use Rattle.cfi_aux.specs.Reading.{ReadingGives, each};
 ghost use Rattle.cfi_aux.specs.Faults.{function_at};
 
 use crate::fault::AuxFault;
@@ -17,7 +17,7 @@ fn function_from<'a>(
     number: u32,
     bytes: &'a [u8],
 ) -> Result<(Function, &'a [u8]), AuxFault>
-    ensures { Gives (λ x. (x.0, x.1.now)) result (function_at types.now number bytes.now) }
+    ensures { ReadingGives (λ x. (x.0, x.1.now)) result (function_at types.now number bytes.now) }
 {
     let (offset, rest) = place_from(number, bytes)?;
     let (length, rest) = length_from(number, rest)?;
@@ -41,7 +41,7 @@ pub fn functions_from<'a>(
     count: u32,
     bytes: &'a [u8],
 ) -> Result<(Vec<Function>, &'a [u8]), AuxFault>
-    ensures { Gives (λ x. (x.0.items, x.1.now)) result
+    ensures { ReadingGives (λ x. (x.0.items, x.1.now)) result
         (each (function_at types.now) 0 count bytes.now) }
 {
     let mut functions = Vec::new(alloc);

@@ -3,7 +3,7 @@
 ghost use Rattle.std.specs.Prelude.{ℕ, List};
 ghost use Rattle.elf_read.specs.declared.object.Object.{Object};
 ghost use Rattle.elf_read.specs.Fault.{IsObject};
-ghost use Rattle.cfi_aux.specs.Sound.{IsSoundObject};
+ghost use Rattle.elf_read.specs.Sound.{IsSoundObject};
 
 /// Some object is sound: the one that has nothing.
 pub fn some_object_is_sound()

@@ -5,8 +5,9 @@ ghost use Rattle.elf_read.specs.declared.object.Object.{Object};
 ghost use Rattle.cfi_types.specs.Spelling.{AreTypes, spelling};
 ghost use Rattle.cfi_types.specs.Reading.{types_in};
 ghost use Rattle.cfi_aux.specs.declared.modules.Module.{Module};
-ghost use Rattle.cfi_aux.specs.Reading.{Gives};
-ghost use Rattle.cfi_aux.specs.Sound.{IsSoundObject, IsSoundModule};
+ghost use Rattle.cfi_aux.specs.Reading.{ReadingGives};
+ghost use Rattle.cfi_aux.specs.Sound.{IsSoundModule};
+ghost use Rattle.elf_read.specs.Sound.{IsSoundObject};
 ghost use Rattle.cfi_aux.specs.Module.{AreSpelled, IsModuleOf, as_types, parts_in, module_in};
 
 use crate::fault::AuxFault;
@@ -29,7 +30,7 @@ pub struct Module {
 
 fn types_of(alloc: Global, bytes: &[u8]) -> Result<TypeTable, AuxFault>
     ensures ok { IfOk result (λ table. AreTypes table × (bytes.now ≡ spelling table)) }
-    ensures fault { Gives (λ table. table) result (as_types (types_in bytes.now)) }
+    ensures fault { ReadingGives (λ table. table) result (as_types (types_in bytes.now)) }
 {
     let table = read_types(alloc, bytes)?;
     Ok(table)
@@ -37,7 +38,7 @@ fn types_of(alloc: Global, bytes: &[u8]) -> Result<TypeTable, AuxFault>
 
 fn parts_of(alloc: Global, object: &Object) -> Result<(TypeTable, Records), AuxFault>
     ensures ok { IfOk result (λ parts. AreSpelled object.now parts.0 parts.1) }
-    ensures fault { Gives (λ parts. (parts.0, parts.1)) result (parts_in object.now) }
+    ensures fault { ReadingGives (λ parts. (parts.0, parts.1)) result (parts_in object.now) }
 {
     let (Some(types), Some(records)) = (&object.types, &object.records) else {
         return Err(AuxFault::NoRecords);
@@ -49,7 +50,7 @@ fn parts_of(alloc: Global, object: &Object) -> Result<(TypeTable, Records), AuxF
 
 fn whole(alloc: Global, object: Object) -> Result<Module, AuxFault>
     ensures ok { IfOk result (IsModuleOf object) }
-    ensures fault { Gives (λ found. found) result (module_in object) }
+    ensures fault { ReadingGives (λ found. found) result (module_in object) }
 {
     let (types, records) = parts_of(alloc, &object)?;
     Ok(Module {
@@ -69,9 +70,9 @@ pub fn module_of(alloc: Global, object: Object) -> Result<Module, AuxFault>
     // It breaks no rule that its object does not.
     ensures sound { IsSoundObject object → IfOk result IsSoundModule }
     // Where there is such a module, it is the answer.
-    ensures only { (m : Module) → IsModuleOf object m → Gives (λ found. found) result (Ok m) }
+    ensures only { (m : Module) → IsModuleOf object m → ReadingGives (λ found. found) result (Ok m) }
     // Which fault it is.
-    ensures fault { Gives (λ found. found) result (module_in object) }
+    ensures fault { ReadingGives (λ found. found) result (module_in object) }
 {
     whole(alloc, object)
 }

@@ -1,7 +1,7 @@
 //! Names of functions.
 
 ghost use Rattle.std.specs.Prelude.{◌≡◌};
-ghost use Rattle.cfi_aux.specs.Reading.{Gives};
+ghost use Rattle.cfi_aux.specs.Reading.{ReadingGives};
 ghost use Rattle.cfi_aux.specs.Records.{padding};
 ghost use Rattle.cfi_aux.specs.Faults.{text_at, zeroes_at, name_at};
 
@@ -17,7 +17,7 @@ fn text_from(
     length: usize,
     bytes: &[u8],
 ) -> Result<(Name, &[u8]), AuxFault>
-    ensures { Gives (λ x. (x.0, x.1.now)) result (text_at number length bytes.now) }
+    ensures { ReadingGives (λ x. (x.0, x.1.now)) result (text_at number length bytes.now) }
 {
     if bytes.len() < length {
         return Err(AuxFault::Short);
@@ -33,7 +33,7 @@ fn text_from(
 }
 
 fn after_zeroes(number: u32, count: usize, bytes: &[u8]) -> Result<&[u8], AuxFault>
-    ensures { Gives (λ x. (tt, x.now)) result (zeroes_at number count bytes.now) }
+    ensures { ReadingGives (λ x. (tt, x.now)) result (zeroes_at number count bytes.now) }
 {
     let mut rest = bytes;
     for _ in 0..count {
@@ -58,7 +58,7 @@ pub fn padding(length: usize) -> usize
 /// The name in record `number`, with its length before it and zero bytes after it.
 #[tactic(auto, unfolding(crate::specs::Faults::name_at, crate::specs::Reading::seen_as, crate::specs::Reading::and_with, crate::specs::Reading::and_also))]
 pub fn name_from(alloc: Global, number: u32, bytes: &[u8]) -> Result<(Name, &[u8]), AuxFault>
-    ensures { Gives (λ x. (x.0, x.1.now)) result (name_at number bytes.now) }
+    ensures { ReadingGives (λ x. (x.0, x.1.now)) result (name_at number bytes.now) }
 {
     let (length, rest) = name_length_from(number, bytes)?;
     let (name, rest) = text_from(alloc, number, length as usize, rest)?;

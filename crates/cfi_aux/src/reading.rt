@@ -3,7 +3,7 @@
 ghost use Rattle.std.specs.Prelude.{◌≡◌, IfOk, Ok};
 ghost use Rattle.cfi_aux.specs.declared.records.Records.{Records};
 ghost use Rattle.cfi_aux.specs.Records.{AreRecords, spelling};
-ghost use Rattle.cfi_aux.specs.Reading.{Gives};
+ghost use Rattle.cfi_aux.specs.Reading.{ReadingGives};
 ghost use Rattle.cfi_aux.specs.Faults.{records_at, records_in};
 
 use crate::branch::branches_from;
@@ -22,7 +22,7 @@ fn records_from<'a>(
     bytes: &'a [u8],
     types: &TypeTable,
 ) -> Result<(Records, &'a [u8]), AuxFault>
-    ensures { Gives (λ x. (x.0, x.1.now)) result (records_at types.now bytes.now) }
+    ensures { ReadingGives (λ x. (x.0, x.1.now)) result (records_at types.now bytes.now) }
 {
     let rest = after_version(bytes)?;
     let (function_count, rest) = count_from(MAX_FUNCTIONS, rest)?;
@@ -38,7 +38,7 @@ fn records_from<'a>(
 
 #[tactic(auto, unfolding(crate::specs::Faults::records_in))]
 fn all_of(alloc: Global, bytes: &[u8], types: &TypeTable) -> Result<Records, AuxFault>
-    ensures { Gives (λ records. records) result (records_in types.now bytes.now) }
+    ensures { ReadingGives (λ records. records) result (records_in types.now bytes.now) }
 {
     let (records, rest) = records_from(alloc, bytes, types)?;
     if !rest.is_empty() {
@@ -58,9 +58,9 @@ pub fn read_records(alloc: Global, bytes: &[u8], types: &TypeTable) -> Result<Re
         AreRecords types.now records × (bytes.now ≡ spelling records)) }
     // What is spelled so is read.
     ensures only { (records : Records) → AreRecords types.now records →
-        bytes.now ≡ spelling records → Gives (λ found. found) result (Ok records) }
+        bytes.now ≡ spelling records → ReadingGives (λ found. found) result (Ok records) }
     // Which fault it is.
-    ensures fault { Gives (λ found. found) result (records_in types.now bytes.now) }
+    ensures fault { ReadingGives (λ found. found) result (records_in types.now bytes.now) }
 {
     all_of(alloc, bytes, types)
 }

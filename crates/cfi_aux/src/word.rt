@@ -2,7 +2,7 @@
 
 ghost use Rattle.std.specs.Prelude.{◌≤◌, nat_le, IfOk};
 ghost use Rattle.cfi_aux.specs.declared.fault.AuxFault.TheVariants.{BadRecord};
-ghost use Rattle.cfi_aux.specs.Reading.{Gives, word_at, word_where};
+ghost use Rattle.cfi_aux.specs.Reading.{ReadingGives, next_word, word_where};
 ghost use Rattle.cfi_aux.specs.Format.{is_whole, is_length, is_flag, is_name_length, is_func, has_count};
 ghost use Rattle.cfi_aux.specs.Faults.{count_at, version_at};
 
@@ -13,7 +13,7 @@ use crate::format::{
 use cfi_types::TypeTable;
 
 fn word_from(bytes: &[u8]) -> Result<(u32, &[u8]), AuxFault>
-    ensures { Gives (λ x. (x.0, x.1.now)) result (word_at bytes.now) }
+    ensures { ReadingGives (λ x. (x.0, x.1.now)) result (next_word bytes.now) }
 {
     if bytes.len() < 4 {
         return Err(AuxFault::Short);
@@ -26,7 +26,7 @@ fn word_from(bytes: &[u8]) -> Result<(u32, &[u8]), AuxFault>
 /// The bytes after the word of the version, which stands first.
 #[tactic(auto, unfolding(crate::specs::Faults::version_at))]
 pub fn after_version(bytes: &[u8]) -> Result<&[u8], AuxFault>
-    ensures { Gives (λ x. (tt, x.now)) result (version_at bytes.now) }
+    ensures { ReadingGives (λ x. (tt, x.now)) result (version_at bytes.now) }
 {
     if bytes.len() < 4 {
         return Err(AuxFault::Version);
@@ -41,7 +41,7 @@ pub fn after_version(bytes: &[u8]) -> Result<&[u8], AuxFault>
 /// A number of records, at most `limit`.
 #[tactic(auto, unfolding(crate::specs::Reading::word_where))]
 pub fn count_from(limit: u32, bytes: &[u8]) -> Result<(u32, &[u8]), AuxFault>
-    ensures read { Gives (λ x. (x.0, x.1.now)) result (count_at limit bytes.now) }
+    ensures read { ReadingGives (λ x. (x.0, x.1.now)) result (count_at limit bytes.now) }
     ensures within { IfOk result (λ x. x.0 ≤ limit) }
 {
     let (count, rest) = word_from(bytes)?;
@@ -54,7 +54,7 @@ pub fn count_from(limit: u32, bytes: &[u8]) -> Result<(u32, &[u8]), AuxFault>
 /// Where a function begins or a switch leads, in record `number`.
 #[tactic(auto, unfolding(crate::specs::Reading::word_where))]
 pub fn place_from(number: u32, bytes: &[u8]) -> Result<(u32, &[u8]), AuxFault>
-    ensures { Gives (λ x. (x.0, x.1.now)) result
+    ensures { ReadingGives (λ x. (x.0, x.1.now)) result
         (word_where is_whole (BadRecord number) bytes.now) }
 {
     let (word, rest) = word_from(bytes)?;
@@ -67,7 +67,7 @@ pub fn place_from(number: u32, bytes: &[u8]) -> Result<(u32, &[u8]), AuxFault>
 /// The length of the function of record `number`.
 #[tactic(auto, unfolding(crate::specs::Reading::word_where))]
 pub fn length_from(number: u32, bytes: &[u8]) -> Result<(u32, &[u8]), AuxFault>
-    ensures { Gives (λ x. (x.0, x.1.now)) result
+    ensures { ReadingGives (λ x. (x.0, x.1.now)) result
         (word_where is_length (BadRecord number) bytes.now) }
 {
     let (word, rest) = word_from(bytes)?;
@@ -84,7 +84,7 @@ pub fn func_from<'a>(
     number: u32,
     bytes: &'a [u8],
 ) -> Result<(u32, &'a [u8]), AuxFault>
-    ensures { Gives (λ x. (x.0, x.1.now)) result
+    ensures { ReadingGives (λ x. (x.0, x.1.now)) result
         (word_where (is_func types.now) (BadRecord number) bytes.now) }
 {
     let (word, rest) = word_from(bytes)?;
@@ -97,7 +97,7 @@ pub fn func_from<'a>(
 /// The flags of the function of record `number`.
 #[tactic(auto, unfolding(crate::specs::Reading::word_where))]
 pub fn flags_from(number: u32, bytes: &[u8]) -> Result<(u32, &[u8]), AuxFault>
-    ensures { Gives (λ x. (x.0, x.1.now)) result (word_where is_flag (BadRecord number) bytes.now) }
+    ensures { ReadingGives (λ x. (x.0, x.1.now)) result (word_where is_flag (BadRecord number) bytes.now) }
 {
     let (word, rest) = word_from(bytes)?;
     if !is_flag(word) {
@@ -109,7 +109,7 @@ pub fn flags_from(number: u32, bytes: &[u8]) -> Result<(u32, &[u8]), AuxFault>
 /// The number of bytes of the name in record `number`.
 #[tactic(auto, unfolding(crate::specs::Reading::word_where))]
 pub fn name_length_from(number: u32, bytes: &[u8]) -> Result<(u32, &[u8]), AuxFault>
-    ensures { Gives (λ x. (x.0, x.1.now)) result
+    ensures { ReadingGives (λ x. (x.0, x.1.now)) result
         (word_where is_name_length (BadRecord number) bytes.now) }
 {
     let (word, rest) = word_from(bytes)?;
@@ -122,7 +122,7 @@ pub fn name_length_from(number: u32, bytes: &[u8]) -> Result<(u32, &[u8]), AuxFa
 /// The kind of the branch of record `number`.
 #[tactic(auto, unfolding(crate::specs::Reading::word_where))]
 pub fn kind_from(number: u32, bytes: &[u8]) -> Result<(u32, &[u8]), AuxFault>
-    ensures { Gives (λ x. (x.0, x.1.now)) result
+    ensures { ReadingGives (λ x. (x.0, x.1.now)) result
         (word_where (λ kind. nat_le kind SWITCH) (BadRecord number) bytes.now) }
 {
     let (word, rest) = word_from(bytes)?;
@@ -135,7 +135,7 @@ pub fn kind_from(number: u32, bytes: &[u8]) -> Result<(u32, &[u8]), AuxFault>
 /// How many words the branch of record `number` and of this kind has.
 #[tactic(auto, unfolding(crate::specs::Reading::word_where))]
 pub fn word_count_from(kind: u32, number: u32, bytes: &[u8]) -> Result<(u32, &[u8]), AuxFault>
-    ensures { Gives (λ x. (x.0, x.1.now)) result
+    ensures { ReadingGives (λ x. (x.0, x.1.now)) result
         (word_where (has_count kind) (BadRecord number) bytes.now) }
 {
     let (word, rest) = word_from(bytes)?;

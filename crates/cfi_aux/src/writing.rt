@@ -5,7 +5,7 @@ ghost use Rattle.std.specs.List.{flat_map};
 ghost use Rattle.cfi_types.specs.Node.{Node};
 ghost use Rattle.cfi_types.specs.Spelling.{word};
 ghost use Rattle.cfi_aux.specs.declared.records.Records.{Records};
-ghost use Rattle.cfi_aux.specs.Records.{AreRecords, CanBeWritten, words_of, name_bytes, function_bytes, branch_bytes, spelling};
+ghost use Rattle.cfi_aux.specs.Records.{AreRecords, CanBeWritten, kind_words, name_bytes, function_bytes, branch_bytes, spelling};
 ghost use Rattle.cfi_aux.specs.Faults.{records_in};
 
 use crate::format::{CALL, RETURN, SWITCH, TAIL, VERSION};
@@ -58,7 +58,7 @@ fn put_words(out: &mut Vec<u8>, kind: u32, words: &[u32]) -> Result<(), AllocErr
 }
 
 fn put_branch(out: &mut Vec<u8>, branch: &Kind) -> Result<(), AllocError>
-    requires { length (words_of branch.now) < 2 ^ 32 }
+    requires { length (kind_words branch.now) < 2 ^ 32 }
     ensures { OnOk result (out.new.items ≡ out.old.items ++ branch_bytes branch.now) }
 {
     match branch {
@@ -80,7 +80,7 @@ fn put_functions(out: &mut Vec<u8>, functions: &[Function]) -> Result<(), AllocE
 }
 
 fn put_branches(out: &mut Vec<u8>, branches: &[Kind]) -> Result<(), AllocError>
-    requires { All (λ b. length (words_of b) < 2 ^ 32) branches.now }
+    requires { All (λ b. length (kind_words b) < 2 ^ 32) branches.now }
     ensures { OnOk result (out.new.items ≡ out.old.items ++ flat_map branch_bytes branches.now) }
 {
     for branch in branches {

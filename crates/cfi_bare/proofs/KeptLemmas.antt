@@ -15,7 +15,7 @@ use Rattle.cfi_unit.proofs.CodeLemmas.{BeginsAt-one, BeginsAt-within, BeginsAt-i
 use Rattle.cfi_aux.specs.declared.placed.Placed.{Placed}
 use Rattle.cfi_aux.specs.declared.records.Kind.{Kind}
 use Rattle.cfi_place.specs.Slots.{ReadFrom, checks_from, with_slot, with_slots}
-use Rattle.cfi_place.specs.Placed.{words_in}
+use Rattle.cfi_place.specs.Placed.{bytes_as_words}
 use Rattle.cfi_verify.specs.declared.checks.CheckSpot.{CheckSpot}
 use Rattle.cfi_verify.specs.Lists.{Each}
 use Rattle.cfi_unit.specs.Spots.{spots_of}
@@ -190,7 +190,7 @@ others a (units.Service ∷ code) none = (tt, others (a + 1) code none)
 
 -- so its words are those of its bytes
 pub words_kept : (bytes : List ℕ) (placed : Placed) → IsPlacedFile bytes [] placed → IsVerified placed []
-    → placed.words ≡ words_in bytes
+    → placed.words ≡ bytes_as_words bytes
 words_kept bytes placed p v =
     let slots = slots_are bytes [] placed p in
     let laid = v.1.laid in
@@ -198,5 +198,5 @@ words_kept bytes placed p v =
     let other : AreOther laid.units.code =
     others 0 laid.units.code (ap checks_of (sym laid.units.places) ∙ none) in
     let kept : checks_from 0 slots.0 ≡ [] =
-    no_slots (words_in bytes) 0 0 slots.0 placed.words laid.units.code slots.1 slots.2 laid.units.units other in
-    slots.2 ∙ ap (λ places. with_slots 0 places (words_in bytes)) kept
+    no_slots (bytes_as_words bytes) 0 0 slots.0 placed.words laid.units.code slots.1 slots.2 laid.units.units other in
+    slots.2 ∙ ap (λ places. with_slots 0 places (bytes_as_words bytes)) kept

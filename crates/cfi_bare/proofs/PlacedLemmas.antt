@@ -12,7 +12,7 @@ use Rattle.cfi_place.specs.declared.fault.PlaceFault.TheVariants as faults
 use Rattle.cfi_place.specs.Relocated.{Areas, areas_of, relocated_from}
 use Rattle.cfi_place.specs.Slots.{ReadFrom, checks_from, with_slot, with_slots, HasSlots}
 use Rattle.cfi_place.specs.Functions.{placed_functions}
-use Rattle.cfi_place.specs.Placed.{words_in, where_fits, code_fits, placed_in}
+use Rattle.cfi_place.specs.Placed.{bytes_as_words, where_fits, code_fits, placed_in}
 use Rattle.cfi_place.proofs.PlacingLemmas.{length-words_in}
 use Rattle.cfi_bare.specs.Module.{bare_types, bare_functions, bare_object, bare_room, no_names, IsPlacedFile}
 use Rattle.cfi_bare.specs.Runnable.{IsWhole}
@@ -51,14 +51,14 @@ module _ (bytes : List ℕ) (branches : List Kind) (placed : Placed) (p : IsPlac
   areas_are = placed_areas bytes p.bytes p.is_placed
 
   -- they are the file's, but for the slots
-  pub slots_are : HasSlots (words_in bytes) 0 (words_in bytes) placed.words
+  pub slots_are : HasSlots (bytes_as_words bytes) 0 (bytes_as_words bytes) placed.words
   slots_are =
-      subst (λ (areas : Areas). HasSlots (words_in bytes) 0 (words_in areas.text) placed.words) (sym areas_are) p.words
+      subst (λ (areas : Areas). HasSlots (bytes_as_words bytes) 0 (bytes_as_words areas.text) placed.words) (sym areas_are) p.words
 
   pub length-placed : length placed.words ≡ length bytes / 4
   length-placed =
       let slots = slots_are in
-      ap length slots.2 ∙ length-with_slots 0 (checks_from 0 slots.0) (words_in bytes) ∙ length-words_in bytes
+      ap length slots.2 ∙ length-with_slots 0 (checks_from 0 slots.0) (bytes_as_words bytes) ∙ length-words_in bytes
 
 -- its one function has them all
 functions_whole : (bytes words : List ℕ) (functions : List PlacedFunction)
@@ -129,8 +129,8 @@ pub one_placed : (bytes : List ℕ) (branches : List Kind) (a b : Placed) → Is
 one_placed bytes branches a b p q =
     let one = slots_are bytes branches a p in
     let other = slots_are bytes branches b q in
-    let same : one.0 ≡ other.0 = one_reading (words_in bytes) 0 one.0 other.0 one.1 other.1 in
+    let same : one.0 ≡ other.0 = one_reading (bytes_as_words bytes) 0 one.0 other.0 one.1 other.1 in
     let words : a.words ≡ b.words =
-    one.2 ∙ ap (λ (us : List CodeUnit). with_slots 0 (checks_from 0 us) (words_in bytes)) same ∙ sym other.2 in
+    one.2 ∙ ap (λ (us : List CodeUnit). with_slots 0 (checks_from 0 us) (bytes_as_words bytes)) same ∙ sym other.2 in
     placed_is bytes branches a p ∙ ap (λ (ws : List ℕ). placed_with bytes ws branches) words
     ∙ sym (placed_is bytes branches b q)

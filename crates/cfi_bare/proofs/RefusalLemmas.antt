@@ -1,7 +1,7 @@
 -- A file that is accepted has no refusal.
 use Rattle.std.proofs.Common.{◌≡◌, ℕ, ◌%◌, List, [], subst, arith}
 use Rattle.cfi_aux.specs.declared.placed.Placed.{Placed}
-use Rattle.cfi_verify.specs.Faults.{Stands}
+use Rattle.cfi_verify.specs.Faults.{FaultStands}
 use Rattle.cfi_verify.proofs.RowLemmas.{no_fault}
 use Rattle.cfi_bare.specs.declared.fault.BareFault.{BareFault}
 use Rattle.cfi_bare.specs.declared.fault.BareFault.TheVariants.{Plan, Length, CodeFull, Verify}
@@ -21,4 +21,4 @@ not_both bytes words (Verify fault) accepted first =
     let same : found.0 ≡ verified.placed =
     one_placed bytes [] found.0 verified.placed found.1 verified.is_placed in
     no_fault verified.placed [] verified.verified.0 verified.verified.1 fault
-    (subst (λ (m : Placed). Stands m [] fault) same found.2.stands)
+    (subst (λ (m : Placed). FaultStands m [] fault) same found.2.stands)

@@ -3,7 +3,7 @@ use Rattle.std.specs.Prelude.{◌≡◌, ℕ, ◌*◌, ◌%◌, ◌<◌, ◌≤�
 use Rattle.std.specs.List.{starts_with}
 use Rattle.cfi_aux.specs.declared.placed.Placed.{Placed}
 use Rattle.cfi_aux.specs.declared.records.Kind.{Kind}
-use Rattle.cfi_place.specs.Placed.{words_in}
+use Rattle.cfi_place.specs.Placed.{bytes_as_words}
 use Rattle.cfi_verify.specs.declared.fault.VerifyFault.{VerifyFault}
 use Rattle.cfi_verify.specs.Faults.{IsVerified, IsFirstFault}
 use Rattle.cfi_bare.specs.declared.fault.BareFault.{BareFault}
@@ -12,8 +12,8 @@ use Rattle.cfi_bare.specs.declared.modules.TheConstants.{MAX_WORDS}
 use Rattle.cfi_bare.specs.Module.{IsPlacedFile}
 
 -- the file begins as a plan does
-abbrev pub IsPlan : List ℕ → Type 0
-IsPlan bytes = starts_with nat_eq bytes (codes "plan ") ≡ true
+abbrev pub BeginsAsPlan : List ℕ → Type 0
+BeginsAsPlan bytes = starts_with nat_eq bytes (codes "plan ") ≡ true
 
 -- the file begins otherwise
 abbrev pub IsBare : List ℕ → Type 0
@@ -40,11 +40,11 @@ pub record IsAccepted (bytes words : List ℕ) : Type 0 where
   pub bare : IsBare bytes
   pub sized : AreWords bytes
   pub verified : IsVerifiedFile bytes [] words
-  pub spelled : words ≡ words_in bytes
+  pub spelled : words ≡ bytes_as_words bytes
 
 -- the first reason against a file, in the order of the variants
 abbrev pub IsFirstRefusal : List ℕ → BareFault → Type 0
-IsFirstRefusal bytes Plan = IsPlan bytes
+IsFirstRefusal bytes Plan = BeginsAsPlan bytes
 IsFirstRefusal bytes (Length count) = IsBare bytes × (length bytes ≡ count) × (count % 4 ≢ 0)
 IsFirstRefusal bytes CodeFull = IsBare bytes × (length bytes % 4 ≡ 0) × (4 * MAX_WORDS < length bytes)
 IsFirstRefusal bytes (Verify fault) = IsBare bytes × AreWords bytes × IsFileFault bytes [] fault

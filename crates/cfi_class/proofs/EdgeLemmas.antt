@@ -3,7 +3,7 @@ use Rattle.std.proofs.Common.{◌≡◌, ◌⊎◌, ℕ, ◌+◌, ◌<◌, ◌�
 use Rattle.std.proofs.lemmas.Bool.{cases_lt}
 use Rattle.std.proofs.lemmas.List.{get_or_default}
 use Rattle.cfi_word.specs.declared.lists.Edge.{Edge}
-use Rattle.cfi_class.specs.Labels.{IsWithin}
+use Rattle.cfi_class.specs.Labels.{IsEdgeWithin}
 
 -- the edge of these parts
 abbrev pub edge_of : (slot address : ℕ) → Edge
@@ -37,11 +37,11 @@ module _ (edges : List Edge) (count : ℕ) (there : count < length edges) where
             inr (get_or_default edges count (edge_of 0 0) (edge_of slot address) there ∙ at)
       ]
 
-module _ (edges : List Edge) (slots code_words : ℕ) (within : All (IsWithin slots code_words) edges) where
+module _ (edges : List Edge) (slots code_words : ℕ) (within : All (IsEdgeWithin slots code_words) edges) where
   pub HasFirst-within : (count slot address : ℕ) → count ≤ length edges → HasFirst edges count slot address
-      → IsWithin slots code_words (edge_of slot address)
+      → IsEdgeWithin slots code_words (edge_of slot address)
   HasFirst-within count slot address most (place, lower, is) =
-      subst (IsWithin slots code_words) is (within place (edge_of slot address) (omega arith))
+      subst (IsEdgeWithin slots code_words) is (within place (edge_of slot address) (omega arith))
 
-  pub edge_at-within : (place : ℕ) → place < length edges → IsWithin slots code_words (edge_at edges place)
+  pub edge_at-within : (place : ℕ) → place < length edges → IsEdgeWithin slots code_words (edge_at edges place)
   edge_at-within place there = within place (edge_of 0 0) there

@@ -3,15 +3,15 @@ use Rattle.std.proofs.Common.{◌≡◌, ℕ, zero, suc, ◌<◌, List, All, sym
 use Rattle.cfi_word.specs.declared.lists.Edge.{Edge}
 use Rattle.cfi_word.specs.Chain.{ChainOf, Chain}
 use Rattle.cfi_class.specs.Forest.{root_of}
-use Rattle.cfi_class.specs.Labels.{HasEdge, IsWithin, IsReached, IsUsed}
-use Rattle.cfi_class.specs.Linked.{IsEnd, node_of, IsForestOf}
+use Rattle.cfi_class.specs.Labels.{HasEdge, IsEdgeWithin, IsReached, IsUsed}
+use Rattle.cfi_class.specs.Linked.{IsEnd, end_node, IsForestOf}
 use Rattle.cfi_class.specs.Linked.End.{Slot, Address}
 use Rattle.cfi_class.proofs.LinkedLemmas.{chain_from_Linked}
 
 -- a chain stays in one tree
 pub chain_root : (joins : (slot address : ℕ) → Type 0) (slots code_words : ℕ) (parents : List ℕ)
     → IsForestOf joins slots code_words parents → (more slot address : ℕ) → ChainOf joins more slot address
-    → root_of parents slot ≡ root_of parents (node_of slots (Address address))
+    → root_of parents slot ≡ root_of parents (end_node slots (Address address))
 chain_root joins slots code_words parents forest zero slot address edge = forest.joined slot address edge
 chain_root joins slots code_words parents forest (suc more) slot address (shared, other, edge, back, rest) =
     forest.joined slot shared edge ∙ sym (forest.joined other shared back)
@@ -21,7 +21,7 @@ chain_root joins slots code_words parents forest (suc more) slot address (shared
 pub chain_from_roots : (joins : (slot address : ℕ) → Type 0) (slots code_words : ℕ) (parents : List ℕ)
     → IsForestOf joins slots code_words parents → (slot address : ℕ) → IsEnd slots code_words (Slot slot)
     → IsEnd slots code_words (Address address)
-    → root_of parents slot ≡ root_of parents (node_of slots (Address address)) → Chain joins slot address
+    → root_of parents slot ≡ root_of parents (end_node slots (Address address)) → Chain joins slot address
 chain_from_roots joins slots code_words parents forest slot address is_slot is_address equal =
     let way = chain_from_Linked joins (forest.linked (Slot slot) (Address address) is_slot is_address equal) in
     record { more = way.0; chain = way.1 }
@@ -40,23 +40,23 @@ last_of_chain joins (suc more) slot address (shared, other, edge, back, rest) =
 
 -- ---- edges of a list
 
-pub edge_within : (edges : List Edge) (slots code_words : ℕ) → All (IsWithin slots code_words) edges
+pub edge_within : (edges : List Edge) (slots code_words : ℕ) → All (IsEdgeWithin slots code_words) edges
     → (slot address : ℕ) → HasEdge edges slot address
-    → IsWithin slots code_words (record { branch = slot; target = address })
+    → IsEdgeWithin slots code_words (record { branch = slot; target = address })
 edge_within edges slots code_words within slot address (place, there, is) =
     let edge : Edge = record { branch = slot; target = address } in
-    subst (IsWithin slots code_words) is (within place edge there)
+    subst (IsEdgeWithin slots code_words) is (within place edge there)
 
 -- the branch of an edge of the list is one of the slots
-pub branch_within : (edges : List Edge) (slots code_words : ℕ) → All (IsWithin slots code_words) edges
+pub branch_within : (edges : List Edge) (slots code_words : ℕ) → All (IsEdgeWithin slots code_words) edges
     → (slot address : ℕ) → HasEdge edges slot address → slot < slots
 branch_within edges slots code_words within slot address edge =
     (edge_within edges slots code_words within slot address edge).branch
 
 -- both ends of a chain of the list are within
-pub chain_within : (edges : List Edge) (slots code_words : ℕ) → All (IsWithin slots code_words) edges
+pub chain_within : (edges : List Edge) (slots code_words : ℕ) → All (IsEdgeWithin slots code_words) edges
     → (slot address : ℕ) → Chain (HasEdge edges) slot address
-    → IsWithin slots code_words (record { branch = slot; target = address })
+    → IsEdgeWithin slots code_words (record { branch = slot; target = address })
 chain_within edges slots code_words within slot address chain =
     let first = first_of_chain (HasEdge edges) chain.more slot address chain.chain in
     let last = last_of_chain (HasEdge edges) chain.more slot address chain.chain in

@@ -5,8 +5,8 @@ use Rattle.std.proofs.lemmas.List.{get_or_past}
 use Rattle.cfi_word.specs.declared.ids.TheConstants.{FIELD_MAX}
 use Rattle.cfi_word.specs.Chain.{Chain}
 use Rattle.cfi_class.specs.Forest.{HasSameRoots, root_of}
-use Rattle.cfi_class.specs.Labels.{IsReached, IsUsed, IsClass, IsClassWhere, AreNumbers, AreInOrder}
-use Rattle.cfi_class.specs.Linked.{Linked, node_of, IsForestOf}
+use Rattle.cfi_class.specs.Labels.{IsReached, IsUsed, IsClass, IsClassWhere, AreNumbers, AreOrderedBySlot}
+use Rattle.cfi_class.specs.Linked.{Linked, end_node, IsForestOf}
 use Rattle.cfi_class.specs.Linked.End.{Slot, Address}
 use Rattle.cfi_class.specs.Numbering.{IsMarked, MarksUsed, AreSlotNumbers, AreWordNumbers}
 use Rattle.cfi_class.proofs.ForestLemmas.{root_of-low, root_of-root_of}
@@ -42,7 +42,7 @@ module _ (joins : (slot address : ℕ) → Type 0) (slots code_words : ℕ) (par
   -- ---- code words
 
   -- a code word's node
-  word_node : (word : ℕ) → node_of slots (Address (4 * word)) ≡ slots + word
+  word_node : (word : ℕ) → end_node slots (Address (4 * word)) ≡ slots + word
   word_node word = let quarter : 4 * word / 4 ≡ word = omega arith in ap (λ n. slots + n) quarter
 
   word_joined : (slot word : ℕ) → joins slot (4 * word) → root_of parents slot ≡ root_of parents (slots + word)
@@ -169,7 +169,7 @@ module _ (joins : (slot address : ℕ) → Type 0) (slots code_words : ℕ) (par
     classes = class_label;
   }
 
-  pub in_order : AreInOrder joins numbers
+  pub in_order : AreOrderedBySlot joins numbers
   in_order slot number edge some low =
       let earlier = slot_numbers.order slot number (used.marked slot edge.0 edge.1) some low in
       (earlier.0, earlier.1, used.only earlier.0 earlier.2, earlier.3)
@@ -208,7 +208,7 @@ module _ (joins : (slot address : ℕ) → Type 0) (slots all code_words : ℕ) 
         (are.classes slot word lower there edge reached);
   }
 
-  pub filled_in_order : AreInOrder joins numbers → AreInOrder joins bary
+  pub filled_in_order : AreOrderedBySlot joins numbers → AreOrderedBySlot joins bary
   filled_in_order order slot number edge some low =
       let lower = inside slot edge.0 edge.1 in
       let earlier = order slot number edge some (subst (λ n. number ≤ n) (fills.kept slot lower) low) in

@@ -3,9 +3,9 @@ use Rattle.std.proofs.Common.{◌≡◌, ◌⊎◌, ℕ, ◌+◌, ◌*◌, ◌/�
 use Rattle.std.proofs.lemmas.Bool.{cases_eq}
 use Rattle.std.proofs.lemmas.List.{length-set, get_or-set_same, get_or-set_other}
 use Rattle.cfi_word.specs.declared.lists.Edge.{Edge}
-use Rattle.cfi_class.specs.Labels.{IsWithin, IsUsed}
+use Rattle.cfi_class.specs.Labels.{IsEdgeWithin, IsUsed}
 use Rattle.cfi_class.specs.Forest.{IsForest, root_of, joined_root}
-use Rattle.cfi_class.specs.Linked.{End, Linked, IsEnd, node_of, IsForestOf}
+use Rattle.cfi_class.specs.Linked.{End, Linked, IsEnd, end_node, IsForestOf}
 use Rattle.cfi_class.specs.Linked.End.{Slot, Address}
 use Rattle.cfi_class.specs.Linked.Linked.{same, to_address, to_slot}
 use Rattle.cfi_class.specs.Numbering.{IsMarked, MarksUsed}
@@ -17,7 +17,7 @@ use Rattle.cfi_class.proofs.EdgeLemmas.{HasFirst, edge_at, HasFirst-before, HasF
 
 -- ends of one node are one end
 node_of-one : (slots code_words : ℕ) (one other : End) → IsEnd slots code_words one → IsEnd slots code_words other
-    → node_of slots one ≡ node_of slots other → one ≡ other
+    → end_node slots one ≡ end_node slots other → one ≡ other
 node_of-one slots code_words (Slot one) (Slot other) is_one is_other is = ap Slot is
 node_of-one slots code_words (Slot one) (Address other) is_one is_other is = absurd (omega arith)
 node_of-one slots code_words (Address one) (Slot other) is_one is_other is = absurd (omega arith)
@@ -27,7 +27,7 @@ node_of-one slots code_words (Address one) (Address other) is_one is_other is =
     let equal : one ≡ other = omega arith in ap Address equal
 
 pub node_of-within : (slots code_words : ℕ) (one : End) → IsEnd slots code_words one
-    → node_of slots one < slots + code_words
+    → end_node slots one < slots + code_words
 node_of-within slots code_words (Slot slot) is = omega arith
 node_of-within slots code_words (Address address) is =
     let within : address < 4 * code_words = is.1 in omega arith
@@ -64,37 +64,37 @@ module _ (old new : (slot address : ℕ) → Type 0) (slots code_words slot addr
     (adds : AddsEdge old new slots code_words slot address) (before after : List ℕ)
     (forest : IsForestOf old slots code_words before) (is_forest : IsForest after) (len : length after ≡ length before)
     (roots : (node : ℕ) → node < length before → root_of after node
-    ≡ joined_root (root_of before slot) (root_of before (node_of slots (Address address))) (root_of before node)) where
-  end_root : (one : End) → IsEnd slots code_words one → root_of after (node_of slots one)
-      ≡ joined_root (root_of before slot) (root_of before (node_of slots (Address address)))
-      (root_of before (node_of slots one))
+    ≡ joined_root (root_of before slot) (root_of before (end_node slots (Address address))) (root_of before node)) where
+  end_root : (one : End) → IsEnd slots code_words one → root_of after (end_node slots one)
+      ≡ joined_root (root_of before slot) (root_of before (end_node slots (Address address)))
+      (root_of before (end_node slots one))
   end_root one is =
       let within = node_of-within slots code_words one is in
       let before_len = forest.len in
-      roots (node_of slots one) (omega arith)
+      roots (end_node slots one) (omega arith)
 
   step_joined : (other_slot other_address : ℕ) → new other_slot other_address
-      → root_of after other_slot ≡ root_of after (node_of slots (Address other_address))
+      → root_of after other_slot ≡ root_of after (end_node slots (Address other_address))
   step_joined other_slot other_address edge =
       let ends = adds.within other_slot other_address edge in
       let left = end_root (Slot other_slot) ends.0 in
       let right = end_root (Address other_address) ends.1 in
       let from = root_of before slot in
-      let to = root_of before (node_of slots (Address address)) in
+      let to = root_of before (end_node slots (Address address)) in
       elim (adds.cases other_slot other_address edge) [
         | inl earlier ↦ left ∙ ap (joined_root from to) (forest.joined other_slot other_address earlier) ∙ sym right
         | inr here ↦ left
             ∙ ap (λ n. joined_root from to (root_of before n)) here.0
             ∙ joined_root-one from to ∙ sym (joined_root-two from to)
-            ∙ ap (λ n. joined_root from to (root_of before (node_of slots (Address n)))) (sym here.1)
+            ∙ ap (λ n. joined_root from to (root_of before (end_node slots (Address n)))) (sym here.1)
             ∙ sym right
       ]
 
   step_linked : (one other : End) → IsEnd slots code_words one → IsEnd slots code_words other
-      → root_of after (node_of slots one) ≡ root_of after (node_of slots other) → Linked new one other
+      → root_of after (end_node slots one) ≡ root_of after (end_node slots other) → Linked new one other
   step_linked one other is_one is_other equal =
-      elim (joined_root-cases (root_of before slot) (root_of before (node_of slots (Address address)))
-      (root_of before (node_of slots one)) (root_of before (node_of slots other))
+      elim (joined_root-cases (root_of before slot) (root_of before (end_node slots (Address address)))
+      (root_of before (end_node slots one)) (root_of before (end_node slots other))
       (sym (end_root one is_one) ∙ equal ∙ end_root other is_other)) [
         | inl together ↦ Linked-map old new adds.kept (forest.linked one other is_one is_other together)
         | inr apart ↦ elim apart [
@@ -113,7 +113,7 @@ module _ (old new : (slot address : ℕ) → Type 0) (slots code_words slot addr
   step_forest : IsForestOf new slots code_words after
   step_forest = record { forest = is_forest; len = len ∙ forest.len; joined = step_joined; linked = step_linked }
 
-module _ (edges : List Edge) (slots code_words : ℕ) (within : All (IsWithin slots code_words) edges) (count : ℕ)
+module _ (edges : List Edge) (slots code_words : ℕ) (within : All (IsEdgeWithin slots code_words) edges) (count : ℕ)
     (there : count < length edges) where
   adds_edge : AddsEdge (HasFirst edges count) (HasFirst edges (count + 1)) slots code_words
       (edge_at edges count).branch (edge_at edges count).target
@@ -146,7 +146,7 @@ module _ (edges : List Edge) (slots code_words : ℕ) (within : All (IsWithin sl
 
 -- ---- marks
 
-module _ (edges : List Edge) (slots code_words : ℕ) (within : All (IsWithin slots code_words) edges) (count : ℕ)
+module _ (edges : List Edge) (slots code_words : ℕ) (within : All (IsEdgeWithin slots code_words) edges) (count : ℕ)
     (there : count < length edges) (marks : List Bool) (old : MarksUsed (HasFirst edges count) slots marks) where
   branch_within : (edge_at edges count).branch < length marks
   branch_within =

@@ -11,7 +11,7 @@ abbrev pub HasEdge : (edges : List Edge) → (slot address : ℕ) → Type 0
 HasEdge edges slot address = Contains edges (record { branch = slot; target = address })
 
 -- the edge leads from one of so many slots to a code word
-pub record IsWithin (slots code_words : ℕ) (edge : Edge) : Type 0 where
+pub record IsEdgeWithin (slots code_words : ℕ) (edge : Edge) : Type 0 where
   pub branch : edge.branch < slots
   pub whole : edge.target % 4 ≡ 0
   pub target : edge.target < 4 * code_words
@@ -19,7 +19,7 @@ pub record IsWithin (slots code_words : ℕ) (edge : Edge) : Type 0 where
 -- edges that can be labelled: those of so many slots, for which the table has room
 pub record CanBeLabelled (edges : List Edge) (slots code_words : ℕ) : Type 0 where
   pub room : slots ≤ slots_of code_words
-  pub within : All (IsWithin slots code_words) edges
+  pub within : All (IsEdgeWithin slots code_words) edges
 
 -- some branch may go to the address
 abbrev pub IsReached : (joins : (slot address : ℕ) → Type 0) → (address : ℕ) → Type 0
@@ -52,6 +52,6 @@ abbrev pub AreLabels : (joins : (slot address : ℕ) → Type 0) → (code_words
 AreLabels joins code_words tary bary = AreNumbers joins (slots_of code_words) code_words tary bary
 
 -- classes are numbered from 1 in the order of their least slots: a slot of each lower class comes before one of a class
-abbrev pub AreInOrder : (joins : (slot address : ℕ) → Type 0) → (bary : List ℕ) → Type 0
-AreInOrder joins bary = (slot number : ℕ) → IsUsed joins slot → 1 ≤ number → number ≤ slice_index bary slot
+abbrev pub AreOrderedBySlot : (joins : (slot address : ℕ) → Type 0) → (bary : List ℕ) → Type 0
+AreOrderedBySlot joins bary = (slot number : ℕ) → IsUsed joins slot → 1 ≤ number → number ≤ slice_index bary slot
     → (earlier : ℕ) × (earlier ≤ slot) × IsUsed joins earlier × (slice_index bary earlier ≡ number)

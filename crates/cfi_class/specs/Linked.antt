@@ -21,15 +21,15 @@ IsEnd slots code_words (Slot slot) = slot < slots
 IsEnd slots code_words (Address address) = (address % 4 ≡ 0) × (address < 4 * code_words)
 
 -- its node
-abbrev pub node_of : (slots : ℕ) → End → ℕ
-node_of slots (Slot slot) = slot
-node_of slots (Address address) = slots + address / 4
+abbrev pub end_node : (slots : ℕ) → End → ℕ
+end_node slots (Slot slot) = slot
+end_node slots (Address address) = slots + address / 4
 
 -- a forest whose trees are the ends that are linked
 pub record IsForestOf (joins : (slot address : ℕ) → Type 0) (slots code_words : ℕ) (parents : List ℕ) : Type 0 where
   pub forest : IsForest parents
   pub len : length parents ≡ slots + code_words
   pub joined : (slot address : ℕ) → joins slot address
-      → root_of parents slot ≡ root_of parents (node_of slots (Address address))
+      → root_of parents slot ≡ root_of parents (end_node slots (Address address))
   pub linked : (one other : End) → IsEnd slots code_words one → IsEnd slots code_words other
-      → root_of parents (node_of slots one) ≡ root_of parents (node_of slots other) → Linked joins one other
+      → root_of parents (end_node slots one) ≡ root_of parents (end_node slots other) → Linked joins one other

@@ -1,6 +1,6 @@
 ghost use Rattle.std.specs.Prelude.{◌↔◌, ◌+◌, ◌<◌, ◌^◌, All, IfOk, IsTrue};
 ghost use Rattle.cfi_word.specs.Chain.{Chain};
-ghost use Rattle.cfi_class.specs.Labels.{HasEdge, IsWithin};
+ghost use Rattle.cfi_class.specs.Labels.{HasEdge, IsEdgeWithin};
 
 use crate::sweep::forest_of;
 use cfi_word::Edge;
@@ -20,7 +20,7 @@ pub fn are_joined(
     target: u32,
 ) -> Result<bool, AllocError>
     requires fits { slots + code_words < 2 ^ 32 }
-    requires within { All (IsWithin slots code_words) edges.now }
+    requires within { All (IsEdgeWithin slots code_words) edges.now }
     ensures { IfOk result (λ joined.
         IsTrue joined ↔ Chain (HasEdge edges.now) branch target) }
 {

@@ -1,7 +1,7 @@
 ghost use Rattle.std.specs.Prelude.{◌+◌, ◌<◌, ◌^◌, All, IfOk};
 ghost use Rattle.cfi_word.specs.declared.ids.TheConstants.{FIELD_MAX};
-ghost use Rattle.cfi_class.specs.Labels.{HasEdge, IsWithin, CanBeLabelled};
-ghost use Rattle.cfi_class.specs.Labels.{AreNumbers, AreInOrder, AreLabels};
+ghost use Rattle.cfi_class.specs.Labels.{HasEdge, IsEdgeWithin, CanBeLabelled};
+ghost use Rattle.cfi_class.specs.Labels.{AreNumbers, AreOrderedBySlot, AreLabels};
 
 use crate::numbering::{number_slots, number_words};
 use crate::sweep::{forest_of, used_slots};
@@ -24,10 +24,10 @@ pub fn numbers(
 ) -> Result<Labels, AllocError>
     requires few { slots < FIELD_MAX }
     requires fits { slots + code_words < 2 ^ 32 }
-    requires within { All (IsWithin slots code_words) edges.now }
+    requires within { All (IsEdgeWithin slots code_words) edges.now }
     ensures labels { IfOk result (λ labels.
         AreNumbers (HasEdge edges.now) slots code_words labels.tary labels.bary) }
-    ensures order { IfOk result (λ labels. AreInOrder (HasEdge edges.now) labels.bary) }
+    ensures order { IfOk result (λ labels. AreOrderedBySlot (HasEdge edges.now) labels.bary) }
 {
     let mut forest = forest_of(alloc, edges, slots, code_words)?;
     let used = used_slots(alloc, edges, slots, code_words)?;
@@ -56,7 +56,7 @@ pub fn label(
     requires { CanBeLabelled edges.now slots layout.now }
     ensures labels { IfOk result (λ labels.
         AreLabels (HasEdge edges.now) layout.now labels.tary labels.bary) }
-    ensures order { IfOk result (λ labels. AreInOrder (HasEdge edges.now) labels.bary) }
+    ensures order { IfOk result (λ labels. AreOrderedBySlot (HasEdge edges.now) labels.bary) }
 {
     let Labels { tary, bary } = numbers(alloc, edges, slots, layout.code_words())?;
     let mut bary = bary.into_vec();

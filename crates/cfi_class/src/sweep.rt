@@ -1,7 +1,7 @@
 //! One pass over the edges: which slots and code words they link, and which slots have one.
 
 ghost use Rattle.std.specs.Prelude.{◌+◌, ◌<◌, ◌^◌, All, IfOk};
-ghost use Rattle.cfi_class.specs.Labels.{HasEdge, IsWithin};
+ghost use Rattle.cfi_class.specs.Labels.{HasEdge, IsEdgeWithin};
 ghost use Rattle.cfi_class.specs.Linked.{IsForestOf};
 ghost use Rattle.cfi_class.specs.Numbering.{MarksUsed};
 
@@ -17,7 +17,7 @@ pub(crate) fn forest_of(
     code_words: u32,
 ) -> Result<Forest, AllocError>
     requires fits { slots + code_words < 2 ^ 32 }
-    requires within { All (IsWithin slots code_words) edges.now }
+    requires within { All (IsEdgeWithin slots code_words) edges.now }
     ensures { IfOk result (IsForestOf (HasEdge edges.now) slots code_words) }
 {
     let mut forest = Forest::new(alloc, slots + code_words)?;
@@ -34,7 +34,7 @@ pub(crate) fn used_slots(
     slots: u32,
     code_words: u32,
 ) -> Result<Vec<bool>, AllocError>
-    requires { All (IsWithin slots code_words) edges.now }
+    requires { All (IsEdgeWithin slots code_words) edges.now }
     ensures { IfOk result (λ marks. MarksUsed (HasEdge edges.now) slots marks.items) }
 {
     let mut used = vec![in alloc; false; slots as usize]?;

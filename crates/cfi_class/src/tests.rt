@@ -1,5 +1,5 @@
 ghost use Rattle.std.specs.Prelude.{All, IfOk};
-ghost use Rattle.cfi_class.specs.Labels.{IsWithin};
+ghost use Rattle.cfi_class.specs.Labels.{IsEdgeWithin};
 
 use crate::{are_joined, label};
 use cfi_word::{Edge, Layout};
@@ -8,7 +8,7 @@ use std::test::Fail;
 
 // Those edges of these slots and addresses that lie within a table of 1,024 code words: all, in each row below.
 fn edges_of(alloc: Global, pairs: &[(u32, u32)], slots: u32) -> Result<Vec<Edge>, AllocError>
-    ensures { IfOk result (λ edges. All (IsWithin slots 1024) edges.items) }
+    ensures { IfOk result (λ edges. All (IsEdgeWithin slots 1024) edges.items) }
 {
     let mut edges = Vec::new(alloc);
     for (branch, target) in pairs {

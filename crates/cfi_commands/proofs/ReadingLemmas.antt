@@ -9,12 +9,12 @@ use Rattle.cfi_aux.specs.declared.fault.AuxFault.{AuxFault}
 use Rattle.cfi_aux.specs.declared.fault.AuxFault.TheVariants.{NoRecords, Types, Version, Short, BadRecord, Memory}
 use Rattle.cfi_aux.specs.declared.modules.Module.{Module}
 use Rattle.cfi_aux.specs.Module.{module_in}
-use Rattle.cfi_aux.specs.Reading.{Fails}
+use Rattle.cfi_aux.specs.Reading.{ReadingFails}
 use Rattle.cfi_aux.proofs.ModuleLemmas.{module_again}
 use Rattle.cfi_commands.specs.Reading.{IsModuleFile}
 
 -- a fault that is no want of memory is what is due
-pub due_of : {Y : Type 0} (fault : AuxFault) (due : Result Y AuxFault) → fault ≢ Memory → Fails fault due
+pub due_of : {Y : Type 0} (fault : AuxFault) (due : Result Y AuxFault) → fault ≢ Memory → ReadingFails fault due
     → due ≡ Err fault
 due_of NoRecords due other fails = fails
 due_of (Types fault) due other fails = fails

@@ -21,8 +21,8 @@ line_by branches [] = codes "none" ++ flat_map slot_word branches ++ 10 ∷ []
 line_by branches (target ∷ targets) =
     codes "class" ++ flat_map slot_word branches ++ codes " :" ++ flat_map address_word (target ∷ targets) ++ 10 ∷ []
 
-abbrev pub line_of : Group → List ℕ
-line_of group = line_by group.branches group.targets
+abbrev pub group_line : Group → List ℕ
+group_line group = line_by group.branches group.targets
 
 -- the text of the groups of the modules that files are
 pub record IsGraphText (code_words : ℕ) (files : List (List ℕ)) (text : List ℕ) : Type 0 where
@@ -30,4 +30,4 @@ pub record IsGraphText (code_words : ℕ) (files : List (List ℕ)) (text : List
   pub are : ArePlacedFiles code_words files placed
   pub groups : List Group
   pub joined : AreGroups placed groups
-  pub spelled : text ≡ flat_map line_of groups
+  pub spelled : text ≡ flat_map group_line groups

@@ -3,7 +3,7 @@ use Rattle.std.specs.Prelude.{◌≡◌, ◌≢◌, ℕ, List, ⊤}
 use Rattle.elf_write.specs.File.{bytes_of}
 use Rattle.cfi_aux.specs.declared.modules.Module.{Module}
 use Rattle.cfi_items.specs.declared.fault.InstrFault.TheVariants as instr_faults
-use Rattle.cfi_instr.specs.Output.{IsInstrumented, IsFirstFault}
+use Rattle.cfi_instr.specs.Output.{IsInstrumented, IsFirstInstrFault}
 use Rattle.cfi_commands.specs.declared.reading.FileFault.{FileFault}
 use Rattle.cfi_commands.specs.declared.reading.FileFault.TheVariants as files
 use Rattle.cfi_commands.specs.declared.instrumenting.InstrumentFault.{InstrumentFault}
@@ -22,7 +22,7 @@ pub record IsInstrumentedFile (bytes file : List ℕ) : Type 0 where
 abbrev pub IsInstrumentFault : List ℕ → InstrumentFault → Type 0
 IsInstrumentFault bytes (File fault) = IsFileFault bytes fault × (fault ≢ files.Memory)
 IsInstrumentFault bytes (Instr fault) =
-    (unplaced : Module) × IsModuleFile bytes unplaced × IsFirstFault unplaced fault × (fault ≢ instr_faults.Memory)
+    (unplaced : Module) × IsModuleFile bytes unplaced × IsFirstInstrFault unplaced fault × (fault ≢ instr_faults.Memory)
 IsInstrumentFault bytes Memory = ⊤
 
 -- a fault of the file, as one of this call; want of memory is no fault of the file

@@ -3,7 +3,7 @@ use Rattle.std.specs.Prelude.{◌≡◌, ◌≢◌, ℕ, List, ⊤}
 use Rattle.elf_write.specs.File.{bytes_of}
 use Rattle.cfi_aux.specs.declared.modules.Module.{Module}
 use Rattle.cfi_link.specs.declared.fault.LinkFault.TheVariants as link_faults
-use Rattle.cfi_link.specs.Faults.{IsFirstFault}
+use Rattle.cfi_link.specs.Faults.{IsFirstLinkFault}
 use Rattle.cfi_link.specs.Linked.{Linked}
 use Rattle.cfi_commands.specs.declared.modules.ModulesFault.{ModulesFault}
 use Rattle.cfi_commands.specs.declared.modules.ModulesFault.TheVariants as modules_faults
@@ -23,7 +23,7 @@ pub record IsLinkedFile (files : List (List ℕ)) (file : List ℕ) : Type 0 whe
 abbrev pub IsLinkingFault : (files : List (List ℕ)) → LinkingFault → Type 0
 IsLinkingFault files (File number fault) = IsFirstBadFile files number fault
 IsLinkingFault files (Link fault) =
-    (modules : List Module) × AreModuleFiles files modules × IsFirstFault modules fault × (fault ≢ link_faults.Memory)
+    (modules : List Module) × AreModuleFiles files modules × IsFirstLinkFault modules fault × (fault ≢ link_faults.Memory)
 IsLinkingFault files Memory = ⊤
 
 -- a fault of one of the files, as one of this call

@@ -14,20 +14,20 @@ abbrev pub HasItsChecks : Placed → Type 0
 HasItsChecks m = (code : List CodeUnit) × UnitCode m.words code × (length (slots_of code) ≡ length m.branches)
 
 -- the line of a module
-abbrev pub line_of : PlanModule → Placed → List ℕ
-line_of one m =
+abbrev pub module_line : PlanModule → Placed → List ℕ
+module_line one m =
     codes "ok " ++ one.name ++ codes " " ++ dec_text (length m.words) ++ codes " " ++ dec_text (length m.branches)
     ++ 10 ∷ []
 
 -- a line for each module, in order
-abbrev pub lines_of : List PlanModule → List Placed → List ℕ
-lines_of [] placed = []
-lines_of (one ∷ modules) [] = []
-lines_of (one ∷ modules) (m ∷ placed) = line_of one m ++ lines_of modules placed
+abbrev pub module_lines : List PlanModule → List Placed → List ℕ
+module_lines [] placed = []
+module_lines (one ∷ modules) [] = []
+module_lines (one ∷ modules) (m ∷ placed) = module_line one m ++ module_lines modules placed
 
 -- the text of the modules of a plan, whose files these are
 pub record IsVerifiedText (plan : Plan) (files : List (List ℕ)) (text : List ℕ) : Type 0 where
   pub placed : List Placed
   pub are : ArePlacedFiles plan.code_words files placed
   pub checks : All HasItsChecks placed
-  pub spelled : text ≡ lines_of plan.modules placed
+  pub spelled : text ≡ module_lines plan.modules placed

@@ -5,7 +5,7 @@ ghost use Rattle.std.specs.List.{flat_map};
 ghost use Rattle.cfi_plan.specs.Plan.{IsPlan};
 ghost use Rattle.cfi_commands.specs.Modules.{IsShortFile};
 ghost use Rattle.cfi_commands.specs.Files.{IsFilesFault};
-ghost use Rattle.cfi_commands.specs.Graph.{slot_word, address_word, line_of, IsGraphText};
+ghost use Rattle.cfi_commands.specs.Graph.{slot_word, address_word, group_line, IsGraphText};
 
 use crate::fault::FilesFault;
 use crate::files::placed_files;
@@ -39,7 +39,7 @@ fn put_addresses(text: &mut Vec<u8>, addresses: &[u32]) -> Result<(), AllocError
 
 // Appends the line of a group.
 fn put_group(text: &mut Vec<u8>, group: &Group) -> Result<(), AllocError>
-    ensures { OnOk result (text.new.items ≡ text.old.items ++ line_of group.now) }
+    ensures { OnOk result (text.new.items ≡ text.old.items ++ group_line group.now) }
 {
     if group.targets.as_slice().is_empty() {
         text.extend_from_slice(b"none")?;
@@ -56,7 +56,7 @@ fn put_group(text: &mut Vec<u8>, group: &Group) -> Result<(), AllocError>
 
 // The lines of groups.
 fn lines_of(alloc: Global, groups: &[Group]) -> Result<Vec<u8>, AllocError>
-    ensures { IfOk result (λ text. text.items ≡ flat_map line_of groups.now) }
+    ensures { IfOk result (λ text. text.items ≡ flat_map group_line groups.now) }
 {
     let mut text = Vec::new(alloc);
     for group in groups {

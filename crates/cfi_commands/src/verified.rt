@@ -4,7 +4,7 @@ ghost use Rattle.std.specs.Prelude.{◌≡◌, ◌++◌, length, All, IfOk, IfEr
 ghost use Rattle.cfi_plan.specs.Plan.{IsPlan};
 ghost use Rattle.cfi_commands.specs.Modules.{IsShortFile};
 ghost use Rattle.cfi_commands.specs.Files.{IsFilesFault};
-ghost use Rattle.cfi_commands.specs.Verified.{line_of, lines_of, IsVerifiedText};
+ghost use Rattle.cfi_commands.specs.Verified.{module_line, module_lines, IsVerifiedText};
 
 use crate::fault::FilesFault;
 use crate::files::placed_files;
@@ -16,7 +16,7 @@ use std::alloc::{AllocError, Global};
 
 // Appends the line of a module with its number of branches, each of which has a check.
 fn put_line(text: &mut Vec<u8>, one: &PlanModule, placed: &Placed) -> Result<(), AllocError>
-    ensures { OnOk result (text.new.items ≡ text.old.items ++ line_of one.now placed.now) }
+    ensures { OnOk result (text.new.items ≡ text.old.items ++ module_line one.now placed.now) }
 {
     text.extend_from_slice(b"ok ")?;
     text.extend_from_slice(one.name.as_str().as_bytes())?;
@@ -29,9 +29,9 @@ fn put_line(text: &mut Vec<u8>, one: &PlanModule, placed: &Placed) -> Result<(),
 }
 
 // The lines of the modules.
-fn lines_of(alloc: Global, modules: &[PlanModule], placed: &[Placed]) -> Result<Vec<u8>, AllocError>
+fn module_lines(alloc: Global, modules: &[PlanModule], placed: &[Placed]) -> Result<Vec<u8>, AllocError>
     requires { length placed.now ≡ length modules.now }
-    ensures { IfOk result (λ text. text.items ≡ lines_of modules.now placed.now) }
+    ensures { IfOk result (λ text. text.items ≡ module_lines modules.now placed.now) }
 {
     let mut text = Vec::new(alloc);
     for (number, one) in modules.iter().enumerate() {
@@ -51,5 +51,5 @@ pub fn verified_text(alloc: Global, plan: &Plan, files: &[Bytes]) -> Result<Vec<
     ensures fault { IfErr result (IsFilesFault plan.now.code_words files.now) }
 {
     let series = placed_files(alloc, plan, files)?;
-    Ok(lines_of(alloc, plan.modules.as_slice(), series.modules())?)
+    Ok(module_lines(alloc, plan.modules.as_slice(), series.modules())?)
 }

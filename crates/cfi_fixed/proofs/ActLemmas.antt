@@ -12,7 +12,7 @@ use Rattle.cfi_model.specs.declared.act.Wait.{Wait}
 use Rattle.cfi_model.specs.declared.act.Wait.TheVariants as waits
 use Rattle.cfi_word.specs.declared.map.TheConstants.{BARY, TARY}
 use Rattle.cfi_model.specs.Data.{load_width, store_width, is_aligned}
-use Rattle.cfi_model.specs.Raw.{Raw, address_of}
+use Rattle.cfi_model.specs.Raw.{Raw, access_address}
 use Rattle.cfi_model.specs.Begin.{Area, Private, TaryId, BaryId, Nothing, HasLoad, HasStore, HasStep, begin_as, act_as, load_at, load_act, store_at, store_act, area_of, waiting, stopped}
 
 -- a guest waits for a table word
@@ -71,9 +71,9 @@ act_tells (insns.Jal rd off) r idle going has = (idle, going)
 act_tells (insns.Jalr rd rs1 imm) r idle going has = one (rs1 == 31) acts.Done _ _ (idle, going) (idle, going)
 act_tells (insns.Branch c rs1 rs2 off) r idle going has = (idle, going)
 act_tells (insns.Load kind rd rs1 imm) r idle going has =
-    load_tells (area_of (address_of r rs1 imm)) kind rd _ r idle going has
+    load_tells (area_of (access_address r rs1 imm)) kind rd _ r idle going has
 act_tells (insns.Store kind rs1 rs2 imm) r idle going has =
-    store_tells (area_of (address_of r rs1 imm)) kind _ r idle going has
+    store_tells (area_of (access_address r rs1 imm)) kind _ r idle going has
 act_tells (insns.OpImm op rd rs1 imm) r idle going has = (idle, going)
 act_tells (insns.Op op rd rs1 rs2) r idle going has = (idle, going)
 act_tells (insns.Fence fields) r idle going has = (idle, going)

@@ -10,7 +10,7 @@ use Rattle.cfi_unit.specs.declared.log.Log.TheVariants.{Pick}
 use Rattle.cfi_word.specs.Word.{policy_in, epoch_in}
 use Rattle.cfi_model.specs.Data.{load_width, store_width, is_aligned}
 use Rattle.cfi_model.specs.Log.{last_of, is_pick_of, picks_of, last_policy}
-use Rattle.cfi_model.specs.Raw.{Raw, address_of}
+use Rattle.cfi_model.specs.Raw.{Raw, access_address}
 use Rattle.cfi_model.specs.Begin.{Area, Private, TaryId, BaryId, Nothing, begin_as, load_at, store_at, area_of, reads_table, picked_by}
 use Rattle.cfi_model.proofs.LogLemmas.{within, set_last, policy_push}
 
@@ -87,8 +87,8 @@ low_begin (insns.Jalr rd rs1 imm) r low =
     (record { unlogged = judged_low r.tary r.base.log low.tary low.unlogged; tary = tt; bary = tt })
     (same_low r _ low refl refl refl)
 low_begin (insns.Branch c rs1 rs2 off) r low = same_low r _ low refl refl refl
-low_begin (insns.Load kind rd rs1 imm) r low = load_low (area_of (address_of r rs1 imm)) kind rd _ r low
-low_begin (insns.Store kind rs1 rs2 imm) r low = store_low (area_of (address_of r rs1 imm)) kind _ r low
+low_begin (insns.Load kind rd rs1 imm) r low = load_low (area_of (access_address r rs1 imm)) kind rd _ r low
+low_begin (insns.Store kind rs1 rs2 imm) r low = store_low (area_of (access_address r rs1 imm)) kind _ r low
 low_begin (insns.OpImm op rd rs1 imm) r low = same_low r _ low refl refl refl
 low_begin (insns.Op op rd rs1 rs2) r low = same_low r _ low refl refl refl
 low_begin (insns.Fence fields) r low = same_low r _ low refl refl refl

@@ -11,18 +11,18 @@ use Rattle.cfi_flow.specs.Rows.{AreRows}
 use Rattle.cfi_flow.specs.Reach.{IsWalk}
 use Rattle.cfi_flow.specs.Flow.{Links, IsPath, PointsAt, ReturnsAt, GoesBy, IsSound, AreBelow, BeginBelow}
 use Rattle.cfi_flow.specs.Fans.{Joins, JoinsOne, AreFans}
-use Rattle.cfi_flow.specs.FlowRows.{row_of, AreFlowRows, HaveNodes, IsPointerFan, IsReturnFan}
+use Rattle.cfi_flow.specs.FlowRows.{flow_row, AreFlowRows, HaveNodes, IsPointerFan, IsReturnFan}
 use Rattle.cfi_flow.proofs.Members.{no_member, member_flat, from_flat}
 use Rattle.cfi_flow.proofs.RowLemmas.{from_row, to_row}
 
 -- a member of a row is a link
 row_link : (count : ℕ) (links : List Link) (rows : List (List ℕ)) (k end : ℕ) → AreRows count links rows → k < count
-    → Contains (row_of rows k) end → Links links k end
+    → Contains (flow_row rows k) end → Links links k end
 row_link count links rows k end r h m = from_row k links end (subst (λ ys. Contains ys end) (r.row k h) m)
 
 -- a link is a member of its row
 link_row : (count : ℕ) (links : List Link) (rows : List (List ℕ)) (k end : ℕ) → AreRows count links rows → k < count
-    → Links links k end → Contains (row_of rows k) end
+    → Links links k end → Contains (flow_row rows k) end
 link_row count links rows k end r h m = subst (λ ys. Contains ys end) (sym (r.row k h)) (to_row k links end m)
 
 begins : (count : ℕ) (links : List Link) (a b : ℕ) → BeginBelow count links → Links links a b → a < count
@@ -39,14 +39,14 @@ starts count links a b all h =
     both.0
 
 row_inside : (flow : Flow) (rows : FlowRows) → IsSound flow → AreFlowRows flow rows → (i : ℕ) → i < length rows.arrows
-    → All (λ k. k < flow.nodes) (row_of rows.arrows i)
+    → All (λ k. k < flow.nodes) (flow_row rows.arrows i)
 row_inside flow rows s r i h =
     let within : i < flow.nodes = omega (arith, h, r.arrows.len) in
-    All-from_get_or (λ k. k < flow.nodes) (row_of rows.arrows i) 0 (λ j lt.
-    let end = get_or (row_of rows.arrows i) j 0 in
+    All-from_get_or (λ k. k < flow.nodes) (flow_row rows.arrows i) 0 (λ j lt.
+    let end = get_or (flow_row rows.arrows i) j 0 in
     ends flow.nodes flow.arrows.items i end s.arrows
     (row_link flow.nodes flow.arrows.items rows.arrows i end r.arrows within
-    (Contains-get_or (row_of rows.arrows i) j 0 lt)))
+    (Contains-get_or (flow_row rows.arrows i) j 0 lt)))
 
 -- rows of a sound flow have its nodes
 pub rows_have_nodes : (flow : Flow) (rows : FlowRows) → IsSound flow → AreFlowRows flow rows
@@ -105,7 +105,7 @@ pub return_sound : (flow : Flow) (rows : FlowRows) (node : ℕ) (fan : Fan) (slo
     → AreFlowRows flow rows → node < flow.nodes → IsReturnFan rows node fan → Joins fan slot address
     → ReturnsAt flow node slot address
 return_sound flow rows node fan slot address s r h f j =
-    let from = from_flat (row_of rows.returns) f.order slot (subst (λ ys. Contains ys slot) f.slots j.0) in
+    let from = from_flat (flow_row rows.returns) f.order slot (subst (λ ys. Contains ys slot) f.slots j.0) in
     let all = f.reached (some_member fan.targets.items address j.1) in
     let within : from.0 < flow.nodes = omega (arith, all.within from.0 from.1, r.arrows.len) in
     let walk = all.sound from.0 from.1 in
@@ -130,7 +130,7 @@ return_whole flow rows node fan slot address s r h f p =
     (path_walk flow.nodes flow.arrows.items rows.arrows s.arrows r.arrows p.reached.0 node p.returning p.reached.1) in
     let below : p.returning < flow.nodes = begins flow.nodes flow.returns.items p.returning slot s.returns p.back in (
       subst (λ ys. Contains ys slot) (sym f.slots)
-          (member_flat (row_of rows.returns) f.order p.returning slot in_order
+          (member_flat (flow_row rows.returns) f.order p.returning slot in_order
           (link_row flow.nodes flow.returns.items rows.returns p.returning slot r.returns below p.back)),
       here,
     )

@@ -8,8 +8,8 @@ use Rattle.cfi_flow.specs.Rows.{AreRows}
 use Rattle.cfi_flow.specs.Reach.{AreReached}
 
 -- the row of a node
-abbrev pub row_of : List (List ℕ) → ℕ → List ℕ
-row_of rows k = slice_index_or rows k []
+abbrev pub flow_row : List (List ℕ) → ℕ → List ℕ
+flow_row rows k = slice_index_or rows k []
 
 -- rows for the links of each kind
 pub record AreFlowRows (flow : Flow) (rows : FlowRows) : Type 0 where
@@ -30,12 +30,12 @@ pub record HaveNodes (nodes : ℕ) (rows : FlowRows) : Type 0 where
 
 -- the fan of the pointers at a node
 pub record IsPointerFan (rows : FlowRows) (node : ℕ) (fan : Fan) : Type 0 where
-  pub slots : fan.slots.items ≡ row_of rows.pointers node
-  pub targets : fan.targets.items ≡ row_of rows.entries node
+  pub slots : fan.slots.items ≡ flow_row rows.pointers node
+  pub targets : fan.targets.items ≡ flow_row rows.entries node
 
 -- the fan of the returns from a node: where nothing comes back, no branch needs to be in it
 pub record IsReturnFan (rows : FlowRows) (node : ℕ) (fan : Fan) : Type 0 where
-  pub targets : fan.targets.items ≡ row_of rows.sites node
+  pub targets : fan.targets.items ≡ flow_row rows.sites node
   pub order : List ℕ
   pub reached : 0 < length fan.targets.items → AreReached rows.arrows node order
-  pub slots : fan.slots.items ≡ flat_map (row_of rows.returns) order
+  pub slots : fan.slots.items ≡ flat_map (flow_row rows.returns) order

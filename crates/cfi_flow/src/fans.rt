@@ -5,7 +5,7 @@ ghost use Rattle.std.specs.List.{flat_map};
 ghost use Rattle.cfi_flow.specs.Flow.{IsSound};
 ghost use Rattle.cfi_flow.specs.Fans.{AreFans};
 ghost use Rattle.cfi_flow.specs.Reach.{AreClear};
-ghost use Rattle.cfi_flow.specs.FlowRows.{row_of, AreFlowRows, HaveNodes, IsPointerFan, IsReturnFan};
+ghost use Rattle.cfi_flow.specs.FlowRows.{flow_row, AreFlowRows, HaveNodes, IsPointerFan, IsReturnFan};
 
 use crate::fan::Fan;
 use crate::links::Flow;
@@ -51,7 +51,7 @@ fn add_row(numbers: &mut Vec<u32>, row: &[u32]) -> Result<(), AllocError>
 // What the rows of these nodes hold, one after the other.
 fn joined(alloc: Global, nodes: &[u32], rows: &Rows) -> Result<Vec<u32>, AllocError>
     requires { All (λ k. k < length rows.now) nodes.now }
-    ensures { IfOk result (λ numbers. numbers.items ≡ flat_map (row_of rows.now) nodes.now) }
+    ensures { IfOk result (λ numbers. numbers.items ≡ flat_map (flow_row rows.now) nodes.now) }
 {
     let mut numbers = Vec::new(alloc);
     for node in nodes {

@@ -18,7 +18,7 @@ use Rattle.cfi_graph.specs.declared.fact.TheConstants.{CHECK_WORDS}
 use Rattle.cfi_graph.specs.Code.{Stands}
 use Rattle.cfi_unit.specs.Spots.{place_of}
 use Rattle.cfi_graph.specs.Calls.{HasKind}
-use Rattle.cfi_graph.specs.Shaped.{slot_of, IsPart, IsPlace, IsNamed, IsShaped}
+use Rattle.cfi_graph.specs.Shaped.{slot_of, IsPart, IsUnitPlace, IsNamed, IsShaped}
 use Rattle.cfi_graph.specs.Reading.{NamesInside}
 
 -- ---- members by number
@@ -145,7 +145,7 @@ names_inside code base types (kinds.Call node) fits named = named
 names_inside code base types (kinds.Tail node) fits named = named
 names_inside code base types kinds.Return fits named = tt
 names_inside code base types (kinds.Switch entries) fits named = λ k d within.
-    let place : IsPlace code (get_or entries k d) = named k d within in
+    let place : IsUnitPlace code (get_or entries k d) = named k d within in
     let less = place_less code place.0 (length code) place.1 (omega arith) in
     let most = place_most code (length code) in
     let is = place.2 in

@@ -8,7 +8,7 @@ use Rattle.std.proofs.lemmas.Option.{same_Some, slice_get-map, slice_get-get_or}
 use Rattle.std.proofs.lemmas.List.Elements.{All-contains, Contains-get_or}
 use Rattle.cfi_flow.proofs.Members.{member_cases, no_member, member_flat}
 use Rattle.cfi_types.specs.Node.{Node}
-use Rattle.cfi_types.specs.Classes.{table_of, class_of, IsPlace, InOrder, AreClasses}
+use Rattle.cfi_types.specs.Classes.{table_of, class_of, IsNodePlace, InOrder, AreClasses}
 use Rattle.cfi_aux.specs.declared.placed.Placed.{Placed}
 use Rattle.cfi_graph.specs.Shaped.{IsShaped}
 use Rattle.cfi_graph.specs.Facts.{type_node}
@@ -60,7 +60,7 @@ module _ (tables : List (List Node)) (classes : List (List ℕ)) (are : AreClass
       same_Some (length (slice_index_or classes t [])) (length (table_of tables t))
       (sym row_is ∙ ap (λ ns. slice_get ns t) are.shape ∙ table_is)
 
-  pub class_low : (t a : ℕ) → IsPlace tables t a → class_of classes t a < length (flat_map (λ xs. xs) tables)
+  pub class_low : (t a : ℕ) → IsNodePlace tables t a → class_of classes t a < length (flat_map (λ xs. xs) tables)
   class_low t a place =
       let row = slice_index_or classes t [] in
       let within : t < length tables = place.0 in

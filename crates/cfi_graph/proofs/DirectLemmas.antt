@@ -14,7 +14,7 @@ use Rattle.cfi_aux.specs.declared.records.Kind.{Kind}
 use Rattle.cfi_aux.specs.declared.records.Kind.TheVariants as kinds
 use Rattle.cfi_graph.specs.declared.fact.Fact.{Fact}
 use Rattle.cfi_graph.specs.declared.fact.Fact.TheVariants as facts
-use Rattle.cfi_graph.specs.Code.{Stands, address_of, entry_of, Leads}
+use Rattle.cfi_graph.specs.Code.{Stands, code_address, entry_of, Leads}
 use Rattle.cfi_graph.specs.Shaped.{AreApart}
 use Rattle.cfi_graph.specs.Calls.{HasKind, IsFunction, MayPoint, IsCall, IsTailCall, LiesIn, IsReached}
 use Rattle.cfi_graph.specs.Direct.{IsPointee, IsReturnTarget, GoesTo, DirectEdge}
@@ -68,7 +68,7 @@ module _ (ms : List Placed) (classes : List (List ℕ)) (apart : AreApart ms)
       (same_types ms classes are i j m n is at.is node g.ty within typed).1 may.equal
 
   leads_word : (m : Placed) (at : ℕ) (off : ℤ) (number : ℕ) (n : Placed) (g : PlacedFunction) → StandsAt ms number n g
-      → Leads (address_of m at) off (entry_of n g) → LeadsToWord (m.base + at) off (function_node n g)
+      → Leads (code_address m at) off (entry_of n g) → LeadsToWord (m.base + at) off (function_node n g)
   leads_word m at off number n g stands leads =
       record { leads = leads; within = (node_low ms apart number n g stands).1 }
 
@@ -116,7 +116,7 @@ module _ (ms : List Placed) (classes : List (List ℕ)) (apart : AreApart ms)
 
   call_site : (i : ℕ) (m : Placed) → slice_get ms i ≡ Some m → (j : ℕ) (n : Placed) (g : PlacedFunction)
       → StandsAt ms j n g → (at : ℕ) (unit : CodeUnit) → Stands m at unit → IsCall m at unit n g → (address : ℕ)
-      → address ≡ address_of m (at + size_of unit) → (to : ℕ) → Reaches flow.arrows.items (function_node n g) to
+      → address ≡ code_address m (at + size_of unit) → (to : ℕ) → Reaches flow.arrows.items (function_node n g) to
       → (node : ℕ) × IsSiteOf node to address
   call_site i m is j n g n_at at (units.Jump true off) stands call address after to rest = (
     function_node n g,

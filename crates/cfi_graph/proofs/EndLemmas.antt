@@ -15,7 +15,7 @@ use Rattle.cfi_aux.specs.declared.records.Kind.TheVariants as kinds
 use Rattle.cfi_graph.specs.Code.{Stands}
 use Rattle.cfi_unit.specs.Spots.{place_of}
 use Rattle.cfi_graph.specs.Calls.{HasKind}
-use Rattle.cfi_graph.specs.Shaped.{IsPlace, IsNamed, IsShaped, AreApart}
+use Rattle.cfi_graph.specs.Shaped.{IsUnitPlace, IsNamed, IsShaped, AreApart}
 use Rattle.cfi_graph.specs.Direct.{IsPointee, IsReturnTarget, GoesTo, DirectEdge}
 use Rattle.cfi_graph.proofs.BoundLemmas.{contains_at, stands_within, inside, branch_names}
 
@@ -78,7 +78,7 @@ module _ (ms : List Placed) (apart : AreApart ms) where
       let named : IsNamed shape.0 (length m.types) (kinds.Switch entries) =
       All-contains (IsNamed shape.0 (length m.types)) m.branches (kinds.Switch entries) shape.1.named
       (contains_at m.branches has.0 (kinds.Switch entries) has.2) in
-      let place : IsPlace shape.0 entry = All-contains (IsPlace shape.0) entries entry named listed in
+      let place : IsUnitPlace shape.0 entry = All-contains (IsUnitPlace shape.0) entries entry named listed in
       let low : 4 * m.base + entry < 4 * MAX_CODE_WORDS =
       All-contains (λ e. 4 * m.base + e < 4 * MAX_CODE_WORDS) entries entry
       (branch_names m shape slot (kinds.Switch entries) has) listed in

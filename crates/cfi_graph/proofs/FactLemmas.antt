@@ -6,7 +6,7 @@ use Rattle.cfi_aux.specs.declared.placed.Placed.{Placed}
 use Rattle.cfi_aux.specs.declared.records.Kind.TheVariants as kinds
 use Rattle.cfi_graph.specs.declared.fact.Fact.{Fact}
 use Rattle.cfi_graph.specs.declared.fact.Fact.TheVariants as facts
-use Rattle.cfi_graph.specs.Shaped.{Precedes}
+use Rattle.cfi_graph.specs.Shaped.{FunctionPrecedes}
 use Rattle.cfi_graph.specs.Facts.{type_node, LeadsToWord, IsFirst, LiesInNode, IsJumpFact, IsBranchFact, Adds}
 use Rattle.cfi_graph.proofs.AddsLemmas.{adds_one, adds_two}
 use Rattle.cfi_graph.proofs.PlaceLemmas.{word_one, first_one}
@@ -66,7 +66,7 @@ module _ (m : Placed) (at : ℕ) (no_first : (first : ℕ) → IsFirst m.functio
       (nowhere_tail classes number slot node))
 
 -- the facts of a word that lies in a function
-module _ (m : Placed) (order : AllPairs Precedes m.functions) (at first : ℕ)
+module _ (m : Placed) (order : AllPairs FunctionPrecedes m.functions) (at first : ℕ)
     (is_first : IsFirst m.functions at first) where
   lies : LiesInNode m at (m.base + first)
   lies = (first, is_first, refl)

@@ -11,7 +11,7 @@ use Rattle.cfi_aux.specs.declared.placed.PlacedFunction.{PlacedFunction}
 use Rattle.cfi_aux.specs.declared.records.Kind.{Kind}
 use Rattle.cfi_aux.specs.declared.records.Kind.TheVariants as kinds
 use Rattle.cfi_graph.specs.declared.fact.Fact.TheVariants as facts
-use Rattle.cfi_graph.specs.Code.{Stands, address_of, entry_of, Leads}
+use Rattle.cfi_graph.specs.Code.{Stands, code_address, entry_of, Leads}
 use Rattle.cfi_graph.specs.Shaped.{AreApart}
 use Rattle.cfi_graph.specs.Calls.{HasKind, IsFunction, MayPoint, LiesIn, TailCalls, IsReached}
 use Rattle.cfi_graph.specs.Facts.{type_node, function_node, LeadsToWord, LiesInNode, IsJumpFact, IsBranchFact, IsTold}
@@ -111,7 +111,7 @@ module _ (ms : List Placed) (classes : List (List ℕ)) (apart : AreApart ms)
                 lies = in_h;
                 unit = units.Jump false off;
                 stands = stands;
-                call = leads_entry (address_of o at) off next e.owner e.entered leads.leads same;
+                call = leads_entry (code_address o at) off next e.owner e.entered leads.leads same;
               })
           | inr taken ↦
               let low = leads.within in

@@ -8,7 +8,7 @@ use Rattle.std.proofs.lemmas.Option.{same_Some, slice_get-map, slice_get_within,
 use Rattle.std.proofs.lemmas.List.Elements.{All-contains}
 use Rattle.cfi_word.specs.declared.limits.TheConstants.{MAX_CODE_WORDS}
 use Rattle.cfi_types.specs.Same.{Equal}
-use Rattle.cfi_types.specs.Classes.{table_of, class_of, IsPlace, AreClasses}
+use Rattle.cfi_types.specs.Classes.{table_of, class_of, IsNodePlace, AreClasses}
 use Rattle.cfi_aux.specs.declared.placed.Placed.{Placed}
 use Rattle.cfi_aux.specs.declared.placed.PlacedFunction.{PlacedFunction}
 use Rattle.cfi_graph.specs.Shaped.{IsShaped, IsBefore, AreApart}
@@ -39,7 +39,7 @@ pub table_within : (ms : List Placed) (number : ℕ) (m : Placed) → slice_get 
 table_within ms number m is = slice_get_within (tables_of ms) number m.types (table_at ms number m is)
 
 pub place_is : (ms : List Placed) (number : ℕ) (m : Placed) → slice_get ms number ≡ Some m → (node : ℕ)
-    → node < length m.types → IsPlace (tables_of ms) number node
+    → node < length m.types → IsNodePlace (tables_of ms) number node
 place_is ms number m is node within = (
   table_within ms number m is,
   subst (λ types. node < length types) (sym (table_is ms number m is)) within,

@@ -7,7 +7,7 @@ use Rattle.std.proofs.lemmas.List.{get_or_default}
 use Rattle.cfi_aux.specs.declared.placed.PlacedFunction.{PlacedFunction}
 use Rattle.cfi_graph.specs.Code.{Leads}
 use Rattle.cfi_graph.specs.Calls.{LiesIn}
-use Rattle.cfi_graph.specs.Shaped.{Precedes}
+use Rattle.cfi_graph.specs.Shaped.{FunctionPrecedes}
 use Rattle.cfi_graph.specs.Facts.{LeadsToWord, IsFirst}
 
 leads_one : (from : ℕ) (off : ℤ) (one other : ℕ) → Leads from off (4 * one) → Leads from off (4 * other) → one ≡ other
@@ -19,24 +19,24 @@ pub word_one : (at : ℕ) (off : ℤ) (one other : ℕ) → LeadsToWord at off o
 word_one at off one other a b = leads_one (4 * at) off one other a.leads b.leads
 
 -- functions in order in which one word lies have one number
-same_number : (functions : List PlacedFunction) → AllPairs Precedes functions → (i j at : ℕ) (d : PlacedFunction)
+same_number : (functions : List PlacedFunction) → AllPairs FunctionPrecedes functions → (i j at : ℕ) (d : PlacedFunction)
     → i < length functions → j < length functions → LiesIn (get_or functions i d) at → LiesIn (get_or functions j d) at
     → i ≡ j
 same_number functions order i j at d i_in j_in a b =
     elim (cases_lt i j) [
       | inl less ↦
-          let before : Precedes (get_or functions i d) (get_or functions j d) = order i j d less j_in in
+          let before : FunctionPrecedes (get_or functions i d) (get_or functions j d) = order i j d less j_in in
           absurd (omega (arith, before, a.1, b.0))
       | inr more ↦ elim (cases_lt j i) [
         | inl less ↦
-            let before : Precedes (get_or functions j d) (get_or functions i d) = order j i d less i_in in
+            let before : FunctionPrecedes (get_or functions j d) (get_or functions i d) = order j i d less i_in in
             absurd (omega (arith, before, b.1, a.0))
         | inr least ↦ omega (arith, more, least)
       ]
     ]
 
 -- a word lies in one of them
-pub function_one : (functions : List PlacedFunction) → AllPairs Precedes functions → (at : ℕ) (f g : PlacedFunction)
+pub function_one : (functions : List PlacedFunction) → AllPairs FunctionPrecedes functions → (at : ℕ) (f g : PlacedFunction)
     → Contains functions f → Contains functions g → LiesIn f at → LiesIn g at → f ≡ g
 function_one functions order at f g f_in g_in a b =
     let g_is : get_or functions g_in.0 f ≡ g = get_or_default functions g_in.0 f g g_in.1 ∙ g_in.2 in
@@ -45,7 +45,7 @@ function_one functions order at f g f_in g_in a b =
     (subst (λ h. LiesIn h at) (sym g_is) b) in
     sym f_in.2 ∙ ap (λ k. get_or functions k f) same ∙ g_is
 
-pub first_one : (functions : List PlacedFunction) → AllPairs Precedes functions → (at one other : ℕ)
+pub first_one : (functions : List PlacedFunction) → AllPairs FunctionPrecedes functions → (at one other : ℕ)
     → IsFirst functions at one → IsFirst functions at other → one ≡ other
 first_one functions order at one other a b =
     a.is ∙ ap (λ f. f.first) (function_one functions order at a.function b.function a.has b.has a.lies b.lies) ∙ sym b.is
@@ -60,12 +60,12 @@ pub record IsCut (functions : List PlacedFunction) (number at : ℕ) : Type 0 wh
   pub before : (k : ℕ) (d : PlacedFunction) → k < number → end_of (get_or functions k d) ≤ at
   pub after : (k : ℕ) (d : PlacedFunction) → number ≤ k → k < length functions → at < end_of (get_or functions k d)
 
-pub ends_rise : (functions : List PlacedFunction) → AllPairs Precedes functions → (i j : ℕ) (d : PlacedFunction) → i ≤ j
+pub ends_rise : (functions : List PlacedFunction) → AllPairs FunctionPrecedes functions → (i j : ℕ) (d : PlacedFunction) → i ≤ j
     → j < length functions → end_of (get_or functions i d) ≤ end_of (get_or functions j d)
 ends_rise functions order i j d least within =
     elim (cases_lt i j) [
       | inl less ↦
-          let before : Precedes (get_or functions i d) (get_or functions j d) = order i j d less within in
+          let before : FunctionPrecedes (get_or functions i d) (get_or functions j d) = order i j d less within in
           omega (arith, before)
       | inr more ↦
           let same : i ≡ j = omega (arith, least, more) in
@@ -93,7 +93,7 @@ module _ (functions : List PlacedFunction) (number at : ℕ) (cut : IsCut functi
       omega (arith, all, more, within)
 
   -- the function of the number is the one in which the word lies
-  pub lies_here : AllPairs Precedes functions → (f : PlacedFunction) → f ≡ get_or functions number f
+  pub lies_here : AllPairs FunctionPrecedes functions → (f : PlacedFunction) → f ≡ get_or functions number f
       → number < length functions → (first : ℕ) → IsFirst functions at first → first ≡ f.first
   lies_here order f f_is there first is =
       let k = is.has.0 in
@@ -101,7 +101,7 @@ module _ (functions : List PlacedFunction) (number at : ℕ) (cut : IsCut functi
       let within : k < length functions = is.has.1 in
       elim (cases_lt number k) [
         | inl less ↦
-            let before : Precedes (get_or functions number f) (get_or functions k f) = order number k f less within in
+            let before : FunctionPrecedes (get_or functions number f) (get_or functions k f) = order number k f less within in
             let ends : at < end_of (get_or functions number f) = cut.after number f (omega arith) there in
             let same : get_or functions k f ≡ is.function =
             get_or_default functions k f is.function within ∙ is.has.2 in
@@ -123,7 +123,7 @@ module _ (functions : List PlacedFunction) (number at : ℕ) (cut : IsCut functi
       let last : at < end_of f = subst (λ g. at < end_of g) (sym f_is) ends in
       record { function = f; has = (number, there, sym f_is); lies = (begins, last); is = refl }
 
-  pub begins_later : AllPairs Precedes functions → (f : PlacedFunction) → f ≡ get_or functions number f
+  pub begins_later : AllPairs FunctionPrecedes functions → (f : PlacedFunction) → f ≡ get_or functions number f
       → number < length functions → at < f.first → (first : ℕ) → IsFirst functions at first → ⊥
   begins_later order f f_is there later first is =
       let same = lies_here order f f_is there first is in

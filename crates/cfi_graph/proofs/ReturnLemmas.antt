@@ -11,7 +11,7 @@ use Rattle.cfi_aux.specs.declared.placed.PlacedFunction.{PlacedFunction}
 use Rattle.cfi_aux.specs.declared.records.Kind.{Kind}
 use Rattle.cfi_aux.specs.declared.records.Kind.TheVariants as kinds
 use Rattle.cfi_graph.specs.declared.fact.Fact.TheVariants as facts
-use Rattle.cfi_graph.specs.Code.{Stands, address_of}
+use Rattle.cfi_graph.specs.Code.{Stands, code_address}
 use Rattle.cfi_graph.specs.Shaped.{AreApart}
 use Rattle.cfi_graph.specs.Calls.{HasKind, ReturnsTo}
 use Rattle.cfi_graph.specs.Direct.{DirectEdge}
@@ -40,7 +40,7 @@ module _ (ms : List Placed) (classes : List (List ℕ)) (apart : AreApart ms)
             at = at;
             unit = units.Jump true off;
             stands = stands;
-            call = leads_entry (address_of caller at) off node e.owner e.entered leads.leads same;
+            call = leads_entry (code_address caller at) off node e.owner e.entered leads.leads same;
             after = told.1;
           }
           | inr taken ↦

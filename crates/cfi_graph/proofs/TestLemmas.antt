@@ -10,7 +10,7 @@ use Rattle.cfi_types.specs.Node.{Node}
 use Rattle.cfi_types.specs.Spelling.{AreTypes}
 use Rattle.cfi_aux.specs.declared.placed.Placed.{Placed}
 use Rattle.cfi_aux.specs.declared.records.Kind.{Kind}
-use Rattle.cfi_graph.specs.Shaped.{slots_of, IsPart, Precedes, IsNamed, IsShaped, IsBefore}
+use Rattle.cfi_graph.specs.Shaped.{slots_of, IsPart, FunctionPrecedes, IsNamed, IsShaped, IsBefore}
 use Rattle.cfi_graph.specs.Reading.{HaveGraph, node_count}
 use Rattle.cfi_graph.specs.HandMade.{function_of, placed_of, void_and_function, function_and_void}
 
@@ -62,7 +62,7 @@ pub record IsHandMade (base slot_base : ℕ) (code : List CodeUnit) (rows : List
     (branches : List Kind) (types : List Node) : Type 0 where
   pub fit : AllByRecursion IsUnit code
   pub parts : All (IsPart code) (map function_of rows)
-  pub order : AllPairs Precedes (map function_of rows)
+  pub order : AllPairs FunctionPrecedes (map function_of rows)
   pub checks : length (slots_of code) ≡ length branches
   pub slots : CountUp slot_base (slots_of code)
   pub named : All (IsNamed code (length types)) branches

@@ -5,7 +5,7 @@ use Rattle.cfi_unit.specs.declared.unit.Unit.TheVariants as units
 use Rattle.cfi_aux.specs.declared.placed.Placed.{Placed}
 use Rattle.cfi_aux.specs.declared.records.Kind.{Kind}
 use Rattle.cfi_aux.specs.declared.records.Kind.TheVariants as kinds
-use Rattle.cfi_graph.specs.Shaped.{IsPart, IsPlace, IsNamed, Precedes}
+use Rattle.cfi_graph.specs.Shaped.{IsPart, IsUnitPlace, IsNamed, FunctionPrecedes}
 use Rattle.cfi_graph.specs.Reading.{HaveGraph}
 use Rattle.cfi_graph.specs.HandMade.{function_of, placed_of, void_and_function, function_and_void}
 use Rattle.cfi_graph.proofs.TestLemmas.{all_by_recursion, pairs_by_recursion, IsHandMade, hand_made_is_shaped, one_has_graph, two_have_graph, void_first, void_last}
@@ -40,7 +40,7 @@ call_made node below = record {
       ),
     ),
   );
-  order = pairs_by_recursion Precedes (map function_of call_rows) ((omega arith, (omega arith, tt)), ((omega arith, tt), (tt, tt)));
+  order = pairs_by_recursion FunctionPrecedes (map function_of call_rows) ((omega arith, (omega arith, tt)), ((omega arith, tt), (tt, tt)));
   checks = refl;
   slots = (refl, (refl, (refl, tt)));
   named = all_by_recursion (IsNamed call_code 2) (call_kinds node) (below, (tt, (tt, tt)));
@@ -77,7 +77,7 @@ tail_made = record {
       ),
     ),
   );
-  order = pairs_by_recursion Precedes (map function_of tail_rows) ((omega arith, (omega arith, tt)), ((omega arith, tt), (tt, tt)));
+  order = pairs_by_recursion FunctionPrecedes (map function_of tail_rows) ((omega arith, (omega arith, tt)), ((omega arith, tt), (tt, tt)));
   checks = refl;
   slots = (refl, tt);
   named = all_by_recursion (IsNamed tail_code 2) tail_kinds (tt, tt);
@@ -116,7 +116,7 @@ loop_made = record {
       ),
     ),
   );
-  order = pairs_by_recursion Precedes (map function_of loop_rows) ((omega arith, (omega arith, tt)), ((omega arith, tt), (tt, tt)));
+  order = pairs_by_recursion FunctionPrecedes (map function_of loop_rows) ((omega arith, (omega arith, tt)), ((omega arith, tt), (tt, tt)));
   checks = refl;
   slots = (refl, (refl, tt));
   named = all_by_recursion (IsNamed loop_code 2) loop_kinds (tt, (tt, tt));
@@ -145,7 +145,7 @@ pointer_made = record {
     record { from = 0; to = 2; some = omega arith; within = omega arith; begins = refl; ends = refl },
     tt,
   );
-  order = pairs_by_recursion Precedes (map function_of pointer_rows) (tt, tt);
+  order = pairs_by_recursion FunctionPrecedes (map function_of pointer_rows) (tt, tt);
   checks = refl;
   slots = (refl, tt);
   named = all_by_recursion (IsNamed pointer_code 2) pointer_kinds (omega arith, tt);
@@ -174,10 +174,10 @@ switch_made = record {
     record { from = 0; to = 2; some = omega arith; within = omega arith; begins = refl; ends = refl },
     tt,
   );
-  order = pairs_by_recursion Precedes (map function_of switch_rows) (tt, tt);
+  order = pairs_by_recursion FunctionPrecedes (map function_of switch_rows) (tt, tt);
   checks = refl;
   slots = (refl, (refl, tt));
-  named = all_by_recursion (IsNamed switch_code 2) switch_kinds (all_by_recursion (IsPlace switch_code) (56 ∷ []) ((1, omega arith, refl), tt), (tt, tt));
+  named = all_by_recursion (IsNamed switch_code 2) switch_kinds (all_by_recursion (IsUnitPlace switch_code) (56 ∷ []) ((1, omega arith, refl), tt), (tt, tt));
   typed = all_by_recursion (λ f. f.ty < 2) (map function_of switch_rows) (omega arith, tt);
   begins = omega arith;
   ends = omega arith;

@@ -11,7 +11,7 @@ use Rattle.cfi_aux.specs.declared.placed.Placed.{Placed}
 use Rattle.cfi_aux.specs.declared.placed.PlacedFunction.{PlacedFunction}
 use Rattle.cfi_aux.specs.declared.records.Kind.{Kind}
 use Rattle.cfi_aux.specs.declared.records.Kind.TheVariants.{Call, Tail}
-use Rattle.cfi_graph.specs.Code.{Stands, address_of, entry_of, Leads}
+use Rattle.cfi_graph.specs.Code.{Stands, code_address, entry_of, Leads}
 
 -- the module's branch of the slot is of the kind
 abbrev pub HasKind : Placed → (slot : ℕ) → Kind → Type 0
@@ -29,13 +29,13 @@ pub record MayPoint (m : Placed) (node : ℕ) (n : Placed) (f : PlacedFunction) 
 
 -- the unit at a word of m is a call that may enter f of n: a jump that links, or a branch of kind Call
 abbrev pub IsCall : (m : Placed) (at : ℕ) → CodeUnit → (n : Placed) → PlacedFunction → Type 0
-IsCall m at (units.Jump true off) n f = Leads (address_of m at) off (entry_of n f)
+IsCall m at (units.Jump true off) n f = Leads (code_address m at) off (entry_of n f)
 IsCall m at (units.Check link rs1 imm slot) n f = (node : ℕ) × HasKind m slot (Call node) × MayPoint m node n f
 IsCall m at unit n f = ⊥
 
 -- the unit at a word of m is a tail call of f of n: a jump that does not link, or a branch of kind Tail
 abbrev pub IsTailCall : (m : Placed) (at : ℕ) → CodeUnit → (n : Placed) → PlacedFunction → Type 0
-IsTailCall m at (units.Jump false off) n f = Leads (address_of m at) off (entry_of n f)
+IsTailCall m at (units.Jump false off) n f = Leads (code_address m at) off (entry_of n f)
 IsTailCall m at (units.Check link rs1 imm slot) n f = (node : ℕ) × HasKind m slot (Tail node) × MayPoint m node n f
 IsTailCall m at unit n f = ⊥
 
@@ -51,7 +51,7 @@ pub record ReturnsTo (ms : List Placed) (n : Placed) (f : PlacedFunction) (addre
   pub unit : CodeUnit
   pub stands : Stands caller at unit
   pub call : IsCall caller at unit n f
-  pub after : address ≡ address_of caller (at + size_of unit)
+  pub after : address ≡ code_address caller (at + size_of unit)
 
 -- f of m tail calls g of n
 pub record TailCalls (m : Placed) (f : PlacedFunction) (n : Placed) (g : PlacedFunction) : Type 0 where

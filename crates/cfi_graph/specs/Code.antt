@@ -18,12 +18,12 @@ pub record Stands (m : Placed) (at : ℕ) (unit : CodeUnit) : Type 0 where
   pub place : at ≡ place_of code number
 
 -- the address of a word of the module
-abbrev pub address_of : Placed → (at : ℕ) → ℕ
-address_of m at = 4 * (m.base + at)
+abbrev pub code_address : Placed → (at : ℕ) → ℕ
+code_address m at = 4 * (m.base + at)
 
 -- the address at which a function of the module begins
 abbrev pub entry_of : Placed → PlacedFunction → ℕ
-entry_of m f = address_of m f.first
+entry_of m f = code_address m f.first
 
 -- an offset in bytes leads from one address to another
 abbrev pub Leads : (address : ℕ) → ℤ → (to : ℕ) → Type 0

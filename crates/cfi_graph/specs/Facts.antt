@@ -13,7 +13,7 @@ use Rattle.cfi_aux.specs.declared.records.Kind.TheVariants as kinds
 use Rattle.cfi_graph.specs.declared.fact.Fact.{Fact}
 use Rattle.cfi_graph.specs.declared.fact.Fact.TheVariants as facts
 use Rattle.cfi_graph.specs.declared.fact.TheConstants.{CHECK_WORDS}
-use Rattle.cfi_graph.specs.Code.{Stands, address_of, entry_of, Leads}
+use Rattle.cfi_graph.specs.Code.{Stands, code_address, entry_of, Leads}
 use Rattle.cfi_graph.specs.Calls.{HasKind, LiesIn}
 
 -- the node of a type: its class, where modules are told by their numbers, from 0
@@ -42,7 +42,7 @@ LiesInNode m at node = (first : ℕ) × IsFirst m.functions at first × (node �
 
 -- what a direct jump at a word of the module tells
 abbrev pub IsJumpFact : Placed → (at : ℕ) → (link : Bool) → ℤ → Fact → Type 0
-IsJumpFact m at true off (facts.Site l) = LeadsToWord (m.base + at) off l.from × (l.to ≡ address_of m (at + 1))
+IsJumpFact m at true off (facts.Site l) = LeadsToWord (m.base + at) off l.from × (l.to ≡ code_address m (at + 1))
 IsJumpFact m at false off (facts.Arrow l) = LiesInNode m at l.from × LeadsToWord (m.base + at) off l.to
 IsJumpFact m at link off fact = ⊥
 
@@ -55,7 +55,7 @@ abbrev pub IsBranchFact : (classes : List (List ℕ)) → (number : ℕ) → Pla
 IsBranchFact classes number m at slot (kinds.Call node) (facts.Pointer l) =
     (l.from ≡ type_node classes number node) × (l.to ≡ slot)
 IsBranchFact classes number m at slot (kinds.Call node) (facts.Site l) =
-    (l.from ≡ type_node classes number node) × (l.to ≡ address_of m (at + CHECK_WORDS))
+    (l.from ≡ type_node classes number node) × (l.to ≡ code_address m (at + CHECK_WORDS))
 IsBranchFact classes number m at slot (kinds.Tail node) (facts.Pointer l) =
     (l.from ≡ type_node classes number node) × (l.to ≡ slot)
 IsBranchFact classes number m at slot (kinds.Tail node) (facts.Arrow l) =

@@ -31,25 +31,25 @@ pub record IsPart (code : List CodeUnit) (f : PlacedFunction) : Type 0 where
   pub ends : f.first + f.count ≡ place_of code to
 
 -- a function ends before another begins
-abbrev pub Precedes : (f g : PlacedFunction) → Type 0
-Precedes f g = f.first + f.count ≤ g.first
+abbrev pub FunctionPrecedes : (f g : PlacedFunction) → Type 0
+FunctionPrecedes f g = f.first + f.count ≤ g.first
 
 -- the offset in bytes is that of a unit
-abbrev pub IsPlace : List CodeUnit → (offset : ℕ) → Type 0
-IsPlace code offset = (number : ℕ) × (number < length code) × (offset ≡ 4 * place_of code number)
+abbrev pub IsUnitPlace : List CodeUnit → (offset : ℕ) → Type 0
+IsUnitPlace code offset = (number : ℕ) × (number < length code) × (offset ≡ 4 * place_of code number)
 
 -- a branch names a node of the types, or units of the code
 abbrev pub IsNamed : (code : List CodeUnit) → (types : ℕ) → Kind → Type 0
 IsNamed code types (Call node) = node < types
 IsNamed code types (Tail node) = node < types
 IsNamed code types Return = ⊤
-IsNamed code types (Switch entries) = All (IsPlace code) entries
+IsNamed code types (Switch entries) = All (IsUnitPlace code) entries
 
 -- the module, whose words are the code of these units, is shaped
 pub record IsShapedAs (m : Placed) (code : List CodeUnit) : Type 0 where
   pub units : UnitCode m.words code
   pub parts : All (IsPart code) m.functions
-  pub order : AllPairs Precedes m.functions
+  pub order : AllPairs FunctionPrecedes m.functions
   pub checks : length (slots_of code) ≡ length m.branches
   pub slots : (k : ℕ) → k < length m.branches → slice_get (slots_of code) k ≡ Some (m.slot_base + k)
   pub named : All (IsNamed code (length m.types)) m.branches

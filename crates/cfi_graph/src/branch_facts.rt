@@ -5,7 +5,7 @@ ghost use Rattle.std.specs.List.{AllPairs};
 ghost use Rattle.cfi_word.specs.declared.limits.TheConstants.{MAX_CODE_WORDS};
 ghost use Rattle.cfi_aux.specs.declared.records.Kind.TheVariants.{Call, Tail, Return, Switch};
 ghost use Rattle.cfi_graph.specs.declared.fact.TheConstants.{CHECK_WORDS};
-ghost use Rattle.cfi_graph.specs.Shaped.{Precedes};
+ghost use Rattle.cfi_graph.specs.Shaped.{FunctionPrecedes};
 ghost use Rattle.cfi_graph.specs.Facts.{listed_fact, IsBranchFact, Adds};
 ghost use Rattle.cfi_graph.specs.Reading.{HasClasses, NamesInside};
 
@@ -51,7 +51,7 @@ fn add_tail(
 ) -> Result<(), AllocError>
     requires classes { HasClasses classes.now number placed.now }
     requires node { node < length placed.now.types }
-    requires order { AllPairs Precedes placed.now.functions }
+    requires order { AllPairs FunctionPrecedes placed.now.functions }
     requires within { placed.now.base + at < MAX_CODE_WORDS }
     ensures { OnOk result (Adds facts.old.items facts.new.items
         (IsBranchFact classes.now number placed.now at slot (Tail node))) }
@@ -68,7 +68,7 @@ fn add_tail(
 
 // Adds what a return tells.
 fn add_return(facts: &mut Vec<Fact>, placed: &Placed, at: u32, slot: u32) -> Result<(), AllocError>
-    requires order { AllPairs Precedes placed.now.functions }
+    requires order { AllPairs FunctionPrecedes placed.now.functions }
     requires within { placed.now.base + at < MAX_CODE_WORDS }
     ensures { OnOk result ((classes : List (List ℕ)) (number : ℕ) → Adds facts.old.items
         facts.new.items (IsBranchFact classes number placed.now at slot Return)) }
@@ -111,7 +111,7 @@ pub(crate) fn add_branch(
     kind: &Kind,
 ) -> Result<(), AllocError>
     requires classes { HasClasses classes.now number placed.now }
-    requires order { AllPairs Precedes placed.now.functions }
+    requires order { AllPairs FunctionPrecedes placed.now.functions }
     requires within { placed.now.base + at + CHECK_WORDS ≤ MAX_CODE_WORDS }
     requires named { NamesInside placed.now.base (length placed.now.types) kind.now }
     ensures { OnOk result (Adds facts.old.items facts.new.items

@@ -3,7 +3,7 @@
 ghost use Rattle.std.specs.Prelude.{◌≡◌, ◌+◌, ◌<◌, ◌^◌, length, Some, IfOk, OnOk};
 ghost use Rattle.std.specs.List.{AllPairs, Contains};
 ghost use Rattle.cfi_word.specs.declared.limits.TheConstants.{MAX_CODE_WORDS};
-ghost use Rattle.cfi_graph.specs.Shaped.{Precedes, slot_of};
+ghost use Rattle.cfi_graph.specs.Shaped.{FunctionPrecedes, slot_of};
 ghost use Rattle.cfi_graph.specs.Code.{Stands};
 ghost use Rattle.cfi_graph.specs.Facts.{IsJumpFact, IsUnitFact, IsFunctionFact, UnitTells, FunctionTells, ModuleTells, AreFacts, Adds};
 ghost use Rattle.cfi_graph.specs.Reading.{CanBeRead, CanAllBeRead};
@@ -26,7 +26,7 @@ fn add_jump(
     link: bool,
     off: i32,
 ) -> Result<(), AllocError>
-    requires order { AllPairs Precedes placed.now.functions }
+    requires order { AllPairs FunctionPrecedes placed.now.functions }
     requires within { placed.now.base + at < MAX_CODE_WORDS }
     ensures { OnOk result (Adds facts.old.items facts.new.items
         (IsJumpFact placed.now at link off)) }

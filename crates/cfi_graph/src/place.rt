@@ -4,7 +4,7 @@ ghost use Rattle.std.specs.Prelude.{◌≡◌, ℕ, ◌<◌, ◌≤◌, ◌^◌,
 ghost use Rattle.std.specs.List.{AllPairs};
 ghost use Rattle.cfi_word.specs.declared.limits.TheConstants.{MAX_CODE_WORDS};
 ghost use Rattle.cfi_aux.specs.declared.records.Kind.{Kind};
-ghost use Rattle.cfi_graph.specs.Shaped.{Precedes};
+ghost use Rattle.cfi_graph.specs.Shaped.{FunctionPrecedes};
 ghost use Rattle.cfi_graph.specs.Calls.{HasKind};
 ghost use Rattle.cfi_graph.specs.Facts.{LeadsToWord, IsFirst, type_node};
 
@@ -27,7 +27,7 @@ pub(crate) fn word_to(at: u32, off: i32) -> Option<u32>
 
 // The first word of the function in which a word lies.
 pub(crate) fn first_at(functions: &[PlacedFunction], at: u32) -> Option<u32>
-    requires { AllPairs Precedes functions.now }
+    requires { AllPairs FunctionPrecedes functions.now }
     ensures some { IfSome result (IsFirst functions.now at) }
     ensures within { IfSome result (λ first. first ≤ at) }
     ensures only { (first : ℕ) → IsFirst functions.now at first → result ≡ Some first }

@@ -19,11 +19,11 @@ use Rattle.cfi_aux.specs.Records as aux
 use Rattle.cfi_items.specs.Words.{Words, AreInRange, words_in, count_of}
 use Rattle.cfi_items.specs.Fault.{parts_of, AreLegal, AreSound}
 use Rattle.cfi_instr.specs.declared.sizes.TheConstants.{MAX_WORDS}
-use Rattle.cfi_instr.specs.Sizes.{moved, place_of, offsets_of, AreSmall}
+use Rattle.cfi_instr.specs.Sizes.{moved, words_before, offsets_of, AreSmall}
 use Rattle.cfi_instr.specs.Reach.{IsEnough, IsLeast}
 use Rattle.cfi_instr.specs.Units.{units_at, units_of, AllSpell}
 use Rattle.cfi_instr.specs.Moves.{moved_symbol, moved_reloc, moved_function, moved_kind}
-use Rattle.cfi_instr.specs.Output.{IsPlan, IsText, AreMoved}
+use Rattle.cfi_instr.specs.Output.{IsLayout, IsText, AreMoved}
 use Rattle.cfi_instr.proofs.SpellLemmas.{all-spelled}
 use Rattle.cfi_unit.proofs.CodeLemmas.{AllByRecursion-append}
 
@@ -72,7 +72,7 @@ relocs-are t source long offsets symbols symbols_is relocs slice found same symb
 -- ---- records
 
 words-moved : (t : Words) (offsets : List ℕ) (kind : Kind)
-    → length (aux.words_of (moved_kind t offsets kind)) ≡ length (aux.words_of kind)
+    → length (aux.kind_words (moved_kind t offsets kind)) ≡ length (aux.kind_words kind)
 words-moved t offsets (kinds.Call node) = refl
 words-moved t offsets (kinds.Tail node) = refl
 words-moved t offsets kinds.Return = refl
@@ -98,8 +98,8 @@ moved-written m offsets r moved_is can =
           subst (λ (xs : List Function). All (λ f. length f.name < 2 ^ 32) xs) (sym moved_is.functions)
           (All-map (λ (f : Function). length f.name < 2 ^ 32) (moved_function t offsets) functions can.names);
       words =
-          subst (λ (xs : List Kind). All (λ b. length (aux.words_of b) < 2 ^ 32) xs) (sym moved_is.branches)
-          (All-map (λ (b : Kind). length (aux.words_of b) < 2 ^ 32) (moved_kind t offsets) branches
+          subst (λ (xs : List Kind). All (λ b. length (aux.kind_words b) < 2 ^ 32) xs) (sym moved_is.branches)
+          (All-map (λ (b : Kind). length (aux.kind_words b) < 2 ^ 32) (moved_kind t offsets) branches
           (λ i d lt. subst (λ (n : ℕ). n < 2 ^ 32) (sym (words-moved t offsets (get_or branches i d))) (can.words i d lt)));
     }
 
@@ -107,7 +107,7 @@ moved-written m offsets r moved_is can =
 
 pub spells-all : (m : Module) (t : Words) (symbols : List Symbol) (long : List Bool) (long_is : List Bool)
     (offsets : List ℕ) → t ≡ words_in m.object → symbols ≡ m.object.symbols → AreInRange t.insns
-    → AreSound (parts_of m) → IsLeast t symbols long → place_of t long (count_of t) ≤ MAX_WORDS
+    → AreSound (parts_of m) → IsLeast t symbols long → words_before t long (count_of t) ≤ MAX_WORDS
     → AreSmall offsets → offsets ≡ offsets_of t long → long_is ≡ long
     → AllSpell t m.object.symbols long_is offsets
 spells-all m t symbols long long_is offsets same names range sound least fits small placed is =
@@ -128,7 +128,7 @@ spells-all m t symbols long long_is offsets same names range sound least fits sm
 -- the plan of the module itself
 pub plan-is : (m : Module) (t : Words) (symbols : List Symbol) (long : List Bool) (offsets : List ℕ)
     → t ≡ words_in m.object → symbols ≡ m.object.symbols → IsLeast t symbols long → offsets ≡ offsets_of t long
-    → IsPlan m long offsets
+    → IsLayout m long offsets
 plan-is m t symbols long offsets same names least placed = record {
   least =
       subst (λ (x : Words). IsLeast x m.object.symbols long) same

@@ -8,7 +8,7 @@ use Rattle.cfi_items.specs.declared.target.Aim.{Aim}
 use Rattle.cfi_items.specs.declared.target.Aim.TheVariants as aims
 use Rattle.cfi_items.specs.Words.{Words, insn_at, count_of}
 use Rattle.cfi_items.specs.Target.{aim_of_jump}
-use Rattle.cfi_instr.specs.Sizes.{size_at, place_of, offsets_of}
+use Rattle.cfi_instr.specs.Sizes.{size_at, words_before, offsets_of}
 use Rattle.cfi_instr.specs.Reach.{is_near, reaches, insn_reaches, word_reaches, IsWithin}
 use Rattle.cfi_instr.proofs.SizeLemmas.{total-grows, place-grows, place-part, offset-read, offset-past}
 
@@ -23,32 +23,32 @@ near-from from to on back = and_from _ _ (le-leb to (from + 4092) on) (le-leb fr
 
 -- from one word to another
 between : (t : Words) (long other : List Bool) → IsWithin long other → (u v : ℕ)
-    → is_near (4 * place_of t other u) (4 * place_of t other v) ≡ true
-    → is_near (4 * place_of t long u) (4 * place_of t long v) ≡ true
+    → is_near (4 * words_before t other u) (4 * words_before t other v) ≡ true
+    → is_near (4 * words_before t long u) (4 * words_before t long v) ≡ true
 between t long other within u v h =
-    let far = near-is (4 * place_of t other u) (4 * place_of t other v) h in
+    let far = near-is (4 * words_before t other u) (4 * words_before t other v) h in
     let us = place-grows t long other within u in
     let vs = place-grows t long other within v in
     ⊎_elim
     (λ (after : u < v).
     let part = place-part t long other within u v (omega arith) in
-    let order : place_of t long u ≤ place_of t long v = total-grows (size_at t long) u v (omega arith) in
-    near-from (4 * place_of t long u) (4 * place_of t long v) (omega (arith, far.0, part, us, vs))
+    let order : words_before t long u ≤ words_before t long v = total-grows (size_at t long) u v (omega arith) in
+    near-from (4 * words_before t long u) (4 * words_before t long v) (omega (arith, far.0, part, us, vs))
     (omega (arith, order)))
     (λ (before : v ≤ u).
     let part = place-part t long other within v u before in
-    let order : place_of t long v ≤ place_of t long u = total-grows (size_at t long) v u before in
-    near-from (4 * place_of t long u) (4 * place_of t long v) (omega (arith, order))
+    let order : words_before t long v ≤ words_before t long u = total-grows (size_at t long) v u before in
+    near-from (4 * words_before t long u) (4 * words_before t long v) (omega (arith, order))
     (omega (arith, far.1, part, us, vs)))
     (cases_lt u v)
 
 -- to the start of the output
 to_start : (t : Words) (long other : List Bool) → IsWithin long other → (u : ℕ)
-    → is_near (4 * place_of t other u) 0 ≡ true → is_near (4 * place_of t long u) 0 ≡ true
+    → is_near (4 * words_before t other u) 0 ≡ true → is_near (4 * words_before t long u) 0 ≡ true
 to_start t long other within u h =
-    let far = near-is (4 * place_of t other u) 0 h in
+    let far = near-is (4 * words_before t other u) 0 h in
     let us = place-grows t long other within u in
-    near-from (4 * place_of t long u) 0 (omega arith) (omega (arith, far.1, us))
+    near-from (4 * words_before t long u) 0 (omega arith) (omega (arith, far.1, us))
 
 reaches-shrinks : (t : Words) (long other : List Bool) → IsWithin long other → (w : ℕ) (aim : Aim) → w < count_of t
     → reaches (offsets_of t other) w aim ≡ true → reaches (offsets_of t long) w aim ≡ true

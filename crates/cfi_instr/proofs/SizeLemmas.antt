@@ -9,7 +9,7 @@ use Rattle.rv_insn.specs.declared.insn.Insn.TheVariants as insns
 use Rattle.cfi_items.specs.Words.{Words, insn_at, count_of}
 use Rattle.cfi_items.specs.Items.{is_inner}
 use Rattle.cfi_instr.specs.declared.sizes.TheConstants.{MAX_WORDS}
-use Rattle.cfi_instr.specs.Sizes.{is_long, size_of, size_by, size_at, place_of, offset_of, offsets_of, AreSmall}
+use Rattle.cfi_instr.specs.Sizes.{is_long, item_size, size_by, size_at, words_before, offset_of, offsets_of, AreSmall}
 use Rattle.cfi_instr.specs.Reach.{IsWithin}
 
 -- ---- sums
@@ -62,13 +62,13 @@ branch-grows false true h = omega arith
 branch-grows true true h = omega arith
 branch-grows true false h = absurd (false≢true (h refl))
 
-size_of-grows : (a b : Bool) → (a ≡ true → b ≡ true) → (insn : Insn) → size_of a insn ≤ size_of b insn
-size_of-grows a b h (insns.Branch cond rs1 rs2 off) = branch-grows a b h
-size_of-grows a b h insn = omega arith
+item_size-grows : (a b : Bool) → (a ≡ true → b ≡ true) → (insn : Insn) → item_size a insn ≤ item_size b insn
+item_size-grows a b h (insns.Branch cond rs1 rs2 off) = branch-grows a b h
+item_size-grows a b h insn = omega arith
 
 size_by-grows : (a b : Bool) → (a ≡ true → b ≡ true) → (insn : Option Insn) → size_by a insn ≤ size_by b insn
 size_by-grows a b h None = omega arith
-size_by-grows a b h (Some insn) = size_of-grows a b h insn
+size_by-grows a b h (Some insn) = item_size-grows a b h insn
 
 pub size_at-grows : (t : Words) (long other : List Bool) → IsWithin long other → (w : ℕ)
     → size_at t long w ≤ size_at t other w
@@ -81,20 +81,20 @@ size_at-grows t long other within w = elim (cases_Bool (is_inner t w)) [
 -- ---- places and offsets
 
 pub place-grows : (t : Words) (long other : List Bool) → IsWithin long other → (w : ℕ)
-    → place_of t long w ≤ place_of t other w
+    → words_before t long w ≤ words_before t other w
 place-grows t long other within w =
     total-below (size_at t long) (size_at t other) (size_at-grows t long other within) w
 
 pub place-part : (t : Words) (long other : List Bool) → IsWithin long other → (u v : ℕ) → u ≤ v
-    → place_of t long v + place_of t other u ≤ place_of t other v + place_of t long u
+    → words_before t long v + words_before t other u ≤ words_before t other v + words_before t long u
 place-part t long other within u v le =
     total-part (size_at t long) (size_at t other) (size_at-grows t long other within) u v le
 
-pub place-more : (t : Words) (long : List Bool) (w : ℕ) → place_of t long (w + 1) ≡ place_of t long w + size_at t long w
-place-more t long w = ap (place_of t long) (add-one w)
+pub place-more : (t : Words) (long : List Bool) (w : ℕ) → words_before t long (w + 1) ≡ words_before t long w + size_at t long w
+place-more t long w = ap (words_before t long) (add-one w)
 
 pub offset-read : (t : Words) (long : List Bool) (w : ℕ) → w < count_of t + 1
-    → get_or (offsets_of t long) w 0 ≡ 4 * place_of t long w
+    → get_or (offsets_of t long) w 0 ≡ 4 * words_before t long w
 offset-read t long w lt = get_or-map-range_with_len (offset_of t long) 0 (count_of t + 1) w w 0 lt (omega arith)
 
 pub offset-past : (t : Words) (long : List Bool) (w : ℕ) → count_of t + 1 ≤ w → get_or (offsets_of t long) w 0 ≡ 0
@@ -104,12 +104,12 @@ offset-past t long w le =
     get_or_past (offsets_of t long) w 0 (omega arith)
 
 -- where the whole output fits, no offset is above the limit
-pub offsets-small : (t : Words) (long : List Bool) → place_of t long (count_of t) ≤ MAX_WORDS
+pub offsets-small : (t : Words) (long : List Bool) → words_before t long (count_of t) ≤ MAX_WORDS
     → AreSmall (offsets_of t long)
 offsets-small t long fits = λ w. ⊎_elim
     (λ (below : w < count_of t + 1).
     let read = offset-read t long w below in
-    let part : place_of t long w ≤ place_of t long (count_of t) =
+    let part : words_before t long w ≤ words_before t long (count_of t) =
     total-grows (size_at t long) w (count_of t) (omega arith) in
     omega arith)
     (λ (above : count_of t + 1 ≤ w). let read = offset-past t long w above in omega arith)

@@ -19,7 +19,7 @@ use Rattle.cfi_items.specs.Target.{aim_of_jump}
 use Rattle.cfi_items.specs.Jumps.{ordinal_of}
 use Rattle.cfi_items.specs.Fault.{AreLegal}
 use Rattle.cfi_instr.specs.declared.sizes.TheConstants.{MAX_WORDS}
-use Rattle.cfi_instr.specs.Sizes.{is_long, size_by, size_at, place_of, offsets_of, AreSmall}
+use Rattle.cfi_instr.specs.Sizes.{is_long, size_by, size_at, words_before, offsets_of, AreSmall}
 use Rattle.cfi_instr.specs.Reach.{target_of, is_near, insn_reaches, IsEnough}
 use Rattle.cfi_instr.specs.Units.{distance, displacement_from, off_of, long_jump, is_wide, insn_units, units_at, AreUnits, AllSpell}
 use Rattle.cfi_instr.proofs.SizeLemmas.{total-grows, offset-read, offset-past}
@@ -44,7 +44,7 @@ indirect-size t long w h =
     let outer = not-false (is_inner t w) (and_parts _ (not (is_inner t w)) parts.0).1 in
     rw outer (jalr-size (is_long long w) (insn_at t w) parts.1)
 
-pub ordinal-place : (t : Words) (long : List Bool) (w : ℕ) → 14 * ordinal_of t w ≤ place_of t long w
+pub ordinal-place : (t : Words) (long : List Bool) (w : ℕ) → 14 * ordinal_of t w ≤ words_before t long w
 ordinal-place t long zero = omega arith
 ordinal-place t long (suc w) =
     let before = ordinal-place t long w in
@@ -57,7 +57,7 @@ ordinal-place t long (suc w) =
 
 quarter : (t : Words) (long : List Bool) (w : ℕ) → (k : ℕ) × (get_or (offsets_of t long) w 0 ≡ 4 * k)
 quarter t long w = ⊎_elim
-    (λ (below : w < count_of t + 1). (place_of t long w, offset-read t long w below))
+    (λ (below : w < count_of t + 1). (words_before t long w, offset-read t long w below))
     (λ (above : count_of t + 1 ≤ w). (0, offset-past t long w above))
     (cases_lt w (count_of t + 1))
 
@@ -85,14 +85,14 @@ pub record IsSpelled (t : Words) (symbols : List Symbol) (long : List Bool) : Ty
   pub range : AreInRange t.insns
   pub legal : AreLegal t
   pub enough : IsEnough t symbols long
-  pub fits : place_of t long (count_of t) ≤ MAX_WORDS
+  pub fits : words_before t long (count_of t) ≤ MAX_WORDS
   pub small : AreSmall (offsets_of t long)
 
 few-jumps : (t : Words) (symbols : List Symbol) (long : List Bool) (w : ℕ) → IsSpelled t symbols long
     → w < count_of t → ordinal_of t w < SLOTS
 few-jumps t symbols long w is lt =
     let before = ordinal-place t long w in
-    let part : place_of t long w ≤ place_of t long (count_of t) =
+    let part : words_before t long w ≤ words_before t long (count_of t) =
     total-grows (size_at t long) w (count_of t) (omega arith) in
     omega (arith, is.fits)
 

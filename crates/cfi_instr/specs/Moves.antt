@@ -20,14 +20,14 @@ use Rattle.cfi_instr.specs.Units.{distance}
 
 -- ---- symbols
 
-abbrev pub value_in : Words → (offsets : List ℕ) → Place → (value : ℕ) → ℕ
-value_in t offsets places.Text value = moved t offsets value
-value_in t offsets places.Undefined value = value
-value_in t offsets places.Absolute value = value
-value_in t offsets places.Data value = value
+abbrev pub moved_value : Words → (offsets : List ℕ) → Place → (value : ℕ) → ℕ
+moved_value t offsets places.Text value = moved t offsets value
+moved_value t offsets places.Undefined value = value
+moved_value t offsets places.Absolute value = value
+moved_value t offsets places.Data value = value
 
 abbrev pub moved_symbol : Words → (offsets : List ℕ) → Symbol → Symbol
-moved_symbol t offsets symbol = record symbol { value = value_in t offsets symbol.place symbol.value }
+moved_symbol t offsets symbol = record symbol { value = moved_value t offsets symbol.place symbol.value }
 
 -- ---- relocations
 

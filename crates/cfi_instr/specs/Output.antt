@@ -13,13 +13,13 @@ use Rattle.cfi_items.specs.declared.fault.InstrFault.TheVariants as faults
 use Rattle.cfi_items.specs.Words.{words_in, count_of}
 use Rattle.cfi_items.specs.Fault.{parts_of, AreSound, IsFirstFlaw}
 use Rattle.cfi_instr.specs.declared.sizes.TheConstants.{MAX_WORDS}
-use Rattle.cfi_instr.specs.Sizes.{place_of, offsets_of}
+use Rattle.cfi_instr.specs.Sizes.{words_before, offsets_of}
 use Rattle.cfi_instr.specs.Reach.{IsLeast, IsEnough}
 use Rattle.cfi_instr.specs.Units.{units_of}
 use Rattle.cfi_instr.specs.Moves.{moved_symbol, moved_reloc, moved_function, moved_kind}
 
 -- which branches are long, and where each word's unit goes
-pub record IsPlan (m : Module) (long : List Bool) (offsets : List ℕ) : Type 0 where
+pub record IsLayout (m : Module) (long : List Bool) (offsets : List ℕ) : Type 0 where
   pub least : IsLeast (words_in m.object) m.object.symbols long
   pub placed : offsets ≡ offsets_of (words_in m.object) long
 
@@ -50,8 +50,8 @@ pub record IsInstrumented (m out : Module) : Type 0 where
   pub sound : AreSound (parts_of m)
   pub long : List Bool
   pub offsets : List ℕ
-  pub plan : IsPlan m long offsets
-  pub fits : place_of (words_in m.object) long (count_of (words_in m.object)) ≤ MAX_WORDS
+  pub plan : IsLayout m long offsets
+  pub fits : words_before (words_in m.object) long (count_of (words_in m.object)) ≤ MAX_WORDS
   pub object : IsObject m long offsets out.records out.object
   pub types : out.types ≡ m.types
   pub records : AreMoved m offsets out.records
@@ -60,9 +60,9 @@ pub record IsInstrumented (m out : Module) : Type 0 where
 pub record IsTooLong (m : Module) : Type 0 where
   pub sound : AreSound (parts_of m)
   pub passed : (long : List Bool) → IsEnough (words_in m.object) m.object.symbols long
-      → MAX_WORDS < place_of (words_in m.object) long (count_of (words_in m.object))
+      → MAX_WORDS < words_before (words_in m.object) long (count_of (words_in m.object))
 
 -- the first fault of a module, unless memory ran out
-abbrev pub IsFirstFault : (m : Module) → InstrFault → Type 0
-IsFirstFault m faults.TooLong = IsTooLong m
-IsFirstFault m fault = IsFirstFlaw (parts_of m) fault
+abbrev pub IsFirstInstrFault : (m : Module) → InstrFault → Type 0
+IsFirstInstrFault m faults.TooLong = IsTooLong m
+IsFirstInstrFault m fault = IsFirstFlaw (parts_of m) fault

@@ -12,7 +12,7 @@ use Rattle.cfi_items.specs.declared.fault.InstrFault.TheVariants as faults
 use Rattle.cfi_items.specs.Words.{Words, insn_at, count_of}
 use Rattle.cfi_items.specs.Target.{aim_of_jump}
 use Rattle.cfi_instr.specs.declared.sizes.TheConstants.{REACH_BACK, REACH_ON, MAX_WORDS}
-use Rattle.cfi_instr.specs.Sizes.{is_long, place_of, offsets_of}
+use Rattle.cfi_instr.specs.Sizes.{is_long, words_before, offsets_of}
 
 -- the offset of the unit that a jump leads to
 abbrev pub target_of : (offsets : List ℕ) → Aim → ℕ
@@ -59,7 +59,7 @@ pub record IsLeast (t : Words) (symbols : List Symbol) (long : List Bool) : Type
 -- the output is too long even with the least set, and so with every set that is enough; unless memory ran out
 abbrev pub IsPassed : Words → List Symbol → InstrFault → Type 0
 IsPassed t symbols faults.TooLong =
-    (long : List Bool) → IsEnough t symbols long → MAX_WORDS < place_of t long (count_of t)
+    (long : List Bool) → IsEnough t symbols long → MAX_WORDS < words_before t long (count_of t)
 IsPassed t symbols faults.Memory = ⊤
 IsPassed t symbols fault = ⊥
 

@@ -16,28 +16,28 @@ abbrev pub is_long : (long : List Bool) → (w : ℕ) → Bool
 is_long long w = slice_index_or long w false
 
 -- the words of a unit: a masked access, a check, a branch over a jump, one instruction
-abbrev pub size_of : (long : Bool) → Insn → ℕ
-size_of long (insns.Load kind rd rs1 imm) = ACCESS_WORDS
-size_of long (insns.Store kind rs1 rs2 imm) = ACCESS_WORDS
-size_of long (insns.Jalr rd rs1 imm) = CHECK_WORDS
-size_of long (insns.Branch cond rs1 rs2 off) = if long then LONG_WORDS else 1
-size_of long insn = 1
+abbrev pub item_size : (long : Bool) → Insn → ℕ
+item_size long (insns.Load kind rd rs1 imm) = ACCESS_WORDS
+item_size long (insns.Store kind rs1 rs2 imm) = ACCESS_WORDS
+item_size long (insns.Jalr rd rs1 imm) = CHECK_WORDS
+item_size long (insns.Branch cond rs1 rs2 off) = if long then LONG_WORDS else 1
+item_size long insn = 1
 
 abbrev pub size_by : (long : Bool) → Option Insn → ℕ
 size_by long None = 0
-size_by long (Some insn) = size_of long insn
+size_by long (Some insn) = item_size long insn
 
 -- the words that a word of the input becomes; a pair becomes one, which its second word adds nothing to
 unfoldable pub size_at : Words → (long : List Bool) → (w : ℕ) → ℕ
 size_at t long w = if is_inner t w then 0 else size_by (is_long long w) (insn_at t w)
 
 -- how many words of the output come before the unit of a word
-abbrev pub place_of : Words → (long : List Bool) → (w : ℕ) → ℕ
-place_of t long w = total_of (size_at t long) w
+abbrev pub words_before : Words → (long : List Bool) → (w : ℕ) → ℕ
+words_before t long w = total_of (size_at t long) w
 
 -- the offset of each word's unit in the output, and of the output's end
 abbrev pub offset_of : Words → (long : List Bool) → (w : ℕ) → ℕ
-offset_of t long w = 4 * place_of t long w
+offset_of t long w = 4 * words_before t long w
 
 abbrev pub offsets_of : Words → (long : List Bool) → List ℕ
 offsets_of t long = map (offset_of t long) (range_with_len 0 (count_of t + 1))
@@ -52,6 +52,6 @@ AreSmall offsets = (w : ℕ) → slice_index offsets w ≤ MAX_BYTES
 
 -- the output is longer than it may be, unless memory ran out
 abbrev pub IsOver : Words → (long : List Bool) → InstrFault → Type 0
-IsOver t long faults.TooLong = MAX_WORDS < place_of t long (count_of t)
+IsOver t long faults.TooLong = MAX_WORDS < words_before t long (count_of t)
 IsOver t long faults.Memory = ⊤
 IsOver t long fault = ⊥

@@ -3,7 +3,7 @@
 ghost use Rattle.std.specs.Prelude.{◌≡◌, map, IfOk};
 ghost use Rattle.cfi_items.specs.Target.{symbol_of};
 ghost use Rattle.cfi_instr.specs.Sizes.{AreSmall};
-ghost use Rattle.cfi_instr.specs.Moves.{value_in, moved_symbol, addend_to, addend_in, addend_by, is_of_long, kind_in, offset_in, moved_reloc};
+ghost use Rattle.cfi_instr.specs.Moves.{moved_value, moved_symbol, addend_to, addend_in, addend_by, is_of_long, kind_in, offset_in, moved_reloc};
 
 use crate::sizes::{is_long, moved};
 use crate::units::distance;
@@ -12,8 +12,8 @@ use elf_read::relocation::{BRANCH, JAL, LO12_I, LO12_S, PCREL_LO12_I, PCREL_LO12
 use elf_read::{Name, Place, Reloc, Symbol};
 use std::alloc::{AllocError, Global};
 
-fn value_in(source: &Source, offsets: &[u32], place: Place, value: u32) -> u32
-    ensures { result ≡ value_in source.now offsets.now place value }
+fn moved_value(source: &Source, offsets: &[u32], place: Place, value: u32) -> u32
+    ensures { result ≡ moved_value source.now offsets.now place value }
 {
     match place {
         Place::Text => moved(source, offsets, value as usize),
@@ -34,7 +34,7 @@ fn moved_symbol(
         name: Name::from_string(name),
         binding: symbol.binding,
         place: symbol.place,
-        value: value_in(source, offsets, symbol.place, symbol.value),
+        value: moved_value(source, offsets, symbol.place, symbol.value),
     })
 }
 

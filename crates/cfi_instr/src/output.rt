@@ -8,7 +8,7 @@ ghost use Rattle.cfi_aux.specs.Records.{CanBeWritten};
 ghost use Rattle.cfi_items.specs.Words.{words_in, count_of};
 ghost use Rattle.cfi_instr.specs.Sizes.{AreSmall};
 ghost use Rattle.cfi_instr.specs.Units.{units_of, AllSpell};
-ghost use Rattle.cfi_instr.specs.Output.{AreMoved, IsObject, IsInstrumented, IsFirstFault};
+ghost use Rattle.cfi_instr.specs.Output.{AreMoved, IsObject, IsInstrumented, IsFirstInstrFault};
 
 use crate::moves::{moved_relocs, moved_symbols};
 use crate::reach::least_long;
@@ -107,7 +107,7 @@ pub fn instrument(alloc: Global, unplaced: &Module) -> Result<Module, InstrFault
     requires text { length unplaced.now.object.text < 2 ^ 32 }
     requires relocs { length unplaced.now.object.relocs ≤ 2 ^ 32 }
     ensures ok { IfOk result (IsInstrumented unplaced.now) }
-    ensures fault { IfErr result (IsFirstFault unplaced.now) }
+    ensures fault { IfErr result (IsFirstInstrFault unplaced.now) }
 {
     let source = read_items(alloc, unplaced)?;
     let symbols = unplaced.object.symbols.as_slice();

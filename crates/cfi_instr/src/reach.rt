@@ -4,7 +4,7 @@ ghost use Rattle.std.specs.Prelude.{◌≡◌, ◌*◌, ◌<◌, ◌≤◌, ◌^
 ghost use Rattle.std.specs.Bool.{OnTrue, OnFalse};
 ghost use Rattle.cfi_items.specs.Words.{count_of};
 ghost use Rattle.cfi_instr.specs.declared.sizes.TheConstants.{MAX_WORDS};
-ghost use Rattle.cfi_instr.specs.Sizes.{is_long, place_of, offsets_of, AreSmall};
+ghost use Rattle.cfi_instr.specs.Sizes.{is_long, words_before, offsets_of, AreSmall};
 ghost use Rattle.cfi_instr.specs.Reach.{target_of, is_near, reaches, branch_reaches, word_reaches, IsLeast, IsPassed, shorts};
 
 use crate::sizes::{REACH_BACK, REACH_ON, is_long, offset_at, offsets_of};
@@ -121,7 +121,7 @@ pub fn least_long(
     ensures placed { IfOk result (λ plan. plan.1.items ≡ offsets_of source.now plan.0.items) }
     ensures small { IfOk result (λ plan. AreSmall plan.1.items) }
     ensures fits { IfOk result (λ plan.
-        place_of source.now plan.0.items (count_of source.now) ≤ MAX_WORDS) }
+        words_before source.now plan.0.items (count_of source.now) ≤ MAX_WORDS) }
     ensures fault { IfErr result (IsPassed source.now symbols.now) }
 {
     let mut long = vec![in alloc; false; source.count()]?;

@@ -3,7 +3,7 @@
 ghost use Rattle.std.specs.Prelude.{◌≡◌, ◌*◌, ◌<◌, ◌≤◌, ◌^◌, slice_index, IfOk, IfErr};
 ghost use Rattle.cfi_items.specs.Words.{count_of};
 ghost use Rattle.cfi_instr.specs.declared.sizes.TheConstants.{CHECK_WORDS, MAX_WORDS};
-ghost use Rattle.cfi_instr.specs.Sizes.{is_long, size_of, size_at, place_of, moved, offsets_of, AreSmall, IsOver};
+ghost use Rattle.cfi_instr.specs.Sizes.{is_long, item_size, size_at, words_before, moved, offsets_of, AreSmall, IsOver};
 
 use cfi_items::{InstrFault, Source};
 use rv_insn::Insn;
@@ -41,8 +41,8 @@ pub fn is_long(long: &[bool], w: usize) -> bool
 }
 
 // The words of an instruction's unit.
-fn size_of(long: bool, insn: Insn) -> u32
-    ensures same { result ≡ size_of long insn }
+fn item_size(long: bool, insn: Insn) -> u32
+    ensures same { result ≡ item_size long insn }
     ensures small { result ≤ CHECK_WORDS }
 {
     match insn {
@@ -64,7 +64,7 @@ fn size_at(source: &Source, long: &[bool], w: usize) -> u32
         return 0;
     }
     match source.insn_at(w) {
-        Some(insn) => size_of(is_long(long, w), insn),
+        Some(insn) => item_size(is_long(long, w), insn),
         None => 0,
     }
 }
@@ -76,7 +76,7 @@ pub fn offsets_of(alloc: Global, source: &Source, long: &[bool]) -> Result<Vec<u
     requires { 4 * count_of source.now < 2 ^ 32 }
     ensures ok { IfOk result (λ offsets. offsets.items ≡ offsets_of source.now long.now) }
     ensures small { IfOk result (λ offsets. AreSmall offsets.items) }
-    ensures fits { IfOk result (λ _. place_of source.now long.now (count_of source.now) ≤ MAX_WORDS) }
+    ensures fits { IfOk result (λ _. words_before source.now long.now (count_of source.now) ≤ MAX_WORDS) }
     ensures fault { IfErr result (IsOver source.now long.now) }
 {
     let count = source.count();

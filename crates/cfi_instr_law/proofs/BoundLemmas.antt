@@ -10,7 +10,7 @@ use Rattle.cfi_items.specs.Words.{Words, count_of}
 use Rattle.cfi_items.specs.Insns.{is_jalr}
 use Rattle.cfi_items.specs.Items.{is_inner, is_item, is_item_at, is_bound_at, item_of}
 use Rattle.cfi_items.specs.Functions.{end_of, end_at, end_before, is_code, has_code, is_well_formed, is_formed_at, is_malformed}
-use Rattle.cfi_instr.specs.Sizes.{place_of, offsets_of, moved}
+use Rattle.cfi_instr.specs.Sizes.{words_before, offsets_of, moved}
 use Rattle.cfi_instr.proofs.SizeLemmas.{offset-read}
 use Rattle.cfi_instr_law.proofs.ItemLemmas.{holds-within, inner-parts}
 
@@ -60,7 +60,7 @@ bound-is t offset h =
 
 -- where a bound goes
 pub bound-moved : (t : Words) (long : _) (offset : ℕ) → IsBound t offset
-    → moved t (offsets_of t long) offset ≡ 4 * place_of t long (offset / 4)
+    → moved t (offsets_of t long) offset ≡ 4 * words_before t long (offset / 4)
 bound-moved t long offset b =
     let same : item_of t (offset / 4) ≡ offset / 4 = rw b.outer refl in
     ap (λ (w : ℕ). get_or (offsets_of t long) w 0) same ∙ offset-read t long (offset / 4) (omega (arith, b.within))

@@ -8,7 +8,7 @@ use Rattle.std.proofs.lemmas.List.FromFn.{get_or-map-range_with_len}
 use Rattle.std.proofs.lemmas.Nat.{from_le_bytes-to_le_bytes_4}
 use Rattle.cfi_types.specs.Spelling.{word}
 use Rattle.rv_reloc.specs.Bytes.{word_at, with_word}
-use Rattle.cfi_place.specs.Placed.{words_in}
+use Rattle.cfi_place.specs.Placed.{bytes_as_words}
 use Rattle.cfi_place.proofs.PlacingLemmas.{length-words_in}
 
 pub length-spelled : (words : List ℕ) → length (flat_map word words) ≡ 4 * length words
@@ -60,12 +60,12 @@ word-read words k d within small =
     ∙ word-here (flat_map word (take k words)) (flat_map word (drop (k + 1) words)) (4 * k) (get_or words k d) front
     (small k d within)
 
-pub words-spelled : (words : List ℕ) → All (λ n. n < 2 ^ 32) words → words_in (flat_map word words) ≡ words
+pub words-spelled : (words : List ℕ) → All (λ n. n < 2 ^ 32) words → bytes_as_words (flat_map word words) ≡ words
 words-spelled words small =
     let bytes = flat_map word words in
     let count : length bytes / 4 ≡ length words = omega (arith, length-spelled words) in
     let size = length-words_in bytes in
-    same_lists (words_in bytes) words (size ∙ count)
+    same_lists (bytes_as_words bytes) words (size ∙ count)
     (λ k d inside.
     let within : k < length words = omega (arith, inside, size, count) in
     get_or-map-range_with_len (λ j. word_at (4 * j) bytes) 0 (length bytes / 4) k k d (omega (arith, within, count))

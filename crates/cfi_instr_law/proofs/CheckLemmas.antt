@@ -11,7 +11,7 @@ use Rattle.cfi_items.specs.Words.{Words, insn_at, count_of}
 use Rattle.cfi_items.specs.Insns.{holds, is_auipc, is_jalr, is_linked}
 use Rattle.cfi_items.specs.Items.{is_inner, is_pair, is_item, is_indirect}
 use Rattle.cfi_items.specs.Jumps.{ordinal_of}
-use Rattle.cfi_instr.specs.Sizes.{is_long, place_of}
+use Rattle.cfi_instr.specs.Sizes.{is_long, words_before}
 use Rattle.cfi_instr.specs.Units.{insn_units, units_at}
 use Rattle.cfi_verify.specs.declared.checks.CheckSpot.{CheckSpot}
 use Rattle.cfi_unit.specs.declared.spot.Spot.{Spot}
@@ -46,11 +46,11 @@ module _ (t : Words) (symbols : List Symbol) (long : List Bool) (offsets : List 
   pub record IsOneCheck (w : ℕ) (checks : List CheckSpot) : Type 0 where
     pub check : CheckSpot
     pub only : checks ≡ check ∷ []
-    pub at : check.at ≡ place_of t long w
+    pub at : check.at ≡ words_before t long w
     pub link : check.link ≡ holds is_linked (insn_at t w)
 
   jalr-check : (w : ℕ) (insn : Option Insn) → insn ≡ insn_at t w → holds is_jalr insn ≡ true
-      → IsOneCheck w (checks_of (spots_of (place_of t long w) (insn_units t symbols long offsets w insn)))
+      → IsOneCheck w (checks_of (spots_of (words_before t long w) (insn_units t symbols long offsets w insn)))
   jalr-check w None is h = absurd (false≢true h)
   jalr-check w (Some (insns.Jalr rd rs1 imm)) is h = elim (cases_Bool (is_long long w)) [
     | inl e ↦ rw e (record { check = _; only = refl; at = refl; link = ap (holds is_linked) is })
@@ -88,7 +88,7 @@ module _ (t : Words) (symbols : List Symbol) (long : List Bool) (offsets : List 
           ⊎_elim (λ (other : is_item t w ≡ false). absurd (both_ways (is_item t w) other item_is))
           (λ (p : holds is_jalr (insn_at t w) ≡ false). p)
           (and_cases (is_item t w) (holds is_jalr (insn_at t w)) h) in
-          rw (outer, single) (no-check (place_of t long w) w (insn_at t w) plain)
+          rw (outer, single) (no-check (words_before t long w) w (insn_at t w) plain)
     ]
   ]
 
@@ -122,7 +122,7 @@ module _ (t : Words) (symbols : List Symbol) (long : List Bool) (offsets : List 
     pub inside : word < n
     pub indirect : is_indirect t word ≡ true
     pub number : k ≡ ordinal_of t word
-    pub at : check.at ≡ place_of t long word
+    pub at : check.at ≡ words_before t long word
     pub link : check.link ≡ holds is_linked (insn_at t word)
 
   further : (n k : ℕ) (check : CheckSpot) → IsCheckOf n k check → IsCheckOf (suc n) k check

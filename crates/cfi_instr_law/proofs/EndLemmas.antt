@@ -15,7 +15,7 @@ use Rattle.cfi_items.specs.Words.{Words, insn_at, words_in as read_words, count_
 use Rattle.cfi_items.specs.Insns.{holds, is_auipc, is_linked, is_unlinked}
 use Rattle.cfi_items.specs.Items.{is_inner, is_pair, item_of}
 use Rattle.cfi_items.specs.Functions.{end_of, end_before, runs_off_at}
-use Rattle.cfi_instr.specs.Sizes.{is_long, place_of, offsets_of}
+use Rattle.cfi_instr.specs.Sizes.{is_long, words_before, offsets_of}
 use Rattle.cfi_instr.specs.Units.{insn_units, units_at}
 use Rattle.cfi_verify.specs.Lists.{Each}
 use Rattle.cfi_unit.specs.Spots.{spots_of}
@@ -151,19 +151,19 @@ module _ (source : Module) (placed : Placed) (s : IsFrom source placed) where
         (omega (arith, i.some, i.begins.whole, i.ends.whole))
 
     last_spot : Spot
-    last_spot = record { at = place_of t s.long last; unit = last-is.unit }
+    last_spot = record { at = words_before t s.long last; unit = last-is.unit }
 
     in-base : Contains base last_spot
     unfolding last_spot
     in-base =
         in-item t symbols s.long offsets (count_of t) last last_spot
         (omega (arith, item-below t last_word, word-inside))
-        (subst (λ (us : List CodeUnit). Contains (spots_of (place_of t s.long last) us) last_spot) (sym last-is.only)
+        (subst (λ (us : List CodeUnit). Contains (spots_of (words_before t s.long last) us) last_spot) (sym last-is.only)
         (0, omega arith, refl))
 
     -- a unit of the base that stands before the function's end stands no later
     none-later : (o : Spot) → Contains base o → o.at < place source placed s (end_of f / 4)
-        → o.at ≤ place_of t s.long last
+        → o.at ≤ words_before t s.long last
     none-later o has before =
         let at = of-item t symbols s.long offsets (count_of t) o has in
         let w : ℕ = at.0 in
@@ -181,9 +181,9 @@ module _ (source : Module) (placed : Placed) (s : IsFrom source placed) where
         let same : w ≡ last = omega (arith, more, back) in
         let here : Contains (item_spots t symbols s.long offsets last) o =
         subst (λ (n : ℕ). Contains (item_spots t symbols s.long offsets n) o) same at.2 in
-        let only : Contains (spots_of (place_of t s.long last) (last-is.unit ∷ [])) o =
-        subst (λ (us : List CodeUnit). Contains (spots_of (place_of t s.long last) us) o) last-is.only here in
-        omega (arith, ap (λ (x : Spot). x.at) (one-spot (place_of t s.long last) last-is.unit o only)))
+        let only : Contains (spots_of (words_before t s.long last) (last-is.unit ∷ [])) o =
+        subst (λ (us : List CodeUnit). Contains (spots_of (words_before t s.long last) us) o) last-is.only here in
+        omega (arith, ap (λ (x : Spot). x.at) (one-spot (words_before t s.long last) last-is.unit o only)))
         (cases_lt w last)
 
     -- the function's last unit
@@ -193,8 +193,8 @@ module _ (source : Module) (placed : Placed) (s : IsFrom source placed) where
         let i = formed_f in
         let final = spots source placed s in
         let x = like s.touched base final (sym s.laid.looks) last_spot in-base in
-        let at : place_of t s.long last ≡ x.0.at = ap (λ (y : Spot). y.at) x.2 in
-        let looks : seen (s.touched (place_of t s.long last)) last-is.unit ≡ seen (s.touched x.0.at) x.0.unit =
+        let at : words_before t s.long last ≡ x.0.at = ap (λ (y : Spot). y.at) x.2 in
+        let looks : seen (s.touched (words_before t s.long last)) last-is.unit ≡ seen (s.touched x.0.at) x.0.unit =
         ap (λ (y : Spot). y.unit) x.2 in
         let first : g.first ≡ place source placed s (f.offset / 4) =
         ap (λ (y : PlacedFunction). y.first) from ∙ made-first source placed s f (end_before functions k) i in
@@ -218,7 +218,7 @@ module _ (source : Module) (placed : Placed) (s : IsFrom source placed) where
           },
           sym (last-seen (s.touched x.0.at) x.0.unit)
               ∙ ap may_be_last (sym looks)
-              ∙ last-seen (s.touched (place_of t s.long last)) last-is.unit
+              ∙ last-seen (s.touched (words_before t s.long last)) last-is.unit
               ∙ last-is.may,
         )
 

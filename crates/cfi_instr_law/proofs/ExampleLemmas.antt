@@ -11,15 +11,15 @@ use Rattle.cfi_unit.specs.declared.unit.Unit.TheVariants as units
 use Rattle.cfi_unit.proofs.UnitLemmas.{size_pos}
 use Rattle.cfi_unit.proofs.CodeLemmas.{BeginsAt-within}
 use Rattle.cfi_aux.specs.Format.{is_func}
-use Rattle.cfi_items.specs.Words.{Words, words_by, words_in as read_words}
+use Rattle.cfi_items.specs.Words.{Words, words_by, bytes_as_words as read_words}
 use Rattle.cfi_items.specs.Fault.{parts_by, AreSound}
 use Rattle.cfi_instr.specs.Sizes.{size_at, is_long}
 use Rattle.cfi_instr.specs.Reach.{IsEnough, IsLeast}
 use Rattle.cfi_instr.specs.Units.{units_at}
-use Rattle.cfi_instr.specs.Output.{IsPlan, IsText, AreMoved, IsInstrumented}
+use Rattle.cfi_instr.specs.Output.{IsLayout, IsText, AreMoved, IsInstrumented}
 use Rattle.cfi_place.specs.Relocated.{areas_of, relocated_from}
 use Rattle.cfi_place.specs.Slots.{ReadFrom}
-use Rattle.cfi_place.specs.Placed.{IsRoom, IsPlaced, words_in}
+use Rattle.cfi_place.specs.Placed.{IsRoom, IsPlaced, bytes_as_words}
 use Rattle.cfi_verify.specs.Example.{loop_module}
 use Rattle.cfi_instr_law.specs.Proper.{NamesFunc, IsTyped, IsMadeAt}
 use Rattle.cfi_instr_law.specs.Example.{loop_records, loop_object, loop_source, loop_room, no_names}
@@ -79,7 +79,7 @@ least = record { size = refl; enough = reached; least = λ other enough w is. ab
 abbrev offsets : List ℕ
 offsets = 0 ∷ 4 ∷ []
 
-plan : IsPlan loop_source long offsets
+plan : IsLayout loop_source long offsets
 unfolding word_at insn_of size_at
 plan = record { least = least; placed = refl }
 
@@ -136,7 +136,7 @@ room = record {
 abbrev jump : CodeUnit
 jump = units.Jump false (pos 0)
 
-text-words : words_in loop_object.text ≡ 0x6f ∷ []
+text-words : bytes_as_words loop_object.text ≡ 0x6f ∷ []
 unfolding word_at
 text-words = refl
 

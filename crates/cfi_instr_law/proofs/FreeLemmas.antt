@@ -13,7 +13,7 @@ use Rattle.cfi_items.specs.Items.{is_inner, item_of}
 use Rattle.cfi_items.specs.Target.{symbol_of}
 use Rattle.cfi_items.specs.Functions.{is_covered}
 use Rattle.cfi_items.specs.Fault.{parts_of, AreSound}
-use Rattle.cfi_instr.specs.Sizes.{size_at, place_of, offsets_of}
+use Rattle.cfi_instr.specs.Sizes.{size_at, words_before, offsets_of}
 use Rattle.cfi_instr.specs.Moves.{is_of_long, addend_by, offset_in, moved_by, moved_reloc}
 use Rattle.cfi_instr.proofs.SizeLemmas.{total-grows}
 use Rattle.cfi_instr_law.proofs.ItemLemmas.{item-some, begins-within}
@@ -21,8 +21,8 @@ use Rattle.cfi_instr_law.proofs.LaidLemmas.{is_at_word, touches}
 use Rattle.cfi_instr_law.proofs.MovedLemmas.{FitsText, reloc-fits, goes-well}
 
 -- of two items the one whose words have a place is the other where the other begins there
-same-item : (t : Words) (long : List Bool) (v w : ℕ) → place_of t long w < place_of t long (w + 1)
-    → place_of t long v ≤ place_of t long w → place_of t long w < place_of t long (v + 1) → v ≡ w
+same-item : (t : Words) (long : List Bool) (v w : ℕ) → words_before t long w < words_before t long (w + 1)
+    → words_before t long v ≤ words_before t long w → words_before t long w < words_before t long (v + 1) → v ≡ w
 same-item t long v w some low high =
     ⊎_elim
     (λ (less : v < w). absurd (omega (arith, total-grows (size_at t long) (v + 1) w (omega (arith, less)), high)))
@@ -54,8 +54,8 @@ module _ (source : Module) (long : List Bool) (sound : AreSound (parts_of source
     pub item : ℕ
     pub inside : item < count_of t
     pub covered : is_covered source.records.functions (4 * item) ≡ true
-    pub low : place_of t long item ≤ at
-    pub high : at < place_of t long (item + 1)
+    pub low : words_before t long item ≤ at
+    pub high : at < words_before t long (item + 1)
 
   moved-in : (at : ℕ) (reloc : Reloc) (addend : ℤ) (area : Area) → reloc.area ≡ area
       → (area ≡ areas.Text → FitsText t source.records.functions reloc)
@@ -93,10 +93,10 @@ module _ (source : Module) (long : List Bool) (sound : AreSound (parts_of source
       (ap (is_at_word at) (sym moved) ∙ some.4)
 
   pub untouched : (w : ℕ) → w < count_of t → is_inner t w ≡ false
-      → is_covered source.records.functions (4 * w) ≡ false → touches relocs (place_of t long w) ≡ false
-  untouched w inside outer bare = elim (cases_Bool (touches relocs (place_of t long w))) [
+      → is_covered source.records.functions (4 * w) ≡ false → touches relocs (words_before t long w) ≡ false
+  untouched w inside outer bare = elim (cases_Bool (touches relocs (words_before t long w))) [
     | inl touched ↦
-        let there = touched-in (place_of t long w) touched in
+        let there = touched-in (words_before t long w) touched in
         let some = item-some t symbols long offsets w outer (sound.linked.shaped.words.legal w inside) in
         let same = same-item t long there.item w some there.low there.high in
         let covered = ap (λ (k : ℕ). is_covered source.records.functions (4 * k)) (sym same) ∙ there.covered in

@@ -17,7 +17,7 @@ use Rattle.cfi_items.specs.Words.{Words, words_in as read_words, count_of}
 use Rattle.cfi_items.specs.Items.{is_inner}
 use Rattle.cfi_items.specs.Functions.{is_covered}
 use Rattle.cfi_items.specs.Fault.{parts_of, AreSound}
-use Rattle.cfi_instr.specs.Sizes.{place_of, offsets_of}
+use Rattle.cfi_instr.specs.Sizes.{words_before, offsets_of}
 use Rattle.cfi_instr.specs.Units.{units_of}
 use Rattle.cfi_instr.specs.Moves.{moved_function, moved_kind, moved_reloc}
 use Rattle.cfi_instr.specs.Output.{IsText}
@@ -55,7 +55,7 @@ pub record IsFrom (source : Module) (placed : Placed) : Type 0 where
   pub touched : ℕ → Bool
   pub free : (w : ℕ) → w < count_of (read_words source.object) → is_inner (read_words source.object) w ≡ false
       → is_covered source.records.functions (4 * w) ≡ false
-      → touched (place_of (read_words source.object) long w) ≡ false
+      → touched (words_before (read_words source.object) long w) ≡ false
   pub laid : IsLaid touched (units_of (read_words source.object) source.object.symbols long
       (offsets_of (read_words source.object) long)) placed
   pub some : 0 < length placed.words
@@ -71,24 +71,24 @@ pub record IsFrom (source : Module) (placed : Placed) : Type 0 where
 -- its words end where the last item does
 laid-end : (t : Words) (symbols : List Symbol) (long : List Bool) (offsets : List ℕ) (touched : ℕ → Bool)
     (placed : Placed) → IsLaid touched (units_of t symbols long offsets) placed
-    → length placed.words ≡ place_of t long (count_of t)
+    → length placed.words ≡ words_before t long (count_of t)
 laid-end t symbols long offsets touched placed laid =
     ap (λ (ws : List ℕ). length ws) laid.units.spelled
     ∙ same-words touched laid.code (units_of t symbols long offsets) laid.looks
     ∙ place-item t symbols long offsets (count_of t)
 
 pub words-end : (source : Module) (placed : Placed) (s : IsFrom source placed)
-    → length placed.words ≡ place_of (read_words source.object) s.long (count_of (read_words source.object))
+    → length placed.words ≡ words_before (read_words source.object) s.long (count_of (read_words source.object))
 words-end source placed s =
     let t = read_words source.object in
     laid-end t source.object.symbols s.long (offsets_of t s.long) s.touched placed s.laid
 
 -- a text that is not empty has words
 made-some : (source : Module) (long : List Bool) (offsets text : List ℕ) → IsText source long offsets text → text ≢ []
-    → 0 < place_of (read_words source.object) long (count_of (read_words source.object))
+    → 0 < words_before (read_words source.object) long (count_of (read_words source.object))
 made-some source long offsets text is some =
     let t = read_words source.object in
-    let end : ℕ = place_of t long (count_of t) in
+    let end : ℕ = words_before t long (count_of t) in
     ⊎_elim (λ (less : 0 < end). less)
     (λ (more : end ≤ 0).
     let words : length is.words ≡ end =

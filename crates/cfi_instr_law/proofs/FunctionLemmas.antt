@@ -14,7 +14,7 @@ use Rattle.cfi_aux.specs.declared.records.Function.{Function}
 use Rattle.cfi_items.specs.Words.{Words, words_in as read_words, count_of}
 use Rattle.cfi_items.specs.Items.{is_inner}
 use Rattle.cfi_items.specs.Functions.{end_of, end_before}
-use Rattle.cfi_instr.specs.Sizes.{size_at, place_of, offsets_of}
+use Rattle.cfi_instr.specs.Sizes.{size_at, words_before, offsets_of}
 use Rattle.cfi_instr.specs.Moves.{moved_function}
 use Rattle.cfi_instr.proofs.SizeLemmas.{total-grows}
 use Rattle.cfi_place.specs.Functions.{make_function}
@@ -37,7 +37,7 @@ module _ (source : Module) (placed : Placed) (s : IsFrom source placed) where
 
   -- where a word of the text goes
   abbrev pub place : (w : ℕ) → ℕ
-  place w = place_of t s.long w
+  place w = words_before t s.long w
 
   abbrev moves : Function → Function
   moves = moved_function t (offsets_of t s.long)

@@ -17,7 +17,7 @@ use Rattle.cfi_items.specs.Words.{Words, insn_at, words_in as read_words, count_
 use Rattle.cfi_items.specs.Insns.{holds, is_nop, is_auipc, is_addi, is_zero}
 use Rattle.cfi_items.specs.Items.{is_inner, is_item}
 use Rattle.cfi_items.specs.Functions.{end_of, covers, is_covered, end_before, is_code, has_code}
-use Rattle.cfi_instr.specs.Sizes.{is_long, size_at, place_of, offsets_of}
+use Rattle.cfi_instr.specs.Sizes.{is_long, size_at, words_before, offsets_of}
 use Rattle.cfi_instr.specs.Units.{insn_units, units_at}
 use Rattle.cfi_instr.proofs.SizeLemmas.{total-grows}
 use Rattle.cfi_unit.specs.declared.spot.Spot.{Spot}
@@ -105,7 +105,7 @@ module _ (t : Words) (symbols : List Symbol) (long : List Bool) (offsets : List 
         absurd (omega (
           arith,
           has.1,
-          ap (λ (us : List CodeUnit). length (spots_of (place_of t long w) us)) none,
+          ap (λ (us : List CodeUnit). length (spots_of (words_before t long w) us)) none,
         ))
     | inr outer ↦ outer
   ]
@@ -113,9 +113,9 @@ module _ (t : Words) (symbols : List Symbol) (long : List Bool) (offsets : List 
   -- words that are no code, where no relocation sits
   idle-base : (touched : ℕ → Bool) (u v : ℕ) → v ≤ count_of t
       → ((w : ℕ) → u ≤ w → w < v → is_code t w ≡ false)
-      → ((w : ℕ) → u ≤ w → w < v → is_inner t w ≡ false → touched (place_of t long w) ≡ false)
-      → (o : Spot) → Contains (spots_to t symbols long offsets (count_of t)) o → place_of t long u ≤ o.at
-      → o.at < place_of t long v → (touched o.at ≡ false) × (o.unit ≡ nop)
+      → ((w : ℕ) → u ≤ w → w < v → is_inner t w ≡ false → touched (words_before t long w) ≡ false)
+      → (o : Spot) → Contains (spots_to t symbols long offsets (count_of t)) o → words_before t long u ≤ o.at
+      → o.at < words_before t long v → (touched o.at ≡ false) × (o.unit ≡ nop)
   idle-base touched u v within none free o has low high =
       let at = of-item t symbols long offsets (count_of t) o has in
       let w : ℕ = at.0 in
@@ -131,9 +131,9 @@ module _ (t : Words) (symbols : List Symbol) (long : List Bool) (offsets : List 
       let outer = outer-of w o at.2 in
       let item_is : is_item t w ≡ true = and_from _ _ (lt-ltb w (count_of t) at.1) (not_from_false (is_inner t w) outer) in
       let pad = nop-or-code t w item_is (none w after before) in
-      let only : Contains (spots_of (place_of t long w) (nop ∷ [])) o =
-      subst (λ (us : List CodeUnit). Contains (spots_of (place_of t long w) us) o) (nop-item w outer pad) at.2 in
-      let same = one-spot (place_of t long w) nop o only in (
+      let only : Contains (spots_of (words_before t long w) (nop ∷ [])) o =
+      subst (λ (us : List CodeUnit). Contains (spots_of (words_before t long w) us) o) (nop-item w outer pad) at.2 in
+      let same = one-spot (words_before t long w) nop o only in (
         ap touched (ap (λ (s : Spot). s.at) same) ∙ free w after before outer,
         ap (λ (s : Spot). s.unit) same,
       )
@@ -174,7 +174,7 @@ module _ (source : Module) (placed : Placed) (s : IsFrom source placed) where
   -- the units between the end of the function before number k and a place before which it does not begin
   pub idle-from : (k to : ℕ) → k ≤ length functions → IsBound t to → has_code t (end_before functions k) to ≡ false
       → ((d : Function) → k < length functions → to ≤ (get_or functions k d).offset)
-      → IsIdle (spots_of 0 s.laid.code) (place_of t s.long (end_before functions k / 4)) (place_of t s.long (to / 4))
+      → IsIdle (spots_of 0 s.laid.code) (words_before t s.long (end_before functions k / 4)) (words_before t s.long (to / 4))
   idle-from k to within b none next spot has low high =
       let from : ℕ = end_before functions k in
       let touched = s.touched in
@@ -185,7 +185,7 @@ module _ (source : Module) (placed : Placed) (s : IsFrom source placed) where
       let whole : from ≡ 4 * (from / 4) = (before-bound t functions formed k no_function within).whole in
       let o = like touched (spots_of 0 s.laid.code) base s.laid.looks spot has in
       let at : spot.at ≡ o.0.at = ap (λ (x : Spot). x.at) o.2 in
-      let free : (w : ℕ) → from / 4 ≤ w → w < to / 4 → is_inner t w ≡ false → touched (place_of t s.long w) ≡ false =
+      let free : (w : ℕ) → from / 4 ≤ w → w < to / 4 → is_inner t w ≡ false → touched (words_before t s.long w) ≡ false =
       λ w after before outer.
       s.free w (omega (arith, before, b.within)) outer
       (uncovered k w to within (omega (arith, after, whole)) (omega (arith, before, b.whole)) next) in

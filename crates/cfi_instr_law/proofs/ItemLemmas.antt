@@ -16,7 +16,7 @@ use Rattle.cfi_items.specs.Words.{Words, insn_at, count_of}
 use Rattle.cfi_items.specs.Insns.{holds, is_auipc, is_jalr, is_branch}
 use Rattle.cfi_items.specs.Items.{is_inner, is_pair, item_of}
 use Rattle.cfi_items.specs.Flaws.{is_illegal_at}
-use Rattle.cfi_instr.specs.Sizes.{is_long, size_by, size_at, place_of}
+use Rattle.cfi_instr.specs.Sizes.{is_long, size_by, size_at, words_before}
 use Rattle.cfi_instr.specs.Units.{is_wide, insn_units, units_at}
 use Rattle.cfi_instr.proofs.SizeLemmas.{place-more}
 use Rattle.cfi_unit.specs.declared.spot.Spot.{Spot}
@@ -115,7 +115,7 @@ module _ (t : Words) (symbols : List Symbol) (long : List Bool) (offsets : List 
 
   -- where they stand
   abbrev pub item_spots : (w : ℕ) → List Spot
-  item_spots w = spots_of (place_of t long w) (item w)
+  item_spots w = spots_of (words_before t long w) (item w)
 
   -- where all units before a word stand
   abbrev pub spots_to : (n : ℕ) → List Spot
@@ -156,13 +156,13 @@ module _ (t : Words) (symbols : List Symbol) (long : List Bool) (offsets : List 
 
   -- ---- places
 
-  pub place-item : (n : ℕ) → words_in (joined item n) ≡ place_of t long n
+  pub place-item : (n : ℕ) → words_in (joined item n) ≡ words_before t long n
   place-item zero = refl
   place-item (suc n) = omega (arith, words-append (joined item n) (item n), place-item n, size-item n)
 
   pub spots-more : (n : ℕ) → spots_to (suc n) ≡ spots_to n ++ item_spots n
   spots-more n =
-      let place : 0 + words_in (joined item n) ≡ place_of t long n = omega (arith, place-item n) in
+      let place : 0 + words_in (joined item n) ≡ words_before t long n = omega (arith, place-item n) in
       spots-append 0 (joined item n) (item n) ∙ ap (λ (k : ℕ). spots_to n ++ spots_of k (item n)) place
 
   -- a unit of an item is one of all
@@ -190,10 +190,10 @@ module _ (t : Words) (symbols : List Symbol) (long : List Bool) (offsets : List 
 
   -- a unit stands within its item
   pub item-range : (w : ℕ) (s : Spot) → Contains (item_spots w) s
-      → (place_of t long w ≤ s.at) × (s.at < place_of t long (w + 1))
+      → (words_before t long w ≤ s.at) × (s.at < words_before t long (w + 1))
   item-range w s has =
-      let range = spots-range (place_of t long w) (item w) in
-      let here = All-contains (λ (o : Spot). (place_of t long w ≤ o.at) × (o.at < place_of t long w + words_in (item w)))
+      let range = spots-range (words_before t long w) (item w) in
+      let here = All-contains (λ (o : Spot). (words_before t long w ≤ o.at) × (o.at < words_before t long w + words_in (item w)))
       (item_spots w) s range has in
       (here.0, omega (arith, here.1, size-item w, place-more t long w))
 
@@ -217,12 +217,12 @@ module _ (t : Words) (symbols : List Symbol) (long : List Bool) (offsets : List 
 
   -- a unit begins at an item
   pub item-begins : (w : ℕ) → is_inner t w ≡ false → is_illegal_at t w ≡ false
-      → BeginsUnit (item_spots w) (place_of t long w)
+      → BeginsUnit (item_spots w) (words_before t long w)
   item-begins w outer legal =
       let head = item-head w outer legal in
-      let s : Spot = record { at = place_of t long w; unit = head.0 } in
+      let s : Spot = record { at = words_before t long w; unit = head.0 } in
       let here : Contains (item_spots w) s =
-      subst (λ (us : List CodeUnit). Contains (spots_of (place_of t long w) us) s) (sym head.2) (0, omega arith, refl) in
+      subst (λ (us : List CodeUnit). Contains (spots_of (words_before t long w) us) s) (sym head.2) (0, omega arith, refl) in
       (s, here, refl)
 
   wide-two : (w : ℕ) (insn : Option Insn) → holds is_branch insn ≡ true → is_long long w ≡ true
@@ -233,24 +233,24 @@ module _ (t : Words) (symbols : List Symbol) (long : List Bool) (offsets : List 
 
   -- a second unit begins where a branch is long
   pub second-begins : (w : ℕ) → is_inner t w ≡ false → is_pair t w ≡ false → holds is_branch (insn_at t w) ≡ true
-      → is_long long w ≡ true → BeginsUnit (item_spots w) (place_of t long w + 1)
+      → is_long long w ≡ true → BeginsUnit (item_spots w) (words_before t long w + 1)
   unfolding units_at
   second-begins w outer single branch is =
       let two = wide-two w (insn_at t w) branch is in
       let units : item w ≡ two.0 ∷ two.1 ∷ [] = rw (outer, single) two.2 in
-      let at : ℕ = place_of t long w + 1 in
+      let at : ℕ = words_before t long w + 1 in
       let s : Spot = record { at = at; unit = two.1 } in
-      let next : at ≡ place_of t long w + size_of two.0 = omega (arith, two.3) in
-      let there : get_or (spots_of (place_of t long w) (two.0 ∷ two.1 ∷ [])) 1 s ≡ s =
+      let next : at ≡ words_before t long w + size_of two.0 = omega (arith, two.3) in
+      let there : get_or (spots_of (words_before t long w) (two.0 ∷ two.1 ∷ [])) 1 s ≡ s =
       ap (λ (k : ℕ). record { at = k; unit = two.1 }) (sym next) in
       let here : Contains (item_spots w) s =
-      subst (λ (us : List CodeUnit). Contains (spots_of (place_of t long w) us) s) (sym units) (1, omega arith, there)
+      subst (λ (us : List CodeUnit). Contains (spots_of (words_before t long w) us) s) (sym units) (1, omega arith, there)
       in
       (s, here, refl)
 
   -- an item has words
   pub item-some : (w : ℕ) → is_inner t w ≡ false → is_illegal_at t w ≡ false
-      → place_of t long w < place_of t long (w + 1)
+      → words_before t long w < words_before t long (w + 1)
   item-some w outer legal =
       let head = item-head w outer legal in
       omega (
@@ -268,6 +268,6 @@ module _ (t : Words) (symbols : List Symbol) (long : List Bool) (offsets : List 
 
   -- and within the item's words
   pub begins-within : (w at : ℕ) → BeginsUnit (item_spots w) at
-      → (place_of t long w ≤ at) × (at < place_of t long (w + 1))
+      → (words_before t long w ≤ at) × (at < words_before t long (w + 1))
   begins-within w at b =
       let range = item-range w b.0 b.1 in (omega (arith, range.0, b.2), omega (arith, range.1, b.2))

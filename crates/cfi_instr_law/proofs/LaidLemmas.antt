@@ -17,7 +17,7 @@ use Rattle.cfi_unit.specs.Unit.{words_of}
 use Rattle.cfi_unit.specs.Code.{UnitCode}
 use Rattle.cfi_aux.specs.declared.modules.Module.{Module}
 use Rattle.cfi_aux.specs.declared.placed.Placed.{Placed}
-use Rattle.cfi_items.specs.Words.{Words, is_of_text, words_in as read_words, count_of}
+use Rattle.cfi_items.specs.Words.{Words, is_of_text, bytes_as_words as read_words, count_of}
 use Rattle.cfi_items.specs.Fault.{parts_of, AreSound}
 use Rattle.cfi_instr.specs.Sizes.{offsets_of}
 use Rattle.cfi_instr.specs.Units.{units_of}
@@ -29,7 +29,7 @@ use Rattle.cfi_place.specs.declared.room.Room.{Room}
 use Rattle.cfi_place.specs.Names.{Names}
 use Rattle.cfi_place.specs.Relocated.{Areas, high_parts}
 use Rattle.cfi_place.specs.Slots.{checks_from, with_slots}
-use Rattle.cfi_place.specs.Placed.{IsRoom, words_in, values_in, relocated, unless_undefined, where_fits, code_fits, placed_in, IsPlaced}
+use Rattle.cfi_place.specs.Placed.{IsRoom, bytes_as_words, values_in, relocated, unless_undefined, where_fits, code_fits, placed_in, IsPlaced}
 use Rattle.cfi_verify.specs.Lists.{Each}
 use Rattle.cfi_unit.specs.Spots.{spots_of}
 use Rattle.cfi_verify.specs.Spots.{checks_of}
@@ -160,13 +160,13 @@ module _ (source m : Module) (long : List Bool) (sound : AreSound (parts_of sour
       → IsCode touched made p.bytes.text → IsLaid touched made placed
   slotted touched room names placed is text p c =
       let steps = placed-steps m.object room names p.bytes p.is_placed in
-      let old : words_in m.object.text ≡ flat_map words_of made =
-      ap words_in (text.bytes ∙ ap (λ (ws : List ℕ). flat_map word ws) text.units.spelled)
+      let old : bytes_as_words m.object.text ≡ flat_map words_of made =
+      ap bytes_as_words (text.bytes ∙ ap (λ (ws : List ℕ). flat_map word ws) text.units.spelled)
       ∙ words-spelled (flat_map words_of made) (units-small made text.units.fit) in
-      let new : words_in p.bytes.text ≡ flat_map words_of c.code =
-      ap words_in c.bytes ∙ words-spelled (flat_map words_of c.code) (units-small c.code c.fit) in
+      let new : bytes_as_words p.bytes.text ≡ flat_map words_of c.code =
+      ap bytes_as_words c.bytes ∙ words-spelled (flat_map words_of c.code) (units-small c.code c.fit) in
       let read : p.words.0 ≡ made =
-      read-one (words_in m.object.text) 0 p.words.0 made p.words.1 (record { fit = text.units.fit; spelled = old }) in
+      read-one (bytes_as_words m.object.text) 0 p.words.0 made p.words.1 (record { fit = text.units.fit; spelled = old }) in
       let places : checks_from 0 p.words.0 ≡ checks_from 0 c.code =
       ap (checks_from 0) read ∙ sym (same-places touched c.code made c.looks) in
       let few = enough-slots touched room is steps.0 text c.code c.looks in
@@ -176,7 +176,7 @@ module _ (source m : Module) (long : List Bool) (sound : AreSound (parts_of sour
           fit = units-numbered room.slot_base c.code c.fit few;
           spelled =
               p.words.2
-              ∙ ap (λ (xs : List ℕ). with_slots room.slot_base xs (words_in p.bytes.text)) places
+              ∙ ap (λ (xs : List ℕ). with_slots room.slot_base xs (bytes_as_words p.bytes.text)) places
               ∙ ap (with_slots room.slot_base (checks_from 0 c.code)) new
               ∙ slots-set c.code [] 0 room.slot_base refl;
         };

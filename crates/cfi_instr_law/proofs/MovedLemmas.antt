@@ -24,7 +24,7 @@ use Rattle.cfi_items.specs.Target.{symbol_of}
 use Rattle.cfi_items.specs.Functions.{is_covered}
 use Rattle.cfi_items.specs.Misplaced.{has_form, fits_on, is_on, sits_by, names_well, is_placed, is_misplaced}
 use Rattle.cfi_items.specs.Fault.{AreLegal}
-use Rattle.cfi_instr.specs.Sizes.{is_long, place_of, offsets_of, moved}
+use Rattle.cfi_instr.specs.Sizes.{is_long, words_before, offsets_of, moved}
 use Rattle.cfi_instr.specs.Moves.{is_of_long, kind_in, offset_in}
 use Rattle.cfi_instr.proofs.SizeLemmas.{offset-read}
 use Rattle.cfi_unit.specs.Spots.{BeginsUnit}
@@ -189,7 +189,7 @@ module _ (t : Words) (symbols : List Symbol) (long : List Bool) (legal : AreLega
   abbrev offsets : List ℕ
   offsets = offsets_of t long
 
-  moved-place : (offset : ℕ) → offset / 4 < count_of t → moved t offsets offset ≡ 4 * place_of t long (item_of t (offset / 4))
+  moved-place : (offset : ℕ) → offset / 4 < count_of t → moved t offsets offset ≡ 4 * words_before t long (item_of t (offset / 4))
   moved-place offset inside =
       offset-read t long (item_of t (offset / 4)) (omega (arith, inside, item-below t (offset / 4)))
 
@@ -209,9 +209,9 @@ module _ (t : Words) (symbols : List Symbol) (long : List Bool) (legal : AreLega
       let branch = fits-branch t reloc.kind w both.0 fits in
       let alone = branch-alone t w branch in
       let item_is : item_of t w ≡ w = rw alone.0 refl in
-      let at : ℕ = place_of t long (item_of t w) + 1 in
+      let at : ℕ = words_before t long (item_of t w) + 1 in
       let begins : BeginsUnit (item_spots t symbols long offsets (item_of t w)) at =
-      subst (λ (k : ℕ). BeginsUnit (item_spots t symbols long offsets k) (place_of t long k + 1)) (sym item_is)
+      subst (λ (k : ℕ). BeginsUnit (item_spots t symbols long offsets k) (words_before t long k + 1)) (sym item_is)
       (second-begins t symbols long offsets w alone.0 alone.1 branch both.1) in
       let four : offset_in t offsets (is_of_long long reloc) reloc.offset ≡ moved t offsets reloc.offset + 4 =
       ap (λ (l : Bool). offset_in t offsets l reloc.offset) (sym is) in
@@ -229,7 +229,7 @@ module _ (t : Words) (symbols : List Symbol) (long : List Bool) (legal : AreLega
       let none : offset_in t offsets (is_of_long long reloc) reloc.offset ≡ moved t offsets reloc.offset + 0 =
       ap (λ (l : Bool). offset_in t offsets l reloc.offset) (sym is) in
       record {
-        at = place_of t long first;
+        at = words_before t long first;
         offset_is = omega (arith, none, moved-place reloc.offset inside);
         inside = below;
         begins = item-begins t symbols long offsets first (item-outer t w) (legal.legal first below);

@@ -11,7 +11,7 @@ use Rattle.cfi_verify.specs.Lists.{Each, Breaks}
 use Rattle.cfi_verify.specs.Spots.{checks_of}
 use Rattle.cfi_unit.specs.Spots.{AreSpots}
 use Rattle.cfi_verify.specs.Branches.{KindFits, EntriesFit}
-use Rattle.cfi_verify.specs.Faults.{check_place, own_number, StandsIn, IsFault, IsLaidOut}
+use Rattle.cfi_verify.specs.Faults.{check_place, own_number, FaultStandsIn, IsFault, IsLaidOut}
 use Rattle.cfi_verify.proofs.ListLemmas.{no_break}
 use Rattle.cfi_verify.proofs.RowLemmas.{clear_laid}
 use Rattle.cfi_unit.proofs.SpotLemmas.{AreSpots-one}
@@ -30,10 +30,10 @@ pub record IsSettled (m : Placed) (xs : List Spot) : Type 0 where
   pub switches : Each (checks_of xs) (EntriesFit m xs)
 
 module _ (m : Placed) (loaded : List Placed) (xs : List Spot) (s : IsSettled m xs) where
-  in-these : (fault : VerifyFault) → ((ys : List Spot) × AreSpots m.words ys × StandsIn m loaded ys fault)
-      → StandsIn m loaded xs fault
+  in-these : (fault : VerifyFault) → ((ys : List Spot) × AreSpots m.words ys × FaultStandsIn m loaded ys fault)
+      → FaultStandsIn m loaded xs fault
   in-these fault stands =
-      subst (λ (ys : List Spot). StandsIn m loaded ys fault)
+      subst (λ (ys : List Spot). FaultStandsIn m loaded ys fault)
       (AreSpots-one m.words stands.0 xs stands.1 s.laid.units) stands.2
 
   -- each fault that stands is that of a jump

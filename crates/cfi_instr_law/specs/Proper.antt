@@ -13,7 +13,7 @@ use Rattle.cfi_place.specs.Names.{Names}
 use Rattle.cfi_place.specs.Placed.{IsRoom, IsPlaced}
 use Rattle.cfi_verify.specs.declared.fault.VerifyFault.{VerifyFault}
 use Rattle.cfi_verify.specs.declared.fault.VerifyFault.TheVariants.{Target}
-use Rattle.cfi_verify.specs.Faults.{Stands}
+use Rattle.cfi_verify.specs.Faults.{FaultStands}
 
 -- the node that a branch names is the type of a function
 abbrev pub NamesFunc : (types : List Node) → Kind → Type 0
@@ -41,4 +41,4 @@ IsTargetFault fault = (o : ℕ) × (fault ≡ Target o)
 
 -- each fault of a module is such a one
 abbrev pub IsProper : (m : Placed) → (loaded : List Placed) → Type 0
-IsProper m loaded = (fault : VerifyFault) → Stands m loaded fault → IsTargetFault fault
+IsProper m loaded = (fault : VerifyFault) → FaultStands m loaded fault → IsTargetFault fault

@@ -11,14 +11,15 @@ use Rattle.cfi_types.specs.Node.{Node}
 use Rattle.cfi_types.specs.Kind.{has_arity}
 use Rattle.cfi_types.specs.Spelling.{IsNode, NamesBelow, AreTypes}
 use Rattle.cfi_aux.specs.declared.modules.Module.{Module}
-use Rattle.cfi_aux.specs.Sound.{IsSoundSymbol, IsSoundReloc, IsSoundModule, are_rivals}
+use Rattle.cfi_aux.specs.Sound.{IsSoundModule}
+use Rattle.elf_read.specs.Sound.{IsSoundSymbol, IsSoundReloc, are_rivals}
 use Rattle.cfi_place.specs.Names.{Names}
 use Rattle.cfi_link.specs.declared.joined.OwnReloc.{OwnReloc}
 use Rattle.cfi_link.specs.Joined.{Joined}
 use Rattle.cfi_link.specs.Chosen.{chosen_in, reaches_of, numbers_of}
 use Rattle.cfi_link.specs.Applied.{applied_from, kept_in, by_area}
 use Rattle.cfi_link.specs.Faults.{sizes_of, passed, relocated_by}
-use Rattle.cfi_link.specs.Linked.{IsMadeOf, relocs_of}
+use Rattle.cfi_link.specs.Linked.{IsMadeOf, kept_relocs}
 use Rattle.cfi_link.specs.Made.{object_of, AreSound}
 use Rattle.cfi_link.proofs.AppliedLemmas.{applied_same, kept_same}
 use Rattle.cfi_link.proofs.LimitLemmas.{few}
@@ -52,7 +53,7 @@ pub relocs_is : (joined : Joined) (chosen : Names) (symbols : List Symbol) (reac
     (numbers : List ℕ) (relocs : List OwnReloc) → reaches ≡ reaches_of chosen symbols
     → ((name : List ℕ) → chosen name ≡ chosen_in joined.symbols name) → symbols ≡ joined.symbols
     → numbers ≡ numbers_of symbols → relocs ≡ joined.relocs
-    → by_area (kept_in reaches numbers relocs) ≡ relocs_of joined
+    → by_area (kept_in reaches numbers relocs) ≡ kept_relocs joined
 relocs_is joined chosen symbols reaches numbers relocs found names same counted others =
     ap by_area (kept_same reaches (reaches_of (chosen_in joined.symbols) joined.symbols) numbers
     (numbers_of joined.symbols) relocs joined.relocs (found ∙ reaches_is joined chosen symbols names same)

@@ -17,7 +17,7 @@ use Rattle.elf_read.specs.declared.object.Area.TheVariants as areas
 use Rattle.elf_read.specs.declared.object.Binding.{Binding}
 use Rattle.elf_read.specs.declared.object.Binding.TheVariants as bindings
 use Rattle.elf_read.specs.declared.object.Place.TheVariants as places
-use Rattle.cfi_aux.specs.Sound.{is_exported, is_defined, are_rivals, HasSymbol, IsSoundSymbol, IsSoundReloc}
+use Rattle.elf_read.specs.Sound.{is_exported, is_defined, are_rivals, HasSymbol, IsSoundSymbol, IsSoundReloc}
 use Rattle.cfi_place.specs.Names.{Names}
 use Rattle.cfi_link.specs.declared.joined.OwnReloc.{OwnReloc}
 use Rattle.cfi_link.specs.Chosen.{is_local, is_local_symbol, is_definition, is_at, loses, settled_symbol, settled, in_order, numbers_from, numbers_of}

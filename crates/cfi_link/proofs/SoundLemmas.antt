@@ -15,8 +15,9 @@ use Rattle.cfi_types.specs.Spelling.{IsNode, NamesBelow}
 use Rattle.cfi_aux.specs.declared.modules.Module.{Module}
 use Rattle.cfi_aux.specs.declared.records.Kind.{Kind}
 use Rattle.cfi_aux.specs.declared.records.Kind.TheVariants as branches
-use Rattle.cfi_aux.specs.Records.{words_of, CanBeWritten}
-use Rattle.cfi_aux.specs.Sound.{IsInside, HasField, HasSymbol, IsSoundSymbol, IsSoundReloc, IsSoundModule}
+use Rattle.cfi_aux.specs.Records.{kind_words, CanBeWritten}
+use Rattle.cfi_aux.specs.Sound.{IsSoundModule}
+use Rattle.elf_read.specs.Sound.{IsInsideArea, HasField, HasSymbol, IsSoundSymbol, IsSoundReloc}
 use Rattle.cfi_link.specs.declared.start.Start.{Start}
 use Rattle.cfi_link.specs.Joined.{Joined, nothing, with_module, joined_of, start_of, value_at, offset_at, symbol_at, reloc_at, own_reloc_at, node_at, function_at, branch_at, shifted}
 use Rattle.cfi_link.specs.Room.{HasRoom}
@@ -36,8 +37,8 @@ pub record Holds (start : Start) (a b : Object) : Type 0 where
   pub static_data : start.static_data + length a.static_data ≤ length b.static_data
   pub symbols : start.symbols + length a.symbols ≤ length b.symbols
 
-inside_at : (start : Start) (a b : Object) → Holds start a b → (place : Place) (value : ℕ) → IsInside a place value
-    → IsInside b place (value_at start place value)
+inside_at : (start : Start) (a b : Object) → Holds start a b → (place : Place) (value : ℕ) → IsInsideArea a place value
+    → IsInsideArea b place (value_at start place value)
 inside_at start a b holds places.Undefined value inside = tt
 inside_at start a b holds places.Absolute value inside = tt
 inside_at start a b holds places.Text value inside = omega (arith, inside, holds.text)
@@ -81,8 +82,8 @@ sound_reloc_at start a b holds r good = record {
 abbrev pub first : Start
 first = record { text = 0; static_data = 0; symbols = 0; types = 0 }
 
-inside_more : (a b : Object) → Holds first a b → (place : Place) (value : ℕ) → IsInside a place value
-    → IsInside b place value
+inside_more : (a b : Object) → Holds first a b → (place : Place) (value : ℕ) → IsInsideArea a place value
+    → IsInsideArea b place value
 inside_more a b holds places.Undefined value inside = tt
 inside_more a b holds places.Absolute value inside = tt
 inside_more a b holds places.Text value inside = omega (arith, inside, holds.text)
@@ -124,7 +125,7 @@ all_enumerated P n (x ∷ xs) all =
     All-cons (λ p. P p.1) (n, x) (enumerate_from (n + 1) xs) (All-head P x xs all)
     (all_enumerated P (n + 1) xs (All-tail P x xs all))
 
-few_words : (start : Start) (b : Kind) → length (words_of b) < 2 ^ 32 → length (words_of (branch_at start b)) < 2 ^ 32
+few_words : (start : Start) (b : Kind) → length (kind_words b) < 2 ^ 32 → length (kind_words (branch_at start b)) < 2 ^ 32
 few_words start (branches.Call node) few = few
 few_words start (branches.Tail node) few = few
 few_words start branches.Return few = few
@@ -208,11 +209,11 @@ sound_more joined m sound good written has =
           (map (function_at start) m.records.functions)
           sound.functions
           (All-map (λ f. length f.name < 2 ^ 32) (function_at start) m.records.functions written.names);
-      branches = All-append (λ b. length (words_of b) < 2 ^ 32) joined.branches
+      branches = All-append (λ b. length (kind_words b) < 2 ^ 32) joined.branches
           (map (branch_at start) m.records.branches)
           sound.branches
-          (All-map (λ b. length (words_of b) < 2 ^ 32) (branch_at start) m.records.branches
-          (All-weaker (λ b. length (words_of b) < 2 ^ 32) (λ b. length (words_of (branch_at start b)) < 2 ^ 32)
+          (All-map (λ b. length (kind_words b) < 2 ^ 32) (branch_at start) m.records.branches
+          (All-weaker (λ b. length (kind_words b) < 2 ^ 32) (λ b. length (kind_words (branch_at start b)) < 2 ^ 32)
           (few_words start) m.records.branches written.words));
     }
 

@@ -3,7 +3,7 @@ use Rattle.std.proofs.Common.{◌≡◌, ◌∙◌, ℕ, ◌+◌, ◌*◌, ◌/�
 use Rattle.std.specs.Prelude.{IsSomeAnd}
 use Rattle.std.proofs.lemmas.Option.{slice_get_read}
 use Rattle.cfi_aux.specs.declared.modules.Module.{Module}
-use Rattle.cfi_place.specs.Placed.{words_in}
+use Rattle.cfi_place.specs.Placed.{bytes_as_words}
 use Rattle.std.proofs.Math.Seq.{take-add}
 use Rattle.std.proofs.lemmas.List.{append-nil, take_all}
 use Rattle.cfi_unit.specs.declared.unit.Unit.{Unit as CodeUnit}
@@ -15,14 +15,14 @@ use Rattle.cfi_unit.specs.Spots.{AreUnits, StopsAt}
 
 -- a text that stops is the first one where those before it are units
 pub stray_at : (modules : List Module) (number at : ℕ) (m : Module) → number < length modules
-    → m ≡ get_or modules number m → All HasUnits (take number modules) → StopsAt (words_in m.object.text) at
+    → m ≡ get_or modules number m → All HasUnits (take number modules) → StopsAt (bytes_as_words m.object.text) at
     → IsFirstStray modules number (4 * at)
 stray_at modules number at m lt is before stops =
     let same : 4 * at / 4 ≡ at = omega arith in
     let found = slice_get_read modules (length modules) number m refl lt is in
     record {
       whole = omega arith;
-      here = subst (λ (one : Option Module). IsSomeAnd one (λ n. StopsAt (words_in n.object.text) (4 * at / 4)))
-          (sym found) (subst (StopsAt (words_in m.object.text)) (sym same) stops);
+      here = subst (λ (one : Option Module). IsSomeAnd one (λ n. StopsAt (bytes_as_words n.object.text) (4 * at / 4)))
+          (sym found) (subst (StopsAt (bytes_as_words m.object.text)) (sym same) stops);
       before = before;
     }

@@ -3,7 +3,7 @@ use Rattle.std.proofs.Common.{◌≡◌, ◌∙◌, ℕ, ◌+◌, ◌*◌, ◌%�
 use Rattle.std.specs.Prelude.{slice_set}
 use Rattle.std.specs.List.{flat_map}
 use Rattle.cfi_types.specs.Spelling.{word}
-use Rattle.cfi_place.specs.Placed.{words_in}
+use Rattle.cfi_place.specs.Placed.{bytes_as_words}
 use Rattle.cfi_place.specs.Slots.{checks_from, with_slot, with_slots}
 use Rattle.cfi_place.proofs.PlacingLemmas.{length-words_in}
 use Rattle.cfi_link.specs.Joined.{Joined}
@@ -31,6 +31,6 @@ pub text_size : (joined : Joined) (bytes : List ℕ) → length joined.text % 4 
 text_size joined bytes whole text =
     let code = text.slots in
     let spelled = ap length text.spelled ∙ length-spelled text.words in
-    let slots = ap length code.2 ∙ length-with_slots 0 (checks_from 0 code.0) (words_in text.applied) in
+    let slots = ap length code.2 ∙ length-with_slots 0 (checks_from 0 code.0) (bytes_as_words text.applied) in
     let words = length-words_in text.applied in
     omega (arith, spelled, slots, words, text.size, whole)

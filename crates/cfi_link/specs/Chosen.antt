@@ -9,7 +9,7 @@ use Rattle.elf_read.specs.declared.object.Binding.TheVariants as bindings
 use Rattle.elf_read.specs.declared.object.Place.{Place}
 use Rattle.elf_read.specs.declared.object.Place.TheVariants as places
 use Rattle.cfi_aux.specs.Placed.{is_global_binding}
-use Rattle.cfi_aux.specs.Sound.{is_exported, is_defined}
+use Rattle.elf_read.specs.Sound.{is_exported, is_defined}
 use Rattle.cfi_place.specs.Names.{Names, first_in}
 
 -- ---- definitions

@@ -7,7 +7,7 @@ use Rattle.cfi_word.specs.declared.limits.TheConstants.{MAX_SYMBOLS, MAX_RELOCS,
 use Rattle.cfi_unit.specs.declared.unit.Unit.{Unit as CodeUnit}
 use Rattle.cfi_unit.specs.Code.{BeginsAt, UnitCode}
 use Rattle.cfi_aux.specs.declared.modules.Module.{Module}
-use Rattle.cfi_place.specs.Placed.{words_in}
+use Rattle.cfi_place.specs.Placed.{bytes_as_words}
 use Rattle.cfi_link.specs.declared.fault.LinkFault.{LinkFault}
 use Rattle.cfi_link.specs.declared.limits.Sizes.{Sizes}
 use Rattle.cfi_link.specs.declared.fault.LinkFault.TheVariants as faults
@@ -24,12 +24,12 @@ has_text modules = list_any (λ m. not (length m.object.text == 0)) modules
 
 -- its text is units from its start to its end
 abbrev pub HasUnits : Module → Type 0
-HasUnits m = AreUnits (words_in m.object.text)
+HasUnits m = AreUnits (bytes_as_words m.object.text)
 
 -- a module's text stops so at a place in bytes, and the texts before it are units
 pub record IsFirstStray (modules : List Module) (number offset : ℕ) : Type 0 where
   pub whole : offset % 4 ≡ 0
-  pub here : IsSomeAnd (slice_get modules number) (λ m. StopsAt (words_in m.object.text) (offset / 4))
+  pub here : IsSomeAnd (slice_get modules number) (λ m. StopsAt (bytes_as_words m.object.text) (offset / 4))
   pub before : All HasUnits (take number modules)
 
 -- modules whose texts can be joined
@@ -96,14 +96,14 @@ pub record IsAfter (A B : Type 0) : Type 0 where
   pub earlier : A
   pub here : B
 
-abbrev pub IsFirstFault : List Module → LinkFault → Type 0
-IsFirstFault modules faults.NoText = has_text modules ≡ false
-IsFirstFault modules (faults.NotUnit number offset) =
+abbrev pub IsFirstLinkFault : List Module → LinkFault → Type 0
+IsFirstLinkFault modules faults.NoText = has_text modules ≡ false
+IsFirstLinkFault modules (faults.NotUnit number offset) =
     IsAfter (has_text modules ≡ true) (IsFirstStray modules number offset)
-IsFirstFault modules (faults.TooMany what) =
+IsFirstLinkFault modules (faults.TooMany what) =
     IsAfter (HaveTexts modules) (passed_by modules ≡ Some what)
-IsFirstFault modules (faults.Twice name) =
+IsFirstLinkFault modules (faults.Twice name) =
     IsAfter (AreWithin modules) (twice_in (joined_of modules).symbols ≡ Some name)
-IsFirstFault modules (faults.BadReloc number k) =
+IsFirstLinkFault modules (faults.BadReloc number k) =
     IsAfter (CanBeLinked modules) (relocated_in modules ≡ Err (faults.BadReloc number k))
-IsFirstFault modules faults.Memory = ⊤
+IsFirstLinkFault modules faults.Memory = ⊤

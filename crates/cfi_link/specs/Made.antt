@@ -2,8 +2,8 @@
 use Rattle.std.specs.Prelude.{◌≡◌, ◌%◌, ◌<◌, ◌^◌, length, map, All, Some, None, Err, ⊤}
 use Rattle.elf_read.specs.declared.object.Object.{Object}
 use Rattle.cfi_types.specs.Spelling.{IsNode, NamesBelow}
-use Rattle.cfi_aux.specs.Records.{words_of}
-use Rattle.cfi_aux.specs.Sound.{IsSoundSymbol, IsSoundReloc}
+use Rattle.cfi_aux.specs.Records.{kind_words}
+use Rattle.elf_read.specs.Sound.{IsSoundSymbol, IsSoundReloc}
 use Rattle.cfi_link.specs.declared.fault.LinkFault.{LinkFault}
 use Rattle.cfi_link.specs.declared.fault.LinkFault.TheVariants as faults
 use Rattle.cfi_link.specs.Joined.{Joined}
@@ -29,7 +29,7 @@ pub record AreSound (joined : Joined) : Type 0 where
   pub nodes : All IsNode joined.types
   pub names : All (NamesBelow (length joined.types)) joined.types
   pub functions : All (λ f. length f.name < 2 ^ 32) joined.functions
-  pub branches : All (λ b. length (words_of b) < 2 ^ 32) joined.branches
+  pub branches : All (λ b. length (kind_words b) < 2 ^ 32) joined.branches
 
 -- a refusal for a name or a relocation, unless memory ran out
 abbrev pub IsMakeFault : Joined → LinkFault → Type 0

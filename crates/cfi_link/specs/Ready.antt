@@ -9,6 +9,6 @@ pub record IsInText (text : ℕ) (reloc : Reloc) : Type 0 where
   pub within : reloc.offset + field_size reloc.kind ≤ text
 
 -- a relocation with a target does, in text of so many bytes
-abbrev pub IsReady : (target : Option ℕ) → (text : ℕ) → Reloc → Type 0
-IsReady None text reloc = ⊤
-IsReady (Some value) text reloc = IsInText text reloc
+abbrev pub CanBeApplied : (target : Option ℕ) → (text : ℕ) → Reloc → Type 0
+CanBeApplied None text reloc = ⊤
+CanBeApplied (Some value) text reloc = IsInText text reloc

@@ -2,7 +2,7 @@
 
 ghost use Rattle.std.specs.Prelude.{◌≡◌, All, Ok, Err, OnOk, IfOk, IfErr, length};
 ghost use Rattle.cfi_link.specs.Applied.{is_jump, reach_of_symbol, target_of, applied_to, applied_from};
-ghost use Rattle.cfi_link.specs.Ready.{IsReady};
+ghost use Rattle.cfi_link.specs.Ready.{CanBeApplied};
 ghost use Rattle.cfi_link.specs.Kept.{IsRelocFault};
 
 use crate::fault::LinkFault;
@@ -39,7 +39,7 @@ pub fn target_of(reaches: &[Option<u32>], reloc: &Reloc) -> Option<u32>
 
 // Applies a relocation in text to its target, where it has one.
 fn apply_to(text: &mut [u8], target: Option<u32>, reloc: &Reloc) -> Result<(), RelocFault>
-    requires { IsReady target (length text.old) reloc.now }
+    requires { CanBeApplied target (length text.old) reloc.now }
     ensures ok { OnOk result (applied_to target reloc.now text.old ≡ Ok text.new) }
     ensures fault { IfErr result (λ fault. applied_to target reloc.now text.old ≡ Err fault) }
 {
@@ -53,7 +53,7 @@ fn apply_to(text: &mut [u8], target: Option<u32>, reloc: &Reloc) -> Result<(), R
 //
 // `BadReloc` for the first that can not be applied; the text is then of no use.
 fn apply_all(text: &mut [u8], reaches: &[Option<u32>], relocs: &[OwnReloc]) -> Result<(), LinkFault>
-    requires { All (λ own. IsReady (target_of reaches.now own.reloc) (length text.old) own.reloc)
+    requires { All (λ own. CanBeApplied (target_of reaches.now own.reloc) (length text.old) own.reloc)
         relocs.now }
     ensures ok { OnOk result (applied_from reaches.now relocs.now text.old ≡ Ok text.new) }
     ensures fault { IfErr result (IsRelocFault (applied_from reaches.now relocs.now text.old)) }
@@ -74,7 +74,7 @@ pub fn applied_text(
     reaches: &[Option<u32>],
     relocs: &[OwnReloc],
 ) -> Result<Vec<u8>, LinkFault>
-    requires { All (λ own. IsReady (target_of reaches.now own.reloc) (length source.now) own.reloc)
+    requires { All (λ own. CanBeApplied (target_of reaches.now own.reloc) (length source.now) own.reloc)
         relocs.now }
     ensures ok { IfOk result (λ text. applied_from reaches.now relocs.now source.now ≡ Ok text.items) }
     ensures size { IfOk result (λ text. length text.items ≡ length source.now) }

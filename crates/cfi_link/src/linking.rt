@@ -5,9 +5,9 @@ ghost use Rattle.cfi_types.specs.Spelling.{spelling as types_spelling};
 ghost use Rattle.cfi_aux.specs.Records.{CanBeWritten, spelling as records_spelling};
 ghost use Rattle.cfi_aux.specs.Sound.{IsSoundModule};
 ghost use Rattle.cfi_link.specs.Chosen.{chosen_in, twice_in};
-ghost use Rattle.cfi_link.specs.Faults.{sizes_of, passed, relocated_by, IsFirstFault};
+ghost use Rattle.cfi_link.specs.Faults.{sizes_of, passed, relocated_by, IsFirstLinkFault};
 ghost use Rattle.cfi_link.specs.Kept.{chosen_by, IsRelocFault};
-ghost use Rattle.cfi_link.specs.Linked.{AreModules, IsTextOf, IsMadeOf, Linked, relocs_of};
+ghost use Rattle.cfi_link.specs.Linked.{AreModules, IsTextOf, IsMadeOf, Linked, kept_relocs};
 ghost use Rattle.cfi_link.specs.Made.{AreSound, IsMakeFault};
 
 use crate::applied::applied_text;
@@ -39,7 +39,7 @@ fn parts_of(
     requires chosen { (name : List ℕ) →
         chosen_by definitions.now name ≡ chosen_in joined.now.symbols name }
     ensures text { IfOk result (λ parts. IsTextOf joined.now parts.0.items) }
-    ensures relocs { IfOk result (λ parts. parts.1.items ≡ relocs_of joined.now) }
+    ensures relocs { IfOk result (λ parts. parts.1.items ≡ kept_relocs joined.now) }
     ensures fault { IfErr result (IsRelocFault (relocated_by joined.now)) }
 {
     let symbols = joined.symbols.as_slice();
@@ -117,7 +117,7 @@ pub fn link(alloc: Global, modules: &[Module]) -> Result<Module, LinkFault>
     requires { AreModules modules.now }
     ensures ok { IfOk result (Linked modules.now) }
     ensures sound { IfOk result IsSoundModule }
-    ensures fault { IfErr result (IsFirstFault modules.now) }
+    ensures fault { IfErr result (IsFirstLinkFault modules.now) }
 {
     check_texts(alloc, modules)?;
     if let Some(what) = passed_by(modules) {

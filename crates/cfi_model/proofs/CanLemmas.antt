@@ -3,7 +3,7 @@ use Rattle.std.proofs.Common.{ℕ, ◌≤◌, true, false, pos, List, [], ◌∷
 use Rattle.std.proofs.lemmas.List.Elements.{All-nil}
 use Rattle.cfi_unit.specs.declared.unit.Unit.TheVariants as units
 use Rattle.cfi_word.specs.declared.limits.TheConstants.{MAX_POLICY}
-use Rattle.cfi_model.specs.Data.{IsInside}
+use Rattle.cfi_model.specs.Data.{LiesInData}
 use Rattle.cfi_model.specs.Service.{Reply, reply_of}
 use Rattle.cfi_model.specs.Plain.{PlainState, plain_opened, CanRun, CanEnd}
 
@@ -32,4 +32,4 @@ abbrev pub asking : PlainState
 asking = record (plain_opened 0 0 []) { waits = true }
 
 pub can_end : (policy : ℕ) → policy ≤ MAX_POLICY → CanEnd (reply policy) asking
-can_end policy most = record { waiting = refl; inside = All-nil IsInside; rises = omega arith; most = most }
+can_end policy most = record { waiting = refl; inside = All-nil LiesInData; rises = omega arith; most = most }

@@ -10,7 +10,7 @@ use Rattle.cfi_word.specs.declared.ids.TheConstants.{FIELD_MAX}
 use Rattle.cfi_word.specs.declared.map.TheConstants.{FIRST_BASE}
 use Rattle.cfi_word.specs.declared.limits.TheConstants.{MIN_CODE_WORDS}
 use Rattle.cfi_word.specs.Table.{IsSize, slots_of}
-use Rattle.cfi_model.specs.Closed.{code_of, place_of, idle, StandsIn, StaysInside, IsStartOf, IsReadAs, HasClasses, IsClosed}
+use Rattle.cfi_model.specs.Closed.{code_of, unit_address, idle, StandsIn, StaysInside, IsStartOf, IsReadAs, HasClasses, IsClosed}
 
 -- the one unit
 abbrev jump : CodeUnit
@@ -63,7 +63,7 @@ read_as code_words = record {
 }
 
 -- the address of the one unit is the one start
-starts : (address : ℕ) → address ≡ place_of body 0 → IsStartOf body address
+starts : (address : ℕ) → address ≡ unit_address body 0 → IsStartOf body address
 starts address here = (0, omega arith, here)
 
 only_jump : (number : ℕ) (unit : CodeUnit) → slice_get body number ≡ Some unit → (number ≡ 0) × (jump ≡ unit)
@@ -75,7 +75,7 @@ only_jump number unit at =
 stays : (slots address : ℕ) (unit : CodeUnit) → StandsIn body address unit → StaysInside body slots address unit
 stays slots address unit stands =
     let only = only_jump stands.0 unit stands.1 in
-    let here : address ≡ place_of body 0 = stands.2 ∙ ap (place_of body) only.0 in
+    let here : address ≡ unit_address body 0 = stands.2 ∙ ap (unit_address body) only.0 in
     let same : address + 0 ≡ address = omega arith in
     let P : CodeUnit → Type 0 = λ u. StaysInside body slots address u in
     subst P only.1 (tt, starts (address + 0) (same ∙ here))

@@ -11,7 +11,7 @@ use Rattle.cfi_unit.specs.Code.{BeginsAt}
 use Rattle.cfi_unit.proofs.CodeLemmas.{BeginsAt-within, length-words_of}
 use Rattle.cfi_unit.proofs.UnitLemmas.{size_pos}
 use Rattle.cfi_word.specs.declared.map.TheConstants.{FIRST_BASE}
-use Rattle.cfi_model.specs.Closed.{code_of, idle, place_of, IsReadAs, IsStartOf, StandsIn}
+use Rattle.cfi_model.specs.Closed.{code_of, idle, unit_address, IsReadAs, IsStartOf, StandsIn}
 use Rattle.cfi_model.specs.History.{History, IsHistory, IsEpoch, IsStart}
 use Rattle.cfi_model.specs.Shows.{Stands}
 use Rattle.cfi_model.proofs.ReadLemmas.{no_zero, read_once}
@@ -105,7 +105,7 @@ pub record Started (h : History) (code : List ℕ) (known : IsHistory h code) (a
 -- a start's address is one of the code
 unit_starts : (h : History) (code : List ℕ) (epoch n : ℕ) (u : CodeUnit) (known : IsHistory h code)
     (is : IsEpoch h epoch) → slice_get (body_at h code epoch known is) n ≡ Some u
-    → Started h code known (place_of (body_at h code epoch known is) n)
+    → Started h code known (unit_address (body_at h code epoch known is) n)
 unit_starts h code epoch n u known is item =
     let body : List CodeUnit = body_at h code epoch known is in
     let closed = (known.closed epoch is).1 in
@@ -115,7 +115,7 @@ unit_starts h code epoch n u known is item =
     let inside = BeginsAt-within code _ u begins in
     let some = size_pos u in
     let most = known.size.most in
-    let place : place_of body n / 4 ≡ FIRST_BASE + length (code_of (take n body)) = omega arith in
+    let place : unit_address body n / 4 ≡ FIRST_BASE + length (code_of (take n body)) = omega arith in
     record {
       epoch = epoch;
       is = is;

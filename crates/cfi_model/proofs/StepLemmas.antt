@@ -7,7 +7,7 @@ use Rattle.rv_insn.specs.declared.insn.StoreKind.{StoreKind}
 use Rattle.cfi_unit.specs.declared.log.Stop.TheVariants.{Halt}
 use Rattle.cfi_model.specs.declared.act.Wait.TheVariants as waits
 use Rattle.cfi_model.specs.Data.{load_width, store_width, is_aligned}
-use Rattle.cfi_model.specs.Raw.{Raw, address_of}
+use Rattle.cfi_model.specs.Raw.{Raw, access_address}
 use Rattle.cfi_model.specs.Begin.{Area, Private, TaryId, BaryId, Nothing, HasLoad, HasStore, HasStep, begin_as, load_at, store_at, area_of, waiting, stopped}
 
 -- either of two states counts the step
@@ -41,8 +41,8 @@ counts_step (insns.Auipc rd imm) r has = refl
 counts_step (insns.Jal rd off) r has = refl
 counts_step (insns.Jalr rd rs1 imm) r has = either (rs1 == 31) _ _ _ refl refl
 counts_step (insns.Branch c rs1 rs2 off) r has = refl
-counts_step (insns.Load kind rd rs1 imm) r has = load_counts (area_of (address_of r rs1 imm)) kind rd _ r has
-counts_step (insns.Store kind rs1 rs2 imm) r has = store_counts (area_of (address_of r rs1 imm)) kind _ r has
+counts_step (insns.Load kind rd rs1 imm) r has = load_counts (area_of (access_address r rs1 imm)) kind rd _ r has
+counts_step (insns.Store kind rs1 rs2 imm) r has = store_counts (area_of (access_address r rs1 imm)) kind _ r has
 counts_step (insns.OpImm op rd rs1 imm) r has = refl
 counts_step (insns.Op op rd rs1 rs2) r has = refl
 counts_step (insns.Fence fields) r has = refl

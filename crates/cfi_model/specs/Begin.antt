@@ -25,7 +25,7 @@ use Rattle.cfi_model.specs.Data.{load_width, store_width, is_aligned, loaded, st
 use Rattle.cfi_model.specs.Log.{picked}
 use Rattle.cfi_model.specs.State.{displaced, after}
 use Rattle.cfi_model.specs.Service.{asked}
-use Rattle.cfi_model.specs.Raw.{Raw, reg, with_reg, address_of}
+use Rattle.cfi_model.specs.Raw.{Raw, reg, with_reg, access_address}
 
 -- a register of the instrumentation, x28 to x31
 abbrev pub is_reserved : ℕ → Bool
@@ -86,7 +86,7 @@ judged r = record r { base = record r.base { log = picked_by r.tary r.base.log }
 
 -- the target of JALR, its lowest bit cleared
 abbrev pub jalr_target : Raw → (rs1 : ℕ) → ℤ → ℕ
-jalr_target r rs1 imm = address_of r rs1 imm - address_of r rs1 imm % 2
+jalr_target r rs1 imm = access_address r rs1 imm - access_address r rs1 imm % 2
 
 -- what lies at an address
 pub data Area : Type 0 where
@@ -96,14 +96,14 @@ pub data Area : Type 0 where
   Nothing : Area
 
 -- an address lies in a range of so many bytes
-abbrev pub is_within : (first bytes address : ℕ) → Bool
-is_within first bytes address = nat_le first address && nat_lt address (first + bytes)
+abbrev pub is_in_range : (first bytes address : ℕ) → Bool
+is_in_range first bytes address = nat_le first address && nat_lt address (first + bytes)
 
 abbrev pub area_of : ℕ → Area
 area_of address =
-    if is_within DATA_START DATA_BYTES address then Private (address - DATA_START) else
-    (if is_within TARY CODE_BYTES address then TaryId (address - TARY) else
-    (if is_within BARY (4 * SLOTS) address && is_aligned 4 address then BaryId ((address - BARY) / 4) else Nothing))
+    if is_in_range DATA_START DATA_BYTES address then Private (address - DATA_START) else
+    (if is_in_range TARY CODE_BYTES address then TaryId (address - TARY) else
+    (if is_in_range BARY (4 * SLOTS) address && is_aligned 4 address then BaryId ((address - BARY) / 4) else Nothing))
 
 -- a table is read by words alone
 abbrev pub reads_table : LoadKind → Bool
@@ -161,8 +161,8 @@ begin_as (insns.Branch cond rs1 rs2 off) r =
     (units_of (is_reserved rs1 || is_reserved rs2))
     r
 begin_as (insns.Load kind rd rs1 imm) r =
-    load_at (area_of (address_of r rs1 imm)) kind rd (units_of (is_reserved rd || is_reserved rs1)) r
-begin_as (insns.Store kind rs1 rs2 imm) r = store_at (area_of (address_of r rs1 imm)) kind (reg r rs2) r
+    load_at (area_of (access_address r rs1 imm)) kind rd (units_of (is_reserved rd || is_reserved rs1)) r
+begin_as (insns.Store kind rs1 rs2 imm) r = store_at (area_of (access_address r rs1 imm)) kind (reg r rs2) r
 begin_as (insns.OpImm op rd rs1 imm) r =
     writes (insns.OpImm op rd rs1 imm) rd (value_of_imm_op op (reg r rs1) (cast_unsigned w32 imm)) r
 begin_as (insns.Op op rd rs1 rs2) r =
@@ -197,8 +197,8 @@ store_act _ kind = acts.Done
 
 -- what an instruction asks for
 abbrev pub act_as : Insn → Raw → Act
-act_as (insns.Load kind rd rs1 imm) r = load_act (area_of (address_of r rs1 imm)) kind
-act_as (insns.Store kind rs1 rs2 imm) r = store_act (area_of (address_of r rs1 imm)) kind
+act_as (insns.Load kind rd rs1 imm) r = load_act (area_of (access_address r rs1 imm)) kind
+act_as (insns.Store kind rs1 rs2 imm) r = store_act (area_of (access_address r rs1 imm)) kind
 act_as insns.Ecall r = acts.Service (asked r.base)
 act_as insns.Ebreak r = acts.Halt r.x31
 act_as _ r = acts.Done
@@ -223,8 +223,8 @@ HasStore area = ⊥
 
 -- the raw machine has a step for an instruction
 abbrev pub HasStep : Insn → Raw → Type 0
-HasStep (insns.Load kind rd rs1 imm) r = HasLoad (area_of (address_of r rs1 imm)) kind
-HasStep (insns.Store kind rs1 rs2 imm) r = HasStore (area_of (address_of r rs1 imm))
+HasStep (insns.Load kind rd rs1 imm) r = HasLoad (area_of (access_address r rs1 imm)) kind
+HasStep (insns.Store kind rs1 rs2 imm) r = HasStore (area_of (access_address r rs1 imm))
 HasStep insn r = ⊤
 
 -- and for a word

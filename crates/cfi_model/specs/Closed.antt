@@ -28,16 +28,16 @@ pub record IsReadAs (code : List ℕ) (body : List CodeUnit) (idles zeros : ℕ)
   pub busy : slice_get body (length body - 1) ≢ Some idle
 
 -- the address of a unit of the body, by its number
-abbrev pub place_of : (body : List CodeUnit) → (number : ℕ) → ℕ
-place_of body number = 4 * (FIRST_BASE + length (code_of (take number body)))
+abbrev pub unit_address : (body : List CodeUnit) → (number : ℕ) → ℕ
+unit_address body number = 4 * (FIRST_BASE + length (code_of (take number body)))
 
 -- a unit of the body stands at the address
 abbrev pub StandsIn : (body : List CodeUnit) → (address : ℕ) → CodeUnit → Type 0
-StandsIn body address unit = (number : ℕ) × (slice_get body number ≡ Some unit) × (address ≡ place_of body number)
+StandsIn body address unit = (number : ℕ) × (slice_get body number ≡ Some unit) × (address ≡ unit_address body number)
 
 -- the address is a start
 abbrev pub IsStartOf : (body : List CodeUnit) → (address : ℕ) → Type 0
-IsStartOf body address = (number : ℕ) × (number < length body) × (address ≡ place_of body number)
+IsStartOf body address = (number : ℕ) × (number < length body) × (address ≡ unit_address body number)
 
 -- the address that lies so far from another is a start
 abbrev pub LeadsToStart : (body : List CodeUnit) → (address : ℕ) → ℤ → Type 0

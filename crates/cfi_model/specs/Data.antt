@@ -60,17 +60,17 @@ with_byte bytes offset value = slice_set bytes offset (value % 2 ^ 8)
 abbrev pub with_half : List ℕ → (offset value : ℕ) → List ℕ
 with_half bytes offset value = with_byte (with_byte bytes offset value) (offset + 1) (value / 2 ^ 8)
 
-abbrev pub with_word : List ℕ → (offset value : ℕ) → List ℕ
-with_word bytes offset value = with_half (with_half bytes offset value) (offset + 2) (value / 2 ^ 16)
+abbrev pub with_data_word : List ℕ → (offset value : ℕ) → List ℕ
+with_data_word bytes offset value = with_half (with_half bytes offset value) (offset + 2) (value / 2 ^ 16)
 
 -- what a store makes of the data
 abbrev pub stored : StoreKind → List ℕ → (offset value : ℕ) → List ℕ
 stored Sb bytes offset value = with_byte bytes offset value
 stored Sh bytes offset value = with_half bytes offset value
-stored Sw bytes offset value = with_word bytes offset value
+stored Sw bytes offset value = with_data_word bytes offset value
 
 -- a fill lies inside private data
-pub record IsInside (fill : Fill) : Type 0 where
+pub record LiesInData (fill : Fill) : Type 0 where
   pub first : DATA_START ≤ fill.at
   pub last : fill.at - DATA_START + length fill.bytes ≤ DATA_BYTES
 

@@ -11,7 +11,7 @@ use Rattle.cfi_model.specs.declared.step.PlainStep.{PlainStep}
 use Rattle.cfi_model.specs.declared.step.PlainStep.TheVariants.{Went, Asks, Stopped}
 use Rattle.cfi_word.specs.declared.limits.TheConstants.{MAX_OPENS, MAX_POLICY}
 use Rattle.std.specs.List.{All}
-use Rattle.cfi_model.specs.Data.{IsInside}
+use Rattle.cfi_model.specs.Data.{LiesInData}
 use Rattle.cfi_model.specs.Log.{last_policy, last_picks, opens}
 use Rattle.cfi_model.specs.State.{State, opened, after}
 use Rattle.cfi_model.specs.Service.{Reply, Opens, served, argument, too_many}
@@ -67,7 +67,7 @@ pub record CanRun (code : List ℕ) (policy : ℕ) (m : PlainState) : Type 0 whe
 -- an answer that a machine may get: its policy does not fall, and its fills lie inside private data
 pub record CanEnd (reply : Reply) (m : PlainState) : Type 0 where
   pub waiting : m.waits ≡ true
-  pub inside : All IsInside reply.fills
+  pub inside : All LiesInData reply.fills
   pub rises : last_policy m.state.log ≤ reply.policy
   pub most : reply.policy ≤ MAX_POLICY
 

@@ -42,5 +42,5 @@ with_reg r k value = record r {
 }
 
 -- the address that a register and an immediate give
-abbrev pub address_of : Raw → (rs1 : ℕ) → ℤ → ℕ
-address_of r rs1 imm = displaced (reg r rs1) imm
+abbrev pub access_address : Raw → (rs1 : ℕ) → ℤ → ℕ
+access_address r rs1 imm = displaced (reg r rs1) imm

@@ -8,7 +8,7 @@ use Rattle.cfi_unit.specs.declared.log.Stop.TheVariants.{Exit}
 use Rattle.cfi_word.specs.declared.limits.TheConstants.{MAX_POLICY, MAX_OPENS, MAX_OUTPUT}
 use Rattle.cfi_word.specs.declared.services.TheConstants as services
 use Rattle.std.specs.List.{All}
-use Rattle.cfi_model.specs.Data.{filled_by, IsInside}
+use Rattle.cfi_model.specs.Data.{filled_by, LiesInData}
 use Rattle.cfi_model.specs.Log.{opens, last_policy}
 use Rattle.cfi_model.specs.State.{State, register}
 
@@ -112,7 +112,7 @@ served service reply s = record s {
 
 -- an answer can be logged: an open that found too many needs no entry, and a success has a policy that does not fall
 pub record IsAnswer (reply : Reply) (s : State) : Type 0 where
-  pub inside : All IsInside reply.fills
+  pub inside : All LiesInData reply.fills
   pub few : reply.cause ≢ services.TOO_MANY → opens s.log < MAX_OPENS
   pub rises : reply.cause ≡ 0 → last_policy s.log ≤ reply.policy
   pub most : reply.cause ≡ 0 → reply.policy ≤ MAX_POLICY

@@ -1,7 +1,7 @@
 ghost use Rattle.std.specs.Prelude.{◌≡◌, ℕ, ◌+◌, ◌-◌, ◌*◌, ◌<◌, ◌≤◌, ◌^◌, IfOk, List, length};
 ghost use Rattle.std.specs.List.{All, splice};
-ghost use Rattle.cfi_model.specs.Data.{zeroes, load_width, store_width, loaded, stored, filled, filled_by, IsInside};
-ghost use Rattle.cfi_model.specs.Data.{byte_at, half_at, word_at, with_byte, with_half, with_word, sign_extended};
+ghost use Rattle.cfi_model.specs.Data.{zeroes, load_width, store_width, loaded, stored, filled, filled_by, LiesInData};
+ghost use Rattle.cfi_model.specs.Data.{byte_at, half_at, word_at, with_byte, with_half, with_data_word, sign_extended};
 ghost use Rattle.cfi_word.specs.declared.map.TheConstants.{DATA_START, DATA_BYTES};
 
 use cfi_word::map::{DATA_BYTES, DATA_START};
@@ -147,7 +147,7 @@ impl PrivateData {
 
     /// Writes fills one after the other; each lies inside private data.
     pub fn fill(&mut self, fills: &[Fill])
-        requires { All IsInside fills.now }
+        requires { All LiesInData fills.now }
         ensures { self.new ≡ filled_by self.old fills.now }
     {
         for fill in fills {

@@ -3,7 +3,7 @@ ghost use Rattle.std.specs.List.{All};
 ghost use Rattle.cfi_unit.specs.declared.unit.Unit.{Unit as CodeUnit};
 ghost use Rattle.cfi_unit.specs.Code.{BeginsAt};
 ghost use Rattle.cfi_word.specs.declared.limits.TheConstants.{MAX_POLICY};
-ghost use Rattle.cfi_model.specs.Data.{IsInside};
+ghost use Rattle.cfi_model.specs.Data.{LiesInData};
 ghost use Rattle.cfi_model.specs.Log.{last_policy};
 ghost use Rattle.cfi_unit.specs.declared.unit.TheConstants.{FREE_REGISTERS};
 
@@ -70,7 +70,7 @@ impl Plain {
     ///
     /// x2 is past the end of private data, and x10 the number.
     pub fn open(alloc: Global, number: u32, entry: u32, fills: &[Fill]) -> Result<Plain, AllocError>
-        requires { All IsInside fills.now }
+        requires { All LiesInData fills.now }
         ensures { IfOk result (λ m. m ≡ plain_opened number entry fills.now) }
     {
         let mut memory = PrivateData::new(alloc)?;

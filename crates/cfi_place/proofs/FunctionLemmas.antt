@@ -13,7 +13,7 @@ use Rattle.elf_read.specs.declared.object.Binding.TheVariants as bindings
 use Rattle.elf_read.specs.declared.object.Place.{Place}
 use Rattle.elf_read.specs.declared.object.Place.TheVariants as places
 use Rattle.cfi_aux.specs.declared.records.Function.{Function}
-use Rattle.cfi_aux.specs.Sound.{is_exported, is_defined, are_rivals}
+use Rattle.elf_read.specs.Sound.{is_exported, is_defined, are_rivals}
 use Rattle.cfi_aux.specs.Placed.{is_global_binding, is_text, names_function, is_global}
 use Rattle.cfi_place.specs.Names.{Names, first_in}
 use Rattle.cfi_place.specs.Functions.{is_global_text, globals_in, stands_at, has_global, make_function, placed_functions}

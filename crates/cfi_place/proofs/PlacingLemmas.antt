@@ -7,7 +7,7 @@ use Rattle.elf_read.specs.declared.object.Object.{Object}
 use Rattle.elf_read.specs.declared.object.Symbol.{Symbol}
 use Rattle.elf_read.specs.declared.object.Place.{Place}
 use Rattle.elf_read.specs.declared.object.Place.TheVariants as places
-use Rattle.cfi_aux.specs.Sound.{IsInside, IsSoundSymbol}
+use Rattle.elf_read.specs.Sound.{IsInsideArea, IsSoundSymbol}
 use Rattle.cfi_aux.specs.declared.records.Function.{Function}
 use Rattle.cfi_aux.specs.declared.placed.PlacedFunction.{PlacedFunction}
 use Rattle.cfi_aux.specs.Placed.{address_of, exports_of}
@@ -16,10 +16,10 @@ use Rattle.rv_reloc.specs.Bytes.{word_at}
 use Rattle.cfi_place.specs.declared.room.Room.{Room}
 use Rattle.cfi_place.specs.Names.{Names, first_in}
 use Rattle.cfi_place.specs.Value.{own_in, values_by}
-use Rattle.cfi_place.specs.Relocated.{address_in}
+use Rattle.cfi_place.specs.Relocated.{field_address}
 use Rattle.cfi_place.specs.Slots.{HasSlots}
 use Rattle.cfi_place.specs.Functions.{placed_functions}
-use Rattle.cfi_place.specs.Placed.{words_in, values_in}
+use Rattle.cfi_place.specs.Placed.{bytes_as_words, values_in}
 
 -- the addresses of a module that fits into 32 bits
 pub record FitsAt (object : Object) (room : Room) : Type 0 where
@@ -27,7 +27,7 @@ pub record FitsAt (object : Object) (room : Room) : Type 0 where
   pub static_data : room.data_base + length object.static_data < 2 ^ 32
 
 address-fits : (object : Object) (room : Room) (place : Place) (value : ℕ) → FitsAt object room
-    → IsInside object place value → value < 2 ^ 32 → aux.address_in room.base room.data_base place value < 2 ^ 32
+    → IsInsideArea object place value → value < 2 ^ 32 → aux.address_in room.base room.data_base place value < 2 ^ 32
 address-fits object room places.Undefined value at inside small = small
 address-fits object room places.Absolute value at inside small = small
 address-fits object room places.Text value at inside small = omega (arith, at.text, inside)
@@ -56,7 +56,7 @@ addresses-fit object room at sound small = λ i d lt.
 
 -- ---- words
 
-pub length-words_in : (bytes : List ℕ) → length (words_in bytes) ≡ length bytes / 4
+pub length-words_in : (bytes : List ℕ) → length (bytes_as_words bytes) ≡ length bytes / 4
 length-words_in bytes = length-map-range_with_len (λ k. word_at (4 * k) bytes) 0 (length bytes / 4)
 
 -- ---- the steps joined
@@ -70,12 +70,12 @@ values-are object room names exports symbols values e s v =
     ∙ ap (λ (x : List Symbol). values_by room (own_in room object.symbols) names x) s
 
 pub slots-are : (source source_is text text_is words words_is : List ℕ) (slot : ℕ) → source ≡ source_is → text ≡ text_is
-    → words ≡ words_is → HasSlots (words_in source_is) slot (words_in text_is) words_is
-    → HasSlots (words_in source) slot (words_in text) words
+    → words ≡ words_is → HasSlots (bytes_as_words source_is) slot (bytes_as_words text_is) words_is
+    → HasSlots (bytes_as_words source) slot (bytes_as_words text) words
 slots-are source source_is text text_is words words_is slot s t w h =
-    subst (λ (x : List ℕ). HasSlots (words_in x) slot (words_in text) words) (sym s)
-    (subst (λ (x : List ℕ). HasSlots (words_in source_is) slot (words_in x) words) (sym t)
-    (subst (λ (x : List ℕ). HasSlots (words_in source_is) slot (words_in text_is) x) (sym w) h))
+    subst (λ (x : List ℕ). HasSlots (bytes_as_words x) slot (bytes_as_words text) words) (sym s)
+    (subst (λ (x : List ℕ). HasSlots (bytes_as_words source_is) slot (bytes_as_words x) words) (sym t)
+    (subst (λ (x : List ℕ). HasSlots (bytes_as_words source_is) slot (bytes_as_words text_is) x) (sym w) h))
 
 pub functions-are : (symbols symbols_is : List Symbol) (functions functions_is : List Function)
     (placed : List PlacedFunction) → symbols_is ≡ symbols → functions_is ≡ functions

@@ -7,7 +7,7 @@ use Rattle.elf_read.specs.declared.object.Reloc.{Reloc}
 use Rattle.rv_reloc.specs.declared.fault.RelocFault.{RelocFault}
 use Rattle.cfi_place.specs.declared.fault.PlaceFault.TheVariants as faults
 use Rattle.cfi_place.specs.declared.room.Room.{Room}
-use Rattle.cfi_place.specs.Relocated.{Areas, ◌>>=◌, field_address, value_in, applied_in, is_high, high_part, high_parts, partner_in, with_partner, numbered, relocated_by, relocated_from}
+use Rattle.cfi_place.specs.Relocated.{Areas, ◌>>=◌, field_address, value_in, applied_in, is_high, upper_part, high_parts, partner_in, with_partner, numbered, relocated_by, relocated_from}
 use Rattle.cfi_place.proofs.NameLemmas.{lookup-push}
 
 pub relocated-more : (room : Room) (values : List (Option ℕ)) (parts : List (ℕ × ℕ)) (k : ℕ) (relocs : List Reloc)
@@ -63,15 +63,15 @@ pub high_parts-other : (room : Room) (values : List (Option ℕ)) (relocs : List
     → high_parts room values (take (i + 1) relocs) ≡ high_parts room values (take i relocs)
 high_parts-other room values relocs i d lt other =
     let more = filter_more is_high relocs i d lt in
-    rw (more, other) (ap (map (high_part room values)) (append-nil (filter is_high (take i relocs))))
+    rw (more, other) (ap (map (upper_part room values)) (append-nil (filter is_high (take i relocs))))
 
 pub high_parts-more : (room : Room) (values : List (Option ℕ)) (relocs : List Reloc) (i : ℕ) (d : Reloc)
     → i < length relocs → is_high (get_or relocs i d) ≡ true
     → high_parts room values (take (i + 1) relocs)
-    ≡ high_parts room values (take i relocs) ++ high_part room values (get_or relocs i d) ∷ []
+    ≡ high_parts room values (take i relocs) ++ upper_part room values (get_or relocs i d) ∷ []
 high_parts-more room values relocs i d lt high =
     let more = filter_more is_high relocs i d lt in
-    rw (more, high) (map-append (high_part room values) (filter is_high (take i relocs)) (get_or relocs i d ∷ []))
+    rw (more, high) (map-append (upper_part room values) (filter is_high (take i relocs)) (get_or relocs i d ∷ []))
 
 kept : (test : Bool) (found : Option ℕ) (n : ℕ)
     → option_or found (cond test (Some n) None) ≡ cond (test && not (is_some found)) (Some n) found
@@ -89,7 +89,7 @@ partner_in-push parts at n address =
 -- one part more, and numbers that answer as the parts do
 pub partners-more : (room : Room) (values : List (Option ℕ)) (relocs : List Reloc) (i : ℕ) (d : Reloc) (part : ℕ × ℕ)
     (old new : ℕ → Option ℕ) → i < length relocs → is_high (get_or relocs i d) ≡ true
-    → part ≡ high_part room values (get_or relocs i d)
+    → part ≡ upper_part room values (get_or relocs i d)
     → ((a : ℕ) → old a ≡ partner_in (high_parts room values (take i relocs)) a)
     → ((a : ℕ) → new a ≡ with_partner part.0 part.1 (old a) a)
     → (a : ℕ) → new a ≡ partner_in (high_parts room values (take (i + 1) relocs)) a

@@ -28,8 +28,8 @@ pub record IsRoom (room : Room) : Type 0 where
   pub high : room.data_base ≤ DATA_END
 
 -- the words of bytes
-abbrev pub words_in : List ℕ → List ℕ
-words_in bytes = map (λ k. word_at (4 * k) bytes) (range_with_len 0 (length bytes / 4))
+abbrev pub bytes_as_words : List ℕ → List ℕ
+bytes_as_words bytes = map (λ k. word_at (4 * k) bytes) (range_with_len 0 (length bytes / 4))
 
 -- the values of an object's symbols at a room
 abbrev pub values_in : Object → Room → Names → List (Option ℕ)
@@ -73,7 +73,7 @@ pub record IsPlaced (m : Module) (room : Room) (names : Names) (placed : Placed)
   pub base : placed.base ≡ room.base
   pub slot_base : placed.slot_base ≡ room.slot_base
   pub data_base : placed.data_base ≡ room.data_base
-  pub words : HasSlots (words_in m.object.text) room.slot_base (words_in bytes.text) placed.words
+  pub words : HasSlots (bytes_as_words m.object.text) room.slot_base (bytes_as_words bytes.text) placed.words
   pub static_data : placed.static_data ≡ bytes.static_data
   pub functions : placed.functions ≡ placed_functions m.object.symbols m.records.functions
   pub branches : placed.branches ≡ m.records.branches

@@ -28,12 +28,12 @@ size_in areas.Text text static_data = text
 size_in areas.Data text static_data = static_data
 
 -- the address of a field
-abbrev pub address_in : Area → Room → (offset : ℕ) → ℕ
-address_in areas.Text room offset = 4 * room.base + offset
-address_in areas.Data room offset = room.data_base + offset
+abbrev pub area_address : Area → Room → (offset : ℕ) → ℕ
+area_address areas.Text room offset = 4 * room.base + offset
+area_address areas.Data room offset = room.data_base + offset
 
 abbrev pub field_address : Room → Reloc → ℕ
-field_address room reloc = address_in reloc.area room reloc.offset
+field_address room reloc = area_address reloc.area room reloc.offset
 
 -- the value that a relocation takes, which is there
 abbrev pub value_in : List (Option ℕ) → Reloc → ℕ
@@ -43,12 +43,12 @@ value_in values reloc = unwrap_or (value_at values reloc.symbol) 0
 abbrev pub is_high : Reloc → Bool
 is_high reloc = reloc.kind == PCREL_HI20
 
-abbrev pub high_part : Room → List (Option ℕ) → Reloc → ℕ × ℕ
-high_part room values reloc =
+abbrev pub upper_part : Room → List (Option ℕ) → Reloc → ℕ × ℕ
+upper_part room values reloc =
     (field_address room reloc, displacement (value_in values reloc) reloc.addend (field_address room reloc))
 
 abbrev pub high_parts : Room → List (Option ℕ) → List Reloc → List (ℕ × ℕ)
-high_parts room values relocs = map (high_part room values) (filter is_high relocs)
+high_parts room values relocs = map (upper_part room values) (filter is_high relocs)
 
 -- the displacement of the first of them at an address
 abbrev pub partner_in : List (ℕ × ℕ) → (address : ℕ) → Option ℕ
@@ -73,7 +73,7 @@ applied_in areas.Data reloc at value partner bytes =
     applied reloc at value partner bytes.static_data >>= λ static_data. Ok (record bytes { static_data = static_data })
 
 -- a relocation that can be tried, in text and data of so many bytes
-pub record IsReady (room : Room) (text static_data : ℕ) (reloc : Reloc) : Type 0 where
+pub record CanBeTried (room : Room) (text static_data : ℕ) (reloc : Reloc) : Type 0 where
   pub known : is_known reloc.kind ≡ true
   pub within : reloc.offset + field_size reloc.kind ≤ size_in reloc.area text static_data
   pub address : field_address room reloc < 2 ^ 32

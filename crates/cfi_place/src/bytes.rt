@@ -1,7 +1,7 @@
 //! The bytes of a placed module.
 
 ghost use Rattle.std.specs.Prelude.{◌≡◌, ◌+◌, ◌*◌, ◌<◌, ◌≤◌, ◌^◌, Ok, length, IfOk, IfErr};
-ghost use Rattle.cfi_aux.specs.Sound.{IsSoundObject};
+ghost use Rattle.elf_read.specs.Sound.{IsSoundObject};
 ghost use Rattle.cfi_place.specs.Relocated.{areas_of};
 ghost use Rattle.cfi_place.specs.Placed.{IsRoom, IsFault, placed_by};
 

@@ -2,7 +2,7 @@
 
 ghost use Rattle.std.specs.Prelude.{◌≡◌, ℕ, List, false, IfOk};
 ghost use Rattle.std.specs.List.{AllPairs};
-ghost use Rattle.cfi_aux.specs.Sound.{are_rivals};
+ghost use Rattle.elf_read.specs.Sound.{are_rivals};
 ghost use Rattle.cfi_place.specs.Names.{find_in, first_in};
 ghost use Rattle.cfi_place.specs.Functions.{make_function, placed_functions, is_global_text, globals_in, has_global};
 

@@ -3,7 +3,7 @@
 ghost use Rattle.std.specs.Prelude.{◌≡◌, ◌<◌, ◌^◌, ℕ, All, IfOk, OnOk};
 ghost use Rattle.std.specs.Ordering.{nat_cmp};
 ghost use Rattle.std.specs.BTreeMap.{get};
-ghost use Rattle.cfi_place.specs.Relocated.{field_address, value_in, high_part, high_parts, partner_in, with_partner};
+ghost use Rattle.cfi_place.specs.Relocated.{field_address, value_in, upper_part, high_parts, partner_in, with_partner};
 
 use crate::defined::value_at;
 use crate::room::Room;
@@ -32,9 +32,9 @@ pub fn value_in(values: &[Option<u32>], reloc: &Reloc) -> u32
 }
 
 // The address of a relocation of a high part, and its displacement.
-fn high_part(room: &Room, values: &[Option<u32>], reloc: &Reloc) -> (u32, u32)
+fn upper_part(room: &Room, values: &[Option<u32>], reloc: &Reloc) -> (u32, u32)
     requires { field_address room.now reloc.now < 2 ^ 32 }
-    ensures { result ≡ high_part room.now values.now reloc.now }
+    ensures { result ≡ upper_part room.now values.now reloc.now }
 {
     let at = field_address(room, reloc);
     (at, displacement(value_in(values, reloc), reloc.addend, at))
@@ -65,7 +65,7 @@ pub fn partners(
     let mut partners = BTreeMap::new(alloc);
     for reloc in relocs {
         if reloc.kind == PCREL_HI20 {
-            let part = high_part(room, values, reloc);
+            let part = upper_part(room, values, reloc);
             add_partner(&mut partners, part.0, part.1)?;
         }
     }

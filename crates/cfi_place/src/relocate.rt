@@ -2,7 +2,7 @@
 
 ghost use Rattle.std.specs.Prelude.{◌≡◌, ◌+◌, ◌≤◌, ◌^◌, true, All, Ok, Err, OnOk, IfErr, length};
 ghost use Rattle.elf_read.specs.Relocation.{is_known, field_size};
-ghost use Rattle.cfi_place.specs.Relocated.{areas_of, size_in, IsReady, high_parts, applied_in, relocated_from};
+ghost use Rattle.cfi_place.specs.Relocated.{areas_of, size_in, CanBeTried, high_parts, applied_in, relocated_from};
 ghost use Rattle.cfi_place.specs.Placed.{IsFault};
 
 use crate::fault::PlaceFault;
@@ -46,7 +46,7 @@ pub fn relocate(
     values: &[Option<u32>],
     relocs: &[Reloc],
 ) -> Result<(), PlaceFault>
-    requires ready { All (IsReady room.now (length text.old) (length static_data.old)) relocs.now }
+    requires ready { All (CanBeTried room.now (length text.old) (length static_data.old)) relocs.now }
     requires few { length relocs.now ≤ 2 ^ 32 }
     ensures ok { OnOk result (relocated_from room.now values.now
         (high_parts room.now values.now relocs.now) 0 relocs.now (areas_of text.old static_data.old)

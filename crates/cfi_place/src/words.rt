@@ -2,7 +2,7 @@
 
 ghost use Rattle.std.specs.Prelude.{◌≡◌, ◌+◌, ◌<◌, ◌^◌, length, IfOk};
 ghost use Rattle.cfi_place.specs.Slots.{HasSlots};
-ghost use Rattle.cfi_place.specs.Placed.{words_in};
+ghost use Rattle.cfi_place.specs.Placed.{bytes_as_words};
 
 use crate::slots::set_slots;
 use rv_reloc::word_at;
@@ -10,7 +10,7 @@ use std::alloc::{AllocError, Global};
 
 /// The words of bytes, the low byte first; bytes left over make none.
 pub fn words_of(alloc: Global, bytes: &[u8]) -> Result<Vec<u32>, AllocError>
-    ensures { IfOk result (λ words. words.items ≡ words_in bytes.now) }
+    ensures { IfOk result (λ words. words.items ≡ bytes_as_words bytes.now) }
 {
     let count = bytes.len() / 4;
     let mut words = Vec::with_capacity(alloc, count)?;
@@ -31,7 +31,7 @@ pub fn placed_words(
     requires same { length text.now ≡ length source.now }
     requires small { slot + length source.now < 2 ^ 20 }
     ensures { IfOk result (λ words.
-        HasSlots (words_in source.now) slot (words_in text.now) words.items) }
+        HasSlots (bytes_as_words source.now) slot (bytes_as_words text.now) words.items) }
 {
     let source = words_of(alloc, source)?;
     let mut words = words_of(alloc, text)?;

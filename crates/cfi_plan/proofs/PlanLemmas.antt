@@ -15,9 +15,9 @@ use Rattle.cfi_plan.specs.declared.plan.ScriptLine.{ScriptLine}
 use Rattle.cfi_plan.specs.declared.plan.ScriptLine.TheVariants as script
 use Rattle.cfi_word.specs.declared.limits.TheConstants.{MAX_EPOCH}
 use Rattle.cfi_word.specs.Table.{IsSize}
-use Rattle.cfi_plan.specs.Draft.{Draft, empty, module_of, starts, one_if, refreshes, refreshes_of, is_astray, is_within, with_line}
+use Rattle.cfi_plan.specs.Draft.{PlanSoFar, empty, module_of, starts, one_if, refreshes, refreshes_of, is_astray, is_within, with_line}
 use Rattle.cfi_text.specs.Names.{is_name}
-use Rattle.cfi_plan.specs.Plan.{IsVersions, IsFuel, IsNamed, AreApart, AreModules, AreGuests, IsScriptLine, IsScript}
+use Rattle.cfi_plan.specs.Plan.{IsVersions, IsFuel, IsNamed, HaveOtherNames, AreModules, AreGuests, IsScriptLine, IsScript}
 use Rattle.cfi_plan.proofs.DraftLemmas.{starts-push}
 
 -- the names of a line are names, and it makes a refresh or more
@@ -33,7 +33,7 @@ IsLine (Load name) = Unit {0}
 IsLine (Refresh count) = 1 ≤ count
 
 -- a draft within the limits
-pub record IsSound (draft : Draft) : Type 0 where
+pub record IsSound (draft : PlanSoFar) : Type 0 where
   pub code : IfSome draft.code IsSize
   pub versions : IfSome draft.versions IsVersions
   pub first : IfSome draft.first (λ number. number ≤ MAX_EPOCH)
@@ -79,7 +79,7 @@ absent : (p : PlanModule → Bool) (modules : List PlanModule) → is_some (posi
 absent p modules h = grind (arith, nat_tests)
 
 others : (modules : List PlanModule) (one : PlanModule) → is_some (module_of modules one.name) ≡ false
-    → (k : ℕ) (d : PlanModule) → k < length modules → AreApart (get_or modules k d) one
+    → (k : ℕ) (d : PlanModule) → k < length modules → HaveOtherNames (get_or modules k d) one
 others modules one h k d within same =
     let p : PlanModule → Bool = λ other. bytes_eq other.name one.name in
     let past = absent p modules h in
@@ -97,7 +97,7 @@ modules-push modules one s named new within =
       most = omega (arith, length-append modules (one ∷ []));
       most_starts = omega (arith, starts-push modules one);
       named = All-push IsNamed modules one s.named named;
-      apart = all_pairs_push AreApart modules one s.apart (others modules one new);
+      apart = all_pairs_push HaveOtherNames modules one s.apart (others modules one new);
     }
 
 -- scripts
@@ -139,7 +139,7 @@ guests-push guests entry s named room = record {
 }
 
 -- a line leaves a draft within the limits
-pub line-IsSound : (draft : Draft) (line : Line) → IsSound draft → IsLine line → is_astray draft line ≡ false
+pub line-IsSound : (draft : PlanSoFar) (line : Line) → IsSound draft → IsLine line → is_astray draft line ≡ false
     → is_within draft line ≡ true → IsSound (with_line draft line)
 line-IsSound draft Blank s l a w = s
 line-IsSound draft (Code number) s l a w = record {

@@ -11,7 +11,7 @@ use Rattle.cfi_plan.specs.declared.line.Line.{Line}
 use Rattle.cfi_plan.specs.declared.line.Line.TheVariants.{Code, Versions, Epoch, Fuel, Module, Guest, Load, Refresh}
 use Rattle.cfi_plan.specs.declared.plan.Plan.{Plan}
 use Rattle.cfi_plan.specs.declared.fault.PlanFault.{PlanFault}
-use Rattle.cfi_plan.specs.Draft.{Draft, empty, is_empty, is_astray, is_within, with_line, taken, plan_of, IsDue}
+use Rattle.cfi_plan.specs.Draft.{PlanSoFar, empty, is_empty, is_astray, is_within, with_line, taken, plan_of, IsDue}
 use Rattle.cfi_plan.specs.Line.{form_of, pair_form, numbered_form, counted_form, module_form, start_in}
 use Rattle.cfi_text.specs.Names.{is_name, name_in, is_file, file_in}
 use Rattle.cfi_plan.specs.Plan.{IsPlan, IsVersions, IsFuel}
@@ -122,18 +122,18 @@ chosen true within next new f g e = cc
 chosen false true next new f g e = (refl, refl, cc)
 chosen false false next new f g e = cc
 
-taken-IsSound : (number : ℕ) (draft : Draft) (line : Line) (new : Draft) → IsSound draft → IsLine line
+taken-IsSound : (number : ℕ) (draft : PlanSoFar) (line : Line) (new : PlanSoFar) → IsSound draft → IsLine line
     → taken number draft line ≡ Ok new → IsSound new
 taken-IsSound number draft line new s l e =
     let h = chosen (is_astray draft line) (is_within draft line) (with_line draft line) new _ _ e in
     subst IsSound h.2 (line-IsSound draft line s l h.0 h.1)
 
-if-IsSound : (number : ℕ) (draft : Draft) (form : Option Line) (new : Draft) → IsSound draft → SaysLine form
+if-IsSound : (number : ℕ) (draft : PlanSoFar) (form : Option Line) (new : PlanSoFar) → IsSound draft → SaysLine form
     → taken_if number draft form ≡ Ok new → IsSound new
 if-IsSound number draft None new s l e = cc
 if-IsSound number draft (Some line) new s l e = taken-IsSound number draft line new s l.line e
 
-text-IsSound : (number : ℕ) (draft : Draft) (line : List ℕ) (new : Draft) → IsSound draft
+text-IsSound : (number : ℕ) (draft : PlanSoFar) (line : List ℕ) (new : PlanSoFar) → IsSound draft
     → with_text number draft line ≡ Ok new → IsSound new
 unfolding with_text
 text-IsSound number draft line new s e =
@@ -145,7 +145,7 @@ bind_ok : {A B : Type 0} (r : Result A PlanFault) (f : A → Result B PlanFault)
 bind_ok (Ok x) f y e = (x, refl, e)
 bind_ok (Err fault) f y e = cc
 
-lines-IsSound : (lines : List (ℕ × List ℕ)) (draft new : Draft) → IsSound draft → with_lines draft lines ≡ Ok new
+lines-IsSound : (lines : List (ℕ × List ℕ)) (draft new : PlanSoFar) → IsSound draft → with_lines draft lines ≡ Ok new
     → IsSound new
 lines-IsSound [] draft new s e = let same : draft ≡ new = cc in subst IsSound same s
 lines-IsSound (line ∷ lines) draft new s e =
@@ -172,7 +172,7 @@ set : (P : ℕ → Type 0) (number : Option ℕ) (default : ℕ) → IfSome numb
 set P None default h d = d
 set P (Some number) default h d = h
 
-plan-IsPlan : (draft : Draft) (plan : Plan) → IsSound draft → plan_of draft ≡ Ok plan → IsPlan plan
+plan-IsPlan : (draft : PlanSoFar) (plan : Plan) → IsSound draft → plan_of draft ≡ Ok plan → IsPlan plan
 plan-IsPlan draft plan s e =
     let h = guarded (is_empty draft.guests) _ _ plan e in
     subst IsPlan h.1 (record {

@@ -12,7 +12,7 @@ use Rattle.cfi_plan.specs.declared.fault.PlanFault.TheVariants.{Syntax, Limit, N
 use Rattle.cfi_word.specs.declared.limits.TheConstants.{MIN_CODE_WORDS, MAX_CODE_WORDS, MIN_VERSIONS, MAX_VERSIONS, MAX_EPOCH, MAX_FUEL, FUEL, MAX_MODULES, MAX_STARTS, GUESTS, MAX_SCRIPT, MAX_REFRESHES}
 
 -- what the lines have said
-pub record Draft : Type 0 where
+pub record PlanSoFar : Type 0 where
   pub code : Option ℕ
   pub versions : Option ℕ
   pub first : Option ℕ
@@ -22,7 +22,7 @@ pub record Draft : Type 0 where
   pub script : List ScriptLine
 
 -- before any line
-abbrev pub empty : Draft
+abbrev pub empty : PlanSoFar
 empty = record { code = None; versions = None; first = None; fuel = None; modules = []; guests = []; script = [] }
 
 -- the number of the module with this name
@@ -51,7 +51,7 @@ is_empty [] = true
 is_empty (guest ∷ guests) = false
 
 -- the line says again what stands, or names no module
-abbrev pub is_astray : Draft → Line → Bool
+abbrev pub is_astray : PlanSoFar → Line → Bool
 is_astray draft Blank = false
 is_astray draft (Code number) = is_some draft.code
 is_astray draft (Versions number) = is_some draft.versions
@@ -63,7 +63,7 @@ is_astray draft (Load name) = is_none (module_of draft.modules name)
 is_astray draft (Refresh count) = false
 
 -- the line is within the limits
-abbrev pub is_within : Draft → Line → Bool
+abbrev pub is_within : PlanSoFar → Line → Bool
 is_within draft Blank = true
 is_within draft (Code number) =
     number % MIN_CODE_WORDS == 0 && nat_le MIN_CODE_WORDS number && nat_le number MAX_CODE_WORDS
@@ -78,7 +78,7 @@ is_within draft (Refresh count) =
     nat_lt (length draft.script) MAX_SCRIPT && nat_le (refreshes draft.script + count) MAX_REFRESHES
 
 -- the draft with the line
-abbrev pub with_line : Draft → Line → Draft
+abbrev pub with_line : PlanSoFar → Line → PlanSoFar
 with_line draft Blank = draft
 with_line draft (Code number) = record draft { code = Some number }
 with_line draft (Versions number) = record draft { versions = Some number }
@@ -92,13 +92,13 @@ with_line draft (Load name) = record draft {
 with_line draft (Refresh count) = record draft { script = draft.script ++ script.Refresh count ∷ [] }
 
 -- what comes of the line of this number
-abbrev pub taken : (number : ℕ) → Draft → Line → Result Draft PlanFault
+abbrev pub taken : (number : ℕ) → PlanSoFar → Line → Result PlanSoFar PlanFault
 taken number draft line =
     if is_astray draft line then Err (Syntax number)
     else (if is_within draft line then Ok (with_line draft line) else Err (Limit number))
 
 -- the plan that the lines have said, if one was a guest
-abbrev pub plan_of : Draft → Result Plan PlanFault
+abbrev pub plan_of : PlanSoFar → Result Plan PlanFault
 plan_of draft = if is_empty draft.guests then Err NoGuest else Ok (record {
   code_words = unwrap_or draft.code MAX_CODE_WORDS;
   versions = unwrap_or draft.versions MAX_VERSIONS;
@@ -122,6 +122,6 @@ IsDue (Ok value) due = due ≡ Ok value
 IsDue (Err fault) due = Fails fault due
 
 -- a call that changed a draft did what is due, unless memory ran out
-abbrev pub Gives : Result (Unit {0}) PlanFault → (new : Draft) → (due : Result Draft PlanFault) → Type 0
+abbrev pub Gives : Result (Unit {0}) PlanFault → (new : PlanSoFar) → (due : Result PlanSoFar PlanFault) → Type 0
 Gives (Ok done) new due = due ≡ Ok new
 Gives (Err fault) new due = Fails fault due

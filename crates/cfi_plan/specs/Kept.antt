@@ -2,11 +2,11 @@
 use Rattle.std.specs.Prelude.{◌≡◌, ◌≤◌, ℕ, List}
 use Rattle.std.specs.BTreeMap.{get_by_text}
 use Rattle.cfi_plan.specs.declared.draft.Draft.TheInside.{Inside}
-use Rattle.cfi_plan.specs.Draft.{Draft, module_of, starts, refreshes}
+use Rattle.cfi_plan.specs.Draft.{PlanSoFar, module_of, starts, refreshes}
 use Rattle.cfi_word.specs.declared.limits.TheConstants.{MAX_STARTS, MAX_REFRESHES}
 
 -- the draft without what is kept beside it
-abbrev pub view_of : Inside → Draft
+abbrev pub view_of : Inside → PlanSoFar
 view_of a = record {
   code = a.code;
   versions = a.versions;

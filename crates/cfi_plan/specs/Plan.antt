@@ -23,15 +23,15 @@ abbrev pub IsNamed : PlanModule → Type 0
 IsNamed one = (is_name one.name ≡ true) × (is_file one.file ≡ true)
 
 -- two modules have different names
-abbrev pub AreApart : PlanModule → PlanModule → Type 0
-AreApart one other = one.name ≢ other.name
+abbrev pub HaveOtherNames : PlanModule → PlanModule → Type 0
+HaveOtherNames one other = one.name ≢ other.name
 
 -- the modules of a plan
 pub record AreModules (modules : List PlanModule) : Type 0 where
   pub most : length modules ≤ MAX_MODULES
   pub most_starts : starts modules ≤ MAX_STARTS
   pub named : All IsNamed modules
-  pub apart : AllPairs AreApart modules
+  pub apart : AllPairs HaveOtherNames modules
 
 -- the entries of guests
 pub record AreGuests (guests : List (List ℕ)) : Type 0 where

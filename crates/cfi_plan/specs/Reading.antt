@@ -6,7 +6,7 @@ use Rattle.cfi_plan.specs.declared.line.Line.{Line}
 use Rattle.cfi_plan.specs.declared.plan.Plan.{Plan}
 use Rattle.cfi_plan.specs.declared.fault.PlanFault.{PlanFault}
 use Rattle.cfi_plan.specs.declared.fault.PlanFault.TheVariants.{Syntax}
-use Rattle.cfi_plan.specs.Draft.{Draft, empty, taken, plan_of}
+use Rattle.cfi_plan.specs.Draft.{PlanSoFar, empty, taken, plan_of}
 use Rattle.cfi_plan.specs.Line.{form_of}
 use Rattle.cfi_text.specs.Words.{words_in}
 use Rattle.cfi_text.specs.Lines.{numbered_lines, statement_of}
@@ -20,16 +20,16 @@ is_head (keyword ∷ number ∷ []) = bytes_eq keyword (codes "plan") && bytes_e
 is_head (keyword ∷ number ∷ word ∷ words) = false
 
 -- what comes of a line, if it says one
-abbrev pub taken_if : (number : ℕ) → Draft → Option Line → Result Draft PlanFault
+abbrev pub taken_if : (number : ℕ) → PlanSoFar → Option Line → Result PlanSoFar PlanFault
 taken_if number draft None = Err (Syntax number)
 taken_if number draft (Some line) = taken number draft line
 
 -- what comes of the line of this number
-unfoldable pub with_text : (number : ℕ) → Draft → (line : List ℕ) → Result Draft PlanFault
+unfoldable pub with_text : (number : ℕ) → PlanSoFar → (line : List ℕ) → Result PlanSoFar PlanFault
 with_text number draft line = taken_if number draft (form_of (words_in (statement_of line)))
 
 -- what comes of numbered lines, one after another
-abbrev pub with_lines : Draft → (lines : List (ℕ × List ℕ)) → Result Draft PlanFault
+abbrev pub with_lines : PlanSoFar → (lines : List (ℕ × List ℕ)) → Result PlanSoFar PlanFault
 with_lines draft [] = Ok draft
 with_lines draft (line ∷ lines) = with_text line.0 draft line.1 >>= λ next. with_lines next lines
 

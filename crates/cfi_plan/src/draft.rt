@@ -1,5 +1,5 @@
 ghost use Rattle.std.specs.Prelude.{◌≡◌, Ok, Err};
-ghost use Rattle.cfi_plan.specs.Draft.{Draft as Said, empty, taken, one_if, plan_of, Gives};
+ghost use Rattle.cfi_plan.specs.Draft.{PlanSoFar as Said, empty, taken, one_if, plan_of, Gives};
 
 use crate::fault::PlanFault;
 use crate::index::{give_number, number_of};
@@ -29,7 +29,7 @@ pub struct Draft {
 }
 
 impl Model for Draft {
-    ghost use Rattle.cfi_plan.specs.Draft.{Draft as Said};
+    ghost use Rattle.cfi_plan.specs.Draft.{PlanSoFar as Said};
 
     ghost Value = { Said };
 

@@ -3,16 +3,16 @@ use Rattle.std.proofs.Common.{◌≡◌, ◌⊎◌, ℕ, ◌+◌, ◌<◌, ◌�
 use Rattle.std.proofs.lemmas.Bool.{cases_lt}
 use Rattle.std.proofs.lemmas.List.{get_or_default}
 use Rattle.cfi_aux.specs.declared.placed.Placed.{Placed}
-use Rattle.cfi_policy.specs.Code.{LiesIn, EndsBefore, AreApart, HasWords}
+use Rattle.cfi_policy.specs.Code.{LiesInModule, EndsBefore, LieApart, HasWords}
 
 -- the code with the words of so many first modules
 pub record IsCodeSoFar (modules : List Placed) (count code_words : ℕ) (code : List ℕ) : Type 0 where
   pub len : length code ≡ code_words
   pub placed : (j : ℕ) (d : Placed) → j < count → HasWords code (get_or modules j d)
   pub free : (word : ℕ) → word < code_words
-      → ((j : ℕ) (d : Placed) → j < count → LiesIn (get_or modules j d) word → ⊥) → get_or code word 0 ≡ 0
+      → ((j : ℕ) (d : Placed) → j < count → LiesInModule (get_or modules j d) word → ⊥) → get_or code word 0 ≡ 0
 
-module _ (modules : List Placed) (code_words : ℕ) (apart : AreApart modules code_words) (count : ℕ)
+module _ (modules : List Placed) (code_words : ℕ) (apart : LieApart modules code_words) (count : ℕ)
     (there : count < length modules) (item : Placed) (is : item ≡ get_or modules count item) (old new : List ℕ)
     (before : IsCodeSoFar modules count code_words old) (len : length new ≡ length old)
     (placed : HasWords new item)
@@ -36,10 +36,10 @@ module _ (modules : List Placed) (code_words : ℕ) (apart : AreApart modules co
       ]
 
   elsewhere_free : (word : ℕ) → word < code_words
-      → ((j : ℕ) (d : Placed) → j < count + 1 → LiesIn (get_or modules j d) word → ⊥) → get_or new word 0 ≡ 0
+      → ((j : ℕ) (d : Placed) → j < count + 1 → LiesInModule (get_or modules j d) word → ⊥) → get_or new word 0 ≡ 0
   elsewhere_free word within none =
-      let not_here : LiesIn item word → ⊥ = λ lies. none count item (omega arith)
-      (subst (λ m. LiesIn m word) is lies) in
+      let not_here : LiesInModule item word → ⊥ = λ lies. none count item (omega arith)
+      (subst (λ m. LiesInModule m word) is lies) in
       let old_free : get_or old word 0 ≡ 0 = before.free word within (λ j d lower. none j d (omega arith)) in
       elim (cases_lt word item.base) [
         | inl below ↦ kept word (inl below) ∙ old_free

@@ -9,14 +9,14 @@ use Rattle.cfi_word.specs.declared.limits.TheConstants.{MAX_CODE_WORDS}
 use Rattle.cfi_word.specs.Chain.{Chain}
 use Rattle.cfi_word.specs.Table.{slots_of}
 use Rattle.cfi_aux.specs.declared.placed.Placed.{Placed}
-use Rattle.cfi_class.specs.Labels.{HasEdge, IsWithin, CanBeLabelled}
+use Rattle.cfi_class.specs.Labels.{HasEdge, IsEdgeWithin, CanBeLabelled}
 use Rattle.cfi_word.specs.declared.lists.Image.{Image}
 use Rattle.cfi_graph.specs.Direct.{DirectEdge, Allowed}
 use Rattle.cfi_graph.specs.Reading.{HaveGraph}
 use Rattle.cfi_graph.specs.Edges.{SpanDirectEdges}
 use Rattle.cfi_graph.proofs.EndLemmas.{has_ends}
 use Rattle.cfi_policy.specs.Spans.{Spans}
-use Rattle.cfi_policy.specs.Code.{AreApart}
+use Rattle.cfi_policy.specs.Code.{LieApart}
 use Rattle.cfi_policy.specs.Image.{IsImage, HaveImage}
 use Rattle.cfi_policy.proofs.SpansLemmas.{same_chains, spanned_labels}
 
@@ -28,7 +28,7 @@ module _ (ms : List Placed) (edges : List Edge) (span : SpanDirectEdges ms edges
   listed_direct : (edge : Edge) → Contains edges edge → DirectEdge ms edge.branch edge.target
   listed_direct edge has = span.sound edge.branch edge.target has
 
-  pub within_code : HaveGraph ms → All (IsWithin SLOTS (MAX_CODE_WORDS + 1)) edges
+  pub within_code : HaveGraph ms → All (IsEdgeWithin SLOTS (MAX_CODE_WORDS + 1)) edges
   within_code graph = λ k d there.
       let edge = get_or edges k d in
       let ends = has_ends ms graph.apart edge.branch edge.target
@@ -56,7 +56,7 @@ module _ (ms : List Placed) (edges : List Edge) (span : SpanDirectEdges ms edges
   }
 
 -- modules of an image lie apart within its code
-pub apart_in : (ms : List Placed) (code_words : ℕ) → HaveImage ms code_words → AreApart ms code_words
+pub apart_in : (ms : List Placed) (code_words : ℕ) → HaveImage ms code_words → LieApart ms code_words
 apart_in ms code_words image = record {
   order = λ i j d less within. (image.graph.apart.order i j d less within).words;
   within = image.words;

@@ -9,7 +9,7 @@ use Rattle.cfi_graph.specs.Direct.{DirectEdge, Allowed}
 use Rattle.cfi_graph.specs.Reading.{HaveGraph}
 use Rattle.cfi_graph.proofs.EndLemmas.{has_ends}
 use Rattle.cfi_policy.specs.declared.group.Group.{Group}
-use Rattle.cfi_policy.specs.Groups.{IsBranch, GoAlike, IsGroup, Precedes, AreGroups}
+use Rattle.cfi_policy.specs.Groups.{IsBranch, GoAlike, IsGroup, GroupPrecedes, AreGroups}
 use Rattle.cfi_policy.proofs.OrderLemmas.{make_group}
 use Rattle.cfi_policy.proofs.SpansLemmas.{joined_alike}
 
@@ -70,7 +70,7 @@ no_targets : (group : Group) → 0 < length group.targets → group.targets ≡ 
 no_targets group some none =
     let len : length group.targets ≡ 0 = ap length none in omega (arith, some, len)
 
-precedes_strict : (one other : Group) → Precedes one other → Precedes other one → ⊥
+precedes_strict : (one other : Group) → GroupPrecedes one other → GroupPrecedes other one → ⊥
 precedes_strict one other before after =
     elim before.later [
       | inl none ↦ no_targets other after.goes none
@@ -113,7 +113,7 @@ module _ (ms : List Placed) where
 
   pub same_groups : (one other : List Group) → AreGroups ms one → AreGroups ms other → one ≡ other
   same_groups one other one_are other_are =
-      same_members Precedes precedes_strict one other one_are.order other_are.order
+      same_members GroupPrecedes precedes_strict one other one_are.order other_are.order
       (λ group. (group_there one other one_are other_are group, group_there other one other_are one_are group))
 
   module _ (groups : List Group) (are : AreGroups ms groups) where

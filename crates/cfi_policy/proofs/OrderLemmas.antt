@@ -9,13 +9,13 @@ use Rattle.cfi_word.specs.declared.sizes.TheConstants.{SLOTS}
 use Rattle.cfi_word.specs.declared.ids.TheConstants.{FIELD_MAX}
 use Rattle.cfi_word.specs.declared.limits.TheConstants.{MAX_CODE_WORDS}
 use Rattle.cfi_aux.specs.declared.placed.Placed.{Placed}
-use Rattle.cfi_class.specs.Labels.{IsUsed, AreNumbers, AreInOrder}
+use Rattle.cfi_class.specs.Labels.{IsUsed, AreNumbers, AreOrderedBySlot}
 use Rattle.cfi_flow.proofs.Members.{member_first, no_member}
 use Rattle.cfi_graph.specs.Shaped.{IsShaped, AreApart}
 use Rattle.cfi_graph.specs.Direct.{DirectEdge, Allowed}
 use Rattle.cfi_policy.specs.declared.group.Group.{Group}
 use Rattle.cfi_policy.specs.ByClass.{AreClassGroups}
-use Rattle.cfi_policy.specs.Groups.{IsBranch, GoAlike, IsGroupOf, IsGroup, Precedes, AreGroups}
+use Rattle.cfi_policy.specs.Groups.{IsBranch, GoAlike, IsGroupOf, IsGroup, GroupPrecedes, AreGroups}
 use Rattle.cfi_policy.specs.Idle.{AreIdle}
 use Rattle.cfi_policy.proofs.GroupLemmas.{allowed_used, used_low, used_class, class_used, member_number, number_member, class_targets, class_group}
 use Rattle.cfi_policy.proofs.IdleLemmas.{branch_low}
@@ -41,7 +41,7 @@ idle_group idle = make_group idle []
 
 module _ (ms : List Placed) (apart : AreApart ms) (tary bary : List ℕ)
     (are : AreNumbers (DirectEdge ms) SLOTS (MAX_CODE_WORDS + 1) tary bary)
-    (rises : AreInOrder (DirectEdge ms) bary) (groups : List Group) (classes : AreClassGroups tary bary groups) where
+    (rises : AreOrderedBySlot (DirectEdge ms) bary) (groups : List Group) (classes : AreClassGroups tary bary groups) where
   -- ---- the groups of the classes
 
   low_number : (k : ℕ) → k < length groups → k + 1 < FIELD_MAX
@@ -86,7 +86,7 @@ module _ (ms : List Placed) (apart : AreApart ms) (tary bary : List ℕ)
       (classes.each k d within) member.0 member.2 edge.0).1 (record { more = 0; chain = edge.1 }) in
       omega (arith, target.1)
 
-  class_order : AllPairs Precedes groups
+  class_order : AllPairs GroupPrecedes groups
   class_order i j d less within =
       let earlier_within : i < length groups = omega (arith, less, within) in
       let one = get_or groups i d in
@@ -214,6 +214,6 @@ module _ (ms : List Placed) (apart : AreApart ms) (tary bary : List ℕ)
           has,
         )
       ];
-      order = all_pairs_push Precedes groups (idle_group idle) class_order
+      order = all_pairs_push GroupPrecedes groups (idle_group idle) class_order
           (λ k d within. record { goes = class_goes k d within; later = inl refl });
     }

@@ -2,7 +2,7 @@
 use Rattle.std.proofs.Common.{◌↔◌, ℕ, zero, suc, ◌*◌, List, get_or, inl, inr}
 use Rattle.cfi_word.specs.Chain.{ChainOf, Chain}
 use Rattle.cfi_word.specs.Table.{slots_of}
-use Rattle.cfi_class.specs.Labels.{IsReached, IsUsed, IsClassWhere, AreNumbers, AreInOrder, AreLabels}
+use Rattle.cfi_class.specs.Labels.{IsReached, IsUsed, IsClassWhere, AreNumbers, AreOrderedBySlot, AreLabels}
 use Rattle.cfi_class.specs.Linked.{End, Linked}
 use Rattle.cfi_class.specs.Linked.End.{Slot, Address}
 use Rattle.cfi_class.specs.Linked.Linked.{same, to_address, to_slot}
@@ -115,7 +115,7 @@ module _ (few many : (slot address : ℕ) → Type 0) (spans : Spans few many) w
       → AreLabels many code_words tary bary
   spanned_labels code_words = spanned_numbers (slots_of code_words) code_words
 
-  pub spanned_order : (bary : List ℕ) → AreInOrder few bary → AreInOrder many bary
+  pub spanned_order : (bary : List ℕ) → AreOrderedBySlot few bary → AreOrderedBySlot many bary
   spanned_order bary order slot number used some low =
       let earlier = order slot number ((same_used slot).1 used) some low in
       (earlier.0, earlier.1, (same_used earlier.0).0 earlier.2, earlier.3)

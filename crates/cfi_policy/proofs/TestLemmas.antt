@@ -7,13 +7,13 @@ use Rattle.cfi_graph.specs.HandMade.{placed_of, void_and_function}
 use Rattle.cfi_graph.specs.Reading.{HaveGraph}
 use Rattle.cfi_graph.proofs.TestLemmas.{all_none, all_more, all_by_recursion}
 use Rattle.cfi_graph.proofs.TestRows.{call_code, call_rows, call_kinds, call_modules, call_graph, tail_code, tail_rows, tail_kinds, tail_modules, tail_graph, loop_code, loop_rows, loop_kinds, loop_modules, loop_graph, pointer_code, pointer_rows, pointer_kinds, pointer_modules, pointer_graph, switch_modules, switch_graph}
-use Rattle.cfi_policy.specs.Code.{AreApart}
+use Rattle.cfi_policy.specs.Code.{LieApart}
 use Rattle.cfi_policy.specs.Image.{HaveImage}
 use Rattle.cfi_policy.proofs.WithinLemmas.{have_image}
 
 -- one module lies apart where it ends within the code
 pub one_apart : (placed : Placed) (code_words : ℕ) → placed.base + length placed.words ≤ code_words
-    → AreApart (placed ∷ []) code_words
+    → LieApart (placed ∷ []) code_words
 one_apart placed code_words within = record {
   order = λ i j d lower there. absurd (omega arith);
   within = λ k d there.

@@ -9,7 +9,7 @@ use Rattle.cfi_aux.specs.declared.placed.Placed.{Placed}
 use Rattle.cfi_aux.specs.declared.records.Kind.{Kind}
 use Rattle.cfi_aux.specs.declared.records.Kind.TheVariants as kinds
 use Rattle.cfi_graph.specs.Calls.{HasKind}
-use Rattle.cfi_graph.specs.Shaped.{IsPlace, IsNamed, IsShaped}
+use Rattle.cfi_graph.specs.Shaped.{IsUnitPlace, IsNamed, IsShaped}
 use Rattle.cfi_graph.specs.Direct.{IsPointee, IsReturnTarget, GoesTo}
 use Rattle.cfi_graph.specs.Reading.{HaveGraph}
 use Rattle.cfi_graph.proofs.BoundLemmas.{contains_at, stands_within, inside, place_most}
@@ -44,7 +44,7 @@ module _ (ms : List Placed) (graph : HaveGraph ms) (code_words : ℕ)
       let named : IsNamed shape.0 (length m.types) (kinds.Switch entries) =
       All-contains (IsNamed shape.0 (length m.types)) m.branches (kinds.Switch entries) shape.1.named
       (contains_at m.branches has.0 (kinds.Switch entries) has.2) in
-      let place : IsPlace shape.0 entry = All-contains (IsPlace shape.0) entries entry named listed in
+      let place : IsUnitPlace shape.0 entry = All-contains (IsUnitPlace shape.0) entries entry named listed in
       let most = place_most shape.0 place.0 in
       let whole : length m.words ≡ length (flat_map words_of shape.0) = ap length shape.1.units.spelled in
       let low = end_low m placed in

@@ -4,15 +4,15 @@ use Rattle.std.specs.List.{AllPairs}
 use Rattle.cfi_aux.specs.declared.placed.Placed.{Placed}
 
 -- the code word is one of the module's
-abbrev pub LiesIn : Placed → (word : ℕ) → Type 0
-LiesIn placed word = (placed.base ≤ word) × (word < placed.base + length placed.words)
+abbrev pub LiesInModule : Placed → (word : ℕ) → Type 0
+LiesInModule placed word = (placed.base ≤ word) × (word < placed.base + length placed.words)
 
 -- a module ends where another begins, or before
 abbrev pub EndsBefore : Placed → Placed → Type 0
 EndsBefore placed later = placed.base + length placed.words ≤ later.base
 
 -- modules that lie apart, in their order, in so many code words
-pub record AreApart (modules : List Placed) (code_words : ℕ) : Type 0 where
+pub record LieApart (modules : List Placed) (code_words : ℕ) : Type 0 where
   pub order : AllPairs EndsBefore modules
   pub within : All (λ placed. placed.base + length placed.words ≤ code_words) modules
 
@@ -25,5 +25,5 @@ HasWords code placed =
 pub record IsCodeOf (modules : List Placed) (code_words : ℕ) (code : List ℕ) : Type 0 where
   pub len : length code ≡ code_words
   pub placed : All (HasWords code) modules
-  pub free : (word : ℕ) → word < code_words → All (λ placed. LiesIn placed word → ⊥) modules
+  pub free : (word : ℕ) → word < code_words → All (λ placed. LiesInModule placed word → ⊥) modules
       → slice_index code word ≡ 0

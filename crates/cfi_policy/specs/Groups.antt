@@ -32,7 +32,7 @@ pub record IsGroup (ms : List Placed) (group : Group) : Type 0 where
   pub targets : AllPairs ◌<◌ group.targets
 
 -- a group stands before another: it has addresses, and the other has none or a greater least branch
-pub record Precedes (group other : Group) : Type 0 where
+pub record GroupPrecedes (group other : Group) : Type 0 where
   pub goes : 0 < length group.targets
   pub later : (other.targets ≡ []) ⊎ (slice_index group.branches 0 < slice_index other.branches 0)
 
@@ -40,4 +40,4 @@ pub record Precedes (group other : Group) : Type 0 where
 pub record AreGroups (ms : List Placed) (groups : List Group) : Type 0 where
   pub each : All (IsGroup ms) groups
   pub whole : (slot : ℕ) → IsBranch ms slot → (group : Group) × Contains groups group × Contains group.branches slot
-  pub order : AllPairs Precedes groups
+  pub order : AllPairs GroupPrecedes groups

@@ -1,5 +1,5 @@
 ghost use Rattle.std.specs.Prelude.{◌≡◌, ◌⊎◌, ℕ, ◌+◌, ◌<◌, ◌≤◌, length, slice_index, IfOk};
-ghost use Rattle.cfi_policy.specs.Code.{AreApart, IsCodeOf};
+ghost use Rattle.cfi_policy.specs.Code.{LieApart, IsCodeOf};
 
 use cfi_aux::Placed;
 use cfi_word::Layout;
@@ -21,7 +21,7 @@ fn put(code: &mut [u32], place: usize, words: &[u32])
 ///
 /// The modules lie apart, in the order of their places, and end within the layout.
 pub fn code_of(alloc: Global, modules: &[Placed], layout: &Layout) -> Result<Numbers, AllocError>
-    requires { AreApart modules.now layout.now }
+    requires { LieApart modules.now layout.now }
     ensures { IfOk result (IsCodeOf modules.now layout.now) }
 {
     let mut code = vec![in alloc; 0; layout.code_words() as usize]?;

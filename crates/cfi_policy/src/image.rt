@@ -1,6 +1,6 @@
 ghost use Rattle.std.specs.Prelude.{IfOk};
 ghost use Rattle.cfi_class.specs.Labels.{HasEdge, CanBeLabelled};
-ghost use Rattle.cfi_policy.specs.Code.{AreApart};
+ghost use Rattle.cfi_policy.specs.Code.{LieApart};
 ghost use Rattle.cfi_policy.specs.Image.{IsImage, HaveImage};
 ghost use Rattle.cfi_graph.specs.Direct.{DirectEdge};
 
@@ -23,7 +23,7 @@ pub fn image_from(
     layout: &Layout,
 ) -> Result<Image, AllocError>
     requires edges { CanBeLabelled edges.now slots layout.now }
-    requires modules { AreApart modules.now layout.now }
+    requires modules { LieApart modules.now layout.now }
     ensures { IfOk result (IsImage (HasEdge edges.now) modules.now layout.now) }
 {
     let Labels { tary, bary } = label(alloc, edges, slots, layout)?;

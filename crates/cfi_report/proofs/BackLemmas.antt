@@ -19,7 +19,7 @@ use Rattle.cfi_report.specs.declared.line.Line.{Line}
 use Rattle.cfi_report.specs.declared.line.Line.TheVariants as line
 use Rattle.cfi_report.specs.Line.{field_text, who_field, what_fields, line_words}
 use Rattle.cfi_report.specs.Report.{IsField, IsLine}
-use Rattle.cfi_report.specs.Form.{who_in, what_two, loaded_three, what_three, loaded_four, what_four, loaded_five, what_five, journal_form, lone_form, pair_form, stop_form, force_form, guest_form, pick_form, three_form, opened_form, four_form, module_form, seven_form, form_of}
+use Rattle.cfi_report.specs.Form.{who_in, what_two, loaded_three, what_three, loaded_four, what_four, loaded_five, what_five, journal_form, lone_form, pair_form, stop_form, force_form, guest_form, pick_form, three_form, opened_form, four_form, module_form, seven_form, line_form}
 use Rattle.cfi_report.proofs.WordLemmas.{address_in-back, bytes_in-back, differs}
 
 -- who asked
@@ -47,7 +47,7 @@ journal_line who what = Some (line.Journal (record { who = who; what = what }))
 
 module _ (who : Who) (asked : who_in (field_text (who_field who)) ≡ Some who) where
   journal-back : (what : JournalLine) → AllByRecursion IsField (what_fields what)
-      → form_of (journal_words who what) ≡ journal_line who what
+      → line_form (journal_words who what) ≡ journal_line who what
   unfolding four_form journal_form seven_form what_two what_three what_four what_five loaded_three loaded_four
       loaded_five
   journal-back (LoadOk n e p) h =
@@ -88,7 +88,7 @@ pick-back p c hp hc some =
     rw (small_number_in-back p hp, small_number_in-back c hc, not_none) refl
 
 -- the words of a line say this line
-pub form-back : (one : Line) → IsLine one → form_of (line_words one) ≡ Some one
+pub form-back : (one : Line) → IsLine one → line_form (line_words one) ≡ Some one
 unfolding lone_form pair_form three_form force_form guest_form stop_form four_form seven_form module_form
 form-back line.Title h = refl
 form-back (line.Force e p) h = rw (small_number_in-back e h.0.1.0, small_number_in-back p h.0.1.1.0) refl

@@ -8,8 +8,8 @@ use Rattle.cfi_report.specs.declared.line.Line.TheVariants as line
 use Rattle.cfi_report.specs.declared.stage.Stage.{Stage}
 use Rattle.cfi_report.specs.declared.stage.Stage.TheVariants as stages
 use Rattle.cfi_report.specs.declared.report.Report.{Report}
-use Rattle.cfi_report.specs.Report.{IsLine, lines_of, IsReport}
-use Rattle.cfi_report.specs.Draft.{Draft, report_of, with_line}
+use Rattle.cfi_report.specs.Report.{IsLine, report_lines, IsReport}
+use Rattle.cfi_report.specs.Draft.{ReportSoFar, report_of, with_report_line}
 use Rattle.cfi_report.proofs.OrderLemmas.{with_line-stage, Follows, last_stage, last_stage-append}
 use Rattle.cfi_report.proofs.BuiltLemmas.{with_lines}
 use Rattle.cfi_report.proofs.ReachedLemmas.{IsReached, next-IsReached, ended-IsReport}
@@ -91,19 +91,19 @@ closing-Closes stages.Units =
     record { follow = (refl, (refl, tt)); lines = (steps-IsLine, (end-IsLine, tt)); last = refl }
 closing-Closes stages.Ended = record { follow = tt; lines = tt; last = refl }
 
-extend : (more : List Line) (draft : Draft) (lines : List Line) → IsReached draft lines → AllByRecursion IsLine more
+extend : (more : List Line) (draft : ReportSoFar) (lines : List Line) → IsReached draft lines → AllByRecursion IsLine more
     → Follows draft.stage more → IsReached (with_lines draft more) (lines ++ more)
 extend [] draft lines h is follow = rw (append-nil lines) h
 extend (one ∷ more) draft lines h is follow =
     let step = next-IsReached draft lines one h is.0 follow.0 in
     let rest = subst (λ (s : Stage). Follows s more) (sym (with_line-stage draft one)) follow.1 in
-    let all = extend more (with_line draft one) (lines ++ one ∷ []) step is.1 rest in
-    subst (λ (l : List Line). IsReached (with_lines (with_line draft one) more) l)
+    let all = extend more (with_report_line draft one) (lines ++ one ∷ []) step is.1 rest in
+    subst (λ (l : List Line). IsReached (with_lines (with_report_line draft one) more) l)
     (append_assoc lines (one ∷ []) more) all
 
 -- lines that were read are the first lines of some report
-pub some_report : (draft : Draft) (lines : List Line) → IsReached draft lines
-    → (report : Report) × (IsReport report × ((more : List Line) × (lines_of report ≡ lines ++ more)))
+pub some_report : (draft : ReportSoFar) (lines : List Line) → IsReached draft lines
+    → (report : Report) × (IsReport report × ((more : List Line) × (report_lines report ≡ lines ++ more)))
 some_report draft lines h =
     let closes = closing-Closes draft.stage in
     let more = closing draft.stage in

@@ -7,7 +7,7 @@ use Rattle.std.proofs.lemmas.Slice.Eq.{bytes_eq-Decides}
 use Rattle.cfi_text.specs.Decimal.{dec_text, small_number_in}
 use Rattle.cfi_text.specs.Hex.{hex8_text}
 use Rattle.cfi_text.specs.Names.{is_name, name_in}
-use Rattle.cfi_report.specs.Form.{address_in}
+use Rattle.cfi_report.specs.Form.{hex_address}
 use Rattle.cfi_report.proofs.WordLemmas.{Spells, small_number_in-spells, address_in-spells}
 
 -- what is said, if anything, is so
@@ -56,16 +56,16 @@ module _ {A : Type 0} where
   number P word f each = with_value P word (small_number_in word) f (small_number_in-spells word) each
 
   pub address : (P : A → Type 0) (word : List ℕ) (f : ℕ → Option A)
-      → ((n : ℕ) → n < 2 ^ 32 → word ≡ hex8_text n → Says P (f n)) → Says P (option_and_then f (address_in word))
-  address P word f each = with_value P word (address_in word) f (address_in-spells word) each
+      → ((n : ℕ) → n < 2 ^ 32 → word ≡ hex8_text n → Says P (f n)) → Says P (option_and_then f (hex_address word))
+  address P word f each = with_value P word (hex_address word) f (address_in-spells word) each
 
   pub last_number : (P : A → Type 0) (word : List ℕ) (f : ℕ → A) → ((n : ℕ) → n < 2 ^ 32 → word ≡ dec_text n → P (f n))
       → Says P (option_map f (small_number_in word))
   last_number P word f each = as_value P word (small_number_in word) f (small_number_in-spells word) each
 
   pub last_address : (P : A → Type 0) (word : List ℕ) (f : ℕ → A)
-      → ((n : ℕ) → n < 2 ^ 32 → word ≡ hex8_text n → P (f n)) → Says P (option_map f (address_in word))
-  last_address P word f each = as_value P word (address_in word) f (address_in-spells word) each
+      → ((n : ℕ) → n < 2 ^ 32 → word ≡ hex8_text n → P (f n)) → Says P (option_map f (hex_address word))
+  last_address P word f each = as_value P word (hex_address word) f (address_in-spells word) each
 
   pub named : (P : A → Type 0) (word : List ℕ) (f : List ℕ → Option A) → (is_name word ≡ true → Says P (f word))
       → Says P (option_and_then f (name_in word))

@@ -6,8 +6,8 @@ use Rattle.std.proofs.lemmas.List.Concat.{flat_map-append}
 use Rattle.cfi_report.specs.declared.line.Line.{Line}
 use Rattle.cfi_report.specs.declared.report.Report.{Report}
 use Rattle.cfi_report.specs.Line.{line_text}
-use Rattle.cfi_report.specs.Report.{lines_of, lines_text, text_of, IsReport, BeginsAs, IsFirstFault}
-use Rattle.cfi_report.specs.Draft.{empty, report_of}
+use Rattle.cfi_report.specs.Report.{report_lines, lines_text, report_text, IsReport, BeginsAs, IsFirstFaultyLine}
+use Rattle.cfi_report.specs.Draft.{no_lines, report_of}
 use Rattle.cfi_report.proofs.BuiltLemmas.{with_lines, lines_of-built}
 use Rattle.cfi_report.proofs.NextLemmas.{whole_follows}
 use Rattle.cfi_report.proofs.ClosingLemmas.{title-IsLine, force-IsLine, end-IsLine}
@@ -27,18 +27,18 @@ no_lines (one ∷ lines) same =
     let none : length (line_text one ++ lines_text lines) ≡ 0 = ap length (sym same) in
     absurd (omega (arith, none, length-append (line_text one) (lines_text lines), line_text-long one))
 
-pub same_text : (one other : Report) → IsReport one → IsReport other → text_of one ≡ text_of other → one ≡ other
+pub same_text : (one other : Report) → IsReport one → IsReport other → report_text one ≡ report_text other → one ≡ other
 same_text one other h g same =
-    let next = whole_follows (lines_of one) (lines_of other) [] h.lines g.lines (append-nil (text_of one) ∙ same) in
+    let next = whole_follows (report_lines one) (report_lines other) [] h.lines g.lines (append-nil (report_text one) ∙ same) in
     let end = no_lines next.0 next.1.1 in
-    let lines : lines_of other ≡ lines_of one = next.1.0 ∙ ap (λ (l : List Line). lines_of one ++ l) end
-    ∙ append-nil (lines_of one) in
-    sym (lines_of-built one) ∙ ap (λ (l : List Line). report_of (with_lines empty l)) (sym lines) ∙ lines_of-built other
+    let lines : report_lines other ≡ report_lines one = next.1.0 ∙ ap (λ (l : List Line). report_lines one ++ l) end
+    ∙ append-nil (report_lines one) in
+    sym (lines_of-built one) ∙ ap (λ (l : List Line). report_of (with_lines no_lines l)) (sym lines) ∙ lines_of-built other
 
 -- the first lines of the first lines
 fewer : (text : List ℕ) (n m : ℕ) (report : Report) → m ≤ n → BeginsAs text n report → BeginsAs text m report
 fewer text n m report few h =
-    let lines = lines_of report in
+    let lines = report_lines report in
     let firsts = take n lines in
     let parts : take m firsts ++ drop m firsts ≡ firsts = take-append-drop m firsts in
     let front : take m firsts ≡ take m lines = take-take m n lines few in
@@ -52,12 +52,12 @@ fewer text n m report few h =
           ∙ append_assoc (lines_text (take m lines)) (lines_text (drop m firsts)) h.rest;
     }
 
-not_before : (text : List ℕ) (n m : ℕ) → IsFirstFault text n → IsFirstFault text m → n < m → ⊥
+not_before : (text : List ℕ) (n m : ℕ) → IsFirstFaultyLine text n → IsFirstFaultyLine text m → n < m → ⊥
 not_before text n m h g less =
     let b = g.before in
     h.here (b.0, b.1, fewer text (m - 1) n b.0 (omega (arith, less)) b.2)
 
-pub same_fault : (text : List ℕ) (n m : ℕ) → IsFirstFault text n → IsFirstFault text m → n ≡ m
+pub same_fault : (text : List ℕ) (n m : ℕ) → IsFirstFaultyLine text n → IsFirstFaultyLine text m → n ≡ m
 same_fault text n m h g =
     let later : n < m → n ≡ m = λ less. absurd (not_before text n m h g less) in
     let earlier : m < n → n ≡ m = λ less. absurd (not_before text m n g h less) in

@@ -9,7 +9,7 @@ use Rattle.cfi_report.specs.Line.{line_words, line_text}
 use Rattle.cfi_report.specs.Report.{IsLine, lines_text}
 use Rattle.cfi_report.specs.Draft.{may_follow}
 use Rattle.cfi_report.specs.Next.{IsNext, HasNoNext}
-use Rattle.cfi_report.specs.Form.{Lacks, words_in, form_of}
+use Rattle.cfi_report.specs.Form.{Lacks, spaced_words, line_form}
 use Rattle.cfi_report.proofs.BackLemmas.{form-back}
 use Rattle.cfi_report.proofs.SaidLemmas.{form-says}
 use Rattle.cfi_report.proofs.SolidLemmas.{line_words-parted, line_words-no_end, line_text-long}
@@ -18,8 +18,8 @@ use Rattle.cfi_report.proofs.SolidLemmas.{line_words-parted, line_words-no_end, 
 abbrev bare_text : Line → List ℕ
 bare_text one = join_with_byte 32 (line_words one)
 
-joined : (bare : List ℕ) → join_with_byte 32 (words_in bare) ≡ bare
-unfolding words_in
+joined : (bare : List ℕ) → join_with_byte 32 (spaced_words bare) ≡ bare
+unfolding spaced_words
 joined bare = join_with_byte-slice_split 32 bare
 
 -- the text goes on after the line
@@ -27,10 +27,10 @@ after : (one : Line) (rest : List ℕ) → line_text one ++ rest ≡ bare_text o
 after one rest = append_assoc (bare_text one) (10 ∷ []) rest
 
 -- the line that a form says stands in the text
-pub next-is : (text bare rest : List ℕ) (one : Line) → text ≡ bare ++ 10 ∷ rest → form_of (words_in bare) ≡ Some one
+pub next-is : (text bare rest : List ℕ) (one : Line) → text ≡ bare ++ 10 ∷ rest → line_form (spaced_words bare) ≡ Some one
     → IsLine one × (text ≡ line_text one ++ rest)
 next-is text bare rest one split form =
-    let said = rw form at (form-says (words_in bare)) in
+    let said = rw form at (form-says (spaced_words bare)) in
     let same : bare_text one ≡ bare = ap (join_with_byte 32) said.says.1 ∙ joined bare in
     (said.says.0, split ∙ ap (λ (l : List ℕ). l ++ 10 ∷ rest) (sym same) ∙ sym (after one rest))
 
@@ -45,16 +45,16 @@ same_split a b xs ys h g same =
     (first, sym (join_with_byte-slice_split 10 xs) ∙ ap (join_with_byte 10) others ∙ join_with_byte-slice_split 10 ys)
 
 -- the words of a line say this line
-found : (one : Line) → IsLine one → form_of (words_in (bare_text one)) ≡ Some one
-found one h = ap form_of (line_words-parted one h) ∙ form-back one h
+found : (one : Line) → IsLine one → line_form (spaced_words (bare_text one)) ≡ Some one
+found one h = ap line_form (line_words-parted one h) ∙ form-back one h
 
 -- a line that stands in the text is found
 pub next-only : (text bare rest : List ℕ) (one : Line) (more : List ℕ) → text ≡ bare ++ 10 ∷ rest → Lacks 10 bare
-    → IsLine one → text ≡ line_text one ++ more → (form_of (words_in bare) ≡ Some one) × (rest ≡ more)
+    → IsLine one → text ≡ line_text one ++ more → (line_form (spaced_words bare) ≡ Some one) × (rest ≡ more)
 next-only text bare rest one more split lacks h stands =
     let same = same_split bare (bare_text one) rest more lacks (line_words-no_end one h)
     (sym split ∙ stands ∙ after one more) in
-    (ap (λ (l : List ℕ). form_of (words_in l)) same.0 ∙ found one h, same.1)
+    (ap (λ (l : List ℕ). line_form (spaced_words l)) same.0 ∙ found one h, same.1)
 
 -- a text without an end has no line
 pub next-none : (text : List ℕ) (one : Line) (more : List ℕ) → Lacks 10 text → IsLine one
@@ -110,20 +110,20 @@ whole_follows (one ∷ lines) (other ∷ others) rest h g same =
 -- what the code finds at the front of a text
 
 pub next-IsNext : (at : Stage) (text bare rest : List ℕ) (one : Line) → text ≡ bare ++ 10 ∷ rest
-    → Some one ≡ form_of (words_in bare) → may_follow at one ≡ true → IsNext at text one rest
+    → Some one ≡ line_form (spaced_words bare) → may_follow at one ≡ true → IsNext at text one rest
 next-IsNext at text bare rest one split form may =
     let is = next-is text bare rest one split (sym form) in
     record { line = is.0; follows = may; stands = is.1 }
 
 pub astray-HasNoNext : (at : Stage) (text bare rest : List ℕ) (one : Line) → text ≡ bare ++ 10 ∷ rest → Lacks 10 bare
-    → Some one ≡ form_of (words_in bare) → may_follow at one ≡ false → HasNoNext at text
+    → Some one ≡ line_form (spaced_words bare) → may_follow at one ≡ false → HasNoNext at text
 astray-HasNoNext at text bare rest one split lacks form may = λ other more next.
     let is = next-only text bare rest other more split lacks next.line next.stands in
     let same : one ≡ other = cc (form, is.0) in
     false≢true (sym may ∙ ap (may_follow at) same ∙ next.follows)
 
 pub unread-HasNoNext : (at : Stage) (text bare rest : List ℕ) → text ≡ bare ++ 10 ∷ rest → Lacks 10 bare
-    → None ≡ form_of (words_in bare) → HasNoNext at text
+    → None ≡ line_form (spaced_words bare) → HasNoNext at text
 unread-HasNoNext at text bare rest split lacks form = λ other more next.
     let is = next-only text bare rest other more split lacks next.line next.stands in
     cc (form, is.0)

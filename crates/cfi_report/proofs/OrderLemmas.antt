@@ -11,8 +11,8 @@ use Rattle.cfi_report.specs.declared.stage.Stage.{Stage}
 use Rattle.cfi_report.specs.declared.stage.Stage.TheVariants as stages
 use Rattle.cfi_report.specs.declared.report.Report.{Report}
 use Rattle.cfi_report.specs.declared.report.GuestPart.{GuestPart}
-use Rattle.cfi_report.specs.Report.{AreApart, ending_lines, guest_lines, lines_of}
-use Rattle.cfi_report.specs.Draft.{Draft, may_follow, takes_journal, takes_guests, with_line}
+use Rattle.cfi_report.specs.Report.{PicksDiffer, ending_lines, guest_lines, report_lines}
+use Rattle.cfi_report.specs.Draft.{ReportSoFar, may_follow, takes_journal, takes_guests, with_report_line}
 
 -- what the last line is then
 abbrev pub stage_after : Line → Stage
@@ -28,7 +28,7 @@ stage_after (line.Units units) = stages.Units
 stage_after (line.Steps steps) = stages.Guests
 stage_after line.End = stages.Ended
 
-pub with_line-stage : (draft : Draft) (one : Line) → (with_line draft one).stage ≡ stage_after one
+pub with_line-stage : (draft : ReportSoFar) (one : Line) → (with_report_line draft one).stage ≡ stage_after one
 with_line-stage draft line.Title = refl
 with_line-stage draft (line.Force epoch policy) = refl
 with_line-stage draft (line.Module one) = refl
@@ -73,11 +73,11 @@ journal-follow (entry ∷ journal) rest at takes h = (takes, journal-follow jour
 
 -- adjacent picks differ, also from the last one before
 abbrev AreApartFrom : Option Log → List Log → Type 0
-AreApartFrom None log = AreApart log
-AreApartFrom (Some last) log = AreApart (last ∷ log)
+AreApartFrom None log = PicksDiffer log
+AreApartFrom (Some last) log = PicksDiffer (last ∷ log)
 
 first_apart : (last : Option Log) (entry : Log) (log : List Log) → AreApartFrom last (entry ∷ log)
-    → (may_follow (stages.Log last) (line.Log entry) ≡ true) × AreApart (entry ∷ log)
+    → (may_follow (stages.Log last) (line.Log entry) ≡ true) × PicksDiffer (entry ∷ log)
 first_apart None entry log h = (refl, h)
 first_apart (Some last) entry log h = (h.0, h.1)
 
@@ -93,7 +93,7 @@ ending-follow : (guest : GuestPart) (rest : List Line) (last : Option Log) → F
 ending-follow guest rest last h = (refl, (refl, (refl, (refl, h))))
 
 guests-follow : (guests : List GuestPart) (rest : List Line) (at : Stage) → takes_guests at ≡ true
-    → AllByRecursion (λ (guest : GuestPart). AreApart guest.log) guests
+    → AllByRecursion (λ (guest : GuestPart). PicksDiffer guest.log) guests
     → ((to : Stage) → takes_guests to ≡ true → Follows to rest) → Follows at (flat_map guest_lines guests ++ rest)
 guests-follow [] rest at takes apart h = h at takes
 guests-follow (guest ∷ guests) rest at takes apart h =
@@ -111,8 +111,8 @@ journal_then_guests stages.Journal h = refl
 journal_then_guests _ h = cc
 
 -- the lines of a report stand in order
-pub lines_of-Follows : (report : Report) → AllByRecursion (λ (guest : GuestPart). AreApart guest.log) report.guests
-    → Follows stages.Start (lines_of report)
+pub lines_of-Follows : (report : Report) → AllByRecursion (λ (guest : GuestPart). PicksDiffer guest.log) report.guests
+    → Follows stages.Start (report_lines report)
 lines_of-Follows report apart =
     let last : List Line = line.End ∷ [] in
     let guests = flat_map guest_lines report.guests ++ last in
@@ -121,11 +121,11 @@ lines_of-Follows report apart =
     guests-follow report.guests last at (journal_then_guests at takes) apart (λ to takes. (takes, tt)) in
     let all = modules-follow report.modules journal
     (journal-follow report.journal guests stages.Modules refl all_guests) in
-    let same : lines_of report ≡ line.Title ∷ line.Force report.epoch report.policy ∷
+    let same : report_lines report ≡ line.Title ∷ line.Force report.epoch report.policy ∷
     (map line.Module report.modules ++ journal) = simp append_assoc in
     subst (Follows stages.Start) (sym same) (refl, (refl, all))
 
-pub last_stage-lines_of : (report : Report) → last_stage stages.Start (lines_of report) ≡ stages.Ended
+pub last_stage-lines_of : (report : Report) → last_stage stages.Start (report_lines report) ≡ stages.Ended
 last_stage-lines_of report =
     last_stage-append stages.Start
     (line.Title ∷ line.Force report.epoch report.policy ∷ map line.Module report.modules

@@ -10,8 +10,8 @@ use Rattle.cfi_report.specs.declared.stage.Stage.{Stage}
 use Rattle.cfi_report.specs.declared.stage.Stage.TheVariants as stages
 use Rattle.cfi_report.specs.declared.report.Report.{Report}
 use Rattle.cfi_report.specs.Line.{line_text}
-use Rattle.cfi_report.specs.Report.{IsLine, lines_of, lines_text, text_of, IsReport, CanBegin, IsFirstFault}
-use Rattle.cfi_report.specs.Draft.{Draft, empty, report_of, may_follow, is_whole, with_line}
+use Rattle.cfi_report.specs.Report.{IsLine, report_lines, lines_text, report_text, IsReport, CanBegin, IsFirstFaultyLine}
+use Rattle.cfi_report.specs.Draft.{ReportSoFar, no_lines, report_of, may_follow, is_whole, with_report_line}
 use Rattle.cfi_report.specs.Next.{IsNext, HasNoNext}
 use Rattle.cfi_report.proofs.BuiltLemmas.{with_lines, lines_of-built}
 use Rattle.cfi_report.proofs.NextLemmas.{follow_on, whole_follows}
@@ -21,7 +21,7 @@ use Rattle.cfi_report.proofs.ClosingLemmas.{some_report}
 use Rattle.cfi_report.proofs.SolidLemmas.{line_text-long}
 
 -- the lines before the rest led to the draft, and the next one has this number
-pub record IsRead (source rest : List ℕ) (next : ℕ) (draft : Draft) : Type 0 where
+pub record IsRead (source rest : List ℕ) (next : ℕ) (draft : ReportSoFar) : Type 0 where
   pub lines : List Line
   pub reached : IsReached draft lines
   pub text : source ≡ lines_text lines ++ rest
@@ -29,7 +29,7 @@ pub record IsRead (source rest : List ℕ) (next : ℕ) (draft : Draft) : Type 0
   pub room : next + length rest ≤ 2 ^ 32
   pub fits : next < 2 ^ 32
 
-pub read-start : (text : List ℕ) → length text < 2 ^ 32 → IsRead text text 1 empty
+pub read-start : (text : List ℕ) → length text < 2 ^ 32 → IsRead text text 1 no_lines
 read-start text small =
     record {
       lines = [];
@@ -50,8 +50,8 @@ read-room at rest after one number h room =
     let two = line_text-long one in
     (omega (arith, size, two), omega (arith, size, two), omega (arith, size, two))
 
-pub read-next : (text rest after : List ℕ) (number : ℕ) (draft : Draft) (one : Line) → IsRead text rest number draft
-    → IsNext draft.stage rest one after → IsRead text after (number + 1) (with_line draft one)
+pub read-next : (text rest after : List ℕ) (number : ℕ) (draft : ReportSoFar) (one : Line) → IsRead text rest number draft
+    → IsNext draft.stage rest one after → IsRead text after (number + 1) (with_report_line draft one)
 read-next text rest after number draft one h next =
     let room = read-room draft.stage rest after one number next h.room in
     let alone : lines_text (one ∷ []) ≡ line_text one = append-nil (line_text one) in
@@ -72,15 +72,15 @@ whole-Ended stages.Ended h = refl
 whole-Ended _ h = cc
 
 -- a report that goes on after the lines has a line there that may follow
-goes_on : (draft : Draft) (lines : List Line) (one : Line) (more : List Line) (report : Report)
-    → IsReached draft lines → IsReport report → lines_of report ≡ lines ++ one ∷ more
+goes_on : (draft : ReportSoFar) (lines : List Line) (one : Line) (more : List Line) (report : Report)
+    → IsReached draft lines → IsReport report → report_lines report ≡ lines ++ one ∷ more
     → may_follow draft.stage one ≡ true
 goes_on draft lines one more report h is same =
     let follow = subst (Follows stages.Start) same (lines_of-Follows report is.apart) in
     subst (λ (s : Stage). may_follow s one ≡ true) h.stage (Follows-rest stages.Start lines (one ∷ more) follow).0
 
 -- one that does not go on leads to the end
-ends : (draft : Draft) (lines : List Line) (report : Report) → IsReached draft lines → lines_of report ≡ lines
+ends : (draft : ReportSoFar) (lines : List Line) (report : Report) → IsReached draft lines → report_lines report ≡ lines
     → is_whole draft.stage ≡ true
 ends draft lines report h same =
     let last : stages.Ended ≡ draft.stage = sym (last_stage-lines_of report) ∙ ap (last_stage stages.Start) same
@@ -91,10 +91,10 @@ AllByRecursion-last : {A : Type 0} (P : A → Type 0) (xs ys : List A) → AllBy
 AllByRecursion-last P [] ys h = h
 AllByRecursion-last P (x ∷ xs) ys h = AllByRecursion-last P xs ys h.1
 
-module _ (text rest : List ℕ) (number : ℕ) (draft : Draft) (h : IsRead text rest number draft) where
+module _ (text rest : List ℕ) (number : ℕ) (draft : ReportSoFar) (h : IsRead text rest number draft) where
   -- no report goes on here
   stuck : HasNoNext draft.stage rest → (report : Report) (one : Line) (more : List Line) (after : List ℕ)
-      → IsReport report → lines_of report ≡ h.lines ++ one ∷ more → rest ≡ line_text one ++ after → ⊥
+      → IsReport report → report_lines report ≡ h.lines ++ one ∷ more → rest ≡ line_text one ++ after → ⊥
   stuck never report one more after is same stands =
       let lines = subst (AllByRecursion IsLine) same is.lines in
       never one after (record {
@@ -104,12 +104,12 @@ module _ (text rest : List ℕ) (number : ℕ) (draft : Draft) (h : IsRead text 
       })
 
   not_whole : HasNoNext draft.stage rest → (is_whole draft.stage ≡ true → rest ≡ [] → ⊥) → (report : Report)
-      → IsReport report → text ≡ text_of report → ⊥
+      → IsReport report → text ≡ report_text report → ⊥
   not_whole never some report is same =
-      let next = whole_follows h.lines (lines_of report) rest h.reached.lines is.lines (sym h.text ∙ same) in
+      let next = whole_follows h.lines (report_lines report) rest h.reached.lines is.lines (sym h.text ∙ same) in
       by_rest next.0 next.1.0 next.1.1
     where
-      by_rest : (more : List Line) → lines_of report ≡ h.lines ++ more → rest ≡ lines_text more → ⊥
+      by_rest : (more : List Line) → report_lines report ≡ h.lines ++ more → rest ≡ lines_text more → ⊥
       by_rest [] lines none = some (ends draft h.lines report h.reached (lines ∙ append-nil h.lines)) none
       by_rest (one ∷ more) lines stands = stuck never report one more (lines_text more) is lines stands
 
@@ -119,7 +119,7 @@ module _ (text rest : List ℕ) (number : ℕ) (draft : Draft) (h : IsRead text 
       let some = some_report draft h.lines h.reached in
       let lines = some.1.1.1 in
       let count : number - 1 ≡ length h.lines = omega (arith, h.number) in
-      let first : take (number - 1) (lines_of some.0) ≡ h.lines =
+      let first : take (number - 1) (report_lines some.0) ≡ h.lines =
       rw (count, lines) (take-append-le (length h.lines) h.lines some.1.1.0 (omega arith)
       ∙ take_all (length h.lines) h.lines (omega arith)) in (
         some.0,
@@ -137,29 +137,29 @@ module _ (text rest : List ℕ) (number : ℕ) (draft : Draft) (h : IsRead text 
       let report = begins.0 in
       let is = begins.1 in
       let b = begins.2 in
-      let firsts = take number (lines_of report) in
-      let lasts = drop number (lines_of report) in
-      let all : firsts ++ lasts ≡ lines_of report = take-append-drop number (lines_of report) in
+      let firsts = take number (report_lines report) in
+      let lasts = drop number (report_lines report) in
+      let all : firsts ++ lasts ≡ report_lines report = take-append-drop number (report_lines report) in
       let size : length firsts ≡ length h.lines + 1 = omega
-      (arith, length-take number (lines_of report), b.within, h.number) in
+      (arith, length-take number (report_lines report), b.within, h.number) in
       let good = AllByRecursion-first IsLine firsts lasts (subst (AllByRecursion IsLine) (sym all) is.lines) in
       let next = follow_on h.lines firsts rest b.rest h.reached.lines good (omega (arith, size))
       (sym h.text ∙ b.begins) in
       by_rest report is lasts b.rest firsts all size next.0 next.1.0 next.1.1
     where
       by_rest : (report : Report) → IsReport report → (lasts : List Line) (after : List ℕ) (firsts : List Line)
-          → firsts ++ lasts ≡ lines_of report → length firsts ≡ length h.lines + 1 → (more : List Line)
+          → firsts ++ lasts ≡ report_lines report → length firsts ≡ length h.lines + 1 → (more : List Line)
           → firsts ≡ h.lines ++ more → rest ≡ lines_text more ++ after → ⊥
       by_rest report is lasts after firsts all size [] lines stands =
           omega (arith, size, ap length (lines ∙ append-nil h.lines))
       by_rest report is lasts after firsts all size (one ∷ more) lines stands =
-          let whole : lines_of report ≡ h.lines ++ one ∷ (more ++ lasts) = sym all
+          let whole : report_lines report ≡ h.lines ++ one ∷ (more ++ lasts) = sym all
           ∙ ap (λ (l : List Line). l ++ lasts) lines ∙ append_assoc h.lines (one ∷ more) lasts in
           stuck never report one (more ++ lasts) (lines_text more ++ after) is whole
           (stands ∙ append_assoc (line_text one) (lines_text more) after)
 
   -- the line of this number is the first faulty one
-  pub read-fault : HasNoNext draft.stage rest → (is_whole draft.stage ≡ true → rest ≡ [] → ⊥) → IsFirstFault text number
+  pub read-fault : HasNoNext draft.stage rest → (is_whole draft.stage ≡ true → rest ≡ [] → ⊥) → IsFirstFaultyLine text number
   read-fault never some = record { no_report = not_whole never some; before = before; here = here never }
 
   -- nothing stands after the last line, so this is the report
@@ -172,23 +172,23 @@ module _ (text rest : List ℕ) (number : ℕ) (draft : Draft) (h : IsRead text 
   pub read-report : is_whole draft.stage ≡ true → IsReport (report_of draft)
   read-report whole = (ended-IsReport draft h.lines h.reached (whole-Ended draft.stage whole)).0
 
-  pub read-text : is_whole draft.stage ≡ true → rest ≡ [] → text ≡ text_of (report_of draft)
+  pub read-text : is_whole draft.stage ≡ true → rest ≡ [] → text ≡ report_text (report_of draft)
   read-text whole none =
       let lines = (ended-IsReport draft h.lines h.reached (whole-Ended draft.stage whole)).1 in
       h.text ∙ ap (λ (l : List ℕ). lines_text h.lines ++ l) none ∙ append-nil (lines_text h.lines)
       ∙ ap lines_text (sym lines)
 
-  pub read-only : rest ≡ [] → (report : Report) → IsReport report → text ≡ text_of report → report_of draft ≡ report
+  pub read-only : rest ≡ [] → (report : Report) → IsReport report → text ≡ report_text report → report_of draft ≡ report
   read-only none report is same =
-      let next = whole_follows h.lines (lines_of report) rest h.reached.lines is.lines (sym h.text ∙ same) in
+      let next = whole_follows h.lines (report_lines report) rest h.reached.lines is.lines (sym h.text ∙ same) in
       let end : next.0 ≡ [] = nothing next.0 (sym none ∙ next.1.1) in
-      let lines : lines_of report ≡ h.lines = next.1.0 ∙ ap (λ (l : List Line). h.lines ++ l) end
+      let lines : report_lines report ≡ h.lines = next.1.0 ∙ ap (λ (l : List Line). h.lines ++ l) end
       ∙ append-nil h.lines in
-      ap report_of (h.reached.built ∙ ap (with_lines empty) (sym lines)) ∙ lines_of-built report
+      ap report_of (h.reached.built ∙ ap (with_lines no_lines) (sym lines)) ∙ lines_of-built report
 
 -- a line is wanted, and none stands there that may follow
-pub fault-wanted : (text rest : List ℕ) (number : ℕ) (draft : Draft) (at : Stage) → IsRead text rest number draft
-    → at ≡ draft.stage → HasNoNext at rest → is_whole at ≡ false → IsFirstFault text number
+pub fault-wanted : (text rest : List ℕ) (number : ℕ) (draft : ReportSoFar) (at : Stage) → IsRead text rest number draft
+    → at ≡ draft.stage → HasNoNext at rest → is_whole at ≡ false → IsFirstFaultyLine text number
 fault-wanted text rest number draft at h same never going =
     let here = subst (λ (s : Stage). HasNoNext s rest) same never in
     read-fault text rest number draft h here (λ whole none. false≢true (sym going ∙ ap is_whole same ∙ whole))
@@ -213,8 +213,8 @@ whole-HasNoNext at rest whole = λ one after next.
     ended one (subst (λ (s : Stage). may_follow s one ≡ true) (whole-Ended at whole) next.follows)
 
 -- something stands after the last line
-pub fault-left : (text rest : List ℕ) (number : ℕ) (draft : Draft) (at : Stage) → IsRead text rest number draft
-    → at ≡ draft.stage → is_whole at ≡ true → 0 < length rest → IsFirstFault text number
+pub fault-left : (text rest : List ℕ) (number : ℕ) (draft : ReportSoFar) (at : Stage) → IsRead text rest number draft
+    → at ≡ draft.stage → is_whole at ≡ true → 0 < length rest → IsFirstFaultyLine text number
 fault-left text rest number draft at h same whole some =
     let here = whole-HasNoNext draft.stage rest (sym (ap is_whole same) ∙ whole) in
     read-fault text rest number draft h here (λ done none.
@@ -227,10 +227,10 @@ no_bytes (byte ∷ rest) h = absurd (omega (arith, h))
 -- a text that was read whole
 pub record IsReadWhole (source : List ℕ) (report : Report) : Type 0 where
   pub is : IsReport report
-  pub text : source ≡ text_of report
-  pub only : (other : Report) → IsReport other → source ≡ text_of other → report ≡ other
+  pub text : source ≡ report_text report
+  pub only : (other : Report) → IsReport other → source ≡ report_text other → report ≡ other
 
-pub read-whole : (text rest : List ℕ) (number : ℕ) (draft : Draft) (at : Stage) (report : Report)
+pub read-whole : (text rest : List ℕ) (number : ℕ) (draft : ReportSoFar) (at : Stage) (report : Report)
     → IsRead text rest number draft → at ≡ draft.stage → is_whole at ≡ true → length rest ≡ 0
     → report ≡ report_of draft → IsReadWhole text report
 read-whole text rest number draft at report h same whole none made =
@@ -238,6 +238,6 @@ read-whole text rest number draft at report h same whole none made =
     let none = no_bytes rest none in
     record {
       is = subst IsReport (sym made) (read-report text rest number draft h whole);
-      text = read-text text rest number draft h whole none ∙ ap text_of (sym made);
+      text = read-text text rest number draft h whole none ∙ ap report_text (sym made);
       only = λ other is same. made ∙ read-only text rest number draft h none other is same;
     }

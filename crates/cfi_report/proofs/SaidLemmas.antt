@@ -15,7 +15,7 @@ use Rattle.cfi_report.specs.declared.line.Line.{Line}
 use Rattle.cfi_report.specs.declared.line.Line.TheVariants as line
 use Rattle.cfi_report.specs.Line.{field_text, who_field, what_fields, line_words}
 use Rattle.cfi_report.specs.Report.{IsField, IsLine}
-use Rattle.cfi_report.specs.Form.{bytes_in, who_in, what_two, loaded_three, what_three, loaded_four, what_four, loaded_five, what_five, entry_form, journal_form, lone_form, pair_form, stop_form, force_form, guest_form, pick_form, three_form, opened_form, four_form, module_form, seven_form, form_of}
+use Rattle.cfi_report.specs.Form.{bytes_in, who_in, what_two, loaded_three, what_three, loaded_four, what_four, loaded_five, what_five, entry_form, journal_form, lone_form, pair_form, stop_form, force_form, guest_form, pick_form, three_form, opened_form, four_form, module_form, seven_form, line_form}
 use Rattle.cfi_report.proofs.WordLemmas.{bytes_in-says}
 use Rattle.cfi_report.proofs.FormLemmas.{Says, nothing, keyed, twice, as_value, number, address, last_number, last_address, named, told}
 
@@ -224,7 +224,7 @@ seven-says keyword a b c d e f =
     (journal-says keyword a (b ∷ c ∷ d ∷ e ∷ f ∷ []) _ (five-says b c d e f))
 
 -- the line that words say is written with these words
-pub form-says : (words : List (List ℕ)) → Says (IsSaid words) (form_of words)
+pub form-says : (words : List (List ℕ)) → Says (IsSaid words) (line_form words)
 form-says [] = nothing _
 form-says (k ∷ []) = lone-says k
 form-says (k ∷ a ∷ []) = pair-says k a

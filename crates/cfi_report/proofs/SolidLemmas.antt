@@ -19,7 +19,7 @@ use Rattle.cfi_report.specs.declared.line.Line.{Line}
 use Rattle.cfi_report.specs.declared.line.Line.TheVariants as line
 use Rattle.cfi_report.specs.Line.{Field, Word, Decimal, Address, Name, Bytes, field_text, bytes_text, who_field, what_fields, line_fields, line_words, line_text}
 use Rattle.cfi_report.specs.Report.{IsField, IsLine}
-use Rattle.cfi_report.specs.Form.{Lacks, words_in}
+use Rattle.cfi_report.specs.Form.{Lacks, spaced_words}
 
 -- each byte of the word is above a space
 abbrev solid : List ℕ → Bool
@@ -136,8 +136,8 @@ lacks byte low (first ∷ word) h =
 
 -- words that spaces part
 parted : (word : List ℕ) (words : List (List ℕ)) → AllByRecursion IsSolid (word ∷ words)
-    → words_in (join_with_byte 32 (word ∷ words)) ≡ word ∷ words
-unfolding words_in
+    → spaced_words (join_with_byte 32 (word ∷ words)) ≡ word ∷ words
+unfolding spaced_words
 parted word [] h = slice_split_none _ word (lacks 32 (omega arith) word h.0)
 parted word (next ∷ words) h =
     slice_split_at _ word 32 (join_with_byte 32 (next ∷ words)) (lacks 32 (omega arith) word h.0) refl
@@ -169,9 +169,9 @@ some_words P h (line.Units n) = h _ _ _
 some_words P h (line.Steps n) = h _ _ _
 some_words P h line.End = h _ _ _
 
-pub line_words-parted : (one : Line) → IsLine one → words_in (join_with_byte 32 (line_words one)) ≡ line_words one
+pub line_words-parted : (one : Line) → IsLine one → spaced_words (join_with_byte 32 (line_words one)) ≡ line_words one
 line_words-parted one h =
-    some_words (λ words. AllByRecursion IsSolid words → words_in (join_with_byte 32 words) ≡ words)
+    some_words (λ words. AllByRecursion IsSolid words → spaced_words (join_with_byte 32 words) ≡ words)
     (λ byte word words. parted (byte ∷ word) words) one (words-solid one h)
 
 pub line_words-no_end : (one : Line) → IsLine one → Lacks 10 (join_with_byte 32 (line_words one))

@@ -13,7 +13,7 @@ use Rattle.cfi_text.specs.Decimal.{dec_text, small_number_in}
 use Rattle.cfi_text.proofs.DecimalLemmas.{small_number_in-says}
 use Rattle.cfi_text.specs.Hex.{hex_digits, hex8_text, hex_text}
 use Rattle.cfi_text.proofs.HexLemmas.{value-hex_digits, length-hex_digits}
-use Rattle.cfi_report.specs.Form.{Lacks, words_in, form_of, address_in, pair_values, is_hex, pairs_in, bytes_in}
+use Rattle.cfi_report.specs.Form.{Lacks, spaced_words, line_form, hex_address, pair_values, is_hex, pairs_in, bytes_in}
 use Rattle.cfi_report.specs.Line.{bytes_text}
 
 -- a number below a limit, of which the word is the text
@@ -35,16 +35,16 @@ spelled-none value limit word text never =
 
 -- addresses
 
-pub address_in-back : (n : ℕ) → n < 2 ^ 32 → address_in (hex8_text n) ≡ Some n
-unfolding address_in
+pub address_in-back : (n : ℕ) → n < 2 ^ 32 → hex_address (hex8_text n) ≡ Some n
+unfolding hex_address
 address_in-back n fits =
     rw (value-hex_digits 8 n (omega arith)) (spelled-some n (2 ^ 32) (hex8_text n) (hex8_text n) fits refl)
 
-pub address_in-some : (word : List ℕ) (n : ℕ) → n < 2 ^ 32 → word ≡ hex8_text n → address_in word ≡ Some n
+pub address_in-some : (word : List ℕ) (n : ℕ) → n < 2 ^ 32 → word ≡ hex8_text n → hex_address word ≡ Some n
 address_in-some word n fits text = rw text (address_in-back n fits)
 
-pub address_in-none : (word : List ℕ) → ((n : ℕ) → n < 2 ^ 32 → word ≡ hex8_text n → ⊥) → address_in word ≡ None
-unfolding address_in
+pub address_in-none : (word : List ℕ) → ((n : ℕ) → n < 2 ^ 32 → word ≡ hex8_text n → ⊥) → hex_address word ≡ None
+unfolding hex_address
 address_in-none word never = spelled-none _ _ _ _ (never (digits_value 16 word))
 
 -- bytes in two digits each
@@ -105,8 +105,8 @@ module _ {V : Type 0} (fits : V → Type 0) (text : V → List ℕ) (word : List
 pub small_number_in-spells : (word : List ℕ) → Spells IsSmall dec_text word (small_number_in word)
 small_number_in-spells word = record { spells = small_number_in-says word }
 
-pub address_in-spells : (word : List ℕ) → Spells IsSmall hex8_text word (address_in word)
-unfolding address_in
+pub address_in-spells : (word : List ℕ) → Spells IsSmall hex8_text word (hex_address word)
+unfolding hex_address
 address_in-spells word = one IsSmall hex8_text word _ _ (λ h.
     let parts = and_parts _ _ h in
     (ltb-true _ _ parts.0, (bytes_eq-Decides _ _).0 parts.1))
@@ -169,12 +169,12 @@ bytes_in-back (byte ∷ bytes) fits =
 -- the parts of a line between its spaces
 
 pub words_in-first : (text word rest : List ℕ) → text ≡ word ++ 32 ∷ rest → Lacks 32 word
-    → words_in text ≡ word ∷ words_in rest
-unfolding words_in
+    → spaced_words text ≡ word ∷ spaced_words rest
+unfolding spaced_words
 words_in-first text word rest split lacks = rw split (slice_split_at _ word 32 rest lacks refl)
 
-pub words_in-last : (text : List ℕ) → Lacks 32 text → words_in text ≡ text ∷ []
-unfolding words_in
+pub words_in-last : (text : List ℕ) → Lacks 32 text → spaced_words text ≡ text ∷ []
+unfolding spaced_words
 words_in-last text lacks = slice_split_none _ text lacks
 
 -- reading pairs of digits
@@ -224,7 +224,7 @@ reads_pairs-rest (byte ∷ bytes) (other ∷ others) rest h g same =
 
 -- an address that was found
 pub address_in-is : (word : List ℕ) (found : Option ℕ) → IfSome found IsSmall → IfSome found (λ n. word ≡ hex8_text n)
-    → ((n : ℕ) → n < 2 ^ 32 → word ≡ hex8_text n → found ≡ Some n) → found ≡ address_in word
+    → ((n : ℕ) → n < 2 ^ 32 → word ≡ hex8_text n → found ≡ Some n) → found ≡ hex_address word
 address_in-is word None small some only =
     rw (address_in-none word (λ n fits text. let found = only n fits text in cc)) refl
 address_in-is word (Some n) small some only = rw (address_in-some word n small some) refl
@@ -267,15 +267,15 @@ pairs_in-end word bytes (byte ∷ rest) h none = absurd (omega (arith, none))
 -- eight words or more are no line
 
 more_words : (words : List (List ℕ)) (k a b c d e f : List ℕ) → (words ≡ [] → ⊥)
-    → form_of (k ∷ a ∷ b ∷ c ∷ d ∷ e ∷ f ∷ words) ≡ None
+    → line_form (k ∷ a ∷ b ∷ c ∷ d ∷ e ∷ f ∷ words) ≡ None
 more_words [] k a b c d e f some = absurd (some refl)
 more_words (g ∷ words) k a b c d e f some = refl
 
-some_words : (text : List ℕ) → words_in text ≡ [] → ⊥
-unfolding words_in
+some_words : (text : List ℕ) → spaced_words text ≡ [] → ⊥
+unfolding spaced_words
 some_words text none =
     let size : length (slice_split (λ byte. byte == 32) text) ≡ 0 = ap length none in
     omega (arith, size, length-slice_split (λ byte. byte == 32) text)
 
-pub too_many : (rest k a b c d e f : List ℕ) → form_of (k ∷ a ∷ b ∷ c ∷ d ∷ e ∷ f ∷ words_in rest) ≡ None
-too_many rest k a b c d e f = more_words (words_in rest) k a b c d e f (some_words rest)
+pub too_many : (rest k a b c d e f : List ℕ) → line_form (k ∷ a ∷ b ∷ c ∷ d ∷ e ∷ f ∷ spaced_words rest) ≡ None
+too_many rest k a b c d e f = more_words (spaced_words rest) k a b c d e f (some_words rest)

@@ -13,7 +13,7 @@ use Rattle.cfi_report.specs.declared.report.GuestPart.{GuestPart}
 use Rattle.cfi_report.specs.Report.{differ}
 
 -- the fields of a report, those of the guest whose lines are read, and what the last line was
-pub record Draft : Type 0 where
+pub record ReportSoFar : Type 0 where
   pub stage : Stage
   pub epoch : ℕ
   pub policy : ℕ
@@ -28,8 +28,8 @@ pub record Draft : Type 0 where
   pub units : ℕ
 
 -- before any line
-abbrev pub empty : Draft
-empty = record {
+abbrev pub no_lines : ReportSoFar
+no_lines = record {
   stage = stages.Start;
   epoch = 0;
   policy = 0;
@@ -45,7 +45,7 @@ empty = record {
 }
 
 -- the report of what was read
-abbrev pub report_of : Draft → Report
+abbrev pub report_of : ReportSoFar → Report
 report_of draft = record {
   epoch = draft.epoch;
   policy = draft.policy;
@@ -119,7 +119,7 @@ may_follow at (line.Steps steps) = takes_steps at
 may_follow at line.End = takes_guests at
 
 -- the guest whose lines were read
-abbrev pub part_of : Draft → (steps : ℕ) → GuestPart
+abbrev pub part_of : ReportSoFar → (steps : ℕ) → GuestPart
 part_of draft steps = record {
   number = draft.number;
   entry = draft.entry;
@@ -131,18 +131,18 @@ part_of draft steps = record {
 }
 
 -- the draft with what the line says
-abbrev pub with_line : Draft → Line → Draft
-with_line draft line.Title = record draft { stage = stages.Titled }
-with_line draft (line.Force epoch policy) = record draft { stage = stages.Modules; epoch = epoch; policy = policy }
-with_line draft (line.Module one) = record draft { stage = stages.Modules; modules = draft.modules ++ one ∷ [] }
-with_line draft (line.Journal entry) = record draft { stage = stages.Journal; journal = draft.journal ++ entry ∷ [] }
-with_line draft (line.Guest number entry) =
+abbrev pub with_report_line : ReportSoFar → Line → ReportSoFar
+with_report_line draft line.Title = record draft { stage = stages.Titled }
+with_report_line draft (line.Force epoch policy) = record draft { stage = stages.Modules; epoch = epoch; policy = policy }
+with_report_line draft (line.Module one) = record draft { stage = stages.Modules; modules = draft.modules ++ one ∷ [] }
+with_report_line draft (line.Journal entry) = record draft { stage = stages.Journal; journal = draft.journal ++ entry ∷ [] }
+with_report_line draft (line.Guest number entry) =
     record draft { stage = stages.Log None; number = number; entry = entry; log = [] }
-with_line draft (line.Log entry) = record draft { stage = stages.Log (Some entry); log = draft.log ++ entry ∷ [] }
-with_line draft (line.Out bytes) = record draft { stage = stages.Out; out = bytes }
-with_line draft (line.Stop stop) = record draft { stage = stages.Stop; stop = stop }
-with_line draft (line.Units units) = record draft { stage = stages.Units; units = units }
-with_line draft (line.Steps steps) =
+with_report_line draft (line.Log entry) = record draft { stage = stages.Log (Some entry); log = draft.log ++ entry ∷ [] }
+with_report_line draft (line.Out bytes) = record draft { stage = stages.Out; out = bytes }
+with_report_line draft (line.Stop stop) = record draft { stage = stages.Stop; stop = stop }
+with_report_line draft (line.Units units) = record draft { stage = stages.Units; units = units }
+with_report_line draft (line.Steps steps) =
     record draft {
       stage = stages.Guests;
       guests = draft.guests ++ part_of draft steps ∷ [];
@@ -150,4 +150,4 @@ with_line draft (line.Steps steps) =
       log = [];
       out = [];
     }
-with_line draft line.End = record draft { stage = stages.Ended }
+with_report_line draft line.End = record draft { stage = stages.Ended }

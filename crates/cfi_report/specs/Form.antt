@@ -22,12 +22,12 @@ abbrev pub Lacks : (byte : ℕ) → (text : List ℕ) → Type 0
 Lacks byte text = All (λ other. (other == byte) ≡ false) text
 
 -- the words of a line, which single spaces part
-unfoldable pub words_in : (text : List ℕ) → List (List ℕ)
-words_in text = slice_split (λ byte. byte == 32) text
+unfoldable pub spaced_words : (text : List ℕ) → List (List ℕ)
+spaced_words text = slice_split (λ byte. byte == 32) text
 
 -- the number of 32 bits of which the word is the spelling in eight hexadecimal digits
-unfoldable pub address_in : (word : List ℕ) → Option ℕ
-address_in word =
+unfoldable pub hex_address : (word : List ℕ) → Option ℕ
+hex_address word =
     if nat_lt (digits_value 16 word) (2 ^ 32) && bytes_eq word (hex8_text (digits_value 16 word))
     then Some (digits_value 16 word) else None
 
@@ -131,9 +131,9 @@ pair_form keyword word =
 unfoldable pub stop_form : (word end : List ℕ) → Option Line
 stop_form word end =
     if bytes_eq word (codes "exit") then option_map (λ code. line.Stop (Some (Exit code))) (small_number_in end)
-    else (if bytes_eq word (codes "halt") then option_map (λ address. line.Stop (Some (Halt address))) (address_in end)
+    else (if bytes_eq word (codes "halt") then option_map (λ address. line.Stop (Some (Halt address))) (hex_address end)
     else (if bytes_eq word (codes "align")
-    then option_map (λ address. line.Stop (Some (Align address))) (address_in end)
+    then option_map (λ address. line.Stop (Some (Align address))) (hex_address end)
     else None))
 
 unfoldable pub force_form : (epoch policy : List ℕ) → Option Line
@@ -166,7 +166,7 @@ unfoldable pub opened_form : (word end : List ℕ) → (number : ℕ) → Option
 opened_form word end number =
     if bytes_eq word (codes "cause") then option_map (λ cause. line.Log (Cause number cause)) (small_number_in end)
     else (do
-      address ← address_in word
+      address ← hex_address word
       policy ← small_number_in end
       Some (line.Log (Open number address policy)))
 
@@ -181,7 +181,7 @@ module_form number name base slot data_base policy = do
   called ← name_in name
   b ← small_number_in base
   s ← small_number_in slot
-  d ← address_in data_base
+  d ← hex_address data_base
   p ← small_number_in policy
   Some (line.Module (record { number = n; name = called; base = b; slot = s; data_base = d; policy = p }))
 
@@ -191,13 +191,13 @@ seven_form keyword a b c d e f =
     else journal_form keyword a (what_five b c d e f)
 
 -- the line that the words say
-abbrev pub form_of : (words : List (List ℕ)) → Option Line
-form_of [] = None
-form_of (keyword ∷ []) = lone_form keyword
-form_of (keyword ∷ a ∷ []) = pair_form keyword a
-form_of (keyword ∷ a ∷ b ∷ []) = three_form keyword a b
-form_of (keyword ∷ a ∷ b ∷ c ∷ []) = four_form keyword a b c
-form_of (keyword ∷ a ∷ b ∷ c ∷ d ∷ []) = journal_form keyword a (what_three b c d)
-form_of (keyword ∷ a ∷ b ∷ c ∷ d ∷ e ∷ []) = journal_form keyword a (what_four b c d e)
-form_of (keyword ∷ a ∷ b ∷ c ∷ d ∷ e ∷ f ∷ []) = seven_form keyword a b c d e f
-form_of (keyword ∷ a ∷ b ∷ c ∷ d ∷ e ∷ f ∷ g ∷ words) = None
+abbrev pub line_form : (words : List (List ℕ)) → Option Line
+line_form [] = None
+line_form (keyword ∷ []) = lone_form keyword
+line_form (keyword ∷ a ∷ []) = pair_form keyword a
+line_form (keyword ∷ a ∷ b ∷ []) = three_form keyword a b
+line_form (keyword ∷ a ∷ b ∷ c ∷ []) = four_form keyword a b c
+line_form (keyword ∷ a ∷ b ∷ c ∷ d ∷ []) = journal_form keyword a (what_three b c d)
+line_form (keyword ∷ a ∷ b ∷ c ∷ d ∷ e ∷ []) = journal_form keyword a (what_four b c d e)
+line_form (keyword ∷ a ∷ b ∷ c ∷ d ∷ e ∷ f ∷ []) = seven_form keyword a b c d e f
+line_form (keyword ∷ a ∷ b ∷ c ∷ d ∷ e ∷ f ∷ g ∷ words) = None

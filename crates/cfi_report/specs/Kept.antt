@@ -1,8 +1,8 @@
 -- How the code keeps a draft.
 use Rattle.cfi_report.specs.declared.draft.Draft.TheInside.{Inside}
-use Rattle.cfi_report.specs.Draft.{Draft}
+use Rattle.cfi_report.specs.Draft.{ReportSoFar}
 
-abbrev pub view_of : Inside → Draft
+abbrev pub view_of : Inside → ReportSoFar
 view_of a = record {
   stage = a.stage;
   epoch = a.epoch;

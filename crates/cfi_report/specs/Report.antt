@@ -21,8 +21,8 @@ abbrev pub guest_lines : GuestPart → List Line
 guest_lines guest = line.Guest guest.number guest.entry ∷ map line.Log guest.log ++ ending_lines guest
 
 -- a report's lines
-abbrev pub lines_of : Report → List Line
-lines_of report =
+abbrev pub report_lines : Report → List Line
+report_lines report =
     line.Title ∷ line.Force report.epoch report.policy ∷ map line.Module report.modules
     ++ map line.Journal report.journal
     ++ flat_map guest_lines report.guests
@@ -33,8 +33,8 @@ abbrev pub lines_text : List Line → List ℕ
 lines_text lines = flat_map line_text lines
 
 -- a report's text
-abbrev pub text_of : Report → List ℕ
-text_of report = lines_text (lines_of report)
+abbrev pub report_text : Report → List ℕ
+report_text report = lines_text (report_lines report)
 
 -- a number has 32 bits, a byte has 8, and a name is one
 abbrev pub IsField : Field → Type 0
@@ -60,39 +60,39 @@ differ (Pick policy count) (Pick other more) = not (policy == other)
 differ _ _ = true
 
 -- adjacent picks differ in policy
-abbrev pub AreApart : List Log → Type 0
-AreApart [] = ⊤
-AreApart (entry ∷ []) = ⊤
-AreApart (entry ∷ next ∷ log) = (differ entry next ≡ true) × AreApart (next ∷ log)
+abbrev pub PicksDiffer : List Log → Type 0
+PicksDiffer [] = ⊤
+PicksDiffer (entry ∷ []) = ⊤
+PicksDiffer (entry ∷ next ∷ log) = (differ entry next ≡ true) × PicksDiffer (next ∷ log)
 
 -- a report that is written so, and read: what its lines say may stand there, and adjacent picks of a guest differ
 pub record IsReport (report : Report) : Type 0 where
-  pub lines : AllByRecursion IsLine (lines_of report)
-  pub apart : AllByRecursion (λ (guest : GuestPart). AreApart guest.log) report.guests
+  pub lines : AllByRecursion IsLine (report_lines report)
+  pub apart : AllByRecursion (λ (guest : GuestPart). PicksDiffer guest.log) report.guests
 
 -- the text begins with the report's first n lines, of which there are so many
 pub record BeginsAs (text : List ℕ) (n : ℕ) (report : Report) : Type 0 where
-  pub within : n ≤ length (lines_of report)
+  pub within : n ≤ length (report_lines report)
   pub rest : List ℕ
-  pub begins : text ≡ lines_text (take n (lines_of report)) ++ rest
+  pub begins : text ≡ lines_text (take n (report_lines report)) ++ rest
 
 -- the first n lines of the text are those of some report
 abbrev pub CanBegin : (text : List ℕ) → (n : ℕ) → Type 0
 CanBegin text n = (report : Report) × IsReport report × BeginsAs text n report
 
 -- The text is no report's, and n is the number of the first line, from 1, up to which no report has its lines.
-pub record IsFirstFault (text : List ℕ) (n : ℕ) : Type 0 where
-  pub no_report : (report : Report) → IsReport report → text ≡ text_of report → ⊥
+pub record IsFirstFaultyLine (text : List ℕ) (n : ℕ) : Type 0 where
+  pub no_report : (report : Report) → IsReport report → text ≡ report_text report → ⊥
   pub before : CanBegin text (n - 1)
   pub here : CanBegin text n → ⊥
 
 -- when each fault comes
 abbrev pub IsCause : (text : List ℕ) → ReportFault → Type 0
-IsCause text (Syntax number) = IsFirstFault text number
+IsCause text (Syntax number) = IsFirstFaultyLine text number
 IsCause text Memory = ⊤
 
 -- the answer is this report, unless memory ran out
-abbrev pub Gives : Result Report ReportFault → Report → Type 0
-Gives (Ok given) report = given ≡ report
-Gives (Err Memory) report = ⊤
-Gives (Err (Syntax number)) report = ⊥
+abbrev pub AnswersReport : Result Report ReportFault → Report → Type 0
+AnswersReport (Ok given) report = given ≡ report
+AnswersReport (Err Memory) report = ⊤
+AnswersReport (Err (Syntax number)) report = ⊥

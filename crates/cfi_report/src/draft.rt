@@ -1,5 +1,5 @@
 ghost use Rattle.std.specs.Prelude.{◌≡◌, OnOk};
-ghost use Rattle.cfi_report.specs.Draft.{Draft as Said, empty, report_of, with_line};
+ghost use Rattle.cfi_report.specs.Draft.{ReportSoFar as Said, no_lines, report_of, with_report_line};
 
 use crate::line::Line;
 use crate::report::{GuestPart, Report};
@@ -30,7 +30,7 @@ pub struct Draft {
 }
 
 impl Model for Draft {
-    ghost use Rattle.cfi_report.specs.Draft.{Draft as Said};
+    ghost use Rattle.cfi_report.specs.Draft.{ReportSoFar as Said};
 
     ghost Value = { Said };
 
@@ -42,7 +42,7 @@ impl Model for Draft {
 impl Draft {
     /// The draft before any line.
     pub fn new(alloc: Global) -> Draft
-        ensures { result ≡ empty }
+        ensures { result ≡ no_lines }
     {
         Draft {
             stage: Stage::Start,
@@ -69,7 +69,7 @@ impl Draft {
 
     /// Adds what the line says.
     pub fn add(&mut self, alloc: Global, line: Line) -> Result<(), AllocError>
-        ensures { OnOk result (self.new ≡ with_line self.old line) }
+        ensures { OnOk result (self.new ≡ with_report_line self.old line) }
     {
         match line {
             Line::Title => self.stage = Stage::Titled,
@@ -88,7 +88,7 @@ impl Draft {
     }
 
     fn set_force(&mut self, epoch: u32, policy: u32)
-        ensures { self.new ≡ with_line self.old (Line.Force epoch policy) }
+        ensures { self.new ≡ with_report_line self.old (Line.Force epoch policy) }
     {
         self.stage = Stage::Modules;
         self.epoch = epoch;
@@ -96,7 +96,7 @@ impl Draft {
     }
 
     fn add_module(&mut self, one: ModuleLine) -> Result<(), AllocError>
-        ensures { OnOk result (self.new ≡ with_line self.old (Line.Module one)) }
+        ensures { OnOk result (self.new ≡ with_report_line self.old (Line.Module one)) }
     {
         self.stage = Stage::Modules;
         self.modules.push(one)?;
@@ -104,7 +104,7 @@ impl Draft {
     }
 
     fn add_entry(&mut self, entry: Entry) -> Result<(), AllocError>
-        ensures { OnOk result (self.new ≡ with_line self.old (Line.Journal entry)) }
+        ensures { OnOk result (self.new ≡ with_report_line self.old (Line.Journal entry)) }
     {
         self.stage = Stage::Journal;
         self.journal.push(entry)?;
@@ -112,7 +112,7 @@ impl Draft {
     }
 
     fn open_guest(&mut self, alloc: Global, number: u32, entry: Text)
-        ensures { self.new ≡ with_line self.old (Line.Guest number entry) }
+        ensures { self.new ≡ with_report_line self.old (Line.Guest number entry) }
     {
         self.stage = Stage::Log(None);
         self.number = number;
@@ -121,7 +121,7 @@ impl Draft {
     }
 
     fn add_log(&mut self, entry: Log) -> Result<(), AllocError>
-        ensures { OnOk result (self.new ≡ with_line self.old (Line.Log entry)) }
+        ensures { OnOk result (self.new ≡ with_report_line self.old (Line.Log entry)) }
     {
         self.stage = Stage::Log(Some(entry));
         self.log.push(entry)?;
@@ -129,21 +129,21 @@ impl Draft {
     }
 
     fn set_out(&mut self, bytes: Bytes)
-        ensures { self.new ≡ with_line self.old (Line.Out bytes) }
+        ensures { self.new ≡ with_report_line self.old (Line.Out bytes) }
     {
         self.stage = Stage::Out;
         self.out = bytes;
     }
 
     fn set_stop(&mut self, stop: Option<Stop>)
-        ensures { self.new ≡ with_line self.old (Line.Stop stop) }
+        ensures { self.new ≡ with_report_line self.old (Line.Stop stop) }
     {
         self.stage = Stage::Stop;
         self.stop = stop;
     }
 
     fn set_units(&mut self, units: u32)
-        ensures { self.new ≡ with_line self.old (Line.Units units) }
+        ensures { self.new ≡ with_report_line self.old (Line.Units units) }
     {
         self.stage = Stage::Units;
         self.units = units;
@@ -151,7 +151,7 @@ impl Draft {
 
     // The guest's last line ends its part.
     fn close_guest(&mut self, alloc: Global, steps: u32) -> Result<(), AllocError>
-        ensures { OnOk result (self.new ≡ with_line self.old (Line.Steps steps)) }
+        ensures { OnOk result (self.new ≡ with_report_line self.old (Line.Steps steps)) }
     {
         let no_entry = Text::from_string(String::new(alloc));
         let part = GuestPart {

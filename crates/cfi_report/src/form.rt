@@ -1,5 +1,5 @@
 ghost use Rattle.std.specs.Prelude.{◌≡◌, IfOk};
-ghost use Rattle.cfi_report.specs.Form.{words_in, form_of, lone_form, pair_form, three_form, force_form, guest_form, pick_form, stop_form, four_form, opened_form, seven_form, module_form};
+ghost use Rattle.cfi_report.specs.Form.{spaced_words, line_form, lone_form, pair_form, three_form, force_form, guest_form, pick_form, stop_form, four_form, opened_form, seven_form, module_form};
 
 use crate::journal::{journal, what_five, what_four, what_three, what_two};
 use crate::line::Line;
@@ -11,7 +11,7 @@ use std::alloc::{AllocError, Global};
 
 /// The line that the text says, which stands there without its end. `None` where it says none.
 pub fn read_form(alloc: Global, text: &[u8]) -> Result<Option<Line>, AllocError>
-    ensures { IfOk result (λ found. found ≡ form_of (words_in text.now)) }
+    ensures { IfOk result (λ found. found ≡ line_form (spaced_words text.now)) }
 {
     let (keyword, rest) = first_word(text);
     let Some(rest) = rest else {

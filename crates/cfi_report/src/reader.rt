@@ -1,6 +1,6 @@
 ghost use Rattle.std.specs.Prelude.{◌≡◌, ◌^◌, ◌<◌, length, IfOk, IfErr, IfSome, IfNone};
 ghost use Rattle.cfi_report.specs.Next.{IsNext, HasNoNext};
-ghost use Rattle.cfi_report.specs.Report.{text_of, IsReport, IsCause, Gives};
+ghost use Rattle.cfi_report.specs.Report.{report_text, IsReport, IsCause, AnswersReport};
 
 use crate::draft::Draft;
 use crate::fault::ReportFault;
@@ -17,9 +17,9 @@ use std::alloc::{AllocError, Global};
 pub fn read_report(alloc: Global, text: &[u8]) -> Result<Report, ReportFault>
     requires { length text.now < 2 ^ 32 }
     ensures ok { IfOk result IsReport }
-    ensures text { IfOk result (λ report. text.now ≡ text_of report) }
-    ensures only { (report : Report) → IsReport report → text.now ≡ text_of report →
-        Gives result report }
+    ensures text { IfOk result (λ report. text.now ≡ report_text report) }
+    ensures only { (report : Report) → IsReport report → text.now ≡ report_text report →
+        AnswersReport result report }
     ensures fault { IfErr result (IsCause text.now) }
 {
     let mut draft = Draft::new(alloc);

@@ -1,7 +1,7 @@
 ghost use Rattle.std.specs.Prelude.{◌≡◌, ℕ, ◌+◌, ◌<◌, ◌++◌, ◌∷◌, [], IfOk, IfSome, IfNone, MatchOption, Option};
 ghost use Rattle.std.specs.List.{position};
 ghost use Rattle.cfi_text.specs.Hex.{hex_digits};
-ghost use Rattle.cfi_report.specs.Form.{Lacks, words_in, address_in, pairs_in, bytes_in};
+ghost use Rattle.cfi_report.specs.Form.{Lacks, spaced_words, hex_address, pairs_in, bytes_in};
 
 use cfi_text::{read_hex_digit, read_hex8};
 use cfi_values::Bytes;
@@ -19,8 +19,8 @@ pub fn cut(text: &[u8], byte: u8) -> Option<(&[u8], &[u8])>
 
 /// The first word, and what comes after the space behind it, if there is one.
 pub fn first_word(text: &[u8]) -> (&[u8], Option<&[u8]>)
-    ensures { MatchOption result.1 (words_in text.now ≡ result.0.now ∷ [])
-        (λ rest. words_in text.now ≡ result.0.now ∷ words_in rest.now) }
+    ensures { MatchOption result.1 (spaced_words text.now ≡ result.0.now ∷ [])
+        (λ rest. spaced_words text.now ≡ result.0.now ∷ spaced_words rest.now) }
 {
     match cut(text, b' ') {
         Some((word, rest)) => (word, Some(rest)),
@@ -30,7 +30,7 @@ pub fn first_word(text: &[u8]) -> (&[u8], Option<&[u8]>)
 
 /// The number of which the word is the spelling in eight hexadecimal digits.
 pub fn address(word: &[u8]) -> Option<u32>
-    ensures { result ≡ address_in word.now }
+    ensures { result ≡ hex_address word.now }
 {
     read_hex8(word)
 }

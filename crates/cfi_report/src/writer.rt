@@ -2,7 +2,7 @@ ghost use Rattle.std.specs.Prelude.{◌≡◌, ◌++◌, OnOk, IfOk, map};
 ghost use Rattle.std.specs.List.{flat_map};
 ghost use Rattle.cfi_report.specs.declared.line.Line.TheVariants as line;
 ghost use Rattle.cfi_report.specs.Line.{line_text};
-ghost use Rattle.cfi_report.specs.Report.{guest_lines, ending_lines, lines_text, text_of};
+ghost use Rattle.cfi_report.specs.Report.{guest_lines, ending_lines, lines_text, report_text};
 
 use crate::put::{put, put_address, put_end, put_number, put_word};
 use crate::report::{GuestPart, Report};
@@ -15,7 +15,7 @@ use std::alloc::{AllocError, Global};
 ///
 /// A guest that has not stopped is written with `stop none`, which `read_report` takes for no report.
 pub fn write_report(alloc: Global, report: &Report) -> Result<Vec<u8>, AllocError>
-    ensures ok { IfOk result (λ bytes. bytes.items ≡ text_of report.now) }
+    ensures ok { IfOk result (λ bytes. bytes.items ≡ report_text report.now) }
 {
     let mut out = Vec::new(alloc);
     put(&mut out, b"report 1\n")?;

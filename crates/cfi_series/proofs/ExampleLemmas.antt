@@ -10,11 +10,12 @@ use Rattle.cfi_unit.proofs.UnitLemmas.{size_pos}
 use Rattle.cfi_unit.proofs.CodeLemmas.{BeginsAt-within}
 use Rattle.cfi_aux.specs.declared.modules.Module.{Module}
 use Rattle.cfi_aux.specs.declared.placed.Placed.{Placed}
-use Rattle.cfi_aux.specs.Sound.{IsSoundSymbol, IsSoundReloc, IsSoundModule}
+use Rattle.cfi_aux.specs.Sound.{IsSoundModule}
+use Rattle.elf_read.specs.Sound.{IsSoundSymbol, IsSoundReloc}
 use Rattle.cfi_graph.proofs.TestLemmas.{void_first}
 use Rattle.cfi_place.specs.Relocated.{areas_of, relocated_from}
 use Rattle.cfi_place.specs.Slots.{ReadFrom}
-use Rattle.cfi_place.specs.Placed.{words_in}
+use Rattle.cfi_place.specs.Placed.{bytes_as_words}
 use Rattle.cfi_verify.specs.Example.{loop_module}
 use Rattle.cfi_verify.proofs.ExampleLemmas.{verified}
 use Rattle.cfi_series.specs.Order.{IsPlacedBehind, Joins}
@@ -55,7 +56,7 @@ sound = record {
 abbrev jump : CodeUnit
 jump = units.Jump false (pos 0)
 
-text-words : words_in object.text ≡ 0x6f ∷ []
+text-words : bytes_as_words object.text ≡ 0x6f ∷ []
 unfolding word_at
 text-words = refl
 

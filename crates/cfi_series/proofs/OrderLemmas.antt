@@ -11,7 +11,7 @@ use Rattle.cfi_aux.specs.declared.modules.Module.{Module}
 use Rattle.cfi_aux.specs.declared.placed.Placed.{Placed}
 use Rattle.cfi_aux.specs.Sound.{IsSoundModule}
 use Rattle.cfi_place.specs.Names.{Names, first_in}
-use Rattle.cfi_verify.specs.Faults.{Stands}
+use Rattle.cfi_verify.specs.Faults.{FaultStands}
 use Rattle.cfi_verify.proofs.RowLemmas.{no_fault}
 use Rattle.cfi_series.specs.declared.fault.JoinFault.{JoinFault}
 use Rattle.cfi_series.specs.declared.fault.JoinFault.TheVariants.{Place, Verify, Memory}
@@ -91,5 +91,5 @@ joins_or_refused code_words before m p (Verify fault) joins refused =
     let same : refused.0 ≡ p =
     placed_once m (room_after code_words before) (names_of before) refused.0 p refused.1 joins.behind in
     absurd (no_fault p before joins.verified.0 joins.verified.1 fault
-    (subst (λ (x : Placed). Stands x before fault) same refused.2.stands))
+    (subst (λ (x : Placed). FaultStands x before fault) same refused.2.stands))
 joins_or_refused code_words before m p Memory joins refused = refl

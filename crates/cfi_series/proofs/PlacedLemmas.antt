@@ -17,7 +17,7 @@ use Rattle.cfi_aux.specs.declared.modules.Module.{Module}
 use Rattle.cfi_aux.specs.declared.records.Function.{Function}
 use Rattle.cfi_aux.specs.Placed.{is_global}
 use Rattle.cfi_aux.specs.declared.placed.Placed.{Placed}
-use Rattle.cfi_aux.specs.Sound.{HasField, IsSoundReloc}
+use Rattle.elf_read.specs.Sound.{HasField, IsSoundReloc}
 use Rattle.cfi_place.specs.declared.fault.PlaceFault.{PlaceFault}
 use Rattle.cfi_place.specs.declared.fault.PlaceFault.TheVariants as faults
 use Rattle.cfi_place.specs.Functions.{make_function}
@@ -27,7 +27,7 @@ use Rattle.cfi_place.specs.Names.{Names}
 use Rattle.cfi_place.specs.Relocated.{Areas, areas_of, size_in, high_parts}
 use Rattle.cfi_place.specs.Slots.{ReadFrom, checks_from, with_slot, with_slots, HasSlots}
 use Rattle.cfi_place.specs.Value.{undefined_in}
-use Rattle.cfi_place.specs.Placed.{words_in, values_in, relocated, unless_undefined, where_fits, code_fits, data_fits, IsPlaced}
+use Rattle.cfi_place.specs.Placed.{bytes_as_words, values_in, relocated, unless_undefined, where_fits, code_fits, data_fits, IsPlaced}
 use Rattle.cfi_place.proofs.PlacingLemmas.{length-words_in}
 use Rattle.cfi_series.proofs.LengthLemmas.{ok_not_err, ok_is, IsInside, relocated_kept}
 
@@ -84,7 +84,7 @@ fits m room names placed sound is =
     let kept = relocated_kept room values (high_parts room values object.relocs) 0 object.relocs
     (areas_of object.text object.static_data) is.bytes (inside object sound) last.1 in
     let words : length placed.words ≡ length is.bytes.text / 4 =
-    ap length is.words.2 ∙ length-with_slots room.slot_base (checks_from 0 is.words.0) (words_in is.bytes.text)
+    ap length is.words.2 ∙ length-with_slots room.slot_base (checks_from 0 is.words.0) (bytes_as_words is.bytes.text)
     ∙ length-words_in is.bytes.text in
     let quarter : length is.bytes.text / 4 ≡ length object.text / 4 = ap (λ (n : ℕ). n / 4) kept.text in
     let end : length placed.static_data ≡ length object.static_data = ap length is.static_data ∙ kept.static_data in
@@ -120,8 +120,8 @@ pub placed_once : (m : Module) (room : Room) (names : Names) (p q : Placed) → 
 placed_once m room names p q a b =
     let bytes : a.bytes ≡ b.bytes = ok_is (sym a.is_placed ∙ b.is_placed) in
     let words : p.words ≡ q.words =
-    slots_once (words_in m.object.text) room.slot_base (words_in a.bytes.text) p.words q.words a.words
-    (subst (λ (x : Areas). HasSlots (words_in m.object.text) room.slot_base (words_in x.text) q.words) (sym bytes) b.words) in
+    slots_once (bytes_as_words m.object.text) room.slot_base (bytes_as_words a.bytes.text) p.words q.words a.words
+    (subst (λ (x : Areas). HasSlots (bytes_as_words m.object.text) room.slot_base (bytes_as_words x.text) q.words) (sym bytes) b.words) in
     let static_data : p.static_data ≡ q.static_data =
     a.static_data ∙ ap (λ (x : Areas). x.static_data) bytes ∙ sym b.static_data in
     let base : p.base ≡ q.base = a.base ∙ sym b.base in

@@ -16,7 +16,7 @@ use Rattle.cfi_aux.specs.declared.placed.PlacedFunction.{PlacedFunction}
 use Rattle.cfi_aux.specs.declared.records.Kind.{Kind}
 use Rattle.cfi_aux.specs.declared.records.Kind.TheVariants.{Call, Tail, Return, Switch}
 use Rattle.cfi_unit.specs.Spots.{place_of}
-use Rattle.cfi_graph.specs.Shaped.{slots_of, IsPart, IsPlace, IsNamed, IsShapedAs, AreShaped}
+use Rattle.cfi_graph.specs.Shaped.{slots_of, IsPart, IsUnitPlace, IsNamed, IsShapedAs, AreShaped}
 use Rattle.cfi_unit.specs.declared.spot.Spot.{Spot}
 use Rattle.cfi_verify.specs.declared.checks.CheckSpot.{CheckSpot}
 use Rattle.cfi_verify.specs.Spots.{checks_of}
@@ -106,7 +106,7 @@ module _ (m : Placed) (loaded : List Placed) (spots : List Spot) (v : IsVerified
   named_by (Tail node) false at fits entries = func_there m.types node fits
   named_by Return link at fits entries = tt
   named_by (Switch list) link at fits entries =
-      All-weaker (IsEntry m spots at) (IsPlace v.laid.units.code)
+      All-weaker (IsEntry m spots at) (IsUnitPlace v.laid.units.code)
       (λ offset e.
       let number = place_number m.words spots v.laid.units e.0 e.2.unit in
       (number.0, number.1, omega (arith, e.1, number.2)))

@@ -9,7 +9,7 @@ use Rattle.cfi_args.specs.Words.{IsOperand}
 use Rattle.cfi_top.specs.declared.command.Command.{Command}
 use Rattle.cfi_top.specs.declared.command.Command.TheVariants as commands
 use Rattle.cfi_word.specs.declared.limits.TheConstants.{MAX_INPUTS}
-use Rattle.cfi_top.specs.Command.{name_of, operands_of, HasInputs, IsCommand}
+use Rattle.cfi_top.specs.Command.{command_word, operands_of, HasInputs, IsCommand}
 
 -- the command of words, read off their first
 abbrev command_from : List (List ℕ) → Option Command
@@ -34,7 +34,7 @@ linked_spelled output (input ∷ []) number = refl
 linked_spelled output (input ∷ more ∷ rest) number = refl
 
 from_spelled : (command : Command) → HasInputs command
-    → command_from (name_of command ∷ operands_of command) ≡ Some command
+    → command_from (command_word command ∷ operands_of command) ≡ Some command
 from_spelled (commands.Asm input output) number = refl
 from_spelled (commands.List input) number = refl
 from_spelled (commands.Instrument input output) number = refl

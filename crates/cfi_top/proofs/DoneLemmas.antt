@@ -8,8 +8,8 @@ use Rattle.cfi_top.specs.declared.answer.Answer.{Answer}
 use Rattle.cfi_top.specs.declared.answer.Answer.TheVariants as answers
 use Rattle.cfi_top.specs.declared.answer.TheConstants.{DONE}
 use Rattle.cfi_top.specs.Answer.{output_of}
-use Rattle.cfi_top.specs.Command.{IsCommand, Fits, more_of}
-use Rattle.cfi_top.specs.Outside.{ShelfView, SinkView, Holds, IsWhole}
+use Rattle.cfi_top.specs.Command.{IsCommand, IsCommandLine, more_of}
+use Rattle.cfi_top.specs.Outside.{ShelfView, SinkView, Holds, IsWrittenWhole}
 use Rattle.cfi_top.specs.Plans.{named_files}
 use Rattle.cfi_top.specs.Reading.{AreRead}
 use Rattle.cfi_top.specs.Outcome.{IsMade, IsAllRead, IsWorked}
@@ -24,7 +24,7 @@ pub record HasDone (command : Command) (shelf shelf' : ShelfView) (sink sink' : 
   pub more : List (List ℕ)
   pub read : IsAllRead command shelf files more
   pub made : IsMade command files more answer
-  pub delivered : IsWhole (output_of answer) shelf shelf' sink sink'
+  pub delivered : IsWrittenWhole (output_of answer) shelf shelf' sink sink'
 
 -- what a command that the words are comes to, said of another that they are
 worked_as : (words : List (List ℕ)) (a b : Command) (shelf : ShelfView) (files more : List (List ℕ)) (answer : Answer)
@@ -36,7 +36,7 @@ worked_as words a b shelf files more answer is_a is_b read worked =
 
 module _ (words : List (List ℕ)) (shelf shelf' : ShelfView) (sink sink' : SinkView) (status : ℕ)
     (e : status ≡ DONE) where
-  pub done_of : Ends words shelf shelf' sink sink' status → Fits words
+  pub done_of : Ends words shelf shelf' sink sink' status → IsCommandLine words
   done_of (inl memory) = absurd (omega (arith, e, memory.0))
   done_of (inr (answers.Usage, is, inl d)) = absurd (omega (arith, e, d.0))
   done_of (inr (answers.Ran part, is, inl d)) = (is.0, is.1)
@@ -91,7 +91,7 @@ module _ (words : List (List ℕ)) (shelf shelf' : ShelfView) (sink sink' : Sink
 module _ (input bytes : List ℕ) (shelf shelf' : ShelfView) (sink sink' : SinkView)
     (held : Holds shelf input bytes) (more : List (List ℕ)) where
   run_done : (answer : Answer) → IsMade (commands.Run input) (bytes ∷ []) more answer
-      → IsWhole (output_of answer) shelf shelf' sink sink' → HasRun input shelf sink sink'
+      → IsWrittenWhole (output_of answer) shelf shelf' sink sink' → HasRun input shelf sink sink'
   run_done (answers.Ran part) made whole =
       record { bytes = bytes; held = held; part = part; justified = made; text = whole.1 }
   run_done (answers.Print text) made whole = absurd made
@@ -101,7 +101,7 @@ module _ (input bytes : List ℕ) (shelf shelf' : ShelfView) (sink sink' : SinkV
   run_done (answers.Refused name refusal) made whole = absurd made
 
   asm_done : (output : List ℕ) (answer : Answer) → IsMade (commands.Asm input output) (bytes ∷ []) more answer
-      → IsWhole (output_of answer) shelf shelf' sink sink' → HasAssembled input output shelf shelf' sink sink'
+      → IsWrittenWhole (output_of answer) shelf shelf' sink sink' → HasAssembled input output shelf shelf' sink sink'
   asm_done output (answers.Save name file) made whole = record {
     bytes = bytes;
     held = held;
@@ -118,7 +118,7 @@ module _ (input bytes : List ℕ) (shelf shelf' : ShelfView) (sink sink' : SinkV
 
   instrument_done : (output : List ℕ) (answer : Answer)
       → IsMade (commands.Instrument input output) (bytes ∷ []) more answer
-      → IsWhole (output_of answer) shelf shelf' sink sink' → HasInstrumented input output shelf shelf' sink sink'
+      → IsWrittenWhole (output_of answer) shelf shelf' sink sink' → HasInstrumented input output shelf shelf' sink sink'
   instrument_done output (answers.Save name file) made whole = record {
     bytes = bytes;
     held = held;
@@ -134,7 +134,7 @@ module _ (input bytes : List ℕ) (shelf shelf' : ShelfView) (sink sink' : SinkV
   instrument_done output (answers.Refused name refusal) made whole = absurd made
 
   list_done : (answer : Answer) → IsMade (commands.List input) (bytes ∷ []) more answer
-      → IsWhole (output_of answer) shelf shelf' sink sink' → HasListed input shelf sink sink'
+      → IsWrittenWhole (output_of answer) shelf shelf' sink sink' → HasListed input shelf sink sink'
   list_done (answers.Print text) made whole =
       record { bytes = bytes; held = held; text = text; listing = made; printed = whole.1 }
   list_done (answers.Ran part) made whole = absurd made
@@ -146,7 +146,7 @@ module _ (input bytes : List ℕ) (shelf shelf' : ShelfView) (sink sink' : SinkV
 module _ (input bytes : List ℕ) (shelf shelf' : ShelfView) (sink sink' : SinkView)
     (held : Holds shelf input bytes) (files : List (List ℕ)) (read : AreRead shelf (named_files bytes) files) where
   verify_done : (answer : Answer) → IsMade (commands.Verify input) (bytes ∷ []) files answer
-      → IsWhole (output_of answer) shelf shelf' sink sink' → HasVerified input shelf sink sink'
+      → IsWrittenWhole (output_of answer) shelf shelf' sink sink' → HasVerified input shelf sink sink'
   verify_done (answers.Print text) made whole =
       record { bytes = bytes; held = held; files = files; read = read; text = text; said = made; printed = whole.1 }
   verify_done (answers.Ran part) made whole = absurd made
@@ -156,7 +156,7 @@ module _ (input bytes : List ℕ) (shelf shelf' : ShelfView) (sink sink' : SinkV
   verify_done (answers.Refused name refusal) made whole = absurd made
 
   graph_done : (answer : Answer) → IsMade (commands.Graph input) (bytes ∷ []) files answer
-      → IsWhole (output_of answer) shelf shelf' sink sink' → HasGraphed input shelf sink sink'
+      → IsWrittenWhole (output_of answer) shelf shelf' sink sink' → HasGraphed input shelf sink sink'
   graph_done (answers.Print text) made whole =
       record { bytes = bytes; held = held; files = files; read = read; text = text; said = made; printed = whole.1 }
   graph_done (answers.Ran part) made whole = absurd made
@@ -167,7 +167,7 @@ module _ (input bytes : List ℕ) (shelf shelf' : ShelfView) (sink sink' : SinkV
 
 link_done : (output : List ℕ) (inputs files more : List (List ℕ)) (shelf shelf' : ShelfView) (sink sink' : SinkView)
     → AreRead shelf inputs files → (answer : Answer) → IsMade (commands.Link output inputs) files more answer
-    → IsWhole (output_of answer) shelf shelf' sink sink' → HasLinked output inputs shelf shelf' sink sink'
+    → IsWrittenWhole (output_of answer) shelf shelf' sink sink' → HasLinked output inputs shelf shelf' sink sink'
 link_done output inputs files more shelf shelf' sink sink' read (answers.Save name file) made whole = record {
   files = files;
   read = read;

@@ -11,7 +11,7 @@ use Rattle.cfi_top.specs.declared.answer.Answer.TheVariants as answers
 use Rattle.cfi_top.specs.declared.answer.TheConstants.{DONE, WRITE_FAULT, MEMORY}
 use Rattle.cfi_top.specs.Answer.{output_of}
 use Rattle.cfi_top.specs.Command.{IsCommand, inputs_of, more_of}
-use Rattle.cfi_top.specs.Outside.{ShelfView, SinkView, shelf_view, IsWhole, IsBroken, status_of}
+use Rattle.cfi_top.specs.Outside.{ShelfView, SinkView, shelf_view, IsWrittenWhole, IsBroken, status_of}
 use Rattle.cfi_top.specs.Outcome.{Refuses, IsUnrefused, IsAllRead, IsAnswer}
 use Rattle.cfi_top.specs.Top.{Ends, IsSavedBy, Saves, IsValid, IsSteady}
 use Rattle.cfi_top.proofs.CommandLemmas.{one_command}
@@ -82,7 +82,7 @@ module _ (words : List (List ℕ)) (shelf shelf' : ShelfView) (sink sink' : Sink
   apart here saved name unsaved same = unsaved (subst (IsSavedBy words) (sym same) saved)
 
   whole_stays : (answer : Answer) → IsAnswer words shelf shelf' answer
-      → IsWhole (output_of answer) shelf shelf' sink sink' → Stay
+      → IsWrittenWhole (output_of answer) shelf shelf' sink sink' → Stay
   whole_stays (answers.Save name file) is whole =
       kept_puts shelf.files shelf'.files _ name file (apart name (saves_of words shelf shelf' name file is)) whole.1
   whole_stays answers.Usage is whole = kept_same shelf.files shelf'.files _ whole.0
@@ -112,7 +112,7 @@ module _ (words : List (List ℕ)) (shelf shelf' : ShelfView) (sink sink' : Sink
       × ((status ≡ DONE) ⊎ ((status ≡ WRITE_FAULT) × Rose shelf.faults shelf'.faults)))
 
   whole_keeps : (answer : Answer) → IsAnswer words shelf shelf' answer → status ≡ status_of (output_of answer)
-      → IsWhole (output_of answer) shelf shelf' sink sink' → Keeps
+      → IsWrittenWhole (output_of answer) shelf shelf' sink sink' → Keeps
   whole_keeps (answers.Save name file) is e whole = inr ((name, saves_of words shelf shelf' name file is), inl e)
   whole_keeps answers.Usage is e whole = inl whole.0
   whole_keeps (answers.Ran part) is e whole = inl whole.0

@@ -6,7 +6,7 @@ use Rattle.cfi_io.specs.Files.{Files, Puts, PutsPart}
 use Rattle.cfi_io.specs.Told.{WhereKeptTold}
 use Rattle.cfi_top.specs.declared.answer.Output.{Output}
 use Rattle.cfi_top.specs.declared.answer.Output.TheVariants as outputs
-use Rattle.cfi_top.specs.Outside.{ShelfView, SinkView, IsWhole, IsBroken, IsDelivered}
+use Rattle.cfi_top.specs.Outside.{ShelfView, SinkView, IsWrittenWhole, IsBroken, IsDelivered}
 
 -- a count that rose has risen later too, and over a longer time
 pub rose_later : (old mid new : ℕ) → old ≤ mid → mid ≤ new → Rose old mid → Rose old new
@@ -25,7 +25,7 @@ pub record IsLater (shelf mid : ShelfView) : Type 0 where
 
 -- what was delivered over the later shelf was delivered over the earlier one
 whole_since : (output : Output) (shelf mid shelf' : ShelfView) (sink sink' : SinkView) → IsLater shelf mid
-    → IsWhole output mid shelf' sink sink' → IsWhole output shelf shelf' sink sink'
+    → IsWrittenWhole output mid shelf' sink sink' → IsWrittenWhole output shelf shelf' sink sink'
 whole_since (outputs.Print status text) shelf mid shelf' sink sink' later is = (is.0 ∙ later.files, is.1)
 whole_since (outputs.Save name bytes) shelf mid shelf' sink sink' later is =
     (is.0, subst (λ (files : Option Files). WhereKeptTold files shelf'.files (Puts name bytes)) later.files is.1)

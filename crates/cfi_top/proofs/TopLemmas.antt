@@ -5,7 +5,7 @@ use Rattle.cfi_top.specs.declared.answer.Answer.{Answer}
 use Rattle.cfi_top.specs.declared.answer.Answer.TheVariants as answers
 use Rattle.cfi_top.specs.declared.answer.TheConstants.{USAGE, READ_FAULT, NO_FILE, WRITE_FAULT, REFUSED, MEMORY}
 use Rattle.cfi_top.specs.Answer.{output_of}
-use Rattle.cfi_top.specs.Command.{Fits}
+use Rattle.cfi_top.specs.Command.{IsCommandLine}
 use Rattle.cfi_top.specs.Outside.{ShelfView, SinkView, IsBroken}
 use Rattle.cfi_top.specs.Outcome.{IsAnswer}
 use Rattle.cfi_top.specs.Top.{Ends, IsRefused, IsStopped, IsSavedBy, Saves}
@@ -19,7 +19,7 @@ pub saves_of : (words : List (List ℕ)) (shelf shelf' : ShelfView) (name file :
 saves_of words shelf shelf' name file is = (is.0, is.1, saved_is_output is.0 is.2.0 is.2.1 name file is.2.3)
 
 module _ (words : List (List ℕ)) (shelf shelf' : ShelfView) (sink sink' : SinkView) (status : ℕ) where
-  pub usage_of : Ends words shelf shelf' sink sink' status → status ≡ USAGE → ¬ Fits words
+  pub usage_of : Ends words shelf shelf' sink sink' status → status ≡ USAGE → ¬ IsCommandLine words
   usage_of (inl memory) e = absurd (omega (arith, e, memory.0))
   usage_of (inr (answers.Usage, is, inl d)) e = is
   usage_of (inr (answers.Ran part, is, inl d)) e = absurd (omega (arith, e, d.0))
@@ -29,7 +29,7 @@ module _ (words : List (List ℕ)) (shelf shelf' : ShelfView) (sink sink' : Sink
   usage_of (inr (answers.Refused name refusal, is, inl d)) e = absurd (omega (arith, e, d.0))
   usage_of (inr (answer, is, inr d)) e = absurd (omega (arith, e, d.0))
 
-  pub unfit_of : Ends words shelf shelf' sink sink' status → ¬ Fits words
+  pub unfit_of : Ends words shelf shelf' sink sink' status → ¬ IsCommandLine words
       → (status ≡ USAGE) ⊎ (status ≡ WRITE_FAULT) ⊎ (status ≡ MEMORY)
   unfit_of (inl memory) unfit = inr (inr memory.0)
   unfit_of (inr (answers.Usage, is, inl d)) unfit = inl d.0

@@ -7,14 +7,14 @@ use Rattle.cfi_word.specs.declared.limits.TheConstants.{MAX_INPUTS}
 use Rattle.cfi_top.specs.Plans.{named_files}
 
 -- the word that names a command, and the words after it
-abbrev pub name_of : Command → List ℕ
-name_of (commands.Asm input output) = codes "asm"
-name_of (commands.List input) = codes "list"
-name_of (commands.Instrument input output) = codes "instrument"
-name_of (commands.Link output inputs) = codes "link"
-name_of (commands.Verify plan) = codes "verify"
-name_of (commands.Graph plan) = codes "graph"
-name_of (commands.Run input) = codes "run"
+abbrev pub command_word : Command → List ℕ
+command_word (commands.Asm input output) = codes "asm"
+command_word (commands.List input) = codes "list"
+command_word (commands.Instrument input output) = codes "instrument"
+command_word (commands.Link output inputs) = codes "link"
+command_word (commands.Verify plan) = codes "verify"
+command_word (commands.Graph plan) = codes "graph"
+command_word (commands.Run input) = codes "run"
 
 abbrev pub operands_of : Command → List (List ℕ)
 operands_of (commands.Asm input output) = input ∷ output ∷ []
@@ -32,17 +32,17 @@ HasInputs command = ⊤
 
 -- the words are this command
 pub record IsCommand (words : List (List ℕ)) (command : Command) : Type 0 where
-  pub spelled : words ≡ name_of command ∷ operands_of command
+  pub spelled : words ≡ command_word command ∷ operands_of command
   pub operands : All IsOperand (operands_of command)
   pub number : HasInputs command
 
 -- the words are a command
-abbrev pub Fits : List (List ℕ) → Type 0
-Fits words = (command : Command) × IsCommand words command
+abbrev pub IsCommandLine : List (List ℕ) → Type 0
+IsCommandLine words = (command : Command) × IsCommand words command
 
 -- what the words are read as: a command, or none
 abbrev pub IsReading : List (List ℕ) → Option Command → Type 0
-IsReading words None = ¬ Fits words
+IsReading words None = ¬ IsCommandLine words
 IsReading words (Some command) = IsCommand words command
 
 -- the files that a command reads first, in order

@@ -31,7 +31,7 @@ use Rattle.cfi_top.specs.declared.command.Command.TheVariants as commands
 use Rattle.cfi_top.specs.declared.answer.Answer.{Answer}
 use Rattle.cfi_top.specs.declared.answer.Answer.TheVariants as answers
 use Rattle.cfi_word.specs.declared.limits.TheConstants.{FUEL}
-use Rattle.cfi_top.specs.Command.{IsCommand, Fits, inputs_of, more_of}
+use Rattle.cfi_top.specs.Command.{IsCommand, IsCommandLine, inputs_of, more_of}
 use Rattle.cfi_top.specs.Outside.{ShelfView}
 use Rattle.cfi_top.specs.Plans.{IsSaid, files_of}
 use Rattle.cfi_top.specs.Reading.{AreRead, StopsAt}
@@ -151,6 +151,6 @@ IsOutcome command shelf shelf' answer = (files : List (List ℕ)) × (more : Lis
 
 -- what the words come to
 abbrev pub IsAnswer : (words : List (List ℕ)) → (shelf shelf' : ShelfView) → Answer → Type 0
-IsAnswer words shelf shelf' answers.Usage = ¬ Fits words
+IsAnswer words shelf shelf' answers.Usage = ¬ IsCommandLine words
 IsAnswer words shelf shelf' answer =
     (command : Command) × IsCommand words command × IsOutcome command shelf shelf' answer

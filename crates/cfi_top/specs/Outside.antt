@@ -36,10 +36,10 @@ status_of (outputs.Save name bytes) = DONE
 
 -- the text is printed whole, and all files stay; or the file has the bytes, all other files stay, and nothing is
 -- printed
-abbrev pub IsWhole : Output → (shelf shelf' : ShelfView) → (sink sink' : SinkView) → Type 0
-IsWhole (outputs.Print status text) shelf shelf' sink sink' =
+abbrev pub IsWrittenWhole : Output → (shelf shelf' : ShelfView) → (sink sink' : SinkView) → Type 0
+IsWrittenWhole (outputs.Print status text) shelf shelf' sink sink' =
     (shelf'.files ≡ shelf.files) × Appends sink.written sink'.written text
-IsWhole (outputs.Save name bytes) shelf shelf' sink sink' =
+IsWrittenWhole (outputs.Save name bytes) shelf shelf' sink sink' =
     (sink'.written ≡ sink.written) × WhereKeptTold shelf.files shelf'.files (Puts name bytes)
 
 -- The sink failed and has a part of the text, and all files stay. Or the shelf failed and the file has what it had, or
@@ -59,5 +59,5 @@ IsStarved shelf shelf' sink sink' status =
 -- an output was delivered, whole or in part, and the status says which
 abbrev pub IsDelivered : Output → (shelf shelf' : ShelfView) → (sink sink' : SinkView) → (status : ℕ) → Type 0
 IsDelivered output shelf shelf' sink sink' status =
-    ((status ≡ status_of output) × IsWhole output shelf shelf' sink sink')
+    ((status ≡ status_of output) × IsWrittenWhole output shelf shelf' sink sink')
     ⊎ ((status ≡ WRITE_FAULT) × IsBroken output shelf shelf' sink sink')

@@ -3,7 +3,7 @@ use Rattle.std.specs.Prelude.{ℕ, List, [], ◌∷◌, codes}
 use Rattle.cfi_plan.specs.declared.journal.ModuleLine.{ModuleLine}
 use Rattle.cfi_report.specs.declared.report.Report.{Report}
 use Rattle.cfi_report.specs.declared.report.GuestPart.{GuestPart}
-use Rattle.cfi_report.specs.Report.{text_of}
+use Rattle.cfi_report.specs.Report.{report_text}
 use Rattle.cfi_word.specs.declared.map.TheConstants.{FIRST_BASE, DATA_START}
 
 -- where the file's words lie
@@ -14,4 +14,4 @@ abbrev pub bare_report : GuestPart → Report
 bare_report part = record { epoch = 0; policy = 0; modules = bare_module ∷ []; journal = []; guests = part ∷ [] }
 
 abbrev pub report_text : GuestPart → List ℕ
-report_text part = text_of (bare_report part)
+report_text part = report_text (bare_report part)

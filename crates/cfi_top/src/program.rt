@@ -4,7 +4,7 @@ ghost use Rattle.cfi_io.specs.Told.{WhereKeptTold};
 ghost use Rattle.cfi_top.specs.declared.command.Command.TheVariants as commands;
 ghost use Rattle.cfi_top.specs.declared.answer.TheConstants.{DONE, USAGE, READ_FAULT, NO_FILE, WRITE_FAULT, REFUSED, MEMORY};
 ghost use Rattle.cfi_args.specs.Words.{texts};
-ghost use Rattle.cfi_top.specs.Command.{IsCommand, Fits};
+ghost use Rattle.cfi_top.specs.Command.{IsCommand, IsCommandLine};
 ghost use Rattle.cfi_top.specs.Outside.{shelf_view, sink_view};
 ghost use Rattle.cfi_top.specs.Outcome.{IsAnswer};
 ghost use Rattle.cfi_top.specs.Top.{Ends, HasRun, HasListed, HasAssembled, HasInstrumented, HasLinked, HasVerified, HasGraphed, IsRefused, IsStopped, IsSavedBy, Saves, IsValid, IsSteady};
@@ -137,9 +137,9 @@ pub fn top<F: Shelf, S: Sink, G: Gate>(
         (sink_view (S.written sink.new) (S.faults sink.new)) }
 
     // When each status comes.
-    ensures done { result.status ≡ DONE → Fits (texts words.now) }
-    ensures usage { result.status ≡ USAGE → ¬ Fits (texts words.now) }
-    ensures unfit { ¬ Fits (texts words.now) →
+    ensures done { result.status ≡ DONE → IsCommandLine (texts words.now) }
+    ensures usage { result.status ≡ USAGE → ¬ IsCommandLine (texts words.now) }
+    ensures unfit { ¬ IsCommandLine (texts words.now) →
         (result.status ≡ USAGE) ⊎ (result.status ≡ WRITE_FAULT) ⊎ (result.status ≡ MEMORY) }
     ensures read_fault { result.status ≡ READ_FAULT →
         Rose (F.faults shelf.old) (F.faults shelf.new) }

@@ -6,13 +6,13 @@ use Rattle.cfi_types.specs.declared.fault.TypeFault.{TypeFault}
 use Rattle.cfi_types.specs.declared.fault.TypeFault.TheVariants.{BadNode}
 use Rattle.cfi_types.specs.Kind.{field_fits}
 use Rattle.cfi_types.specs.Spelling.{word, AreFields}
-use Rattle.cfi_types.specs.Reading.{Fails, word_at, fields_at}
+use Rattle.cfi_types.specs.Reading.{ReadingFails, next_word, fields_at}
 use Rattle.cfi_values.specs.Then.{◌>>=◌, unless_bad}
 use Rattle.cfi_types.proofs.Parts.{IsBytes, Takes, Takes-then, word_takes, word_again, with_front, regroup, with_front_nil, Fails-bind}
 use Rattle.cfi_values.proofs.ThenLemmas.{then_ok, unless_bad_ok, ok_is}
 
 pub fields_go_on : (k kind count i : ℕ) (front bytes : List ℕ) (w : ℕ) (after : List ℕ)
-    (total : Result (List ℕ × List ℕ) TypeFault) → i < count → word_at bytes ≡ Ok (w, after)
+    (total : Result (List ℕ × List ℕ) TypeFault) → i < count → next_word bytes ≡ Ok (w, after)
     → field_fits kind i w ≡ true
     → with_front front (fields_at k kind i (count - i) bytes) ≡ total
     → with_front (front ++ w ∷ []) (fields_at k kind (i + 1) (count - (i + 1)) after) ≡ total
@@ -25,20 +25,20 @@ fields_go_on k kind count i front bytes w after total lt h fits so_far =
     sym one ∙ so_far
 
 pub fields_end : (e : TypeFault) (k kind count i : ℕ) (front bytes : List ℕ)
-    (total : Result (List ℕ × List ℕ) TypeFault) → i < count → Fails e (word_at bytes)
-    → with_front front (fields_at k kind i (count - i) bytes) ≡ total → Fails e total
+    (total : Result (List ℕ × List ℕ) TypeFault) → i < count → ReadingFails e (next_word bytes)
+    → with_front front (fields_at k kind i (count - i) bytes) ≡ total → ReadingFails e total
 unfolding fields_at
 fields_end e k kind count i front bytes total lt h so_far =
     let left : count - i ≡ suc (count - (i + 1)) = omega arith in
-    let one : Fails e (with_front front (fields_at k kind i (suc (count - (i + 1))) bytes)) =
+    let one : ReadingFails e (with_front front (fields_at k kind i (suc (count - (i + 1))) bytes)) =
     Fails-bind e (fields_at k kind i (suc (count - (i + 1))) bytes) (λ x. Ok (front ++ x.0, x.1))
-    (Fails-bind e (word_at bytes)
+    (Fails-bind e (next_word bytes)
     (λ w. unless_bad (field_fits kind i w.0) (BadNode k)
     (fields_at k kind (suc i) (count - (i + 1)) w.1 >>= λ ws. Ok (w.0 ∷ ws.0, ws.1))) h) in
-    subst (Fails e) so_far (subst (λ n. Fails e (with_front front (fields_at k kind i n bytes))) (sym left) one)
+    subst (ReadingFails e) so_far (subst (λ n. ReadingFails e (with_front front (fields_at k kind i n bytes))) (sym left) one)
 
 pub fields_bad : (k kind count i : ℕ) (front bytes : List ℕ) (w : ℕ) (after : List ℕ)
-    (total : Result (List ℕ × List ℕ) TypeFault) → i < count → word_at bytes ≡ Ok (w, after)
+    (total : Result (List ℕ × List ℕ) TypeFault) → i < count → next_word bytes ≡ Ok (w, after)
     → field_fits kind i w ≡ false
     → with_front front (fields_at k kind i (count - i) bytes) ≡ total → total ≡ Err (BadNode k)
 unfolding fields_at
@@ -66,7 +66,7 @@ fields_take k kind place zero bytes x fits e =
     subst (λ (y : List ℕ × List ℕ). Takes bytes (flat_map word y.0) y.1 × (length y.0 ≡ 0) × AreFields kind place y.0)
     (ok_is ([], bytes) x e) (record { parts = refl; rest_fits = fits }, refl, tt)
 fields_take k kind place (suc count) bytes x fits e =
-    let a = then_ok (word_at bytes)
+    let a = then_ok (next_word bytes)
     (λ w. unless_bad (field_fits kind place w.0) (BadNode k)
     (fields_at k kind (suc place) count w.1 >>= λ ws. Ok (w.0 ∷ ws.0, ws.1))) x e in
     let g = unless_bad_ok (field_fits kind place a.0.0) (BadNode k)

@@ -8,7 +8,7 @@ use Rattle.cfi_types.specs.declared.fault.TypeFault.TheVariants.{BadNode}
 use Rattle.cfi_types.specs.Node.{Node, make_node}
 use Rattle.cfi_types.specs.Kind.{has_arity}
 use Rattle.cfi_types.specs.Spelling.{word, node_bytes, IsNode}
-use Rattle.cfi_types.specs.Reading.{Fails, word_at, fields_at, node_at, nodes_at}
+use Rattle.cfi_types.specs.Reading.{ReadingFails, next_word, fields_at, node_at, nodes_at}
 use Rattle.cfi_values.specs.Then.{◌>>=◌, unless_bad}
 use Rattle.cfi_types.proofs.Parts.{IsBytes, Takes, Takes-then, word_takes, with_front, regroup, with_front_nil, Fails-bind}
 use Rattle.cfi_values.proofs.ThenLemmas.{then_ok, unless_bad_ok, ok_is}
@@ -27,16 +27,16 @@ nodes_go_on count i front bytes x after total lt h so_far =
     sym one ∙ so_far
 
 pub nodes_end : (e : TypeFault) (count i : ℕ) (front : List Node) (bytes : List ℕ)
-    (total : Result (List Node × List ℕ) TypeFault) → i < count → Fails e (node_at i bytes)
-    → with_front front (nodes_at i (count - i) bytes) ≡ total → Fails e total
+    (total : Result (List Node × List ℕ) TypeFault) → i < count → ReadingFails e (node_at i bytes)
+    → with_front front (nodes_at i (count - i) bytes) ≡ total → ReadingFails e total
 unfolding nodes_at
 nodes_end e count i front bytes total lt h so_far =
     let left : count - i ≡ suc (count - (i + 1)) = omega arith in
-    let one : Fails e (with_front front (nodes_at i (suc (count - (i + 1))) bytes)) =
+    let one : ReadingFails e (with_front front (nodes_at i (suc (count - (i + 1))) bytes)) =
     Fails-bind e (nodes_at i (suc (count - (i + 1))) bytes) (λ x. Ok (front ++ x.0, x.1))
     (Fails-bind e (node_at i bytes)
     (λ first. nodes_at (suc i) (count - (i + 1)) first.1 >>= λ others. Ok (first.0 ∷ others.0, others.1)) h) in
-    subst (Fails e) so_far (subst (λ n. Fails e (with_front front (nodes_at i n bytes))) (sym left) one)
+    subst (ReadingFails e) so_far (subst (λ n. ReadingFails e (with_front front (nodes_at i n bytes))) (sym left) one)
 
 pub nodes_done : (count i : ℕ) (front : List Node) (bytes : List ℕ) (total : Result (List Node × List ℕ) TypeFault)
     → count ≤ i → with_front front (nodes_at i (count - i) bytes) ≡ total → total ≡ Ok (front, bytes)
@@ -53,14 +53,14 @@ pub node_takes : (k : ℕ) (bytes : List ℕ) (x : Node × List ℕ) → IsBytes
     → Takes bytes (node_bytes x.0) x.1 × IsNode x.0
 unfolding node_at
 node_takes k bytes x fits e =
-    let a = then_ok (word_at bytes)
+    let a = then_ok (next_word bytes)
     (λ kind. unless_bad (leb kind.0 FUNC) (BadNode k)
-    (word_at kind.1 >>= λ count. unless_bad (has_arity kind.0 count.0) (BadNode k)
+    (next_word kind.1 >>= λ count. unless_bad (has_arity kind.0 count.0) (BadNode k)
     (fields_at k kind.0 0 count.0 count.1 >>= λ fields. Ok (make_node kind.0 fields.0, fields.1)))) x e in
     let g = unless_bad_ok (leb a.0.0 FUNC) (BadNode k)
-    (word_at a.0.1 >>= λ count. unless_bad (has_arity a.0.0 count.0) (BadNode k)
+    (next_word a.0.1 >>= λ count. unless_bad (has_arity a.0.0 count.0) (BadNode k)
     (fields_at k a.0.0 0 count.0 count.1 >>= λ fields. Ok (make_node a.0.0 fields.0, fields.1))) x a.2 in
-    let b = then_ok (word_at a.0.1)
+    let b = then_ok (next_word a.0.1)
     (λ count. unless_bad (has_arity a.0.0 count.0) (BadNode k)
     (fields_at k a.0.0 0 count.0 count.1 >>= λ fields. Ok (make_node a.0.0 fields.0, fields.1))) x g.1 in
     let h = unless_bad_ok (has_arity a.0.0 b.0.0) (BadNode k)

@@ -7,7 +7,7 @@ use Rattle.std.proofs.lemmas.Nat.{le_bytes_4, from_le_bytes-to_le_bytes_4}
 use Rattle.cfi_types.specs.declared.fault.TypeFault.{TypeFault}
 use Rattle.cfi_types.specs.declared.fault.TypeFault.TheVariants.{BadNode, BadIndex, Short, Memory}
 use Rattle.cfi_types.specs.Spelling.{word}
-use Rattle.cfi_types.specs.Reading.{Fails, word_at}
+use Rattle.cfi_types.specs.Reading.{ReadingFails, next_word}
 use Rattle.cfi_values.specs.Then.{◌>>=◌, unless_bad}
 
 abbrev pub IsBytes : List ℕ → Type 0
@@ -36,7 +36,7 @@ guard_ok : {A E : Type 0} (b : Bool) (d : E) (x y : A) → cond b (Err d) (Ok x)
 guard_ok true d x y e = absurd cc
 guard_ok false d x y e = (refl, cc)
 
--- a number of some width, as `word_at` reads one of four bytes; the fault where bytes are missing is any
+-- a number of some width, as `next_word` reads one of four bytes; the fault where bytes are missing is any
 abbrev pub number_at : {E : Type 0} → (short : E) → Width → List ℕ → Result (ℕ × List ℕ) E
 number_at short w bytes =
     cond (ltb (length bytes) (byte_len w)) (Err short)
@@ -91,11 +91,11 @@ number_again short w limit wide n rest lt =
       wide.again n lt,
     ) refl
 
-pub word_takes : (bytes : List ℕ) (n : ℕ) (rest : List ℕ) → IsBytes bytes → word_at bytes ≡ Ok (n, rest)
+pub word_takes : (bytes : List ℕ) (n : ℕ) (rest : List ℕ) → IsBytes bytes → next_word bytes ≡ Ok (n, rest)
     → Takes bytes (word n) rest × (n < 2 ^ 32)
 word_takes bytes n rest fits e = number_takes Short w32 (2 ^ 32) wide32 bytes n rest fits e
 
-pub word_again : (n : ℕ) (rest : List ℕ) → n < 2 ^ 32 → word_at (word n ++ rest) ≡ Ok (n, rest)
+pub word_again : (n : ℕ) (rest : List ℕ) → n < 2 ^ 32 → next_word (word n ++ rest) ≡ Ok (n, rest)
 word_again n rest lt = number_again Short w32 (2 ^ 32) wide32 n rest lt
 
 -- ---- one after the other
@@ -114,8 +114,8 @@ pub with_front_nil : {A : Type 0} (front : List A) (bytes : List ℕ)
 with_front_nil {A = A} front bytes = ap (λ (ns : List A). Ok (ns, bytes)) (append-nil front)
 
 -- a step's fault is the fault of the steps
-pub Fails-bind : {A B : Type 0} (e : TypeFault) (r : Result A TypeFault) (f : A → Result B TypeFault) → Fails e r
-    → Fails e (r >>= f)
+pub Fails-bind : {A B : Type 0} (e : TypeFault) (r : Result A TypeFault) (f : A → Result B TypeFault) → ReadingFails e r
+    → ReadingFails e (r >>= f)
 Fails-bind Memory r f h = tt
 Fails-bind (BadNode k) r f h = rw h refl
 Fails-bind (BadIndex k) r f h = rw h refl

@@ -14,7 +14,7 @@ use Rattle.cfi_types.specs.declared.fault.TypeFault.TheVariants.{BadNode, Short}
 use Rattle.cfi_types.specs.Node.{Node}
 use Rattle.cfi_types.specs.Kind.{nodes_of, has_arity}
 use Rattle.cfi_types.specs.Spelling.{word, node_bytes, spelling, IsNode, NamesBelow, AreTypes}
-use Rattle.cfi_types.specs.Reading.{Gives, word_at, node_at, nodes_at, stray_from, judged, types_in}
+use Rattle.cfi_types.specs.Reading.{ReadingGives, next_word, node_at, nodes_at, stray_from, judged, types_in}
 use Rattle.cfi_values.specs.Then.{◌>>=◌, unless_bad}
 use Rattle.cfi_types.proofs.Parts.{IsBytes, Takes-then, word_takes, word_again}
 use Rattle.cfi_values.proofs.ThenLemmas.{then_ok, unless_bad_ok, ok_is}
@@ -132,7 +132,7 @@ pub types_take : (bytes : List ℕ) (xs : List Node) → IsBytes bytes → types
     → AreTypes xs × (bytes ≡ spelling xs)
 unfolding types_in
 types_take bytes xs fits e =
-    let a = then_ok (word_at bytes)
+    let a = then_ok (next_word bytes)
     (λ count. unless_bad (leb count.0 MAX_NODES) (BadNode MAX_NODES)
     (nodes_at 0 count.0 count.1 >>= λ nodes. unless_bad (eqb (length nodes.1) 0) Short
     (judged nodes.0 (stray_from count.0 0 nodes.0)))) xs e in
@@ -172,7 +172,7 @@ types_again xs types =
     ) refl
 
 pub is_read : (bytes : List ℕ) (r : Result (List Node) TypeFault) → IsBytes bytes
-    → Gives (λ xs. xs) r (types_in bytes) → IfOk r (λ xs. AreTypes xs × (bytes ≡ spelling xs))
+    → ReadingGives (λ xs. xs) r (types_in bytes) → IfOk r (λ xs. AreTypes xs × (bytes ≡ spelling xs))
 is_read bytes (Ok xs) fits given = types_take bytes xs fits given
 is_read bytes (Err e) fits given = tt
 

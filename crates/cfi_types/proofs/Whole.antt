@@ -8,7 +8,7 @@ use Rattle.std.proofs.lemmas.List.Elements.{All-from_recursion, All-get_or}
 use Rattle.cfi_types.specs.Node.{Node}
 use Rattle.cfi_types.specs.Spelling.{AreTypes}
 use Rattle.cfi_types.specs.Same.{node_of, Equal}
-use Rattle.cfi_types.specs.Classes.{table_of, class_of, IsPlace, InOrder, AreClasses}
+use Rattle.cfi_types.specs.Classes.{table_of, class_of, IsNodePlace, InOrder, AreClasses}
 use Rattle.cfi_types.specs.Joined.{shifted, joined_from}
 use Rattle.cfi_types.specs.Refining.{AreLeaders}
 use Rattle.cfi_types.specs.Numbering.{AreNumbers}
@@ -26,11 +26,11 @@ module _ (tables : List (List Node)) (leaders numbers : List ℕ) (classes : Lis
   place_of : (t a : ℕ) → ℕ
   place_of t a = before (map (length {A = Node}) tables) t + a
 
-  place_within : (t a : ℕ) → IsPlace tables t a → place_of t a < length (joined_from 0 tables)
+  place_within : (t a : ℕ) → IsNodePlace tables t a → place_of t a < length (joined_from 0 tables)
   unfolding place_of
   place_within t a here = omega (arith, before_fits tables t here.0, length_joined 0 tables, here.1)
 
-  class_at : (t a : ℕ) → IsPlace tables t a → class_of classes t a ≡ get_or numbers (place_of t a) 0
+  class_at : (t a : ℕ) → IsNodePlace tables t a → class_of classes t a ≡ get_or numbers (place_of t a) 0
   unfolding place_of
   class_at t a here =
       let rows : length classes ≡ length tables = sym (length-map classes (length {A = ℕ}))
@@ -53,7 +53,7 @@ module _ (tables : List (List Node)) (leaders numbers : List ℕ) (classes : Lis
         joined_at 0 tables t a lt la ∙ ap (λ n. shifted n (node_of (table_of tables t) a)) none;
   }
 
-  equal_classes : (t a u b : ℕ) → IsPlace tables t a → IsPlace tables u b
+  equal_classes : (t a u b : ℕ) → IsNodePlace tables t a → IsNodePlace tables u b
       → (class_of classes t a ≡ class_of classes u b) ↔ Equal (table_of tables t) a (table_of tables u) b
   unfolding place_of
   equal_classes t a u b here there =

@@ -13,8 +13,8 @@ abbrev pub class_of : List (List ℕ) → (t a : ℕ) → ℕ
 class_of classes t a = slice_index (slice_index_or classes t []) a
 
 -- table t is there and has a node a
-abbrev pub IsPlace : List (List Node) → (t a : ℕ) → Type 0
-IsPlace tables t a = (t < length tables) × (a < length (table_of tables t))
+abbrev pub IsNodePlace : List (List Node) → (t a : ℕ) → Type 0
+IsNodePlace tables t a = (t < length tables) × (a < length (table_of tables t))
 
 -- numbers in order of first occurrence: each is one of those below `next`, which have come, or `next`
 abbrev pub InOrder : (next : ℕ) → List ℕ → Type 0
@@ -24,6 +24,6 @@ InOrder next (n ∷ ns) = (n ≤ next) × InOrder (max next (n + 1)) ns
 -- the numbers of all nodes: one number exactly where two types are equal, in order of first occurrence
 pub record AreClasses (tables : List (List Node)) (classes : List (List ℕ)) : Type 0 where
   pub shape : map length classes ≡ map length tables
-  pub equal : (t a u b : ℕ) → IsPlace tables t a → IsPlace tables u b
+  pub equal : (t a u b : ℕ) → IsNodePlace tables t a → IsNodePlace tables u b
       → (class_of classes t a ≡ class_of classes u b) ↔ Equal (table_of tables t) a (table_of tables u) b
   pub order : InOrder 0 (flat_map (λ row. row) classes)

@@ -11,32 +11,32 @@ use Rattle.cfi_types.specs.Kind.{nodes_of, has_arity, field_fits}
 use Rattle.cfi_values.specs.Then.{◌>>=◌, unless_bad}
 
 -- what a function returned, seen by view, is what reading gives, unless memory ran out
-abbrev pub Fails : {Y : Type 0} → TypeFault → Result Y TypeFault → Type 0
-Fails Memory read = Unit {0}
-Fails (BadNode k) read = read ≡ Err (BadNode k)
-Fails (BadIndex k) read = read ≡ Err (BadIndex k)
-Fails Short read = read ≡ Err Short
+abbrev pub ReadingFails : {Y : Type 0} → TypeFault → Result Y TypeFault → Type 0
+ReadingFails Memory read = Unit {0}
+ReadingFails (BadNode k) read = read ≡ Err (BadNode k)
+ReadingFails (BadIndex k) read = read ≡ Err (BadIndex k)
+ReadingFails Short read = read ≡ Err Short
 
-abbrev pub Gives : {X Y : Type 0} → (X → Y) → Result X TypeFault → Result Y TypeFault → Type 0
-Gives view (Ok x) read = read ≡ Ok (view x)
-Gives view (Err e) read = Fails e read
+abbrev pub ReadingGives : {X Y : Type 0} → (X → Y) → Result X TypeFault → Result Y TypeFault → Type 0
+ReadingGives view (Ok x) read = read ≡ Ok (view x)
+ReadingGives view (Err e) read = ReadingFails e read
 
 -- a word, and the bytes after it
-abbrev pub word_at : List ℕ → Result (ℕ × List ℕ) TypeFault
-word_at bytes = if nat_lt (length bytes) 4 then Err Short else Ok (from_le_bytes w32 (take 4 bytes), drop 4 bytes)
+abbrev pub next_word : List ℕ → Result (ℕ × List ℕ) TypeFault
+next_word bytes = if nat_lt (length bytes) 4 then Err Short else Ok (from_le_bytes w32 (take 4 bytes), drop 4 bytes)
 
 -- the fields of node number k from this place on, of which `count` are left
 unfoldable pub fields_at : (k kind place count : ℕ) → List ℕ → Result (List ℕ × List ℕ) TypeFault
 fields_at k kind place zero bytes = Ok ([], bytes)
 fields_at k kind place (suc count) bytes =
-    word_at bytes >>= λ w. unless_bad (field_fits kind place w.0) (BadNode k)
+    next_word bytes >>= λ w. unless_bad (field_fits kind place w.0) (BadNode k)
     (fields_at k kind (suc place) count w.1 >>= λ ws. Ok (w.0 ∷ ws.0, ws.1))
 
 -- node number k: its kind, the number of its fields, and its fields
 unfoldable pub node_at : (k : ℕ) → List ℕ → Result (Node × List ℕ) TypeFault
 node_at k bytes =
-    word_at bytes >>= λ kind. unless_bad (nat_le kind.0 FUNC) (BadNode k)
-    (word_at kind.1 >>= λ count. unless_bad (has_arity kind.0 count.0) (BadNode k)
+    next_word bytes >>= λ kind. unless_bad (nat_le kind.0 FUNC) (BadNode k)
+    (next_word kind.1 >>= λ count. unless_bad (has_arity kind.0 count.0) (BadNode k)
     (fields_at k kind.0 0 count.0 count.1 >>= λ fields. Ok (make_node kind.0 fields.0, fields.1)))
 
 -- `count` nodes from number k on
@@ -58,6 +58,6 @@ judged xs (Some k) = Err (BadIndex k)
 -- all of the bytes
 unfoldable pub types_in : List ℕ → Result (List Node) TypeFault
 types_in bytes =
-    word_at bytes >>= λ count. unless_bad (nat_le count.0 MAX_NODES) (BadNode MAX_NODES)
+    next_word bytes >>= λ count. unless_bad (nat_le count.0 MAX_NODES) (BadNode MAX_NODES)
     (nodes_at 0 count.0 count.1 >>= λ nodes. unless_bad (length nodes.1 == 0) Short
     (judged nodes.0 (stray_from count.0 0 nodes.0)))

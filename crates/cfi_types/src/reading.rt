@@ -5,7 +5,7 @@ ghost use Rattle.std.specs.List.{list_all};
 ghost use Rattle.cfi_types.specs.Kind.{nodes_of};
 ghost use Rattle.cfi_types.specs.Node.{Node};
 ghost use Rattle.cfi_types.specs.Spelling.{AreTypes, spelling};
-ghost use Rattle.cfi_types.specs.Reading.{Gives, word_at, fields_at, node_at, nodes_at, stray_from, types_in};
+ghost use Rattle.cfi_types.specs.Reading.{ReadingGives, next_word, fields_at, node_at, nodes_at, stray_from, types_in};
 
 use crate::fault::TypeFault;
 use crate::kind::{FUNC, may_be_field, may_have};
@@ -15,7 +15,7 @@ use crate::table::TypeTable;
 use std::alloc::Global;
 
 fn word_from(bytes: &[u8]) -> Result<(u32, &[u8]), TypeFault>
-    ensures { Gives (λ x. (x.0, x.1.now)) result (word_at bytes.now) }
+    ensures { ReadingGives (λ x. (x.0, x.1.now)) result (next_word bytes.now) }
 {
     if bytes.len() < 4 {
         return Err(TypeFault::Short);
@@ -32,7 +32,7 @@ fn fields_from(
     count: u32,
     bytes: &[u8],
 ) -> Result<(Vec<u32>, &[u8]), TypeFault>
-    ensures { Gives (λ x. (x.0.items, x.1.now)) result (fields_at number kind 0 count bytes.now) }
+    ensures { ReadingGives (λ x. (x.0.items, x.1.now)) result (fields_at number kind 0 count bytes.now) }
 {
     let mut fields = Vec::new(alloc);
     let mut rest = bytes;
@@ -49,7 +49,7 @@ fn fields_from(
 
 #[tactic(auto, unfolding(crate::specs::Reading::node_at))]
 fn node_from(alloc: Global, number: u32, bytes: &[u8]) -> Result<(TypeNode, &[u8]), TypeFault>
-    ensures { Gives (λ x. (x.0, x.1.now)) result (node_at number bytes.now) }
+    ensures { ReadingGives (λ x. (x.0, x.1.now)) result (node_at number bytes.now) }
 {
     let (kind, rest) = word_from(bytes)?;
     if kind > FUNC {
@@ -64,7 +64,7 @@ fn node_from(alloc: Global, number: u32, bytes: &[u8]) -> Result<(TypeNode, &[u8
 }
 
 fn table_nodes(alloc: Global, count: u32, bytes: &[u8]) -> Result<(Vec<TypeNode>, &[u8]), TypeFault>
-    ensures read { Gives (λ x. (x.0.items, x.1.now)) result (nodes_at 0 count bytes.now) }
+    ensures read { ReadingGives (λ x. (x.0.items, x.1.now)) result (nodes_at 0 count bytes.now) }
     ensures counted { IfOk result (λ x. length x.0.items ≡ count) }
 {
     let mut nodes = Vec::new(alloc);
@@ -100,7 +100,7 @@ fn first_stray(nodes: &[TypeNode], count: u32) -> Option<u32>
 
 #[tactic(auto, unfolding(crate::specs::Reading::types_in))]
 fn all_of(alloc: Global, bytes: &[u8]) -> Result<TypeTable, TypeFault>
-    ensures { Gives (λ table. table) result (types_in bytes.now) }
+    ensures { ReadingGives (λ table. table) result (types_in bytes.now) }
 {
     let (count, rest) = word_from(bytes)?;
     if count > MAX_NODES {
@@ -127,9 +127,9 @@ pub fn read_types(alloc: Global, bytes: &[u8]) -> Result<TypeTable, TypeFault>
     ensures ok { IfOk result (λ table. AreTypes table × (bytes.now ≡ spelling table)) }
     // What is spelled so is read.
     ensures only { (xs : List Node) → AreTypes xs → bytes.now ≡ spelling xs →
-        Gives (λ table. table) result (Ok xs) }
+        ReadingGives (λ table. table) result (Ok xs) }
     // Which fault it is.
-    ensures fault { Gives (λ table. table) result (types_in bytes.now) }
+    ensures fault { ReadingGives (λ table. table) result (types_in bytes.now) }
 {
     all_of(alloc, bytes)
 }

@@ -6,54 +6,54 @@ use Rattle.cfi_verify.specs.declared.fault.VerifyFault.{VerifyFault}
 use Rattle.cfi_verify.specs.declared.fault.VerifyFault.TheVariants as faults
 use Rattle.cfi_unit.specs.Spots.{InsnsBelow}
 use Rattle.cfi_verify.specs.Spots.{IsNotUnit}
-use Rattle.cfi_verify.specs.Faults.{Stands, number_of, place_of, IsFirstFault, IsFault}
+use Rattle.cfi_verify.specs.Faults.{FaultStands, fault_number, fault_place, IsFirstFault, IsFault}
 use Rattle.cfi_verify.specs.Reading.{IsFirstIllegal, IsUnread}
 use Rattle.cfi_unit.proofs.StopLemmas.{one_stop}
 
-pub bound : (fault : VerifyFault) → number_of fault < 11
+pub bound : (fault : VerifyFault) → fault_number fault < 11
 bound faults.Empty = omega arith
 bound fault = omega arith
 
-positive : (fault : VerifyFault) → 0 < number_of fault
+positive : (fault : VerifyFault) → 0 < fault_number fault
 positive faults.Empty = omega arith
 positive fault = omega arith
 
 module _ (m : Placed) (loaded : List Placed) where
   -- no fault of a lower number stands
   abbrev pub Clear : (n : ℕ) → Type 0
-  Clear n = (other : VerifyFault) → number_of other < n → ¬ Stands m loaded other
+  Clear n = (other : VerifyFault) → fault_number other < n → ¬ FaultStands m loaded other
 
   pub clear_one : Clear 1
   clear_one = λ other less. absurd (omega (arith, less, positive other))
 
-  pub clear_more : (n : ℕ) → Clear n → ((other : VerifyFault) → number_of other ≡ n → ¬ Stands m loaded other) →
+  pub clear_more : (n : ℕ) → Clear n → ((other : VerifyFault) → fault_number other ≡ n → ¬ FaultStands m loaded other) →
       Clear (n + 1)
   clear_more n clear here = λ other less.
-      ⊎_elim (λ (low : number_of other < n). clear other low)
-      (λ (high : n ≤ number_of other). here other (omega (arith, less, high)))
-      (cases_lt (number_of other) n)
+      ⊎_elim (λ (low : fault_number other < n). clear other low)
+      (λ (high : n ≤ fault_number other). here other (omega (arith, less, high)))
+      (cases_lt (fault_number other) n)
 
   -- a fault stands, none of a lower number does, and none of its number at an earlier place
-  pub is_first : (fault : VerifyFault) → Stands m loaded fault → Clear (number_of fault) →
-      ((other : VerifyFault) → number_of other ≡ number_of fault → Stands m loaded other →
-      place_of fault ≤ place_of other) → IsFirstFault m loaded fault
+  pub is_first : (fault : VerifyFault) → FaultStands m loaded fault → Clear (fault_number fault) →
+      ((other : VerifyFault) → fault_number other ≡ fault_number fault → FaultStands m loaded other →
+      fault_place fault ≤ fault_place other) → IsFirstFault m loaded fault
   is_first fault stands clear least = record {
     stands = stands;
     first = λ other also earlier.
-        ⊎_elim (λ (low : number_of other < number_of fault). clear other low also)
-        (λ (same : (number_of other ≡ number_of fault) × (place_of other < place_of fault)).
+        ⊎_elim (λ (low : fault_number other < fault_number fault). clear other low also)
+        (λ (same : (fault_number other ≡ fault_number fault) × (fault_place other < fault_place fault)).
         absurd (omega (arith, least other same.0 also, same.1)))
         earlier;
   }
 
   -- ---- no words, words that are no instructions, words that are no units
 
-  none_empty : m.words ≢ [] → (other : VerifyFault) → number_of other ≡ 1 → ¬ Stands m loaded other
+  none_empty : m.words ≢ [] → (other : VerifyFault) → fault_number other ≡ 1 → ¬ FaultStands m loaded other
   none_empty some faults.Empty e = some
   none_empty some other e = absurd (omega (arith, e))
 
-  none_illegal : InsnsBelow m.words (length m.words) → (other : VerifyFault) → number_of other ≡ 2 →
-      ¬ Stands m loaded other
+  none_illegal : InsnsBelow m.words (length m.words) → (other : VerifyFault) → fault_number other ≡ 2 →
+      ¬ FaultStands m loaded other
   none_illegal insns (faults.Illegal o) e = λ s. s.3 (insns s.0 s.1)
   none_illegal insns other e = absurd (omega (arith, e))
 
@@ -63,8 +63,8 @@ module _ (m : Placed) (loaded : List Placed) where
   pub clear_three : m.words ≢ [] → InsnsBelow m.words (length m.words) → Clear 3
   clear_three some insns = clear_more 2 (clear_two some) (none_illegal insns)
 
-  least_illegal : (o at : ℕ) → o ≡ 4 * at → IsFirstIllegal m.words at → (other : VerifyFault) → number_of other ≡ 2 →
-      Stands m loaded other → o ≤ place_of other
+  least_illegal : (o at : ℕ) → o ≡ 4 * at → IsFirstIllegal m.words at → (other : VerifyFault) → fault_number other ≡ 2 →
+      FaultStands m loaded other → o ≤ fault_place other
   least_illegal o at here first (faults.Illegal k) e = λ s.
       ⊎_elim (λ (low : s.0 < at). absurd (s.3 (first.before s.0 low)))
       (λ (high : at ≤ s.0). omega (arith, high, here, s.2))
@@ -77,8 +77,8 @@ module _ (m : Placed) (loaded : List Placed) where
       is_first (faults.Illegal o) (at, first.within, here, first.fails) (clear_two some)
       (least_illegal o at here first)
 
-  least_stop : (o : ℕ) → IsNotUnit m.words o → (other : VerifyFault) → number_of other ≡ 3 → Stands m loaded other →
-      o ≤ place_of other
+  least_stop : (o : ℕ) → IsNotUnit m.words o → (other : VerifyFault) → fault_number other ≡ 3 → FaultStands m loaded other →
+      o ≤ fault_place other
   least_stop o stops (faults.NotUnit k) e = λ s.
       omega (arith, one_stop m.words stops.at s.at stops.stops s.stops, stops.here, s.here)
   least_stop o stops other e = absurd (omega (arith, e))

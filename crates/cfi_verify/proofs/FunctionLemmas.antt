@@ -12,7 +12,7 @@ use Rattle.cfi_unit.specs.declared.spot.Spot.{Spot}
 use Rattle.cfi_verify.specs.Lists.{Each}
 use Rattle.cfi_verify.specs.Functions.{end_of, end_in, end_before, LiesIn, IsIdle, FitsBehind}
 use Rattle.cfi_verify.specs.Target.{IsAtHome}
-use Rattle.cfi_verify.specs.Places.{AreInOrder, AreInRange, IsHome, SplitsEnds}
+use Rattle.cfi_verify.specs.Places.{AreFunctionsApart, AreInRange, IsHome, SplitsEnds}
 
 -- where the function of a number ends
 pub end_before-next : (functions : List PlacedFunction) (k : ℕ) (f : PlacedFunction) →
@@ -52,7 +52,7 @@ module _ (m : Placed) (spots : List Spot) (fit : Each m.functions (FitsBehind m 
         next_after (i + more + 1) d (omega (arith, within)),
       ))
 
-  pub in_order : AreInOrder m.functions
+  pub in_order : AreFunctionsApart m.functions
   in_order = λ i j d less within.
       let same : i + (j - i - 1) + 1 ≡ j = omega (arith, less) in
       subst (λ (k : ℕ). end_of (get_or m.functions i d) ≤ (get_or m.functions k d).first) same
@@ -63,7 +63,7 @@ module _ (m : Placed) (spots : List Spot) (fit : Each m.functions (FitsBehind m 
       let fits = fit k (get_or m.functions k d) (slice_get-get_or m.functions k d within) in
       omega (arith, fits.within, small)
 
-pub ends_rise : (functions : List PlacedFunction) → AreInOrder functions → IsNonDecreasingBy end_of functions
+pub ends_rise : (functions : List PlacedFunction) → AreFunctionsApart functions → IsNonDecreasingBy end_of functions
 ends_rise functions order = λ i j d up within.
     ⊎_elim (λ (less : i < j). omega (arith, order i j d less within))
     (λ (more : j ≤ i).
@@ -79,7 +79,7 @@ module _ (functions : List PlacedFunction) (at n : ℕ) (split : SplitsEnds func
       (λ (high : n ≤ has.0). high)
       (cases_lt has.0 n)
 
-  module _ (order : AreInOrder functions) (d : PlacedFunction) (inside : n < length functions) where
+  module _ (order : AreFunctionsApart functions) (d : PlacedFunction) (inside : n < length functions) where
     -- a function after the number n begins where that one ends or after it
     home_after : (f : PlacedFunction) → (has : Contains functions f) → n < has.0 →
         end_of (get_or functions n d) ≤ f.first

@@ -13,7 +13,7 @@ use Rattle.cfi_unit.specs.Spots.{AreSpots}
 use Rattle.cfi_verify.specs.Functions.{FitsBehind, IsIdleBehind, EndsWell}
 use Rattle.cfi_verify.specs.Target.{LeadsWell}
 use Rattle.cfi_verify.specs.Branches.{NamesSlot, KindFits, EntriesFit}
-use Rattle.cfi_verify.specs.Faults.{unit_place, check_place, own_number, StandsIn, Stands, number_of, place_of, IsFirstFault, Verifies, IsLaidOut, IsVerifiedAs}
+use Rattle.cfi_verify.specs.Faults.{unit_place, check_place, own_number, FaultStandsIn, FaultStands, fault_number, fault_place, IsFirstFault, Verifies, IsLaidOut, IsVerifiedAs}
 use Rattle.cfi_verify.specs.Places.{IsFirstUnfit, IsFirstMisfit}
 use Rattle.cfi_verify.proofs.ListLemmas.{break_of, no_break, first_is_least}
 use Rattle.cfi_verify.proofs.SpotLemmas.{spots-rising, checks-within, checks-rising, rise_from}
@@ -23,11 +23,11 @@ use Rattle.cfi_verify.proofs.FaultLemmas.{bound, Clear, clear_more, clear_three,
 
 module _ (m : Placed) (loaded : List Placed) (spots : List Spot) (are : AreSpots m.words spots) where
   -- what stands against the module stands against these units
-  here : (fault : VerifyFault) → ((xs : List Spot) × AreSpots m.words xs × StandsIn m loaded xs fault) →
-      StandsIn m loaded spots fault
-  here fault s = subst (λ (xs : List Spot). StandsIn m loaded xs fault) (AreSpots-one m.words s.0 spots s.1 are) s.2
+  here : (fault : VerifyFault) → ((xs : List Spot) × AreSpots m.words xs × FaultStandsIn m loaded xs fault) →
+      FaultStandsIn m loaded spots fault
+  here fault s = subst (λ (xs : List Spot). FaultStandsIn m loaded xs fault) (AreSpots-one m.words s.0 spots s.1 are) s.2
 
-  none_stop : (other : VerifyFault) → number_of other ≡ 3 → ¬ Stands m loaded other
+  none_stop : (other : VerifyFault) → fault_number other ≡ 3 → ¬ FaultStands m loaded other
   none_stop (faults.NotUnit o) e = λ s. no_stop m.words are.code s.at are.units s.stops
   none_stop other e = absurd (omega (arith, e))
 
@@ -58,13 +58,13 @@ module _ (m : Placed) (loaded : List Placed) (spots : List Spot) (are : AreSpots
   abbrev pub Slots : Type 0
   Slots = Each (checks_of spots) (NamesSlot m)
 
-  none_slot : Slots → (other : VerifyFault) → number_of other ≡ 4 → ¬ Stands m loaded other
+  none_slot : Slots → (other : VerifyFault) → fault_number other ≡ 4 → ¬ FaultStands m loaded other
   none_slot each (faults.Slot o) e = λ s. no_break (checks_of spots) (NamesSlot m) check_place o each
       (here (faults.Slot o) s)
   none_slot each other e = absurd (omega (arith, e))
 
   least_slot : (o : ℕ) → IsFirstBreak (checks_of spots) check_place (NamesSlot m) o → (other : VerifyFault) →
-      number_of other ≡ 4 → Stands m loaded other → o ≤ place_of other
+      fault_number other ≡ 4 → FaultStands m loaded other → o ≤ fault_place other
   least_slot o first (faults.Slot k) e = λ s.
       first_is_least (checks_of spots) (NamesSlot m) check_place o k check_rise first (here (faults.Slot k) s)
   least_slot o first other e = absurd (omega (arith, e))
@@ -83,7 +83,7 @@ module _ (m : Placed) (loaded : List Placed) (spots : List Spot) (are : AreSpots
   abbrev pub Functions : Type 0
   Functions = Each m.functions (FitsBehind m spots) × IsIdleBehind m spots
 
-  none_functions : Functions → (other : VerifyFault) → number_of other ≡ 5 → ¬ Stands m loaded other
+  none_functions : Functions → (other : VerifyFault) → fault_number other ≡ 5 → ¬ FaultStands m loaded other
   none_functions each (faults.Functions k) e = λ s.
       ⊎_elim
       (λ (b : Breaks m.functions own_number (FitsBehind m spots) k).
@@ -92,7 +92,7 @@ module _ (m : Placed) (loaded : List Placed) (spots : List Spot) (are : AreSpots
       (here (faults.Functions k) s)
   none_functions each other e = absurd (omega (arith, e))
 
-  unfit_in : (k : ℕ) → IsFirstUnfit m spots k → StandsIn m loaded spots (faults.Functions k)
+  unfit_in : (k : ℕ) → IsFirstUnfit m spots k → FaultStandsIn m loaded spots (faults.Functions k)
   unfit_in k first =
       ⊎_elim
       (λ (b : IsFirstBreak m.functions own_number (FitsBehind m spots) k).
@@ -101,7 +101,7 @@ module _ (m : Placed) (loaded : List Placed) (spots : List Spot) (are : AreSpots
       inr (b.0, b.2))
       first
 
-  least_unfit : (k : ℕ) → IsFirstUnfit m spots k → (n : ℕ) → StandsIn m loaded spots (faults.Functions n) → k ≤ n
+  least_unfit : (k : ℕ) → IsFirstUnfit m spots k → (n : ℕ) → FaultStandsIn m loaded spots (faults.Functions n) → k ≤ n
   least_unfit k first n s =
       ⊎_elim
       (λ (a : IsFirstBreak m.functions own_number (FitsBehind m spots) k).
@@ -119,8 +119,8 @@ module _ (m : Placed) (loaded : List Placed) (spots : List Spot) (are : AreSpots
       s)
       first
 
-  least_functions : (k : ℕ) → IsFirstUnfit m spots k → (other : VerifyFault) → number_of other ≡ 5 →
-      Stands m loaded other → k ≤ place_of other
+  least_functions : (k : ℕ) → IsFirstUnfit m spots k → (other : VerifyFault) → fault_number other ≡ 5 →
+      FaultStands m loaded other → k ≤ fault_place other
   least_functions k first (faults.Functions n) e = λ s. least_unfit k first n (here (faults.Functions n) s)
   least_functions k first other e = absurd (omega (arith, e))
 
@@ -137,13 +137,13 @@ module _ (m : Placed) (loaded : List Placed) (spots : List Spot) (are : AreSpots
   abbrev pub Ends : Type 0
   Ends = Each m.functions (EndsWell spots)
 
-  none_open : Ends → (other : VerifyFault) → number_of other ≡ 6 → ¬ Stands m loaded other
+  none_open : Ends → (other : VerifyFault) → fault_number other ≡ 6 → ¬ FaultStands m loaded other
   none_open each (faults.FallsThrough k) e = λ s.
       no_break m.functions (EndsWell spots) own_number k each (here (faults.FallsThrough k) s)
   none_open each other e = absurd (omega (arith, e))
 
   least_open : (k : ℕ) → IsFirstBreak m.functions own_number (EndsWell spots) k → (other : VerifyFault) →
-      number_of other ≡ 6 → Stands m loaded other → k ≤ place_of other
+      fault_number other ≡ 6 → FaultStands m loaded other → k ≤ fault_place other
   least_open k first (faults.FallsThrough n) e = λ s.
       first_is_least m.functions (EndsWell spots) own_number k n (own_rise m.functions) first
       (here (faults.FallsThrough n) s)
@@ -163,13 +163,13 @@ module _ (m : Placed) (loaded : List Placed) (spots : List Spot) (are : AreSpots
   abbrev pub Targets : Type 0
   Targets = Each spots (LeadsWell m loaded spots)
 
-  none_target : Targets → (other : VerifyFault) → number_of other ≡ 7 → ¬ Stands m loaded other
+  none_target : Targets → (other : VerifyFault) → fault_number other ≡ 7 → ¬ FaultStands m loaded other
   none_target each (faults.Target o) e = λ s.
       no_break spots (LeadsWell m loaded spots) unit_place o each (here (faults.Target o) s)
   none_target each other e = absurd (omega (arith, e))
 
   least_target : (o : ℕ) → IsFirstBreak spots unit_place (LeadsWell m loaded spots) o → (other : VerifyFault) →
-      number_of other ≡ 7 → Stands m loaded other → o ≤ place_of other
+      fault_number other ≡ 7 → FaultStands m loaded other → o ≤ fault_place other
   least_target o first (faults.Target k) e = λ s.
       first_is_least spots (LeadsWell m loaded spots) unit_place o k unit_rise first (here (faults.Target k) s)
   least_target o first other e = absurd (omega (arith, e))
@@ -188,7 +188,7 @@ module _ (m : Placed) (loaded : List Placed) (spots : List Spot) (are : AreSpots
   abbrev pub Kinds : Type 0
   Kinds = Each (checks_of spots) (KindFits m) × (length m.branches ≤ length (checks_of spots))
 
-  none_kinds : Kinds → (other : VerifyFault) → number_of other ≡ 8 → ¬ Stands m loaded other
+  none_kinds : Kinds → (other : VerifyFault) → fault_number other ≡ 8 → ¬ FaultStands m loaded other
   none_kinds each (faults.Kinds o) e = λ s.
       ⊎_elim
       (λ (b : Breaks (checks_of spots) check_place (KindFits m) o).
@@ -198,7 +198,7 @@ module _ (m : Placed) (loaded : List Placed) (spots : List Spot) (are : AreSpots
       (here (faults.Kinds o) s)
   none_kinds each other e = absurd (omega (arith, e))
 
-  misfit_in : (o : ℕ) → IsFirstMisfit m (checks_of spots) o → StandsIn m loaded spots (faults.Kinds o)
+  misfit_in : (o : ℕ) → IsFirstMisfit m (checks_of spots) o → FaultStandsIn m loaded spots (faults.Kinds o)
   misfit_in o first =
       ⊎_elim
       (λ (b : IsFirstBreak (checks_of spots) check_place (KindFits m) o).
@@ -215,7 +215,7 @@ module _ (m : Placed) (loaded : List Placed) (spots : List Spot) (are : AreSpots
       (checks-within m.words spots are number check (slice_get_within (checks_of spots) number check is))
 
   least_misfit : (o : ℕ) → IsFirstMisfit m (checks_of spots) o → (k : ℕ) →
-      StandsIn m loaded spots (faults.Kinds k) → o ≤ k
+      FaultStandsIn m loaded spots (faults.Kinds k) → o ≤ k
   least_misfit o first k s =
       ⊎_elim
       (λ (a : IsFirstBreak (checks_of spots) check_place (KindFits m) o).
@@ -234,8 +234,8 @@ module _ (m : Placed) (loaded : List Placed) (spots : List Spot) (are : AreSpots
       s)
       first
 
-  least_kinds : (o : ℕ) → IsFirstMisfit m (checks_of spots) o → (other : VerifyFault) → number_of other ≡ 8 →
-      Stands m loaded other → o ≤ place_of other
+  least_kinds : (o : ℕ) → IsFirstMisfit m (checks_of spots) o → (other : VerifyFault) → fault_number other ≡ 8 →
+      FaultStands m loaded other → o ≤ fault_place other
   least_kinds o first (faults.Kinds k) e = λ s. least_misfit o first k (here (faults.Kinds k) s)
   least_kinds o first other e = absurd (omega (arith, e))
 
@@ -249,14 +249,14 @@ module _ (m : Placed) (loaded : List Placed) (spots : List Spot) (are : AreSpots
 
   -- ---- switches
 
-  none_switch : Each (checks_of spots) (EntriesFit m spots) → (other : VerifyFault) → number_of other ≡ 9 →
-      ¬ Stands m loaded other
+  none_switch : Each (checks_of spots) (EntriesFit m spots) → (other : VerifyFault) → fault_number other ≡ 9 →
+      ¬ FaultStands m loaded other
   none_switch each (faults.Switch k) e = λ s.
       no_break (checks_of spots) (EntriesFit m spots) own_number k each (here (faults.Switch k) s)
   none_switch each other e = absurd (omega (arith, e))
 
   least_switch : (k : ℕ) → IsFirstBreak (checks_of spots) own_number (EntriesFit m spots) k → (other : VerifyFault) →
-      number_of other ≡ 9 → Stands m loaded other → k ≤ place_of other
+      fault_number other ≡ 9 → FaultStands m loaded other → k ≤ fault_place other
   least_switch k first (faults.Switch n) e = λ s.
       first_is_least (checks_of spots) (EntriesFit m spots) own_number k n (own_rise (checks_of spots)) first
       (here (faults.Switch n) s)
@@ -268,7 +268,7 @@ module _ (m : Placed) (loaded : List Placed) (spots : List Spot) (are : AreSpots
       is_first m loaded (faults.Switch k)
       (spots, are, break_of (checks_of spots) (EntriesFit m spots) own_number k first) clear (least_switch k first)
 
-none_memory : (m : Placed) (loaded : List Placed) (other : VerifyFault) → number_of other ≡ 10 → ¬ Stands m loaded other
+none_memory : (m : Placed) (loaded : List Placed) (other : VerifyFault) → fault_number other ≡ 10 → ¬ FaultStands m loaded other
 none_memory m loaded faults.Memory e = λ s. s.2
 none_memory m loaded other e = absurd (omega (arith, e))
 

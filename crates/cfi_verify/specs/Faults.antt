@@ -24,57 +24,57 @@ abbrev pub own_number : {T : Type 0} → (number : ℕ) → T → ℕ
 own_number number item = number
 
 -- the fault stands against the units of a module
-abbrev pub StandsIn : (m : Placed) → (loaded : List Placed) → List Spot → VerifyFault → Type 0
-StandsIn m loaded spots (faults.Slot o) = Breaks (checks_of spots) check_place (NamesSlot m) o
-StandsIn m loaded spots (faults.Functions k) = Breaks m.functions own_number (FitsBehind m spots) k
+abbrev pub FaultStandsIn : (m : Placed) → (loaded : List Placed) → List Spot → VerifyFault → Type 0
+FaultStandsIn m loaded spots (faults.Slot o) = Breaks (checks_of spots) check_place (NamesSlot m) o
+FaultStandsIn m loaded spots (faults.Functions k) = Breaks m.functions own_number (FitsBehind m spots) k
     ⊎ ((k ≡ length m.functions) × ¬ IsIdleBehind m spots)
-StandsIn m loaded spots (faults.FallsThrough k) = Breaks m.functions own_number (EndsWell spots) k
-StandsIn m loaded spots (faults.Target o) = Breaks spots unit_place (LeadsWell m loaded spots) o
-StandsIn m loaded spots (faults.Kinds o) = Breaks (checks_of spots) check_place (KindFits m) o
+FaultStandsIn m loaded spots (faults.FallsThrough k) = Breaks m.functions own_number (EndsWell spots) k
+FaultStandsIn m loaded spots (faults.Target o) = Breaks spots unit_place (LeadsWell m loaded spots) o
+FaultStandsIn m loaded spots (faults.Kinds o) = Breaks (checks_of spots) check_place (KindFits m) o
     ⊎ ((o ≡ 4 * length m.words) × (length (checks_of spots) < length m.branches))
-StandsIn m loaded spots (faults.Switch k) = Breaks (checks_of spots) own_number (EntriesFit m spots) k
-StandsIn m loaded spots fault = ⊥
+FaultStandsIn m loaded spots (faults.Switch k) = Breaks (checks_of spots) own_number (EntriesFit m spots) k
+FaultStandsIn m loaded spots fault = ⊥
 
 -- the fault stands against a module
-abbrev pub Stands : (m : Placed) → (loaded : List Placed) → VerifyFault → Type 0
-Stands m loaded faults.Empty = m.words ≡ []
-Stands m loaded (faults.Illegal o) = IsIllegal m.words o
-Stands m loaded (faults.NotUnit o) = IsNotUnit m.words o
-Stands m loaded fault = (spots : List Spot) × AreSpots m.words spots × StandsIn m loaded spots fault
+abbrev pub FaultStands : (m : Placed) → (loaded : List Placed) → VerifyFault → Type 0
+FaultStands m loaded faults.Empty = m.words ≡ []
+FaultStands m loaded (faults.Illegal o) = IsIllegal m.words o
+FaultStands m loaded (faults.NotUnit o) = IsNotUnit m.words o
+FaultStands m loaded fault = (spots : List Spot) × AreSpots m.words spots × FaultStandsIn m loaded spots fault
 
 -- the number of a fault's kind, and its place
-abbrev pub number_of : VerifyFault → ℕ
-number_of faults.Empty = 1
-number_of (faults.Illegal o) = 2
-number_of (faults.NotUnit o) = 3
-number_of (faults.Slot o) = 4
-number_of (faults.Functions k) = 5
-number_of (faults.FallsThrough k) = 6
-number_of (faults.Target o) = 7
-number_of (faults.Kinds o) = 8
-number_of (faults.Switch k) = 9
-number_of faults.Memory = 10
+abbrev pub fault_number : VerifyFault → ℕ
+fault_number faults.Empty = 1
+fault_number (faults.Illegal o) = 2
+fault_number (faults.NotUnit o) = 3
+fault_number (faults.Slot o) = 4
+fault_number (faults.Functions k) = 5
+fault_number (faults.FallsThrough k) = 6
+fault_number (faults.Target o) = 7
+fault_number (faults.Kinds o) = 8
+fault_number (faults.Switch k) = 9
+fault_number faults.Memory = 10
 
-abbrev pub place_of : VerifyFault → ℕ
-place_of faults.Empty = 0
-place_of (faults.Illegal o) = o
-place_of (faults.NotUnit o) = o
-place_of (faults.Slot o) = o
-place_of (faults.Functions k) = k
-place_of (faults.FallsThrough k) = k
-place_of (faults.Target o) = o
-place_of (faults.Kinds o) = o
-place_of (faults.Switch k) = k
-place_of faults.Memory = 0
+abbrev pub fault_place : VerifyFault → ℕ
+fault_place faults.Empty = 0
+fault_place (faults.Illegal o) = o
+fault_place (faults.NotUnit o) = o
+fault_place (faults.Slot o) = o
+fault_place (faults.Functions k) = k
+fault_place (faults.FallsThrough k) = k
+fault_place (faults.Target o) = o
+fault_place (faults.Kinds o) = o
+fault_place (faults.Switch k) = k
+fault_place faults.Memory = 0
 
 -- a fault comes before another: by its number, and then by its place
 abbrev pub IsEarlier : VerifyFault → VerifyFault → Type 0
-IsEarlier a b = (number_of a < number_of b) ⊎ ((number_of a ≡ number_of b) × (place_of a < place_of b))
+IsEarlier a b = (fault_number a < fault_number b) ⊎ ((fault_number a ≡ fault_number b) × (fault_place a < fault_place b))
 
 -- the first fault of a module
 pub record IsFirstFault (m : Placed) (loaded : List Placed) (fault : VerifyFault) : Type 0 where
-  pub stands : Stands m loaded fault
-  pub first : (other : VerifyFault) → Stands m loaded other → ¬ IsEarlier other fault
+  pub stands : FaultStands m loaded fault
+  pub first : (other : VerifyFault) → FaultStands m loaded other → ¬ IsEarlier other fault
 
 -- an answer that is no want of memory is the first fault
 abbrev pub IsFault : (m : Placed) → (loaded : List Placed) → VerifyFault → Type 0
@@ -82,7 +82,7 @@ IsFault m loaded fault = fault ≢ faults.Memory → IsFirstFault m loaded fault
 
 -- no fault stands against a module
 abbrev pub Verifies : (m : Placed) → (loaded : List Placed) → Type 0
-Verifies m loaded = (fault : VerifyFault) → ¬ Stands m loaded fault
+Verifies m loaded = (fault : VerifyFault) → ¬ FaultStands m loaded fault
 
 -- what holds of a module whose units stand at these places, where no fault up to `FallsThrough` stands against it
 pub record IsLaidOut (m : Placed) (spots : List Spot) : Type 0 where

@@ -36,8 +36,8 @@ abbrev pub AreSmallChecks : List CheckSpot → Type 0
 AreSmallChecks checks = All (λ c. 4 * c.at < 2 ^ 32) checks
 
 -- each function ends before those after it begin
-abbrev pub AreInOrder : List PlacedFunction → Type 0
-AreInOrder functions = AllPairs (λ f g. end_of f ≤ g.first) functions
+abbrev pub AreFunctionsApart : List PlacedFunction → Type 0
+AreFunctionsApart functions = AllPairs (λ f g. end_of f ≤ g.first) functions
 
 -- the ends of functions are 32-bit numbers
 abbrev pub AreInRange : List PlacedFunction → Type 0

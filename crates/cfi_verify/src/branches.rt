@@ -4,7 +4,7 @@ ghost use Rattle.std.specs.Prelude.{◌*◌, ◌<◌, ◌^◌, ◌≤◌, length
 ghost use Rattle.cfi_verify.specs.Lists.{Each, IsFirstBreak};
 ghost use Rattle.cfi_verify.specs.Branches.{NamesSlot, IsKindOf, KindFits, IsEntry, AreEntries, EntriesFit};
 ghost use Rattle.cfi_verify.specs.Faults.{check_place, own_number};
-ghost use Rattle.cfi_verify.specs.Places.{AreRising, AreSmallChecks, AreInOrder, AreInRange, IsFirstMisfit};
+ghost use Rattle.cfi_verify.specs.Places.{AreRising, AreSmallChecks, AreFunctionsApart, AreInRange, IsFirstMisfit};
 
 use crate::checks::CheckSpot;
 use crate::functions::is_func;
@@ -69,7 +69,7 @@ pub fn first_misfit(placed: &Placed, checks: &[CheckSpot]) -> Option<u32>
 
 // Whether an offset in bytes is that of a unit in the same function as the word `at`.
 fn is_entry(placed: &Placed, spots: &[Spot], at: u32, offset: u32) -> bool
-    requires order { AreInOrder placed.now.functions }
+    requires order { AreFunctionsApart placed.now.functions }
     requires fits { AreInRange placed.now.functions }
     requires rising { AreRising spots.now }
     ensures { IsTrue result ↔ IsEntry placed.now spots.now at offset }
@@ -87,7 +87,7 @@ fn is_entry(placed: &Placed, spots: &[Spot], at: u32, offset: u32) -> bool
 
 // Whether each offset is so.
 fn are_entries(placed: &Placed, spots: &[Spot], at: u32, offsets: &[u32]) -> bool
-    requires order { AreInOrder placed.now.functions }
+    requires order { AreFunctionsApart placed.now.functions }
     requires fits { AreInRange placed.now.functions }
     requires rising { AreRising spots.now }
     ensures { IsTrue result ↔ All (IsEntry placed.now spots.now at) offsets.now }
@@ -102,7 +102,7 @@ fn are_entries(placed: &Placed, spots: &[Spot], at: u32, offsets: &[u32]) -> boo
 
 // Whether each entry of a branch, if it is a switch, is so.
 fn switch_fits(placed: &Placed, spots: &[Spot], at: u32, kind: &Kind) -> bool
-    requires order { AreInOrder placed.now.functions }
+    requires order { AreFunctionsApart placed.now.functions }
     requires fits { AreInRange placed.now.functions }
     requires rising { AreRising spots.now }
     ensures { IsTrue result ↔ AreEntries placed.now spots.now at kind.now }
@@ -115,7 +115,7 @@ fn switch_fits(placed: &Placed, spots: &[Spot], at: u32, kind: &Kind) -> bool
 
 // Whether the entries of the branch of a check lie in its function.
 fn entries_fit(placed: &Placed, spots: &[Spot], number: usize, check: CheckSpot) -> bool
-    requires order { AreInOrder placed.now.functions }
+    requires order { AreFunctionsApart placed.now.functions }
     requires fits { AreInRange placed.now.functions }
     requires rising { AreRising spots.now }
     ensures { IsTrue result ↔ EntriesFit placed.now spots.now number check }
@@ -129,7 +129,7 @@ fn entries_fit(placed: &Placed, spots: &[Spot], number: usize, check: CheckSpot)
 /// The first branch with an entry that is no unit of its own function.
 pub fn first_bad_switch(placed: &Placed, spots: &[Spot], checks: &[CheckSpot]) -> Option<u32>
     requires count { length checks.now < 2 ^ 32 }
-    requires order { AreInOrder placed.now.functions }
+    requires order { AreFunctionsApart placed.now.functions }
     requires fits { AreInRange placed.now.functions }
     requires rising { AreRising spots.now }
     ensures some { IfSome result

@@ -5,7 +5,7 @@ ghost use Rattle.std.specs.List.{Contains};
 ghost use Rattle.cfi_aux.specs.declared.placed.PlacedFunction.{PlacedFunction as Function};
 ghost use Rattle.cfi_verify.specs.Functions.{end_of, LiesIn};
 ghost use Rattle.cfi_verify.specs.Target.{IsAtHome};
-ghost use Rattle.cfi_verify.specs.Places.{AreRising, AreInOrder, AreInRange, IsHome, SplitsEnds};
+ghost use Rattle.cfi_verify.specs.Places.{AreRising, AreFunctionsApart, AreInRange, IsHome, SplitsEnds};
 
 use crate::search::begins_at;
 use cfi_aux::PlacedFunction;
@@ -13,7 +13,7 @@ use cfi_unit::Spot;
 
 // The number of the first function that ends after the word; their number where none does.
 fn number_ending(functions: &[PlacedFunction], at: u32) -> usize
-    requires { AreInOrder functions.now }
+    requires { AreFunctionsApart functions.now }
     ensures { SplitsEnds functions.now at result }
 {
     functions.partition_point(|f| u64::from(f.first) + u64::from(f.count) <= u64::from(at))
@@ -21,7 +21,7 @@ fn number_ending(functions: &[PlacedFunction], at: u32) -> usize
 
 // The first word of the function in which a word lies, and the word after its last.
 fn home_of(functions: &[PlacedFunction], at: u32) -> Option<(u32, u32)>
-    requires order { AreInOrder functions.now }
+    requires order { AreFunctionsApart functions.now }
     requires fits { AreInRange functions.now }
     ensures some { IfSome result (λ home. IsHome functions.now at home.0 home.1) }
     ensures only { (f : Function) → Contains functions.now f → LiesIn f at →
@@ -40,7 +40,7 @@ fn home_of(functions: &[PlacedFunction], at: u32) -> Option<(u32, u32)>
 
 /// Whether a unit begins at the word `to`, and lies in the same function as the word `at`.
 pub fn is_at_home(functions: &[PlacedFunction], spots: &[Spot], at: u32, to: u64) -> bool
-    requires order { AreInOrder functions.now }
+    requires order { AreFunctionsApart functions.now }
     requires fits { AreInRange functions.now }
     requires rising { AreRising spots.now }
     ensures { IsTrue result ↔ IsAtHome functions.now spots.now at to }

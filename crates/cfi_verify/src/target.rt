@@ -6,7 +6,7 @@ ghost use Rattle.cfi_aux.specs.declared.placed.Placed.{Placed as Module};
 ghost use Rattle.cfi_verify.specs.Lists.{Each, IsFirstBreak};
 ghost use Rattle.cfi_verify.specs.Faults.{unit_place};
 ghost use Rattle.cfi_verify.specs.Target.{LeadsTo, LeadsHome, LeadsToEntry, MayLead, LeadsWell};
-ghost use Rattle.cfi_verify.specs.Places.{AreRising, AreSmall, AreInOrder, AreInRange, AreEntriesOf};
+ghost use Rattle.cfi_verify.specs.Places.{AreRising, AreSmall, AreFunctionsApart, AreInRange, AreEntriesOf};
 
 use crate::entries::is_entry;
 use crate::home::is_at_home;
@@ -28,7 +28,7 @@ fn target_of(at: u64, off: i32) -> Option<u64>
 
 // Whether an offset leads to a unit of the same function.
 fn leads_home(placed: &Placed, spots: &[Spot], at: u32, off: i32) -> bool
-    requires order { AreInOrder placed.now.functions }
+    requires order { AreFunctionsApart placed.now.functions }
     requires fits { AreInRange placed.now.functions }
     requires rising { AreRising spots.now }
     ensures { IsTrue result ↔ LeadsHome placed.now spots.now at off }
@@ -54,7 +54,7 @@ fn leads_to_entry(placed: &Placed, entries: &[u64], at: u32, off: i32) -> bool
 
 // Whether a unit leads where it may.
 fn may_lead(placed: &Placed, spots: &[Spot], entries: &[u64], spot: Spot) -> bool
-    requires order { AreInOrder placed.now.functions }
+    requires order { AreFunctionsApart placed.now.functions }
     requires fits { AreInRange placed.now.functions }
     requires rising { AreRising spots.now }
     requires sorted { IsNonDecreasing entries.now }
@@ -78,7 +78,7 @@ fn may_lead(placed: &Placed, spots: &[Spot], entries: &[u64], spot: Spot) -> boo
 ///
 /// `entries` are the first words of the functions of this module and of those loaded, sorted.
 pub fn first_stray(placed: &Placed, spots: &[Spot], entries: &[u64]) -> Option<u32>
-    requires order { AreInOrder placed.now.functions }
+    requires order { AreFunctionsApart placed.now.functions }
     requires fits { AreInRange placed.now.functions }
     requires rising { AreRising spots.now }
     requires small { AreSmall spots.now }

@@ -48,16 +48,16 @@ abbrev pub bary_word : (code_words slot : ℕ) → ℕ
 bary_word code_words slot = FIRST_CODE + 2 * code_words + slot
 
 -- the number of the word at a place
-abbrev pub word_at : (code_words : ℕ) → Place → ℕ
-word_at code_words Epoch = EPOCH
-word_at code_words (Quiet guest) = quiet_word guest
-word_at code_words (Code index) = code_word index
-word_at code_words (Tary index) = tary_word code_words index
-word_at code_words (Bary slot) = bary_word code_words slot
+abbrev pub word_number : (code_words : ℕ) → Place → ℕ
+word_number code_words Epoch = EPOCH
+word_number code_words (Quiet guest) = quiet_word guest
+word_number code_words (Code index) = code_word index
+word_number code_words (Tary index) = tary_word code_words index
+word_number code_words (Bary slot) = bary_word code_words slot
 
 -- the number of all words: BARY is the last area
-abbrev pub words_of : (code_words : ℕ) → ℕ
-words_of code_words = bary_word code_words (slots_of code_words)
+abbrev pub word_count : (code_words : ℕ) → ℕ
+word_count code_words = bary_word code_words (slots_of code_words)
 
 -- the word is one of CODE
 abbrev pub IsCode : (code_words word : ℕ) → Type 0
@@ -69,7 +69,7 @@ IsTary code_words word = (FIRST_CODE + code_words ≤ word) × (word < FIRST_COD
 
 -- the word is one of BARY
 abbrev pub IsBary : (code_words word : ℕ) → Type 0
-IsBary code_words word = (FIRST_CODE + 2 * code_words ≤ word) × (word < words_of code_words)
+IsBary code_words word = (FIRST_CODE + 2 * code_words ≤ word) × (word < word_count code_words)
 
 -- the word is a QUIET word
 abbrev pub IsQuiet : (word : ℕ) → Type 0

@@ -1,7 +1,7 @@
 ghost use Rattle.std.specs.Prelude.{◌≡◌, ℕ, ◌+◌, ◌*◌, ◌%◌, ◌<◌};
 ghost use Rattle.cfi_word.specs.Ids.{IsField, id_of, class_in, version_in, low_half};
 ghost use Rattle.cfi_word.specs.Word.{IsPackable, packed, id_in, policy_in, epoch_in};
-ghost use Rattle.cfi_word.specs.Table.{Place, IsPlace, IsInArea, word_at, words_of, slots_of};
+ghost use Rattle.cfi_word.specs.Table.{Place, IsPlace, IsInArea, word_number, word_count, slots_of};
 ghost use Rattle.cfi_word.specs.Table.{code_word, tary_word, bary_word};
 ghost use Rattle.cfi_word.specs.declared.layout.TheConstants.{EPOCH};
 ghost use Rattle.cfi_word.specs.Rank.{rank, IsStored, stores_of};
@@ -33,14 +33,14 @@ pub fn word_laws()
 /// Each place of the table has a word of its own.
 pub fn layout_laws()
     ensures within { (code_words : ℕ) (place : Place) → IsPlace code_words place
-        → word_at code_words place < words_of code_words }
+        → word_number code_words place < word_count code_words }
     ensures apart { (code_words : ℕ) (one other : Place)
         → IsPlace code_words one → IsPlace code_words other
-        → word_at code_words one ≡ word_at code_words other → one ≡ other }
+        → word_number code_words one ≡ word_number code_words other → one ≡ other }
     ensures areas { (code_words : ℕ) (place : Place) → IsPlace code_words place
-        → IsInArea code_words place (word_at code_words place) }
-    ensures all { (code_words word : ℕ) → word < words_of code_words
-        → (place : Place) × IsPlace code_words place × (word_at code_words place ≡ word) }
+        → IsInArea code_words place (word_number code_words place) }
+    ensures all { (code_words word : ℕ) → word < word_count code_words
+        → (place : Place) × IsPlace code_words place × (word_number code_words place ≡ word) }
 {}
 
 /// The order of an update's stores: CODE, TARY, EPOCH, BARY.

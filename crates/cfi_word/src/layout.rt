@@ -1,5 +1,5 @@
 ghost use Rattle.std.specs.Prelude.{◌≡◌, ℕ, ◌+◌, ◌*◌, ◌/◌, ◌%◌, ◌<◌, ◌≤◌};
-ghost use Rattle.cfi_word.specs.Table.{IsSize, slots_of, words_of};
+ghost use Rattle.cfi_word.specs.Table.{IsSize, slots_of, word_count};
 ghost use Rattle.cfi_word.specs.Table.{quiet_word, code_word, tary_word, bary_word};
 
 use crate::limits::{GUESTS, MAX_CODE_WORDS, MIN_CODE_WORDS};
@@ -68,7 +68,7 @@ impl Layout {
 
     /// The number of all words of the table.
     pub fn words(&self) -> u32
-        ensures { result ≡ words_of self.now }
+        ensures { result ≡ word_count self.now }
     {
         self.area_after(2) + self.slots()
     }

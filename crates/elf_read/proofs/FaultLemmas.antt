@@ -4,7 +4,7 @@ use Rattle.std.proofs.lemmas.Bool.{both_ways}
 use Rattle.elf_read.specs.Places.{IsFirst, IsNone}
 use Rattle.elf_read.specs.Header.{section_count}
 use Rattle.elf_read.specs.Relocation.{IsFirstRela, IsNoRela}
-use Rattle.elf_read.specs.Object.{IsKept}
+use Rattle.elf_read.specs.Object.{HasKept}
 use Rattle.elf_read.specs.Fault.{IsSound, IsShort, IsBadSection, IsPassed, IsFirstFault, IsObject}
 use Rattle.elf_read.specs.declared.object.Object.{Object}
 use Rattle.elf_read.specs.declared.fault.ElfFault.{ElfFault}
@@ -76,7 +76,7 @@ only_memory bytes (TooMany limit) sound h = absurd (not_passed bytes limit sound
 only_memory bytes Memory sound h = refl
 
 -- the bytes are one object
-pub one_object : (bytes : List ℕ) (a b : Object) → IsKept bytes a → IsKept bytes b → a ≡ b
+pub one_object : (bytes : List ℕ) (a b : Object) → HasKept bytes a → HasKept bytes b → a ≡ b
 one_object bytes a b is_a is_b =
     let text = is_a.text ∙ sym is_b.text in
     let static_data = is_a.static_data ∙ sym is_b.static_data in

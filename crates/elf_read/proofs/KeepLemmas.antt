@@ -9,7 +9,7 @@ use Rattle.elf_read.specs.declared.relocation.Rela.{Rela}
 use Rattle.elf_read.specs.Header.{section_count}
 use Rattle.elf_read.specs.Section.{section_at, is_loaded}
 use Rattle.elf_read.specs.Symbol.{symbol_at, symbol_count, is_in_section, is_left_out, is_bad_place, is_past_section, is_common, type_of}
-use Rattle.elf_read.specs.Relocation.{rela_count, rela_at, symbol_of, is_bad_rela_at, is_bad_reference, is_outside, is_misplaced}
+use Rattle.elf_read.specs.Relocation.{rela_count, rela_at, symbol_index, is_bad_rela_at, is_bad_reference, is_outside, is_misplaced}
 use Rattle.elf_read.specs.Object.{symbol_number}
 use Rattle.elf_read.specs.Join.{start_of}
 use Rattle.elf_read.specs.Fault.{IsSound}
@@ -89,10 +89,10 @@ good_rela bytes s i sound within entry =
 
 -- its symbol is there
 pub reference_there : (bytes : List ℕ) (s i : ℕ) → IsSound bytes → s < section_count bytes → i < rela_count bytes s
-    → symbol_of (rela_at bytes s i) ≢ 0 → symbol_of (rela_at bytes s i) < symbol_count bytes
+    → symbol_index (rela_at bytes s i) ≢ 0 → symbol_index (rela_at bytes s i) < symbol_count bytes
 unfolding is_bad_reference
 reference_there bytes s i sound within entry some =
-    let symbol = symbol_of (rela_at bytes s i) in
+    let symbol = symbol_index (rela_at bytes s i) in
     let good = (good_rela bytes s i sound within entry).0 in
     let named : not (symbol == 0) ≡ true = rw (ne_eqb symbol 0 some) refl in
     let parts =

@@ -7,7 +7,7 @@ use Rattle.elf_read.specs.BadSection.{is_bad_section}
 use Rattle.elf_read.specs.Symbol.{symbol_count, is_bad_symbol, is_common}
 use Rattle.elf_read.specs.Relocation.{is_bad_rela_at, is_unknown_at, rela_at, kind_of, IsFirstRela, IsNoRela}
 use Rattle.elf_read.specs.Join.{text_end, data_end}
-use Rattle.elf_read.specs.Object.{IsKept, kept_count, symbol_number}
+use Rattle.elf_read.specs.Object.{HasKept, kept_count, symbol_number}
 use Rattle.elf_read.specs.declared.object.Object.{Object}
 use Rattle.elf_read.specs.declared.fault.ElfFault.{ElfFault}
 use Rattle.elf_read.specs.declared.fault.ElfFault.TheVariants.{Short, NotElf32, NotRiscv, NotRelocatable, BadSection, BadSymbol, BadReloc, UnknownReloc, Common, TooMany, Memory}
@@ -126,4 +126,4 @@ IsFirstFault bytes Memory = Unit {0}
 -- the object is the one that the bytes are
 pub record IsObject (bytes : List ℕ) (object : Object) : Type 0 where
   pub sound : IsSound bytes
-  pub kept : IsKept bytes object
+  pub kept : HasKept bytes object

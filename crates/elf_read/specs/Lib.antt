@@ -9,3 +9,4 @@ pub mod Join
 pub mod Object
 pub mod Fault
 pub mod Layout
+pub mod Sound

@@ -5,7 +5,7 @@ use Rattle.elf_read.specs.Places.{joined, count_where, first_where}
 use Rattle.elf_read.specs.Header.{section_count}
 use Rattle.elf_read.specs.Section.{section_at, contents, is_text, is_record_section}
 use Rattle.elf_read.specs.Symbol.{symbol_at, symbol_count, binding_of, name_of, is_left_out, is_in_section}
-use Rattle.elf_read.specs.Relocation.{rela_at, rela_count, symbol_of, kind_of, is_dropped}
+use Rattle.elf_read.specs.Relocation.{rela_at, rela_count, symbol_index, kind_of, is_dropped}
 use Rattle.elf_read.specs.Join.{joined_text, joined_data, start_of}
 use Rattle.elf_read.specs.declared.object.Object.{Object}
 use Rattle.elf_read.specs.declared.object.Symbol.{Symbol}
@@ -58,7 +58,7 @@ symbol_number bytes k = count_where (λ j. not (is_left_out bytes j)) k
 -- the symbol that a relocation names, none for symbol 0
 unfoldable pub reference_of : List ℕ → (s i : ℕ) → Option ℕ
 reference_of bytes s i =
-    let symbol = symbol_of (rela_at bytes s i) in
+    let symbol = symbol_index (rela_at bytes s i) in
     if symbol == 0 then None else Some (symbol_number bytes symbol)
 
 unfoldable pub area_of : List ℕ → (s : ℕ) → Area
@@ -94,7 +94,7 @@ record_bytes bytes name =
     if nat_lt k (section_count bytes) then Some (contents bytes k) else None
 
 -- the object has what the file keeps
-pub record IsKept (bytes : List ℕ) (object : Object) : Type 0 where
+pub record HasKept (bytes : List ℕ) (object : Object) : Type 0 where
   pub text : object.text ≡ joined_text bytes
   pub static_data : object.static_data ≡ joined_data bytes
   pub symbols : object.symbols ≡ joined (symbols_of bytes) (symbol_count bytes)

@@ -27,8 +27,8 @@ rela_at bytes s i =
     }
 
 -- the number of its symbol, and its kind
-abbrev pub symbol_of : Rela → ℕ
-symbol_of rela = rela.info / 256
+abbrev pub symbol_index : Rela → ℕ
+symbol_index rela = rela.info / 256
 
 abbrev pub kind_of : Rela → ℕ
 kind_of rela = rela.info % 256
@@ -57,8 +57,8 @@ field_size kind = if is_of_pair kind then 8 else (if is_dropped kind then 0 else
 
 -- its symbol is not there, or was left out
 unfoldable pub is_bad_reference : List ℕ → Rela → Bool
-is_bad_reference bytes rela = not (symbol_of rela == 0)
-    && (not (nat_lt (symbol_of rela) (symbol_count bytes)) || is_left_out bytes (symbol_of rela))
+is_bad_reference bytes rela = not (symbol_index rela == 0)
+    && (not (nat_lt (symbol_index rela) (symbol_count bytes)) || is_left_out bytes (symbol_index rela))
 
 -- its field leaves section `target`
 unfoldable pub is_outside : List ℕ → (target : ℕ) → Rela → Bool

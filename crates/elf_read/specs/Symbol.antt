@@ -57,8 +57,8 @@ is_well_named bytes k =
     && utf8_valid_len (stored_name bytes k) == length (stored_name bytes k)
 
 -- it is global or weak
-abbrev pub is_exported : Entry → Bool
-is_exported symbol = binding_of symbol == GLOBAL || binding_of symbol == WEAK
+abbrev pub is_exported_entry : Entry → Bool
+is_exported_entry symbol = binding_of symbol == GLOBAL || binding_of symbol == WEAK
 
 -- it lies in a section
 abbrev pub is_in_section : List ℕ → Entry → Bool
@@ -71,14 +71,14 @@ is_left_out bytes k =
     k == 0 || type_of symbol == FILE || (is_in_section bytes symbol && not (is_loaded bytes symbol.section))
 
 -- it defines its global or weak name
-unfoldable pub is_definition : List ℕ → (k : ℕ) → Bool
-is_definition bytes k =
+unfoldable pub is_definition_at : List ℕ → (k : ℕ) → Bool
+is_definition_at bytes k =
     let symbol = symbol_at bytes k in
-    is_exported symbol && not (symbol.section == UNDEFINED)
+    is_exported_entry symbol && not (symbol.section == UNDEFINED)
 
 -- it defines this name
 unfoldable pub defines : List ℕ → (name : List ℕ) → (k : ℕ) → Bool
-defines bytes name k = is_definition bytes k && bytes_eq (name_of bytes k) name
+defines bytes name k = is_definition_at bytes k && bytes_eq (name_of bytes k) name
 
 -- its type or its binding is not taken
 unfoldable pub is_bad_info : List ℕ → (k : ℕ) → Bool
@@ -95,7 +95,7 @@ is_bad_place bytes k =
 
 -- it is global or weak and has no name
 unfoldable pub is_nameless : List ℕ → (k : ℕ) → Bool
-is_nameless bytes k = is_exported (symbol_at bytes k) && length (name_of bytes k) == 0
+is_nameless bytes k = is_exported_entry (symbol_at bytes k) && length (name_of bytes k) == 0
 
 -- it is kept, local and undefined
 unfoldable pub is_local_undefined : List ℕ → (k : ℕ) → Bool
@@ -112,7 +112,7 @@ is_past_section bytes k =
 
 -- an earlier symbol defines the name that it defines
 unfoldable pub is_second_definition : List ℕ → (k : ℕ) → Bool
-is_second_definition bytes k = is_definition bytes k && some_below (defines bytes (name_of bytes k)) k
+is_second_definition bytes k = is_definition_at bytes k && some_below (defines bytes (name_of bytes k)) k
 
 -- symbol k breaks a rule
 unfoldable pub is_bad_symbol : List ℕ → (k : ℕ) → Bool

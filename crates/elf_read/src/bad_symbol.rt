@@ -9,7 +9,7 @@ ghost use Rattle.elf_read.specs.declared.fault.ElfFault.TheVariants.{Memory};
 
 use crate::fault::ElfFault;
 use crate::symbol::{ABSOLUTE, COMMON, LOCAL, THREAD_LOCAL, UNDEFINED, WEAK};
-use crate::symbol_table::{SymbolTable, binding_of, is_exported, type_of};
+use crate::symbol_table::{SymbolTable, binding_of, is_exported_entry, type_of};
 use std::alloc::Global;
 use std::collections::BTreeMap;
 
@@ -43,7 +43,7 @@ fn is_nameless(table: &SymbolTable<'_>, k: usize, name: &str) -> bool
     requires name { name.now ≡ name_of table.now k }
     ensures { result ≡ is_nameless table.now k }
 {
-    is_exported(table.symbol(k)) && name.len() == 0
+    is_exported_entry(table.symbol(k)) && name.len() == 0
 }
 
 /// Whether symbol `k` is kept, local and undefined.
@@ -81,7 +81,7 @@ fn is_second_definition(
         is_some (get_by (λ key. slice_cmp nat_cmp q key.now) defined.now) ≡ some_below (defines table.now q) k }
     ensures { result ≡ is_second_definition table.now k }
 {
-    table.is_definition(k) && defined.contains_key(name)
+    table.is_definition_at(k) && defined.contains_key(name)
 }
 
 /// Whether symbol `k` breaks a rule, where `defined` has the names that the symbols before it define.
@@ -117,7 +117,7 @@ fn define<'a>(
         ≡ (is_some (get_by (λ key. slice_cmp nat_cmp q key.now) defined.old) || defines table.now q k)) }
     ensures memory { IfErr result (λ fault. fault ≡ Memory) }
 {
-    if table.is_definition(k) {
+    if table.is_definition_at(k) {
         if let Some(name) = table.name(k) {
             defined.insert(name, k)?;
         }

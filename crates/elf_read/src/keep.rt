@@ -12,7 +12,7 @@ use crate::join::{join_data, join_text, record_bytes};
 use crate::layout::{Layout, layout_of};
 use crate::limits::{check_limits, number_symbols};
 use crate::object::{Area, Binding, Name, Object, Place, Reloc, Relocs, Symbol, Symbols};
-use crate::rela::{kind_of, rela_at, rela_count, symbol_of, target_of};
+use crate::rela::{kind_of, rela_at, rela_count, symbol_index, target_of};
 use crate::relocation::is_dropped;
 use crate::section::{CFI_RECORDS, CFI_TYPES};
 use crate::symbol::{ABSOLUTE, GLOBAL, LOCAL, UNDEFINED};
@@ -157,7 +157,7 @@ fn reference_of(table: &SymbolTable<'_>, numbers: &[usize], s: usize, i: usize) 
     requires numbers { IsNumbering table.now numbers.now }
     ensures { result ≡ reference_of table.now s i }
 {
-    let symbol = symbol_of(rela_at(table, s, i));
+    let symbol = symbol_index(rela_at(table, s, i));
     if symbol == 0 {
         return None;
     }

@@ -4,7 +4,7 @@ ghost use Rattle.elf_read.specs.Header.{section_count};
 ghost use Rattle.elf_read.specs.Section.{section_at, contents};
 ghost use Rattle.elf_read.specs.Fault.{IsFirstFault, HasSymbols, HasRelas, HasKinds};
 ghost use Rattle.elf_read.specs.declared.relocation.TheConstants.{RELA_SIZE};
-ghost use Rattle.elf_read.specs.Relocation.{rela_count, rela_at, symbol_of, kind_of, is_bad_reference, is_outside, is_misplaced, is_bad_rela_at, is_unknown_at};
+ghost use Rattle.elf_read.specs.Relocation.{rela_count, rela_at, symbol_index, kind_of, is_bad_reference, is_outside, is_misplaced, is_bad_rela_at, is_unknown_at};
 
 use crate::fault::ElfFault;
 use crate::relocation::{RELA_SIZE, Rela, field_size, is_known, is_of_data, is_of_instruction};
@@ -15,8 +15,8 @@ use crate::word::u32_at;
 pub const MAX_FILE: usize = 50_331_647;
 
 /// The number of a relocation's symbol.
-pub fn symbol_of(rela: Rela) -> usize
-    ensures { result ≡ symbol_of rela }
+pub fn symbol_index(rela: Rela) -> usize
+    ensures { result ≡ symbol_index rela }
 {
     (rela.info / 256) as usize
 }
@@ -83,7 +83,7 @@ pub fn rela_at(table: &SymbolTable<'_>, s: usize, i: usize) -> Rela
 fn is_bad_reference(table: &SymbolTable<'_>, rela: Rela) -> bool
     ensures { result ≡ is_bad_reference table.now rela }
 {
-    let symbol = symbol_of(rela);
+    let symbol = symbol_index(rela);
     symbol != 0 && (symbol >= table.count() || table.is_left_out(symbol))
 }
 

@@ -4,7 +4,7 @@ ghost use Rattle.cfi_word.specs.declared.limits.TheConstants.{MAX_SECTIONS};
 ghost use Rattle.elf_read.specs.Section.{section_at, contents, is_loaded, is_text, is_data, is_record_section};
 ghost use Rattle.elf_read.specs.Places.{first_where};
 ghost use Rattle.elf_read.specs.Fault.{HasSections};
-ghost use Rattle.elf_read.specs.Symbol.{symbol_bytes, symbol_names, symbol_count, symbol_at, type_of, binding_of, stored_name, name_of, is_well_named, is_exported, is_in_section, is_left_out, is_definition};
+ghost use Rattle.elf_read.specs.Symbol.{symbol_bytes, symbol_names, symbol_count, symbol_at, type_of, binding_of, stored_name, name_of, is_well_named, is_exported_entry, is_in_section, is_left_out, is_definition_at};
 
 use crate::name::ended;
 use crate::section::Section;
@@ -54,8 +54,8 @@ pub fn binding_of(entry: Entry) -> u8
 }
 
 /// Whether a symbol is global or weak.
-pub fn is_exported(entry: Entry) -> bool
-    ensures { result ≡ is_exported entry }
+pub fn is_exported_entry(entry: Entry) -> bool
+    ensures { result ≡ is_exported_entry entry }
 {
     let binding = binding_of(entry);
     binding == GLOBAL || binding == WEAK
@@ -206,12 +206,12 @@ impl<'a> SymbolTable<'a> {
     }
 
     /// Whether symbol `k` defines a global or weak name.
-    #[tactic(auto, unfolding(crate::specs::Symbol::is_definition))]
-    pub fn is_definition(&self, k: usize) -> bool
+    #[tactic(auto, unfolding(crate::specs::Symbol::is_definition_at))]
+    pub fn is_definition_at(&self, k: usize) -> bool
         requires within { k < symbol_count self.now }
-        ensures { result ≡ is_definition self.now k }
+        ensures { result ≡ is_definition_at self.now k }
     {
         let entry = self.symbol(k);
-        is_exported(entry) && entry.section != UNDEFINED
+        is_exported_entry(entry) && entry.section != UNDEFINED
     }
 }

@@ -16,7 +16,7 @@ use Rattle.elf_read.specs.declared.object.Place.{Place}
 use Rattle.elf_read.specs.declared.object.Place.TheVariants as places
 use Rattle.elf_write.specs.declared.part.Part.{Part}
 use Rattle.elf_write.specs.Contents as written
-use Rattle.elf_write.specs.Contents.{ended, names_of, no_symbol, symbol_name_place, symbol_entry, entry_of, null_entry, binding_number, section_number}
+use Rattle.elf_write.specs.Contents.{zero_ended, name_table, no_symbol, symbol_name_place, symbol_entry, entry_of, null_entry, binding_number, section_number}
 use Rattle.elf_write.specs.File.{contents_of, symbols_number, names_number, link_of}
 use Rattle.elf_write.proofs.SizeLemmas.{parts_count, names_at, symbols_at, length-entry, length-null_entry, length-symbol_table}
 use Rattle.elf_write.proofs.TableLemmas.{u32_in, u16_in, byte_in, drop-joined, drop-flat_map}
@@ -60,8 +60,8 @@ written_entry symbols k =
 -- the names after a place
 pub names_after : (symbols : List Symbol) (k : ℕ) → List ℕ
 names_after symbols k = cond (length (get_or symbols k no_symbol).name == 0) (flat_map
-    (λ (s : Symbol). ended s.name) symbols)
-    (flat_map (λ (s : Symbol). ended s.name) (drop (suc k) symbols))
+    (λ (s : Symbol). zero_ended s.name) symbols)
+    (flat_map (λ (s : Symbol). zero_ended s.name) (drop (suc k) symbols))
 
 nothing : (xs : List ℕ) → length xs ≡ 0 → xs ≡ []
 nothing [] h = refl
@@ -69,12 +69,12 @@ nothing (x ∷ xs) h = absurd (omega arith)
 
 -- a name stands at its place, and a zero byte after it
 pub name_stands : (symbols : List Symbol) (k : ℕ) → k < length symbols
-    → drop (symbol_name_place symbols k) (names_of symbols) ≡ (get_or symbols k no_symbol).name
+    → drop (symbol_name_place symbols k) (name_table symbols) ≡ (get_or symbols k no_symbol).name
     ++ (0 ∷ names_after symbols k)
-unfolding symbol_name_place names_of names_after
+unfolding symbol_name_place name_table names_after
 name_stands symbols k within =
     let symbol = get_or symbols k no_symbol in
-    let pieces = λ (s : Symbol). ended s.name in
+    let pieces = λ (s : Symbol). zero_ended s.name in
     ⊎_elim
     (λ (empty : (length symbol.name == 0) ≡ true).
     let none : symbol.name ≡ [] = nothing symbol.name (eqb-true _ _ empty) in
@@ -112,7 +112,7 @@ module _ (object : Object) (bytes : List ℕ) (are : AreSections object bytes) w
       ∙ are.held (symbols_number object) (omega (arith, count))
       ∙ ap (λ (part : Part). contents_of object part) (symbols_at (is_some object.types) (is_some object.records))
 
-  pub symbol_names_are : symbol_names bytes ≡ names_of object.symbols
+  pub symbol_names_are : symbol_names bytes ≡ name_table object.symbols
   unfolding symbol_names written_section
   symbol_names_are =
       let count = parts_count (is_some object.types) (is_some object.records) in

@@ -1,7 +1,7 @@
 -- The header and the section headers of a written file, field by field.
 use Rattle.std.proofs.Common.{◌≡◌, ◌+◌, ◌-◌, ◌*◌, ◌/◌, ◌%◌, ◌<◌, ◌≤◌, ◌^◌, ◌++◌, ℕ, suc, true, is_some, List, [], length, drop, get_or, refl, ap, ◌∙◌, length-append, append_assoc, arith}
 use Rattle.std.proofs.lemmas.List.Sums.{count_by-le-length}
-use Rattle.elf_write.specs.Contents.{is_local}
+use Rattle.elf_write.specs.Contents.{is_local_symbol}
 use Rattle.std.proofs.Math.Seq.{drop-append-add}
 use Rattle.byteorder.specs.Numbers.{little_number-reads_back}
 use Rattle.elf_read.specs.Words.{u16_at, u32_at}
@@ -35,7 +35,7 @@ small_link object _ = omega (arith, count-small (is_some object.types) (is_some 
 
 small_info : (object : Object) (part : Part) → IsWritable object → info_of_part object part < 2 ^ 32
 small_info object Null writable = omega arith
-small_info object _ writable = omega (arith, symbols-fit object writable, count_by-le-length is_local object.symbols)
+small_info object _ writable = omega (arith, symbols-fit object writable, count_by-le-length is_local_symbol object.symbols)
 
 -- a word that was written is read
 pub word_read : (n : ℕ) → n < 2 ^ 32

@@ -14,7 +14,7 @@ use Rattle.elf_read.specs.declared.object.Binding.{Binding}
 use Rattle.elf_read.specs.declared.object.Binding.TheVariants as bindings
 use Rattle.elf_read.specs.declared.object.Place.{Place}
 use Rattle.elf_read.specs.declared.object.Place.TheVariants as places
-use Rattle.elf_write.specs.Contents.{names_of, no_symbol, symbol_name_place, binding_number, section_number}
+use Rattle.elf_write.specs.Contents.{name_table, no_symbol, symbol_name_place, binding_number, section_number}
 use Rattle.elf_write.specs.Whole.{IsWhole, HasName, HasPlace, greatest_value}
 use Rattle.elf_write.specs.Whole as whole_specs
 use Rattle.elf_write.proofs.SymbolLemmas.{names_within}
@@ -144,7 +144,7 @@ value-small object places.Absolute value whole within = omega arith
 value-small object places.Text value whole within = omega (arith, whole.limits.text)
 value-small object places.Data value whole within = omega (arith, whole.limits.static_data)
 
-pub name_place-small : (symbols : List Symbol) (k : ℕ) → k < length symbols → length (names_of symbols) < 2 ^ 32
+pub name_place-small : (symbols : List Symbol) (k : ℕ) → k < length symbols → length (name_table symbols) < 2 ^ 32
     → symbol_name_place symbols k < 2 ^ 32
 unfolding symbol_name_place
 name_place-small symbols k within fits =

@@ -10,7 +10,7 @@ use Rattle.elf_read.specs.declared.section.TheConstants.{EH_FRAME, CFI_TYPES, CF
 use Rattle.elf_read.specs.declared.object.Object.{Object}
 use Rattle.elf_write.specs.declared.part.Part.{Part}
 use Rattle.elf_write.specs.declared.part.Part.TheVariants.{Null, Text, Data}
-use Rattle.elf_write.specs.Part.{name_of, kind_of, flags_of}
+use Rattle.elf_write.specs.Part.{section_name, kind_of, flags_of}
 use Rattle.elf_write.specs.File.{sections_of, name_place, symbols_number}
 use Rattle.elf_write.proofs.SizeLemmas.{parts_count}
 use Rattle.elf_write.proofs.TableLemmas.{drop-flat_map}
@@ -61,13 +61,13 @@ module _ (object : Object) (bytes : List ℕ) (are : AreSections object bytes) w
 
   -- what the name of section k begins with
   name_there : (k : ℕ) → k < length (sections_of object) → (name : List ℕ)
-      → has_name bytes k name ≡ starts_with nat_eq (name_of (part_of object k)
-      ++ flat_map name_of (drop (suc k) (sections_of object))) name
+      → has_name bytes k name ≡ starts_with nat_eq (section_name (part_of object k)
+      ++ flat_map section_name (drop (suc k) (sections_of object))) name
   unfolding has_name written_section
   name_there k within name =
       ap (λ (s : Section). starts_with nat_eq (drop s.name (section_names bytes)) name) (are.each k within)
       ∙ ap (λ (names : List ℕ). starts_with nat_eq (drop (name_place object k) names) name) are.names
-      ∙ ap (λ (xs : List ℕ). starts_with nat_eq xs name) (drop-flat_map name_of (sections_of object) k Null within)
+      ∙ ap (λ (xs : List ℕ). starts_with nat_eq xs name) (drop-flat_map section_name (sections_of object) k Null within)
 
   -- and it is ended
   pub name_ends : (k : ℕ) → k < length (sections_of object)
@@ -76,7 +76,7 @@ module _ (object : Object) (bytes : List ℕ) (are : AreSections object bytes) w
   name_ends k within =
       ap (λ (s : Section). list_any (λ byte. byte == 0) (drop s.name (section_names bytes))) (are.each k within)
       ∙ ap (λ (names : List ℕ). list_any (λ byte. byte == 0) (drop (name_place object k) names)) are.names
-      ∙ ap (λ (xs : List ℕ). list_any (λ byte. byte == 0) xs) (drop-flat_map name_of (sections_of object) k Null within)
+      ∙ ap (λ (xs : List ℕ). list_any (λ byte. byte == 0) xs) (drop-flat_map section_name (sections_of object) k Null within)
       ∙ name_ended (part_of object k) _
 
   pub types_name : (k : ℕ) → k < length (sections_of object)

@@ -12,8 +12,8 @@ use Rattle.elf_read.specs.declared.object.Reloc.{Reloc}
 use Rattle.elf_read.specs.declared.object.Area.{Area}
 use Rattle.elf_write.specs.declared.part.Part.{Part}
 use Rattle.elf_write.specs.declared.part.Part.TheVariants.{Null, Text, Data, Types, Records, TextRelas, DataRelas, Symbols, SymbolNames, SectionNames}
-use Rattle.elf_write.specs.Part.{name_of, parts_of}
-use Rattle.elf_write.specs.Contents.{ended, names_of, is_in, rela_entry, relas_of}
+use Rattle.elf_write.specs.Part.{section_name, parts_of}
+use Rattle.elf_write.specs.Contents.{zero_ended, name_table, is_in, rela_entry, relas_of}
 use Rattle.elf_write.specs.File.{sections_of, contents_of, padding, padded, body_of, table_place, header_of, part_header, file_header, bytes_of, IsWritable}
 use Rattle.elf_write.specs.Limits.{IsWithinLimits}
 use Rattle.elf_write.proofs.SizeLemmas.{length-joined, length-symbol_table, length-file_header, parts_count, name-short}
@@ -35,7 +35,7 @@ pieces-short f size (x ∷ xs) each =
     let product : size * suc (length xs) ≡ size * length xs + size = omega arith in
     omega (arith, rest, sum, here, product)
 
-pub ended-below : (name : List ℕ) → length (ended name) ≤ length name + 1
+pub ended-below : (name : List ℕ) → length (zero_ended name) ≤ length name + 1
 ended-below [] = omega arith
 ended-below (x ∷ xs) =
     let some : (length (x ∷ xs) == 0) ≡ false = ne_eqb _ _ (λ none. absurd (omega arith)) in
@@ -69,17 +69,17 @@ relas-short area relocs =
     omega (arith, kept, each)
 
 names-from : (symbols : List Symbol) → All (λ symbol. length symbol.name ≤ 255) symbols
-    → length (flat_map (λ (symbol : Symbol). ended symbol.name) symbols) ≤ 256 * length symbols
+    → length (flat_map (λ (symbol : Symbol). zero_ended symbol.name) symbols) ≤ 256 * length symbols
 names-from [] short = omega arith
 names-from (symbol ∷ symbols) short =
     let rest = names-from symbols (λ k d within. short (suc k) d (omega arith)) in
     let here : length symbol.name ≤ 255 = short 0 symbol (omega arith) in
-    let sum = length-append (ended symbol.name) (flat_map (λ (s : Symbol). ended s.name) symbols) in
+    let sum = length-append (zero_ended symbol.name) (flat_map (λ (s : Symbol). zero_ended s.name) symbols) in
     omega (arith, rest, here, ended-below symbol.name, sum)
 
 pub names-short : (symbols : List Symbol) → All (λ symbol. length symbol.name ≤ 255) symbols
-    → length (names_of symbols) ≤ 1 + 256 * length symbols
-unfolding names_of
+    → length (name_table symbols) ≤ 1 + 256 * length symbols
+unfolding name_table
 names-short symbols short = omega (arith, names-from symbols short)
 
 -- no more bytes than this are in a section of an object within the limits, nor in the zeros after it
@@ -107,7 +107,7 @@ contents-short object limits DataRelas = omega (arith, relas-short areas.Data ob
 contents-short object limits Symbols = omega (arith, length-symbol_table object.symbols, limits.symbols)
 contents-short object limits SymbolNames = omega (arith, names-short object.symbols limits.names, limits.symbols)
 contents-short object limits SectionNames =
-    let names = pieces-short name_of 13 (sections_of object) name-short in
+    let names = pieces-short section_name 13 (sections_of object) name-short in
     omega (
       arith,
       names,

@@ -6,7 +6,7 @@ use Rattle.std.proofs.lemmas.Bool.{and_parts, cases_lt}
 use Rattle.elf_read.specs.declared.section.TheConstants.{EH_FRAME, CFI_TYPES, CFI_RECORDS}
 use Rattle.elf_write.specs.declared.part.Part.{Part}
 use Rattle.elf_write.specs.declared.part.Part.TheVariants.{Null, Text, Data, Types, Records, TextRelas, DataRelas, Symbols, SymbolNames, SectionNames}
-use Rattle.elf_write.specs.Part.{parts_of, name_of}
+use Rattle.elf_write.specs.Part.{parts_of, section_name}
 
 -- parts by numbers of their own
 abbrev pub code : Part → ℕ
@@ -115,20 +115,20 @@ symbols_stand false true = refl
 symbols_stand false false = refl
 
 -- what a name begins with
-pub eh_frame_named : (part : Part) (rest : List ℕ) → starts_with nat_eq (name_of part ++ rest) EH_FRAME.now ≡ false
+pub eh_frame_named : (part : Part) (rest : List ℕ) → starts_with nat_eq (section_name part ++ rest) EH_FRAME.now ≡ false
 eh_frame_named Null rest = refl
 eh_frame_named _ rest = refl
 
 pub types_named : (part : Part) (rest : List ℕ)
-    → starts_with nat_eq (name_of part ++ rest) CFI_TYPES.now ≡ (code part == 3)
+    → starts_with nat_eq (section_name part ++ rest) CFI_TYPES.now ≡ (code part == 3)
 types_named Null rest = refl
 types_named _ rest = refl
 
 pub records_named : (part : Part) (rest : List ℕ)
-    → starts_with nat_eq (name_of part ++ rest) CFI_RECORDS.now ≡ (code part == 4)
+    → starts_with nat_eq (section_name part ++ rest) CFI_RECORDS.now ≡ (code part == 4)
 records_named Null rest = refl
 records_named _ rest = refl
 
-pub name_ended : (part : Part) (rest : List ℕ) → list_any (λ byte. byte == 0) (name_of part ++ rest) ≡ true
+pub name_ended : (part : Part) (rest : List ℕ) → list_any (λ byte. byte == 0) (section_name part ++ rest) ≡ true
 name_ended Null rest = refl
 name_ended _ rest = refl

@@ -60,11 +60,11 @@ data_relas_at false false = refl
 abbrev pub of_area : Object → Area → List Reloc
 of_area object area = filter (is_in area) object.relocs
 
-text_area : (area : Area) → written.is_text area ≡ true → area ≡ areas.Text
+text_area : (area : Area) → written.is_text_area area ≡ true → area ≡ areas.Text
 text_area areas.Text is = refl
 text_area areas.Data is = absurd (false≢true is)
 
-data_area : (area : Area) → written.is_data area ≡ true → area ≡ areas.Data
+data_area : (area : Area) → written.is_data_area area ≡ true → area ≡ areas.Data
 data_area areas.Text is = absurd (false≢true is)
 data_area areas.Data is = refl
 

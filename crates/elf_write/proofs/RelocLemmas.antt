@@ -84,15 +84,15 @@ pub record HasRelas (object : Object) (bytes : List ℕ) (area : Area) (s target
   pub held : contents bytes s ≡ flat_map rela_entry relocs
   pub size : (section_at bytes s).size ≡ 12 * length relocs
   pub info : (section_at bytes s).info ≡ target
-  pub text : is_text bytes target ≡ written.is_text area
-  pub data_there : is_data bytes target ≡ written.is_data area
+  pub text : is_text bytes target ≡ written.is_text_area area
+  pub data_there : is_data bytes target ≡ written.is_data_area area
   pub starts : start_of bytes target ≡ 0
   pub target_size : (section_at bytes target).size ≡ length (bytes_in object area)
   pub good : All (IsGoodReloc object) relocs
   pub infos : All (λ reloc. info_of reloc < 2 ^ 32) relocs
   pub of_area : (i : ℕ) → i < length relocs → (get_or relocs i no_reloc).area ≡ area
 
-area_back : (area : Area) → cond (written.is_text area) areas.Text areas.Data ≡ area
+area_back : (area : Area) → cond (written.is_text_area area) areas.Text areas.Data ≡ area
 area_back areas.Text = refl
 area_back areas.Data = refl
 
@@ -108,7 +108,7 @@ number-back number kind small = omega arith
 
 -- it is where it may be
 placed_by : (area : Area) (offset kind : ℕ) → IsOfArea area offset kind
-    → ((written.is_text area && (not (offset % 4 == 0) || is_of_data kind)) || (written.is_data area
+    → ((written.is_text_area area && (not (offset % 4 == 0) || is_of_data kind)) || (written.is_data_area area
     && is_of_instruction kind)) ≡ false
 placed_by areas.Text offset kind placed =
     let even : (offset % 4 == 0) ≡ true = eq-eqb _ _ placed.0 in
@@ -253,11 +253,11 @@ module _ (object : Object) (bytes : List ℕ) (are : AreSections object bytes) (
       let misplaced : is_misplaced bytes target rela ≡ false
       = ap (λ b. (b && (not (rela.offset % 4 == 0) || is_of_data (kind_of rela))) || (is_data bytes target
       && is_of_instruction (kind_of rela))) has.text
-      ∙ ap (λ b. (written.is_text area && (not (rela.offset % 4 == 0) || is_of_data (kind_of rela))) || (b
+      ∙ ap (λ b. (written.is_text_area area && (not (rela.offset % 4 == 0) || is_of_data (kind_of rela))) || (b
       && is_of_instruction (kind_of rela))) has.data_there
-      ∙ ap (λ n. (written.is_text area && (not (n % 4 == 0) || is_of_data (kind_of rela))) || (written.is_data area
+      ∙ ap (λ n. (written.is_text_area area && (not (n % 4 == 0) || is_of_data (kind_of rela))) || (written.is_data_area area
       && is_of_instruction (kind_of rela))) place
-      ∙ ap (λ n. (written.is_text area && (not ((of i).offset % 4 == 0) || is_of_data n)) || (written.is_data area
+      ∙ ap (λ n. (written.is_text_area area && (not ((of i).offset % 4 == 0) || is_of_data n)) || (written.is_data_area area
       && is_of_instruction n)) (kind_is i within)
       ∙ placed_by area (of i).offset (of i).kind (subst
       (λ (a : Area). IsOfArea a (of i).offset (of i).kind) (has.of_area i within) (good i within).placed) in

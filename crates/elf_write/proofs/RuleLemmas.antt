@@ -7,12 +7,12 @@ use Rattle.std.proofs.lemmas.Str.{IsUtf8-nil}
 use Rattle.elf_read.specs.Places.{some_below}
 use Rattle.elf_read.specs.Header.{section_count}
 use Rattle.elf_read.specs.Section.{section_at, is_loaded}
-use Rattle.elf_read.specs.Symbol.{symbol_names, symbol_at, is_in_section, is_left_out, stored_name, name_of, is_well_named, is_bad_info, is_bad_place, is_nameless, is_local_undefined, is_past_section, is_definition, defines, is_second_definition, is_bad_symbol, is_common}
+use Rattle.elf_read.specs.Symbol.{symbol_names, symbol_at, is_in_section, is_left_out, stored_name, name_of, is_well_named, is_bad_info, is_bad_place, is_nameless, is_local_undefined, is_past_section, is_definition_at, defines, is_second_definition, is_bad_symbol, is_common}
 use Rattle.elf_read.specs.declared.symbol.Entry.{Entry}
 use Rattle.elf_read.specs.declared.object.Object.{Object}
 use Rattle.elf_read.specs.declared.object.Symbol.{Symbol}
 use Rattle.elf_read.proofs.SymbolLemmas.{well_named}
-use Rattle.elf_write.specs.Contents.{names_of, no_symbol, symbol_name_place, binding_number, section_number}
+use Rattle.elf_write.specs.Contents.{name_table, no_symbol, symbol_name_place, binding_number, section_number}
 use Rattle.elf_write.specs.File.{IsWritable}
 use Rattle.elf_write.specs.Whole.{IsWhole, IsGoodSymbol}
 use Rattle.elf_write.specs.Whole as whole_specs
@@ -78,13 +78,13 @@ module _ (object : Object) (bytes : List ℕ) (are : AreSections object bytes) (
       rw (some, kind) there
 
   -- it breaks no rule
-  definition_is : (k : ℕ) → k < length object.symbols → is_definition bytes (suc k) ≡ whole_specs.is_definition (of k)
-  unfolding is_definition written_entry
+  definition_is : (k : ℕ) → k < length object.symbols → is_definition_at bytes (suc k) ≡ whole_specs.is_definition (of k)
+  unfolding is_definition_at written_entry
   definition_is k within = ap (λ (e : Entry). (e.info / 16 == 1 || e.info / 16 == 2)
       && not (e.section == 0)) (entry_is k within) ∙ definition_by (of k).binding (of k).place
 
-  first_no : is_definition bytes 0 ≡ false
-  unfolding is_definition
+  first_no : is_definition_at bytes 0 ≡ false
+  unfolding is_definition_at
   first_no = ap (λ (e : Entry). (e.info / 16 == 1 || e.info / 16 == 2)
       && not (e.section == 0)) (symbol_zero object bytes are)
 
@@ -133,7 +133,7 @@ module _ (object : Object) (bytes : List ℕ) (are : AreSections object bytes) (
   unfolding defines
   not_again k within mine zero below = ap (λ b. b && bytes_eq (name_of bytes 0) (name_of bytes (suc k))) first_no
   not_again k within mine (suc j) below = ⊎_elim
-      (λ (is : is_definition bytes (suc j) ≡ true).
+      (λ (is : is_definition_at bytes (suc j) ≡ true).
       let earlier : j < length object.symbols = omega arith in
       let theirs : whole_specs.is_definition (of j) ≡ true = sym (definition_is j earlier) ∙ is in
       let apart = whole.apart j k (omega arith) within theirs mine in
@@ -141,19 +141,19 @@ module _ (object : Object) (bytes : List ℕ) (are : AreSections object bytes) (
       = ap (λ (xs : List ℕ). bytes_eq xs (name_of bytes (suc k))) (name_is j earlier)
       ∙ ap (λ (xs : List ℕ). bytes_eq (of j).name xs) (name_is k within) in
       rw is (names ∙ different (of j).name (of k).name apart))
-      (λ (not_one : is_definition bytes (suc j) ≡ false). rw not_one refl)
-      (cases_Bool (is_definition bytes (suc j)))
+      (λ (not_one : is_definition_at bytes (suc j) ≡ false). rw not_one refl)
+      (cases_Bool (is_definition_at bytes (suc j)))
 
   second : (k : ℕ) → k < length object.symbols → is_second_definition bytes (suc k) ≡ false
   unfolding is_second_definition defines
   second k within = ⊎_elim
-      (λ (is : is_definition bytes (suc k) ≡ true).
+      (λ (is : is_definition_at bytes (suc k) ≡ true).
       let mine : whole_specs.is_definition (of k) ≡ true = sym (definition_is k within) ∙ is in
       let none : some_below (defines bytes (name_of bytes (suc k))) (suc k) ≡ false =
       none_below (defines bytes (name_of bytes (suc k))) (suc k) (λ j below. not_again k within mine j below) in
       rw is none)
-      (λ (not_one : is_definition bytes (suc k) ≡ false). rw not_one refl)
-      (cases_Bool (is_definition bytes (suc k)))
+      (λ (not_one : is_definition_at bytes (suc k) ≡ false). rw not_one refl)
+      (cases_Bool (is_definition_at bytes (suc k)))
 
   pub good_symbol : (k : ℕ) → k < length object.symbols → is_bad_symbol bytes (suc k) ≡ false
   unfolding is_bad_symbol
@@ -168,9 +168,9 @@ module _ (object : Object) (bytes : List ℕ) (are : AreSections object bytes) (
   ) (second k within)
 
   first_well : is_well_named bytes 0 ≡ true
-  unfolding names_of
+  unfolding name_table
   first_well =
-      let names = names_of object.symbols in
+      let names = name_table object.symbols in
       let there : drop (symbol_at bytes 0).name (symbol_names bytes) ≡ names
       = ap (λ (e : Entry). drop e.name (symbol_names bytes)) (symbol_zero object bytes are)
       ∙ symbol_names_are object bytes are in

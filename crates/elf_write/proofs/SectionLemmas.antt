@@ -12,8 +12,8 @@ use Rattle.elf_read.specs.declared.section.Section.{Section}
 use Rattle.elf_read.specs.declared.object.Object.{Object}
 use Rattle.elf_write.specs.declared.part.Part.{Part}
 use Rattle.elf_write.specs.declared.part.Part.TheVariants.{Null, SectionNames}
-use Rattle.elf_write.specs.Part.{parts_of, name_of, kind_of, flags_of, alignment_of}
-use Rattle.elf_write.specs.File.{sections_of, contents_of, padding, padded, body_of, link_of, info_of_part, name_place, place_of, table_place, header_of, bytes_of, IsWritable}
+use Rattle.elf_write.specs.Part.{parts_of, section_name, kind_of, flags_of, alignment_of}
+use Rattle.elf_write.specs.File.{sections_of, contents_of, padding, padded, body_of, link_of, info_of_part, name_place, section_place, table_place, header_of, bytes_of, IsWritable}
 use Rattle.elf_write.proofs.SizeLemmas.{length-joined, part-within, parts_count, padded-above, name-short}
 use Rattle.elf_write.proofs.LimitLemmas.{pieces-short, length-header}
 use Rattle.elf_write.proofs.TableLemmas.{u32_in, drop-flat_map}
@@ -27,7 +27,7 @@ written_section object k =
       name = name_place object k;
       kind = kind_of part;
       flags = flags_of part;
-      offset = place_of object k;
+      offset = section_place object k;
       size = length (contents_of object part);
       link = link_of object part;
       info = info_of_part object part;
@@ -36,13 +36,13 @@ written_section object k =
 
 name_place-small : (object : Object) (k : ℕ) → k < length (sections_of object) → name_place object k < 2 ^ 32
 name_place-small object k within =
-    let all = length-flat_map-take name_of (sections_of object) k Null within in
-    let names = pieces-short name_of 13 (sections_of object) name-short in
+    let all = length-flat_map-take section_name (sections_of object) k Null within in
+    let names = pieces-short section_name 13 (sections_of object) name-short in
     omega (arith, all, names, few_sections object)
 
 place-small : (object : Object) (k : ℕ) → IsWritable object → k < length (sections_of object)
-    → place_of object k < 2 ^ 32
-unfolding place_of
+    → section_place object k < 2 ^ 32
+unfolding section_place
 place-small object zero writable within = omega arith
 place-small object (suc k) writable within =
     let some : (suc k == 0) ≡ false = ne_eqb _ _ (λ none. absurd (omega arith)) in
@@ -59,7 +59,7 @@ section_is object k writable within =
     let there : drop at bytes ≡ entry = ap (λ n. drop (n + 40 * k) bytes) (has_header object writable).table
     ∙ at_header object k within in
     let size = part-within object k writable within in
-    let fields = fields_read object (part_of object k) (name_place object k) (place_of object k) rest writable
+    let fields = fields_read object (part_of object k) (name_place object k) (section_place object k) rest writable
     (name_place-small object k within) (place-small object k writable within) (omega (arith, size)) in
     let first : u32_at bytes at ≡ u32_at bytes (at + 0) = ap (λ n. u32_at bytes n) (omega arith) in
     let name = first ∙ u32_in bytes entry at 0 there ∙ fields.name_at in
@@ -84,9 +84,9 @@ section_is object k writable within =
 
 -- where the contents of a section stand
 held : (object : Object) (k : ℕ) → k < length (sections_of object)
-    → take (length (contents_of object (part_of object k))) (drop (place_of object k) (bytes_of object)) ≡ contents_of
+    → take (length (contents_of object (part_of object k))) (drop (section_place object k) (bytes_of object)) ≡ contents_of
     object (part_of object k)
-unfolding place_of padded
+unfolding section_place padded
 held object zero within = refl
 held object (suc k) within =
     let sections = sections_of object in
@@ -96,10 +96,10 @@ held object (suc k) within =
     let pieces = λ (part : Part). padded (contents_of object part) in
     let more = flat_map pieces (drop (suc (suc k)) sections) in
     let some : (suc k == 0) ≡ false = ne_eqb _ _ (λ none. absurd (omega arith)) in
-    let place : place_of object (suc k) ≡ length (front_of object) + before =
+    let place : section_place object (suc k) ≡ length (front_of object) + before =
     rw some (omega (arith, length-front object)) in
     let within_body = length-flat_map-take pieces sections (suc k) Null within in
-    let start : drop (place_of object (suc k)) (bytes_of object) ≡ drop before (body ++ headers_of object)
+    let start : drop (section_place object (suc k)) (bytes_of object) ≡ drop before (body ++ headers_of object)
     = ap (λ n. drop n (bytes_of object)) place
     ∙ ap (λ (xs : List ℕ). drop (length (front_of object) + before) xs) (file_is object)
     ∙ drop-append-add (front_of object) (body ++ headers_of object) before in
@@ -108,7 +108,7 @@ held object (suc k) within =
     let piece : drop before body ≡ pieces (get_or sections (suc k) Null) ++ more =
     drop-flat_map pieces sections (suc k) Null within in
     let padding_there = padding (length held_there) in
-    let whole : drop (place_of object (suc k)) (bytes_of object) ≡ held_there ++ (padding_there ++ (more
+    let whole : drop (section_place object (suc k)) (bytes_of object) ≡ held_there ++ (padding_there ++ (more
     ++ headers_of object))
     = start ∙ cut ∙ ap (λ (xs : List ℕ). xs ++ headers_of object) piece
     ∙ append_assoc (held_there ++ padding_there) more (headers_of object)
@@ -125,15 +125,15 @@ contents_are object k writable within =
 
 -- its contents are within the file
 pub contents-within : (object : Object) (k : ℕ) → IsWritable object → k < length (sections_of object)
-    → place_of object k + length (contents_of object (part_of object k)) ≤ length (bytes_of object)
-unfolding place_of
+    → section_place object k + length (contents_of object (part_of object k)) ≤ length (bytes_of object)
+unfolding section_place
 contents-within object zero writable within = omega arith
 contents-within object (suc k) writable within =
     let sections = sections_of object in
     let body = body_of object sections in
     let held_there = contents_of object (get_or sections (suc k) Null) in
     let some : (suc k == 0) ≡ false = ne_eqb _ _ (λ none. absurd (omega arith)) in
-    let place : place_of object (suc k) ≡ 52 + length (body_of object (take (suc k) sections)) = rw some refl in
+    let place : section_place object (suc k) ≡ 52 + length (body_of object (take (suc k) sections)) = rw some refl in
     let within_body = length-flat_map-take
     (λ (part : Part). padded (contents_of object part)) sections (suc k) Null within in
     let all : length (bytes_of object) ≡ length (front_of object ++ (body ++ headers_of object)) =
@@ -151,7 +151,7 @@ last_at false true = refl
 last_at false false = refl
 
 pub names_are : (object : Object) → IsWritable object
-    → section_names (bytes_of object) ≡ flat_map name_of (sections_of object)
+    → section_names (bytes_of object) ≡ flat_map section_name (sections_of object)
 names_are object writable =
     let header = has_header object writable in
     let count = parts_count (is_some object.types) (is_some object.records) in
@@ -165,8 +165,8 @@ pub record AreSections (object : Object) (bytes : List ℕ) : Type 0 where
   pub each : (k : ℕ) → k < length (sections_of object) → section_at bytes k ≡ written_section object k
   pub held : (k : ℕ) → k < length (sections_of object) → contents bytes k ≡ contents_of object (part_of object k)
   pub inside : (k : ℕ) → k < length (sections_of object)
-      → place_of object k + length (contents_of object (part_of object k)) ≤ length bytes
-  pub names : section_names bytes ≡ flat_map name_of (sections_of object)
+      → section_place object k + length (contents_of object (part_of object k)) ≤ length bytes
+  pub names : section_names bytes ≡ flat_map section_name (sections_of object)
   pub room : table_place object + 40 * length (sections_of object) ≤ length bytes
 
 table-within : (object : Object) → table_place object + 40 * length (sections_of object) ≤ length (bytes_of object)

@@ -9,9 +9,9 @@ use Rattle.elf_read.specs.declared.object.Object.{Object}
 use Rattle.elf_read.specs.declared.object.Symbol.{Symbol}
 use Rattle.elf_write.specs.declared.part.Part.{Part}
 use Rattle.elf_write.specs.declared.part.Part.TheVariants.{Null, Text, Data, Types, Records, TextRelas, DataRelas, Symbols, SymbolNames, SectionNames}
-use Rattle.elf_write.specs.Part.{parts_of, name_of}
-use Rattle.elf_write.specs.Contents.{names_of, null_entry, symbol_entry, entry_of, symbol_table}
-use Rattle.elf_write.specs.File.{sections_of, contents_of, padding, padded, body_of, symbols_number, names_number, name_place, table_place, header_of, part_header, place_of, file_header, bytes_of, IsWritable}
+use Rattle.elf_write.specs.Part.{parts_of, section_name}
+use Rattle.elf_write.specs.Contents.{name_table, null_entry, symbol_entry, entry_of, symbol_table}
+use Rattle.elf_write.specs.File.{sections_of, contents_of, padding, padded, body_of, symbols_number, names_number, name_place, table_place, header_of, part_header, section_place, file_header, bytes_of, IsWritable}
 
 -- what entries of one size give together
 pub length-joined : (give : ℕ → List ℕ) (size count : ℕ) → ((k : ℕ) → length (give k) ≡ size)
@@ -102,19 +102,19 @@ symbols-fit object writable =
     = ap (λ (p : Part). length (contents_of object p)) (symbols_at types records) in
     omega (arith, part, is, length-symbol_table object.symbols)
 
-pub names-fit : (object : Object) → IsWritable object → length (names_of object.symbols) < 2 ^ 32
+pub names-fit : (object : Object) → IsWritable object → length (name_table object.symbols) < 2 ^ 32
 names-fit object writable =
     let types = is_some object.types in
     let records = is_some object.records in
     let count = parts_count types records in
     let part = part-within object (names_number object) writable (omega (arith, count)) in
-    let is : length (contents_of object (get_or (sections_of object) (names_number object) Null)) ≡ length (names_of
+    let is : length (contents_of object (get_or (sections_of object) (names_number object) Null)) ≡ length (name_table
     object.symbols)
     = ap (λ (p : Part). length (contents_of object p)) (names_at types records) in
     omega (arith, part, is)
 
 -- no name of a section is longer than 13
-pub name-short : (part : Part) → length (name_of part) ≤ 13
+pub name-short : (part : Part) → length (section_name part) ≤ 13
 name-short Null = omega arith
 name-short Text = omega arith
 name-short Data = omega arith
@@ -129,14 +129,14 @@ name-short SectionNames = omega arith
 -- where the name of the next section begins
 pub next_name : (object : Object) (k : ℕ) (part : Part) → k < length (sections_of object)
     → get_or (sections_of object) k Null ≡ part
-    → name_place object (k + 1) ≡ name_place object k + length (name_of part)
+    → name_place object (k + 1) ≡ name_place object k + length (section_name part)
 next_name object k part within is =
     let sections = sections_of object in
     let more : take (k + 1) sections ≡ take k sections ++ part ∷ [] = take_more sections k Null within
     ∙ ap (λ p. take k sections ++ p ∷ []) is in
-    let split = flat_map-append name_of (take k sections) (part ∷ []) in
-    let sum = length-append (flat_map name_of (take k sections)) (name_of part ++ []) in
-    let last = length-append (name_of part) [] in
+    let split = flat_map-append section_name (take k sections) (part ∷ []) in
+    let sum = length-append (flat_map section_name (take k sections)) (section_name part ++ []) in
+    let last = length-append (section_name part) [] in
     rw (more, split) (omega (arith, sum, last))
 
 -- so the numbers of a section fit
@@ -153,11 +153,11 @@ pub header_is : (object : Object) (sections : List Part) (k len name place : ℕ
     → sections ≡ sections_of object → body ≡ body_of object (take k sections)
     → len ≡ length body → name ≡ name_place object k → place ≡ cond (k == 0) 0 (52 + len)
     → part_header object (get_or sections k Null) name place ≡ header_of object k
-unfolding place_of
+unfolding section_place
 header_is object sections k len name place body is before size named placed =
     let contents : len ≡ length (body_of object (take k (sections_of object))) = size ∙ ap (length {A = ℕ}) before
     ∙ ap (λ (s : List Part). length (body_of object (take k s))) is in
-    let there : place ≡ place_of object k = placed ∙ ap (λ n. cond (k == 0) 0 (52 + n)) contents in
+    let there : place ≡ section_place object k = placed ∙ ap (λ n. cond (k == 0) 0 (52 + n)) contents in
     ap (λ (s : List Part). part_header object (get_or s k Null) name place) is
     ∙ ap (λ n. part_header object (get_or (sections_of object) k Null) n place) named
     ∙ ap (λ p. part_header object (get_or (sections_of object) k Null) (name_place object k) p) there

@@ -11,7 +11,7 @@ use Rattle.elf_read.specs.Fault.{HasNames, HasSections, HasSymbols, HasPlaces, I
 use Rattle.elf_read.specs.declared.section.Section.{Section}
 use Rattle.elf_read.specs.declared.object.Object.{Object}
 use Rattle.elf_read.specs.declared.object.Area.TheVariants as areas
-use Rattle.elf_write.specs.File.{sections_of, extra_of, place_of, bytes_of, IsWritable}
+use Rattle.elf_write.specs.File.{sections_of, extra_of, section_place, bytes_of, IsWritable}
 use Rattle.elf_write.specs.Whole.{IsWhole}
 use Rattle.elf_write.proofs.LimitLemmas.{writable}
 use Rattle.elf_write.proofs.HeaderLemmas.{few_sections}
@@ -48,7 +48,7 @@ module _ (object : Object) (bytes : List ℕ) (are : AreSections object bytes) (
       let some = enough object bytes are in
       let number = names_number bytes in
       let last : number < length (sections_of object) = omega (arith, are.header.names, some) in
-      let place : (section_at bytes number).offset ≡ place_of object number =
+      let place : (section_at bytes number).offset ≡ section_place object number =
       ap (λ (s : Section). s.offset) (are.each number last) in
       let size = ap (λ (s : Section). s.size) (are.each number last) in
       record {

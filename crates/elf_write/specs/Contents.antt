@@ -16,12 +16,12 @@ use Rattle.elf_read.specs.declared.object.Area.TheVariants as areas
 use Rattle.elf_write.specs.Words.{words, halves}
 
 -- a name in a table of names: its bytes and a zero byte; the empty name takes none
-abbrev pub ended : List ℕ → List ℕ
-ended name = if length name == 0 then [] else name ++ 0 ∷ []
+abbrev pub zero_ended : List ℕ → List ℕ
+zero_ended name = if length name == 0 then [] else name ++ 0 ∷ []
 
 -- the table of the names of these symbols: a zero byte, and the names in the order of the symbols
-unfoldable pub names_of : List Symbol → List ℕ
-names_of symbols = 0 ∷ flat_map (λ symbol. ended symbol.name) symbols
+unfoldable pub name_table : List Symbol → List ℕ
+name_table symbols = 0 ∷ flat_map (λ symbol. zero_ended symbol.name) symbols
 
 -- the number of a binding
 abbrev pub binding_number : Binding → ℕ
@@ -49,7 +49,7 @@ no_symbol = record { name = []; binding = bindings.Local; place = places.Undefin
 -- where the name of symbol k begins, which is after the names of those before it; the empty name is at 0
 unfoldable pub symbol_name_place : List Symbol → (k : ℕ) → ℕ
 symbol_name_place symbols k =
-    if length (get_or symbols k no_symbol).name == 0 then 0 else length (names_of (take k symbols))
+    if length (get_or symbols k no_symbol).name == 0 then 0 else length (name_table (take k symbols))
 
 -- the entry of symbol k of an object
 abbrev pub entry_of : List Symbol → (k : ℕ) → List ℕ
@@ -64,8 +64,8 @@ unfoldable pub symbol_table : List Symbol → List ℕ
 symbol_table symbols = null_entry ++ joined (entry_of symbols) (length symbols)
 
 -- its object alone sees it
-abbrev pub is_local : Symbol → Bool
-is_local symbol = binding_number symbol.binding == LOCAL
+abbrev pub is_local_symbol : Symbol → Bool
+is_local_symbol symbol = binding_number symbol.binding == LOCAL
 
 -- the number of a relocation's symbol in the table
 abbrev pub symbol_number : Option ℕ → ℕ
@@ -81,18 +81,18 @@ unfoldable pub rela_entry : Reloc → List ℕ
 rela_entry reloc = words (reloc.offset ∷ info_of reloc ∷ cast_unsigned w32 reloc.addend ∷ [])
 
 -- the two areas
-abbrev pub is_text : Area → Bool
-is_text areas.Text = true
-is_text areas.Data = false
+abbrev pub is_text_area : Area → Bool
+is_text_area areas.Text = true
+is_text_area areas.Data = false
 
-abbrev pub is_data : Area → Bool
-is_data areas.Text = false
-is_data areas.Data = true
+abbrev pub is_data_area : Area → Bool
+is_data_area areas.Text = false
+is_data_area areas.Data = true
 
 -- it is of this area
 abbrev pub is_in : Area → Reloc → Bool
-is_in areas.Text reloc = is_text reloc.area
-is_in areas.Data reloc = is_data reloc.area
+is_in areas.Text reloc = is_text_area reloc.area
+is_in areas.Data reloc = is_data_area reloc.area
 
 -- the relocations of an area, in their order
 unfoldable pub relas_of : Area → List Reloc → List ℕ

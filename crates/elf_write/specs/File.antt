@@ -6,8 +6,8 @@ use Rattle.elf_read.specs.declared.header.TheConstants.{HEADER_SIZE, ENTRY_SIZE,
 use Rattle.elf_read.specs.declared.object.Object.{Object}
 use Rattle.elf_read.specs.declared.object.Area.TheVariants as areas
 use Rattle.elf_write.specs.Words.{words, halves}
-use Rattle.elf_write.specs.Part.{parts_of, name_of, kind_of, flags_of, alignment_of, entry_size_of}
-use Rattle.elf_write.specs.Contents.{names_of, symbol_table, is_local, relas_of, info_of}
+use Rattle.elf_write.specs.Part.{parts_of, section_name, kind_of, flags_of, alignment_of, entry_size_of}
+use Rattle.elf_write.specs.Contents.{name_table, symbol_table, is_local_symbol, relas_of, info_of}
 use Rattle.elf_write.specs.declared.part.Part.{Part}
 use Rattle.elf_write.specs.declared.part.Part.TheVariants.{Null, Text, Data, Types, Records, TextRelas, DataRelas, Symbols, SymbolNames, SectionNames}
 
@@ -30,8 +30,8 @@ contents_of object Records = bytes_or_none object.records
 contents_of object TextRelas = relas_of areas.Text object.relocs
 contents_of object DataRelas = relas_of areas.Data object.relocs
 contents_of object Symbols = symbol_table object.symbols
-contents_of object SymbolNames = names_of object.symbols
-contents_of object SectionNames = flat_map name_of (sections_of object)
+contents_of object SymbolNames = name_table object.symbols
+contents_of object SectionNames = flat_map section_name (sections_of object)
 
 -- the zeros after so many bytes, up to the next multiple of 4
 unfoldable pub padding : (size : ℕ) → List ℕ
@@ -66,15 +66,15 @@ link_of object _ = 0
 abbrev pub info_of_part : Object → Part → ℕ
 info_of_part object TextRelas = 1
 info_of_part object DataRelas = 2
-info_of_part object Symbols = 1 + count_by is_local object.symbols
+info_of_part object Symbols = 1 + count_by is_local_symbol object.symbols
 info_of_part object _ = 0
 
 -- where the name of section k begins, and where its contents do; section 0 has none
 abbrev pub name_place : Object → (k : ℕ) → ℕ
-name_place object k = length (flat_map name_of (take k (sections_of object)))
+name_place object k = length (flat_map section_name (take k (sections_of object)))
 
-unfoldable pub place_of : Object → (k : ℕ) → ℕ
-place_of object k = if k == 0 then 0 else HEADER_SIZE + length (body_of object (take k (sections_of object)))
+unfoldable pub section_place : Object → (k : ℕ) → ℕ
+section_place object k = if k == 0 then 0 else HEADER_SIZE + length (body_of object (take k (sections_of object)))
 
 -- the header of a section whose name and contents begin at these places
 unfoldable pub part_header : Object → Part → (name place : ℕ) → List ℕ
@@ -84,7 +84,7 @@ part_header object part name place =
 
 -- the header of section k
 abbrev pub header_of : Object → (k : ℕ) → List ℕ
-header_of object k = part_header object (get_or (sections_of object) k Null) (name_place object k) (place_of object k)
+header_of object k = part_header object (get_or (sections_of object) k Null) (name_place object k) (section_place object k)
 
 -- the header of the file, where the section headers begin at `table` and are `count`
 unfoldable pub file_header : (table count : ℕ) → List ℕ

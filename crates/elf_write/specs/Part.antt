@@ -20,17 +20,17 @@ parts_of types records =
     ++ (TextRelas ∷ DataRelas ∷ Symbols ∷ SymbolNames ∷ SectionNames ∷ [])
 
 -- the name of each section
-abbrev pub name_of : Part → List ℕ
-name_of Null = 0 ∷ []
-name_of Text = TEXT.now
-name_of Data = DATA.now
-name_of Types = CFI_TYPES.now
-name_of Records = CFI_RECORDS.now
-name_of TextRelas = TEXT_RELAS.now
-name_of DataRelas = DATA_RELAS.now
-name_of Symbols = SYMBOLS.now
-name_of SymbolNames = SYMBOL_NAMES.now
-name_of SectionNames = SECTION_NAMES.now
+abbrev pub section_name : Part → List ℕ
+section_name Null = 0 ∷ []
+section_name Text = TEXT.now
+section_name Data = DATA.now
+section_name Types = CFI_TYPES.now
+section_name Records = CFI_RECORDS.now
+section_name TextRelas = TEXT_RELAS.now
+section_name DataRelas = DATA_RELAS.now
+section_name Symbols = SYMBOLS.now
+section_name SymbolNames = SYMBOL_NAMES.now
+section_name SectionNames = SECTION_NAMES.now
 
 -- its type
 abbrev pub kind_of : Part → ℕ

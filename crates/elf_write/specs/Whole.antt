@@ -13,18 +13,9 @@ use Rattle.elf_read.specs.declared.object.Place.{Place}
 use Rattle.elf_read.specs.declared.object.Place.TheVariants as places
 use Rattle.elf_read.specs.declared.object.Area.{Area}
 use Rattle.elf_read.specs.declared.object.Area.TheVariants as areas
+use Rattle.elf_read.specs.Sound.{is_exported, is_defined}
 use Rattle.elf_write.specs.Contents.{no_symbol, symbol_number, is_in}
 use Rattle.elf_write.specs.Limits.{IsWithinLimits}
-
--- other objects see it
-abbrev pub is_exported : Binding → Bool
-is_exported bindings.Local = false
-is_exported _ = true
-
--- its object defines it
-abbrev pub is_defined : Place → Bool
-is_defined places.Undefined = false
-is_defined _ = true
 
 -- it defines its global or weak name
 abbrev pub is_definition : Symbol → Bool
@@ -54,8 +45,8 @@ pub record IsGoodSymbol (object : Object) (symbol : Symbol) : Type 0 where
   pub value : symbol.value ≤ greatest_value object symbol.place
 
 -- no two symbols define one name
-abbrev pub AreApart : List Symbol → Type 0
-AreApart symbols = (i j : ℕ) → i < j → j < length symbols
+abbrev pub DefineOnce : List Symbol → Type 0
+DefineOnce symbols = (i j : ℕ) → i < j → j < length symbols
     → is_definition (get_or symbols i no_symbol) ≡ true → is_definition (get_or symbols j no_symbol) ≡ true
     → (get_or symbols i no_symbol).name ≢ (get_or symbols j no_symbol).name
 
@@ -85,6 +76,6 @@ pub record IsWhole (object : Object) : Type 0 where
   pub limits : IsWithinLimits object
   pub words : length object.text % 4 ≡ 0
   pub symbols : All (IsGoodSymbol object) object.symbols
-  pub apart : AreApart object.symbols
+  pub apart : DefineOnce object.symbols
   pub relocs : All (IsGoodReloc object) object.relocs
   pub order : object.relocs ≡ filter (is_in areas.Text) object.relocs ++ filter (is_in areas.Data) object.relocs

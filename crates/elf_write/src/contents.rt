@@ -1,5 +1,5 @@
 ghost use Rattle.std.specs.Prelude.{◌≡◌, ◌+◌, ◌<◌, ◌^◌, ◌++◌, ◌==◌, if◌then◌else◌, length, count_by, OnOk, All};
-ghost use Rattle.elf_write.specs.Contents.{ended, names_of, binding_number, section_number, symbol_entry, null_entry, symbol_table, is_local, info_of, rela_entry, is_in, relas_of};
+ghost use Rattle.elf_write.specs.Contents.{zero_ended, name_table, binding_number, section_number, symbol_entry, null_entry, symbol_table, is_local_symbol, info_of, rela_entry, is_in, relas_of};
 
 use crate::word::{put_halves, put_words};
 use elf_read::{
@@ -9,7 +9,7 @@ use std::alloc::AllocError;
 
 /// Adds a name to a table of names: its bytes and a zero byte, nothing for the empty name.
 fn put_name(out: &mut Vec<u8>, name: &[u8]) -> Result<(), AllocError>
-    ensures { OnOk result (out.new.items ≡ out.old.items ++ ended name.now) }
+    ensures { OnOk result (out.new.items ≡ out.old.items ++ zero_ended name.now) }
 {
     if name.is_empty() {
         return Ok(());
@@ -20,9 +20,9 @@ fn put_name(out: &mut Vec<u8>, name: &[u8]) -> Result<(), AllocError>
 }
 
 /// Adds the table of the names of the symbols.
-#[tactic(auto, unfolding(crate::specs::Contents::names_of))]
+#[tactic(auto, unfolding(crate::specs::Contents::name_table))]
 pub fn put_names(out: &mut Vec<u8>, symbols: &[Symbol]) -> Result<(), AllocError>
-    ensures { OnOk result (out.new.items ≡ out.old.items ++ names_of symbols.now) }
+    ensures { OnOk result (out.new.items ≡ out.old.items ++ name_table symbols.now) }
 {
     out.push(0)?;
     for symbol in symbols {
@@ -76,7 +76,7 @@ fn put_null_entry(out: &mut Vec<u8>) -> Result<(), AllocError>
 /// How many bytes the name of a symbol has in a table of names.
 fn ended_len(symbol: &Symbol) -> usize
     requires small { length symbol.now.name < 2 ^ 32 }
-    ensures { result ≡ length (ended symbol.now.name) }
+    ensures { result ≡ length (zero_ended symbol.now.name) }
 {
     let len = symbol.name.as_str().len();
     if len == 0 { 0 } else { len + 1 }
@@ -96,7 +96,7 @@ fn place_after(symbol: &Symbol, names: u32) -> u32
 /// Adds the symbol table.
 #[tactic(auto, unfolding(crate::specs::Contents::symbol_table))]
 pub fn put_symbols(out: &mut Vec<u8>, symbols: &[Symbol]) -> Result<(), AllocError>
-    requires names { length (names_of symbols.now) < 2 ^ 32 }
+    requires names { length (name_table symbols.now) < 2 ^ 32 }
     ensures { OnOk result (out.new.items ≡ out.old.items ++ symbol_table symbols.now) }
 {
     put_null_entry(out)?;
@@ -110,7 +110,7 @@ pub fn put_symbols(out: &mut Vec<u8>, symbols: &[Symbol]) -> Result<(), AllocErr
 
 /// How many symbols are local.
 pub fn local_count(symbols: &[Symbol]) -> usize
-    ensures { result ≡ count_by is_local symbols.now }
+    ensures { result ≡ count_by is_local_symbol symbols.now }
 {
     symbols
         .iter()

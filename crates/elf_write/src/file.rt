@@ -2,12 +2,12 @@ ghost use Rattle.std.specs.Prelude.{◌≡◌, ◌+◌, ◌<◌, ◌^◌, ◌++�
 ghost use Rattle.std.specs.List.{flat_map};
 ghost use Rattle.elf_read.specs.Places.{joined};
 ghost use Rattle.elf_write.specs.declared.part.Part.TheVariants.{Null};
-ghost use Rattle.elf_write.specs.Part.{name_of};
-ghost use Rattle.elf_write.specs.Contents.{names_of, info_of};
+ghost use Rattle.elf_write.specs.Part.{section_name};
+ghost use Rattle.elf_write.specs.Contents.{name_table, info_of};
 ghost use Rattle.elf_write.specs.File.{sections_of, bytes_or_none, contents_of, padding, padded, body_of, link_of, info_of_part, name_place, part_header, header_of, file_header, IsWritable, bytes_of};
 
 use crate::contents::{local_count, put_names, put_relas, put_symbols};
-use crate::part::{Part, alignment_of, entry_size_of, flags_of, kind_of, name_of, parts_of};
+use crate::part::{Part, alignment_of, entry_size_of, flags_of, kind_of, section_name, parts_of};
 use crate::word::{put_halves, put_words};
 use elf_read::{Area, ENTRY_SIZE, HEADER_SIZE, IDENT, MACHINE, Object, RELOCATABLE};
 use cfi_values::Bytes;
@@ -15,10 +15,10 @@ use std::alloc::{AllocError, Global};
 
 /// Adds the names of sections.
 fn put_section_names(out: &mut Vec<u8>, parts: &[Part]) -> Result<(), AllocError>
-    ensures { OnOk result (out.new.items ≡ out.old.items ++ flat_map name_of parts.now) }
+    ensures { OnOk result (out.new.items ≡ out.old.items ++ flat_map section_name parts.now) }
 {
     for part in parts {
-        out.extend_from_slice(name_of(*part))?;
+        out.extend_from_slice(section_name(*part))?;
     }
     Ok(())
 }
@@ -41,7 +41,7 @@ fn put_contents(
     part: Part,
 ) -> Result<(), AllocError>
     requires parts { parts.now ≡ sections_of object.now }
-    requires names { length (names_of object.now.symbols) < 2 ^ 32 }
+    requires names { length (name_table object.now.symbols) < 2 ^ 32 }
     requires infos { All (λ reloc. info_of reloc < 2 ^ 32) object.now.relocs }
     ensures { OnOk result (out.new.items ≡ out.old.items ++ contents_of object.now part) }
 {
@@ -77,7 +77,7 @@ fn put_padded(
     part: Part,
 ) -> Result<usize, AllocError>
     requires parts { parts.now ≡ sections_of object.now }
-    requires names { length (names_of object.now.symbols) < 2 ^ 32 }
+    requires names { length (name_table object.now.symbols) < 2 ^ 32 }
     requires infos { All (λ reloc. info_of reloc < 2 ^ 32) object.now.relocs }
     ensures bytes { OnOk result
         (out.new.items ≡ out.old.items ++ padded (contents_of object.now part)) }
@@ -211,7 +211,7 @@ fn put_parts(
     let mut name = 0;
     for (k, part) in parts.iter().enumerate() {
         put_part(&mut body, &mut headers, object, parts, k, name)?;
-        name += name_of(*part).len() as u32;
+        name += section_name(*part).len() as u32;
     }
     Ok((body, headers))
 }

@@ -1,5 +1,5 @@
 ghost use Rattle.std.specs.Prelude.{◌≡◌, IfOk};
-ghost use Rattle.elf_write.specs.Part.{parts_of, name_of, kind_of, flags_of, alignment_of, entry_size_of};
+ghost use Rattle.elf_write.specs.Part.{parts_of, section_name, kind_of, flags_of, alignment_of, entry_size_of};
 
 use cfi_word::map::DATA_ALIGNMENT;
 use elf_read::relocation::RELA_SIZE;
@@ -69,8 +69,8 @@ pub fn parts_of(alloc: Global, types: bool, records: bool) -> Result<Vec<Part>, 
 }
 
 /// The name of a section, with its end.
-pub fn name_of(part: Part) -> &'static [u8]
-    ensures { result.now ≡ name_of part }
+pub fn section_name(part: Part) -> &'static [u8]
+    ensures { result.now ≡ section_name part }
 {
     match part {
         Part::Null => &[0],

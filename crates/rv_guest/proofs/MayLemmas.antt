@@ -5,7 +5,7 @@ use Rattle.cfi_word.specs.declared.limits.TheConstants.{MAX_POLICY}
 use Rattle.cfi_model.specs.declared.act.Wait.{Wait}
 use Rattle.cfi_model.specs.declared.act.Wait.TheVariants as waits
 use Rattle.cfi_word.specs.declared.services.TheConstants.{OPEN}
-use Rattle.cfi_model.specs.Data.{IsInside}
+use Rattle.cfi_model.specs.Data.{LiesInData}
 use Rattle.cfi_model.specs.Service.{Reply, reply_of}
 use Rattle.cfi_model.specs.Raw.{Raw, raw_opened}
 use Rattle.rv_guest.specs.Guest.{MayAnswer, MayLoad}
@@ -21,7 +21,7 @@ asking = record (raw_opened 0 0 []) { waits = Some (waits.Service OPEN) }
 pub may_answer : (policy : ℕ) → policy ≤ MAX_POLICY → MayAnswer (reply policy) asking
 may_answer policy most = record {
   waiting = refl;
-  inside = All-nil IsInside;
+  inside = All-nil LiesInData;
   few = λ apart. omega arith;
   rises = omega arith;
   most = most;

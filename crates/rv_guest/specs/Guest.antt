@@ -8,7 +8,7 @@ use Rattle.cfi_model.specs.declared.act.Wait.{Wait}
 use Rattle.cfi_model.specs.declared.act.Wait.TheVariants as waits
 use Rattle.cfi_word.specs.declared.limits.TheConstants.{MAX_POLICY, MAX_OPENS}
 use Rattle.cfi_word.specs.declared.services.TheConstants as services
-use Rattle.cfi_model.specs.Data.{IsInside}
+use Rattle.cfi_model.specs.Data.{LiesInData}
 use Rattle.cfi_model.specs.Log.{last_policy, last_picks, opens}
 use Rattle.cfi_model.specs.Service.{Reply}
 use Rattle.cfi_model.specs.Raw.{Raw}
@@ -49,7 +49,7 @@ MayLoad (Some (waits.Service number)) log word = ⊤
 -- the answer may come
 pub record MayAnswer (reply : Reply) (r : Raw) : Type 0 where
   pub waiting : r.waits ≡ Some (waits.Service services.OPEN)
-  pub inside : All IsInside reply.fills
+  pub inside : All LiesInData reply.fills
   pub few : reply.cause ≢ services.TOO_MANY → opens r.base.log < MAX_OPENS
   pub rises : last_policy r.base.log ≤ reply.policy
   pub most : reply.policy ≤ MAX_POLICY

@@ -1,6 +1,6 @@
 ghost use Rattle.std.specs.Prelude.{◌≡◌, ◌+◌, ◌<◌, ◌^◌, IfOk};
 ghost use Rattle.std.specs.List.{All};
-ghost use Rattle.cfi_model.specs.Data.{IsInside};
+ghost use Rattle.cfi_model.specs.Data.{LiesInData};
 ghost use Rattle.cfi_model.specs.Raw.{Raw, raw_opened};
 ghost use Rattle.cfi_model.specs.Begin.{begin_of, act_of};
 
@@ -72,7 +72,7 @@ impl Guest {
     ///
     /// x2 is past the end of private data, and x10 the number. Room for the output and the log is reserved.
     pub fn open(alloc: Global, number: u32, entry: u32, fills: &[Fill]) -> Result<Guest, AllocError>
-        requires { All IsInside fills.now }
+        requires { All LiesInData fills.now }
         ensures { IfOk result (λ g. g ≡ raw_opened number entry fills.now) }
     {
         let mut memory = PrivateData::new(alloc)?;

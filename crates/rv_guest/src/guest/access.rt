@@ -4,7 +4,7 @@ ghost use Rattle.std.specs.Prelude.{◌≡◌, ◌+◌, ◌<◌, ◌^◌, false}
 ghost use Rattle.rv_insn.specs.declared.opcode.TheConstants as opcodes;
 ghost use Rattle.rv_insn.specs.InsnOf.{row_of};
 ghost use Rattle.cfi_model.specs.Begin.{begin_by, act_by, load_at, load_act, store_at, store_act, area_of, units_of};
-ghost use Rattle.cfi_model.specs.Begin.{load_private, Private, TaryId, store_private, stopped, is_within};
+ghost use Rattle.cfi_model.specs.Begin.{load_private, Private, TaryId, store_private, stopped, is_in_range};
 ghost use Rattle.cfi_model.specs.Run.{finish_of};
 ghost use Rattle.cfi_word.specs.declared.map.TheConstants.{DATA_START, DATA_BYTES, TARY, CODE_BYTES};
 ghost use Rattle.rv_guest.specs.Guest.{MayLoad};
@@ -74,7 +74,7 @@ impl Guest {
     fn load_table(&mut self, rd: u32, address: u32, reserved: bool) -> Act
         requires steps { self.old.base.steps + 1 < 2 ^ 32 }
         requires rd { rd < 32 }
-        requires apart { is_within DATA_START DATA_BYTES address ≡ false }
+        requires apart { is_in_range DATA_START DATA_BYTES address ≡ false }
         ensures state { self.new ≡ load_at (area_of address) LoadKind.Lw rd (units_of reserved) self.old }
         ensures act { result ≡ load_act (area_of address) LoadKind.Lw }
     {

@@ -1,7 +1,7 @@
 use Rattle.std.proofs.Common.{[], None, refl, arith}
 use Rattle.std.proofs.lemmas.List.Elements.{All-from_recursion}
 use Rattle.elf_read.specs.declared.object.Object.{Object}
-use Rattle.cfi_aux.specs.Sound.{IsSoundSymbol, IsSoundReloc}
+use Rattle.elf_read.specs.Sound.{IsSoundSymbol, IsSoundReloc}
 use Rattle.cfi_aux.proofs.laws.some_object_is_sound.Goals as goal
 
 abbrev nothing : Object

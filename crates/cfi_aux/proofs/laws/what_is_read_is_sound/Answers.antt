@@ -7,7 +7,7 @@ use Rattle.elf_read.specs.Fault.{IsObject}
 use Rattle.elf_read.specs.declared.object.Object.{Object}
 use Rattle.elf_read.specs.declared.object.Symbol.{Symbol}
 use Rattle.elf_read.specs.declared.object.Reloc.{Reloc}
-use Rattle.cfi_aux.specs.Sound.{IsSoundObject, IsSoundSymbol, IsSoundReloc}
+use Rattle.elf_read.specs.Sound.{IsSoundObject, IsSoundSymbol, IsSoundReloc}
 use Rattle.cfi_aux.proofs.JoinedLists.{text_length, text_fours, data_length}
 use Rattle.cfi_aux.proofs.SoundSymbols.{HasSizes, AreNoRivals, symbols_sound, no_rivals}
 use Rattle.cfi_aux.proofs.SoundRelocs.{symbols_length, relocs_sound}

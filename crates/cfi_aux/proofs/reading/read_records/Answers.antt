@@ -1,5 +1,5 @@
 use Rattle.std.proofs.Common.{ap, subst, ◌∙◌, arith}
-use Rattle.cfi_aux.specs.Reading.{Gives}
+use Rattle.cfi_aux.specs.Reading.{ReadingGives}
 use Rattle.cfi_aux.specs.Faults.{records_in}
 use Rattle.cfi_aux.proofs.Whole.{is_read, records_again}
 use Rattle.cfi_aux.proofs.reading.read_records.Goals as goal
@@ -10,5 +10,5 @@ returns-clause-ok c =
 
 pub returns-clause-only : goal.returns-clause-only
 returns-clause-only c =
-    λ records good e. subst (λ due. Gives (λ found. found) c.all_of.result due)
+    λ records good e. subst (λ due. ReadingGives (λ found. found) c.all_of.result due)
     (ap (records_in c.args.types.now) e ∙ records_again c.args.types.now records good) c.all_of.ensures

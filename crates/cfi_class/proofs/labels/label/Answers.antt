@@ -1,6 +1,6 @@
 use Rattle.std.proofs.Common.{◌≡◌, length, refl, ◌∙◌, arith}
 use Rattle.cfi_word.specs.Table.{slots_of}
-use Rattle.cfi_class.specs.Labels.{HasEdge, AreNumbers, AreInOrder}
+use Rattle.cfi_class.specs.Labels.{HasEdge, AreNumbers, AreOrderedBySlot}
 use Rattle.cfi_class.proofs.JoinedLemmas.{branch_within}
 use Rattle.cfi_class.proofs.LabelsLemmas.{FillsUp, filled_up, filled_in_order}
 use Rattle.cfi_class.proofs.labels.label.Goals as goal
@@ -28,7 +28,7 @@ returns c =
       kept = λ slot lower. by_index.0 slot 0 (omega arith) (omega arith);
       filled = λ slot higher lower. by_index.1 slot 0 refl (omega arith) (omega arith);
     } in
-    let order : AreInOrder (HasEdge edges) numbers = rw c.into_vec-bary.ensures c.in_ok-tary.ensures.order in
+    let order : AreOrderedBySlot (HasEdge edges) numbers = rw c.into_vec-bary.ensures c.in_ok-tary.ensures.order in
     let inside = branch_within edges slots code_words c.requires.within in
     rw c.from_vec.ensures record {
       labels = filled_up (HasEdge edges) slots (slots_of code_words) code_words tary numbers bary inside are fills;

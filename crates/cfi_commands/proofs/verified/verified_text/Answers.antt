@@ -4,7 +4,7 @@ use Rattle.cfi_aux.specs.declared.placed.Placed.{Placed}
 use Rattle.cfi_graph.specs.Shaped.{IsShaped}
 use Rattle.cfi_plan.specs.declared.plan.PlanModule.{PlanModule}
 use Rattle.cfi_commands.proofs.ModulesLemmas.{same_count}
-use Rattle.cfi_commands.specs.Verified.{HasItsChecks, lines_of}
+use Rattle.cfi_commands.specs.Verified.{HasItsChecks, module_lines}
 use Rattle.cfi_commands.proofs.verified.verified_text.Goals as goal
 
 -- there is a placed module for each of the plan
@@ -30,6 +30,6 @@ returns-clause-ok c =
       checks = All-weaker IsShaped HasItsChecks (λ m shaped. (shaped.0, shaped.1.units, shaped.1.checks)) placed
           c.modules.ensures.graph.apart.shaped;
       spelled = c.in_ok-lines_of.ensures
-          ∙ ap (λ (modules : List PlanModule). lines_of modules c.modules.result.now) c.as_slice.ensures
-          ∙ ap (λ (xs : List Placed). lines_of c.args.plan.now.modules xs) c.modules.ensures.value;
+          ∙ ap (λ (modules : List PlanModule). module_lines modules c.modules.result.now) c.as_slice.ensures
+          ∙ ap (λ (xs : List Placed). module_lines c.args.plan.now.modules xs) c.modules.ensures.value;
     }

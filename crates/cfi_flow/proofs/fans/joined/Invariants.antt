@@ -1,7 +1,7 @@
 use Rattle.std.proofs.Common.{◌≡◌, take}
 use Rattle.std.specs.List.{flat_map}
-use Rattle.cfi_flow.specs.FlowRows.{row_of}
+use Rattle.cfi_flow.specs.FlowRows.{flow_row}
 use Rattle.cfi_flow.proofs.fans.joined.Given as goal
 
 abbrev pub invariant-loop-node : goal.invariant-loop-node
-invariant-loop-node l = l.numbers.items ≡ flat_map (row_of l.rows) (take l.node-index l.nodes)
+invariant-loop-node l = l.numbers.items ≡ flat_map (flow_row l.rows) (take l.node-index l.nodes)

@@ -1,7 +1,7 @@
 use Rattle.std.proofs.Common.{◌≤◌, sym, subst, List, ℕ, Bool}
 use Rattle.cfi_items.specs.Words.{Words, count_of}
 use Rattle.cfi_instr.specs.declared.sizes.TheConstants.{MAX_WORDS}
-use Rattle.cfi_instr.specs.Sizes.{place_of}
+use Rattle.cfi_instr.specs.Sizes.{words_before}
 use Rattle.cfi_instr.specs.Units.{AllSpell}
 use Rattle.cfi_instr.specs.Output.{AreMoved, IsObject}
 use Rattle.cfi_instr.proofs.OutputLemmas.{moved-written, spells-all, plan-is}
@@ -39,7 +39,7 @@ returns-clause-ok c =
           plan-is m t c.as_slice-symbols.result.now long offsets c.in_ok-source.ensures.ok
           c.as_slice-symbols.ensures.same c.in_ok-long.ensures.least c.in_ok-long.ensures.placed;
       fits =
-          subst (λ (x : Words). place_of x long (count_of x) ≤ MAX_WORDS) c.in_ok-source.ensures.ok
+          subst (λ (x : Words). words_before x long (count_of x) ≤ MAX_WORDS) c.in_ok-source.ensures.ok
           c.in_ok-long.ensures.fits;
       object =
           subst (λ (bs : List Bool). IsObject m bs offsets records object) c.deref-2.ensures.value

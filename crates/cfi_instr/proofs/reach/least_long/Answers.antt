@@ -2,7 +2,7 @@
 use Rattle.std.proofs.Common.{◌≡◌, ◌∙◌, ◌≤◌, List, Bool, false, replicate, sym, ap, subst, rules}
 use Rattle.cfi_items.specs.Words.{count_of}
 use Rattle.cfi_instr.specs.declared.sizes.TheConstants.{MAX_WORDS}
-use Rattle.cfi_instr.specs.Sizes.{place_of, offsets_of, IsOver}
+use Rattle.cfi_instr.specs.Sizes.{words_before, offsets_of, IsOver}
 use Rattle.cfi_instr.specs.Reach.{IsEnough, IsWithin, IsPassed}
 use Rattle.cfi_instr.proofs.WideLemmas.{within-next, over-passed, none-within}
 use Rattle.cfi_instr.proofs.reach.least_long.Goals as goal
@@ -45,5 +45,5 @@ rounds-preserved c =
       placed = c.in_ok-offsets-2.ensures.ok ∙ ap (λ (xs : List Bool). offsets_of t xs) long_is;
       small = c.in_ok-offsets-2.ensures.small;
       fits =
-          subst (λ (xs : List Bool). place_of t xs (count_of t) ≤ MAX_WORDS) long_is c.in_ok-offsets-2.ensures.fits;
+          subst (λ (xs : List Bool). words_before t xs (count_of t) ≤ MAX_WORDS) long_is c.in_ok-offsets-2.ensures.fits;
     }

@@ -2,7 +2,7 @@ use Rattle.std.proofs.Common.{◌≡◌, ◌≤◌, ℕ, List, Bool, length}
 use Rattle.elf_read.specs.declared.object.Symbol.{Symbol}
 use Rattle.cfi_items.specs.Words.{Words, count_of}
 use Rattle.cfi_instr.specs.declared.sizes.TheConstants.{MAX_WORDS}
-use Rattle.cfi_instr.specs.Sizes.{place_of, offsets_of, AreSmall}
+use Rattle.cfi_instr.specs.Sizes.{words_before, offsets_of, AreSmall}
 use Rattle.cfi_instr.specs.Reach.{IsEnough, IsWithin, shorts}
 use Rattle.cfi_instr.proofs.reach.least_long.Given as goal
 
@@ -12,7 +12,7 @@ pub record IsGrown (t : Words) (symbols : List Symbol) (long : List Bool) (offse
   pub within : (other : List Bool) → IsEnough t symbols other → IsWithin long other
   pub placed : offsets ≡ offsets_of t long
   pub small : AreSmall offsets
-  pub fits : place_of t long (count_of t) ≤ MAX_WORDS
+  pub fits : words_before t long (count_of t) ≤ MAX_WORDS
 
 abbrev pub invariant-rounds : goal.invariant-rounds
 invariant-rounds l = IsGrown l.source l.symbols l.long.items l.offsets.items

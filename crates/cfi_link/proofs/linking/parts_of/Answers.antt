@@ -1,7 +1,7 @@
 use Rattle.std.proofs.Common.{◌≡◌, ◌∙◌, ℕ, List, sym, ap, subst, length}
 use Rattle.std.specs.List.{flat_map}
 use Rattle.cfi_types.specs.Spelling.{word}
-use Rattle.cfi_place.specs.Placed.{words_in}
+use Rattle.cfi_place.specs.Placed.{bytes_as_words}
 use Rattle.cfi_place.specs.Slots.{HasSlots}
 use Rattle.cfi_link.specs.Joined.{Joined}
 use Rattle.cfi_link.specs.Applied.{by_area}
@@ -36,8 +36,8 @@ returns-clause-text c =
           ∙ c.in-Ok.ensures.ok;
       size = c.in-Ok.ensures.size ∙ ap length source;
       words = words;
-      slots = subst (λ (z : List ℕ). HasSlots (words_in z) 0 (words_in c.in-Ok.text.items) words) source
-          (subst (λ (z : List ℕ). HasSlots (words_in c.as_slice-source.result.now) 0 (words_in z) words)
+      slots = subst (λ (z : List ℕ). HasSlots (bytes_as_words z) 0 (bytes_as_words c.in-Ok.text.items) words) source
+          (subst (λ (z : List ℕ). HasSlots (bytes_as_words c.as_slice-source.result.now) 0 (bytes_as_words z) words)
           c.as_slice-2.ensures.value c.in_ok-words.ensures);
       spelled = c.in_ok-bytes.ensures ∙ ap (flat_map word) c.as_slice-3.ensures.value;
     }

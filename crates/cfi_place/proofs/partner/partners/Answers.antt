@@ -20,9 +20,9 @@ loop-reloc-preserved c =
     elim c.if-reloc-eq-PCREL_HI20.branch [
       | then-reloc-eq-PCREL_HI20+in_ok-add_partner w ↦ λ a.
           rw w.partners-is
-          (partners-more room values relocs i none w.high_part-part.result (get nat_cmp c.loop-reloc.partners)
+          (partners-more room values relocs i none w.upper_part-part.result (get nat_cmp c.loop-reloc.partners)
           (get nat_cmp w.add_partner.new.partners) c.loop-reloc-test.true (eq-eqb _ _ w.if-reloc-eq-PCREL_HI20.true)
-          w.high_part-part.ensures c.loop-reloc.invariant w.in_ok-add_partner.ensures a)
+          w.upper_part-part.ensures c.loop-reloc.invariant w.in_ok-add_partner.ensures a)
       | else-reloc-eq-PCREL_HI20 w ↦ λ a.
           rw w.partners-is
           (c.loop-reloc.invariant a

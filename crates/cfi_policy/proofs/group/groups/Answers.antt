@@ -2,7 +2,7 @@ use Rattle.std.proofs.Common.{◌≡◌, ◌∙◌, ℕ, ◌+◌, ◌<◌, ◌==
 use Rattle.std.proofs.lemmas.Bool.{cases_lt, eq-eqb, eqb-true, false≢true}
 use Rattle.cfi_word.specs.declared.sizes.TheConstants.{SLOTS}
 use Rattle.cfi_word.specs.declared.limits.TheConstants.{MAX_CODE_WORDS}
-use Rattle.cfi_class.specs.Labels.{HasEdge, AreNumbers, AreInOrder}
+use Rattle.cfi_class.specs.Labels.{HasEdge, AreNumbers, AreOrderedBySlot}
 use Rattle.cfi_graph.specs.Direct.{DirectEdge}
 use Rattle.cfi_graph.specs.Edges.{SpanDirectEdges}
 use Rattle.cfi_policy.specs.Groups.{AreGroups}
@@ -51,7 +51,7 @@ returns c =
     let are : AreNumbers (DirectEdge ms) SLOTS (MAX_CODE_WORDS + 1) tary bary =
     spanned_numbers (HasEdge edges) (DirectEdge ms) few SLOTS (MAX_CODE_WORDS + 1) tary bary
     c.in_ok-labels.ensures.labels in
-    let order : AreInOrder (DirectEdge ms) bary =
+    let order : AreOrderedBySlot (DirectEdge ms) bary =
     spanned_order (HasEdge edges) (DirectEdge ms) few bary c.in_ok-labels.ensures.order in
     let no_class : AreIdle ms bary idle =
     subst (λ list. AreIdle ms list idle) c.as_slice-2.ensures c.in_ok-idle.ensures in

@@ -1,5 +1,5 @@
 use Rattle.std.proofs.Common.{◌≡◌, ◌+◌, ◌<◌, true, false, length, sym, ◌∙◌, subst, rules}
-use Rattle.cfi_report.specs.Draft.{Draft, is_whole}
+use Rattle.cfi_report.specs.Draft.{ReportSoFar, is_whole}
 use Rattle.cfi_report.proofs.ReadLemmas.{IsRead, read-next, fault-wanted, fault-left, read-whole}
 use Rattle.cfi_report.proofs.reader.read_report.Goals as goal
 
@@ -31,7 +31,7 @@ loop-alloc-preserved c =
     let next = rw c.stage-in-loop-alloc.ensures at (rw c.in-Some.is at c.in_ok-line.ensures.found) in
     let read = read-next c.args.text.now c.loop-alloc.rest.now c.in-Some.after.now c.loop-alloc.number
     c.loop-alloc.draft c.in-Some.line c.loop-alloc.invariant next in
-    subst (λ (draft : Draft). IsRead c.args.text.now c.in-Some.after.now (c.loop-alloc.number + 1) draft)
+    subst (λ (draft : ReportSoFar). IsRead c.args.text.now c.in-Some.after.now (c.loop-alloc.number + 1) draft)
     (sym c.in_ok-add.ensures) read
 
 pub returns : goal.returns

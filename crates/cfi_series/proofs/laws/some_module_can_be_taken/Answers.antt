@@ -2,7 +2,7 @@ use Rattle.std.proofs.Common.{[], None, refl, arith}
 use Rattle.std.proofs.lemmas.List.Elements.{All-from_recursion}
 use Rattle.elf_read.specs.declared.object.Object.{Object}
 use Rattle.cfi_aux.specs.declared.modules.Module.{Module}
-use Rattle.cfi_aux.specs.Sound.{IsSoundObject, IsSoundSymbol, IsSoundReloc}
+use Rattle.elf_read.specs.Sound.{IsSoundObject, IsSoundSymbol, IsSoundReloc}
 use Rattle.cfi_series.proofs.laws.some_module_can_be_taken.Goals as goal
 
 abbrev nothing : Object

@@ -1,5 +1,5 @@
 use Rattle.std.proofs.Common.{ap, subst, ◌∙◌, arith}
-use Rattle.cfi_types.specs.Reading.{Gives, types_in}
+use Rattle.cfi_types.specs.Reading.{ReadingGives, types_in}
 use Rattle.cfi_types.proofs.Tables.{is_read, types_again}
 use Rattle.cfi_types.proofs.reading.read_types.Goals as goal
 
@@ -8,5 +8,5 @@ returns-clause-ok c = is_read c.args.bytes.now c.all_of.result (λ i. omega (ari
 
 pub returns-clause-only : goal.returns-clause-only
 returns-clause-only c =
-    λ xs types e. subst (λ f. Gives (λ table. table) c.all_of.result f) (ap types_in e ∙ types_again xs types)
+    λ xs types e. subst (λ f. ReadingGives (λ table. table) c.all_of.result f) (ap types_in e ∙ types_again xs types)
     c.all_of.ensures

@@ -1,11 +1,11 @@
 -- The entries and the length of the names, symbol by symbol.
 use Rattle.std.proofs.Common.{refl, ◌∙◌, arith, append-nil}
-use Rattle.elf_write.specs.Contents.{null_entry, names_of, entry_of}
+use Rattle.elf_write.specs.Contents.{null_entry, name_table, entry_of}
 use Rattle.elf_write.proofs.SymbolLemmas.{names_more, names_within, ended-above, entry_is, entries_more}
 use Rattle.elf_write.proofs.contents.put_symbols.Goals as goal
 
 pub loop-symbol-init : goal.loop-symbol-init
-unfolding names_of
+unfolding name_table
 loop-symbol-init c =
     let none = append-nil null_entry in
     record { entries = rw none (c.in_ok-put_null_entry.ensures); named = refl }

@@ -17,7 +17,7 @@ loop-k-preserved c =
     let here = ap (λ (s : List Part). get_or s k Null) (sym is) in
     let next = next_name object k part within here in
     let short = name-short part in
-    let length_is = ap length c.name_of.ensures in
+    let length_is = ap length c.section_name.ensures in
     let one : joined (header_of object) (k + 1) ≡ joined (header_of object) k ++ header_of object k = rw add-one refl in
     record {
       contents = c.in_ok-put_part.ensures.body ∙ ap (λ (s : List Part). body_of object (take (k + 1) s)) is;

@@ -1,7 +1,7 @@
 use Rattle.std.proofs.Common.{◌≡◌, ◌++◌, take}
 use Rattle.std.specs.List.{flat_map}
-use Rattle.elf_write.specs.Part.{name_of}
+use Rattle.elf_write.specs.Part.{section_name}
 use Rattle.elf_write.proofs.file.put_section_names.Given as goal
 
 abbrev pub invariant-loop-part : goal.invariant-loop-part
-invariant-loop-part l = l.out.items ≡ l.fn.out.items ++ flat_map name_of (take l.part-index l.parts)
+invariant-loop-part l = l.out.items ≡ l.fn.out.items ++ flat_map section_name (take l.part-index l.parts)

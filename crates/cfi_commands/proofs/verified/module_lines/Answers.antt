@@ -1,5 +1,5 @@
 use Rattle.cfi_commands.proofs.TextLemmas.{lines_grow}
-use Rattle.cfi_commands.proofs.verified.lines_of.Goals as goal
+use Rattle.cfi_commands.proofs.verified.module_lines.Goals as goal
 
 -- the line of one module more
 pub loop-number-preserved : goal.loop-number-preserved
