@@ -13,3 +13,4 @@ pub mod JoinedLists
 pub mod SoundNames
 pub mod SoundSymbols
 pub mod SoundRelocs
+pub mod NothingLemmas

@@ -4,10 +4,7 @@ use Rattle.std.proofs.lemmas.Bool.{cases_lt}
 use Rattle.std.proofs.lemmas.List.{get_or_default}
 use Rattle.cfi_word.specs.declared.lists.Edge.{Edge}
 use Rattle.cfi_class.specs.Labels.{IsEdgeWithin}
-
--- the edge of these parts
-abbrev pub edge_of : (slot address : ℕ) → Edge
-edge_of slot address = record { branch = slot; target = address }
+use Rattle.cfi_word.specs.Edge.{edge_of}
 
 -- one of so many first edges leads from the slot to the address
 abbrev pub HasFirst : (edges : List Edge) (count slot address : ℕ) → Type 0

@@ -13,6 +13,7 @@ use Rattle.cfi_model.specs.Log.{last_of, is_pick_of, picks_of, last_policy}
 use Rattle.cfi_model.specs.Raw.{Raw, access_address}
 use Rattle.cfi_model.specs.Begin.{Area, Private, TaryId, BaryId, Nothing, begin_as, load_at, store_at, area_of, reads_table, picked_by}
 use Rattle.cfi_model.proofs.LogLemmas.{within, set_last, policy_push}
+use Rattle.cfi_model.proofs.PickLemmas.{ends_in_pick}
 
 abbrev pub HasPolicyZero : Option ℕ → Type 0
 HasPolicyZero None = ⊤
@@ -28,16 +29,11 @@ pub record IsLow (r : Raw) : Type 0 where
   pub bary : HasEpochZero r.bary
 
 -- the last policy after a pick is its own
-some_entry : (log : List Log) (policy : ℕ) (e : Option Log) → last_of log ≡ e → is_pick_of policy e ≡ true
-    → (x : Log) × (last_of log ≡ Some x)
-some_entry log policy (Some e) is picks = (e, is)
-some_entry log policy None is picks = absurd (cc)
-
 picked_last : (log : List Log) (policy : ℕ) (b : Bool) → is_pick_of policy (last_of log) ≡ b
     → last_policy (cond b (slice_set log (length log - 1) (Pick policy (picks_of policy (last_of log) + 1)))
     (log ++ Pick policy 1 ∷ [])) ≡ policy
 picked_last log policy true is =
-    let entry = some_entry log policy (last_of log) refl is in
+    let entry = ends_in_pick log policy (last_of log) refl is in
     ap last_policy (set_last log (Pick policy (picks_of policy (last_of log) + 1)) (within log entry.0 entry.1))
     ∙ policy_push (take (length log - 1) log) (Pick policy (picks_of policy (last_of log) + 1))
 picked_last log policy false is = policy_push log (Pick policy 1)

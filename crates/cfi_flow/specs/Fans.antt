@@ -8,6 +8,7 @@ use Rattle.cfi_flow.specs.declared.links.Link.{Link}
 use Rattle.cfi_flow.specs.declared.links.Flow.{Flow}
 use Rattle.cfi_flow.specs.Flow.{GoesBy, Goes}
 use Rattle.cfi_flow.specs.Order.{AreInOrder}
+use Rattle.cfi_word.specs.Edge.{edge_of}
 
 -- the fan joins the branch to the address
 abbrev pub Joins : Fan → (slot address : ℕ) → Type 0
@@ -24,30 +25,27 @@ pub record AreFans (flow : Flow) (count : ℕ) (fans : List Fan) : Type 0 where
   pub sound : (slot address : ℕ) → JoinsOne fans slot address → (node : ℕ) × GoesBy flow node slot address
   pub whole : (slot address node : ℕ) → node < count → GoesBy flow node slot address → JoinsOne fans slot address
 
-abbrev pub edge : (slot address : ℕ) → Edge
-edge slot address = record { branch = slot; target = address }
-
 -- the edges of links
-abbrev pub edge_of : Link → Edge
-edge_of link = edge link.from link.to
+abbrev pub link_edge : Link → Edge
+link_edge link = edge_of link.from link.to
 
 -- all edges of a fan
 abbrev pub all_of : Fan → List Edge
-all_of fan = flat_map (λ slot. map (edge slot) fan.targets.items) fan.slots.items
+all_of fan = flat_map (λ slot. map (edge_of slot) fan.targets.items) fan.slots.items
 
 -- few edges of a fan that join all that it joins: from its first branch, and to its first address
 abbrev pub spokes : (slots targets : List ℕ) → List Edge
 spokes [] targets = []
 spokes (slot ∷ slots) [] = []
 spokes (slot ∷ slots) (target ∷ targets) =
-    map (edge slot) (target ∷ targets) ++ map (λ s. edge s target) (slot ∷ slots)
+    map (edge_of slot) (target ∷ targets) ++ map (λ s. edge_of s target) (slot ∷ slots)
 
 abbrev pub few_of : Fan → List Edge
 few_of fan = spokes fan.slots.items fan.targets.items
 
--- an edge of the list joins them
+-- an edge_of of the list joins them
 abbrev pub IsListed : List Edge → (slot address : ℕ) → Type 0
-IsListed edges slot address = Contains edges (edge slot address)
+IsListed edges slot address = Contains edges (edge_of slot address)
 
 -- all edges of a flow, in order, each once
 pub record AreEdges (flow : Flow) (edges : List Edge) : Type 0 where

@@ -4,7 +4,8 @@ ghost use Rattle.std.specs.Prelude.{◌≡◌, ◌++◌, map, IfOk, OnOk};
 ghost use Rattle.std.specs.List.{Contains};
 ghost use Rattle.cfi_word.specs.declared.lists.Edge.{Edge};
 ghost use Rattle.cfi_flow.specs.Flow.{IsSound};
-ghost use Rattle.cfi_flow.specs.Fans.{edge, edge_of, all_of, few_of, AreEdges, AreFewEdges};
+ghost use Rattle.cfi_flow.specs.Fans.{link_edge, all_of, few_of, AreEdges, AreFewEdges};
+ghost use Rattle.cfi_word.specs.Edge.{edge_of};
 ghost use Rattle.cfi_flow.specs.Order.{AreInOrder};
 
 use crate::fan::Fan;
@@ -15,7 +16,7 @@ use std::alloc::{AllocError, Global};
 
 // The edges of links.
 fn edges_of(alloc: Global, links: &[Link]) -> Result<Vec<Edge>, AllocError>
-    ensures { IfOk result (λ edges. edges.items ≡ map edge_of links.now) }
+    ensures { IfOk result (λ edges. edges.items ≡ map link_edge links.now) }
 {
     links
         .iter()
@@ -28,7 +29,7 @@ fn edges_of(alloc: Global, links: &[Link]) -> Result<Vec<Edge>, AllocError>
 
 // Adds the edges from a branch to these addresses.
 fn add_from(edges: &mut Vec<Edge>, branch: u32, targets: &[u32]) -> Result<(), AllocError>
-    ensures { OnOk result (edges.new.items ≡ edges.old.items ++ map (edge branch) targets.now) }
+    ensures { OnOk result (edges.new.items ≡ edges.old.items ++ map (edge_of branch) targets.now) }
 {
     for target in targets {
         edges.push(Edge {
@@ -42,7 +43,7 @@ fn add_from(edges: &mut Vec<Edge>, branch: u32, targets: &[u32]) -> Result<(), A
 // Adds the edges of these branches to an address.
 fn add_to(edges: &mut Vec<Edge>, slots: &[u32], target: u32) -> Result<(), AllocError>
     ensures { OnOk result
-        (edges.new.items ≡ edges.old.items ++ map (λ slot. edge slot target) slots.now) }
+        (edges.new.items ≡ edges.old.items ++ map (λ slot. edge_of slot target) slots.now) }
 {
     for branch in slots {
         edges.push(Edge {

@@ -106,7 +106,3 @@ adds_two old one two Tells first second only =
 pub on_ok : {T E : Type 0} (r : Result T E) (P Q : Type 0) → (P → Q) → OnOk r P → OnOk r Q
 on_ok (Ok x) P Q then holds = then holds
 on_ok (Err e) P Q then holds = holds
-
-pub if_ok : {T E : Type 0} (r : Result T E) (P Q : T → Type 0) → ((x : T) → P x → Q x) → IfOk r P → IfOk r Q
-if_ok (Ok x) P Q then holds = then x holds
-if_ok (Err e) P Q then holds = holds

@@ -12,6 +12,7 @@ use Rattle.cfi_aux.specs.declared.placed.PlacedFunction.{PlacedFunction}
 use Rattle.cfi_aux.specs.declared.records.Kind.{Kind}
 use Rattle.cfi_aux.specs.declared.records.Kind.TheVariants.{Call, Tail}
 use Rattle.cfi_graph.specs.Code.{Stands, code_address, entry_of, Leads}
+use Rattle.cfi_aux.specs.Lies.{LiesIn}
 
 -- the module's branch of the slot is of the kind
 abbrev pub HasKind : Placed → (slot : ℕ) → Kind → Type 0
@@ -38,10 +39,6 @@ abbrev pub IsTailCall : (m : Placed) (at : ℕ) → CodeUnit → (n : Placed) �
 IsTailCall m at (units.Jump false off) n f = Leads (code_address m at) off (entry_of n f)
 IsTailCall m at (units.Check link rs1 imm slot) n f = (node : ℕ) × HasKind m slot (Tail node) × MayPoint m node n f
 IsTailCall m at unit n f = ⊥
-
--- the word lies in the function
-abbrev pub LiesIn : PlacedFunction → (at : ℕ) → Type 0
-LiesIn f at = (f.first ≤ at) × (at < f.first + f.count)
 
 -- some call of the modules may enter f of n, and the address after it is this one
 pub record ReturnsTo (ms : List Placed) (n : Placed) (f : PlacedFunction) (address : ℕ) : Type 0 where

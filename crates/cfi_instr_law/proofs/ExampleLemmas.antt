@@ -8,8 +8,6 @@ use Rattle.rv_insn.specs.InsnOf.{insn_of}
 use Rattle.rv_reloc.specs.Bytes.{word_at}
 use Rattle.cfi_unit.specs.declared.unit.Unit.{Unit as CodeUnit}
 use Rattle.cfi_unit.specs.declared.unit.Unit.TheVariants as units
-use Rattle.cfi_unit.proofs.UnitLemmas.{size_pos}
-use Rattle.cfi_unit.proofs.CodeLemmas.{BeginsAt-within}
 use Rattle.cfi_aux.specs.Format.{is_func}
 use Rattle.cfi_items.specs.Words.{Words, words_by, bytes_as_words as read_words}
 use Rattle.cfi_items.specs.Fault.{parts_by, AreSound}
@@ -23,8 +21,9 @@ use Rattle.cfi_place.specs.Placed.{IsRoom, IsPlaced, bytes_as_words}
 use Rattle.cfi_verify.specs.Example.{loop_module}
 use Rattle.cfi_instr_law.specs.Proper.{NamesFunc, IsTyped, IsMadeAt}
 use Rattle.cfi_instr_law.specs.Example.{loop_records, loop_object, loop_source, loop_room, no_names}
+use Rattle.cfi_place.proofs.ExampleLemmas.{loop_read}
 
--- what is read of its text
+-- what is loop_read of its text
 abbrev loop_words : Words
 loop_words = words_by (Some (insns.Jal 0 (pos 0)) ∷ []) (None ∷ []) (None ∷ [])
 
@@ -132,19 +131,13 @@ room = record {
   high = omega arith;
 }
 
--- the text is read as one jump
+-- the text is loop_read as one jump
 abbrev jump : CodeUnit
 jump = units.Jump false (pos 0)
 
 text-words : bytes_as_words loop_object.text ≡ 0x6f ∷ []
 unfolding word_at
 text-words = refl
-
-read : ReadFrom (0x6f ∷ []) 0 (jump ∷ [])
-read = (
-  record { fits = (omega arith, refl); spelled = refl },
-  λ unit begins. omega (arith, BeginsAt-within (0x6f ∷ []) 1 unit begins, size_pos unit),
-)
 
 placed : IsPlaced loop_source loop_room no_names loop_module
 unfolding relocated_from
@@ -156,7 +149,7 @@ placed = record {
   data_base = refl;
   words = (
     jump ∷ [],
-    subst (λ (ws : List ℕ). ReadFrom ws 0 (jump ∷ [])) (sym text-words) read,
+    subst (λ (ws : List ℕ). ReadFrom ws 0 (jump ∷ [])) (sym text-words) loop_read,
     sym text-words,
   );
   static_data = refl;

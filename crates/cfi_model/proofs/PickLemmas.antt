@@ -15,7 +15,7 @@ use Rattle.cfi_model.specs.Shows.{IsAnswered}
 use Rattle.cfi_model.proofs.LogLemmas.{within, ends_with, set_last, policy_push, picks_push}
 
 -- a log that ends with a pick is not empty
-ends_in_pick : (log : List Log) (policy : ℕ) (e : Option Log) → last_of log ≡ e → is_pick_of policy e ≡ true
+pub ends_in_pick : (log : List Log) (policy : ℕ) (e : Option Log) → last_of log ≡ e → is_pick_of policy e ≡ true
     → (x : Log) × (last_of log ≡ Some x)
 ends_in_pick log policy (Some e) is picks = (e, is)
 ends_in_pick log policy None is picks = absurd (cc)

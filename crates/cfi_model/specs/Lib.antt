@@ -4,6 +4,7 @@ pub mod State
 pub mod Service
 pub mod Effect
 pub mod Plain
+pub mod Registers
 pub mod Raw
 pub mod Begin
 pub mod Run

@@ -3,3 +3,4 @@ pub mod FunctionLemmas
 pub mod RelocatedLemmas
 pub mod SlotLemmas
 pub mod PlacingLemmas
+pub mod ExampleLemmas

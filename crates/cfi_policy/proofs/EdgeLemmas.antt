@@ -62,10 +62,6 @@ apart_in ms code_words image = record {
   within = image.words;
 }
 
-pub if_ok : {T E : Type 0} (r : Result T E) (P Q : T → Type 0) → ((x : T) → P x → Q x) → IfOk r P → IfOk r Q
-if_ok (Ok x) P Q then holds = then x holds
-if_ok (Err e) P Q then holds = holds
-
 module _ (ms : List Placed) (edges : List Edge) (span : SpanDirectEdges ms edges) where
   -- the image by these edges is that by all
   pub image_by : (code_words : ℕ) (image : Image) → IsImage (HasEdge edges) ms code_words image

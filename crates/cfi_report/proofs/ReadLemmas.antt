@@ -1,7 +1,7 @@
 -- What is known while a text is read, and when it is a report.
 use Rattle.std.proofs.Common.{◌≡◌, ℕ, ◌+◌, ◌-◌, ◌^◌, ◌<◌, ◌≤◌, true, false, List, [], ◌∷◌, ◌++◌, length, take, drop, refl, sym, ap, ◌∙◌, subst, append_assoc, arith, length-append, length-take, take_all}
 use Rattle.std.specs.List.{AllByRecursion}
-use Rattle.std.proofs.lemmas.List.{append-nil, take-append-le, take-append-drop}
+use Rattle.std.proofs.lemmas.List.{append-nil, take-append-le, take-append-drop, nil_from_length}
 use Rattle.std.proofs.lemmas.Bool.{false≢true}
 use Rattle.std.proofs.lemmas.List.Concat.{flat_map-append}
 use Rattle.cfi_report.specs.declared.line.Line.{Line}
@@ -220,10 +220,6 @@ fault-left text rest number draft at h same whole some =
     read-fault text rest number draft h here (λ done none.
     let size : length rest ≡ 0 = ap length none in omega (arith, some, size))
 
-no_bytes : (rest : List ℕ) → length rest ≡ 0 → rest ≡ []
-no_bytes [] h = refl
-no_bytes (byte ∷ rest) h = absurd (omega (arith, h))
-
 -- a text that was read whole
 pub record IsReadWhole (source : List ℕ) (report : Report) : Type 0 where
   pub is : IsReport report
@@ -235,7 +231,7 @@ pub read-whole : (text rest : List ℕ) (number : ℕ) (draft : ReportSoFar) (at
     → report ≡ report_of draft → IsReadWhole text report
 read-whole text rest number draft at report h same whole none made =
     let whole : is_whole draft.stage ≡ true = sym (ap is_whole same) ∙ whole in
-    let none = no_bytes rest none in
+    let none = nil_from_length rest none in
     record {
       is = subst IsReport (sym made) (read-report text rest number draft h whole);
       text = read-text text rest number draft h whole none ∙ ap report_text (sym made);

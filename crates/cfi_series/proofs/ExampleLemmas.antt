@@ -6,8 +6,6 @@ use Rattle.elf_read.specs.declared.object.Object.{Object}
 use Rattle.rv_reloc.specs.Bytes.{word_at}
 use Rattle.cfi_unit.specs.declared.unit.Unit.{Unit as CodeUnit}
 use Rattle.cfi_unit.specs.declared.unit.Unit.TheVariants as units
-use Rattle.cfi_unit.proofs.UnitLemmas.{size_pos}
-use Rattle.cfi_unit.proofs.CodeLemmas.{BeginsAt-within}
 use Rattle.cfi_aux.specs.declared.modules.Module.{Module}
 use Rattle.cfi_aux.specs.declared.placed.Placed.{Placed}
 use Rattle.cfi_aux.specs.Sound.{IsSoundModule}
@@ -20,6 +18,7 @@ use Rattle.cfi_verify.specs.Example.{loop_module}
 use Rattle.cfi_verify.proofs.ExampleLemmas.{verified}
 use Rattle.cfi_series.specs.Order.{IsPlacedBehind, Joins}
 use Rattle.cfi_series.specs.Series.{IsSeries}
+use Rattle.cfi_place.proofs.ExampleLemmas.{loop_read}
 
 abbrev object : Object
 object = record {
@@ -52,19 +51,13 @@ sound = record {
   table = void_first;
 }
 
--- the text is read as one jump
+-- the text is loop_read as one jump
 abbrev jump : CodeUnit
 jump = units.Jump false (pos 0)
 
 text-words : bytes_as_words object.text ≡ 0x6f ∷ []
 unfolding word_at
 text-words = refl
-
-read : ReadFrom (0x6f ∷ []) 0 (jump ∷ [])
-read = (
-  record { fits = (omega arith, refl); spelled = refl },
-  λ unit begins. omega (arith, BeginsAt-within (0x6f ∷ []) 1 unit begins, size_pos unit),
-)
 
 placed : IsPlacedBehind 1024 [] unplaced loop_module
 unfolding relocated_from
@@ -76,7 +69,7 @@ placed = record {
   data_base = refl;
   words = (
     jump ∷ [],
-    subst (λ (ws : List ℕ). ReadFrom ws 0 (jump ∷ [])) (sym text-words) read,
+    subst (λ (ws : List ℕ). ReadFrom ws 0 (jump ∷ [])) (sym text-words) loop_read,
     sym text-words,
   );
   static_data = refl;

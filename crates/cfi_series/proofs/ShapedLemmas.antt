@@ -3,7 +3,7 @@ use Rattle.std.proofs.Common.{◌≡◌, ℕ, zero, suc, ◌+◌, ◌<◌, ◌�
 use Rattle.std.specs.Prelude.{IsTrue, nat_lt}
 use Rattle.std.specs.List.{slice_get}
 use Rattle.std.specs.Option.{option_map}
-use Rattle.std.proofs.lemmas.Bool.{cases_lt, ltb-true}
+use Rattle.std.proofs.lemmas.Bool.{cases_lt, ltb-true, and_parts}
 use Rattle.std.proofs.lemmas.List.{length-map}
 use Rattle.std.proofs.lemmas.List.Elements.{All-weaker}
 use Rattle.std.proofs.lemmas.Option.{slice_get-get_or, slice_get-map, slice_get_past}
@@ -20,7 +20,7 @@ use Rattle.cfi_graph.specs.Shaped.{slots_of, IsPart, IsUnitPlace, IsNamed, IsSha
 use Rattle.cfi_unit.specs.declared.spot.Spot.{Spot}
 use Rattle.cfi_verify.specs.declared.checks.CheckSpot.{CheckSpot}
 use Rattle.cfi_verify.specs.Spots.{checks_of}
-use Rattle.cfi_verify.specs.Functions.{end_of}
+use Rattle.cfi_aux.specs.Lies.{end_of}
 use Rattle.cfi_verify.specs.Branches.{IsKindOf, IsRecordOf, IsEntry, AreEntries, AreEntriesIn}
 use Rattle.cfi_verify.specs.Faults.{IsVerifiedAs}
 use Rattle.cfi_verify.proofs.FunctionLemmas.{in_order}
@@ -28,13 +28,9 @@ use Rattle.cfi_series.specs.Verified.{AreVerified}
 use Rattle.cfi_series.proofs.SlotLemmas.{slots_are}
 use Rattle.cfi_unit.proofs.SpotLemmas.{place_number, last_place, place_mono}
 
-and_left : (a b : Bool) → (a && b) ≡ true → a ≡ true
-and_left true b both = refl
-and_left false b both = both
-
 -- the type of a function is there
 func_there : (types : List Node) (n : ℕ) → IsTrue (is_func types n) → n < length types
-func_there types n is = ltb-true n (length types) (and_left (nat_lt n (length types)) _ is)
+func_there types n is = ltb-true n (length types) (and_parts (nat_lt n (length types)) _ is).0
 
 abbrev none : CheckSpot
 none = record { at = 0; link = false; slot = 0 }

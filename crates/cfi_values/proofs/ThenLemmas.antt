@@ -1,5 +1,5 @@
 -- Steps that did not fail.
-use Rattle.std.proofs.Common.{◌≡◌, Bool, true, false, Result, Ok, Err, refl}
+use Rattle.std.proofs.Common.{◌≡◌, Bool, true, false, Result, Ok, Err, IfOk, refl}
 use Rattle.cfi_values.specs.Then.{◌>>=◌, unless_bad}
 
 -- the value of a step that did not fail
@@ -19,3 +19,8 @@ done x = Ok x
 
 pub ok_is : {A E : Type 0} (x y : A) → done {E = E} x ≡ done {E = E} y → x ≡ y
 ok_is x y e = cc
+
+-- what follows where something is said of a success
+pub if_ok : {T E : Type 0} (r : Result T E) (P Q : T → Type 0) → ((x : T) → P x → Q x) → IfOk r P → IfOk r Q
+if_ok (Ok x) P Q then holds = then x holds
+if_ok (Err e) P Q then holds = holds

@@ -10,7 +10,8 @@ use Rattle.cfi_aux.specs.declared.placed.Placed.{Placed}
 use Rattle.cfi_aux.specs.declared.placed.PlacedFunction.{PlacedFunction}
 use Rattle.cfi_unit.specs.declared.spot.Spot.{Spot}
 use Rattle.cfi_verify.specs.Lists.{Each}
-use Rattle.cfi_verify.specs.Functions.{end_of, end_in, end_before, LiesIn, IsIdle, FitsBehind}
+use Rattle.cfi_verify.specs.Functions.{end_in, end_before, IsIdle, FitsBehind}
+use Rattle.cfi_aux.specs.Lies.{end_of, LiesIn}
 use Rattle.cfi_verify.specs.Target.{IsAtHome}
 use Rattle.cfi_verify.specs.Places.{AreFunctionsApart, AreInRange, IsHome, SplitsEnds}
 

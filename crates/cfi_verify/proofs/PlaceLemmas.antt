@@ -8,7 +8,8 @@ use Rattle.std.proofs.lemmas.List.Elements.{Contains-get_or}
 use Rattle.cfi_aux.specs.declared.placed.PlacedFunction.{PlacedFunction}
 use Rattle.cfi_unit.specs.declared.spot.Spot.{Spot}
 use Rattle.cfi_unit.specs.Spots.{BeginsUnit}
-use Rattle.cfi_verify.specs.Functions.{end_of, LiesIn, may_be_last, EndsWell}
+use Rattle.cfi_verify.specs.Functions.{may_be_last, EndsWell}
+use Rattle.cfi_aux.specs.Lies.{end_of, LiesIn}
 use Rattle.cfi_verify.specs.Places.{AreRising, Splits}
 
 pub at_rises : (spots : List Spot) → AreRising spots → IsNonDecreasingBy (λ (s : Spot). s.at) spots

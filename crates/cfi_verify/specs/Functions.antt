@@ -10,14 +10,7 @@ use Rattle.cfi_aux.specs.declared.placed.Placed.{Placed}
 use Rattle.cfi_aux.specs.declared.placed.PlacedFunction.{PlacedFunction}
 use Rattle.cfi_unit.specs.declared.spot.Spot.{Spot}
 use Rattle.cfi_unit.specs.Spots.{BeginsUnit}
-
--- the word after the function's last
-abbrev pub end_of : PlacedFunction → ℕ
-end_of f = f.first + f.count
-
--- the word is one of the function's
-abbrev pub LiesIn : PlacedFunction → (at : ℕ) → Type 0
-LiesIn f at = (f.first ≤ at) × (at < end_of f)
+use Rattle.cfi_aux.specs.Lies.{end_of, LiesIn}
 
 -- where a function ends; before the first one, the module's first word
 abbrev pub end_in : Option PlacedFunction → ℕ

@@ -7,7 +7,8 @@ use Rattle.cfi_aux.specs.declared.placed.PlacedFunction.{PlacedFunction}
 use Rattle.cfi_unit.specs.declared.spot.Spot.{Spot}
 use Rattle.cfi_verify.specs.declared.checks.CheckSpot.{CheckSpot}
 use Rattle.cfi_verify.specs.Lists.{Each, IsFirstBreak}
-use Rattle.cfi_verify.specs.Functions.{end_of, LiesIn, FitsBehind, IsIdleBehind}
+use Rattle.cfi_verify.specs.Functions.{FitsBehind, IsIdleBehind}
+use Rattle.cfi_aux.specs.Lies.{end_of, LiesIn}
 use Rattle.cfi_verify.specs.Target.{entries_of}
 use Rattle.cfi_verify.specs.Branches.{KindFits}
 use Rattle.cfi_verify.specs.Faults.{own_number, check_place}

@@ -3,3 +3,4 @@ pub mod Ids
 pub mod Word
 pub mod Table
 pub mod Rank
+pub mod Edge

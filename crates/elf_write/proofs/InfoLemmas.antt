@@ -16,7 +16,7 @@ use Rattle.elf_read.specs.declared.object.Place.{Place}
 use Rattle.elf_read.specs.declared.object.Place.TheVariants as places
 use Rattle.elf_write.specs.Contents.{name_table, no_symbol, symbol_name_place, binding_number, section_number}
 use Rattle.elf_write.specs.Whole.{IsWhole, HasName, HasPlace, greatest_value}
-use Rattle.elf_write.specs.Whole as whole_specs
+use Rattle.elf_read.specs.Sound as sound_specs
 use Rattle.elf_write.proofs.SymbolLemmas.{names_within}
 use Rattle.elf_write.proofs.HeaderLemmas.{few_sections}
 use Rattle.elf_write.proofs.SectionLemmas.{AreSections, written_section}
@@ -122,7 +122,7 @@ defined_by bindings.Weak place placed = refl
 
 pub definition_by : (binding : Binding) (place : Place)
     → (((16 * binding_number binding) / 16 == 1 || (16 * binding_number binding) / 16 == 2)
-    && not (section_number place == 0)) ≡ (whole_specs.is_exported binding && whole_specs.is_defined place)
+    && not (section_number place == 0)) ≡ (sound_specs.is_exported binding && sound_specs.is_defined place)
 definition_by bindings.Local place = refl
 definition_by bindings.Global places.Undefined = refl
 definition_by bindings.Global places.Absolute = refl

@@ -6,7 +6,7 @@ use Rattle.std.proofs.lemmas.List.{get_or-take, take-set-le}
 use Rattle.std.proofs.Math.Seq.{take-set-lt}
 use Rattle.cfi_unit.specs.declared.unit.TheConstants.{FREE_REGISTERS}
 use Rattle.cfi_model.specs.State.{regs_with}
-use Rattle.rv_guest.specs.Registers.{RegFile, free_of, file_of, held, with_held}
+use Rattle.cfi_model.specs.Registers.{RegFile, free_of, file_of, held, with_held}
 
 -- the first registers hold what the list holds
 free_read : (words : List ℕ) (k : ℕ) → k < FREE_REGISTERS → slice_index (free_of words) k ≡ slice_index words k

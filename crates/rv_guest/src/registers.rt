@@ -1,5 +1,5 @@
 ghost use Rattle.std.specs.Prelude.{◌≡◌, ◌<◌};
-ghost use Rattle.rv_guest.specs.Registers.{blank, held, with_held};
+ghost use Rattle.cfi_model.specs.Registers.{blank, held, with_held};
 
 use std::marker::Model;
 
@@ -10,7 +10,7 @@ pub struct Registers {
 }
 
 impl Model for Registers {
-    ghost use Rattle.rv_guest.specs.Registers.{RegFile, file_of};
+    ghost use Rattle.cfi_model.specs.Registers.{RegFile, file_of};
 
     ghost Value = { RegFile };
 
@@ -19,7 +19,7 @@ impl Model for Registers {
 
 impl Registers {
     /// Registers that hold 0.
-    #[tactic(auto, unfolding(crate::specs::Registers::free_of))]
+    #[tactic(auto, unfolding(cfi_model::specs::Registers::free_of))]
     pub fn new() -> Registers
         ensures { result ≡ blank }
     {

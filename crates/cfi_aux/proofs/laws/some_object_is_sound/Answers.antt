@@ -1,19 +1,5 @@
-use Rattle.std.proofs.Common.{[], None, refl, arith}
-use Rattle.std.proofs.lemmas.List.Elements.{All-from_recursion}
-use Rattle.elf_read.specs.declared.object.Object.{Object}
-use Rattle.elf_read.specs.Sound.{IsSoundSymbol, IsSoundReloc}
+use Rattle.cfi_aux.proofs.NothingLemmas.{nothing, nothing_is_sound}
 use Rattle.cfi_aux.proofs.laws.some_object_is_sound.Goals as goal
 
-abbrev nothing : Object
-nothing = record { text = []; static_data = []; symbols = []; relocs = []; types = None; records = None }
-
 pub returns : goal.returns
-returns c = (
-  nothing,
-  record {
-    words = refl;
-    symbols = All-from_recursion (IsSoundSymbol nothing) [] tt;
-    definitions = λ i j d lt within. absurd (omega arith);
-    relocs = All-from_recursion (IsSoundReloc nothing) [] tt;
-  },
-)
+returns c = (nothing, nothing_is_sound)

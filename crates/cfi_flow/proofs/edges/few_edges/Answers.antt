@@ -2,7 +2,8 @@ use Rattle.std.proofs.Common.{◌≡◌, ◌∙◌, ◌++◌, map, take, ap, sym
 use Rattle.std.specs.List.{flat_map}
 use Rattle.std.proofs.lemmas.List.{take_all}
 use Rattle.cfi_word.specs.Chain.{Chain}
-use Rattle.cfi_flow.specs.Fans.{edge, edge_of, few_of, IsListed}
+use Rattle.cfi_flow.specs.Fans.{link_edge, few_of, IsListed}
+use Rattle.cfi_word.specs.Edge.{edge_of}
 use Rattle.cfi_flow.proofs.EdgeLemmas.{few_sound, few_whole, chain_kept}
 use Rattle.cfi_flow.proofs.edges.few_edges.Goals as goal
 
@@ -13,12 +14,12 @@ returns c =
     let items = c.deref-fan-items.result.now in
     let done : take c.loop-fan.fan-index items ≡ fans =
     take_all c.loop-fan.fan-index items c.loop-fan-test.false ∙ c.deref-fan-items.ensures.value in
-    let list : c.loop-fan.edges.items ≡ map edge_of flow.listed.items ++ flat_map few_of fans =
-    c.loop-fan.invariant ∙ ap (λ fs. map edge_of flow.listed.items ++ flat_map few_of fs) done in
+    let list : c.loop-fan.edges.items ≡ map link_edge flow.listed.items ++ flat_map few_of fans =
+    c.loop-fan.invariant ∙ ap (λ fs. map link_edge flow.listed.items ++ flat_map few_of fs) done in
     record {
       sound = λ slot address h.
           few_sound flow fans c.in_ok-fans.ensures slot address
-          (subst (λ es. IsListed es slot address) list (c.in_order.ensures.only (edge slot address) h));
+          (subst (λ es. IsListed es slot address) list (c.in_order.ensures.only (edge_of slot address) h));
       whole = λ slot address g.
           chain_kept c.loop-fan.edges.items c.in_order.result.items c.in_order.ensures.kept slot address
           (subst (λ es. Chain (IsListed es) slot address) (sym list)

@@ -1,6 +1,6 @@
 use Rattle.cfi_flow.specs.Fans.{AreEdges}
 use Rattle.cfi_graph.specs.Edges.{AreDirectEdges}
-use Rattle.cfi_graph.proofs.AddsLemmas.{if_ok}
+use Rattle.cfi_values.proofs.ThenLemmas.{if_ok}
 use Rattle.cfi_graph.proofs.direct.edges.Goals as goal
 
 pub returns : goal.returns

@@ -1,6 +1,6 @@
 use Rattle.cfi_flow.specs.Fans.{AreFewEdges}
 use Rattle.cfi_graph.specs.Edges.{SpanDirectEdges}
-use Rattle.cfi_graph.proofs.AddsLemmas.{if_ok}
+use Rattle.cfi_values.proofs.ThenLemmas.{if_ok}
 use Rattle.cfi_graph.proofs.direct.spanning.Goals as goal
 
 pub returns : goal.returns

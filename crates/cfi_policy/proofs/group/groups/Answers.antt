@@ -12,6 +12,7 @@ use Rattle.cfi_policy.proofs.OrderLemmas.{make_group, idle_group, groups_of_clas
 use Rattle.cfi_policy.proofs.SpansLemmas.{spanned_numbers, spanned_order}
 use Rattle.cfi_policy.proofs.group.groups.Goals as goal
 use Rattle.cfi_policy.proofs.group.groups.Goals.{then-not-is_empty+in_ok-push, else-not-is_empty}
+use Rattle.std.proofs.lemmas.List.{nil_from_length}
 
 some_by_test : (idle : Vec ℕ Global) → (vec_len idle == 0) ≡ false → 0 < length idle.items
 some_by_test idle test =
@@ -22,14 +23,10 @@ some_by_test idle test =
           absurd (false≢true (sym test ∙ eq-eqb (vec_len idle) 0 is))
     ]
 
-nil_by_length : (xs : List ℕ) → length xs ≡ 0 → xs ≡ []
-nil_by_length [] is = refl
-nil_by_length (x ∷ xs) is = absurd (omega (arith, is))
-
 none_by_test : (idle : Vec ℕ Global) → (vec_len idle == 0) ≡ true → idle.items ≡ []
 none_by_test idle test =
     let is : vec_len idle ≡ 0 = eqb-true (vec_len idle) 0 test in
-    nil_by_length idle.items (omega (arith, idle.ok, is))
+    nil_from_length idle.items (omega (arith, idle.ok, is))
 
 pub numbers-requires-clause-within : goal.numbers-requires-clause-within
 numbers-requires-clause-within c =

@@ -3,7 +3,8 @@ use Rattle.cfi_class.specs.Labels.{HasEdge, CanBeLabelled}
 use Rattle.cfi_graph.specs.Direct.{DirectEdge}
 use Rattle.cfi_graph.specs.Edges.{SpanDirectEdges}
 use Rattle.cfi_policy.specs.Image.{IsImage}
-use Rattle.cfi_policy.proofs.EdgeLemmas.{can_be_labelled, apart_in, if_ok, image_by}
+use Rattle.cfi_policy.proofs.EdgeLemmas.{can_be_labelled, apart_in, image_by}
+use Rattle.cfi_values.proofs.ThenLemmas.{if_ok}
 use Rattle.cfi_policy.proofs.image.image_of.Goals as goal
 
 pub image_from-requires-clause-edges : goal.image_from-requires-clause-edges

@@ -4,7 +4,8 @@ use Rattle.cfi_word.specs.Chain.{Chain}
 use Rattle.cfi_class.specs.Labels.{HasEdge}
 use Rattle.cfi_graph.specs.Direct.{Allowed}
 use Rattle.cfi_graph.specs.Edges.{SpanDirectEdges}
-use Rattle.cfi_policy.proofs.EdgeLemmas.{within_code, if_ok, joined_by}
+use Rattle.cfi_policy.proofs.EdgeLemmas.{within_code, joined_by}
+use Rattle.cfi_values.proofs.ThenLemmas.{if_ok}
 use Rattle.cfi_policy.proofs.joins.allowed.Goals as goal
 
 pub are_joined-requires-clause-within : goal.are_joined-requires-clause-within
