@@ -1,8 +1,9 @@
 -- What a shelf and a sink in memory hold, and which of their calls fail. Calls are numbered from 0.
-use Rattle.std.specs.Prelude.{ℕ, List, reverse, find, String, Vec, string_bytes, bytes_eq}
+use Rattle.std.specs.Prelude.{ℕ, List, reverse, find, Some, String, Vec, string_bytes, bytes_eq}
 use Rattle.std.specs.Option.{option_map}
 use Rattle.std.specs.declared.alloc.Global.{Global}
 use Rattle.cfi_io.specs.Files.{Files}
+use Rattle.cfi_io.specs.Seen.{ShelfView, SinkView}
 use Rattle.cfi_io.specs.declared.mem_shelf.MemShelf.{MemShelf}
 use Rattle.cfi_io.specs.declared.mem_sink.MemSink.{MemSink}
 
@@ -45,3 +46,10 @@ sink_fails sink = sink.calls.fails.items
 -- how many faults of the sink there were
 abbrev pub sink_faults : MemSink → ℕ
 sink_faults sink = sink.calls.faults
+
+-- what the shelf and the sink tell and count
+abbrev pub shelf_seen : MemShelf → ShelfView
+shelf_seen shelf = record { files = Some (files_held shelf); faults = shelf_faults shelf; misses = shelf_misses shelf }
+
+abbrev pub sink_seen : MemSink → SinkView
+sink_seen sink = record { written = Some (bytes_held sink); faults = sink_faults sink }

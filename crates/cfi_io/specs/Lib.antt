@@ -2,3 +2,4 @@ pub mod Count
 pub mod Files
 pub mod Held
 pub mod Told
+pub mod Seen

@@ -22,8 +22,8 @@ pub struct DirShelf {
 impl DirShelf {
     /// The shelf of the current folder, which takes memory from `alloc` where it reads. This call takes none.
     pub fn new(rt: HostRuntime, alloc: Global) -> Self
-        ensures faults { ⟦<DirShelf as Shelf>⟧.faults result ≡ 0 }
-        ensures misses { ⟦<DirShelf as Shelf>⟧.misses result ≡ 0 }
+        ensures faults { (⟦<DirShelf as Shelf>⟧.seen result).faults ≡ 0 }
+        ensures misses { (⟦<DirShelf as Shelf>⟧.seen result).misses ≡ 0 }
     {
         DirShelf {
             rt,
@@ -47,11 +47,7 @@ fn make(rt: &HostRuntime, name: &str, bytes: &[u8]) -> io::Result<()> {
 }
 
 impl Shelf for DirShelf {
-    ghost files = { λ _. None };
-
-    ghost faults = { λ shelf. shelf.faults };
-
-    ghost misses = { λ shelf. shelf.misses };
+    ghost seen = { λ shelf. record { files = None; faults = shelf.faults; misses = shelf.misses } };
 
     fn read(&mut self, name: &str) -> Result<Vec<u8>, ShelfFault> {
         let fault = match bytes_of(&self.rt, self.alloc, name) {

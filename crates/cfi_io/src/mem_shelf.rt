@@ -5,7 +5,7 @@ ghost use Rattle.cfi_word.specs.declared.limits.TheConstants.{MAX_FILE_BYTES};
 ghost use Rattle.cfi_io.specs.declared.fault.ShelfFault.TheVariants.{Failed, Absent, TooLong, Memory};
 ghost use Rattle.cfi_io.specs.Count.{Rose, next_count};
 ghost use Rattle.cfi_io.specs.Files.{Puts, PutsPart};
-ghost use Rattle.cfi_io.specs.Held.{files_of, files_held, shelf_calls, shelf_fails, shelf_faults, shelf_misses};
+ghost use Rattle.cfi_io.specs.Held.{files_of, files_held, shelf_calls, shelf_fails, shelf_faults, shelf_misses, shelf_seen};
 
 use crate::count::{Calls, raise};
 use crate::{Shelf, ShelfFault};
@@ -29,8 +29,8 @@ impl MemShelf {
         ensures files { files_held result ≡ files_of files.items }
         ensures fails { shelf_fails result ≡ fails.items }
         ensures calls { shelf_calls result ≡ 0 }
-        ensures faults { ⟦<MemShelf as Shelf>⟧.faults result ≡ 0 }
-        ensures misses { ⟦<MemShelf as Shelf>⟧.misses result ≡ 0 }
+        ensures faults { (⟦<MemShelf as Shelf>⟧.seen result).faults ≡ 0 }
+        ensures misses { (⟦<MemShelf as Shelf>⟧.seen result).misses ≡ 0 }
     {
         MemShelf {
             alloc,
@@ -63,11 +63,7 @@ fn last_of<'a>(files: &'a [(String, Vec<u8>)], name: &str) -> Option<&'a Vec<u8>
 }
 
 impl Shelf for MemShelf {
-    ghost files = { λ shelf. Some (files_held shelf) };
-
-    ghost faults = { shelf_faults };
-
-    ghost misses = { shelf_misses };
+    ghost seen = { shelf_seen };
 
     fn read(&mut self, name: &str) -> Result<Vec<u8>, ShelfFault>
         ensures within { IfOk result (λ bytes. vec_len bytes ≤ MAX_FILE_BYTES) }

@@ -4,7 +4,7 @@ ghost use Rattle.std.specs.Io.KnownBytes.{Appends};
 ghost use Rattle.cfi_io.specs.declared.fault.SinkFault.TheVariants.{Failed, Memory};
 ghost use Rattle.cfi_io.specs.Count.{Rose, next_count};
 ghost use Rattle.cfi_io.specs.Told.{AppendsPrefix};
-ghost use Rattle.cfi_io.specs.Held.{bytes_held, sink_calls, sink_fails, sink_faults};
+ghost use Rattle.cfi_io.specs.Held.{bytes_held, sink_calls, sink_fails, sink_faults, sink_seen};
 
 use crate::count::Calls;
 use crate::{Sink, SinkFault};
@@ -25,7 +25,7 @@ impl MemSink {
         ensures bytes { bytes_held result ≡ [] }
         ensures fails { sink_fails result ≡ fails.items }
         ensures calls { sink_calls result ≡ 0 }
-        ensures faults { ⟦<MemSink as Sink>⟧.faults result ≡ 0 }
+        ensures faults { (⟦<MemSink as Sink>⟧.seen result).faults ≡ 0 }
     {
         MemSink {
             bytes: Vec::new(alloc),
@@ -42,9 +42,7 @@ impl MemSink {
 }
 
 impl Sink for MemSink {
-    ghost written = { λ sink. Some (bytes_held sink) };
-
-    ghost faults = { sink_faults };
+    ghost seen = { sink_seen };
 
     fn write(&mut self, bytes: &[u8]) -> Result<(), SinkFault>
         ensures ok { OnOk result (bytes_held self.new ≡ bytes_held self.old ++ bytes.now) }

@@ -1,9 +1,10 @@
 //! A shelf of files, each of which has a name.
-ghost use Rattle.std.specs.Prelude.{◌≡◌, ◌≤◌, ◌<◌, ℕ, length, Option, vec_len, IfOk, OnOk, IsErrOf, IsSomeAnd};
+ghost use Rattle.std.specs.Prelude.{◌≡◌, ◌≤◌, ◌<◌, length, None, Some, vec_len, IfOk, OnOk, IsErrOf, IsSomeAnd};
 ghost use Rattle.cfi_word.specs.declared.limits.TheConstants.{MAX_FILE_BYTES};
 ghost use Rattle.cfi_io.specs.declared.fault.ShelfFault.TheVariants.{Failed, Absent, TooLong, Memory};
 ghost use Rattle.cfi_io.specs.Count.{Rose};
-ghost use Rattle.cfi_io.specs.Files.{Files, Puts, PutsPart};
+ghost use Rattle.cfi_io.specs.Files.{Puts, PutsPart};
+ghost use Rattle.cfi_io.specs.Seen.{ShelfView};
 ghost use Rattle.cfi_io.specs.Told.{WhereTold, WhereKeptTold};
 
 use crate::ShelfFault;
@@ -12,14 +13,8 @@ use crate::ShelfFault;
 ///
 /// A count that is said to rise stands still at `u64::MAX`. No count ever falls.
 pub trait Shelf {
-    /// The files, where the shelf tells them.
-    ghost files: { Self → Option Files };
-
-    /// How often the shelf has failed.
-    ghost faults: { Self → ℕ };
-
-    /// How often a file was not there, or was too long.
-    ghost misses: { Self → ℕ };
+    /// The files, where the shelf tells them, and how often it has failed and has lacked a file.
+    ghost seen: { Self → ShelfView };
 
     /// The bytes of the file of this name, at most `MAX_FILE_BYTES`.
     ///
@@ -28,17 +23,17 @@ pub trait Shelf {
     fn read(&mut self, name: &str) -> Result<Vec<u8>, ShelfFault>
         ensures within { IfOk result (λ bytes. vec_len bytes ≤ MAX_FILE_BYTES) }
         ensures ok { IfOk result (λ bytes.
-            WhereTold (files self.old) (λ told. told name.now ≡ Some bytes.items)) }
-        ensures failed { IsErrOf result Failed → Rose (faults self.old) (faults self.new) }
-        ensures absent { IsErrOf result Absent → Rose (misses self.old) (misses self.new) }
+            WhereTold (seen self.old).files (λ told. told name.now ≡ Some bytes.items)) }
+        ensures failed { IsErrOf result Failed → Rose (seen self.old).faults (seen self.new).faults }
+        ensures absent { IsErrOf result Absent → Rose (seen self.old).misses (seen self.new).misses }
         ensures lacks { IsErrOf result Absent →
-            WhereTold (files self.old) (λ told. told name.now ≡ None) }
-        ensures too_long { IsErrOf result TooLong → Rose (misses self.old) (misses self.new) }
-        ensures exceeds { IsErrOf result TooLong → WhereTold (files self.old) (λ told.
+            WhereTold (seen self.old).files (λ told. told name.now ≡ None) }
+        ensures too_long { IsErrOf result TooLong → Rose (seen self.old).misses (seen self.new).misses }
+        ensures exceeds { IsErrOf result TooLong → WhereTold (seen self.old).files (λ told.
             IsSomeAnd (told name.now) (λ bytes. MAX_FILE_BYTES < length bytes)) }
-        ensures same { files self.new ≡ files self.old }
-        ensures faults { faults self.old ≤ faults self.new }
-        ensures misses { misses self.old ≤ misses self.new };
+        ensures same { (seen self.new).files ≡ (seen self.old).files }
+        ensures faults { (seen self.old).faults ≤ (seen self.new).faults }
+        ensures misses { (seen self.old).misses ≤ (seen self.new).misses };
 
     /// Puts these bytes under this name, in place of a file that is there.
     ///
@@ -46,13 +41,13 @@ pub trait Shelf {
     /// on. `Memory`: the files stay. No other fault comes. Files of other names stay as they were.
     fn write(&mut self, name: &str, bytes: &[u8]) -> Result<(), ShelfFault>
         ensures ok { OnOk result
-            (WhereKeptTold (files self.old) (files self.new) (Puts name.now bytes.now)) }
-        ensures failed { IsErrOf result Failed → Rose (faults self.old) (faults self.new) }
+            (WhereKeptTold (seen self.old).files (seen self.new).files (Puts name.now bytes.now)) }
+        ensures failed { IsErrOf result Failed → Rose (seen self.old).faults (seen self.new).faults }
         ensures part { IsErrOf result Failed →
-            WhereKeptTold (files self.old) (files self.new) (PutsPart name.now bytes.now) }
-        ensures memory { IsErrOf result Memory → files self.new ≡ files self.old }
+            WhereKeptTold (seen self.old).files (seen self.new).files (PutsPart name.now bytes.now) }
+        ensures memory { IsErrOf result Memory → (seen self.new).files ≡ (seen self.old).files }
         ensures no_absent { IsErrOf result Absent → ⊥ }
         ensures no_too_long { IsErrOf result TooLong → ⊥ }
-        ensures faults { faults self.old ≤ faults self.new }
-        ensures misses { misses self.old ≤ misses self.new };
+        ensures faults { (seen self.old).faults ≤ (seen self.new).faults }
+        ensures misses { (seen self.old).misses ≤ (seen self.new).misses };
 }

@@ -16,16 +16,14 @@ pub struct StdSink {
 impl StdSink {
     /// The standard output of this runtime. This call takes no memory, nor does a write.
     pub fn new(rt: HostRuntime) -> Self
-        ensures { ⟦<StdSink as Sink>⟧.faults result ≡ 0 }
+        ensures { (⟦<StdSink as Sink>⟧.seen result).faults ≡ 0 }
     {
         StdSink { rt, faults: 0 }
     }
 }
 
 impl Sink for StdSink {
-    ghost written = { λ _. None };
-
-    ghost faults = { λ sink. sink.faults };
+    ghost seen = { λ sink. record { written = None; faults = sink.faults } };
 
     fn write(&mut self, bytes: &[u8]) -> Result<(), SinkFault> {
         if write_file(&mut io::writer(&self.rt), bytes).is_ok() {

@@ -6,8 +6,8 @@ ghost use Rattle.cfi_io.specs.declared.tests.ShowFault.TheVariants.{Read, Write}
 ghost use Rattle.cfi_io.specs.declared.fault.ShelfFault.TheVariants.{Failed as ShelfFailed, Absent};
 ghost use Rattle.cfi_io.specs.declared.fault.SinkFault.TheVariants.{Failed as SinkFailed};
 
-use cfi_word::limits::MAX_FILE_BYTES;
 use super::*;
+use cfi_word::limits::MAX_FILE_BYTES;
 use std::alloc::{AllocError, Global};
 use std::fs;
 use std::test::Fail;
@@ -25,15 +25,15 @@ fn show<F: Shelf, S: Sink, G: Gate>(
     sink: &mut S,
     gate: &G,
 ) -> Result<(), ShowFault>
-    ensures ok { OnOk result (WhereTold (F.files shelf.old) (λ files.
+    ensures ok { OnOk result (WhereTold (F.seen shelf.old).files (λ files.
         IfSome (files name.now) (λ bytes.
-        Appends (S.written sink.old) (S.written sink.new) bytes))) }
+        Appends (S.seen sink.old).written (S.seen sink.new).written bytes))) }
     ensures unread { IsErrOf result (Read ShelfFailed) →
-        Rose (F.faults shelf.old) (F.faults shelf.new) }
+        Rose (F.seen shelf.old).faults (F.seen shelf.new).faults }
     ensures absent { IsErrOf result (Read Absent) →
-        WhereTold (F.files shelf.old) (λ files. files name.now ≡ None) }
+        WhereTold (F.seen shelf.old).files (λ files. files name.now ≡ None) }
     ensures unwritten { IsErrOf result (Write SinkFailed) →
-        Rose (S.faults sink.old) (S.faults sink.new) }
+        Rose (S.seen sink.old).faults (S.seen sink.new).faults }
 {
     gate.line(0);
     let bytes = shelf.read(name).map_err(ShowFault::Read)?;

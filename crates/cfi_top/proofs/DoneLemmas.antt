@@ -9,7 +9,8 @@ use Rattle.cfi_top.specs.declared.answer.Answer.TheVariants as answers
 use Rattle.cfi_top.specs.declared.answer.TheConstants.{DONE}
 use Rattle.cfi_top.specs.Answer.{output_of}
 use Rattle.cfi_top.specs.Command.{IsCommand, IsCommandLine, more_of}
-use Rattle.cfi_top.specs.Outside.{ShelfView, SinkView, Holds, IsWrittenWhole}
+use Rattle.cfi_top.specs.Outside.{Holds, IsWrittenWhole}
+use Rattle.cfi_io.specs.Seen.{ShelfView, SinkView}
 use Rattle.cfi_top.specs.Plans.{named_files}
 use Rattle.cfi_top.specs.Reading.{AreRead}
 use Rattle.cfi_top.specs.Outcome.{IsMade, IsAllRead, IsWorked}

@@ -11,7 +11,8 @@ use Rattle.cfi_top.specs.declared.answer.Answer.TheVariants as answers
 use Rattle.cfi_top.specs.declared.answer.TheConstants.{DONE, WRITE_FAULT, MEMORY}
 use Rattle.cfi_top.specs.Answer.{output_of}
 use Rattle.cfi_top.specs.Command.{IsCommand, inputs_of, more_of}
-use Rattle.cfi_top.specs.Outside.{ShelfView, SinkView, shelf_view, IsWrittenWhole, IsBroken, status_of}
+use Rattle.cfi_top.specs.Outside.{IsWrittenWhole, IsBroken, status_of}
+use Rattle.cfi_io.specs.Seen.{ShelfView, SinkView}
 use Rattle.cfi_top.specs.Outcome.{Refuses, IsUnrefused, IsAllRead, IsAnswer}
 use Rattle.cfi_top.specs.Top.{Ends, IsSavedBy, Saves, IsValid, IsSteady}
 use Rattle.cfi_top.proofs.CommandLemmas.{one_command}
@@ -19,6 +20,10 @@ use Rattle.cfi_top.proofs.OutsideLemmas.{kept_same, kept_puts, kept_part}
 use Rattle.cfi_top.proofs.ReadingLemmas.{same_files, unread_most, unread_unsteady}
 use Rattle.cfi_top.proofs.UnreadLemmas.{why_of}
 use Rattle.cfi_top.proofs.TopLemmas.{saves_of}
+
+-- a shelf by its parts
+abbrev shelf_view : Option Files → (faults misses : ℕ) → ShelfView
+shelf_view files faults misses = record { files = files; faults = faults; misses = misses }
 
 -- files that a command refuses are not valid
 refused_valid : (words : List (List ℕ)) (told : Files) (faults misses : ℕ) (command : Command)
@@ -64,12 +69,17 @@ module _ (words : List (List ℕ)) (sink sink' : SinkView) (status : ℕ) where
       absurd (steady.written d.1.1)
 
   -- the same, where the shelf may tell nothing
-  pub valid_if : (files : Option Files) (faults misses : ℕ) (shelf' : ShelfView)
+  valid_if : (files : Option Files) (faults misses : ℕ) (shelf' : ShelfView)
       → Ends words (shelf_view files faults misses) shelf' sink sink' status
       → IfSome files (λ told. IsValid words told → IsSteady (shelf_view files faults misses) shelf' sink sink'
       → (status ≡ DONE) ⊎ (status ≡ MEMORY))
   valid_if None faults misses shelf' ends = tt
   valid_if (Some told) faults misses shelf' ends = valid_of told faults misses shelf' ends
+
+  pub valid_shelf : (shelf shelf' : ShelfView) → Ends words shelf shelf' sink sink' status
+      → IfSome shelf.files (λ told. IsValid words told → IsSteady shelf shelf' sink sink'
+      → (status ≡ DONE) ⊎ (status ≡ MEMORY))
+  valid_shelf shelf shelf' ends = valid_if shelf.files shelf.faults shelf.misses shelf' ends
 
 module _ (words : List (List ℕ)) (shelf shelf' : ShelfView) (sink sink' : SinkView) (status : ℕ) where
   -- names that no command saves

@@ -8,7 +8,8 @@ use Rattle.cfi_top.specs.declared.reading.Unread.{Unread}
 use Rattle.cfi_top.specs.Command.{inputs_of, more_of, saved_name}
 use Rattle.cfi_top.specs.declared.answer.Output.{Output}
 use Rattle.cfi_top.specs.Answer.{output_of}
-use Rattle.cfi_top.specs.Outside.{ShelfView, SinkView, IsStarved, IsDelivered}
+use Rattle.cfi_top.specs.Outside.{IsStarved, IsDelivered}
+use Rattle.cfi_io.specs.Seen.{ShelfView, SinkView}
 use Rattle.cfi_top.specs.Outcome.{IsMade, IsAllRead, IsWorked, GoesOn, IsOutcome, IsAnswer}
 use Rattle.cfi_top.specs.Reading.{AreRead}
 use Rattle.cfi_top.specs.Top.{Ends}

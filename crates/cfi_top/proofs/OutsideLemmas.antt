@@ -6,7 +6,8 @@ use Rattle.cfi_io.specs.Files.{Files, Puts, PutsPart}
 use Rattle.cfi_io.specs.Told.{WhereKeptTold}
 use Rattle.cfi_top.specs.declared.answer.Output.{Output}
 use Rattle.cfi_top.specs.declared.answer.Output.TheVariants as outputs
-use Rattle.cfi_top.specs.Outside.{ShelfView, SinkView, IsWrittenWhole, IsBroken, IsDelivered}
+use Rattle.cfi_top.specs.Outside.{IsWrittenWhole, IsBroken, IsDelivered}
+use Rattle.cfi_io.specs.Seen.{ShelfView, SinkView}
 
 -- a count that rose has risen later too, and over a longer time
 pub rose_later : (old mid new : ℕ) → old ≤ mid → mid ≤ new → Rose old mid → Rose old new

@@ -11,7 +11,8 @@ use Rattle.cfi_top.specs.declared.reading.Cause.{Cause}
 use Rattle.cfi_top.specs.declared.reading.Cause.TheVariants.{Failed, Absent, TooLong}
 use Rattle.cfi_top.specs.declared.reading.Unread.{Unread}
 use Rattle.cfi_top.specs.Answer.{unread_status}
-use Rattle.cfi_top.specs.Outside.{ShelfView, Holds}
+use Rattle.cfi_top.specs.Outside.{Holds}
+use Rattle.cfi_io.specs.Seen.{ShelfView}
 use Rattle.cfi_top.specs.Reading.{IsShort, HasRead, AreRead, IsUnread, StopsAt}
 use Rattle.cfi_top.proofs.OutsideLemmas.{rose_later}
 

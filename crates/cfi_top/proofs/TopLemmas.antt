@@ -6,7 +6,8 @@ use Rattle.cfi_top.specs.declared.answer.Answer.TheVariants as answers
 use Rattle.cfi_top.specs.declared.answer.TheConstants.{USAGE, READ_FAULT, NO_FILE, WRITE_FAULT, REFUSED, MEMORY}
 use Rattle.cfi_top.specs.Answer.{output_of}
 use Rattle.cfi_top.specs.Command.{IsCommandLine}
-use Rattle.cfi_top.specs.Outside.{ShelfView, SinkView, IsBroken}
+use Rattle.cfi_top.specs.Outside.{IsBroken}
+use Rattle.cfi_io.specs.Seen.{ShelfView, SinkView}
 use Rattle.cfi_top.specs.Outcome.{IsAnswer}
 use Rattle.cfi_top.specs.Top.{Ends, IsRefused, IsStopped, IsSavedBy, Saves}
 use Rattle.cfi_top.proofs.OutcomeLemmas.{saved_is_output}

@@ -9,7 +9,7 @@ use Rattle.cfi_top.specs.declared.reading.Cause.{Cause}
 use Rattle.cfi_top.specs.declared.reading.Cause.TheVariants.{Failed, Absent, TooLong}
 use Rattle.cfi_top.specs.declared.reading.Unread.{Unread}
 use Rattle.cfi_top.specs.Command.{inputs_of, more_of}
-use Rattle.cfi_top.specs.Outside.{ShelfView}
+use Rattle.cfi_io.specs.Seen.{ShelfView}
 use Rattle.cfi_top.specs.Outcome.{IsFirstUnread}
 use Rattle.cfi_top.specs.Reading.{AreRead, IsUnread, StopsAt}
 use Rattle.cfi_top.proofs.OutsideLemmas.{IsLater, rose_earlier}

@@ -32,7 +32,7 @@ use Rattle.cfi_top.specs.declared.answer.Answer.{Answer}
 use Rattle.cfi_top.specs.declared.answer.Answer.TheVariants as answers
 use Rattle.cfi_word.specs.declared.limits.TheConstants.{FUEL}
 use Rattle.cfi_top.specs.Command.{IsCommand, IsCommandLine, inputs_of, more_of}
-use Rattle.cfi_top.specs.Outside.{ShelfView}
+use Rattle.cfi_io.specs.Seen.{ShelfView}
 use Rattle.cfi_top.specs.Plans.{IsSaid, files_of}
 use Rattle.cfi_top.specs.Reading.{AreRead, StopsAt}
 use Rattle.cfi_top.specs.declared.reading.Unread.{Unread}

@@ -3,27 +3,11 @@ use Rattle.std.specs.Prelude.{◌≡◌, ◌⊎◌, ℕ, List, Option, Some}
 use Rattle.std.specs.Io.KnownBytes.{Appends}
 use Rattle.cfi_io.specs.Count.{Rose}
 use Rattle.cfi_io.specs.Files.{Files, Puts, PutsPart}
+use Rattle.cfi_io.specs.Seen.{ShelfView, SinkView}
 use Rattle.cfi_io.specs.Told.{WhereTold, WhereKeptTold, AppendsPrefix}
 use Rattle.cfi_top.specs.declared.answer.Output.{Output}
 use Rattle.cfi_top.specs.declared.answer.Output.TheVariants as outputs
 use Rattle.cfi_top.specs.declared.answer.TheConstants.{DONE, WRITE_FAULT, MEMORY}
-
--- a shelf: its files, where it tells them, and how often it failed, and lacked a file
-pub record ShelfView : Type 0 where
-  pub files : Option Files
-  pub faults : ℕ
-  pub misses : ℕ
-
-abbrev pub shelf_view : Option Files → (faults misses : ℕ) → ShelfView
-shelf_view files faults misses = record { files = files; faults = faults; misses = misses }
-
--- a sink: its bytes, where it tells them, and how often it failed
-pub record SinkView : Type 0 where
-  pub written : Option (List ℕ)
-  pub faults : ℕ
-
-abbrev pub sink_view : Option (List ℕ) → (faults : ℕ) → SinkView
-sink_view written faults = record { written = written; faults = faults }
 
 -- where the shelf tells its files, the file of this name has these bytes
 abbrev pub Holds : ShelfView → (name bytes : List ℕ) → Type 0

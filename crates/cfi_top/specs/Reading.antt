@@ -6,7 +6,8 @@ use Rattle.cfi_word.specs.declared.limits.TheConstants.{MAX_FILE_BYTES}
 use Rattle.cfi_top.specs.declared.reading.Cause.{Cause}
 use Rattle.cfi_top.specs.declared.reading.Cause.TheVariants.{Failed, Absent, TooLong}
 use Rattle.cfi_top.specs.declared.reading.Unread.{Unread}
-use Rattle.cfi_top.specs.Outside.{ShelfView, Holds}
+use Rattle.cfi_top.specs.Outside.{Holds}
+use Rattle.cfi_io.specs.Seen.{ShelfView}
 
 -- a file that may be read
 abbrev pub IsShort : (bytes : List ℕ) → Type 0

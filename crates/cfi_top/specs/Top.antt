@@ -14,7 +14,8 @@ use Rattle.cfi_top.specs.declared.command.Command.{Command}
 use Rattle.cfi_top.specs.declared.answer.Answer.{Answer}
 use Rattle.cfi_top.specs.Answer.{refused_line, unread_line, unread_status, output_of}
 use Rattle.cfi_top.specs.Command.{IsCommand, inputs_of, more_of, saved_name}
-use Rattle.cfi_top.specs.Outside.{ShelfView, SinkView, Holds, IsStarved, IsDelivered}
+use Rattle.cfi_top.specs.Outside.{Holds, IsStarved, IsDelivered}
+use Rattle.cfi_io.specs.Seen.{ShelfView, SinkView}
 use Rattle.cfi_top.specs.Plans.{named_files}
 use Rattle.cfi_top.specs.Reading.{AreRead, IsShort}
 use Rattle.cfi_top.specs.declared.reading.Unread.{Unread}

@@ -5,7 +5,6 @@ ghost use Rattle.cfi_top.specs.declared.command.Command.TheVariants as commands;
 ghost use Rattle.cfi_top.specs.declared.answer.TheConstants.{DONE, USAGE, READ_FAULT, NO_FILE, WRITE_FAULT, REFUSED, MEMORY};
 ghost use Rattle.cfi_args.specs.Words.{texts};
 ghost use Rattle.cfi_top.specs.Command.{IsCommand, IsCommandLine};
-ghost use Rattle.cfi_top.specs.Outside.{shelf_view, sink_view};
 ghost use Rattle.cfi_top.specs.Outcome.{IsAnswer};
 ghost use Rattle.cfi_top.specs.Top.{Ends, HasRun, HasListed, HasAssembled, HasInstrumented, HasLinked, HasVerified, HasGraphed, IsRefused, IsStopped, IsSavedBy, Saves, IsValid, IsSteady};
 
@@ -31,11 +30,11 @@ fn answer_of<F: Shelf, G: Gate>(
     gate: &G,
 ) -> Result<Answer, AllocError>
     ensures answer { IfOk result (IsAnswer (texts words.now)
-        (shelf_view (F.files shelf.old) (F.faults shelf.old) (F.misses shelf.old))
-        (shelf_view (F.files shelf.new) (F.faults shelf.new) (F.misses shelf.new))) }
-    ensures same { F.files shelf.new ≡ F.files shelf.old }
-    ensures faults { F.faults shelf.old ≤ F.faults shelf.new }
-    ensures misses { F.misses shelf.old ≤ F.misses shelf.new }
+        (F.seen shelf.old)
+        (F.seen shelf.new)) }
+    ensures same { (F.seen shelf.new).files ≡ (F.seen shelf.old).files }
+    ensures faults { (F.seen shelf.old).faults ≤ (F.seen shelf.new).faults }
+    ensures misses { (F.seen shelf.old).misses ≤ (F.seen shelf.new).misses }
 {
     match command_of(alloc, words)? {
         Some(command) => outcome_of(alloc, command, shelf, gate),
@@ -52,10 +51,10 @@ fn run_words<F: Shelf, S: Sink, G: Gate>(
     gate: &G,
 ) -> u8
     ensures ends { Ends (texts words.now)
-        (shelf_view (F.files shelf.old) (F.faults shelf.old) (F.misses shelf.old))
-        (shelf_view (F.files shelf.new) (F.faults shelf.new) (F.misses shelf.new))
-        (sink_view (S.written sink.old) (S.faults sink.old))
-        (sink_view (S.written sink.new) (S.faults sink.new)) result }
+        (F.seen shelf.old)
+        (F.seen shelf.new)
+        (S.seen sink.old)
+        (S.seen sink.new) result }
 {
     let Ok(answer) = answer_of(alloc, words, shelf, gate) else {
         return MEMORY;
@@ -83,58 +82,58 @@ pub fn top<F: Shelf, S: Sink, G: Gate>(
     gate: &G,
 ) -> Ended
     ensures ends { Ends (texts words.now)
-        (shelf_view (F.files shelf.old) (F.faults shelf.old) (F.misses shelf.old))
-        (shelf_view (F.files shelf.new) (F.faults shelf.new) (F.misses shelf.new))
-        (sink_view (S.written sink.old) (S.faults sink.old))
-        (sink_view (S.written sink.new) (S.faults sink.new)) result.status }
+        (F.seen shelf.old)
+        (F.seen shelf.new)
+        (S.seen sink.old)
+        (S.seen sink.new) result.status }
 
     // The headline: what is reported was run by the policy machine, unit by unit.
     ensures ran { (input : List ℕ) → IsCommand (texts words.now) (commands.Run input) →
         result.status ≡ DONE → HasRun input
-        (shelf_view (F.files shelf.old) (F.faults shelf.old) (F.misses shelf.old))
-        (sink_view (S.written sink.old) (S.faults sink.old))
-        (sink_view (S.written sink.new) (S.faults sink.new)) }
+        (F.seen shelf.old)
+        (S.seen sink.old)
+        (S.seen sink.new) }
     ensures listed { (input : List ℕ) → IsCommand (texts words.now) (commands.List input) →
         result.status ≡ DONE → HasListed input
-        (shelf_view (F.files shelf.old) (F.faults shelf.old) (F.misses shelf.old))
-        (sink_view (S.written sink.old) (S.faults sink.old))
-        (sink_view (S.written sink.new) (S.faults sink.new)) }
+        (F.seen shelf.old)
+        (S.seen sink.old)
+        (S.seen sink.new) }
 
     ensures assembled { (input output : List ℕ) →
         IsCommand (texts words.now) (commands.Asm input output) →
         result.status ≡ DONE → HasAssembled input output
-        (shelf_view (F.files shelf.old) (F.faults shelf.old) (F.misses shelf.old))
-        (shelf_view (F.files shelf.new) (F.faults shelf.new) (F.misses shelf.new))
-        (sink_view (S.written sink.old) (S.faults sink.old))
-        (sink_view (S.written sink.new) (S.faults sink.new)) }
+        (F.seen shelf.old)
+        (F.seen shelf.new)
+        (S.seen sink.old)
+        (S.seen sink.new) }
 
     ensures instrumented { (input output : List ℕ) →
         IsCommand (texts words.now) (commands.Instrument input output) →
         result.status ≡ DONE → HasInstrumented input output
-        (shelf_view (F.files shelf.old) (F.faults shelf.old) (F.misses shelf.old))
-        (shelf_view (F.files shelf.new) (F.faults shelf.new) (F.misses shelf.new))
-        (sink_view (S.written sink.old) (S.faults sink.old))
-        (sink_view (S.written sink.new) (S.faults sink.new)) }
+        (F.seen shelf.old)
+        (F.seen shelf.new)
+        (S.seen sink.old)
+        (S.seen sink.new) }
 
     ensures linked { (output : List ℕ) → (inputs : List (List ℕ)) →
         IsCommand (texts words.now) (commands.Link output inputs) →
         result.status ≡ DONE → HasLinked output inputs
-        (shelf_view (F.files shelf.old) (F.faults shelf.old) (F.misses shelf.old))
-        (shelf_view (F.files shelf.new) (F.faults shelf.new) (F.misses shelf.new))
-        (sink_view (S.written sink.old) (S.faults sink.old))
-        (sink_view (S.written sink.new) (S.faults sink.new)) }
+        (F.seen shelf.old)
+        (F.seen shelf.new)
+        (S.seen sink.old)
+        (S.seen sink.new) }
 
     ensures verified { (input : List ℕ) → IsCommand (texts words.now) (commands.Verify input) →
         result.status ≡ DONE → HasVerified input
-        (shelf_view (F.files shelf.old) (F.faults shelf.old) (F.misses shelf.old))
-        (sink_view (S.written sink.old) (S.faults sink.old))
-        (sink_view (S.written sink.new) (S.faults sink.new)) }
+        (F.seen shelf.old)
+        (S.seen sink.old)
+        (S.seen sink.new) }
 
     ensures graphed { (input : List ℕ) → IsCommand (texts words.now) (commands.Graph input) →
         result.status ≡ DONE → HasGraphed input
-        (shelf_view (F.files shelf.old) (F.faults shelf.old) (F.misses shelf.old))
-        (sink_view (S.written sink.old) (S.faults sink.old))
-        (sink_view (S.written sink.new) (S.faults sink.new)) }
+        (F.seen shelf.old)
+        (S.seen sink.old)
+        (S.seen sink.new) }
 
     // When each status comes.
     ensures done { result.status ≡ DONE → IsCommandLine (texts words.now) }
@@ -142,37 +141,37 @@ pub fn top<F: Shelf, S: Sink, G: Gate>(
     ensures unfit { ¬ IsCommandLine (texts words.now) →
         (result.status ≡ USAGE) ⊎ (result.status ≡ WRITE_FAULT) ⊎ (result.status ≡ MEMORY) }
     ensures read_fault { result.status ≡ READ_FAULT →
-        Rose (F.faults shelf.old) (F.faults shelf.new) }
-    ensures missed { result.status ≡ NO_FILE → Rose (F.misses shelf.old) (F.misses shelf.new) }
+        Rose (F.seen shelf.old).faults (F.seen shelf.new).faults }
+    ensures missed { result.status ≡ NO_FILE → Rose (F.seen shelf.old).misses (F.seen shelf.new).misses }
     ensures unread { (result.status ≡ READ_FAULT) ⊎ (result.status ≡ NO_FILE) →
         IsStopped (texts words.now)
-        (shelf_view (F.files shelf.old) (F.faults shelf.old) (F.misses shelf.old))
-        (shelf_view (F.files shelf.new) (F.faults shelf.new) (F.misses shelf.new))
-        (sink_view (S.written sink.old) (S.faults sink.old))
-        (sink_view (S.written sink.new) (S.faults sink.new)) result.status }
+        (F.seen shelf.old)
+        (F.seen shelf.new)
+        (S.seen sink.old)
+        (S.seen sink.new) result.status }
     ensures write_fault { result.status ≡ WRITE_FAULT →
-        Rose (S.faults sink.old) (S.faults sink.new)
-        ⊎ (Saves (texts words.now) × Rose (F.faults shelf.old) (F.faults shelf.new)) }
+        Rose (S.seen sink.old).faults (S.seen sink.new).faults
+        ⊎ (Saves (texts words.now) × Rose (F.seen shelf.old).faults (F.seen shelf.new).faults) }
     ensures refused { result.status ≡ REFUSED → IsRefused (texts words.now)
-        (shelf_view (F.files shelf.old) (F.faults shelf.old) (F.misses shelf.old))
-        (sink_view (S.written sink.old) (S.faults sink.old))
-        (sink_view (S.written sink.new) (S.faults sink.new)) }
+        (F.seen shelf.old)
+        (S.seen sink.old)
+        (S.seen sink.new) }
     ensures within { result.status ≤ MEMORY }
 
     // Valid input gives 0 or 6, where no count rises.
-    ensures valid { IfSome (F.files shelf.old) (λ told. IsValid (texts words.now) told → IsSteady
-        (shelf_view (F.files shelf.old) (F.faults shelf.old) (F.misses shelf.old))
-        (shelf_view (F.files shelf.new) (F.faults shelf.new) (F.misses shelf.new))
-        (sink_view (S.written sink.old) (S.faults sink.old))
-        (sink_view (S.written sink.new) (S.faults sink.new)) →
+    ensures valid { IfSome (F.seen shelf.old).files (λ told. IsValid (texts words.now) told → IsSteady
+        (F.seen shelf.old)
+        (F.seen shelf.new)
+        (S.seen sink.old)
+        (S.seen sink.new) →
         (result.status ≡ DONE) ⊎ (result.status ≡ MEMORY)) }
 
     // All files stay but the one that the command saves, and that one too but at 0, and at 4 where the shelf failed.
-    ensures elsewhere { WhereKeptTold (F.files shelf.old) (F.files shelf.new) (λ told told'.
+    ensures elsewhere { WhereKeptTold (F.seen shelf.old).files (F.seen shelf.new).files (λ told told'.
         (name : List ℕ) → ¬ IsSavedBy (texts words.now) name → told' name ≡ told name) }
-    ensures same { (F.files shelf.new ≡ F.files shelf.old) ⊎ (Saves (texts words.now) ×
+    ensures same { ((F.seen shelf.new).files ≡ (F.seen shelf.old).files) ⊎ (Saves (texts words.now) ×
         ((result.status ≡ DONE) ⊎ ((result.status ≡ WRITE_FAULT) ×
-        Rose (F.faults shelf.old) (F.faults shelf.new)))) }
+        Rose (F.seen shelf.old).faults (F.seen shelf.new).faults))) }
 {
     let status = run_words(alloc, words, shelf, sink, gate);
     Ended { status }

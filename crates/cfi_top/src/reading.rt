@@ -1,5 +1,4 @@
 ghost use Rattle.std.specs.Prelude.{◌≡◌, ◌≤◌, ◌∷◌, [], length, IfOk, MatchResult};
-ghost use Rattle.cfi_top.specs.Outside.{shelf_view};
 ghost use Rattle.cfi_top.specs.Reading.{HasRead, IsUnread, IsFound};
 
 use crate::names::text_of;
@@ -30,12 +29,12 @@ pub struct Unread {
 // Reads the file of this name.
 fn read_one<F: Shelf>(shelf: &mut F, name: &str) -> Result<Result<Bytes, Cause>, AllocError>
     ensures read { IfOk result (λ found. MatchResult found
-        (HasRead (shelf_view (F.files shelf.old) (F.faults shelf.old) (F.misses shelf.old)) name.now)
-        (IsUnread (shelf_view (F.files shelf.old) (F.faults shelf.old) (F.misses shelf.old))
-        (shelf_view (F.files shelf.new) (F.faults shelf.new) (F.misses shelf.new)) name.now)) }
-    ensures same { F.files shelf.new ≡ F.files shelf.old }
-    ensures faults { F.faults shelf.old ≤ F.faults shelf.new }
-    ensures misses { F.misses shelf.old ≤ F.misses shelf.new }
+        (HasRead (F.seen shelf.old) name.now)
+        (IsUnread (F.seen shelf.old)
+        (F.seen shelf.new) name.now)) }
+    ensures same { (F.seen shelf.new).files ≡ (F.seen shelf.old).files }
+    ensures faults { (F.seen shelf.old).faults ≤ (F.seen shelf.new).faults }
+    ensures misses { (F.seen shelf.old).misses ≤ (F.seen shelf.new).misses }
 {
     match shelf.read(name) {
         Ok(bytes) => Ok(Ok(Bytes::from_vec(bytes))),
@@ -53,11 +52,11 @@ pub fn read_files<F: Shelf>(
     names: &[Text],
 ) -> Result<Result<Items<Bytes>, Unread>, AllocError>
     ensures read { IfOk result (IsFound
-        (shelf_view (F.files shelf.old) (F.faults shelf.old) (F.misses shelf.old))
-        (shelf_view (F.files shelf.new) (F.faults shelf.new) (F.misses shelf.new)) names.now) }
-    ensures same { F.files shelf.new ≡ F.files shelf.old }
-    ensures faults { F.faults shelf.old ≤ F.faults shelf.new }
-    ensures misses { F.misses shelf.old ≤ F.misses shelf.new }
+        (F.seen shelf.old)
+        (F.seen shelf.new) names.now) }
+    ensures same { (F.seen shelf.new).files ≡ (F.seen shelf.old).files }
+    ensures faults { (F.seen shelf.old).faults ≤ (F.seen shelf.new).faults }
+    ensures misses { (F.seen shelf.old).misses ≤ (F.seen shelf.new).misses }
 {
     let mut files = Vec::new(alloc);
     for name in names {

@@ -2,7 +2,6 @@ ghost use Rattle.std.specs.Prelude.{◌≡◌, ◌≤◌, ◌∷◌, [], length,
 ghost use Rattle.cfi_word.specs.declared.limits.TheConstants.{MAX_FILE_BYTES, MAX_INPUTS};
 ghost use Rattle.cfi_top.specs.declared.command.Command.TheVariants as commands;
 ghost use Rattle.cfi_top.specs.Command.{HasInputs, inputs_of, more_of};
-ghost use Rattle.cfi_top.specs.Outside.{shelf_view};
 ghost use Rattle.cfi_top.specs.Reading.{IsShort};
 ghost use Rattle.cfi_top.specs.Outcome.{GoesOn, IsWorked, IsOutcome};
 
@@ -127,11 +126,11 @@ fn outcome_over<F: Shelf, G: Gate>(
     requires count { length files.now ≡ length (inputs_of command) }
     requires short { All IsShort files.now }
     ensures outcome { IfOk result (GoesOn command files.now
-        (shelf_view (F.files shelf.old) (F.faults shelf.old) (F.misses shelf.old))
-        (shelf_view (F.files shelf.new) (F.faults shelf.new) (F.misses shelf.new))) }
-    ensures same { F.files shelf.new ≡ F.files shelf.old }
-    ensures faults { F.faults shelf.old ≤ F.faults shelf.new }
-    ensures misses { F.misses shelf.old ≤ F.misses shelf.new }
+        (F.seen shelf.old)
+        (F.seen shelf.new)) }
+    ensures same { (F.seen shelf.new).files ≡ (F.seen shelf.old).files }
+    ensures faults { (F.seen shelf.old).faults ≤ (F.seen shelf.new).faults }
+    ensures misses { (F.seen shelf.old).misses ≤ (F.seen shelf.new).misses }
 {
     let names = command.more(alloc, files)?;
     match read_files(alloc, shelf, &names)? {
@@ -151,11 +150,11 @@ pub fn outcome_of<F: Shelf, G: Gate>(
 ) -> Result<Answer, AllocError>
     requires number { HasInputs command }
     ensures outcome { IfOk result (IsOutcome command
-        (shelf_view (F.files shelf.old) (F.faults shelf.old) (F.misses shelf.old))
-        (shelf_view (F.files shelf.new) (F.faults shelf.new) (F.misses shelf.new))) }
-    ensures same { F.files shelf.new ≡ F.files shelf.old }
-    ensures faults { F.faults shelf.old ≤ F.faults shelf.new }
-    ensures misses { F.misses shelf.old ≤ F.misses shelf.new }
+        (F.seen shelf.old)
+        (F.seen shelf.new)) }
+    ensures same { (F.seen shelf.new).files ≡ (F.seen shelf.old).files }
+    ensures faults { (F.seen shelf.old).faults ≤ (F.seen shelf.new).faults }
+    ensures misses { (F.seen shelf.old).misses ≤ (F.seen shelf.new).misses }
 {
     let names = command.inputs(alloc)?;
     match read_files(alloc, shelf, &names)? {

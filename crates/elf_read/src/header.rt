@@ -2,9 +2,9 @@ ghost use Rattle.std.specs.Prelude.{IfOk, IfErr};
 ghost use Rattle.elf_read.specs.Header.{IsRelocatable, HasTable, HasShape};
 ghost use Rattle.elf_read.specs.Fault.{IsFirstFault};
 
-use cfi_word::limits::MAX_SECTIONS;
 use crate::fault::{ElfFault, Limit};
 use crate::word::{u16_at, u32_at};
+use cfi_word::limits::MAX_SECTIONS;
 
 /// Bytes of the header of an ELF32 file.
 pub const HEADER_SIZE: usize = 52;

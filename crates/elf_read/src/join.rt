@@ -4,9 +4,9 @@ ghost use Rattle.elf_read.specs.Object.{record_bytes};
 ghost use Rattle.elf_read.specs.Join.{text_of, data_of, data_contents, data_end, joined_text, joined_data};
 
 use crate::layout::{align_up, alignment_of, data_end_of};
-use cfi_values::Bytes;
 use crate::section::NOBITS;
 use crate::symbol_table::SymbolTable;
+use cfi_values::Bytes;
 use std::alloc::{AllocError, Global};
 
 /// Adds `n` zero bytes.

@@ -4,8 +4,8 @@ ghost use Rattle.elf_read.specs.Join.{aligned, alignment_of, text_size, text_end
 ghost use Rattle.elf_read.specs.Layout.{IsLayout};
 ghost use Rattle.cfi_word.specs.declared.map.TheConstants.{DATA_ALIGNMENT};
 
-use cfi_word::map::DATA_ALIGNMENT;
 use crate::symbol_table::SymbolTable;
+use cfi_word::map::DATA_ALIGNMENT;
 use std::alloc::{AllocError, Global};
 
 /// Where the sections of a file begin once they are joined, in bytes.

@@ -5,11 +5,11 @@ ghost use Rattle.elf_read.specs.Layout.{IsLayout, IsNumbering};
 ghost use Rattle.elf_read.specs.Fault.{IsFirstFault, HasPlaces, IsSound, kept_symbols, kept_relocs};
 
 use crate::fault::{ElfFault, Limit};
-use cfi_word::limits::{MAX_DATA, MAX_RELOCS, MAX_SYMBOLS, MAX_WORDS};
 use crate::layout::Layout;
 use crate::rela::{kind_of, rela_at, rela_count};
 use crate::relocation::is_dropped;
 use crate::symbol_table::SymbolTable;
+use cfi_word::limits::{MAX_DATA, MAX_RELOCS, MAX_SYMBOLS, MAX_WORDS};
 use std::alloc::{AllocError, Global};
 
 /// The number of each symbol among those that are kept, and how many those are.

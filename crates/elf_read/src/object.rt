@@ -72,7 +72,6 @@ pub type Symbols = Items<Symbol>;
 /// The relocations of an object, in order.
 pub type Relocs = Items<Reloc>;
 
-
 /// What a relocatable file has for the linker: joined text and data, symbols, relocations and records.
 #[derive(Debug, Drop)]
 pub struct Object {

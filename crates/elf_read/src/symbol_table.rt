@@ -10,8 +10,8 @@ use crate::name::ended;
 use crate::section::Section;
 use crate::sections::Sections;
 use crate::symbol::{Entry, FILE, GLOBAL, SECTION, SYMBOL_SIZE, UNDEFINED, WEAK};
-use cfi_word::limits::MAX_NAME;
 use crate::word::{rest, u16_at, u32_at};
+use cfi_word::limits::MAX_NAME;
 use std::marker::Model;
 use std::str;
 

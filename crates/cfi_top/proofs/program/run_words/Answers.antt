@@ -1,4 +1,3 @@
-use Rattle.cfi_top.specs.Outside.{shelf_view}
 use Rattle.cfi_top.proofs.OutsideLemmas.{IsLater}
 use Rattle.cfi_top.proofs.OutcomeLemmas.{ends_of}
 use Rattle.cfi_top.proofs.program.run_words.Goals as goal
@@ -8,8 +7,8 @@ pub returns : goal.returns
 returns g c =
     let shelf = c.args.shelf.now in
     let read = c.answer_of.new.shelf in
-    let old = shelf_view (g.F.Shelf.files shelf) (g.F.Shelf.faults shelf) (g.F.Shelf.misses shelf) in
-    let mid = shelf_view (g.F.Shelf.files read) (g.F.Shelf.faults read) (g.F.Shelf.misses read) in
+    let old = g.F.Shelf.seen shelf in
+    let mid = g.F.Shelf.seen read in
     let kept = c.answer_of.ensures in
     let later : IsLater old mid = record { files = kept.same; faults = kept.faults; misses = kept.misses } in
     record {

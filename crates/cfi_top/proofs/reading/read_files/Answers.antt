@@ -1,5 +1,4 @@
 use Rattle.std.proofs.Common.{[], refl, sym, subst, arith}
-use Rattle.cfi_top.specs.Outside.{shelf_view}
 use Rattle.cfi_top.specs.Reading.{AreRead}
 use Rattle.cfi_top.proofs.ReadingLemmas.{none_read}
 use Rattle.cfi_top.proofs.reading.read_files.Goals as goal
@@ -8,7 +7,7 @@ use Rattle.cfi_top.proofs.reading.read_files.Goals as goal
 pub loop-name-init : goal.loop-name-init
 loop-name-init g c =
     let shelf = c.args.shelf.now in
-    let old = shelf_view (g.F.Shelf.files shelf) (g.F.Shelf.faults shelf) (g.F.Shelf.misses shelf) in
+    let old = g.F.Shelf.seen shelf in
     record {
       read = subst (AreRead old []) (sym c.new-files.ensures.items) (none_read old);
       later = record { files = refl; faults = omega arith; misses = omega arith };

@@ -1,5 +1,4 @@
 use Rattle.std.proofs.Common.{take}
-use Rattle.cfi_top.specs.Outside.{shelf_view}
 use Rattle.cfi_top.specs.Reading.{AreRead}
 use Rattle.cfi_top.proofs.OutsideLemmas.{IsLater}
 use Rattle.cfi_top.proofs.reading.read_files.Given as goal
@@ -7,6 +6,6 @@ use Rattle.cfi_top.proofs.reading.read_files.Given as goal
 -- the files so far were read, and no count fell
 abbrev pub invariant-loop-name : goal.invariant-loop-name
 invariant-loop-name g l =
-    let old = shelf_view (g.F.Shelf.files l.fn.shelf) (g.F.Shelf.faults l.fn.shelf) (g.F.Shelf.misses l.fn.shelf) in
-    let now = shelf_view (g.F.Shelf.files l.shelf) (g.F.Shelf.faults l.shelf) (g.F.Shelf.misses l.shelf) in
+    let old = g.F.Shelf.seen l.fn.shelf in
+    let now = g.F.Shelf.seen l.shelf in
     record { read : AreRead old (take l.name-index l.names) l.files.items; later : IsLater old now }

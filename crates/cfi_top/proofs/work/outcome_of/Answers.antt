@@ -2,7 +2,6 @@ use Rattle.std.proofs.Common.{◌≡◌, ◌∙◌, Ok, subst}
 use Rattle.std.proofs.lemmas.Result.{IfOk-weaker}
 use Rattle.cfi_top.specs.Command.{inputs_of}
 use Rattle.cfi_top.specs.Outcome.{GoesOn}
-use Rattle.cfi_top.specs.Outside.{shelf_view}
 use Rattle.cfi_top.specs.Reading.{AreRead, IsFound}
 use Rattle.cfi_top.proofs.OutsideLemmas.{IsLater}
 use Rattle.cfi_top.proofs.OutcomeLemmas.{outcome_is}
@@ -16,9 +15,9 @@ returns-in-Ok-clause-outcome g c =
     let shelf = c.args.shelf.now in
     let read = c.read_files.new.shelf in
     let last = c.outcome_over.new.shelf in
-    let old = shelf_view (g.F.Shelf.files shelf) (g.F.Shelf.faults shelf) (g.F.Shelf.misses shelf) in
-    let mid = shelf_view (g.F.Shelf.files read) (g.F.Shelf.faults read) (g.F.Shelf.misses read) in
-    let new = shelf_view (g.F.Shelf.files last) (g.F.Shelf.faults last) (g.F.Shelf.misses last) in
+    let old = g.F.Shelf.seen shelf in
+    let mid = g.F.Shelf.seen read in
+    let new = g.F.Shelf.seen last in
     let found : IsFound old mid c.deref.result.now (Ok files) =
     subst (IsFound old mid c.deref.result.now) c.in-Ok.is c.in_ok-files.ensures.read in
     let named : c.deref.result.now ≡ inputs_of command = c.deref.ensures.value ∙ c.in_ok-names.ensures in

@@ -2,7 +2,6 @@ use Rattle.std.proofs.Common.{◌≡◌, ◌∙◌, Ok, subst}
 use Rattle.std.proofs.lemmas.Result.{IfOk-weaker}
 use Rattle.cfi_top.specs.Command.{more_of}
 use Rattle.cfi_top.specs.Outcome.{IsWorked}
-use Rattle.cfi_top.specs.Outside.{shelf_view}
 use Rattle.cfi_top.specs.Reading.{AreRead, IsFound}
 use Rattle.cfi_top.proofs.OutcomeLemmas.{worked_is}
 use Rattle.cfi_top.proofs.work.outcome_over.Goals as goal
@@ -15,8 +14,8 @@ returns-in-Ok-clause-outcome g c =
     let more = c.in-Ok.more in
     let shelf = c.args.shelf.now in
     let read = c.read_files.new.shelf in
-    let old = shelf_view (g.F.Shelf.files shelf) (g.F.Shelf.faults shelf) (g.F.Shelf.misses shelf) in
-    let new = shelf_view (g.F.Shelf.files read) (g.F.Shelf.faults read) (g.F.Shelf.misses read) in
+    let old = g.F.Shelf.seen shelf in
+    let new = g.F.Shelf.seen read in
     let found : IsFound old new c.deref.result.now (Ok more) =
     subst (IsFound old new c.deref.result.now) c.in-Ok.is c.in_ok-more.ensures.read in
     let named : c.deref.result.now ≡ more_of command files = c.deref.ensures.value ∙ c.in_ok-names.ensures in

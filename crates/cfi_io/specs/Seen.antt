@@ -1,0 +1,14 @@
+-- What a shelf and a sink tell and count at one moment.
+use Rattle.std.specs.Prelude.{ℕ, List, Option}
+use Rattle.cfi_io.specs.Files.{Files}
+
+-- a shelf: its files, where it tells them, how often it failed, and how often a file was not there or was too long
+pub record ShelfView : Type 0 where
+  pub files : Option Files
+  pub faults : ℕ
+  pub misses : ℕ
+
+-- a sink: its bytes, where it tells them, and how often it failed
+pub record SinkView : Type 0 where
+  pub written : Option (List ℕ)
+  pub faults : ℕ
