@@ -1,4 +1,4 @@
-//! What being accepted and being refused owe one another.
+//! Laws of accepted and refused files.
 
 ghost use Rattle.std.specs.Prelude.{ℕ, List, [], ◌∷◌};
 ghost use Rattle.cfi_bare.specs.declared.fault.BareFault.{BareFault};

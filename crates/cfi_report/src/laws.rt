@@ -1,4 +1,4 @@
-//! What reports and their texts owe one another.
+//! Laws of reports and their texts.
 
 ghost use Rattle.std.specs.Prelude.{◌≡◌, ℕ, List};
 ghost use Rattle.cfi_report.specs.declared.report.Report.{Report};

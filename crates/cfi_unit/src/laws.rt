@@ -1,4 +1,4 @@
-//! What the spellings of units owe one another.
+//! Laws of the spellings of units.
 
 ghost use Rattle.std.specs.Prelude.{◌≡◌, ℕ, ◌+◌, ◌<◌, ◌≤◌, List, length};
 ghost use Rattle.cfi_unit.specs.declared.unit.Unit.{Unit as CodeUnit};

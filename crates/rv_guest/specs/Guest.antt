@@ -1,4 +1,4 @@
--- What a guest's fields owe one another, and what may be asked of it.
+-- What holds of a guest's fields together, and what may be asked of it.
 use Rattle.std.specs.Prelude.{◌≡◌, ◌≢◌, ℕ, ◌+◌, ◌≤◌, ◌<◌, ◌^◌, ◌==◌, ◌&&◌, Bool, false, is_none, if◌then◌else◌, List, Option, Some, None, ⊤}
 use Rattle.std.specs.List.{All}
 use Rattle.cfi_unit.specs.declared.log.Log.{Log}

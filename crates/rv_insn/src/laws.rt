@@ -1,4 +1,4 @@
-//! What `decode`, `encode` and the table owe one another.
+//! Laws of `decode`, `encode` and the table.
 
 ghost use Rattle.std.specs.Prelude.{◌≡◌, ℕ, ◌^◌, ◌<◌, Some, option_map};
 ghost use Rattle.rv_insn.specs.declared.insn.Insn.{Insn};

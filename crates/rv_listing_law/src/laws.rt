@@ -1,4 +1,4 @@
-//! What listings, the reader of sources and the assembler owe one another.
+//! Laws of listings, the reader of sources and the assembler.
 
 ghost use Rattle.std.specs.Prelude.{◌≡◌, ◌∷◌, ◌++◌, ℕ, ◌^◌, ◌<◌, ◌≤◌, List, Some, Ok, codes, length, map, flat_map, All};
 ghost use Rattle.cfi_text.specs.Lines.{lines_of};

@@ -1,4 +1,4 @@
-//! What the listings of words owe one another.
+//! Laws of the listings of words.
 
 ghost use Rattle.std.specs.Prelude.{◌≡◌, ℕ, List, Option};
 ghost use Rattle.cfi_unit.specs.declared.unit.Unit.{Unit as CodeUnit};

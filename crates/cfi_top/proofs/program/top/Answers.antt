@@ -1,6 +1,6 @@
 use Rattle.cfi_top.proofs.DoneLemmas.{done_of, ran_of, listed_of, assembled_of, instrumented_of, linked_of, verified_of, graphed_of}
 use Rattle.cfi_top.proofs.TopLemmas.{usage_of, unfit_of, read_fault_of, missed_of, stopped_of, write_fault_of, refused_of}
-use Rattle.cfi_top.proofs.FilesLemmas.{valid_if, elsewhere_of, same_of, within_of}
+use Rattle.cfi_top.proofs.FilesLemmas.{valid_shelf, elsewhere_of, same_of, within_of}
 use Rattle.cfi_top.proofs.program.top.Goals as goal
 
 pub returns-clause-ran : goal.returns-clause-ran
@@ -52,7 +52,7 @@ pub returns-clause-within : goal.returns-clause-within
 returns-clause-within g c = within_of _ _ _ _ _ _ c.run_words-status.ensures.ends
 
 pub returns-clause-valid : goal.returns-clause-valid
-returns-clause-valid g c = valid_if _ _ _ _ _ _ _ _ c.run_words-status.ensures.ends
+returns-clause-valid g c = valid_shelf _ _ _ _ _ _ c.run_words-status.ensures.ends
 
 pub returns-clause-elsewhere : goal.returns-clause-elsewhere
 returns-clause-elsewhere g c = elsewhere_of _ _ _ _ _ _ c.run_words-status.ensures.ends
