@@ -6,11 +6,11 @@ ghost use Rattle.cfi_aux.specs.Faults.{place_at, body_at, branch_at};
 
 use crate::fault::AuxFault;
 use crate::format::{CALL, RETURN, TAIL};
-use cfi_word::limits::{MAX_BRANCHES, MAX_FUNCTIONS};
 use crate::records::Kind;
 use crate::word::{func_from, kind_from, place_from, word_count_from};
-use cfi_values::Items;
 use cfi_types::TypeTable;
+use cfi_values::Items;
+use cfi_word::limits::{MAX_BRANCHES, MAX_FUNCTIONS};
 use std::alloc::Global;
 
 fn places_from(

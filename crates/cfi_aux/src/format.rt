@@ -3,8 +3,8 @@
 ghost use Rattle.std.specs.Prelude.{◌≡◌};
 ghost use Rattle.cfi_aux.specs.Format.{is_whole, is_length, is_flag, is_name_length, is_func, has_count};
 
-use cfi_word::limits::{MAX_ENTRIES, MAX_NAME};
 use cfi_types::{FUNC, TypeTable};
+use cfi_word::limits::{MAX_ENTRIES, MAX_NAME};
 
 /// The first word of the section.
 pub const VERSION: u32 = 1;

@@ -8,12 +8,12 @@ ghost use Rattle.cfi_aux.specs.Faults.{records_at, records_in};
 
 use crate::branch::branches_from;
 use crate::fault::AuxFault;
-use cfi_word::limits::{MAX_BRANCHES, MAX_FUNCTIONS};
 use crate::function::functions_from;
 use crate::records::Records;
 use crate::word::{after_version, count_from};
-use cfi_values::Items;
 use cfi_types::TypeTable;
+use cfi_values::Items;
+use cfi_word::limits::{MAX_BRANCHES, MAX_FUNCTIONS};
 use std::alloc::Global;
 
 #[tactic(auto, unfolding(crate::specs::Faults::records_at, crate::specs::Reading::seen_as, crate::specs::Reading::and_with, crate::specs::Reading::and_also))]

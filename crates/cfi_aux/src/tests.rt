@@ -2,8 +2,8 @@ ghost use Rattle.std.specs.Prelude.{◌<◌, ◌^◌, All, IfOk, OnOk};
 ghost use Rattle.cfi_aux.specs.Placed.{address_of};
 
 use super::*;
-use cfi_values::{Items, Bytes};
 use cfi_types::{TypeFault, read_types};
+use cfi_values::{Bytes, Items};
 use elf_read::{Binding, Name, Object, Place, Relocs, Symbol, Symbols};
 use std::alloc::{AllocError, Global};
 use std::process::Abort;

@@ -9,9 +9,9 @@ ghost use Rattle.cfi_types.specs.Reading.{ReadingGives, next_word, fields_at, no
 
 use crate::fault::TypeFault;
 use crate::kind::{FUNC, may_be_field, may_have};
-use cfi_word::limits::MAX_NODES;
 use crate::node::TypeNode;
 use crate::table::TypeTable;
+use cfi_word::limits::MAX_NODES;
 use std::alloc::Global;
 
 fn word_from(bytes: &[u8]) -> Result<(u32, &[u8]), TypeFault>

@@ -7,10 +7,10 @@ ghost use Rattle.elf_write.specs.Contents.{name_table, info_of};
 ghost use Rattle.elf_write.specs.File.{sections_of, bytes_or_none, contents_of, padding, padded, body_of, link_of, info_of_part, name_place, part_header, header_of, file_header, IsWritable, bytes_of};
 
 use crate::contents::{local_count, put_names, put_relas, put_symbols};
-use crate::part::{Part, alignment_of, entry_size_of, flags_of, kind_of, section_name, parts_of};
+use crate::part::{Part, alignment_of, entry_size_of, flags_of, kind_of, parts_of, section_name};
 use crate::word::{put_halves, put_words};
-use elf_read::{Area, ENTRY_SIZE, HEADER_SIZE, IDENT, MACHINE, Object, RELOCATABLE};
 use cfi_values::Bytes;
+use elf_read::{Area, ENTRY_SIZE, HEADER_SIZE, IDENT, MACHINE, Object, RELOCATABLE};
 use std::alloc::{AllocError, Global};
 
 /// Adds the names of sections.

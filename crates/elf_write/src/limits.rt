@@ -4,9 +4,9 @@ ghost use Rattle.elf_write.specs.Contents.{info_of};
 ghost use Rattle.elf_write.specs.File.{bytes_or_none, bytes_of, IsWritable};
 ghost use Rattle.elf_write.specs.Limits.{IsWithinLimits};
 
-use elf_read::{Object, Reloc, Symbol};
 use cfi_values::Bytes;
-use cfi_word::limits::{MAX_NAME, MAX_DATA, MAX_RELOCS, MAX_SYMBOLS, MAX_WORDS};
+use cfi_word::limits::{MAX_DATA, MAX_NAME, MAX_RELOCS, MAX_SYMBOLS, MAX_WORDS};
+use elf_read::{Object, Reloc, Symbol};
 
 /// The greatest number of bytes of a section of types: 1,024 nodes with 255 fields each.
 pub const MAX_TYPES: usize = 1_052_676;

@@ -1,7 +1,7 @@
 use crate::file::write_object;
 use crate::limits::is_within_limits;
-use elf_read::{Area, Binding, Name, Object, Place, Reloc, Relocs, Symbol, Symbols, read_object};
 use cfi_values::Bytes;
+use elf_read::{Area, Binding, Name, Object, Place, Reloc, Relocs, Symbol, Symbols, read_object};
 use std::alloc::{AllocError, Global};
 use std::process::Abort;
 use std::test::Fail;
