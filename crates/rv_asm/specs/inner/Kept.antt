@@ -6,8 +6,8 @@ use Rattle.cfi_aux.specs.declared.format.TheConstants.{MAX_FUNCTIONS, MAX_BRANCH
 use Rattle.cfi_aux.specs.Records.{words_of}
 use Rattle.rv_asm.specs.declared.survey.Survey.TheInside.{Inside as Surveyed}
 use Rattle.rv_asm.specs.declared.draft.Draft.TheInside.{Inside as Drafted}
-use Rattle.rv_asm.specs.Draft.{Draft}
-use Rattle.rv_asm.specs.Survey.{Survey}
+use Rattle.rv_asm.specs.inner.Draft.{Draft}
+use Rattle.rv_asm.specs.inner.Survey.{Survey}
 
 -- a survey
 abbrev pub survey_of : Surveyed → Survey
