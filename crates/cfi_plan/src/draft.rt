@@ -3,8 +3,7 @@ ghost use Rattle.cfi_plan.specs.Draft.{PlanSoFar as Said, empty, taken, one_if, 
 
 use crate::fault::PlanFault;
 use crate::index::{give_number, number_of};
-use cfi_word::GUESTS;
-use cfi_word::limits::{FUEL, MAX_FUEL, MAX_MODULES, MAX_REFRESHES, MAX_SCRIPT, MAX_STARTS, MAX_CODE_WORDS, MIN_CODE_WORDS, MAX_EPOCH, MAX_VERSIONS, MIN_VERSIONS};
+use cfi_word::limits::{GUESTS, FUEL, MAX_FUEL, MAX_MODULES, MAX_REFRESHES, MAX_SCRIPT, MAX_STARTS, MAX_CODE_WORDS, MIN_CODE_WORDS, MAX_EPOCH, MAX_VERSIONS, MIN_VERSIONS};
 use crate::line::Line;
 use crate::plan::{Plan, PlanModule, ScriptLine};
 use cfi_values::{Text, Items};

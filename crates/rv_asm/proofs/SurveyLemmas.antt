@@ -3,7 +3,7 @@ use Rattle.std.proofs.Common.{◌≡◌, ℕ, suc, ◌+◌, ◌≤◌, ◌==◌,
 use Rattle.std.proofs.lemmas.List.FromFn.{length-enumerate_from}
 use Rattle.cfi_text.specs.Lines.{onto_first, lines_of, numbered_lines}
 use Rattle.rv_line.specs.Line.{line_in}
-use Rattle.rv_asm.specs.Survey.{Survey, row_of, with_line, with_lines}
+use Rattle.rv_asm.specs.inner.Survey.{Survey, row_of, with_line, with_lines}
 
 line_step : (b : Bool) (byte : ℕ) (lines : List (List ℕ)) (n : ℕ) → length lines ≤ n →
     length (if b then [] ∷ lines else onto_first byte lines) ≤ suc n

@@ -2,9 +2,10 @@ pub mod Words
 pub mod Spot
 pub mod Reference
 pub mod Relocs
-pub mod Survey
 pub mod Node
-pub mod Draft
+pub mod Placed
+pub mod Symbols
+pub mod Made
 pub mod Fault
 pub mod Assembled
-pub mod Kept
+pub mod inner

@@ -1,7 +1,6 @@
 -- The name that a statement refers to by a relocation, and the relocation's kind (RISC-V ELF psABI).
 use Rattle.std.specs.Prelude.{ℕ, Bool, ◌||◌, ◌==◌, List, Option, Some, None}
 use Rattle.elf_read.specs.declared.relocation.TheConstants as relocs
-use Rattle.rv_asm.specs.declared.reference.Reference.{Reference}
 use Rattle.rv_line.specs.declared.statement.Statement.{Statement}
 use Rattle.rv_line.specs.declared.statement.Statement.TheVariants as statements
 use Rattle.rv_line.specs.declared.statement.Low.{Low}
@@ -12,10 +11,6 @@ use Rattle.rv_line.specs.declared.statement.Target.{Target}
 use Rattle.rv_line.specs.declared.statement.Target.TheVariants as targets
 use Rattle.rv_line.specs.declared.statement.Datum.{Datum}
 use Rattle.rv_line.specs.declared.statement.Datum.TheVariants as data_words
-
--- a reference as the relocation's kind and the name's bytes
-abbrev pub shown : Reference → ℕ × List ℕ
-shown reference = (reference.kind, reference.name.now)
 
 -- by an immediate of 12 bits, whose kinds depend on the instruction's form
 abbrev pub low_reference : (lo pcrel_lo : ℕ) → Low → Option (ℕ × List ℕ)

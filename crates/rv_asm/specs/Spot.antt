@@ -1,6 +1,6 @@
--- Where a line of a source stands: in text or data, after so many bytes of each, and after so many `la`. An end past
--- 2^32 - 1 counts as that number: a limit was passed long before.
-use Rattle.std.specs.Prelude.{ℕ, ◌+◌, ◌-◌, ◌^◌, min, ℤ, pos, negsuc, List, ◌++◌, codes, Option, Some, None}
+-- What the statements of a source add to text and data, and how much of them stands before a line: an end past 2^32 - 1
+-- counts as that number, since a limit was passed long before.
+use Rattle.std.specs.Prelude.{ℕ, ◌+◌, ◌-◌, ◌^◌, min, ℤ, pos, negsuc, List, ◌++◌, codes}
 use Rattle.std.specs.Fmt.{decimal}
 use Rattle.elf_read.specs.declared.object.Area.{Area}
 use Rattle.elf_read.specs.declared.object.Area.TheVariants as areas
@@ -10,10 +10,6 @@ use Rattle.rv_line.specs.declared.statement.Datum.{Datum}
 use Rattle.rv_line.specs.declared.statement.Datum.TheVariants as data_words
 use Rattle.rv_asm.specs.declared.spot.Spot.{Spot}
 use Rattle.rv_asm.specs.Words.{size_of, low_word, li_words}
-
--- before the first line
-abbrev pub start : Spot
-start = record { area = areas.Text; text_end = 0; data_end = 0; pairs = 0 }
 
 -- a sum, at most 2^32 - 1
 abbrev pub plus : (end size : ℕ) → ℕ
@@ -55,23 +51,6 @@ abbrev pub data_size : Statement → ℕ
 data_size (statements.Word datum) = 4
 data_size (statements.Zero number) = zero_size number
 data_size other = 0
-
--- where the next line stands
-abbrev pub beyond : Spot → (area : Area) → Statement → Spot
-beyond spot areas.Text statement = record spot { text_end = plus spot.text_end (text_size statement) }
-beyond spot areas.Data statement = record spot { data_end = plus spot.data_end (data_size statement) }
-
-abbrev pub after : Spot → Statement → Spot
-after spot statements.Text = record spot { area = areas.Text }
-after spot statements.Data = record spot { area = areas.Data }
-after spot (statements.La rd name) =
-    beyond (record spot { pairs = plus spot.pairs 1 }) spot.area (statements.La rd name)
-after spot statement = beyond spot spot.area statement
-
--- a line that says nothing adds nothing
-abbrev pub after_line : Spot → Option Statement → Spot
-after_line spot None = spot
-after_line spot (Some statement) = after spot statement
 
 -- how much of an area stands before the line
 abbrev pub end_in : Spot → (area : Area) → ℕ

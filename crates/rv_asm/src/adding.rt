@@ -1,7 +1,7 @@
 //! What a statement makes.
 
-ghost use Rattle.rv_asm.specs.Draft.{with_statement};
-ghost use Rattle.rv_asm.specs.Assembled.{or_range, Gives};
+ghost use Rattle.rv_asm.specs.inner.Draft.{with_statement};
+ghost use Rattle.rv_asm.specs.inner.Passes.{or_range, Gives};
 
 use crate::draft::Draft;
 use crate::fault::AsmFault;

@@ -1,8 +1,9 @@
 //! The assembler.
 
 ghost use Rattle.std.specs.Prelude.{◌+◌, ◌^◌, ◌<◌, length};
-ghost use Rattle.rv_asm.specs.Assembled.{with_said, with_row, with_rows, object_in, Gives, IsDue};
-ghost use Rattle.rv_asm.specs.Draft.{empty};
+ghost use Rattle.rv_asm.specs.Assembled.{object_in, IsDue};
+ghost use Rattle.rv_asm.specs.inner.Draft.{empty};
+ghost use Rattle.rv_asm.specs.inner.Passes.{with_said, with_row, with_rows, passed_in, Gives};
 
 use crate::check::{is_twice, is_unknown};
 use crate::draft::Draft;
@@ -70,6 +71,19 @@ fn draft_of(alloc: Global, file: &File, rows: &[Row]) -> Result<Draft, AsmFault>
     Ok(draft)
 }
 
+// What the two passes over a text give.
+fn passed(alloc: Global, text: &[u8]) -> Result<Object, AsmFault>
+    requires { length text.now + 1 < 2 ^ 32 }
+    ensures { IsDue result (passed_in text.now) }
+{
+    let (file, rows) = survey_of(alloc, text)?.into_file(alloc)?;
+    let draft = draft_of(alloc, &file, rows.as_slice())?;
+    if draft.is_open() {
+        return Err(AsmFault::Syntax(rows.len() as u32 + 1));
+    }
+    Ok(draft.into_object(alloc, file)?)
+}
+
 /// The object that a source makes, or its first faulty line.
 ///
 /// `text` is the source, of lines that end at 0x0a. The first faulty line decides, then the least of its faults in the
@@ -79,10 +93,5 @@ pub fn assemble(alloc: Global, text: &[u8]) -> Result<Object, AsmFault>
     requires { length text.now + 1 < 2 ^ 32 }
     ensures { IsDue result (object_in text.now) }
 {
-    let (file, rows) = survey_of(alloc, text)?.into_file(alloc)?;
-    let draft = draft_of(alloc, &file, rows.as_slice())?;
-    if draft.is_open() {
-        return Err(AsmFault::Syntax(rows.len() as u32 + 1));
-    }
-    Ok(draft.into_object(alloc, file)?)
+    passed(alloc, text)
 }

@@ -1,7 +1,8 @@
 //! Statements that may not stand where they do.
 
 ghost use Rattle.std.specs.Prelude.{◌≡◌, is_some};
-ghost use Rattle.rv_asm.specs.Fault.{is_name, is_data, is_bare, is_astray};
+ghost use Rattle.rv_asm.specs.Fault.{is_name, is_data, is_bare};
+ghost use Rattle.rv_asm.specs.inner.Fault.{is_astray};
 
 use crate::check::jump_follows;
 use crate::draft::Draft;

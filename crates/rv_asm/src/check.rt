@@ -2,8 +2,9 @@
 
 ghost use Rattle.std.specs.Prelude.{◌≡◌};
 ghost use Rattle.std.specs.Option.{option_copied, option_map};
-ghost use Rattle.rv_asm.specs.Reference.{shown};
-ghost use Rattle.rv_asm.specs.Fault.{is_kind, is_jump, says, of_jumps, jump_follows, lacks_partner, is_unknown, is_elsewhere, is_again, is_label, begins_again, is_twice};
+ghost use Rattle.rv_asm.specs.inner.Reference.{shown};
+ghost use Rattle.rv_asm.specs.Fault.{is_kind, is_jump, says, lacks_partner, is_unknown, is_elsewhere, is_again, is_label, begins_again, is_twice};
+ghost use Rattle.rv_asm.specs.inner.Fault.{of_jumps, jump_follows};
 
 use crate::reference::{Reference, is_partner, reference_of};
 use crate::row::Row;
@@ -123,7 +124,7 @@ fn is_label(label: Option<&Name>, name: &Name) -> bool
 }
 
 fn begins_again(names: &Names, row: &Row, statement: &Statement) -> bool
-    ensures { result ≡ begins_again names.now row.now statement.now }
+    ensures { result ≡ begins_again names.now row.now.number row.now.label statement.now }
 {
     match statement {
         Statement::Func { name, .. } => {
@@ -136,7 +137,7 @@ fn begins_again(names: &Names, row: &Row, statement: &Statement) -> bool
 
 /// Whether a line defines a name a second time.
 pub fn is_twice(names: &Names, row: &Row, statement: &Statement) -> bool
-    ensures { result ≡ is_twice names.now row.now statement.now }
+    ensures { result ≡ is_twice names.now row.now.number row.now.label statement.now }
 {
     is_again(names, row.number, row.label.as_ref()) || begins_again(names, row, statement)
 }

@@ -2,8 +2,8 @@
 
 ghost use Rattle.std.specs.Prelude.{◌≡◌, ◌≤◌, length};
 ghost use Rattle.rv_line.specs.declared.statement.Statement.TheVariants as statements;
-ghost use Rattle.rv_asm.specs.Draft.{empty, has_relocs, with_words, with_code, with_jump, with_data, with_datum, with_zeros, with_word};
-ghost use Rattle.rv_asm.specs.Assembled.{or_range, Gives};
+ghost use Rattle.rv_asm.specs.inner.Draft.{empty, has_relocs, with_words, with_code, with_jump, with_data, with_datum, with_zeros, with_word};
+ghost use Rattle.rv_asm.specs.inner.Passes.{or_range, Gives};
 
 use crate::code::words_of;
 use crate::fault::AsmFault;
@@ -37,11 +37,11 @@ pub struct Draft {
 }
 
 impl Model for Draft {
-    ghost use Rattle.rv_asm.specs.Draft.{Draft as Made};
+    ghost use Rattle.rv_asm.specs.inner.Draft.{Draft as Made};
 
     ghost Value = { Made };
 
-    ghost use Rattle.rv_asm.specs.Kept.{draft_of, IsWritable};
+    ghost use Rattle.rv_asm.specs.inner.Kept.{draft_of, IsWritable};
 
     ghost view = { draft_of };
 

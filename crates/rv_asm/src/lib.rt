@@ -1,9 +1,10 @@
 //! The assembler: an object of a source.
 //!
 //! Stands on `rv_insn`, `rv_text`, `rv_line`, `rv_names`, `cfi_values`, `cfi_text`, `elf_read`, `cfi_types`, `cfi_aux`
-//! and `thiserror`. Proved: `assemble` gives exactly the object that the lines make, as `specs/Assembled.antt` has it,
-//! or the first faulty line with the least of its faults. Only tested: that mnemonics and short forms are spelled as
-//! GNU as spells them. Open: nothing.
+//! and `thiserror`. Proved: `assemble` gives exactly the object that the lines make, each where it stands, joined in
+//! their order, as `specs/Made.antt` and `specs/Assembled.antt` have it, or the first faulty line with the least of its
+//! faults; that its two passes do so, which `specs/inner` defines, is proved in `proofs/PassLemmas.antt`. Only tested:
+//! that mnemonics and short forms are spelled as GNU as spells them. Open: nothing.
 #![tactic(auto)]
 
 mod adding;

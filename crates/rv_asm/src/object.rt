@@ -3,7 +3,8 @@
 ghost use Rattle.std.specs.Prelude.{◌≡◌, ◌<◌, ◌^◌, length, All, IfOk};
 ghost use Rattle.cfi_types.specs.Spelling.{spelling as types_spelling};
 ghost use Rattle.cfi_aux.specs.Records.{CanBeWritten, spelling as records_spelling};
-ghost use Rattle.rv_asm.specs.Assembled.{only_if, object_of};
+ghost use Rattle.rv_asm.specs.Made.{only_if};
+ghost use Rattle.rv_asm.specs.inner.Passes.{object_of};
 
 use crate::draft::Draft;
 use crate::file::File;

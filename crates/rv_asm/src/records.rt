@@ -4,8 +4,8 @@ ghost use Rattle.std.specs.Prelude.{◌<◌, ◌^◌, length, Ok};
 ghost use Rattle.std.specs.Option.{ForSome};
 ghost use Rattle.cfi_aux.specs.Records.{kind_words};
 ghost use Rattle.rv_asm.specs.Node.{node_of};
-ghost use Rattle.rv_asm.specs.Draft.{with_node, with_function, closed, with_kind, with_switch};
-ghost use Rattle.rv_asm.specs.Assembled.{or_range, Gives};
+ghost use Rattle.rv_asm.specs.inner.Draft.{with_node, with_function, closed, with_kind, with_switch};
+ghost use Rattle.rv_asm.specs.inner.Passes.{or_range, Gives};
 
 use crate::draft::Draft;
 use crate::fault::AsmFault;

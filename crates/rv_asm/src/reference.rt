@@ -2,7 +2,8 @@
 
 ghost use Rattle.std.specs.Prelude.{◌≡◌};
 ghost use Rattle.std.specs.Option.{option_map};
-ghost use Rattle.rv_asm.specs.Reference.{shown, low_reference, high_reference, target_reference, datum_reference, reference_of, is_leap, is_partner};
+ghost use Rattle.rv_asm.specs.inner.Reference.{shown};
+ghost use Rattle.rv_asm.specs.Reference.{low_reference, high_reference, target_reference, datum_reference, reference_of, is_leap, is_partner};
 
 use elf_read::Name;
 use elf_read::relocation::{

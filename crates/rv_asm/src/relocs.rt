@@ -2,7 +2,7 @@
 
 ghost use Rattle.std.specs.Prelude.{◌≡◌, ◌≤◌, length, IfOk};
 ghost use Rattle.std.specs.Option.{option_map};
-ghost use Rattle.rv_asm.specs.Reference.{shown};
+ghost use Rattle.rv_asm.specs.inner.Reference.{shown};
 ghost use Rattle.rv_asm.specs.Relocs.{reloc_by, first_reloc, second_reloc, both, relocs_of};
 
 use crate::reference::{Reference, is_leap, reference_of};

@@ -25,7 +25,8 @@ pub struct Spot {
 impl Spot {
     ghost use Rattle.std.specs.Prelude.{◌≡◌};
     ghost use Rattle.std.specs.Option.{option_copied};
-    ghost use Rattle.rv_asm.specs.Spot.{start, beyond, after, after_line, end_of};
+    ghost use Rattle.rv_asm.specs.Spot.{end_of};
+    ghost use Rattle.rv_asm.specs.inner.Spot.{start, beyond, after, after_line};
 
     /// Before the first line.
     pub fn start() -> Spot

@@ -3,10 +3,11 @@
 ghost use Rattle.std.specs.Prelude.{◌≡◌, ◌<◌, ◌≤◌, ◌^◌, length, IfOk, OnOk};
 ghost use Rattle.cfi_text.specs.Lines.{numbered_lines};
 ghost use Rattle.rv_names.specs.Names.{with_name, with_definition, with_names};
-ghost use Rattle.rv_asm.specs.Assembled.{file_of};
+ghost use Rattle.rv_asm.specs.inner.Passes.{file_of};
 ghost use Rattle.rv_asm.specs.Reference.{reference_of};
 ghost use Rattle.rv_asm.specs.Spot.{pair_label};
-ghost use Rattle.rv_asm.specs.Survey.{definition_at, with_reference, with_statement, names_of, nothing, with_line, with_lines};
+ghost use Rattle.rv_asm.specs.Symbols.{definition_at};
+ghost use Rattle.rv_asm.specs.inner.Survey.{with_reference, with_statement, names_of, nothing, with_line, with_lines};
 
 use crate::file::File;
 use crate::reference::reference_of;
@@ -31,11 +32,11 @@ pub struct Survey {
 }
 
 impl Model for Survey {
-    ghost use Rattle.rv_asm.specs.Survey.{Survey as Said};
+    ghost use Rattle.rv_asm.specs.inner.Survey.{Survey as Said};
 
     ghost Value = { Said };
 
-    ghost use Rattle.rv_asm.specs.Kept.{survey_of};
+    ghost use Rattle.rv_asm.specs.inner.Kept.{survey_of};
 
     ghost view = { survey_of };
 }

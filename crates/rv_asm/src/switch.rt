@@ -2,7 +2,7 @@
 
 ghost use Rattle.std.specs.Prelude.{◌≡◌, IfOk};
 ghost use Rattle.std.specs.List.{list_all};
-ghost use Rattle.rv_asm.specs.Draft.{value_in, values_in};
+ghost use Rattle.rv_asm.specs.Made.{value_in, values_in};
 ghost use Rattle.rv_asm.specs.Fault.{in_text};
 
 use elf_read::Name;

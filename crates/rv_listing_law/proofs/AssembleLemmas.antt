@@ -19,14 +19,18 @@ use Rattle.rv_line.specs.Line.{line_in}
 use Rattle.rv_asm.specs.declared.file.File.{File}
 use Rattle.rv_asm.specs.declared.row.Row.{Row}
 use Rattle.rv_asm.specs.declared.spot.Spot.{Spot}
-use Rattle.rv_asm.specs.Assembled.{◌>>=◌, with_said, with_rows, ended, object_by, object_in}
-use Rattle.rv_asm.specs.Draft.{Draft, empty, has_relocs, with_code, with_statement}
-use Rattle.rv_asm.specs.Fault.{is_astray, is_unknown, begins_again}
+use Rattle.rv_asm.specs.Assembled.{object_in}
+use Rattle.rv_asm.specs.Fault.{is_unknown, begins_again}
 use Rattle.rv_asm.specs.Relocs.{relocs_of}
-use Rattle.rv_asm.specs.Spot.{plus, after}
-use Rattle.rv_asm.specs.Survey.{Survey, nothing, with_kind, with_line, with_lines}
-use Rattle.rv_asm.specs.Survey.{with_statement as surveyed}
+use Rattle.rv_asm.specs.Spot.{plus}
+use Rattle.rv_asm.specs.inner.Draft.{Draft, empty, has_relocs, with_code, with_statement}
+use Rattle.rv_asm.specs.inner.Fault.{is_astray}
+use Rattle.rv_asm.specs.inner.Passes.{◌>>=◌, with_said, with_rows, end_of_lines, passed_by}
+use Rattle.rv_asm.specs.inner.Spot.{after}
+use Rattle.rv_asm.specs.inner.Survey.{Survey, nothing, with_kind, with_line, with_lines}
+use Rattle.rv_asm.specs.inner.Survey.{with_statement as surveyed}
 use Rattle.rv_asm.specs.Words.{word_bytes}
+use Rattle.rv_asm.proofs.PassLemmas.{passed_in-text}
 use Rattle.rv_listing_law.specs.Back.{number_statement, fence_statement, statement_of, read_statement, word_statement, plain_line, word_line, text_object}
 use Rattle.rv_listing_law.proofs.WordsLemmas.{words_of-word}
 use Rattle.rv_listing_law.proofs.ListingLemmas.{said-listing}
@@ -46,7 +50,7 @@ record IsCode (statement : Statement) : Type 0 where
   pub straight : (draft : Draft) (rest : List Row) (end : ℕ) →
       is_astray no_file draft rest (spot_at end) statement ≡ false
   pub known : is_unknown [] statement ≡ false
-  pub once : (row : Row) → begins_again [] row statement ≡ false
+  pub once : (number : ℕ) → begins_again [] number None statement ≡ false
   pub relocs : (end : ℕ) → relocs_of [] (spot_at end) statement ≡ []
   pub code : (draft : Draft) (end : ℕ) →
       with_statement no_file (spot_at end) draft statement ≡ with_code no_file (spot_at end) draft statement
@@ -58,7 +62,7 @@ IsCode-number word = record {
   kinds = refl;
   straight = λ draft rest end. refl;
   known = refl;
-  once = λ row. refl;
+  once = λ number. refl;
   relocs = λ end. refl;
   code = λ draft end. refl;
 }
@@ -70,7 +74,7 @@ IsCode-fence word true is = rw is (record {
   kinds = refl;
   straight = λ draft rest end. refl;
   known = refl;
-  once = λ row. refl;
+  once = λ number. refl;
   relocs = λ end. refl;
   code = λ draft end. refl;
 })
@@ -84,7 +88,7 @@ IsCode-insn insn = record {
   kinds = refl;
   straight = λ draft rest end. refl;
   known = refl;
-  once = λ row. refl;
+  once = λ number. refl;
   relocs = λ end. refl;
   code = λ draft end. refl;
 }
@@ -161,7 +165,7 @@ with_said-code statement number end draft next rest is makes =
     rw (
       is.straight draft rest end,
       is.known,
-      is.once (row_at number end statement),
+      is.once number,
       is.code draft end,
       makes,
     ) refl
@@ -198,6 +202,6 @@ object_in-listing words text small few is =
     let survey : with_lines nothing (numbered_lines text) ≡ survey_at (0 + 4 * length words) (first_row ∷ rows) =
     with_lines-said nothing 1 (lines_of text) ∙ ap (said_lines nothing 1) (said-listing words small text is)
     ∙ said_lines-words 0 2 (first_row ∷ []) words (omega (arith, few)) in
-    ap object_by survey
-    ∙ ap (λ r. r >>= ended no_file (length (first_row ∷ rows)))
+    sym (passed_in-text text) ∙ ap passed_by survey
+    ∙ ap (λ r. r >>= end_of_lines no_file (length (first_row ∷ rows)))
     (with_rows-words 2 0 [] words small (omega (arith, few)))

@@ -1,6 +1,6 @@
 use Rattle.std.proofs.Common.{◌≡◌, length}
-use Rattle.rv_asm.specs.Draft.{empty}
-use Rattle.rv_asm.specs.Assembled.{with_rows}
+use Rattle.rv_asm.specs.inner.Draft.{empty}
+use Rattle.rv_asm.specs.inner.Passes.{with_rows}
 use Rattle.rv_asm.proofs.assembler.draft_of.Given as goal
 
 -- the lines that are left lead to what all lead to

@@ -1,5 +1,5 @@
 use Rattle.std.proofs.Common.{◌≡◌, length}
-use Rattle.rv_asm.specs.Fault.{jump_follows}
+use Rattle.rv_asm.specs.inner.Fault.{jump_follows}
 use Rattle.rv_asm.proofs.check.jump_follows.Given as goal
 
 -- the lines that are left say what all say

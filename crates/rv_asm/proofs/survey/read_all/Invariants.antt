@@ -1,6 +1,6 @@
 use Rattle.std.proofs.Common.{◌≡◌}
 use Rattle.cfi_text.specs.Lines.{numbered_lines}
-use Rattle.rv_asm.specs.Survey.{nothing, with_lines}
+use Rattle.rv_asm.specs.inner.Survey.{nothing, with_lines}
 use Rattle.rv_asm.proofs.survey.read_all.Given as goal
 
 -- what is left leads to what all lead to

@@ -1,7 +1,7 @@
 use Rattle.std.proofs.Common.{◌≡◌, ◌≤◌, length, sym, subst, refl}
 use Rattle.std.proofs.lemmas.Result.{IfOk-weaker}
 use Rattle.cfi_text.specs.Lines.{numbered_lines}
-use Rattle.rv_asm.specs.Survey.{Survey, nothing, with_lines}
+use Rattle.rv_asm.specs.inner.Survey.{Survey, nothing, with_lines}
 use Rattle.rv_asm.proofs.SurveyLemmas.{rows-le}
 use Rattle.rv_asm.proofs.survey.survey_of.Goals as goal
 

@@ -1,5 +1,5 @@
 use Rattle.std.proofs.Common.{◌≡◌, take}
-use Rattle.rv_asm.specs.Draft.{values_in}
+use Rattle.rv_asm.specs.Made.{values_in}
 use Rattle.rv_asm.proofs.switch.values_of.Given as goal
 
 -- the values are those of the names so far

@@ -5,8 +5,8 @@ use Rattle.cfi_word.specs.declared.limits.TheConstants.{MAX_NODES, MAX_FUNCTIONS
 use Rattle.cfi_aux.specs.Records.{kind_words}
 use Rattle.rv_asm.specs.declared.survey.Survey.TheInside.{Inside as Surveyed}
 use Rattle.rv_asm.specs.declared.draft.Draft.TheInside.{Inside as Drafted}
-use Rattle.rv_asm.specs.Draft.{Draft}
-use Rattle.rv_asm.specs.Survey.{Survey}
+use Rattle.rv_asm.specs.inner.Draft.{Draft}
+use Rattle.rv_asm.specs.inner.Survey.{Survey}
 
 -- a survey
 abbrev pub survey_of : Surveyed → Survey

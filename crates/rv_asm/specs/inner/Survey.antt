@@ -6,17 +6,14 @@ use Rattle.rv_line.specs.declared.statement.Statement.{Statement}
 use Rattle.rv_line.specs.declared.statement.Statement.TheVariants as statements
 use Rattle.rv_line.specs.declared.line.Line.{Line}
 use Rattle.rv_line.specs.Line.{line_in}
-use Rattle.rv_names.specs.declared.names.Definition.{Definition}
 use Rattle.rv_names.specs.declared.names.Entry.{Entry}
 use Rattle.rv_asm.specs.declared.spot.Spot.{Spot}
 use Rattle.rv_asm.specs.declared.row.Row.{Row}
 use Rattle.rv_names.specs.Names.{with_name, with_definition, with_export, with_names}
 use Rattle.rv_asm.specs.Reference.{reference_of}
-use Rattle.rv_asm.specs.Spot.{start, after_line, end_of, pair_label}
-
--- a label of a line, which is the offset of its statement
-abbrev pub definition_at : (number : ℕ) → Spot → Definition
-definition_at number spot = record { line = number; area = spot.area; value = end_of spot }
+use Rattle.rv_asm.specs.Spot.{pair_label}
+use Rattle.rv_asm.specs.Symbols.{definition_at}
+use Rattle.rv_asm.specs.inner.Spot.{start, after_line}
 
 -- the names with those of a statement
 abbrev pub with_reference : (table : List Entry) → Option (ℕ × List ℕ) → List Entry

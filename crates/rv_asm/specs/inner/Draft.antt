@@ -1,5 +1,5 @@
 -- What the lines of a source make, one after the other: each adds to the draft, or has the least of its faults.
-use Rattle.std.specs.Prelude.{ℕ, ◌+◌, ◌-◌, ◌*◌, ◌^◌, Bool, true, false, ◌&&◌, nat_lt, nat_le, ℤ, pos, negsuc, List, [], ◌∷◌, ◌++◌, length, map, replicate, if◌then◌else◌, Option, Some, None, unwrap_or, option_map}
+use Rattle.std.specs.Prelude.{ℕ, ◌+◌, ◌*◌, ◌^◌, Bool, true, false, ◌&&◌, nat_lt, nat_le, ℤ, pos, negsuc, List, [], ◌∷◌, ◌++◌, length, replicate, if◌then◌else◌, Option, Some, None, unwrap_or, option_map}
 use Rattle.elf_read.specs.declared.object.Area.{Area}
 use Rattle.elf_read.specs.declared.object.Area.TheVariants as areas
 use Rattle.elf_read.specs.declared.object.Reloc.{Reloc}
@@ -19,7 +19,7 @@ use Rattle.rv_names.specs.declared.names.Entry.{Entry}
 use Rattle.rv_asm.specs.declared.file.File.{File}
 use Rattle.rv_asm.specs.declared.spot.Spot.{Spot}
 use Rattle.rv_asm.specs.declared.words.Words.{Words}
-use Rattle.rv_names.specs.Names.{text_value}
+use Rattle.rv_asm.specs.Made.{ended, values_in}
 use Rattle.rv_asm.specs.Node.{func_in, node_of}
 use Rattle.rv_asm.specs.Relocs.{reloc_by, relocs_of}
 use Rattle.rv_asm.specs.Words.{word_bytes, words_bytes, size_of, low_word, words_of}
@@ -120,9 +120,6 @@ with_function kinds spot draft name node taken = do
       }) else None
 
 -- a function that ends here
-abbrev pub ended : (end : ℕ) → Function → Function
-ended end function = record function { length = end - function.offset }
-
 abbrev pub closed : Spot → Draft → Option Function → Draft
 closed spot draft None = draft
 closed spot draft (Some function) = record draft {
@@ -131,12 +128,6 @@ closed spot draft (Some function) = record draft {
 }
 
 -- the kind of the next indirect jump
-abbrev pub value_in : (table : List Entry) → (name : List ℕ) → ℕ
-value_in table name = unwrap_or (text_value table name) 0
-
-abbrev pub values_in : (table : List Entry) → (names : List (List ℕ)) → List ℕ
-values_in table names = map (value_in table) names
-
 abbrev pub with_kind : Draft → Option Kind → Option Draft
 with_kind draft None = None
 with_kind draft (Some kind) = Some (record draft { kind = Some kind })
