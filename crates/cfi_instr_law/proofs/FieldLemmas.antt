@@ -18,7 +18,8 @@ use Rattle.cfi_unit.proofs.UnitLemmas.{IsUnit-range, first_insn}
 use Rattle.rv_reloc.specs.declared.fault.RelocFault.TheVariants as faults
 use Rattle.rv_reloc.specs.declared.table.Form.{Form}
 use Rattle.rv_reloc.specs.declared.table.Form.TheVariants as forms
-use Rattle.rv_reloc.specs.Formula.{high_of, low_of, signed_of, is_within, is_reach}
+use Rattle.rv_reloc.specs.Formula.{signed_of, is_reach}
+use Rattle.rv_insn.specs.Fields.{is_signed, high_of, low_of}
 use Rattle.rv_reloc.specs.Form.{fits, with_number}
 use Rattle.rv_reloc.specs.Field.{changed, immediate}
 use Rattle.cfi_instr_law.proofs.SeenLemmas.{seen}
@@ -32,7 +33,7 @@ high-fits number = omega arith
 low-fits : (number : ℕ) → IsSigned (2 ^ 11) (low_of number)
 low-fits number = signed-range (2 ^ 11) (number % 2 ^ 12) (omega arith)
 
-within-signed : (half : ℕ) (z : ℤ) → is_within half z ≡ true → IsSigned half z
+within-signed : (half : ℕ) (z : ℤ) → is_signed half z ≡ true → IsSigned half z
 within-signed half (pos n) h = ltb-true n half h
 within-signed half (negsuc n) h = ltb-true n half h
 
@@ -51,7 +52,7 @@ IsBounded form number = Unit {0}
 reach-fits : (half number : ℕ) → is_reach half number ≡ true → number < 2 ^ 32
     → IsSigned half (signed_of number) × IsEven (signed_of number)
 reach-fits half number h small =
-    let parts = and_parts (is_within half (signed_of number)) _ h in (
+    let parts = and_parts (is_signed half (signed_of number)) _ h in (
       within-signed half (signed_of number) parts.0,
       signed-even number (eqb-true (number % 2) 0 parts.1) small,
     )

@@ -8,7 +8,8 @@ use Rattle.rv_insn.specs.declared.insn.Op.TheVariants.{Add, Xor}
 use Rattle.rv_insn.specs.declared.insn.Cond.TheVariants.{Beq, Bne}
 use Rattle.rv_insn.specs.declared.insn.LoadKind.TheVariants.{Lw}
 use Rattle.cfi_word.specs.declared.sizes.TheConstants.{SLOTS}
-use Rattle.cfi_unit.specs.Unit.{high_insn, low_insn, high_part, low_part, bary_address}
+use Rattle.cfi_unit.specs.Unit.{high_insn, low_insn, bary_address}
+use Rattle.rv_insn.specs.Fields.{high_of, low_of}
 use Rattle.cfi_unit.specs.declared.log.Stop.TheVariants as stops
 use Rattle.cfi_model.specs.declared.act.Wait.TheVariants as waits
 use Rattle.cfi_model.specs.State.{State, register, displaced}
@@ -46,7 +47,7 @@ near p pc steps x28 x29 x30 x31 bary tary off zero_is none small =
 
 -- x28 is the high part of a slot's address
 abbrev pub high_of : (slot : ℕ) → ℕ
-high_of slot = high_part (bary_address slot) * 2 ^ 12 % 2 ^ 32
+high_of slot = high_of (bary_address slot) * 2 ^ 12 % 2 ^ 32
 
 pub points : (p : State) (pc steps x28 x29 x30 x31 : ℕ) (bary tary : Option ℕ) (slot : ℕ) → pc + 4 < 2 ^ 32
     → begin_as (high_insn slot) (inner p p.units pc steps x28 x29 x30 x31 bary tary None)
@@ -56,13 +57,13 @@ points p pc steps x28 x29 x30 x31 bary tary slot small =
 
 -- both parts give the address
 pub joins : (address : ℕ) → address + 2 ^ 11 < 2 ^ 32
-    → displaced (high_part address * 2 ^ 12 % 2 ^ 32) (low_part address) ≡ address
+    → displaced (high_of address * 2 ^ 12 % 2 ^ 32) (low_of address) ≡ address
 joins address small = elim (cases_lt (address % 2 ^ 12) (2 ^ 11)) [
   | inl h ↦
-      ap (λ b. displaced (high_part address * 2 ^ 12 % 2 ^ 32)
+      ap (λ b. displaced (high_of address * 2 ^ 12 % 2 ^ 32)
       (cond b (pos (address % 2 ^ 12)) (negsuc (2 * 2 ^ 11 - 1 - address % 2 ^ 12)))) (lt-ltb _ _ h) ∙ omega arith
   | inr h ↦
-      ap (λ b. displaced (high_part address * 2 ^ 12 % 2 ^ 32)
+      ap (λ b. displaced (high_of address * 2 ^ 12 % 2 ^ 32)
       (cond b (pos (address % 2 ^ 12)) (negsuc (2 * 2 ^ 11 - 1 - address % 2 ^ 12)))) (le-ltb _ _ h) ∙ omega arith
 ]
 

@@ -11,7 +11,8 @@ use Rattle.cfi_word.specs.declared.sizes.TheConstants.{SLOTS}
 use Rattle.cfi_word.specs.declared.map.TheConstants.{BARY}
 use Rattle.cfi_unit.specs.declared.unit.Unit.{Unit as CodeUnit}
 use Rattle.cfi_unit.specs.declared.unit.Unit.TheVariants as units
-use Rattle.cfi_unit.specs.Unit.{IsFree, IsPlain, IsUnit, IsLong, masked, check, insns_of, words_of, size_of, link_register, high_part, low_part, bary_address}
+use Rattle.cfi_unit.specs.Unit.{IsFree, IsPlain, IsUnit, IsLong, masked, check, insns_of, words_of, size_of, link_register, bary_address}
+use Rattle.rv_insn.specs.Fields.{high_of, low_of}
 use Rattle.cfi_unit.proofs.SlotLemmas.{signed-range, signed-bits}
 use Rattle.cfi_unit.proofs.InsnLemmas.{insns_at, insns_at-append}
 
@@ -69,22 +70,23 @@ plain-first_of (insns.Op op rd rs1 rs2) is plain = refl
 plain-first_of (insns.Fence fields) is plain = refl
 plain-first_of insn is plain = absurd plain
 
-slot_in-is : (slot low : ℕ) → low ≡ bary_address slot % 2 ^ 12 → slot_in (high_part (bary_address slot)) low ≡ slot
-slot_in-is slot low e =
+slot_in-is : (slot low : ℕ) → slot < SLOTS → low ≡ bary_address slot % 2 ^ 12
+    → slot_in (high_of (bary_address slot)) low ≡ slot
+slot_in-is slot low within e =
     elim (cases_lt low 2048) [
-      | inl lt ↦ rw (lt-ltb low 2048 lt) (omega arith)
-      | inr ge ↦ rw (le-ltb low 2048 ge) (omega arith)
+      | inl lt ↦ rw (lt-ltb low 2048 lt) (omega (arith, within, e))
+      | inr ge ↦ rw (le-ltb low 2048 ge) (omega (arith, within, e))
     ]
 
-check-first_of : (link : Bool) (rs1 : ℕ) (imm : ℤ) (slot : ℕ) (rest : List Insn) → ltb 0 (link_register link) ≡ link →
-    unit_of (check link rs1 imm slot ++ rest) ≡ Some (units.Check link rs1 imm slot)
-check-first_of link rs1 imm slot rest e =
+check-first_of : (link : Bool) (rs1 : ℕ) (imm : ℤ) (slot : ℕ) (rest : List Insn) → slot < SLOTS
+    → ltb 0 (link_register link) ≡ link → unit_of (check link rs1 imm slot ++ rest) ≡ Some (units.Check link rs1 imm slot)
+check-first_of link rs1 imm slot rest within e =
     let low = signed-bits (2 ^ 11) (bary_address slot % 2 ^ 12) (omega arith) in
-    ap (λ l. Some (units.Check l rs1 imm (slot_in (high_part (bary_address slot))
-    (low_bits (2 ^ 12) (low_part (bary_address slot))))))
+    ap (λ l. Some (units.Check l rs1 imm (slot_in (high_of (bary_address slot))
+    (low_bits (2 ^ 12) (low_of (bary_address slot))))))
     e
-    ∙ ap (λ s. Some (units.Check link rs1 imm s)) (slot_in-is slot (low_bits (2 ^ 12) (low_part (bary_address slot)))
-    low)
+    ∙ ap (λ s. Some (units.Check link rs1 imm s)) (slot_in-is slot (low_bits (2 ^ 12) (low_of (bary_address slot)))
+    within low)
 
 pub unit_of-insns_of : (unit : CodeUnit) (rest : List Insn) → IsUnit unit → unit_of (insns_of unit ++ rest) ≡ Some unit
 unit_of-insns_of (units.Plain insn) rest fits = ap (λ u. Some u) (plain-first_of insn (insn ∷ rest) fits)
@@ -93,8 +95,8 @@ unit_of-insns_of (units.Store kind rs1 rs2 imm) rest fits = refl
 unit_of-insns_of (units.Branch cond rs1 rs2 off) rest fits = refl
 unit_of-insns_of (units.Jump true off) rest fits = refl
 unit_of-insns_of (units.Jump false off) rest fits = refl
-unit_of-insns_of (units.Check true rs1 imm slot) rest fits = check-first_of true rs1 imm slot rest refl
-unit_of-insns_of (units.Check false rs1 imm slot) rest fits = check-first_of false rs1 imm slot rest refl
+unit_of-insns_of (units.Check true rs1 imm slot) rest fits = check-first_of true rs1 imm slot rest fits.2 refl
+unit_of-insns_of (units.Check false rs1 imm slot) rest fits = check-first_of false rs1 imm slot rest fits.2 refl
 unit_of-insns_of units.Service rest fits = refl
 
 -- the instructions of a unit are in range

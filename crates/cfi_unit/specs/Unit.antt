@@ -7,7 +7,7 @@ use Rattle.rv_insn.specs.declared.insn.Cond.TheVariants.{Beq, Bne}
 use Rattle.rv_insn.specs.declared.insn.LoadKind.TheVariants.{Lw}
 use Rattle.rv_insn.specs.declared.insn.ImmOp.TheVariants.{Addi, Slli, Srli}
 use Rattle.rv_insn.specs.declared.insn.Op.TheVariants.{Add, Xor, Or}
-use Rattle.rv_insn.specs.Fields.{signed}
+use Rattle.rv_insn.specs.Fields.{signed, high_of, low_of}
 use Rattle.rv_insn.specs.Rows.{imm_funct7}
 use Rattle.rv_insn.specs.Word.{IsSigned, IsEven}
 use Rattle.rv_insn.specs.Insn.{IsImmOf, IsFence, word_of}
@@ -56,23 +56,16 @@ masked rs1 imm access =
     ∷ access
     ∷ []
 
--- an address in two parts (RISC-V ELF psABI, %hi and %lo): the low 12 bits are read with their sign
-abbrev pub high_part : (address : ℕ) → ℕ
-high_part address = (address + 2 ^ 11) / 2 ^ 12
-
-abbrev pub low_part : (address : ℕ) → ℤ
-low_part address = signed (2 ^ 11) (address % 2 ^ 12)
-
 -- the address of the Bary ID of a slot
 abbrev pub bary_address : (slot : ℕ) → ℕ
 bary_address slot = BARY + 4 * slot
 
 -- the instructions that read the Bary ID of a slot into x29
 abbrev pub high_insn : (slot : ℕ) → Insn
-high_insn slot = insns.Lui 28 (high_part (bary_address slot))
+high_insn slot = insns.Lui 28 (high_of (bary_address slot))
 
 abbrev pub low_insn : (slot : ℕ) → Insn
-low_insn slot = insns.Load Lw 29 28 (low_part (bary_address slot))
+low_insn slot = insns.Load Lw 29 28 (low_of (bary_address slot))
 
 -- a check: x31 is the target, in the code's 2^18 bytes; x29 is the slot's ID, x30 the target's
 abbrev pub check : (link : Bool) → (rs1 : ℕ) → ℤ → (slot : ℕ) → List Insn

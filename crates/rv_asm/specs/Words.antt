@@ -6,7 +6,7 @@ use Rattle.rv_insn.specs.declared.insn.ImmOp.{ImmOp}
 use Rattle.rv_insn.specs.declared.insn.ImmOp.TheVariants.{Addi}
 use Rattle.rv_insn.specs.declared.insn.Insn.{Insn}
 use Rattle.rv_insn.specs.declared.insn.Insn.TheVariants as insns
-use Rattle.rv_insn.specs.Fields.{signed}
+use Rattle.rv_insn.specs.Fields.{signed, high_of, low_of, is_signed}
 use Rattle.rv_insn.specs.Insn.{word_of}
 use Rattle.rv_insn.specs.Rows.{imm_funct7}
 use Rattle.rv_text.specs.declared.text.TheConstants.{FULL_FENCE}
@@ -43,11 +43,6 @@ size_of (Two first second) = 8
 abbrev pub low_word : ℤ → ℕ
 low_word (pos n) = n % 2 ^ 32
 low_word (negsuc n) = 2 ^ 32 - 1 - n % 2 ^ 32
-
--- the number is from -half to half - 1
-abbrev pub is_signed : (half : ℕ) → ℤ → Bool
-is_signed half (pos n) = nat_lt n half
-is_signed half (negsuc n) = nat_lt n half
 
 -- the number as a signed field, as a signed field of which bit 0 is left out, and as an unsigned one
 abbrev pub signed_field : (half : ℕ) → ℤ → Option ℤ
@@ -89,20 +84,13 @@ high_field (highs.PcrelHi name) = Some 0
 abbrev pub one : Insn → Words
 one insn = One (word_of insn)
 
--- the high and the low part of a word: the low part is signed, and the high part makes up for it
-abbrev pub high_part : (word : ℕ) → ℕ
-high_part word = (word + 2 ^ 11) % 2 ^ 32 / 2 ^ 12
-
-abbrev pub low_part : (word : ℕ) → ℤ
-low_part word = signed (2 ^ 11) (word % 2 ^ 12)
-
 -- `li` of a word: an addition to x0 where the signed word is from -2048 to 2047, else `lui` and, where the low part is
 -- not 0, an addition of it
 unfoldable pub li_words : (rd word : ℕ) → Words
 li_words rd word =
     if is_signed (2 ^ 11) (signed (2 ^ 31) word) then one (insns.OpImm Addi rd 0 (signed (2 ^ 31) word))
-    else (if word % 2 ^ 12 == 0 then one (insns.Lui rd (high_part word))
-    else Two (word_of (insns.Lui rd (high_part word))) (word_of (insns.OpImm Addi rd rd (low_part word))))
+    else (if word % 2 ^ 12 == 0 then one (insns.Lui rd (high_of word))
+    else Two (word_of (insns.Lui rd (high_of word))) (word_of (insns.OpImm Addi rd rd (low_of word))))
 
 -- a pair of `auipc` and an instruction on its register, both filled in by relocations
 abbrev pub pair : (register : ℕ) → Insn → Words

@@ -7,8 +7,9 @@ ghost use Rattle.rv_insn.specs.Rows.{imm_funct7};
 ghost use Rattle.rv_insn.specs.Word.{IsSigned, IsEven};
 ghost use Rattle.rv_insn.specs.declared.insn.ImmOp.TheVariants.{Addi};
 ghost use Rattle.rv_insn.specs.declared.insn.Insn.TheVariants as insns;
-ghost use Rattle.rv_asm.specs.Words.{words_bytes, size_of, low_word, signed_field, offset_field, low_field, shift_field, imm_field, high_field, one, low_part, li_words, pair};
+ghost use Rattle.rv_asm.specs.Words.{words_bytes, size_of, low_word, signed_field, offset_field, low_field, shift_field, imm_field, high_field, one, li_words, pair};
 
+use rv_insn::fields::{high_of, low_of};
 use rv_insn::{ImmOp, Insn, encode};
 use rv_line::{High, Low, Register};
 use std::alloc::AllocError;
@@ -177,12 +178,12 @@ pub fn li_words(rd: Register, word: u32) -> Words
     }
     let high = Insn::Lui {
         rd,
-        imm: word.wrapping_add(2048) / 4096,
+        imm: high_of(word),
     };
     if word % 4096 == 0 {
         return one(high);
     }
-    Words::Two(encode(&high), encode(&add(rd, rd, low_part(word))))
+    Words::Two(encode(&high), encode(&add(rd, rd, low_of(word))))
 }
 
 // `addi`.
@@ -195,15 +196,6 @@ fn add(rd: u32, rs1: u32, imm: i32) -> Insn
         rs1,
         imm,
     }
-}
-
-// The low part of a word, with its sign.
-fn low_part(word: u32) -> i32
-    ensures same { result ≡ low_part word }
-    ensures fits { IsSigned (2 ^ 11) result }
-{
-    let low = (word % 4096) as i32;
-    if low < 2048 { low } else { low - 4096 }
 }
 
 /// `auipc` of a register, and an instruction on it.

@@ -1,5 +1,5 @@
 -- The fields of a word, and the immediates of its forms, by arithmetic (RISC-V Unprivileged ISA 20191213, 2.2 and 2.3).
-use Rattle.std.specs.Prelude.{ℕ, ◌+◌, ◌-◌, ◌*◌, ◌/◌, ◌%◌, ◌^◌, ℤ, pos, negsuc, nat_lt, if◌then◌else◌}
+use Rattle.std.specs.Prelude.{ℕ, ◌+◌, ◌-◌, ◌*◌, ◌/◌, ◌%◌, ◌^◌, Bool, ℤ, pos, negsuc, nat_lt, if◌then◌else◌}
 use Rattle.rv_insn.specs.declared.fields.Fields.{Fields}
 
 -- the six fields that each word has
@@ -39,3 +39,16 @@ abbrev pub imm_j_at : ℕ → ℤ
 imm_j_at word = signed (2 ^ 20)
     (2 * (word / 2 ^ 21 % 1024) + 2 ^ 11 * (word / 2 ^ 20 % 2) + 2 ^ 12 * (word / 2 ^ 12 % 256) + 2 ^ 20 *
     (word / 2 ^ 31))
+
+-- a number in two parts (RISC-V ELF psABI, %hi and %lo): the low part, 12 bits, is added with its sign, and the high
+-- part makes up for it
+abbrev pub high_of : ℕ → ℕ
+high_of number = (number + 2 ^ 11) % 2 ^ 32 / 2 ^ 12
+
+abbrev pub low_of : ℕ → ℤ
+low_of number = signed (2 ^ 11) (number % 2 ^ 12)
+
+-- the number is from -half to half - 1
+abbrev pub is_signed : (half : ℕ) → ℤ → Bool
+is_signed half (pos n) = nat_lt n half
+is_signed half (negsuc n) = nat_lt n half

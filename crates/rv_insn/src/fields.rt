@@ -3,9 +3,10 @@
 //! Every reader is total. `insn_of` of `specs/InsnOf.antt` is the instruction that the word is, in terms of these
 //! (RISC-V Unprivileged ISA 20191213, 2.2 and 2.3).
 
-ghost use Rattle.std.specs.Prelude.{◌≡◌, ℕ, ◌*◌, ◌^◌};
+ghost use Rattle.std.specs.Prelude.{◌≡◌, ℕ, ◌*◌, ◌^◌, ◌<◌};
 ghost use Rattle.std.specs.Int.{cast_unsigned, w32};
-ghost use Rattle.rv_insn.specs.Fields.{fields_at, imm_i_at, imm_s_at, imm_b_at, imm_u_at, imm_j_at};
+ghost use Rattle.rv_insn.specs.Fields.{fields_at, imm_i_at, imm_s_at, imm_b_at, imm_u_at, imm_j_at, high_of, low_of};
+ghost use Rattle.rv_insn.specs.Word.{IsSigned};
 ghost use Rattle.rv_insn.specs.InsnOf.{insn_of, row_of};
 
 /// The fields that each word has, whichever of them its form uses.
@@ -93,4 +94,21 @@ pub fn imm_j(word: u32) -> u32
         + 2 * ((word >> 21) % 1024)
         + 2048 * ((word >> 20) % 2)
         + 4096 * ((word >> 12) % 256)
+}
+
+/// The high 20 bits of a number, rounded for a low part that is added with its sign (RISC-V ELF psABI, `%hi`).
+pub fn high_of(number: u32) -> u32
+    ensures part { result ≡ high_of number }
+    ensures fits { result < 2 ^ 20 }
+{
+    number.wrapping_add(1 << 11) >> 12
+}
+
+/// The low 12 bits of a number, read with their sign (RISC-V ELF psABI, `%lo`).
+pub fn low_of(number: u32) -> i32
+    ensures part { result ≡ low_of number }
+    ensures fits { IsSigned (2 ^ 11) result }
+{
+    let low = (number % (1 << 12)).cast_signed();
+    if low < 1 << 11 { low } else { low - (1 << 12) }
 }

@@ -16,7 +16,8 @@ use Rattle.rv_text.specs.declared.text.TheConstants.{FULL_FENCE}
 use Rattle.rv_line.specs.declared.statement.Low.TheVariants as lows
 use Rattle.rv_names.specs.declared.names.Entry.{Entry}
 use Rattle.rv_asm.specs.declared.words.Words.TheVariants.{One}
-use Rattle.rv_asm.specs.Words.{is_signed, signed_field, is_even, offset_field, unsigned_field, imm_field, one, words_of}
+use Rattle.rv_asm.specs.Words.{signed_field, is_even, offset_field, unsigned_field, imm_field, one, words_of}
+use Rattle.rv_insn.specs.Fields.{is_signed}
 use Rattle.rv_listing_law.specs.Back.{number_statement, fence_statement, statement_of, read_statement, word_statement}
 
 -- numbers in range are in their fields

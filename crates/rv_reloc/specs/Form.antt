@@ -7,7 +7,8 @@ use Rattle.rv_insn.specs.declared.insn.ImmOp.{ImmOp}
 use Rattle.rv_insn.specs.declared.insn.ImmOp.TheVariants.{Addi}
 use Rattle.rv_reloc.specs.declared.table.Form.{Form}
 use Rattle.rv_reloc.specs.declared.table.Form.TheVariants as forms
-use Rattle.rv_reloc.specs.Formula.{high_of, low_of, signed_of, is_reach}
+use Rattle.rv_reloc.specs.Formula.{signed_of, is_reach}
+use Rattle.rv_insn.specs.Fields.{high_of, low_of}
 
 -- a conditional branch
 abbrev pub with_branch : (off : ℤ) → Insn → Option Insn

@@ -2,7 +2,7 @@
 -- the field), and its parts. A number is 32 bits, which a displacement reads as signed.
 use Rattle.std.specs.Prelude.{ℕ, ◌+◌, ◌-◌, ◌/◌, ◌%◌, ◌^◌, ℤ, pos, negsuc, Bool, ◌&&◌, nat_lt, ◌==◌, Option, Some, None, Result, Ok, Err}
 use Rattle.std.specs.Int.{cast_signed, cast_unsigned, w32}
-use Rattle.rv_insn.specs.Fields.{signed}
+use Rattle.rv_insn.specs.Fields.{signed, is_signed}
 use Rattle.rv_reloc.specs.declared.fault.RelocFault.{RelocFault}
 use Rattle.rv_reloc.specs.declared.fault.RelocFault.TheVariants.{NoPartner}
 use Rattle.rv_reloc.specs.declared.table.Formula.{Formula}
@@ -27,22 +27,10 @@ number_by Absolute s a p partner = Ok (sum_of s a)
 number_by Relative s a p partner = Ok (displacement s a p)
 number_by Partner s a p partner = partner_of partner
 
--- the high part, and the low part that is added to it with its sign (RISC-V ELF psABI, %hi and %lo)
-abbrev pub high_of : ℕ → ℕ
-high_of number = (number + 2 ^ 11) % 2 ^ 32 / 2 ^ 12
-
-abbrev pub low_of : ℕ → ℤ
-low_of number = signed (2 ^ 11) (number % 2 ^ 12)
-
 -- the displacement that a number is
 abbrev pub signed_of : ℕ → ℤ
 signed_of number = cast_signed w32 number
 
--- a displacement from -half to half - 1
-abbrev pub is_within : (half : ℕ) → ℤ → Bool
-is_within half (pos n) = nat_lt n half
-is_within half (negsuc n) = nat_lt n half
-
 -- one that is even too
 abbrev pub is_reach : (half number : ℕ) → Bool
-is_reach half number = is_within half (signed_of number) && number % 2 == 0
+is_reach half number = is_signed half (signed_of number) && number % 2 == 0

@@ -2,10 +2,12 @@
 
 ghost use Rattle.std.specs.Prelude.{◌≡◌, ◌^◌, true, IfSome};
 ghost use Rattle.rv_insn.specs.Insn.{InRange};
-ghost use Rattle.rv_reloc.specs.Formula.{high_of, low_of, signed_of, is_reach};
+ghost use Rattle.rv_reloc.specs.Formula.{signed_of, is_reach};
+ghost use Rattle.rv_insn.specs.Fields.{high_of, low_of};
 ghost use Rattle.rv_reloc.specs.Form.{with_branch, with_jal, with_lui, with_auipc, with_jalr, with_low_i, with_low_s, fits, with_number};
 
-use crate::formula::{high_of, is_reach, low_of};
+use crate::formula::is_reach;
+use rv_insn::fields::{high_of, low_of};
 use crate::table::Form;
 use rv_insn::{ImmOp, Insn};
 

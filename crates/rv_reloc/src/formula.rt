@@ -2,7 +2,8 @@
 
 ghost use Rattle.std.specs.Prelude.{◌≡◌, ◌<◌, ◌≤◌, ◌^◌};
 ghost use Rattle.rv_insn.specs.Word.{IsSigned};
-ghost use Rattle.rv_reloc.specs.Formula.{displacement, number_by, high_of, low_of, is_reach};
+ghost use Rattle.rv_reloc.specs.Formula.{displacement, number_by, is_reach};
+ghost use Rattle.rv_insn.specs.Fields.{high_of, low_of};
 
 use crate::fault::RelocFault;
 use crate::table::Formula;
@@ -31,23 +32,6 @@ pub fn number_by(
         Formula::Relative => Ok(displacement(value, addend, at)),
         Formula::Partner => partner.ok_or(RelocFault::NoPartner),
     }
-}
-
-/// The high 20 bits of a number, rounded for a low part that is added with its sign.
-pub fn high_of(number: u32) -> u32
-    ensures part { result ≡ high_of number }
-    ensures fits { result < 2 ^ 20 }
-{
-    number.wrapping_add(1 << 11) >> 12
-}
-
-/// The low 12 bits of a number, read with their sign.
-pub fn low_of(number: u32) -> i32
-    ensures part { result ≡ low_of number }
-    ensures fits { IsSigned (2 ^ 11) result }
-{
-    let low = (number % (1 << 12)).cast_signed();
-    if low < 1 << 11 { low } else { low - (1 << 12) }
 }
 
 /// Whether a number, read with its sign, is even and from `-half` to `half - 1`.

@@ -17,4 +17,4 @@ mod tests;
 pub use applied::apply;
 pub use bytes::word_at;
 pub use fault::RelocFault;
-pub use formula::{displacement, high_of, low_of};
+pub use formula::displacement;

@@ -9,4 +9,4 @@ returns c =
     c.extend_from_slice-2.new.self.items c.padding.result c.in_ok-put_word.ensures
     c.in_ok-extend_from_slice.ensures.items c.padding.ensures c.in_ok-extend_from_slice-2.ensures.items
     ∙ ap (λ (text : List ℕ). c.args.out.now.items ++ name_bytes text)
-    (c.as_bytes-text.ensures.value ∙ c.as_str.ensures.same)
+    (c.as_bytes-text.ensures.value ∙ c.as_str.ensures)

@@ -14,7 +14,7 @@ object_of-requires-clause-fits c =
     let offsets = c.in_ok-long.offsets.items in
     subst (λ (xs : List ℕ). AllSpell t m.object.symbols c.deref-2.result.now xs) (sym c.deref-3.ensures.value)
     (spells-all m t c.as_slice-symbols.result.now c.in_ok-long.long.items c.deref-2.result.now offsets
-    c.in_ok-source.ensures.ok c.as_slice-symbols.ensures.same c.in_ok-source.ensures.range c.in_ok-source.ensures.sound
+    c.in_ok-source.ensures.ok c.as_slice-symbols.ensures c.in_ok-source.ensures.range c.in_ok-source.ensures.sound
     c.in_ok-long.ensures.least c.in_ok-long.ensures.fits c.in_ok-long.ensures.small c.in_ok-long.ensures.placed
     c.deref-2.ensures.value)
 
@@ -37,7 +37,7 @@ returns-clause-ok c =
       offsets = offsets;
       plan =
           plan-is m t c.as_slice-symbols.result.now long offsets c.in_ok-source.ensures.ok
-          c.as_slice-symbols.ensures.same c.in_ok-long.ensures.least c.in_ok-long.ensures.placed;
+          c.as_slice-symbols.ensures c.in_ok-long.ensures.least c.in_ok-long.ensures.placed;
       fits =
           subst (λ (x : Words). words_before x long (count_of x) ≤ MAX_WORDS) c.in_ok-source.ensures.ok
           c.in_ok-long.ensures.fits;

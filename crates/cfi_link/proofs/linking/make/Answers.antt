@@ -20,14 +20,14 @@ returns-clause-ok c =
     let symbols : c.as_slice.result.now ≡ c.args.joined.symbols =
     c.as_slice.ensures.value ∙ ap (λ (j : Joined). j.symbols) view in
     record {
-      text = subst (IsTextOf c.args.joined) (sym c.from_vec-3.ensures.same) c.in_ok-text.ensures.text;
-      static_data = c.from_vec-4.ensures.same ∙ ap (λ (j : Joined). j.static_data) view;
-      symbols = c.from_vec-5.ensures.same
+      text = subst (IsTextOf c.args.joined) (sym c.from_vec-3.ensures) c.in_ok-text.ensures.text;
+      static_data = c.from_vec-4.ensures ∙ ap (λ (j : Joined). j.static_data) view;
+      symbols = c.from_vec-5.ensures
           ∙ c.in_ok-symbols.ensures
           ∙ ap in_order (c.in_ok-settled.ensures
           ∙ ap (λ (j : Joined). settled (chosen_by c.in_ok-definitions.definitions) j.symbols) view
           ∙ ap (λ (f : Names). settled f c.args.joined.symbols) (names ∙ ap chosen_in symbols));
-      relocs = c.from_vec-6.ensures.same ∙ c.in_ok-text.ensures.relocs;
+      relocs = c.from_vec-6.ensures ∙ c.in_ok-text.ensures.relocs;
       types = c.from_vec-types.ensures ∙ ap (λ (j : Joined). j.types) view;
       functions = c.from_vec.ensures ∙ ap (λ (j : Joined). j.functions) view;
       branches = c.from_vec-2.ensures ∙ ap (λ (j : Joined). j.branches) view;

@@ -17,7 +17,7 @@ stray_word-requires c =
     subst (λ (m : Module). length m.object.text < 2 ^ 32) (sym c.index-modules-number.is)
     (c.requires.texts c.loop-number.number c.index-modules-number.result c.loop-number-test.true) in
     let count : length c.deref.result.now ≡ length text / 4 =
-    ap length (c.deref.ensures.value ∙ c.in_ok-words.ensures ∙ ap bytes_as_words c.as_slice.ensures.same)
+    ap length (c.deref.ensures.value ∙ c.in_ok-words.ensures ∙ ap bytes_as_words c.as_slice.ensures)
     ∙ length-words_in text in
     omega (arith, small, count)
 
@@ -28,7 +28,7 @@ overflow_mul-result c =
     subst (λ (m : Module). length m.object.text < 2 ^ 32) (sym c.index-modules-number.is)
     (c.requires.texts c.loop-number.number c.index-modules-number.result c.loop-number-test.true) in
     let count : length c.deref.result.now ≡ length text / 4 =
-    ap length (c.deref.ensures.value ∙ c.in_ok-words.ensures ∙ ap bytes_as_words c.as_slice.ensures.same)
+    ap length (c.deref.ensures.value ∙ c.in_ok-words.ensures ∙ ap bytes_as_words c.as_slice.ensures)
     ∙ length-words_in text in
     let stops : StopsAt c.deref.result.now c.in-Some.at = c.in-Some.ensures.some in
     let within : c.in-Some.at < length c.deref.result.now = stops.within in
@@ -36,7 +36,7 @@ overflow_mul-result c =
 
 pub returns-in-Some-clause-fault : goal.returns-in-Some-clause-fault
 returns-in-Some-clause-fault c =
-    let words = c.deref.ensures.value ∙ c.in_ok-words.ensures ∙ ap bytes_as_words c.as_slice.ensures.same in
+    let words = c.deref.ensures.value ∙ c.in_ok-words.ensures ∙ ap bytes_as_words c.as_slice.ensures in
     let some : has_text c.args.modules.now ≡ true =
     first_of (cc (c.has_text.ensures, c.if-not-has_text.false), search rules, grind (arith, common_steps)) in
     record {
@@ -48,7 +48,7 @@ returns-in-Some-clause-fault c =
 
 pub loop-number-preserved : goal.loop-number-preserved
 loop-number-preserved c =
-    let words = c.deref.ensures.value ∙ c.in_ok-words.ensures ∙ ap bytes_as_words c.as_slice.ensures.same in
+    let words = c.deref.ensures.value ∙ c.in_ok-words.ensures ∙ ap bytes_as_words c.as_slice.ensures in
     All-more HasUnits c.args.modules.now c.loop-number.number c.index-modules-number.result c.loop-number-test.true
     c.loop-number.invariant
     (subst HasUnits c.index-modules-number.is (subst AreUnits words c.in_default.ensures.none))

@@ -19,7 +19,7 @@ loop-symbol-preserved c =
           let added : (other : List ℕ) → find_in w.add.new.self other
           ≡ with_name item.name item.value (find_in c.loop-symbol.globals) other =
           subst (λ (x : List ℕ). (other : List ℕ) → find_in w.add.new.self other
-          ≡ with_name x item.value (find_in c.loop-symbol.globals) other) w.as_str.ensures.same w.in_ok-add.ensures.ok in
+          ≡ with_name x item.value (find_in c.loop-symbol.globals) other) w.as_str.ensures w.in_ok-add.ensures.ok in
           let more = globals_in-more symbols i item c.loop-symbol-test.true global in
           rw w.globals-is
           (names-push _ _ item.name item.value (find_in c.loop-symbol.globals) (find_in w.add.new.self)

@@ -11,7 +11,7 @@ loop-name-preserved c = λ q.
     let item = c.loop-name-item.result in
     let added : (other : List ℕ) → find_in c.add.new.self other ≡ with_name item.0 item.1 (find_in c.loop-name.own) other =
     subst (λ (x : List ℕ). (other : List ℕ) → find_in c.add.new.self other
-    ≡ with_name x item.1 (find_in c.loop-name.own) other) c.as_str.ensures.same c.in_ok-add.ensures.ok in
+    ≡ with_name x item.1 (find_in c.loop-name.own) other) c.as_str.ensures c.in_ok-add.ensures.ok in
     let more : take (i + 1) pairs ≡ take i pairs ++ item ∷ [] =
     take_more pairs i item c.loop-name-test.true
     ∙ ap (λ (x : List ℕ × ℕ). take i pairs ++ x ∷ []) (sym c.loop-name-item.is) in

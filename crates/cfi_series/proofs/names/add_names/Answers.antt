@@ -10,4 +10,4 @@ loop-name-preserved c before was =
     let item = c.loop-name-item.result in
     one_name_more before c.args.exports.now c.loop-name.name-index item old (find_in c.add.new.self)
     c.loop-name-test.true c.loop-name-item.is (c.loop-name.invariant before was) (λ q.
-    c.in_ok-add.ensures.ok q ∙ ap (λ (n : List ℕ). with_name n item.1 old q) c.as_str.ensures.same)
+    c.in_ok-add.ensures.ok q ∙ ap (λ (n : List ℕ). with_name n item.1 old q) c.as_str.ensures)

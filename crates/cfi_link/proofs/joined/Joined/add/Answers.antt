@@ -15,14 +15,14 @@ returns c =
     same_joined _ _
     (c.in_ok-extend_from_slice.ensures.items
     ∙ ap (λ (j : Joined). j.text ++ c.as_slice.result.now) view
-    ∙ ap (λ (xs : List ℕ). c.args.self.now.text ++ xs) c.as_slice.ensures.same)
+    ∙ ap (λ (xs : List ℕ). c.args.self.now.text ++ xs) c.as_slice.ensures)
     (c.in_ok-push_data.ensures
     ∙ ap (λ (j : Joined). with_data j.static_data c.as_slice-2.result.now) view
-    ∙ ap (λ (xs : List ℕ). with_data c.args.self.now.static_data xs) c.as_slice-2.ensures.same)
+    ∙ ap (λ (xs : List ℕ). with_data c.args.self.now.static_data xs) c.as_slice-2.ensures)
     (mapped_is symbol_at _ _ _ _ _ _ _ c.in_ok-push_symbols.ensures start (ap (λ (j : Joined). j.symbols) (sym view))
-    c.as_slice-3.ensures.same)
+    c.as_slice-3.ensures)
     (mapped_is (λ s. own_reloc_at s c.self.inside.count) _ _ _ _ _ _ _ c.in_ok-push_relocs.ensures start
-    (ap (λ (j : Joined). j.relocs) (sym view)) (ap (λ (xs : List Reloc). enumerate_from 0 xs) c.as_slice-4.ensures.same)
+    (ap (λ (j : Joined). j.relocs) (sym view)) (ap (λ (xs : List Reloc). enumerate_from 0 xs) c.as_slice-4.ensures)
     ∙ ap (λ (n : ℕ). c.args.self.now.relocs
     ++ map (own_reloc_at (start_of c.args.self.now) n) (enumerate_from 0 object.relocs))
     (ap (λ (j : Joined). j.count) view))

@@ -14,7 +14,7 @@ invariant_of-self-2 c =
       numbers = λ q. rw (
         pushed,
         c.in_ok-give_number.ensures.ok q,
-        c.as_str.ensures.same,
+        c.as_str.ensures,
         c.self.invariant.numbers q,
         number_in-push table c.args.entry q,
         count,
