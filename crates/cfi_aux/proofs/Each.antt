@@ -5,18 +5,7 @@ use Rattle.cfi_aux.specs.declared.fault.AuxFault.{AuxFault}
 use Rattle.cfi_aux.specs.declared.fault.AuxFault.TheVariants.{NoRecords, Types, Version, Short, BadRecord, Memory}
 use Rattle.cfi_aux.specs.Reading.{Reader, ReadingFails, each}
 use Rattle.cfi_values.specs.Then.{◌>>=◌}
-
--- what was read before, and what is still read
-abbrev pub with_front : {A : Type 0} → List A → Result (List A × List ℕ) AuxFault → Result (List A × List ℕ) AuxFault
-with_front front read = read >>= λ x. Ok (front ++ x.0, x.1)
-
-regroup : {A : Type 0} (front : List A) (n : A) (read : Result (List A × List ℕ) AuxFault)
-    → with_front front (read >>= λ x. Ok (n ∷ x.0, x.1)) ≡ with_front (front ++ n ∷ []) read
-regroup {A = A} front n (Ok x) = ap (λ (ns : List A). Ok (ns, x.1)) (simp append_assoc)
-regroup front n (Err f) = refl
-
-with_front_nil : {A : Type 0} (front : List A) (bytes : List ℕ) → with_front front (Ok ([], bytes)) ≡ Ok (front, bytes)
-with_front_nil {A = A} front bytes = ap (λ (ns : List A). Ok (ns, bytes)) (append-nil front)
+use Rattle.cfi_types.proofs.Parts.{with_front, regroup, with_front_nil}
 
 -- a step's fault is the fault of the steps
 pub Fails-then : {A B : Type 0} (e : AuxFault) (r : Result A AuxFault) (f : A → Result B AuxFault) → ReadingFails e r

@@ -10,7 +10,7 @@ use Rattle.cfi_aux.specs.declared.placed.Placed.{Placed}
 use Rattle.cfi_aux.specs.declared.placed.PlacedFunction.{PlacedFunction}
 use Rattle.cfi_aux.specs.declared.records.Kind.{Kind}
 use Rattle.cfi_aux.specs.declared.records.Kind.TheVariants.{Call, Tail, Return, Switch}
-use Rattle.cfi_unit.specs.Spots.{place_of}
+use Rattle.cfi_unit.specs.Spots.{place_of, IsOneOf}
 
 -- the slot of a check
 abbrev pub slot_of : CodeUnit → Option ℕ
@@ -36,7 +36,7 @@ FunctionPrecedes f g = f.first + f.count ≤ g.first
 
 -- the offset in bytes is that of a unit
 abbrev pub IsUnitPlace : List CodeUnit → (offset : ℕ) → Type 0
-IsUnitPlace code offset = (number : ℕ) × (number < length code) × (offset ≡ 4 * place_of code number)
+IsUnitPlace code offset = IsOneOf (length code) (λ number. 4 * place_of code number) offset
 
 -- a branch names a node of the types, or units of the code
 abbrev pub IsNamed : (code : List CodeUnit) → (types : ℕ) → Kind → Type 0

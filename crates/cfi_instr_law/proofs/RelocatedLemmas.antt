@@ -13,7 +13,8 @@ use Rattle.rv_reloc.specs.Field.{immediate}
 use Rattle.rv_reloc.specs.Bytes.{word_at, with_word}
 use Rattle.rv_reloc.specs.Applied.{applied}
 use Rattle.cfi_place.specs.declared.room.Room.{Room}
-use Rattle.cfi_place.specs.Relocated.{Areas, ◌>>=◌, field_address, value_in, partner_in, applied_in, relocated_by, numbered, relocated_from}
+use Rattle.cfi_place.specs.Relocated.{Areas, field_address, value_in, partner_in, applied_in, relocated_by, numbered, relocated_from}
+use Rattle.cfi_values.specs.Then.{◌>>=◌}
 use Rattle.cfi_unit.specs.declared.spot.Spot.{Spot}
 use Rattle.cfi_unit.specs.Spots.{spots_of, BeginsUnit}
 use Rattle.cfi_instr_law.proofs.SeenLemmas.{seen_from, same-begins}

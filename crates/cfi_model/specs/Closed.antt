@@ -12,6 +12,7 @@ use Rattle.cfi_word.specs.declared.ids.TheConstants.{FIELD_MAX}
 use Rattle.cfi_word.specs.Table.{slots_of}
 use Rattle.cfi_word.specs.declared.map.TheConstants.{FIRST_BASE}
 use Rattle.cfi_word.specs.declared.sizes.TheConstants.{ACCESS_WORDS, CHECK_WORDS}
+use Rattle.cfi_unit.specs.Spots.{IsOneOf}
 
 -- `addi x0,x0,0`
 abbrev pub idle : CodeUnit
@@ -37,7 +38,7 @@ StandsIn body address unit = (number : ℕ) × (slice_get body number ≡ Some u
 
 -- the address is a start
 abbrev pub IsStartOf : (body : List CodeUnit) → (address : ℕ) → Type 0
-IsStartOf body address = (number : ℕ) × (number < length body) × (address ≡ unit_address body number)
+IsStartOf body address = IsOneOf (length body) (unit_address body) address
 
 -- the address that lies so far from another is a start
 abbrev pub LeadsToStart : (body : List CodeUnit) → (address : ℕ) → ℤ → Type 0

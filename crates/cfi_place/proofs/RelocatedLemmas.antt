@@ -7,7 +7,8 @@ use Rattle.elf_read.specs.declared.object.Reloc.{Reloc}
 use Rattle.rv_reloc.specs.declared.fault.RelocFault.{RelocFault}
 use Rattle.cfi_place.specs.declared.fault.PlaceFault.TheVariants as faults
 use Rattle.cfi_place.specs.declared.room.Room.{Room}
-use Rattle.cfi_place.specs.Relocated.{Areas, ◌>>=◌, field_address, value_in, applied_in, is_high, upper_part, high_parts, partner_in, with_partner, numbered, relocated_by, relocated_from}
+use Rattle.cfi_place.specs.Relocated.{Areas, field_address, value_in, applied_in, is_high, upper_part, high_parts, partner_in, with_partner, numbered, relocated_by, relocated_from}
+use Rattle.cfi_values.specs.Then.{◌>>=◌}
 use Rattle.cfi_place.proofs.NameLemmas.{lookup-push}
 
 pub relocated-more : (room : Room) (values : List (Option ℕ)) (parts : List (ℕ × ℕ)) (k : ℕ) (relocs : List Reloc)

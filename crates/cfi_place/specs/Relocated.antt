@@ -14,6 +14,7 @@ use Rattle.cfi_place.specs.declared.room.Room.{Room}
 use Rattle.cfi_place.specs.declared.fault.PlaceFault.{PlaceFault}
 use Rattle.cfi_place.specs.declared.fault.PlaceFault.TheVariants as faults
 use Rattle.cfi_place.specs.Value.{value_at}
+use Rattle.cfi_values.specs.Then.{◌>>=◌}
 
 -- the bytes of a module's text and data
 pub record Areas : Type 0 where
@@ -58,12 +59,6 @@ partner_in parts address = lookup (λ at. address == at) parts
 abbrev pub with_partner : (at number : ℕ) → (found : Option ℕ) → (address : ℕ) → Option ℕ
 with_partner at number found address =
     if address == at && not (is_some found) then Some number else found
-
--- goes on with what a step gave
-infixl 10 ◌>>=◌
-abbrev pub ◌>>=◌ : {A B E : Type 0} → Result A E → (A → Result B E) → Result B E
-(Ok x) >>= f = f x
-(Err fault) >>= f = Err fault
 
 -- a relocation applied to the bytes of its area
 abbrev pub applied_in : Area → Reloc → (at value : ℕ) → (partner : Option ℕ) → Areas → Result Areas RelocFault

@@ -10,6 +10,7 @@ use Rattle.cfi_plan.specs.declared.plan.ScriptLine.TheVariants as script
 use Rattle.cfi_plan.specs.declared.fault.PlanFault.{PlanFault}
 use Rattle.cfi_plan.specs.declared.fault.PlanFault.TheVariants.{Syntax, Limit, NoGuest, Memory}
 use Rattle.cfi_word.specs.declared.limits.TheConstants.{MIN_CODE_WORDS, MAX_CODE_WORDS, MIN_VERSIONS, MAX_VERSIONS, MAX_EPOCH, MAX_FUEL, FUEL, MAX_MODULES, MAX_STARTS, GUESTS, MAX_SCRIPT, MAX_REFRESHES}
+use Rattle.cfi_values.specs.Due.{Answers, Leaves}
 
 -- what the lines have said
 pub record PlanSoFar : Type 0 where
@@ -118,10 +119,8 @@ Fails NoGuest due = due ≡ Err NoGuest
 
 -- the answer is the one that is due, unless memory ran out
 abbrev pub IsDue : {Y : Type 0} → (answer due : Result Y PlanFault) → Type 0
-IsDue (Ok value) due = due ≡ Ok value
-IsDue (Err fault) due = Fails fault due
+IsDue answer due = Answers Fails answer due
 
 -- a call that changed a draft did what is due, unless memory ran out
 abbrev pub Gives : Result (Unit {0}) PlanFault → (new : PlanSoFar) → (due : Result PlanSoFar PlanFault) → Type 0
-Gives (Ok done) new due = due ≡ Ok new
-Gives (Err fault) new due = Fails fault due
+Gives answer new due = Leaves Fails answer new due

@@ -6,10 +6,7 @@ use Rattle.cfi_plan.specs.declared.line.Line.{Line}
 use Rattle.cfi_plan.specs.declared.line.Line.TheVariants.{Blank, Code, Versions, Epoch, Fuel, Module, Guest, Load, Refresh}
 use Rattle.cfi_text.specs.Decimal.{number_in}
 use Rattle.cfi_text.specs.Names.{name_in, file_in}
-
-infixl 10 ◌>>=◌
-abbrev pub ◌>>=◌ : {A B : Type 0} → Option A → (A → Option B) → Option B
-o >>= f = option_and_then f o
+use Rattle.cfi_values.specs.Some.{◌>>=◌}
 
 -- a setting, or a number of refreshes from 1 on
 unfoldable pub counted_form : (keyword : List ℕ) → (number : ℕ) → Option Line

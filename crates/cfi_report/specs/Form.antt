@@ -6,7 +6,7 @@ use Rattle.std.specs.Str.{bytes_eq}
 use Rattle.std.specs.Str.Parse.{digits_value}
 use Rattle.cfi_text.specs.Decimal.{small_number_in}
 use Rattle.cfi_text.specs.Hex.{hex8_text, hex_text}
-use Rattle.cfi_plan.specs.Line.{◌>>=◌}
+use Rattle.cfi_values.specs.Some.{◌>>=◌}
 use Rattle.cfi_text.specs.Names.{name_in}
 use Rattle.cfi_plan.specs.declared.journal.Who.{Who}
 use Rattle.cfi_plan.specs.declared.journal.Who.TheVariants.{Script, Guest}

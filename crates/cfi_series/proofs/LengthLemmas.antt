@@ -21,7 +21,8 @@ use Rattle.rv_reloc.specs.Formula.{number_by}
 use Rattle.rv_reloc.specs.Applied as applying
 use Rattle.rv_reloc.specs.Applied.{filled_next, with_next, written, applied_by, applied}
 use Rattle.cfi_place.specs.declared.room.Room.{Room}
-use Rattle.cfi_place.specs.Relocated.{Areas, field_address, value_in, partner_in, size_in, ◌>>=◌, applied_in, numbered, relocated_by, relocated_from}
+use Rattle.cfi_place.specs.Relocated.{Areas, field_address, value_in, partner_in, size_in, applied_in, numbered, relocated_by, relocated_from}
+use Rattle.cfi_values.specs.Then.{◌>>=◌}
 
 -- ---- what each step gave
 

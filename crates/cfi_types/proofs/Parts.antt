@@ -101,16 +101,16 @@ word_again n rest lt = number_again Short w32 (2 ^ 32) wide32 n rest lt
 -- ---- one after the other
 
 -- what was read before, and what is still read
-abbrev pub with_front : {A : Type 0} → List A → Result (List A × List ℕ) TypeFault → Result (List A × List ℕ) TypeFault
+abbrev pub with_front : {A E : Type 0} → List A → Result (List A × List ℕ) E → Result (List A × List ℕ) E
 with_front front read = read >>= λ x. Ok (front ++ x.0, x.1)
 
-pub regroup : {A : Type 0} (front : List A) (n : A) (read : Result (List A × List ℕ) TypeFault)
+pub regroup : {A E : Type 0} (front : List A) (n : A) (read : Result (List A × List ℕ) E)
     → with_front front (read >>= λ x. Ok (n ∷ x.0, x.1)) ≡ with_front (front ++ n ∷ []) read
 regroup {A = A} front n (Ok x) = ap (λ (ns : List A). Ok (ns, x.1)) (simp append_assoc)
 regroup front n (Err f) = refl
 
-pub with_front_nil : {A : Type 0} (front : List A) (bytes : List ℕ)
-    → with_front front (Ok ([], bytes)) ≡ Ok (front, bytes)
+pub with_front_nil : {A E : Type 0} (front : List A) (bytes : List ℕ)
+    → with_front {E = E} front (Ok ([], bytes)) ≡ Ok (front, bytes)
 with_front_nil {A = A} front bytes = ap (λ (ns : List A). Ok (ns, bytes)) (append-nil front)
 
 -- a step's fault is the fault of the steps

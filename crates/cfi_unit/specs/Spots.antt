@@ -19,6 +19,10 @@ spots_of at (unit ∷ code) = record { at = at; unit = unit } ∷ spots_of (at +
 abbrev pub place_of : List CodeUnit → (number : ℕ) → ℕ
 place_of code number = length (flat_map words_of (take number code))
 
+-- it is the value of one of so many first numbers
+abbrev pub IsOneOf : (count : ℕ) → (value : ℕ → ℕ) → (at : ℕ) → Type 0
+IsOneOf count value at = (number : ℕ) × (number < count) × (at ≡ value number)
+
 -- the words are the code of these units, at these places
 pub record AreSpots (words : List ℕ) (spots : List Spot) : Type 0 where
   pub code : List CodeUnit

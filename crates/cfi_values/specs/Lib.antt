@@ -1,1 +1,3 @@
 pub mod Then
+pub mod Some
+pub mod Due

@@ -7,3 +7,4 @@ pub mod RelaLemmas
 pub mod JoinLemmas
 pub mod KeepLemmas
 pub mod FaultLemmas
+pub mod NoReloc

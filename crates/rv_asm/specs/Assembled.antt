@@ -9,6 +9,7 @@ use Rattle.rv_asm.specs.Fault.{faults_of}
 use Rattle.rv_asm.specs.Made.{object_by}
 use Rattle.rv_asm.specs.Placed.{lines_in}
 use Rattle.rv_asm.specs.Symbols.{file_in}
+use Rattle.cfi_values.specs.Due.{Answers}
 
 -- the object, unless there are faults: then the first of them
 abbrev pub unless : (faults : List AsmFault) → Object → Result Object AsmFault
@@ -33,5 +34,4 @@ Fails (Range number) due = due ≡ Err (Range number)
 
 -- the answer is the one that is due, unless memory ran out
 abbrev pub IsDue : {Y : Type 0} → (answer due : Result Y AsmFault) → Type 0
-IsDue (Ok value) due = due ≡ Ok value
-IsDue (Err fault) due = Fails fault due
+IsDue answer due = Answers Fails answer due

@@ -20,7 +20,7 @@ use Rattle.rv_line.specs.declared.statement.Target.{Target}
 use Rattle.rv_line.specs.declared.statement.Target.TheVariants as targets
 use Rattle.rv_line.specs.declared.statement.Datum.{Datum}
 use Rattle.rv_line.specs.declared.statement.Datum.TheVariants as data_words
-use Rattle.rv_line.specs.Operand.{◌>>=◌}
+use Rattle.cfi_values.specs.Some.{◌>>=◌}
 use Rattle.rv_names.specs.declared.names.Entry.{Entry}
 use Rattle.rv_names.specs.Names.{text_value}
 use Rattle.rv_asm.specs.declared.words.Words.{Words}

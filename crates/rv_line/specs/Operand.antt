@@ -15,10 +15,7 @@ use Rattle.cfi_text.specs.Names.{name_in}
 use Rattle.cfi_text.specs.Decimal.{small_number_in}
 use Rattle.rv_line.specs.Number.{integer_in, negated}
 use Rattle.rv_line.specs.Register.{register_in}
-
-infixl 10 ◌>>=◌
-abbrev pub ◌>>=◌ : {A B : Type 0} → Option A → (A → Option B) → Option B
-o >>= f = option_and_then f o
+use Rattle.cfi_values.specs.Some.{◌>>=◌}
 
 -- the word that a text is, between blanks
 abbrev pub only_word : List (List ℕ) → Option (List ℕ)

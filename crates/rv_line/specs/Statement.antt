@@ -23,7 +23,8 @@ use Rattle.cfi_text.specs.Names.{name_in}
 use Rattle.rv_line.specs.Number.{integer_in}
 use Rattle.rv_line.specs.Register.{register_in}
 use Rattle.rv_line.specs.Called.{op_called, imm_op_called, load_called, store_called, cond_called, keyword_called, node_kind_called}
-use Rattle.rv_line.specs.Operand.{◌>>=◌, only_word, word_in, two_in, three_in, low_in, high_in, place_in, target_in, datum_in}
+use Rattle.rv_line.specs.Operand.{only_word, word_in, two_in, three_in, low_in, high_in, place_in, target_in, datum_in}
+use Rattle.cfi_values.specs.Some.{◌>>=◌}
 
 -- `add rd,rs1,rs2` and its kin
 unfoldable pub op_form : Op → (rest : List ℕ) → Option Statement

@@ -14,7 +14,7 @@ use Rattle.rv_line.specs.declared.statement.Datum.{Datum}
 use Rattle.rv_line.specs.declared.statement.Datum.TheVariants as data_words
 use Rattle.rv_line.specs.declared.statement.Statement.{Statement}
 use Rattle.rv_line.specs.declared.statement.Statement.TheVariants as statements
-use Rattle.rv_line.specs.Operand.{◌>>=◌}
+use Rattle.cfi_values.specs.Some.{◌>>=◌}
 use Rattle.rv_names.specs.declared.names.Entry.{Entry}
 use Rattle.rv_asm.specs.declared.file.File.{File}
 use Rattle.rv_asm.specs.declared.spot.Spot.{Spot}

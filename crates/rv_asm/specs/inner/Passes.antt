@@ -18,6 +18,7 @@ use Rattle.rv_asm.specs.Made.{only_if}
 use Rattle.rv_asm.specs.inner.Draft.{Draft, empty, with_statement}
 use Rattle.rv_asm.specs.inner.Fault.{is_astray}
 use Rattle.rv_asm.specs.inner.Survey.{Survey, nothing, with_lines}
+use Rattle.cfi_values.specs.Due.{Leaves}
 
 infixl 10 ◌>>=◌
 abbrev pub ◌>>=◌ : {A B : Type 0} → Result A AsmFault → (A → Result B AsmFault) → Result B AsmFault
@@ -84,5 +85,4 @@ passed_in text = passed_by (with_lines nothing (numbered_lines text))
 
 -- a call that changed a draft did what is due, unless memory ran out
 abbrev pub Gives : Result (Unit {0}) AsmFault → (new : Draft) → (due : Result Draft AsmFault) → Type 0
-Gives (Ok done) new due = due ≡ Ok new
-Gives (Err fault) new due = Fails fault due
+Gives answer new due = Leaves Fails answer new due

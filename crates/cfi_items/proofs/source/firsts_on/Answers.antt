@@ -3,19 +3,16 @@ use Rattle.std.proofs.Common.{◌≡◌, ◌∙◌, ◌<◌, ap, None, pos, get_
 use Rattle.std.proofs.lemmas.List.{take_all}
 use Rattle.std.proofs.lemmas.List.FromFn.{fill_by_all}
 use Rattle.elf_read.specs.declared.object.Reloc.{Reloc}
-use Rattle.elf_read.specs.declared.object.Area.TheVariants.{Text}
 use Rattle.cfi_items.specs.Words.{sits_on, first_on, noted}
 use Rattle.cfi_items.proofs.TableLemmas.{first_on-more}
 use Rattle.cfi_items.proofs.source.firsts_on.Goals as goal
-
-abbrev none : Reloc
-none = record { area = Text; offset = 0; kind = 0; symbol = None; addend = pos 0 }
+use Rattle.elf_read.proofs.NoReloc.{no_reloc}
 
 pub loop-reloc-preserved : goal.loop-reloc-preserved
 loop-reloc-preserved c =
     let relocs = c.args.relocs.now in
     let i = c.loop-reloc.reloc-index in
-    let reloc = get_or relocs i none in
+    let reloc = get_or relocs i no_reloc in
     let calling = c.args.calling in
     record {
       size = c.note.ensures.len ∙ c.loop-reloc.invariant.size;
@@ -23,7 +20,7 @@ loop-reloc-preserved c =
           let within : w < c.args.count = lt in
           c.note.ensures.noted w (omega (arith, within, c.loop-reloc.invariant.size))
           ∙ ap (noted (sits_on calling w reloc) reloc) (c.loop-reloc.invariant.each w lt)
-          ∙ first_on-more calling relocs i none w c.loop-reloc-test.true;
+          ∙ first_on-more calling relocs i no_reloc w c.loop-reloc-test.true;
     }
 
 pub returns : goal.returns

@@ -1,13 +1,10 @@
 use Rattle.std.proofs.Common.{◌∙◌, ◌++◌, ◌∷◌, [], List, ap, sym, None, pos, get_or}
 use Rattle.elf_read.specs.declared.object.Reloc.{Reloc}
-use Rattle.elf_read.specs.declared.object.Area.TheVariants.{Text}
 use Rattle.cfi_link.specs.declared.joined.OwnReloc.{OwnReloc}
 use Rattle.cfi_link.specs.Joined.{own_reloc_at}
 use Rattle.cfi_link.proofs.SettledLemmas.{relocs-more}
 use Rattle.cfi_link.proofs.shift.push_relocs.Goals as goal
-
-abbrev none : Reloc
-none = record { area = Text; offset = 0; kind = 0; symbol = None; addend = pos 0 }
+use Rattle.elf_read.proofs.NoReloc.{no_reloc}
 
 pub loop-number-preserved : goal.loop-number-preserved
 loop-number-preserved c =
@@ -18,5 +15,5 @@ loop-number-preserved c =
     c.in_ok-push.ensures.items
     ∙ ap (λ (r : Reloc). c.loop-number.out.items ++ record { owner = c.args.owner; number = k; reloc = r } ∷ [])
     c.reloc_at.ensures
-    ∙ ap (λ (xs : List OwnReloc). xs ++ f (k, get_or relocs k none) ∷ []) c.loop-number.invariant
-    ∙ sym (relocs-more c.args.start c.args.owner relocs k none c.loop-number-test.true out)
+    ∙ ap (λ (xs : List OwnReloc). xs ++ f (k, get_or relocs k no_reloc) ∷ []) c.loop-number.invariant
+    ∙ sym (relocs-more c.args.start c.args.owner relocs k no_reloc c.loop-number-test.true out)

@@ -1,12 +1,9 @@
 use Rattle.std.proofs.Common.{◌≡◌, ◌∙◌, Err, Ok, get_or, None, pos}
 use Rattle.elf_read.specs.declared.object.Reloc.{Reloc}
-use Rattle.elf_read.specs.declared.object.Area.TheVariants.{Text}
 use Rattle.cfi_place.specs.Relocated.{areas_of, high_parts, partner_in}
 use Rattle.cfi_place.proofs.RelocatedLemmas.{relocated_by-is, relocated-stop, relocated-next, relocated-all}
 use Rattle.cfi_place.proofs.relocate.relocate.Goals as goal
-
-abbrev none : Reloc
-none = record { area = Text; offset = 0; kind = 0; symbol = None; addend = pos 0 }
+use Rattle.elf_read.proofs.NoReloc.{no_reloc}
 
 pub returns-in-Err-clause-fault : goal.returns-in-Err-clause-fault
 returns-in-Err-clause-fault c =
@@ -18,8 +15,8 @@ returns-in-Err-clause-fault c =
     let partner : c.copied-partner.result ≡ partner_in parts c.value_in-value.result =
     c.copied-partner.ensures ∙ c.get.ensures.value ∙ c.in_ok-partners.ensures c.value_in-value.result in
     c.loop-k.invariant
-    ∙ relocated-stop room values parts c.loop-k.k relocs bytes none c.in-Err.fault c.loop-k-test.true
-    (relocated_by-is room values parts (get_or relocs c.loop-k.k none) bytes c.field_address-at.result
+    ∙ relocated-stop room values parts c.loop-k.k relocs bytes no_reloc c.in-Err.fault c.loop-k-test.true
+    (relocated_by-is room values parts (get_or relocs c.loop-k.k no_reloc) bytes c.field_address-at.result
     c.value_in-value.result c.copied-partner.result (Err c.in-Err.fault) c.field_address-at.ensures
     c.value_in-value.ensures partner c.in-Err.ensures.fault)
 
@@ -34,8 +31,8 @@ loop-k-preserved c =
     let partner : c.copied-partner.result ≡ partner_in parts c.value_in-value.result =
     c.copied-partner.ensures ∙ c.get.ensures.value ∙ c.in_ok-partners.ensures c.value_in-value.result in
     c.loop-k.invariant
-    ∙ relocated-next room values parts c.loop-k.k relocs bytes next none c.loop-k-test.true
-    (relocated_by-is room values parts (get_or relocs c.loop-k.k none) bytes c.field_address-at.result
+    ∙ relocated-next room values parts c.loop-k.k relocs bytes next no_reloc c.loop-k-test.true
+    (relocated_by-is room values parts (get_or relocs c.loop-k.k no_reloc) bytes c.field_address-at.result
     c.value_in-value.result c.copied-partner.result (Ok next) c.field_address-at.ensures
     c.value_in-value.ensures partner c.in_default.ensures.ok)
 
