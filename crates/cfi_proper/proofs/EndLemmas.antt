@@ -17,7 +17,7 @@ use Rattle.cfi_items.specs.Items.{is_inner, is_pair, item_of}
 use Rattle.cfi_items.specs.Functions.{end_of, end_before, runs_off_at}
 use Rattle.cfi_instr.specs.Sizes.{is_long, place_of, offsets_of}
 use Rattle.cfi_instr.specs.Units.{insn_units, units_at}
-use Rattle.cfi_verify.specs.Lists.{Each}
+use Rattle.elf_read.specs.Lists.{Each}
 use Rattle.cfi_unit.specs.Spots.{spots_of}
 use Rattle.cfi_verify.specs.Functions as verify
 use Rattle.cfi_verify.specs.Functions.{may_be_last}

@@ -18,7 +18,7 @@ use Rattle.cfi_instr.specs.Sizes.{size_at, place_of, offsets_of}
 use Rattle.cfi_instr.specs.Moves.{moved_function}
 use Rattle.cfi_instr.proofs.SizeLemmas.{total-grows}
 use Rattle.cfi_place.specs.Functions.{make_function}
-use Rattle.cfi_verify.specs.Lists.{Each}
+use Rattle.elf_read.specs.Lists.{Each}
 use Rattle.cfi_unit.specs.Spots.{spots_of}
 use Rattle.cfi_verify.specs.Spots.{BeginsUnit}
 use Rattle.cfi_verify.specs.Functions as verify

@@ -17,7 +17,7 @@ use Rattle.cfi_items.specs.Jumps.{ordinal_of, is_call, same, has_kind, has_rest,
 use Rattle.cfi_instr.specs.Sizes.{offsets_of}
 use Rattle.cfi_instr.specs.Moves.{moved_kind}
 use Rattle.cfi_verify.specs.Branches.{IsKindOf, IsRecordOf, KindFits}
-use Rattle.cfi_verify.specs.Lists.{Each}
+use Rattle.elf_read.specs.Lists.{Each}
 use Rattle.cfi_unit.specs.Spots.{spots_of}
 use Rattle.cfi_verify.specs.Spots.{checks_of}
 use Rattle.cfi_verify.specs.declared.checks.CheckSpot.{CheckSpot}

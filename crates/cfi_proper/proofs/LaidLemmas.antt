@@ -30,7 +30,7 @@ use Rattle.cfi_place.specs.Names.{Names}
 use Rattle.cfi_place.specs.Relocated.{Areas, high_parts}
 use Rattle.cfi_place.specs.Slots.{checks_from, with_slots}
 use Rattle.cfi_place.specs.Placed.{IsRoom, words_in, values_in, relocated, unless_undefined, where_fits, code_fits, placed_in, IsPlaced}
-use Rattle.cfi_verify.specs.Lists.{Each}
+use Rattle.elf_read.specs.Lists.{Each}
 use Rattle.cfi_unit.specs.Spots.{spots_of}
 use Rattle.cfi_verify.specs.Spots.{checks_of}
 use Rattle.cfi_verify.specs.Branches.{NamesSlot}

@@ -18,7 +18,7 @@ use Rattle.cfi_instr.specs.Sizes.{offsets_of, moved}
 use Rattle.cfi_instr.specs.Moves.{moved_kind}
 use Rattle.cfi_verify.specs.Branches.{IsEntry, AreEntries, AreEntriesIn, EntriesFit}
 use Rattle.cfi_verify.specs.Functions as verify
-use Rattle.cfi_verify.specs.Lists.{Each}
+use Rattle.elf_read.specs.Lists.{Each}
 use Rattle.cfi_proper.proofs.BoundLemmas.{item-parts, item-bound, bound-moved}
 use Rattle.cfi_proper.proofs.FromLemmas.{IsFrom}
 use Rattle.cfi_proper.proofs.FunctionLemmas.{place, spots, grows, made, made-at, formed, made-first, made-end, begins-at, some-at}

@@ -3,7 +3,7 @@ use Rattle.std.proofs.Common.{◌≡◌, ℕ, zero, suc, pos, false, List, [], �
 use Rattle.std.specs.List.{Contains}
 use Rattle.cfi_unit.specs.declared.unit.Unit.TheVariants.{Jump}
 use Rattle.cfi_unit.specs.declared.spot.Spot.{Spot}
-use Rattle.cfi_verify.specs.Lists.{Each}
+use Rattle.elf_read.specs.Lists.{Each}
 use Rattle.cfi_verify.specs.Spots.{BeginsUnit}
 use Rattle.cfi_verify.specs.Functions.{FitsBehind, IsLastIn, EndsWell}
 use Rattle.cfi_verify.specs.Target.{LeadsWell}
