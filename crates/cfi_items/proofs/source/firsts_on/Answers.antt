@@ -4,7 +4,8 @@ use Rattle.std.proofs.lemmas.List.{take_all}
 use Rattle.std.proofs.lemmas.List.FromFn.{fill_by_all}
 use Rattle.elf_read.specs.declared.object.Reloc.{Reloc}
 use Rattle.elf_read.specs.declared.object.Area.TheVariants.{Text}
-use Rattle.cfi_items.specs.Words.{sits_on, first_on, noted}
+use Rattle.cfi_items.specs.Words.{sits_on, first_on}
+use Rattle.cfi_items.specs.inner.Words.{noted}
 use Rattle.cfi_items.proofs.TableLemmas.{first_on-more}
 use Rattle.cfi_items.proofs.source.firsts_on.Goals as goal
 
