@@ -5,4 +5,4 @@ pub mod Faults
 pub mod Module
 pub mod Sound
 pub mod Placed
-pub mod Lies
+pub mod Extent

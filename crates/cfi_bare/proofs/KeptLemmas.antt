@@ -17,7 +17,7 @@ use Rattle.cfi_aux.specs.declared.records.Kind.{Kind}
 use Rattle.cfi_place.specs.Slots.{ReadFrom, checks_from, with_slot, with_slots}
 use Rattle.cfi_place.specs.Placed.{bytes_as_words}
 use Rattle.cfi_verify.specs.declared.checks.CheckSpot.{CheckSpot}
-use Rattle.cfi_verify.specs.Lists.{Each}
+use Rattle.elf_read.specs.Lists.{Each}
 use Rattle.cfi_unit.specs.Spots.{spots_of}
 use Rattle.cfi_verify.specs.Spots.{checks_of}
 use Rattle.cfi_verify.specs.Branches.{IsRecordOf, KindFits}

@@ -6,7 +6,7 @@ use Rattle.std.proofs.lemmas.Bool.{cases_lt, leb-false}
 use Rattle.std.proofs.lemmas.List.{get_or_default}
 use Rattle.cfi_aux.specs.declared.placed.PlacedFunction.{PlacedFunction}
 use Rattle.cfi_graph.specs.Code.{Leads}
-use Rattle.cfi_aux.specs.Lies.{LiesIn}
+use Rattle.cfi_aux.specs.Extent.{LiesIn}
 use Rattle.cfi_graph.specs.Shaped.{FunctionPrecedes}
 use Rattle.cfi_graph.specs.Facts.{LeadsToWord, IsFirst}
 

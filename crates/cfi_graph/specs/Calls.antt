@@ -12,7 +12,7 @@ use Rattle.cfi_aux.specs.declared.placed.PlacedFunction.{PlacedFunction}
 use Rattle.cfi_aux.specs.declared.records.Kind.{Kind}
 use Rattle.cfi_aux.specs.declared.records.Kind.TheVariants.{Call, Tail}
 use Rattle.cfi_graph.specs.Code.{Stands, code_address, entry_of, Leads}
-use Rattle.cfi_aux.specs.Lies.{LiesIn}
+use Rattle.cfi_aux.specs.Extent.{LiesIn}
 
 -- the module's branch of the slot is of the kind
 abbrev pub HasKind : Placed → (slot : ℕ) → Kind → Type 0

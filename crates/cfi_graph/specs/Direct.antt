@@ -10,7 +10,7 @@ use Rattle.cfi_aux.specs.declared.records.Kind.{Kind}
 use Rattle.cfi_aux.specs.declared.records.Kind.TheVariants.{Call, Tail, Return, Switch}
 use Rattle.cfi_graph.specs.Code.{Stands, entry_of}
 use Rattle.cfi_graph.specs.Calls.{HasKind, IsFunction, MayPoint, ReturnsTo, IsReached}
-use Rattle.cfi_aux.specs.Lies.{LiesIn}
+use Rattle.cfi_aux.specs.Extent.{LiesIn}
 
 -- the address is that of a function to which a pointer to the type of a node of m may lead
 pub record IsPointee (ms : List Placed) (m : Placed) (node : ℕ) (address : ℕ) : Type 0 where

@@ -15,7 +15,7 @@ use Rattle.cfi_graph.specs.declared.fact.Fact.TheVariants as facts
 use Rattle.cfi_graph.specs.declared.fact.TheConstants.{CHECK_WORDS}
 use Rattle.cfi_graph.specs.Code.{Stands, code_address, entry_of, Leads}
 use Rattle.cfi_graph.specs.Calls.{HasKind}
-use Rattle.cfi_aux.specs.Lies.{LiesIn}
+use Rattle.cfi_aux.specs.Extent.{LiesIn}
 
 -- the node of a type: its class, where modules are told by their numbers, from 0
 abbrev pub type_node : (classes : List (List ℕ)) → (number node : ℕ) → ℕ

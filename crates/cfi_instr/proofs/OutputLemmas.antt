@@ -16,8 +16,10 @@ use Rattle.cfi_aux.specs.declared.records.Kind.{Kind}
 use Rattle.cfi_aux.specs.declared.records.Kind.TheVariants as kinds
 use Rattle.cfi_aux.specs.Records.{CanBeWritten}
 use Rattle.cfi_aux.specs.Records as aux
-use Rattle.cfi_items.specs.Words.{Words, AreInRange, words_in, count_of}
-use Rattle.cfi_items.specs.Fault.{parts_of, AreLegal, AreSound}
+use Rattle.cfi_items.specs.Words.{Words, AreInsnsInRange, read_words, count_of}
+use Rattle.cfi_items.specs.Fault.{input_of, IsInstrumentable}
+use Rattle.cfi_items.specs.inner.Rows.{PassesWords}
+use Rattle.cfi_items.proofs.RowTests.{good-words}
 use Rattle.cfi_instr.specs.declared.sizes.TheConstants.{MAX_WORDS}
 use Rattle.cfi_instr.specs.Sizes.{moved, words_before, offsets_of, AreSmall}
 use Rattle.cfi_instr.specs.Reach.{IsEnough, IsLeast}
@@ -35,17 +37,17 @@ joined-all give zero all = tt
 joined-all give (suc n) all =
     AllByRecursion-append (joined give n) (give n) (joined-all give n (λ w lt. all w (omega arith))) (all n (omega arith))
 
-pub text-is : (m : Module) (t : Words) (long : List Bool) (offsets text : List ℕ) → words_in m.object ≡ t
+pub text-is : (m : Module) (t : Words) (long : List Bool) (offsets text : List ℕ) → read_words m.object ≡ t
     → AllSpell t m.object.symbols long offsets
     → text ≡ flat_map word (flat_map words_of (units_of t m.object.symbols long offsets)) → IsText m long offsets text
 text-is m t long offsets text same spell is =
-    let here : AllSpell (words_in m.object) m.object.symbols long offsets =
+    let here : AllSpell (read_words m.object) m.object.symbols long offsets =
     subst (λ (x : Words). AllSpell x m.object.symbols long offsets) (sym same) spell in
     record {
-      words = flat_map words_of (units_of (words_in m.object) m.object.symbols long offsets);
+      words = flat_map words_of (units_of (read_words m.object) m.object.symbols long offsets);
       units = record {
         fit =
-            joined-all (units_at (words_in m.object) m.object.symbols long offsets) (count_of (words_in m.object)) here;
+            joined-all (units_at (read_words m.object) m.object.symbols long offsets) (count_of (read_words m.object)) here;
         spelled = refl;
       };
       bytes =
@@ -81,7 +83,7 @@ words-moved t offsets (kinds.Switch entries) = length-map entries (moved t offse
 pub moved-written : (m : Module) (offsets : List ℕ) (r : Records) → AreMoved m offsets r
     → CanBeWritten m.records → CanBeWritten r
 moved-written m offsets r moved_is can =
-    let t = words_in m.object in
+    let t = read_words m.object in
     let functions = m.records.functions in
     let branches = m.records.branches in
     record {
@@ -106,12 +108,13 @@ moved-written m offsets r moved_is can =
 -- ---- what the steps before give to the object
 
 pub spells-all : (m : Module) (t : Words) (symbols : List Symbol) (long : List Bool) (long_is : List Bool)
-    (offsets : List ℕ) → t ≡ words_in m.object → symbols ≡ m.object.symbols → AreInRange t.insns
-    → AreSound (parts_of m) → IsLeast t symbols long → words_before t long (count_of t) ≤ MAX_WORDS
+    (offsets : List ℕ) → t ≡ read_words m.object → symbols ≡ m.object.symbols → AreInsnsInRange t.insns
+    → IsInstrumentable (input_of m) → IsLeast t symbols long → words_before t long (count_of t) ≤ MAX_WORDS
     → AreSmall offsets → offsets ≡ offsets_of t long → long_is ≡ long
     → AllSpell t m.object.symbols long_is offsets
 spells-all m t symbols long long_is offsets same names range sound least fits small placed is =
-    let legal : AreLegal t = subst (λ (x : Words). AreLegal x) (sym same) sound.linked.shaped.words in
+    let legal : PassesWords t =
+    subst (λ (x : Words). PassesWords x) (sym same) (good-words (read_words m.object) sound.jumps.shaped.words) in
     let enough : IsEnough t m.object.symbols long =
     subst (λ (ss : List Symbol). IsEnough t ss long) names least.enough in
     let all : AllSpell t m.object.symbols long (offsets_of t long) =
@@ -127,7 +130,7 @@ spells-all m t symbols long long_is offsets same names range sound least fits sm
 
 -- the plan of the module itself
 pub plan-is : (m : Module) (t : Words) (symbols : List Symbol) (long : List Bool) (offsets : List ℕ)
-    → t ≡ words_in m.object → symbols ≡ m.object.symbols → IsLeast t symbols long → offsets ≡ offsets_of t long
+    → t ≡ read_words m.object → symbols ≡ m.object.symbols → IsLeast t symbols long → offsets ≡ offsets_of t long
     → IsLayout m long offsets
 plan-is m t symbols long offsets same names least placed = record {
   least =

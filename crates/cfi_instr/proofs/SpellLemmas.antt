@@ -12,12 +12,14 @@ use Rattle.cfi_word.specs.declared.sizes.TheConstants.{SLOTS}
 use Rattle.cfi_unit.specs.Unit.{IsUnit}
 use Rattle.cfi_items.specs.declared.target.Aim.{Aim}
 use Rattle.cfi_items.specs.declared.target.Aim.TheVariants as aims
-use Rattle.cfi_items.specs.Words.{Words, AreInRange, insn_at, reloc_at, count_of}
-use Rattle.cfi_items.specs.Insns.{holds, is_jalr, is_branch, is_reserved, is_trap}
+use Rattle.cfi_items.specs.Words.{Words, AreInsnsInRange, insn_at, reloc_on, count_of}
+use Rattle.cfi_items.specs.Insns.{holds, is_jalr, is_branch}
+use Rattle.cfi_unit.specs.Free.{names_reserved}
+use Rattle.cfi_items.specs.inner.Insns.{is_trap}
 use Rattle.cfi_items.specs.Items.{is_inner, is_pair, is_item, is_indirect}
 use Rattle.cfi_items.specs.Target.{aim_of_jump}
 use Rattle.cfi_items.specs.Jumps.{ordinal_of}
-use Rattle.cfi_items.specs.Fault.{AreLegal}
+use Rattle.cfi_items.specs.inner.Rows.{PassesWords}
 use Rattle.cfi_instr.specs.declared.sizes.TheConstants.{MAX_WORDS}
 use Rattle.cfi_instr.specs.Sizes.{is_long, size_by, size_at, words_before, offsets_of, AreSmall}
 use Rattle.cfi_instr.specs.Reach.{target_of, is_near, insn_reaches, IsEnough}
@@ -75,15 +77,15 @@ target-small offsets aims.Astray small = omega arith
 displaced : (P : ℤ → Type 0) (t : Words) (symbols : List Symbol) (offsets : List ℕ) (w from : ℕ) (off under : ℤ)
     → P under → P (distance from (target_of offsets (aim_of_jump t symbols w off)))
     → P (displacement_from t symbols offsets w from off under)
-displaced P t symbols offsets w from off under kept moved = elim (cases_Bool (is_some (reloc_at t w))) [
+displaced P t symbols offsets w from off under kept moved = elim (cases_Bool (is_some (reloc_on t w))) [
   | inl some ↦ rw some kept
   | inr none ↦ rw none moved
 ]
 
 -- what is known of a module's words and the plan
 pub record IsSpelled (t : Words) (symbols : List Symbol) (long : List Bool) : Type 0 where
-  pub range : AreInRange t.insns
-  pub legal : AreLegal t
+  pub range : AreInsnsInRange t.insns
+  pub legal : PassesWords t
   pub enough : IsEnough t symbols long
   pub fits : words_before t long (count_of t) ≤ MAX_WORDS
   pub small : AreSmall (offsets_of t long)
@@ -158,11 +160,11 @@ long-off t symbols long w insn is =
 
 -- ---- the units of a word
 
-ready : (t : Words) (w : ℕ) (insn : Insn) → AreInRange t.insns → AreLegal t → w < count_of t → insn_at t w ≡ Some insn
+ready : (t : Words) (w : ℕ) (insn : Insn) → AreInsnsInRange t.insns → PassesWords t → w < count_of t → insn_at t w ≡ Some insn
     → IsReady insn
 ready t w insn range legal lt here = record {
   range = subst (λ (x : Option Insn). IfSome x InRange) here (range w None lt);
-  free = ap (holds is_reserved) (sym here) ∙ legal.free w lt;
+  free = ap (holds names_reserved) (sym here) ∙ legal.free w lt;
   quiet = ap (holds is_trap) (sym here) ∙ legal.quiet w lt;
 }
 

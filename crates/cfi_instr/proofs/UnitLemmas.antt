@@ -7,10 +7,12 @@ use Rattle.rv_insn.specs.Word.{IsSigned, IsEven}
 use Rattle.rv_insn.specs.Insn.{InRange}
 use Rattle.cfi_word.specs.declared.sizes.TheConstants.{SLOTS}
 use Rattle.cfi_unit.specs.Unit.{IsFree, IsUnit}
-use Rattle.cfi_items.specs.Insns.{is_taken, is_reserved, is_trap, is_branch}
+use Rattle.cfi_unit.specs.Free.{is_reserved, names_reserved}
+use Rattle.cfi_items.specs.inner.Insns.{is_trap}
+use Rattle.cfi_items.specs.Insns.{is_branch}
 use Rattle.cfi_instr.specs.Units.{distance, unit_of, over}
 
-free-of : (r : ℕ) → is_taken r ≡ false → IsFree r
+free-of : (r : ℕ) → is_reserved r ≡ false → IsFree r
 free-of r h = ⊎_elim
     (λ (below : r < 28). below)
     (λ (above : 28 ≤ r). absurd (false≢true (sym h ∙ le-leb 28 r above)))
@@ -29,7 +31,7 @@ FitsOff insn off = Unit {0}
 -- an instruction that a module may have
 pub record IsReady (insn : Insn) : Type 0 where
   pub range : InRange insn
-  pub free : is_reserved insn ≡ false
+  pub free : names_reserved insn ≡ false
   pub quiet : is_trap insn ≡ false
 
 pub unit-fits : (insn : Insn) (number : ℕ) (off : ℤ) → IsReady insn → number < SLOTS → FitsOff insn off
@@ -38,22 +40,22 @@ unit-fits (insns.Lui rd imm) number off is few fits = (free-of rd is.free, is.ra
 unit-fits (insns.Auipc rd imm) number off is few fits = (free-of rd is.free, is.range.1)
 unit-fits (insns.Jal rd was) number off is few fits = fits
 unit-fits (insns.Jalr rd rs1 imm) number off is few fits =
-    (free-of rs1 (neither (is_taken rd) (is_taken rs1) is.free).1, is.range.2, few)
+    (free-of rs1 (neither (is_reserved rd) (is_reserved rs1) is.free).1, is.range.2, few)
 unit-fits (insns.Branch cond rs1 rs2 was) number off is few fits =
-    let free = neither (is_taken rs1) (is_taken rs2) is.free in
+    let free = neither (is_reserved rs1) (is_reserved rs2) is.free in
     (free-of rs1 free.0, free-of rs2 free.1, fits.0, fits.1)
 unit-fits (insns.Load kind rd rs1 imm) number off is few fits =
-    let free = neither (is_taken rd) (is_taken rs1) is.free in
+    let free = neither (is_reserved rd) (is_reserved rs1) is.free in
     (free-of rd free.0, free-of rs1 free.1, is.range.2)
 unit-fits (insns.Store kind rs1 rs2 imm) number off is few fits =
-    let free = neither (is_taken rs1) (is_taken rs2) is.free in
+    let free = neither (is_reserved rs1) (is_reserved rs2) is.free in
     (free-of rs1 free.0, free-of rs2 free.1, is.range.2)
 unit-fits (insns.OpImm op rd rs1 imm) number off is few fits =
-    let free = neither (is_taken rd) (is_taken rs1) is.free in
+    let free = neither (is_reserved rd) (is_reserved rs1) is.free in
     (free-of rd free.0, free-of rs1 free.1, is.range.2)
 unit-fits (insns.Op op rd rs1 rs2) number off is few fits =
-    let free = neither (is_taken rd || is_taken rs1) (is_taken rs2) is.free in
-    let two = neither (is_taken rd) (is_taken rs1) free.0 in
+    let free = neither (is_reserved rd || is_reserved rs1) (is_reserved rs2) is.free in
+    let two = neither (is_reserved rd) (is_reserved rs1) free.0 in
     (free-of rd two.0, free-of rs1 two.1, free-of rs2 free.1)
 unit-fits (insns.Fence fields) number off is few fits = is.range
 unit-fits insns.Ecall number off is few fits = tt
@@ -62,7 +64,7 @@ unit-fits insns.Ebreak number off is few fits = absurd (false≢true (sym is.qui
 -- the inverse branch, by 8
 pub over-fits : (insn : Insn) → IsReady insn → is_branch insn ≡ true → IsUnit (over insn)
 over-fits (insns.Branch cond rs1 rs2 was) is h =
-    let free = neither (is_taken rs1) (is_taken rs2) is.free in
+    let free = neither (is_reserved rs1) (is_reserved rs2) is.free in
     let small : 8 < 2 ^ 12 = omega arith in
     (free-of rs1 free.0, free-of rs2 free.1, small, refl)
 over-fits insn is h = absurd (false≢true h)

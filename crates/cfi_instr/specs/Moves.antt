@@ -13,8 +13,8 @@ use Rattle.cfi_aux.specs.declared.records.Function.{Function}
 use Rattle.cfi_aux.specs.declared.records.Kind.{Kind}
 use Rattle.cfi_aux.specs.declared.records.Kind.TheVariants as kinds
 use Rattle.cfi_items.specs.Words.{Words}
-use Rattle.cfi_items.specs.Functions.{end_of}
-use Rattle.cfi_items.specs.Target.{offset_from, symbol_of}
+use Rattle.cfi_aux.specs.Extent.{byte_end}
+use Rattle.cfi_items.specs.Target.{offset_from, named_symbol}
 use Rattle.cfi_instr.specs.Sizes.{is_long, moved}
 use Rattle.cfi_instr.specs.Units.{distance}
 
@@ -72,14 +72,14 @@ moved_by areas.Data t long offsets addend reloc = record reloc { addend = addend
 
 abbrev pub moved_reloc : Words → List Symbol → (long : List Bool) → (offsets : List ℕ) → Reloc → Reloc
 moved_reloc t symbols long offsets reloc =
-    moved_by reloc.area t long offsets (addend_by t offsets (symbol_of symbols reloc) reloc.addend) reloc
+    moved_by reloc.area t long offsets (addend_by t offsets (named_symbol symbols reloc) reloc.addend) reloc
 
 -- ---- records
 
 abbrev pub moved_function : Words → (offsets : List ℕ) → Function → Function
 moved_function t offsets f = record f {
   offset = moved t offsets f.offset;
-  length = moved t offsets (end_of f) - moved t offsets f.offset;
+  length = moved t offsets (byte_end f) - moved t offsets f.offset;
 }
 
 abbrev pub moved_kind : Words → (offsets : List ℕ) → Kind → Kind

@@ -10,8 +10,8 @@ use Rattle.cfi_aux.specs.declared.records.Records.{Records}
 use Rattle.cfi_aux.specs.Records as records
 use Rattle.cfi_items.specs.declared.fault.InstrFault.{InstrFault}
 use Rattle.cfi_items.specs.declared.fault.InstrFault.TheVariants as faults
-use Rattle.cfi_items.specs.Words.{words_in, count_of}
-use Rattle.cfi_items.specs.Fault.{parts_of, AreSound, IsFirstFlaw}
+use Rattle.cfi_items.specs.Words.{read_words, count_of}
+use Rattle.cfi_items.specs.Fault.{input_of, IsInstrumentable, IsFirstFlaw}
 use Rattle.cfi_instr.specs.declared.sizes.TheConstants.{MAX_WORDS}
 use Rattle.cfi_instr.specs.Sizes.{words_before, offsets_of}
 use Rattle.cfi_instr.specs.Reach.{IsLeast, IsEnough}
@@ -20,49 +20,49 @@ use Rattle.cfi_instr.specs.Moves.{moved_symbol, moved_reloc, moved_function, mov
 
 -- which branches are long, and where each word's unit goes
 pub record IsLayout (m : Module) (long : List Bool) (offsets : List ℕ) : Type 0 where
-  pub least : IsLeast (words_in m.object) m.object.symbols long
-  pub placed : offsets ≡ offsets_of (words_in m.object) long
+  pub least : IsLeast (read_words m.object) m.object.symbols long
+  pub placed : offsets ≡ offsets_of (read_words m.object) long
 
 -- the text is the units of the items, in order
 pub record IsText (m : Module) (long : List Bool) (offsets : List ℕ) (text : List ℕ) : Type 0 where
   pub words : List ℕ
-  pub units : UnitCode words (units_of (words_in m.object) m.object.symbols long offsets)
+  pub units : UnitCode words (units_of (read_words m.object) m.object.symbols long offsets)
   pub bytes : text ≡ flat_map word words
 
 -- the records are those of the input, moved
 pub record AreMoved (m : Module) (offsets : List ℕ) (r : Records) : Type 0 where
-  pub functions : r.functions ≡ map (moved_function (words_in m.object) offsets) m.records.functions
-  pub branches : r.branches ≡ map (moved_kind (words_in m.object) offsets) m.records.branches
+  pub functions : r.functions ≡ map (moved_function (read_words m.object) offsets) m.records.functions
+  pub branches : r.branches ≡ map (moved_kind (read_words m.object) offsets) m.records.branches
 
 -- the object: its text is new, its data is kept, symbols and relocations are moved, and its two sections spell the
 -- types and the new records
 pub record IsObject (m : Module) (long : List Bool) (offsets : List ℕ) (r : Records) (object : Object) : Type 0 where
   pub text : IsText m long offsets object.text
   pub static_data : object.static_data ≡ m.object.static_data
-  pub symbols : object.symbols ≡ map (moved_symbol (words_in m.object) offsets) m.object.symbols
+  pub symbols : object.symbols ≡ map (moved_symbol (read_words m.object) offsets) m.object.symbols
   pub relocs : object.relocs
-      ≡ map (moved_reloc (words_in m.object) m.object.symbols long offsets) m.object.relocs
+      ≡ map (moved_reloc (read_words m.object) m.object.symbols long offsets) m.object.relocs
   pub types : object.types ≡ Some (types.spelling m.types)
   pub records : object.records ≡ Some (records.spelling r)
 
 -- the second module is the first one, instrumented, which has no fault
 pub record IsInstrumented (m out : Module) : Type 0 where
-  pub sound : AreSound (parts_of m)
+  pub sound : IsInstrumentable (input_of m)
   pub long : List Bool
   pub offsets : List ℕ
   pub plan : IsLayout m long offsets
-  pub fits : words_before (words_in m.object) long (count_of (words_in m.object)) ≤ MAX_WORDS
+  pub fits : words_before (read_words m.object) long (count_of (read_words m.object)) ≤ MAX_WORDS
   pub object : IsObject m long offsets out.records out.object
   pub types : out.types ≡ m.types
   pub records : AreMoved m offsets out.records
 
 -- the output would be too long with the least set of long branches, and so with every set that is enough
 pub record IsTooLong (m : Module) : Type 0 where
-  pub sound : AreSound (parts_of m)
-  pub passed : (long : List Bool) → IsEnough (words_in m.object) m.object.symbols long
-      → MAX_WORDS < words_before (words_in m.object) long (count_of (words_in m.object))
+  pub sound : IsInstrumentable (input_of m)
+  pub passed : (long : List Bool) → IsEnough (read_words m.object) m.object.symbols long
+      → MAX_WORDS < words_before (read_words m.object) long (count_of (read_words m.object))
 
 -- the first fault of a module, unless memory ran out
 abbrev pub IsFirstInstrFault : (m : Module) → InstrFault → Type 0
 IsFirstInstrFault m faults.TooLong = IsTooLong m
-IsFirstInstrFault m fault = IsFirstFlaw (parts_of m) fault
+IsFirstInstrFault m fault = IsFirstFlaw (input_of m) fault

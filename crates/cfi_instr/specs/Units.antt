@@ -10,7 +10,7 @@ use Rattle.rv_insn.specs.declared.insn.Insn.TheVariants as insns
 use Rattle.cfi_unit.specs.declared.unit.Unit.{Unit as CodeUnit}
 use Rattle.cfi_unit.specs.declared.unit.Unit.TheVariants as units
 use Rattle.cfi_unit.specs.Unit.{IsUnit}
-use Rattle.cfi_items.specs.Words.{Words, insn_at, reloc_at, count_of}
+use Rattle.cfi_items.specs.Words.{Words, insn_at, reloc_on, count_of}
 use Rattle.cfi_items.specs.Insns.{holds, is_linked, is_branch}
 use Rattle.cfi_items.specs.Items.{is_inner, is_pair}
 use Rattle.cfi_items.specs.Target.{aim_of_jump}
@@ -35,7 +35,7 @@ distance from to = if nat_le from to then pos (to - from) else negsuc (from - to
 -- relocation will fill it
 abbrev pub displacement_from : Words → List Symbol → (offsets : List ℕ) → (w from : ℕ) → (off under : ℤ) → ℤ
 displacement_from t symbols offsets w from off under =
-    if is_some (reloc_at t w) then under
+    if is_some (reloc_on t w) then under
     else distance from (target_of offsets (aim_of_jump t symbols w off))
 
 -- an item that is one instruction, and no long branch: `off` is the displacement, `number` that of an indirect jump

@@ -5,7 +5,7 @@ ghost use Rattle.std.specs.List.{flat_map};
 ghost use Rattle.cfi_types.specs.Spelling.{word};
 ghost use Rattle.cfi_unit.specs.Unit.{words_of};
 ghost use Rattle.cfi_aux.specs.Records.{CanBeWritten};
-ghost use Rattle.cfi_items.specs.Words.{words_in, count_of};
+ghost use Rattle.cfi_items.specs.Words.{read_words, count_of};
 ghost use Rattle.cfi_instr.specs.Sizes.{AreSmall};
 ghost use Rattle.cfi_instr.specs.Units.{units_of, AllSpell};
 ghost use Rattle.cfi_instr.specs.Output.{AreMoved, IsObject, IsInstrumented, IsFirstInstrFault};
@@ -48,7 +48,7 @@ fn records_of(
     unplaced: &Module,
     offsets: &[u32],
 ) -> Result<Records, AllocError>
-    requires { words_in unplaced.now.object ≡ source.now }
+    requires { read_words unplaced.now.object ≡ source.now }
     ensures { IfOk result (AreMoved unplaced.now offsets.now) }
 {
     let records = &unplaced.records;
@@ -70,7 +70,7 @@ fn object_of(
     records: &Records,
 ) -> Result<Object, AllocError>
     requires count { 4 * count_of source.now < 2 ^ 32 }
-    requires same { words_in unplaced.now.object ≡ source.now }
+    requires same { read_words unplaced.now.object ≡ source.now }
     requires small { AreSmall offsets.now }
     requires fits { AllSpell source.now unplaced.now.object.symbols long.now offsets.now }
     requires nodes { length unplaced.now.types < 2 ^ 32 }

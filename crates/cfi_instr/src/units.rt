@@ -66,7 +66,7 @@ fn displacement_from(
     requires small { AreSmall offsets.now }
     ensures { result ≡ displacement_from source.now symbols.now offsets.now w from off under }
 {
-    if source.reloc_at(w).is_some() {
+    if source.reloc_on(w).is_some() {
         return under;
     }
     distance(

@@ -8,11 +8,16 @@ use Rattle.std.proofs.lemmas.Option.{slice_get-get_or, slice_get_past}
 use Rattle.cfi_aux.specs.declared.records.Function.{Function}
 use Rattle.cfi_items.specs.Words.{Words, count_of}
 use Rattle.cfi_items.specs.Insns.{is_jalr}
-use Rattle.cfi_items.specs.Items.{is_inner, is_item, is_item_at, is_bound_at, item_of}
-use Rattle.cfi_items.specs.Functions.{end_of, end_at, end_before, is_code, has_code, is_well_formed, is_formed_at, is_malformed}
+use Rattle.cfi_items.specs.Items.{is_inner, is_item, item_of}
+use Rattle.cfi_items.specs.inner.Items.{is_item_at, is_bound_at}
+use Rattle.cfi_aux.specs.Extent.{byte_end}
+use Rattle.cfi_items.specs.Functions.{byte_end_in, byte_end_before}
+use Rattle.cfi_items.specs.inner.Functions.{is_code, has_code, is_well_formed, is_formed_at, is_malformed}
+use Rattle.cfi_items.proofs.FunctionTests.{range-none}
+use Rattle.cfi_items.proofs.WordTests.{holds-within}
 use Rattle.cfi_instr.specs.Sizes.{words_before, offsets_of, moved}
 use Rattle.cfi_instr.proofs.SizeLemmas.{offset-read}
-use Rattle.cfi_instr_law.proofs.ItemLemmas.{holds-within, inner-parts}
+use Rattle.cfi_instr_law.proofs.ItemLemmas.{inner-parts}
 
 -- ---- bounds
 
@@ -77,7 +82,7 @@ pub record IsFormed (t : Words) (before : ℕ) (f : Function) : Type 0 where
   pub order : before ≤ f.offset
   pub begins : IsBound t f.offset
   pub inside : f.offset / 4 < count_of t
-  pub ends : IsBound t (end_of f)
+  pub ends : IsBound t (byte_end f)
   pub idle : has_code t before f.offset ≡ false
 
 formed-is : (t : Words) (before : ℕ) (f : Function) → is_well_formed t before f ≡ true → IsFormed t before f
@@ -94,42 +99,42 @@ formed-is t before f h =
       order = leb-true before f.offset two.1;
       begins = item.0;
       inside = item.1;
-      ends = bound-is t (end_of f) five.1;
+      ends = bound-is t (byte_end f) five.1;
       idle = not-true (has_code t before f.offset) six.1;
     }
 
 module _ (t : Words) (functions : List Function)
     (formed : (k : ℕ) → k < length functions + 1 → is_malformed t functions k ≡ false) where
   pub formed-at : (k : ℕ) (f : Function) → slice_get functions k ≡ Some f → k < length functions
-      → IsFormed t (end_before functions k) f
+      → IsFormed t (byte_end_before functions k) f
   formed-at k f is inside =
-      formed-is t (end_before functions k) f
-      (ap (is_formed_at t (end_before functions k)) (sym is)
+      formed-is t (byte_end_before functions k) f
+      (ap (is_formed_at t (byte_end_before functions k)) (sym is)
       ∙ not-false _ (formed k (omega (arith, inside))))
 
   formed-get : (k : ℕ) (d : Function) → k < length functions
-      → IsFormed t (end_before functions k) (get_or functions k d)
+      → IsFormed t (byte_end_before functions k) (get_or functions k d)
   formed-get k d inside = formed-at k (get_or functions k d) (slice_get-get_or functions k d inside) inside
 
   -- after the last function nothing but padding stands
-  pub rest-idle : has_code t (end_before functions (length functions)) (4 * count_of t) ≡ false
+  pub rest-idle : has_code t (byte_end_before functions (length functions)) (4 * count_of t) ≡ false
   rest-idle =
       let none = slice_get_past functions (length functions) (omega arith) in
-      let well = not-false (is_formed_at t (end_before functions (length functions))
+      let well = not-false (is_formed_at t (byte_end_before functions (length functions))
       (slice_get functions (length functions))) (formed (length functions) (omega arith)) in
-      not-true _ (ap (is_formed_at t (end_before functions (length functions))) (sym none) ∙ well)
+      not-true _ (ap (is_formed_at t (byte_end_before functions (length functions))) (sym none) ∙ well)
 
   pub before-next : (k : ℕ) (d : Function) → k < length functions
-      → end_before functions (suc k) ≡ end_of (get_or functions k d)
+      → byte_end_before functions (suc k) ≡ byte_end (get_or functions k d)
   before-next k d inside =
       let back : suc k - 1 ≡ k = omega arith in
       let some : eqb (suc k) 0 ≡ false = ne_eqb (suc k) 0 (λ e. omega (arith, e)) in
       rw some
-      (ap (λ (n : ℕ). end_at (slice_get functions n)) back
-      ∙ ap end_at (slice_get-get_or functions k d inside))
+      (ap (λ (n : ℕ). byte_end_in (slice_get functions n)) back
+      ∙ ap byte_end_in (slice_get-get_or functions k d inside))
 
   -- where the function before one ends is a bound
-  pub before-bound : (k : ℕ) (d : Function) → k ≤ length functions → IsBound t (end_before functions k)
+  pub before-bound : (k : ℕ) (d : Function) → k ≤ length functions → IsBound t (byte_end_before functions k)
   before-bound zero d within = record { whole = omega arith; within = omega arith; outer = refl }
   before-bound (suc k) d within =
       subst (IsBound t) (sym (before-next k d (omega (arith, within))))
@@ -137,7 +142,7 @@ module _ (t : Words) (functions : List Function)
 
   -- functions end before those after them begin
   pub ends-before : (j k : ℕ) (d : Function) → j < k → k ≤ length functions
-      → end_of (get_or functions j d) ≤ end_before functions k
+      → byte_end (get_or functions j d) ≤ byte_end_before functions k
   ends-before j zero d less within = absurd (omega (arith, less))
   ends-before j (suc k) d less within =
       let inside : k < length functions = omega (arith, within) in
@@ -147,7 +152,7 @@ module _ (t : Words) (functions : List Function)
       omega (arith, next, ends-before j k d low (omega (arith, within)), (formed-get k d inside).order))
       (λ (high : k ≤ j).
       let same : j ≡ k = omega (arith, high, less) in
-      omega (arith, next, ap (λ (n : ℕ). end_of (get_or functions n d)) same))
+      omega (arith, next, ap (λ (n : ℕ). byte_end (get_or functions n d)) same))
       (cases_lt j k)
 
   pub starts-after : (k j : ℕ) (d : Function) → k ≤ j → j < length functions
@@ -163,22 +168,7 @@ module _ (t : Words) (functions : List Function)
 
 -- ---- padding
 
-none-within : (test : ℕ → Bool) (a n : ℕ) → list_any test (range_with_len a n) ≡ false → (w : ℕ) → a ≤ w → w < a + n
-    → test w ≡ false
-none-within test a n h w low high = elim (cases_Bool (test w)) [
-  | inl test_here ↦
-      let k : ℕ = w - a in
-      let is : a + k ≡ w = omega (arith, low) in
-      let inside : k < n = omega (arith, low, high) in
-      let at : get_or (range_with_len a n) k 0 ≡ w = get_or-range_with_len a n k 0 inside ∙ is in
-      let found : list_any test (range_with_len a n) ≡ true =
-      list_any_at test (range_with_len a n) k 0 (omega (arith, inside, length-range_with_len a n))
-      (ap test at ∙ test_here) in
-      absurd (both_ways _ h found)
-  | inr none ↦ none
-]
-
 -- no word between two offsets is code
 pub no-code : (t : Words) (a b w : ℕ) → has_code t a b ≡ false → a / 4 ≤ w → w < b / 4 → is_code t w ≡ false
 no-code t a b w h low high =
-    none-within (is_code t) (a / 4) (b / 4 - a / 4) h w low (omega (arith, low, high))
+    range-none (is_code t) (a / 4) (b / 4 - a / 4) h w low (omega (arith, low, high))

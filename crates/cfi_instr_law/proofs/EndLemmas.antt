@@ -11,20 +11,24 @@ use Rattle.cfi_aux.specs.declared.modules.Module.{Module}
 use Rattle.cfi_aux.specs.declared.placed.Placed.{Placed}
 use Rattle.cfi_aux.specs.declared.placed.PlacedFunction.{PlacedFunction}
 use Rattle.cfi_aux.specs.declared.records.Function.{Function}
-use Rattle.cfi_items.specs.Words.{Words, insn_at, words_in as read_words, count_of}
+use Rattle.cfi_items.specs.Words.{Words, insn_at, read_words, count_of}
 use Rattle.cfi_items.specs.Insns.{holds, is_auipc, is_linked, is_unlinked}
 use Rattle.cfi_items.specs.Items.{is_inner, is_pair, item_of}
-use Rattle.cfi_items.specs.Functions.{end_of, end_before, runs_off_at}
+use Rattle.cfi_aux.specs.Extent.{byte_end}
+use Rattle.cfi_items.specs.Functions.{byte_end_before}
+use Rattle.cfi_items.specs.inner.Functions.{runs_off_at}
+use Rattle.cfi_items.proofs.WordTests.{holds-within}
+use Rattle.cfi_items.proofs.RelocTests.{item-below}
 use Rattle.cfi_instr.specs.Sizes.{is_long, words_before, offsets_of}
 use Rattle.cfi_instr.specs.Units.{insn_units, units_at}
-use Rattle.cfi_verify.specs.Lists.{Each}
+use Rattle.elf_read.specs.Lists.{Each}
 use Rattle.cfi_unit.specs.Spots.{spots_of}
 use Rattle.cfi_verify.specs.Functions as verify
 use Rattle.cfi_verify.specs.Functions.{may_be_last}
 use Rattle.cfi_unit.specs.declared.spot.Spot.{Spot}
 use Rattle.cfi_instr_law.proofs.SeenLemmas.{seen, like, last-seen}
 use Rattle.cfi_instr_law.proofs.CodeLemmas.{one-spot}
-use Rattle.cfi_instr_law.proofs.ItemLemmas.{item, item_spots, spots_to, in-item, of-item, item-range, apart, holds-within, inner-parts, item-outer, item-below, pair-outer, single-from}
+use Rattle.cfi_instr_law.proofs.ItemLemmas.{item, item_spots, spots_to, in-item, of-item, item-range, apart, inner-parts, item-outer, pair-outer, single-from}
 use Rattle.cfi_instr_law.proofs.BoundLemmas.{IsFormed}
 use Rattle.cfi_instr_law.proofs.FromLemmas.{IsFrom}
 use Rattle.cfi_instr_law.proofs.IdleLemmas.{outer-of}
@@ -114,14 +118,14 @@ module _ (source : Module) (placed : Placed) (s : IsFrom source placed) where
 
   -- the last word of a function is that of a jump without link
   ends-jump : (k : ℕ) (f : Function) → slice_get functions k ≡ Some f → k < length functions
-      → holds is_unlinked (insn_at t (end_of f / 4 - 1)) ≡ true
+      → holds is_unlinked (insn_at t (byte_end f / 4 - 1)) ≡ true
   ends-jump k f is inside =
       not-false _ (ap (runs_off_at t) (sym is) ∙ s.sound.ends k inside)
 
   -- the last unit of a function
   module _ (k : ℕ) (f : Function) (is : slice_get functions k ≡ Some f) (inside : k < length functions) where
     abbrev last_word : ℕ
-    last_word = end_of f / 4 - 1
+    last_word = byte_end f / 4 - 1
 
     abbrev last : ℕ
     last = item_of t last_word
@@ -135,7 +139,7 @@ module _ (source : Module) (placed : Placed) (s : IsFrom source placed) where
     abbrev base : List Spot
     base = spots_to t symbols s.long offsets (count_of t)
 
-    formed_f : IsFormed t (end_before functions k) f
+    formed_f : IsFormed t (byte_end_before functions k) f
     formed_f = formed source placed s k f is
 
     last-is : IsLastItem (item t symbols s.long offsets last)
@@ -162,7 +166,7 @@ module _ (source : Module) (placed : Placed) (s : IsFrom source placed) where
         (0, omega arith, refl))
 
     -- a unit of the base that stands before the function's end stands no later
-    none-later : (o : Spot) → Contains base o → o.at < place source placed s (end_of f / 4)
+    none-later : (o : Spot) → Contains base o → o.at < place source placed s (byte_end f / 4)
         → o.at ≤ words_before t s.long last
     none-later o has before =
         let at = of-item t symbols s.long offsets (count_of t) o has in
@@ -173,10 +177,10 @@ module _ (source : Module) (placed : Placed) (s : IsFrom source placed) where
         (λ (more : last ≤ w).
         let i = formed_f in
         let low : w ≤ last_word =
-        ⊎_elim (λ (less : w < end_of f / 4). omega (arith, less))
-        (λ (after : end_of f / 4 ≤ w).
-        absurd (omega (arith, range.0, before, grows source placed s (end_of f / 4) w after)))
-        (cases_lt w (end_of f / 4)) in
+        ⊎_elim (λ (less : w < byte_end f / 4). omega (arith, less))
+        (λ (after : byte_end f / 4 ≤ w).
+        absurd (omega (arith, range.0, before, grows source placed s (byte_end f / 4) w after)))
+        (cases_lt w (byte_end f / 4)) in
         let back : w ≤ last = no-item-between t w last_word (outer-of t symbols s.long offsets w o at.2) low in
         let same : w ≡ last = omega (arith, more, back) in
         let here : Contains (item_spots t symbols s.long offsets last) o =
@@ -197,10 +201,10 @@ module _ (source : Module) (placed : Placed) (s : IsFrom source placed) where
         let looks : seen (s.touched (words_before t s.long last)) last-is.unit ≡ seen (s.touched x.0.at) x.0.unit =
         ap (λ (y : Spot). y.unit) x.2 in
         let first : g.first ≡ place source placed s (f.offset / 4) =
-        ap (λ (y : PlacedFunction). y.first) from ∙ made-first source placed s f (end_before functions k) i in
-        let end : verify.end_of g ≡ place source placed s (end_of f / 4) =
-        ap verify.end_of from ∙ made-end source placed s f (end_before functions k) i in
-        let below : last + 1 ≤ end_of f / 4 =
+        ap (λ (y : PlacedFunction). y.first) from ∙ made-first source placed s f (byte_end_before functions k) i in
+        let end : verify.end_of g ≡ place source placed s (byte_end f / 4) =
+        ap verify.end_of from ∙ made-end source placed s f (byte_end_before functions k) i in
+        let below : last + 1 ≤ byte_end f / 4 =
         omega (arith, item-below t last_word, i.some, i.begins.whole, i.ends.whole) in
         let words =
         some-at source placed s last (omega (arith, item-below t last_word, word-inside)) (item-outer t last_word) in (
@@ -209,7 +213,7 @@ module _ (source : Module) (placed : Placed) (s : IsFrom source placed) where
             has = x.1;
             lies = (
               omega (arith, first, at, grows source placed s (f.offset / 4) last starts),
-              omega (arith, end, at, words, grows source placed s (last + 1) (end_of f / 4) below),
+              omega (arith, end, at, words, grows source placed s (last + 1) (byte_end f / 4) below),
             );
             last = λ other has lies.
                 let o = like s.touched final base s.laid.looks other has in

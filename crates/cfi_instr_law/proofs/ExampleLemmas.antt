@@ -9,8 +9,10 @@ use Rattle.rv_reloc.specs.Bytes.{word_at}
 use Rattle.cfi_unit.specs.declared.unit.Unit.{Unit as CodeUnit}
 use Rattle.cfi_unit.specs.declared.unit.Unit.TheVariants as units
 use Rattle.cfi_aux.specs.Format.{is_func}
-use Rattle.cfi_items.specs.Words.{Words, words_by, bytes_as_words as read_words}
-use Rattle.cfi_items.specs.Fault.{parts_by, AreSound}
+use Rattle.cfi_items.specs.Words.{Words, words_by, read_words}
+use Rattle.cfi_items.specs.Fault.{input_by, IsInstrumentable}
+use Rattle.cfi_items.specs.inner.Rows.{PassesAll}
+use Rattle.cfi_items.proofs.RowTests.{instrumentable}
 use Rattle.cfi_instr.specs.Sizes.{size_at, is_long}
 use Rattle.cfi_instr.specs.Reach.{IsEnough, IsLeast}
 use Rattle.cfi_instr.specs.Units.{units_at}
@@ -40,7 +42,7 @@ none-of-two test first second zero less = first
 none-of-two test first second (suc zero) less = second
 none-of-two test first second (suc (suc j)) less = absurd (omega (arith, less))
 
-sound : AreSound (parts_by loop_words loop_source)
+sound : PassesAll (input_by loop_words loop_source)
 sound = record {
   linked = record {
     shaped = record {
@@ -97,7 +99,9 @@ moved_records = record { functions = refl; branches = refl }
 instrumented : IsInstrumented loop_source loop_source
 unfolding word_at insn_of size_at
 instrumented = record {
-  sound = subst (λ (t : Words). AreSound (parts_by t loop_source)) (sym words-are) sound;
+  sound =
+      subst (λ (t : Words). IsInstrumentable (input_by t loop_source)) (sym words-are)
+      (instrumentable (input_by loop_words loop_source) sound);
   long = long;
   offsets = offsets;
   plan = plan;

@@ -8,11 +8,12 @@ use Rattle.elf_read.specs.declared.object.Area.TheVariants as areas
 use Rattle.elf_read.specs.declared.object.Reloc.{Reloc}
 use Rattle.elf_read.specs.declared.object.Symbol.{Symbol}
 use Rattle.cfi_aux.specs.declared.modules.Module.{Module}
-use Rattle.cfi_items.specs.Words.{Words, is_of_text, words_in as read_words, count_of}
+use Rattle.cfi_items.specs.Words.{Words, is_of_text, read_words, count_of}
 use Rattle.cfi_items.specs.Items.{is_inner, item_of}
-use Rattle.cfi_items.specs.Target.{symbol_of}
-use Rattle.cfi_items.specs.Functions.{is_covered}
-use Rattle.cfi_items.specs.Fault.{parts_of, AreSound}
+use Rattle.cfi_items.specs.Target.{named_symbol}
+use Rattle.cfi_items.specs.inner.Functions.{is_covered}
+use Rattle.cfi_items.specs.Fault.{input_of}
+use Rattle.cfi_items.specs.inner.Rows.{PassesAll}
 use Rattle.cfi_instr.specs.Sizes.{size_at, words_before, offsets_of}
 use Rattle.cfi_instr.specs.Moves.{is_of_long, addend_by, offset_in, moved_by, moved_reloc}
 use Rattle.cfi_instr.proofs.SizeLemmas.{total-grows}
@@ -33,7 +34,7 @@ same-item t long v w some low high =
     (cases_lt w v))
     (cases_lt v w)
 
-module _ (source : Module) (long : List Bool) (sound : AreSound (parts_of source)) where
+module _ (source : Module) (long : List Bool) (sound : PassesAll (input_of source)) where
   abbrev t : Words
   t = read_words source.object
 
@@ -87,7 +88,7 @@ module _ (source : Module) (long : List Bool) (sound : AreSound (parts_of source
       let within : k < length olds = subst (λ (n : ℕ). k < n) (length-map olds moves) some.2 in
       let reloc = get_or olds k some.1 in
       let moved : some.1 ≡ moves reloc = sym some.3 ∙ get_or-map moves olds k some.1 some.1 within in
-      moved-in at reloc (addend_by t offsets (symbol_of symbols reloc) reloc.addend) reloc.area refl
+      moved-in at reloc (addend_by t offsets (named_symbol symbols reloc) reloc.addend) reloc.area refl
       (λ is. reloc-fits t symbols source.records.functions olds k some.1 within
       (sound.linked.shaped.relocs k within) is)
       (ap (is_at_word at) (sym moved) ∙ some.4)

@@ -13,10 +13,12 @@ use Rattle.cfi_aux.specs.declared.modules.Module.{Module}
 use Rattle.cfi_aux.specs.declared.placed.Placed.{Placed}
 use Rattle.cfi_aux.specs.declared.records.Function.{Function}
 use Rattle.cfi_aux.specs.declared.records.Kind.{Kind}
-use Rattle.cfi_items.specs.Words.{Words, words_in as read_words, count_of}
+use Rattle.cfi_items.specs.Words.{Words, read_words, count_of}
 use Rattle.cfi_items.specs.Items.{is_inner}
-use Rattle.cfi_items.specs.Functions.{is_covered}
-use Rattle.cfi_items.specs.Fault.{parts_of, AreSound}
+use Rattle.cfi_items.specs.inner.Functions.{is_covered}
+use Rattle.cfi_items.specs.Fault.{input_of}
+use Rattle.cfi_items.specs.inner.Rows.{PassesAll}
+use Rattle.cfi_items.proofs.RowTests.{passes}
 use Rattle.cfi_instr.specs.Sizes.{words_before, offsets_of}
 use Rattle.cfi_instr.specs.Units.{units_of}
 use Rattle.cfi_instr.specs.Moves.{moved_function, moved_kind, moved_reloc}
@@ -51,7 +53,7 @@ same-words touched code other same =
 -- a module that was made of another, at its place
 pub record IsFrom (source : Module) (placed : Placed) : Type 0 where
   pub long : List Bool
-  pub sound : AreSound (parts_of source)
+  pub sound : PassesAll (input_of source)
   pub touched : ℕ → Bool
   pub free : (w : ℕ) → w < count_of (read_words source.object) → is_inner (read_words source.object) w ≡ false
       → is_covered source.records.functions (4 * w) ≡ false
@@ -114,21 +116,22 @@ from-made source m room names placed at =
     let t = read_words source.object in
     let long = made.long in
     let offsets = offsets_of t long in
+    let sound = passes (input_of source) made.sound in
     let relocs = map (moved_reloc t source.object.symbols long offsets) source.object.relocs in
     let same : made.offsets ≡ offsets = made.plan.placed in
     let moves = moved_function t offsets in
     let functions = made.records.functions ∙ ap (λ (xs : List ℕ). map (moved_function t xs) source.records.functions) same in
     let laid =
-    laid-by source m long made.sound room names placed at.fits
+    laid-by source m long sound room names placed at.fits
     (subst (λ (xs : List ℕ). IsText source long xs m.object.text) same made.object.text)
     (made.object.relocs
     ∙ ap (λ (xs : List ℕ). map (moved_reloc t source.object.symbols long xs) source.object.relocs) same)
     at.stands in
     record {
       long = long;
-      sound = made.sound;
+      sound = sound;
       touched = touches relocs;
-      free = untouched source long made.sound;
+      free = untouched source long sound;
       laid = laid;
       some =
           subst (λ (n : ℕ). 0 < n)

@@ -11,14 +11,15 @@ use Rattle.cfi_aux.specs.declared.modules.Module.{Module}
 use Rattle.cfi_aux.specs.declared.placed.Placed.{Placed}
 use Rattle.cfi_aux.specs.declared.placed.PlacedFunction.{PlacedFunction}
 use Rattle.cfi_aux.specs.declared.records.Function.{Function}
-use Rattle.cfi_items.specs.Words.{Words, words_in as read_words, count_of}
+use Rattle.cfi_items.specs.Words.{Words, read_words, count_of}
 use Rattle.cfi_items.specs.Items.{is_inner}
-use Rattle.cfi_items.specs.Functions.{end_of, end_before}
+use Rattle.cfi_aux.specs.Extent.{byte_end}
+use Rattle.cfi_items.specs.Functions.{byte_end_before}
 use Rattle.cfi_instr.specs.Sizes.{size_at, words_before, offsets_of}
 use Rattle.cfi_instr.specs.Moves.{moved_function}
 use Rattle.cfi_instr.proofs.SizeLemmas.{total-grows}
 use Rattle.cfi_place.specs.Functions.{make_function}
-use Rattle.cfi_verify.specs.Lists.{Each}
+use Rattle.elf_read.specs.Lists.{Each}
 use Rattle.cfi_unit.specs.Spots.{spots_of, BeginsUnit}
 use Rattle.cfi_verify.specs.Functions as verify
 use Rattle.cfi_unit.specs.declared.spot.Spot.{Spot}
@@ -81,7 +82,7 @@ module _ (source : Module) (placed : Placed) (s : IsFrom source placed) where
       ∙ length-map functions moves
 
   -- the function of the number is well formed
-  pub formed : (k : ℕ) (f : Function) → slice_get functions k ≡ Some f → IsFormed t (end_before functions k) f
+  pub formed : (k : ℕ) (f : Function) → slice_get functions k ≡ Some f → IsFormed t (byte_end_before functions k) f
   formed k f is = formed-at t functions s.sound.linked.shaped.functions k f is (slice_get_within functions k f is)
 
   -- a placed function's first word, and the word after its last
@@ -89,16 +90,16 @@ module _ (source : Module) (placed : Placed) (s : IsFrom source placed) where
   made-first f before is =
       let begins = bound-moved t s.long f.offset is.begins in omega (arith, begins)
 
-  pub made-end : (f : Function) (before : ℕ) → IsFormed t before f → verify.end_of (made f) ≡ place (end_of f / 4)
+  pub made-end : (f : Function) (before : ℕ) → IsFormed t before f → verify.end_of (made f) ≡ place (byte_end f / 4)
   made-end f before is =
       let begins = bound-moved t s.long f.offset is.begins in
-      let ends = bound-moved t s.long (end_of f) is.ends in
-      let order : f.offset / 4 ≤ end_of f / 4 = omega arith in
-      omega (arith, begins, ends, grows (f.offset / 4) (end_of f / 4) order)
+      let ends = bound-moved t s.long (byte_end f) is.ends in
+      let order : f.offset / 4 ≤ byte_end f / 4 = omega arith in
+      omega (arith, begins, ends, grows (f.offset / 4) (byte_end f / 4) order)
 
   -- where the function before one ends
   made-before : (k : ℕ) → k ≤ length functions
-      → verify.end_before placed.functions k ≡ place (end_before functions k / 4)
+      → verify.end_before placed.functions k ≡ place (byte_end_before functions k / 4)
   made-before zero within = refl
   made-before (suc k) within =
       let inside : k < length functions = omega (arith, within) in
@@ -106,7 +107,7 @@ module _ (source : Module) (placed : Placed) (s : IsFrom source placed) where
       let is : slice_get functions k ≡ Some f = slice_get-get_or functions k no_function inside in
       let before = before-next t functions s.sound.linked.shaped.functions k no_function inside in
       ap verify.end_in (made-at k f is)
-      ∙ made-end f (end_before functions k) (formed k f is)
+      ∙ made-end f (byte_end_before functions k) (formed k f is)
       ∙ ap (λ (n : ℕ). place (n / 4)) (sym before)
 
   -- a unit begins where an item goes
@@ -146,17 +147,17 @@ module _ (source : Module) (placed : Placed) (s : IsFrom source placed) where
       let f = from.0 in
       let within : k < length functions = slice_get_within functions k f from.1 in
       let is = formed k f from.1 in
-      let before = end_before functions k in
+      let before = byte_end_before functions k in
       let first : g.first ≡ place (f.offset / 4) =
       ap (λ (x : PlacedFunction). x.first) from.2 ∙ made-first f before is in
-      let end : verify.end_of g ≡ place (end_of f / 4) = ap verify.end_of from.2 ∙ made-end f before is in
+      let end : verify.end_of g ≡ place (byte_end f / 4) = ap verify.end_of from.2 ∙ made-end f before is in
       let start : verify.end_before placed.functions k ≡ place (before / 4) = made-before k (omega (arith, within)) in
-      let longer : f.offset / 4 + 1 ≤ end_of f / 4 = omega (arith, is.some, is.begins.whole, is.ends.whole) in
+      let longer : f.offset / 4 + 1 ≤ byte_end f / 4 = omega (arith, is.some, is.begins.whole, is.ends.whole) in
       record {
         some = omega (
           arith,
           some-at (f.offset / 4) is.inside is.begins.outer,
-          grows (f.offset / 4 + 1) (end_of f / 4) longer,
+          grows (f.offset / 4 + 1) (byte_end f / 4) longer,
           first,
           end,
         );
@@ -164,12 +165,12 @@ module _ (source : Module) (placed : Placed) (s : IsFrom source placed) where
         within = omega (
           arith,
           end,
-          grows (end_of f / 4) (count_of t) is.ends.within,
+          grows (byte_end f / 4) (count_of t) is.ends.within,
           words-end source placed s,
         );
         begins = subst (BeginsUnit spots) (sym first) (begins-at (f.offset / 4) is.inside is.begins.outer);
         ends =
-            subst (λ (n : ℕ). (n ≡ length placed.words) ⊎ BeginsUnit spots n) (sym end) (ends-at (end_of f) is.ends);
+            subst (λ (n : ℕ). (n ≡ length placed.words) ⊎ BeginsUnit spots n) (sym end) (ends-at (byte_end f) is.ends);
         typed =
             subst (λ (n : ℕ). IsTrue (is_func placed.types n))
             (ap (λ (x : Function). x.ty) (get_or_from_slice_get functions k f f from.1)
@@ -190,5 +191,5 @@ module _ (source : Module) (placed : Placed) (s : IsFrom source placed) where
       (rest-idle t functions s.sound.linked.shaped.functions) (λ d inside. absurd (omega (arith, inside))) in
       subst (λ (from : ℕ). verify.IsIdle spots from (length placed.words))
       (sym (ap (verify.end_before placed.functions) count-made ∙ made-before n (omega arith)))
-      (subst (λ (to : ℕ). verify.IsIdle spots (place (end_before functions n / 4)) to)
+      (subst (λ (to : ℕ). verify.IsIdle spots (place (byte_end_before functions n / 4)) to)
       (ap place last ∙ sym (words-end source placed s)) behind)

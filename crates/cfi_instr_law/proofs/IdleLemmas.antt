@@ -13,10 +13,14 @@ use Rattle.cfi_unit.specs.declared.unit.Unit.TheVariants as units
 use Rattle.cfi_aux.specs.declared.modules.Module.{Module}
 use Rattle.cfi_aux.specs.declared.placed.Placed.{Placed}
 use Rattle.cfi_aux.specs.declared.records.Function.{Function}
-use Rattle.cfi_items.specs.Words.{Words, insn_at, words_in as read_words, count_of}
-use Rattle.cfi_items.specs.Insns.{holds, is_nop, is_auipc, is_addi, is_zero}
+use Rattle.cfi_items.specs.Words.{Words, insn_at, read_words, count_of}
+use Rattle.cfi_items.specs.Insns.{holds, is_auipc, is_zero}
+use Rattle.cfi_items.specs.inner.Insns.{is_nop, is_addi}
 use Rattle.cfi_items.specs.Items.{is_inner, is_item}
-use Rattle.cfi_items.specs.Functions.{end_of, covers, is_covered, end_before, is_code, has_code}
+use Rattle.cfi_aux.specs.Extent.{byte_end}
+use Rattle.cfi_items.specs.inner.Functions.{covers, is_covered, is_code, has_code}
+use Rattle.cfi_items.specs.Functions.{byte_end_before}
+use Rattle.cfi_items.proofs.WordTests.{nop-is}
 use Rattle.cfi_instr.specs.Sizes.{is_long, size_at, words_before, offsets_of}
 use Rattle.cfi_instr.specs.Units.{insn_units, units_at}
 use Rattle.cfi_instr.proofs.SizeLemmas.{total-grows}
@@ -32,25 +36,6 @@ use Rattle.cfi_instr_law.proofs.FromLemmas.{IsFrom}
 -- `addi x0,x0,0`
 abbrev nop : CodeUnit
 nop = units.Plain (insns.OpImm ops.Addi 0 0 (pos 0))
-
-zero-is : (imm : ℤ) → is_zero imm ≡ true → imm ≡ pos 0
-zero-is (pos n) h = ap pos (eqb-true n 0 h)
-zero-is (negsuc n) h = absurd (false≢true h)
-
-addi-is : (op : ImmOp) → is_addi op ≡ true → op ≡ ops.Addi
-addi-is ops.Addi h = refl
-addi-is op h = absurd (false≢true h)
-
-nop-is : (insn : Insn) → is_nop insn ≡ true → insn ≡ insns.OpImm ops.Addi 0 0 (pos 0)
-nop-is (insns.OpImm op rd rs1 imm) h =
-    let three = and_parts _ _ h in
-    let two = and_parts _ _ three.0 in
-    let one = and_parts _ _ two.0 in
-    ap (λ (o : ImmOp). insns.OpImm o rd rs1 imm) (addi-is op one.0)
-    ∙ ap (λ (n : ℕ). insns.OpImm ops.Addi n rs1 imm) (eqb-true rd 0 one.1)
-    ∙ ap (λ (n : ℕ). insns.OpImm ops.Addi 0 n imm) (eqb-true rs1 0 two.1)
-    ∙ ap (λ (z : ℤ). insns.OpImm ops.Addi 0 0 z) (zero-is imm three.1)
-nop-is insn h = absurd (false≢true h)
 
 nop-no-auipc : (i : Insn) → is_nop i ≡ true → is_auipc i ≡ false
 nop-no-auipc (insns.Auipc rd imm) h = absurd (false≢true h)
@@ -146,7 +131,7 @@ module _ (source : Module) (placed : Placed) (s : IsFrom source placed) where
   functions = source.records.functions
 
   -- no function has a word between the one before number k and a place at which that one, if any, begins
-  uncovered : (k w to : ℕ) → k ≤ length functions → end_before functions k ≤ 4 * w → 4 * w < to
+  uncovered : (k w to : ℕ) → k ≤ length functions → byte_end_before functions k ≤ 4 * w → 4 * w < to
       → ((d : Function) → k < length functions → to ≤ (get_or functions k d).offset)
       → is_covered functions (4 * w) ≡ false
   uncovered k w to within low high next = elim (cases_Bool (is_covered functions (4 * w))) [
@@ -156,13 +141,13 @@ module _ (source : Module) (placed : Placed) (s : IsFrom source placed) where
         let f : Function = some.1 in
         let parts = and_parts _ _ some.4 in
         let begins = leb-true f.offset (4 * w) parts.0 in
-        let ends = ltb-true (4 * w) (end_of f) parts.1 in
+        let ends = ltb-true (4 * w) (byte_end f) parts.1 in
         let is : get_or functions j f ≡ f = some.3 in
         let formed = s.sound.linked.shaped.functions in
         ⊎_elim
         (λ (less : j < k).
         let before = ends-before t functions formed j k f less within in
-        absurd (omega (arith, before, ap end_of is, ends, low)))
+        absurd (omega (arith, before, ap byte_end is, ends, low)))
         (λ (more : k ≤ j).
         let after = starts-after t functions formed k j f more some.2 in
         let inside : k < length functions = omega (arith, more, some.2) in
@@ -172,11 +157,11 @@ module _ (source : Module) (placed : Placed) (s : IsFrom source placed) where
   ]
 
   -- the units between the end of the function before number k and a place before which it does not begin
-  pub idle-from : (k to : ℕ) → k ≤ length functions → IsBound t to → has_code t (end_before functions k) to ≡ false
+  pub idle-from : (k to : ℕ) → k ≤ length functions → IsBound t to → has_code t (byte_end_before functions k) to ≡ false
       → ((d : Function) → k < length functions → to ≤ (get_or functions k d).offset)
-      → IsIdle (spots_of 0 s.laid.code) (words_before t s.long (end_before functions k / 4)) (words_before t s.long (to / 4))
+      → IsIdle (spots_of 0 s.laid.code) (words_before t s.long (byte_end_before functions k / 4)) (words_before t s.long (to / 4))
   idle-from k to within b none next spot has low high =
-      let from : ℕ = end_before functions k in
+      let from : ℕ = byte_end_before functions k in
       let touched = s.touched in
       let formed = s.sound.linked.shaped.functions in
       let offsets = offsets_of t s.long in

@@ -15,22 +15,13 @@ use Rattle.cfi_unit.proofs.UnitLemmas.{size_pos}
 use Rattle.cfi_items.specs.Words.{Words, insn_at, count_of}
 use Rattle.cfi_items.specs.Insns.{holds, is_auipc, is_jalr, is_branch}
 use Rattle.cfi_items.specs.Items.{is_inner, is_pair, item_of}
-use Rattle.cfi_items.specs.Flaws.{is_illegal_at}
+use Rattle.cfi_items.specs.inner.Flaws.{is_illegal_at}
 use Rattle.cfi_instr.specs.Sizes.{is_long, size_by, size_at, words_before}
 use Rattle.cfi_instr.specs.Units.{is_wide, insn_units, units_at}
 use Rattle.cfi_instr.proofs.SizeLemmas.{place-more}
 use Rattle.cfi_unit.specs.declared.spot.Spot.{Spot}
 use Rattle.cfi_unit.specs.Spots.{spots_of, BeginsUnit}
 use Rattle.cfi_instr_law.proofs.CodeLemmas.{words_in, words-append, words-cons, spots-append, spots-range}
-
--- the word of an instruction that is there is one of the text
-pub holds-within : (t : Words) (w : ℕ) (test : Insn → Bool) → holds test (insn_at t w) ≡ true → w < count_of t
-holds-within t w test h = ⊎_elim
-    (λ (below : w < count_of t). below)
-    (λ (above : count_of t ≤ w).
-    let none : insn_at t w ≡ None = get_or_past t.insns w None above in
-    absurd (false≢true (ap (holds test) (sym none) ∙ h)))
-    (cases_lt w (count_of t))
 
 -- a pair is an AUIPC and a JALR
 pub pair-parts : (t : Words) (w : ℕ) → is_pair t w ≡ true
@@ -100,12 +91,6 @@ pub item-outer : (t : Words) (w : ℕ) → is_inner t (item_of t w) ≡ false
 item-outer t w = elim (cases_Bool (is_inner t w)) [
   | inl inner ↦ rw inner (pair-outer t (w - 1) (inner-parts t w inner).1)
   | inr outer ↦ rw outer outer
-]
-
-pub item-below : (t : Words) (w : ℕ) → item_of t w ≤ w
-item-below t w = elim (cases_Bool (is_inner t w)) [
-  | inl inner ↦ rw inner (omega arith)
-  | inr outer ↦ rw outer (omega arith)
 ]
 
 module _ (t : Words) (symbols : List Symbol) (long : List Bool) (offsets : List ℕ) where

@@ -10,14 +10,15 @@ use Rattle.cfi_aux.specs.declared.modules.Module.{Module}
 use Rattle.cfi_aux.specs.declared.placed.Placed.{Placed}
 use Rattle.cfi_aux.specs.declared.records.Kind.{Kind}
 use Rattle.cfi_aux.specs.declared.records.Kind.TheVariants.{Call, Tail, Return, Switch}
-use Rattle.cfi_items.specs.Words.{Words, insn_at, words_in as read_words, count_of}
+use Rattle.cfi_items.specs.Words.{Words, insn_at, read_words, count_of}
 use Rattle.cfi_items.specs.Insns.{holds, is_linked}
 use Rattle.cfi_items.specs.Items.{is_indirect}
-use Rattle.cfi_items.specs.Jumps.{ordinal_of, is_call, same, has_kind, has_rest, lacks_kind_by}
+use Rattle.cfi_items.specs.Jumps.{ordinal_of}
+use Rattle.cfi_items.specs.inner.Jumps.{is_call, same, has_fitting_kind, has_rest, lacks_kind_by}
 use Rattle.cfi_instr.specs.Sizes.{offsets_of}
 use Rattle.cfi_instr.specs.Moves.{moved_kind}
 use Rattle.cfi_verify.specs.Branches.{IsKindOf, IsRecordOf, KindFits}
-use Rattle.cfi_verify.specs.Lists.{Each}
+use Rattle.elf_read.specs.Lists.{Each}
 use Rattle.cfi_unit.specs.Spots.{spots_of}
 use Rattle.cfi_verify.specs.Spots.{checks_of}
 use Rattle.cfi_verify.specs.declared.checks.CheckSpot.{CheckSpot}
@@ -47,7 +48,7 @@ call-moved t offsets (Tail node) = refl
 call-moved t offsets Return = refl
 call-moved t offsets (Switch entries) = refl
 
-some-kind : (linked : Bool) (found : Option Kind) → has_kind linked found ≡ true
+some-kind : (linked : Bool) (found : Option Kind) → has_fitting_kind linked found ≡ true
     → (kind : Kind) × (found ≡ Some kind) × (same (is_call kind) linked ≡ true)
 some-kind linked None h = absurd (false≢true h)
 some-kind linked (Some kind) h = (kind, refl, h)
@@ -91,12 +92,12 @@ module _ (source : Module) (placed : Placed) (s : IsFrom source placed) where
 
   -- an indirect jump has a record that fits
   has-kind : (w : ℕ) → w < count_of t → is_indirect t w ≡ true
-      → has_kind (holds is_linked (insn_at t w)) (slice_get source.records.branches (ordinal_of t w)) ≡ true
+      → has_fitting_kind (holds is_linked (insn_at t w)) (slice_get source.records.branches (ordinal_of t w)) ≡ true
   has-kind w inside here =
       let all = s.sound.linked.kinds w (omega (arith, inside)) in
       let other : eqb w (count_of t) ≡ false = ne_eqb w (count_of t) (λ e. omega (arith, e, inside)) in
       let lacks : lacks_kind_by t source.records.branches w (ordinal_of t w) ≡ false = rw other at all in
-      let fits : not (has_kind (holds is_linked (insn_at t w))
+      let fits : not (has_fitting_kind (holds is_linked (insn_at t w))
       (slice_get source.records.branches (ordinal_of t w))) ≡ false = rw here at lacks in
       not-false _ fits
 

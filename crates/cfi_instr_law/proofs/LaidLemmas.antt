@@ -17,20 +17,21 @@ use Rattle.cfi_unit.specs.Unit.{words_of}
 use Rattle.cfi_unit.specs.Code.{UnitCode}
 use Rattle.cfi_aux.specs.declared.modules.Module.{Module}
 use Rattle.cfi_aux.specs.declared.placed.Placed.{Placed}
-use Rattle.cfi_items.specs.Words.{Words, is_of_text, bytes_as_words as read_words, count_of}
-use Rattle.cfi_items.specs.Fault.{parts_of, AreSound}
+use Rattle.cfi_items.specs.Words.{Words, is_of_text, read_words, count_of}
+use Rattle.cfi_items.specs.Fault.{input_of}
+use Rattle.cfi_items.specs.inner.Rows.{PassesAll}
 use Rattle.cfi_instr.specs.Sizes.{offsets_of}
 use Rattle.cfi_instr.specs.Units.{units_of}
 use Rattle.cfi_instr.specs.Moves.{is_of_long, addend_by, moved_by, moved_reloc}
 use Rattle.cfi_instr.specs.Output.{IsText}
-use Rattle.cfi_items.specs.Target.{symbol_of}
+use Rattle.cfi_items.specs.Target.{named_symbol}
 use Rattle.cfi_place.specs.declared.fault.PlaceFault.{PlaceFault}
 use Rattle.cfi_place.specs.declared.room.Room.{Room}
 use Rattle.cfi_place.specs.Names.{Names}
 use Rattle.cfi_place.specs.Relocated.{Areas, high_parts}
 use Rattle.cfi_place.specs.Slots.{checks_from, with_slots}
 use Rattle.cfi_place.specs.Placed.{IsRoom, bytes_as_words, values_in, relocated, unless_undefined, where_fits, code_fits, placed_in, IsPlaced}
-use Rattle.cfi_verify.specs.Lists.{Each}
+use Rattle.elf_read.specs.Lists.{Each}
 use Rattle.cfi_unit.specs.Spots.{spots_of}
 use Rattle.cfi_verify.specs.Spots.{checks_of}
 use Rattle.cfi_verify.specs.Branches.{NamesSlot}
@@ -76,7 +77,7 @@ placed-steps object room names bytes e =
     let code = fit-then _ _ _ bytes (some-defined _ _ bytes e) in
     (code.0, (fit-then _ _ _ bytes code.1).1)
 
-module _ (source m : Module) (long : List Bool) (sound : AreSound (parts_of source)) where
+module _ (source m : Module) (long : List Bool) (sound : PassesAll (input_of source)) where
   abbrev t : Words
   t = read_words source.object
 
@@ -129,7 +130,7 @@ module _ (source m : Module) (long : List Bool) (sound : AreSound (parts_of sour
       let touch : (at : ℕ) → is_at_word at (moves reloc) ≡ true → touches relocs at ≡ true = λ at h.
       list_any_at (is_at_word at) relocs k d inside (ap (is_at_word at) moved ∙ h) in
       subst (Sits (touches relocs) (spots_of 0 made)) (sym moved)
-      (sits-by (touches relocs) reloc (addend_by t offsets (symbol_of symbols reloc) reloc.addend) reloc.area refl
+      (sits-by (touches relocs) reloc (addend_by t offsets (named_symbol symbols reloc) reloc.addend) reloc.area refl
       (λ is. reloc-fits t symbols source.records.functions olds k d within (sound.linked.shaped.relocs k within) is)
       touch)
 

@@ -18,18 +18,21 @@ use Rattle.rv_reloc.specs.declared.table.Formula.TheVariants as formulas
 use Rattle.rv_reloc.specs.Table.{immediate as row, rule_of}
 use Rattle.cfi_aux.specs.declared.records.Function.{Function}
 use Rattle.cfi_items.specs.Words.{Words, insn_at, is_of_text, count_of}
-use Rattle.cfi_items.specs.Insns.{holds, is_lui, is_auipc, is_jal, is_branch, is_store, has_low}
+use Rattle.cfi_items.specs.Insns.{holds, is_auipc, is_branch}
+use Rattle.cfi_items.specs.inner.Insns.{is_lui, is_jal, is_store, has_low}
 use Rattle.cfi_items.specs.Items.{is_pair, item_of}
-use Rattle.cfi_items.specs.Target.{symbol_of}
-use Rattle.cfi_items.specs.Functions.{is_covered}
-use Rattle.cfi_items.specs.Misplaced.{has_form, fits_on, is_on, sits_by, names_well, is_placed, is_misplaced}
-use Rattle.cfi_items.specs.Fault.{AreLegal}
+use Rattle.cfi_items.specs.Target.{named_symbol}
+use Rattle.cfi_items.specs.inner.Functions.{is_covered}
+use Rattle.cfi_items.specs.inner.Misplaced.{has_form, fits_on, is_on, sits_by, names_well, is_placed, is_out_of_place}
+use Rattle.cfi_items.specs.inner.Rows.{PassesWords}
+use Rattle.cfi_items.proofs.RelocTests.{any-six, item-below}
+use Rattle.cfi_items.proofs.WordTests.{holds-within}
 use Rattle.cfi_instr.specs.Sizes.{is_long, words_before, offsets_of, moved}
 use Rattle.cfi_instr.specs.Moves.{is_of_long, kind_in, offset_in}
 use Rattle.cfi_instr.proofs.SizeLemmas.{offset-read}
 use Rattle.cfi_unit.specs.Spots.{BeginsUnit}
 use Rattle.cfi_instr_law.proofs.AppliedLemmas.{MayFill}
-use Rattle.cfi_instr_law.proofs.ItemLemmas.{holds-within, pair-parts, branch-alone, item-outer, item-below, item_spots, item-begins, second-begins}
+use Rattle.cfi_instr_law.proofs.ItemLemmas.{pair-parts, branch-alone, item-outer, item_spots, item-begins, second-begins}
 
 -- ---- kinds
 
@@ -87,16 +90,6 @@ pair-rule : (kind : ℕ) (b : Bool) → is_of_pair kind ≡ true → HasRule (ki
 pair-rule kind true h = jal-rule
 pair-rule kind false h = rw h jal-rule
 
--- what follows from each of six tests follows from some one
-any-six : {P : Type 0} (a b c d e f : Bool) → (a ≡ true → P) → (b ≡ true → P) → (c ≡ true → P) → (d ≡ true → P)
-    → (e ≡ true → P) → (f ≡ true → P) → (a || b || c || d || e || f) ≡ true → P
-any-six true b c d e f one two three four five six h = one refl
-any-six false true c d e f one two three four five six h = two refl
-any-six false false true d e f one two three four five six h = three refl
-any-six false false false true e f one two three four five six h = four refl
-any-six false false false false true f one two three four five six h = five refl
-any-six false false false false false f one two three four five six h = six h
-
 -- one that fits the form of an instruction becomes one that fills an instruction
 form-rule : (kind : ℕ) (insn : Insn) (b : Bool) → has_form kind insn ≡ true → HasRule (kind_in b kind)
 form-rule kind insn b h =
@@ -144,11 +137,11 @@ placed-fits : (t : Words) (symbols : List Symbol) (functions : List Function) (e
     → reloc.area ≡ areas.Text → is_placed t symbols functions earlier (Some reloc) ≡ true → FitsText t functions reloc
 placed-fits t symbols functions earlier reloc is h =
     text-fits t functions (list_any (is_on t (item_of t (reloc.offset / 4))) earlier) reloc reloc.area is
-    (and_parts _ (names_well t (symbol_of symbols reloc) reloc.addend) h).0
+    (and_parts _ (names_well t (named_symbol symbols reloc) reloc.addend) h).0
 
 -- a relocation of the text sits well
 pub reloc-fits : (t : Words) (symbols : List Symbol) (functions : List Function) (relocs : List Reloc) (k : ℕ)
-    (d : Reloc) → k < length relocs → is_misplaced t symbols functions relocs k ≡ false
+    (d : Reloc) → k < length relocs → is_out_of_place t symbols functions relocs k ≡ false
     → (get_or relocs k d).area ≡ areas.Text → FitsText t functions (get_or relocs k d)
 reloc-fits t symbols functions relocs k d inside well is =
     let reloc = get_or relocs k d in
@@ -185,7 +178,7 @@ fits-branch t kind w is h =
     branch-form (insn_at t w)
     (subst (λ (k : ℕ). fits_on t k w ≡ true) (eqb-true kind BRANCH is) h)
 
-module _ (t : Words) (symbols : List Symbol) (long : List Bool) (legal : AreLegal t) where
+module _ (t : Words) (symbols : List Symbol) (long : List Bool) (legal : PassesWords t) where
   abbrev offsets : List ℕ
   offsets = offsets_of t long
 

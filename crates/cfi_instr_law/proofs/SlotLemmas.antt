@@ -11,7 +11,7 @@ use Rattle.cfi_unit.proofs.CodeLemmas.{length-words_of}
 use Rattle.cfi_place.specs.Slots.{checks_from, with_slot, with_slots}
 use Rattle.cfi_unit.specs.declared.spot.Spot.{Spot}
 use Rattle.cfi_verify.specs.declared.checks.CheckSpot.{CheckSpot}
-use Rattle.cfi_verify.specs.Lists.{Each}
+use Rattle.elf_read.specs.Lists.{Each}
 use Rattle.cfi_unit.specs.Spots.{spots_of}
 use Rattle.cfi_verify.specs.Spots.{checks_of}
 use Rattle.cfi_instr_law.proofs.SeenLemmas.{seen, seen_from, bare, same-checks}

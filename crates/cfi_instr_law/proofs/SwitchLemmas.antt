@@ -10,15 +10,19 @@ use Rattle.cfi_aux.specs.declared.placed.Placed.{Placed}
 use Rattle.cfi_aux.specs.declared.records.Function.{Function}
 use Rattle.cfi_aux.specs.declared.records.Kind.{Kind}
 use Rattle.cfi_aux.specs.declared.records.Kind.TheVariants.{Call, Tail, Return, Switch}
-use Rattle.cfi_items.specs.Words.{Words, words_in as read_words, count_of}
-use Rattle.cfi_items.specs.Items.{is_inner, is_item_at}
-use Rattle.cfi_items.specs.Functions.{end_of, covers, are_together, is_own_item, end_before}
-use Rattle.cfi_items.specs.Jumps.{ordinal_of, lead_out, switches_astray, switches_astray_by}
+use Rattle.cfi_items.specs.Words.{Words, read_words, count_of}
+use Rattle.cfi_items.specs.Items.{is_inner}
+use Rattle.cfi_items.specs.inner.Items.{is_item_at}
+use Rattle.cfi_aux.specs.Extent.{byte_end}
+use Rattle.cfi_items.specs.inner.Functions.{covers, are_together, is_own_item}
+use Rattle.cfi_items.specs.Functions.{byte_end_before}
+use Rattle.cfi_items.specs.Jumps.{ordinal_of}
+use Rattle.cfi_items.specs.inner.Jumps.{lead_out, switches_astray, switches_astray_by}
 use Rattle.cfi_instr.specs.Sizes.{offsets_of, moved}
 use Rattle.cfi_instr.specs.Moves.{moved_kind}
 use Rattle.cfi_verify.specs.Branches.{IsEntry, AreEntries, AreEntriesIn, EntriesFit}
 use Rattle.cfi_verify.specs.Functions as verify
-use Rattle.cfi_verify.specs.Lists.{Each}
+use Rattle.elf_read.specs.Lists.{Each}
 use Rattle.cfi_instr_law.proofs.BoundLemmas.{item-parts, item-bound, bound-moved}
 use Rattle.cfi_instr_law.proofs.FromLemmas.{IsFrom}
 use Rattle.cfi_instr_law.proofs.FunctionLemmas.{place, spots, grows, made, made-at, formed, made-first, made-end, begins-at, some-at}
@@ -36,17 +40,17 @@ module _ (source : Module) (placed : Placed) (s : IsFrom source placed) where
 
   -- where a placed function lies
   lies-in : (k : ℕ) (f : Function) → slice_get functions k ≡ Some f → (w : ℕ) → w < count_of t → is_inner t w ≡ false
-      → f.offset ≤ 4 * w → 4 * w < end_of f → verify.LiesIn (made source placed s f) (place source placed s w)
+      → f.offset ≤ 4 * w → 4 * w < byte_end f → verify.LiesIn (made source placed s f) (place source placed s w)
   lies-in k f is w inside outer low high =
       let i = formed source placed s k f is in
-      let first = made-first source placed s f (end_before functions k) i in
-      let end = made-end source placed s f (end_before functions k) i in (
+      let first = made-first source placed s f (byte_end_before functions k) i in
+      let end = made-end source placed s f (byte_end_before functions k) i in (
         omega (arith, first, grows source placed s (f.offset / 4) w (omega (arith, low, i.begins.whole))),
         omega (
           arith,
           end,
           some-at source placed s w inside outer,
-          grows source placed s (w + 1) (end_of f / 4) (omega (arith, high, i.ends.whole)),
+          grows source placed s (w + 1) (byte_end f / 4) (omega (arith, high, i.ends.whole)),
         ),
       )
 
@@ -66,9 +70,9 @@ module _ (source : Module) (placed : Placed) (s : IsFrom source placed) where
       let here = and_parts _ _ covered.0 in
       let there = and_parts _ _ covered.1 in
       let begins = leb-true f.offset (4 * w) here.0 in
-      let ends = ltb-true (4 * w) (end_of f) here.1 in
+      let ends = ltb-true (4 * w) (byte_end f) here.1 in
       let begins_there = leb-true f.offset entry there.0 in
-      let ends_there = ltb-true entry (end_of f) there.1 in
+      let ends_there = ltb-true entry (byte_end f) there.1 in
       let home = made source placed s f in
       let at : slice_get placed.functions k ≡ Some home = made-at source placed s k f is in
       let found : get_or placed.functions k home ≡ home = get_or_from_slice_get placed.functions k home home at in (

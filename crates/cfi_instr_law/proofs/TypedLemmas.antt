@@ -10,7 +10,7 @@ use Rattle.cfi_aux.specs.declared.modules.Module.{Module}
 use Rattle.cfi_aux.specs.declared.records.Function.{Function}
 use Rattle.cfi_aux.specs.declared.records.Kind.{Kind}
 use Rattle.cfi_aux.specs.declared.records.Kind.TheVariants.{Call, Tail, Return, Switch}
-use Rattle.cfi_items.specs.Words.{Words, words_in}
+use Rattle.cfi_items.specs.Words.{Words, read_words}
 use Rattle.cfi_instr.specs.Moves.{moved_function, moved_kind}
 use Rattle.cfi_instr.specs.Output.{IsInstrumented}
 use Rattle.cfi_instr_law.specs.Proper.{NamesFunc, IsTyped}
@@ -43,7 +43,7 @@ moved-names types t offsets (Switch entries) is = tt
 
 pub stay-typed : (source m : Module) → IsInstrumented source m → IsTyped source → IsTyped m
 stay-typed source m made is =
-    let t = words_in source.object in
+    let t = read_words source.object in
     record {
       functions =
           subst (λ (ns : List Node). All (λ f. IsTrue (is_func ns f.ty)) m.records.functions) (sym made.types)

@@ -5,7 +5,8 @@ use Rattle.elf_read.specs.Places.{IsFirst, IsNone}
 use Rattle.cfi_aux.specs.declared.records.Kind.{Kind}
 use Rattle.cfi_items.specs.Words.{Words, count_of}
 use Rattle.cfi_items.specs.Items.{is_indirect}
-use Rattle.cfi_items.specs.Jumps.{ordinal_of, lacks_kind_by, lacks_kind}
+use Rattle.cfi_items.specs.Jumps.{ordinal_of}
+use Rattle.cfi_items.specs.inner.Jumps.{lacks_kind_by, lacks_kind}
 
 -- one word more
 pub ordinal-more : (t : Words) (w : ℕ) (here : Bool) → here ≡ is_indirect t w

@@ -1,3 +1,10 @@
 pub mod TableLemmas
 pub mod JumpLemmas
 pub mod RelocLemmas
+pub mod DecideLemmas
+pub mod WordTests
+pub mod FunctionTests
+pub mod LeadTests
+pub mod JumpTests
+pub mod RelocTests
+pub mod RowTests

@@ -7,7 +7,7 @@ use Rattle.elf_read.specs.declared.object.Reloc.{Reloc}
 use Rattle.cfi_aux.specs.declared.records.Function.{Function}
 use Rattle.cfi_items.specs.Words.{Words}
 use Rattle.cfi_items.specs.Items.{item_of}
-use Rattle.cfi_items.specs.Misplaced.{is_on, is_placed_by, is_placed, is_misplaced}
+use Rattle.cfi_items.specs.inner.Misplaced.{is_on, is_placed_by, is_placed, is_out_of_place}
 
 -- relocation k is misplaced exactly where it is not well placed after the marks of those before it
 pub misplaced-here : (t : Words) (symbols : List Symbol) (functions : List Function) (relocs : List Reloc) (k : ℕ)
@@ -15,7 +15,7 @@ pub misplaced-here : (t : Words) (symbols : List Symbol) (functions : List Funct
     → ((w : ℕ) → slice_index_or marked w false ≡ list_any (is_on t w) (take k relocs))
     → placed ≡ is_placed_by t symbols functions
     (slice_index_or marked (item_of t ((get_or relocs k d).offset / 4)) false) (get_or relocs k d)
-    → is_misplaced t symbols functions relocs k ≡ not placed
+    → is_out_of_place t symbols functions relocs k ≡ not placed
 misplaced-here t symbols functions relocs k d marked placed lt marks is =
     let reloc = get_or relocs k d in
     let here : slice_get relocs k ≡ Some reloc = slice_get-get_or relocs k d lt in

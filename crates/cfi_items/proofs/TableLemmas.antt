@@ -5,7 +5,8 @@ use Rattle.std.specs.List.{list_any, range_with_len}
 use Rattle.std.proofs.lemmas.List.{take_more}
 use Rattle.std.proofs.lemmas.List.Folds.{find-append}
 use Rattle.elf_read.specs.declared.object.Reloc.{Reloc}
-use Rattle.cfi_items.specs.Words.{sits_on, first_on, noted}
+use Rattle.cfi_items.specs.Words.{sits_on, first_on}
+use Rattle.cfi_items.specs.inner.Words.{noted}
 
 -- the first number of a range does not pass
 pub any-next : (test : ℕ → Bool) (w end : ℕ) → w < end → test w ≡ false

@@ -1,31 +1,33 @@
 -- Which modules can be instrumented but for the length of the output, and the first fault of one that can not: a row
--- is tried after those before it, and within a row the least place decides.
-use Rattle.std.specs.Prelude.{◌≡◌, ℕ, ◌+◌, ◌*◌, Bool, List, length, ⊤}
-use Rattle.elf_read.specs.Places.{IsFirst, IsNone}
+-- is looked at after those before it, and within a row the least place decides. Places of words are in bytes from the
+-- text's start; relocations, functions and indirect jumps go by their numbers, from 0.
+use Rattle.std.specs.Prelude.{◌≡◌, ◌⊎◌, ℕ, ◌*◌, ◌<◌, List, length, Option, ⊤}
+use Rattle.elf_read.specs.Lists.{Each, IsFirstBreak, own_number}
 use Rattle.elf_read.specs.declared.object.Symbol.{Symbol}
 use Rattle.elf_read.specs.declared.object.Reloc.{Reloc}
+use Rattle.rv_insn.specs.declared.insn.Insn.{Insn}
 use Rattle.cfi_aux.specs.declared.records.Function.{Function}
 use Rattle.cfi_aux.specs.declared.records.Kind.{Kind}
 use Rattle.cfi_aux.specs.declared.modules.Module.{Module}
 use Rattle.cfi_items.specs.declared.fault.InstrFault.{InstrFault}
 use Rattle.cfi_items.specs.declared.fault.InstrFault.TheVariants as faults
-use Rattle.cfi_items.specs.Words.{Words, words_in, count_of}
-use Rattle.cfi_items.specs.Flaws.{is_illegal_at, is_reserved_at, is_trap_at, is_bad_link_at}
-use Rattle.cfi_items.specs.Misplaced.{is_misplaced}
-use Rattle.cfi_items.specs.Functions.{is_malformed, falls_through}
-use Rattle.cfi_items.specs.Stray.{is_stray}
-use Rattle.cfi_items.specs.Jumps.{lacks_kind, has_bad_switch, IsBadSwitch}
+use Rattle.cfi_items.specs.Words.{Words, read_words, count_of}
+use Rattle.cfi_items.specs.Insns.{OfInsn, IsInsn, NamesFree, IsNoTrap, LinksWell}
+use Rattle.cfi_items.specs.Functions.{IsFormedBehind, EndsInPadding, EndsInJump}
+use Rattle.cfi_items.specs.Relocs.{IsPlacedBehind}
+use Rattle.cfi_items.specs.Leads.{WordLeadsWell}
+use Rattle.cfi_items.specs.Jumps.{ordinal_of, HasRecord, AreUsed, SwitchFits}
 
 -- what the rows are about: the words that are read, and the module's symbols, relocations, functions and branches
-pub record Parts : Type 0 where
+pub record Input : Type 0 where
   pub words : Words
   pub symbols : List Symbol
   pub relocs : List Reloc
   pub functions : List Function
   pub branches : List Kind
 
-abbrev pub parts_by : Words → Module → Parts
-parts_by words m = record {
+abbrev pub input_by : Words → Module → Input
+input_by words m = record {
   words = words;
   symbols = m.object.symbols;
   relocs = m.object.relocs;
@@ -33,88 +35,119 @@ parts_by words m = record {
   branches = m.records.branches;
 }
 
-abbrev pub parts_of : Module → Parts
-parts_of m = parts_by (words_in m.object) m
+abbrev pub input_of : Module → Input
+input_of m = input_by (read_words m.object) m
 
--- the offset is that of the first word that passes the test
-abbrev pub IsFirstAt : (test : ℕ → Bool) → (count offset : ℕ) → Type 0
-IsFirstAt test count offset = (w : ℕ) × IsFirst test count w × (offset ≡ 4 * w)
+-- ---- what is asked, row by row
 
--- ---- rows that have no fault, each after those before it
+-- every word is an instruction, on free registers, no trap, and no jump that links elsewhere
+pub record HasGoodWords (t : Words) : Type 0 where
+  pub legal : Each t.insns IsInsn
+  pub free : Each t.insns (OfInsn NamesFree)
+  pub quiet : Each t.insns (OfInsn IsNoTrap)
+  pub linked : Each t.insns (OfInsn LinksWell)
 
--- every word is an instruction, on registers that are free, without traps and other links
-pub record AreLegal (t : Words) : Type 0 where
-  pub legal : IsNone (is_illegal_at t) (count_of t)
-  pub free : IsNone (is_reserved_at t) (count_of t)
-  pub quiet : IsNone (is_trap_at t) (count_of t)
-  pub linked : IsNone (is_bad_link_at t) (count_of t)
+-- relocations are well placed, each after those before it
+abbrev pub HasGoodRelocs : Input → Type 0
+HasGoodRelocs p = Each p.relocs (IsPlacedBehind p.words p.symbols p.functions p.relocs)
 
--- and relocations and functions are as they must be
-pub record AreShaped (p : Parts) : Type 0 where
-  pub words : AreLegal p.words
-  pub relocs : IsNone (is_misplaced p.words p.symbols p.functions p.relocs) (length p.relocs)
-  pub functions : IsNone (is_malformed p.words p.functions) (length p.functions + 1)
+-- functions are well formed, each behind the one before
+abbrev pub HasGoodFunctions : Input → Type 0
+HasGoodFunctions p = Each p.functions (IsFormedBehind p.words p.functions)
 
--- and each jump leads where it may, with its record
-pub record AreLinked (p : Parts) : Type 0 where
-  pub shaped : AreShaped p
-  pub stray : IsNone (is_stray p.words p.symbols p.functions) (count_of p.words)
-  pub kinds : IsNone (lacks_kind p.words p.branches) (count_of p.words + 1)
+-- words, relocations and functions are as they must be
+pub record HasGoodShape (p : Input) : Type 0 where
+  pub words : HasGoodWords p.words
+  pub relocs : HasGoodRelocs p
+  pub functions : HasGoodFunctions p
+  pub padding : EndsInPadding p.words p.functions
 
--- no row has a fault
-pub record AreSound (p : Parts) : Type 0 where
-  pub linked : AreLinked p
-  pub switches : IsNone (has_bad_switch p.words p.functions p.branches) (count_of p.words)
-  pub ends : IsNone (falls_through p.words p.functions) (length p.functions)
+-- each direct jump leads where it may
+abbrev pub HasGoodTargets : Input → Type 0
+HasGoodTargets p = Each p.words.insns (WordLeadsWell p.words p.symbols p.functions)
+
+-- and each indirect one has its record
+pub record HasGoodJumps (p : Input) : Type 0 where
+  pub shaped : HasGoodShape p
+  pub targets : HasGoodTargets p
+  pub records : Each p.words.insns (HasRecord p.words p.branches)
+  pub used : AreUsed p.words p.branches
+
+-- the entries of switches are items of their functions
+abbrev pub HasGoodSwitches : Input → Type 0
+HasGoodSwitches p = Each p.words.insns (SwitchFits p.words p.functions p.branches)
+
+-- the module can be instrumented
+pub record IsInstrumentable (p : Input) : Type 0 where
+  pub jumps : HasGoodJumps p
+  pub switches : HasGoodSwitches p
+  pub ends : Each p.functions (EndsInJump p.words)
 
 -- ---- the first fault, a case a row
 
-abbrev pub IsReserved : Words → (offset : ℕ) → Type 0
-IsReserved t o = IsNone (is_illegal_at t) (count_of t) × IsFirstAt (is_reserved_at t) (count_of t) o
+-- where a word is in bytes, and the number of an indirect jump
+abbrev pub word_place : (w : ℕ) → Option Insn → ℕ
+word_place w insn = 4 * w
 
-abbrev pub IsTrap : Words → (offset : ℕ) → Type 0
-IsTrap t o = IsNone (is_illegal_at t) (count_of t) × IsNone (is_reserved_at t) (count_of t)
-    × IsFirstAt (is_trap_at t) (count_of t) o
+abbrev pub jump_number : Words → (w : ℕ) → Option Insn → ℕ
+jump_number t w insn = ordinal_of t w
 
-abbrev pub IsBadLink : Words → (offset : ℕ) → Type 0
-IsBadLink t o = IsNone (is_illegal_at t) (count_of t) × IsNone (is_reserved_at t) (count_of t)
-    × IsNone (is_trap_at t) (count_of t) × IsFirstAt (is_bad_link_at t) (count_of t) o
+-- the first word of which P does not hold is at the offset
+abbrev pub IsFirstWord : Words → (P : ℕ → Option Insn → Type 0) → (offset : ℕ) → Type 0
+IsFirstWord t P offset = IsFirstBreak t.insns word_place P offset
 
-abbrev pub IsBadReloc : Parts → (k : ℕ) → Type 0
-IsBadReloc p k =
-    AreLegal p.words × IsFirst (is_misplaced p.words p.symbols p.functions p.relocs) (length p.relocs) k
+abbrev pub IsFirstReserved : Words → (offset : ℕ) → Type 0
+IsFirstReserved t o = Each t.insns IsInsn × IsFirstWord t (OfInsn NamesFree) o
 
-abbrev pub IsBadFunction : Parts → (k : ℕ) → Type 0
-IsBadFunction p k =
-    AreLegal p.words × IsNone (is_misplaced p.words p.symbols p.functions p.relocs) (length p.relocs)
-    × IsFirst (is_malformed p.words p.functions) (length p.functions + 1) k
+abbrev pub IsFirstTrap : Words → (offset : ℕ) → Type 0
+IsFirstTrap t o = Each t.insns IsInsn × Each t.insns (OfInsn NamesFree) × IsFirstWord t (OfInsn IsNoTrap) o
 
-abbrev pub IsStrayAt : Parts → (offset : ℕ) → Type 0
-IsStrayAt p o = AreShaped p × IsFirstAt (is_stray p.words p.symbols p.functions) (count_of p.words) o
+abbrev pub IsFirstBadLink : Words → (offset : ℕ) → Type 0
+IsFirstBadLink t o = Each t.insns IsInsn × Each t.insns (OfInsn NamesFree) × Each t.insns (OfInsn IsNoTrap)
+    × IsFirstWord t (OfInsn LinksWell) o
 
-abbrev pub IsUnkind : Parts → (offset : ℕ) → Type 0
-IsUnkind p o = AreShaped p × IsNone (is_stray p.words p.symbols p.functions) (count_of p.words)
-    × IsFirstAt (lacks_kind p.words p.branches) (count_of p.words + 1) o
+abbrev pub IsFirstBadReloc : Input → (k : ℕ) → Type 0
+IsFirstBadReloc p k = HasGoodWords p.words
+    × IsFirstBreak p.relocs own_number (IsPlacedBehind p.words p.symbols p.functions p.relocs) k
 
-abbrev pub IsSwitchFault : Parts → (k : ℕ) → Type 0
-IsSwitchFault p k = AreLinked p × IsBadSwitch p.words p.functions p.branches k
+-- the first function that is malformed; their number where none is, and the rest of the text is no padding
+abbrev pub IsFirstMalformed : Input → (k : ℕ) → Type 0
+IsFirstMalformed p k = IsFirstBreak p.functions own_number (IsFormedBehind p.words p.functions) k
+    ⊎ ((k ≡ length p.functions) × HasGoodFunctions p × ¬ EndsInPadding p.words p.functions)
 
-abbrev pub IsFallingFault : Parts → (k : ℕ) → Type 0
-IsFallingFault p k = AreLinked p
-    × IsNone (has_bad_switch p.words p.functions p.branches) (count_of p.words)
-    × IsFirst (falls_through p.words p.functions) (length p.functions) k
+abbrev pub IsFirstBadFunction : Input → (k : ℕ) → Type 0
+IsFirstBadFunction p k = HasGoodWords p.words × HasGoodRelocs p × IsFirstMalformed p k
+
+abbrev pub IsFirstStray : Input → (offset : ℕ) → Type 0
+IsFirstStray p o = HasGoodShape p × IsFirstWord p.words (WordLeadsWell p.words p.symbols p.functions) o
+
+-- the first indirect jump without its record; the text's length where each has one, and records are left over
+abbrev pub IsFirstBare : Input → (offset : ℕ) → Type 0
+IsFirstBare p o = IsFirstWord p.words (HasRecord p.words p.branches) o
+    ⊎ ((o ≡ 4 * count_of p.words) × Each p.words.insns (HasRecord p.words p.branches) × ¬ AreUsed p.words p.branches)
+
+abbrev pub IsFirstUnkind : Input → (offset : ℕ) → Type 0
+IsFirstUnkind p o = HasGoodShape p × HasGoodTargets p × IsFirstBare p o
+
+abbrev pub IsFirstBadSwitch : Input → (k : ℕ) → Type 0
+IsFirstBadSwitch p k = HasGoodJumps p
+    × IsFirstBreak p.words.insns (jump_number p.words) (SwitchFits p.words p.functions p.branches) k
+
+abbrev pub IsFirstFalling : Input → (k : ℕ) → Type 0
+IsFirstFalling p k =
+    HasGoodJumps p × HasGoodSwitches p × IsFirstBreak p.functions own_number (EndsInJump p.words) k
 
 -- the first fault but for the length of the output, which is none of these rows
-abbrev pub IsFirstFlaw : Parts → InstrFault → Type 0
-IsFirstFlaw p (faults.Illegal o) = IsFirstAt (is_illegal_at p.words) (count_of p.words) o
-IsFirstFlaw p (faults.Reserved o) = IsReserved p.words o
-IsFirstFlaw p (faults.Trap o) = IsTrap p.words o
-IsFirstFlaw p (faults.BadLink o) = IsBadLink p.words o
-IsFirstFlaw p (faults.BadReloc k) = IsBadReloc p k
-IsFirstFlaw p (faults.Function k) = IsBadFunction p k
-IsFirstFlaw p (faults.Stray o) = IsStrayAt p o
-IsFirstFlaw p (faults.NoKind o) = IsUnkind p o
-IsFirstFlaw p (faults.Switch k) = IsSwitchFault p k
-IsFirstFlaw p (faults.FallsThrough k) = IsFallingFault p k
+abbrev pub IsFirstFlaw : Input → InstrFault → Type 0
+IsFirstFlaw p (faults.Illegal o) = IsFirstWord p.words IsInsn o
+IsFirstFlaw p (faults.Reserved o) = IsFirstReserved p.words o
+IsFirstFlaw p (faults.Trap o) = IsFirstTrap p.words o
+IsFirstFlaw p (faults.BadLink o) = IsFirstBadLink p.words o
+IsFirstFlaw p (faults.BadReloc k) = IsFirstBadReloc p k
+IsFirstFlaw p (faults.Function k) = IsFirstBadFunction p k
+IsFirstFlaw p (faults.Stray o) = IsFirstStray p o
+IsFirstFlaw p (faults.NoKind o) = IsFirstUnkind p o
+IsFirstFlaw p (faults.Switch k) = IsFirstBadSwitch p k
+IsFirstFlaw p (faults.FallsThrough k) = IsFirstFalling p k
 IsFirstFlaw p faults.TooLong = ⊥
 IsFirstFlaw p faults.Memory = ⊤

@@ -1,73 +1,55 @@
--- The functions of a module's records, over the items of its text. Offsets and lengths are in bytes.
-use Rattle.std.specs.Prelude.{ℕ, ◌+◌, ◌-◌, ◌*◌, ◌/◌, Bool, false, not, ◌&&◌, ◌==◌, nat_lt, nat_le, List, Option, Some, None, if◌then◌else◌}
-use Rattle.std.specs.List.{list_any, range_with_len, slice_get}
+-- How the functions of a module's records may lie over the items of its text. Offsets and lengths are in bytes.
+use Rattle.std.specs.Prelude.{◌≡◌, ℕ, ◌-◌, ◌*◌, ◌/◌, ◌<◌, ◌≤◌, ◌==◌, pos, true, if◌then◌else◌, List, length, slice_get, Option, Some, None}
+use Rattle.std.specs.List.{Contains}
+use Rattle.rv_insn.specs.declared.insn.Insn.{Insn}
+use Rattle.rv_insn.specs.declared.insn.Insn.TheVariants.{OpImm}
+use Rattle.rv_insn.specs.declared.insn.ImmOp.TheVariants.{Addi}
 use Rattle.cfi_aux.specs.declared.records.Function.{Function}
+use Rattle.cfi_aux.specs.Extent.{byte_end, Covers}
 use Rattle.cfi_items.specs.Words.{Words, insn_at, count_of}
-use Rattle.cfi_items.specs.Insns.{holds, is_nop, is_unlinked}
-use Rattle.cfi_items.specs.Items.{is_item, is_item_at, is_bound_at}
-
--- where a function ends
-abbrev pub end_of : Function → ℕ
-end_of f = f.offset + f.length
-
--- the offset is in the function
-abbrev pub covers : (offset : ℕ) → Function → Bool
-covers offset f = nat_le f.offset offset && nat_lt offset (end_of f)
-
--- some function has it
-abbrev pub is_covered : List Function → (offset : ℕ) → Bool
-is_covered functions offset = list_any (covers offset) functions
-
--- one function has both
-abbrev pub are_together : List Function → (a b : ℕ) → Bool
-are_together functions a b = list_any (λ f. covers a f && covers b f) functions
-
--- a function begins there
-abbrev pub is_entry : List Function → (offset : ℕ) → Bool
-is_entry functions offset = list_any (λ f. f.offset == offset) functions
+use Rattle.cfi_items.specs.Insns.{is_unlinked}
+use Rattle.cfi_items.specs.Items.{is_item, BeginsItem, IsItemBound}
 
 -- the offset begins an item that is in one function with another offset
-abbrev pub is_own_item : Words → List Function → (at offset : ℕ) → Bool
-is_own_item t functions at offset = is_item_at t offset && are_together functions at offset
+pub record IsOwnItem (t : Words) (functions : List Function) (at offset : ℕ) : Type 0 where
+  pub home : Function
+  pub has : Contains functions home
+  pub from : Covers home at
+  pub lies : Covers home offset
+  pub item : BeginsItem t offset
 
--- where the function before number k ends; 0 before the first
-abbrev pub end_at : Option Function → ℕ
-end_at None = 0
-end_at (Some f) = end_of f
+-- where a function ends; before the first one, the text's start
+abbrev pub byte_end_in : Option Function → ℕ
+byte_end_in None = 0
+byte_end_in (Some f) = byte_end f
 
-abbrev pub end_before : List Function → (k : ℕ) → ℕ
-end_before functions k = if k == 0 then 0 else end_at (slice_get functions (k - 1))
+-- where the function before that of the number ends
+abbrev pub byte_end_before : List Function → (number : ℕ) → ℕ
+byte_end_before functions number = if number == 0 then 0 else byte_end_in (slice_get functions (number - 1))
 
--- an item that is not `addi x0,x0,0`
-abbrev pub is_code : Words → (w : ℕ) → Bool
-is_code t w = is_item t w && not (holds is_nop (insn_at t w))
+-- each item from one word up to another is `addi x0,x0,0`
+abbrev pub IsPadding : Words → (from to : ℕ) → Type 0
+IsPadding t from to = (w : ℕ) → from ≤ w → w < to → is_item t w ≡ true → insn_at t w ≡ Some (OpImm Addi 0 0 (pos 0))
 
--- there is one from offset a to offset b
-abbrev pub has_code : Words → (a b : ℕ) → Bool
-has_code t a b = list_any (is_code t) (range_with_len (a / 4) (b / 4 - a / 4))
+-- a function has words, comes after the one before, which ends at an offset, stays in the text, and begins and ends at
+-- items; and what stands between the two is padding
+pub record IsWellFormed (t : Words) (before : ℕ) (f : Function) : Type 0 where
+  pub some : 0 < f.length
+  pub order : before ≤ f.offset
+  pub within : byte_end f ≤ 4 * count_of t
+  pub begins : BeginsItem t f.offset
+  pub ends : IsItemBound t (byte_end f)
+  pub idle : IsPadding t (before / 4) (f.offset / 4)
 
--- a function after another that ends at `before` is well formed: not empty, in order, of whole items of the text, and
--- none but `addi x0,x0,0` between them
-abbrev pub is_well_formed : Words → (before : ℕ) → Function → Bool
-is_well_formed t before f =
-    not (f.length == 0) && nat_le before f.offset && nat_le (end_of f) (4 * count_of t) && is_item_at t f.offset
-    && is_bound_at t (end_of f) && not (has_code t before f.offset)
+-- the function of the number is well formed
+abbrev pub IsFormedBehind : Words → List Function → (number : ℕ) → Function → Type 0
+IsFormedBehind t functions number f = IsWellFormed t (byte_end_before functions number) f
 
-abbrev pub is_formed_at : Words → (before : ℕ) → Option Function → Bool
-is_formed_at t before None = not (has_code t before (4 * count_of t))
-is_formed_at t before (Some f) = is_well_formed t before f
+-- what stands after the last function is padding
+abbrev pub EndsInPadding : Words → List Function → Type 0
+EndsInPadding t functions = IsPadding t (byte_end_before functions (length functions) / 4) (count_of t)
 
--- function k is malformed; after the last one, the rest of the text is
-abbrev pub is_malformed : Words → List Function → (k : ℕ) → Bool
-is_malformed t functions k = not (is_formed_at t (end_before functions k) (slice_get functions k))
-
--- the last item of a function is no jump without link: its last word is not that of one
-abbrev pub runs_off : Words → Function → Bool
-runs_off t f = not (holds is_unlinked (insn_at t (end_of f / 4 - 1)))
-
-abbrev pub runs_off_at : Words → Option Function → Bool
-runs_off_at t None = false
-runs_off_at t (Some f) = runs_off t f
-
-abbrev pub falls_through : Words → List Function → (k : ℕ) → Bool
-falls_through t functions k = runs_off_at t (slice_get functions k)
+-- the last word of a function is a jump that does not link
+abbrev pub EndsInJump : Words → (number : ℕ) → Function → Type 0
+EndsInJump t number f =
+    (insn : Insn) × (insn_at t (byte_end f / 4 - 1) ≡ Some insn) × (is_unlinked insn ≡ true)

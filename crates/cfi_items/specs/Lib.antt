@@ -1,10 +1,10 @@
 pub mod Words
 pub mod Insns
-pub mod Flaws
 pub mod Items
 pub mod Target
 pub mod Functions
-pub mod Misplaced
-pub mod Stray
+pub mod Relocs
+pub mod Leads
 pub mod Jumps
 pub mod Fault
+pub mod inner

@@ -8,7 +8,7 @@ use Rattle.elf_read.specs.declared.object.Place.{Place}
 use Rattle.elf_read.specs.declared.object.Place.TheVariants as places
 use Rattle.cfi_items.specs.declared.target.Aim.{Aim}
 use Rattle.cfi_items.specs.declared.target.Aim.TheVariants as aims
-use Rattle.cfi_items.specs.Words.{Words, reloc_at, call_at}
+use Rattle.cfi_items.specs.Words.{Words, reloc_on, call_on}
 use Rattle.cfi_items.specs.Insns.{is_zero}
 
 -- the offset that lies so far from another; none before the start
@@ -21,8 +21,8 @@ aim_by None = aims.Astray
 aim_by (Some offset) = aims.Offset offset
 
 -- the symbol that a relocation names
-abbrev pub symbol_of : List Symbol → Reloc → Option Symbol
-symbol_of symbols reloc = option_and_then (λ k. slice_get symbols k) reloc.symbol
+abbrev pub named_symbol : List Symbol → Reloc → Option Symbol
+named_symbol symbols reloc = option_and_then (λ k. slice_get symbols k) reloc.symbol
 
 -- a symbol of another object is a name, which an addend leads away from
 abbrev pub aim_at_name : (addend : ℤ) → Aim
@@ -40,7 +40,7 @@ aim_through (Some symbol) addend = aim_at_symbol symbol.place symbol.value adden
 
 -- where a relocation leads
 abbrev pub aim_of : List Symbol → Reloc → Aim
-aim_of symbols reloc = aim_through (symbol_of symbols reloc) reloc.addend
+aim_of symbols reloc = aim_through (named_symbol symbols reloc) reloc.addend
 
 -- where an instruction with a displacement leads: as its relocation says, where it has one
 abbrev pub aim_under : List Symbol → Option Reloc → (plain : Option ℕ) → Aim
@@ -48,8 +48,8 @@ aim_under symbols None plain = aim_by plain
 aim_under symbols (Some reloc) plain = aim_of symbols reloc
 
 abbrev pub aim_of_jump : Words → List Symbol → (w : ℕ) → (off : ℤ) → Aim
-aim_of_jump t symbols w off = aim_under symbols (reloc_at t w) (offset_from (4 * w) off)
+aim_of_jump t symbols w off = aim_under symbols (reloc_on t w) (offset_from (4 * w) off)
 
 -- where a pair leads
 abbrev pub aim_of_pair : Words → List Symbol → (w : ℕ) → Aim
-aim_of_pair t symbols w = aim_under symbols (call_at t w) None
+aim_of_pair t symbols w = aim_under symbols (call_on t w) None

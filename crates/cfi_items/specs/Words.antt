@@ -30,11 +30,6 @@ abbrev pub sits_on : (calling : Bool) → (w : ℕ) → Reloc → Bool
 sits_on calling w reloc =
     is_of_text reloc.area && reloc.offset == 4 * w && (not calling || is_of_pair reloc.kind)
 
--- what is noted where one more relocation comes, which sits there or not: the first one stays
-abbrev pub noted : (here : Bool) → Reloc → (found : Option Reloc) → Option Reloc
-noted here reloc (Some first) = Some first
-noted here reloc None = if here then Some reloc else None
-
 -- the first such relocation of each of so many words
 abbrev pub first_on : (calling : Bool) → List Reloc → (w : ℕ) → Option Reloc
 first_on calling relocs w = find (sits_on calling w) relocs
@@ -47,23 +42,23 @@ abbrev pub insns_in : (text : List ℕ) → List (Option Insn)
 insns_in text = map (λ w. insn_of (word_at (4 * w) text)) (range_with_len 0 (length text / 4))
 
 -- the fields of each are in range
-abbrev pub AreInRange : List (Option Insn) → Type 0
-AreInRange insns = All (λ insn. IfSome insn InRange) insns
+abbrev pub AreInsnsInRange : List (Option Insn) → Type 0
+AreInsnsInRange insns = All (λ insn. IfSome insn InRange) insns
 
 -- what is read of an object
-abbrev pub words_in : Object → Words
-words_in object =
+abbrev pub read_words : Object → Words
+read_words object =
     let count = length object.text / 4 in
     words_by (insns_in object.text) (firsts_on false object.relocs count) (firsts_on true object.relocs count)
 
 abbrev pub insn_at : Words → (w : ℕ) → Option Insn
 insn_at t w = slice_index_or t.insns w None
 
-abbrev pub reloc_at : Words → (w : ℕ) → Option Reloc
-reloc_at t w = slice_index_or t.relocs w None
+abbrev pub reloc_on : Words → (w : ℕ) → Option Reloc
+reloc_on t w = slice_index_or t.relocs w None
 
-abbrev pub call_at : Words → (w : ℕ) → Option Reloc
-call_at t w = slice_index_or t.calls w None
+abbrev pub call_on : Words → (w : ℕ) → Option Reloc
+call_on t w = slice_index_or t.calls w None
 
 -- how many words there are
 abbrev pub count_of : Words → ℕ

@@ -3,15 +3,17 @@
 ghost use Rattle.std.specs.Prelude.{◌≡◌, ◌+◌, ◌<◌, ◌^◌, length, IfSome, IfNone};
 ghost use Rattle.elf_read.specs.Places.{IsFirst, IsNone};
 ghost use Rattle.cfi_items.specs.Words.{count_of};
-ghost use Rattle.cfi_items.specs.Functions.{end_of, covers, is_covered, are_together, is_entry, is_own_item, end_before, is_code, has_code, is_well_formed, is_malformed, runs_off, falls_through};
+ghost use Rattle.cfi_aux.specs.Extent.{byte_end};
+ghost use Rattle.cfi_items.specs.inner.Functions.{covers, is_covered, are_together, is_entry, is_own_item, is_code, has_code, is_well_formed, is_malformed, runs_off, falls_through};
+ghost use Rattle.cfi_items.specs.Functions.{byte_end_before};
 
 use crate::insns::{is_nop, is_unlinked};
 use crate::source::Source;
 use cfi_aux::Function;
 
 /// Where a function ends.
-pub fn end_of(function: &Function) -> usize
-    ensures { result ≡ end_of function.now }
+pub(crate) fn end_of(function: &Function) -> usize
+    ensures { result ≡ byte_end function.now }
 {
     function.offset as usize + function.length as usize
 }
@@ -24,7 +26,7 @@ fn covers(offset: usize, function: &Function) -> bool
 }
 
 /// Whether some function has the offset.
-pub fn is_covered(functions: &[Function], offset: usize) -> bool
+pub(crate) fn is_covered(functions: &[Function], offset: usize) -> bool
     ensures { result ≡ is_covered functions.now offset }
 {
     functions.iter().any(|function| covers(offset, function))
@@ -40,7 +42,7 @@ fn are_together(functions: &[Function], a: usize, b: usize) -> bool
 }
 
 /// Whether a function begins at the offset.
-pub fn is_entry(functions: &[Function], offset: usize) -> bool
+pub(crate) fn is_entry(functions: &[Function], offset: usize) -> bool
     ensures { result ≡ is_entry functions.now offset }
 {
     functions
@@ -50,7 +52,7 @@ pub fn is_entry(functions: &[Function], offset: usize) -> bool
 
 // Where the function before number k ends; 0 before the first.
 fn end_before(functions: &[Function], k: usize) -> usize
-    ensures { result ≡ end_before functions.now k }
+    ensures { result ≡ byte_end_before functions.now k }
 {
     if k == 0 {
         return 0;
@@ -63,7 +65,7 @@ fn end_before(functions: &[Function], k: usize) -> usize
 
 impl Source {
     /// Whether the offset begins an item that is in one function with another offset.
-    pub fn is_own_item(&self, functions: &[Function], at: usize, offset: usize) -> bool
+    pub(crate) fn is_own_item(&self, functions: &[Function], at: usize, offset: usize) -> bool
         ensures { result ≡ is_own_item self.now functions.now at offset }
     {
         self.is_item_at(offset) && are_together(functions, at, offset)
@@ -121,7 +123,7 @@ impl Source {
     }
 
     /// The first function that is malformed; their number stands for what is after the last one.
-    pub fn first_malformed(&self, functions: &[Function]) -> Option<usize>
+    pub(crate) fn first_malformed(&self, functions: &[Function]) -> Option<usize>
         requires count { count_of self.now < 2 ^ 62 }
         requires few { length functions.now < 2 ^ 32 }
         ensures some { IfSome result
@@ -158,7 +160,7 @@ impl Source {
     }
 
     /// The first function whose last item is no jump without link.
-    pub fn first_falling(&self, functions: &[Function]) -> Option<usize>
+    pub(crate) fn first_falling(&self, functions: &[Function]) -> Option<usize>
         ensures some { IfSome result
             (IsFirst (falls_through self.now functions.now) (length functions.now)) }
         ensures none { IfNone result

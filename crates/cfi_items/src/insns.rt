@@ -1,13 +1,15 @@
 //! What instructions are, and which the instrumenter refuses.
 
 ghost use Rattle.std.specs.Prelude.{◌≡◌};
-ghost use Rattle.cfi_items.specs.Insns.{is_lui, is_auipc, is_jal, is_jalr, is_branch, is_store, is_addi, has_low, is_zero, is_nop, link_of, is_link, is_linked, is_unlinked, is_taken, is_reserved, is_trap, is_bad_link};
+ghost use Rattle.cfi_items.specs.inner.Insns.{is_lui, is_jal, is_store, is_addi, has_low, is_nop, is_trap, is_bad_link};
+ghost use Rattle.cfi_items.specs.Insns.{is_auipc, is_jalr, is_branch, is_zero, jump_writes, is_link, is_linked, is_unlinked};
+ghost use Rattle.cfi_unit.specs.Free.{is_reserved, names_reserved};
 
 use cfi_unit::FREE_REGISTERS;
 use rv_insn::{ImmOp, Insn};
 
 /// Whether it is LUI.
-pub fn is_lui(insn: Insn) -> bool
+pub(crate) fn is_lui(insn: Insn) -> bool
     ensures { result ≡ is_lui insn }
 {
     matches!(insn, Insn::Lui { .. })
@@ -21,7 +23,7 @@ pub fn is_auipc(insn: Insn) -> bool
 }
 
 /// Whether it is JAL.
-pub fn is_jal(insn: Insn) -> bool
+pub(crate) fn is_jal(insn: Insn) -> bool
     ensures { result ≡ is_jal insn }
 {
     matches!(insn, Insn::Jal { .. })
@@ -42,7 +44,7 @@ pub fn is_branch(insn: Insn) -> bool
 }
 
 /// Whether it is a store.
-pub fn is_store(insn: Insn) -> bool
+pub(crate) fn is_store(insn: Insn) -> bool
     ensures { result ≡ is_store insn }
 {
     matches!(insn, Insn::Store { .. })
@@ -55,7 +57,7 @@ fn is_addi(op: ImmOp) -> bool
 }
 
 /// Whether it has the field of a low part: a load, ADDI or JALR.
-pub fn has_low(insn: Insn) -> bool
+pub(crate) fn has_low(insn: Insn) -> bool
     ensures { result ≡ has_low insn }
 {
     match insn {
@@ -66,7 +68,7 @@ pub fn has_low(insn: Insn) -> bool
 }
 
 /// Whether it is `addi x0,x0,0`.
-pub fn is_nop(insn: Insn) -> bool
+pub(crate) fn is_nop(insn: Insn) -> bool
     ensures { result ≡ is_nop insn }
 {
     match insn {
@@ -83,8 +85,8 @@ pub fn is_zero(number: i32) -> bool
 }
 
 /// The register that a jump writes, if it is one.
-pub fn link_of(insn: Insn) -> Option<u32>
-    ensures { result ≡ link_of insn }
+pub fn jump_writes(insn: Insn) -> Option<u32>
+    ensures { result ≡ jump_writes insn }
 {
     match insn {
         Insn::Jal { rd, .. } | Insn::Jalr { rd, .. } => Some(rd),
@@ -106,26 +108,26 @@ fn is_link(register: u32, link: Option<u32>) -> bool
 pub fn is_linked(insn: Insn) -> bool
     ensures { result ≡ is_linked insn }
 {
-    is_link(1, link_of(insn))
+    is_link(1, jump_writes(insn))
 }
 
 /// Whether it is a jump that keeps no address.
 pub fn is_unlinked(insn: Insn) -> bool
     ensures { result ≡ is_unlinked insn }
 {
-    is_link(0, link_of(insn))
+    is_link(0, jump_writes(insn))
 }
 
 // Whether a register belongs to the instrumentation.
 fn is_taken(register: u32) -> bool
-    ensures { result ≡ is_taken register }
+    ensures { result ≡ is_reserved register }
 {
     register >= FREE_REGISTERS
 }
 
 /// Whether it names a register of the instrumentation. A fence names none.
-pub fn is_reserved(insn: Insn) -> bool
-    ensures { result ≡ is_reserved insn }
+pub(crate) fn is_reserved(insn: Insn) -> bool
+    ensures { result ≡ names_reserved insn }
 {
     match insn {
         Insn::Lui { rd, .. } | Insn::Auipc { rd, .. } | Insn::Jal { rd, .. } => is_taken(rd),
@@ -141,17 +143,17 @@ pub fn is_reserved(insn: Insn) -> bool
 }
 
 /// Whether it is EBREAK.
-pub fn is_trap(insn: Insn) -> bool
+pub(crate) fn is_trap(insn: Insn) -> bool
     ensures { result ≡ is_trap insn }
 {
     matches!(insn, Insn::Ebreak)
 }
 
 /// Whether it is a jump that writes another register than x0 and x1.
-pub fn is_bad_link(insn: Insn) -> bool
+pub(crate) fn is_bad_link(insn: Insn) -> bool
     ensures { result ≡ is_bad_link insn }
 {
-    match link_of(insn) {
+    match jump_writes(insn) {
         Some(rd) => !(rd == 0 || rd == 1),
         None => false,
     }

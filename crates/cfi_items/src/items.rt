@@ -2,7 +2,8 @@
 
 ghost use Rattle.std.specs.Prelude.{◌≡◌, ◌<◌, ◌^◌};
 ghost use Rattle.cfi_items.specs.Insns.{holds, is_jalr, is_auipc};
-ghost use Rattle.cfi_items.specs.Items.{is_pair, is_inner, is_item, is_item_at, is_bound_at, item_of, is_indirect};
+ghost use Rattle.cfi_items.specs.Items.{is_pair, is_inner, is_item, item_of, is_indirect};
+ghost use Rattle.cfi_items.specs.inner.Items.{is_item_at, is_bound_at};
 
 use crate::insns::{is_auipc, is_jalr};
 use crate::source::Source;
@@ -32,7 +33,7 @@ impl Source {
         requires { w < 2 ^ 62 }
         ensures { result ≡ is_pair self.now w }
     {
-        self.call_at(w).is_some() && holds_auipc(self.insn_at(w)) && holds_jalr(self.insn_at(w + 1))
+        self.call_on(w).is_some() && holds_auipc(self.insn_at(w)) && holds_jalr(self.insn_at(w + 1))
     }
 
     /// Whether the word is the second one of a pair.
@@ -52,14 +53,14 @@ impl Source {
     }
 
     /// Whether an item begins at the offset.
-    pub fn is_item_at(&self, offset: usize) -> bool
+    pub(crate) fn is_item_at(&self, offset: usize) -> bool
         ensures { result ≡ is_item_at self.now offset }
     {
         offset % 4 == 0 && self.is_item(offset / 4)
     }
 
     /// Whether an item begins at the offset, or the text ends there.
-    pub fn is_bound_at(&self, offset: usize) -> bool
+    pub(crate) fn is_bound_at(&self, offset: usize) -> bool
         ensures { result ≡ is_bound_at self.now offset }
     {
         self.is_item_at(offset) || (offset % 4 == 0 && offset / 4 == self.count())

@@ -4,7 +4,7 @@ ghost use Rattle.std.specs.Prelude.{◌≡◌, ◌+◌, ◌*◌, ◌<◌, ◌^�
 ghost use Rattle.std.specs.Option.{option_copied};
 ghost use Rattle.elf_read.specs.Places.{IsFirst, IsNone};
 ghost use Rattle.cfi_items.specs.Words.{count_of};
-ghost use Rattle.cfi_items.specs.Jumps.{is_call, has_kind, lacks_kind_by, lacks_kind, switches_astray, lead_out, has_bad_switch_by, has_bad_switch, IsBadSwitch};
+ghost use Rattle.cfi_items.specs.inner.Jumps.{is_call, has_fitting_kind, lacks_kind_by, lacks_kind, switches_astray, lead_out, has_bad_switch_by, has_bad_switch, IsBadSwitch};
 
 use crate::insns::is_linked;
 use crate::source::Source;
@@ -19,7 +19,7 @@ fn is_call(kind: &Kind) -> bool
 
 // Whether there is a record, and it is one of a call exactly where the jump links.
 fn has_kind(linked: bool, kind: Option<&Kind>) -> bool
-    ensures { result ≡ has_kind linked (option_copied kind.entry) }
+    ensures { result ≡ has_fitting_kind linked (option_copied kind.entry) }
 {
     match kind {
         Some(kind) => { if is_call(kind) { linked } else { !linked } }
@@ -41,7 +41,7 @@ impl Source {
     }
 
     /// The first indirect jump without a fitting record, or the number of words where records are left over.
-    pub fn first_unkind(&self, branches: &[Kind]) -> Option<usize>
+    pub(crate) fn first_unkind(&self, branches: &[Kind]) -> Option<usize>
         requires { count_of self.now < 2 ^ 62 }
         ensures some { IfSome result
             (IsFirst (lacks_kind self.now branches.now) (count_of self.now + 1)) }
@@ -104,7 +104,11 @@ impl Source {
     }
 
     /// The number of the first indirect jump whose record has an entry that is no item of its function.
-    pub fn first_bad_switch(&self, functions: &[Function], branches: &[Kind]) -> Option<usize>
+    pub(crate) fn first_bad_switch(
+        &self,
+        functions: &[Function],
+        branches: &[Kind],
+    ) -> Option<usize>
         requires { 4 * count_of self.now < 2 ^ 32 }
         ensures some { IfSome result (IsBadSwitch self.now functions.now branches.now) }
         ensures small { IfSome result (λ k. k < 2 ^ 32) }

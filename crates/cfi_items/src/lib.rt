@@ -1,4 +1,4 @@
-//! The items of a module's text, and which modules can be instrumented.
+//! The instrumenter's input: the items of a module's text, and what the instrumenter asks of a module.
 //!
 //! An item is one instruction, or an AUIPC and JALR pair under one relocation. Stands on `rv_insn`, `cfi_unit`,
 //! `rv_reloc`, `elf_read`, `cfi_aux` and `thiserror`, in tests on `cfi_values` and `cfi_types`; `cfi_instr` calls it. Proved:
@@ -23,4 +23,4 @@ mod words;
 pub use check::read_items;
 pub use fault::InstrFault;
 pub use source::{Source, is_of_text};
-pub use target::{Aim, offset_from, symbol_of};
+pub use target::{Aim, named_symbol, offset_from};

@@ -3,14 +3,14 @@
 ghost use Rattle.std.specs.Prelude.{◌≡◌, ◌/◌, ◌<◌, ◌^◌, ℕ, length, slice_index_or, false, ◌||◌, IfSome, IfNone, IfOk};
 ghost use Rattle.elf_read.specs.Places.{IsFirst, IsNone};
 ghost use Rattle.cfi_items.specs.Words.{count_of};
-ghost use Rattle.cfi_items.specs.Target.{symbol_of};
+ghost use Rattle.cfi_items.specs.Target.{named_symbol};
 ghost use Rattle.cfi_items.specs.Items.{item_of};
-ghost use Rattle.cfi_items.specs.Misplaced.{has_form, fits_on, is_on, sits_by, leads_to_bound, names_well, is_placed_by, is_misplaced};
+ghost use Rattle.cfi_items.specs.inner.Misplaced.{has_form, fits_on, is_on, sits_by, leads_to_bound, names_well, is_placed_by, is_out_of_place};
 
 use crate::functions::is_covered;
 use crate::insns::{has_low, is_auipc, is_branch, is_jal, is_lui, is_store};
 use crate::source::{Source, is_of_text};
-use crate::target::{offset_from, symbol_of};
+use crate::target::{named_symbol, offset_from};
 use cfi_aux::Function;
 use elf_read::relocation::{
     BRANCH, HI20, JAL, LO12_I, LO12_S, PCREL_HI20, PCREL_LO12_I, PCREL_LO12_S, is_of_pair,
@@ -73,9 +73,9 @@ impl Source {
 
     // Whether the symbol that a relocation names, if there is one, leads so.
     fn names_well(&self, symbols: &[Symbol], reloc: &Reloc) -> bool
-        ensures { result ≡ names_well self.now (symbol_of symbols.now reloc.now) reloc.now.addend }
+        ensures { result ≡ names_well self.now (named_symbol symbols.now reloc.now) reloc.now.addend }
     {
-        match symbol_of(symbols, reloc) {
+        match named_symbol(symbols, reloc) {
             Some(symbol) => self.leads_to_bound(symbol.place, symbol.value, reloc.addend),
             None => true,
         }
@@ -110,7 +110,7 @@ impl Source {
     }
 
     /// The first relocation that is misplaced.
-    pub fn first_misplaced(
+    pub(crate) fn first_misplaced(
         &self,
         alloc: Global,
         symbols: &[Symbol],
@@ -118,9 +118,9 @@ impl Source {
         relocs: &[Reloc],
     ) -> Result<Option<usize>, AllocError>
         ensures some { IfOk result (λ found. IfSome found
-            (IsFirst (is_misplaced self.now symbols.now functions.now relocs.now) (length relocs.now))) }
+            (IsFirst (is_out_of_place self.now symbols.now functions.now relocs.now) (length relocs.now))) }
         ensures none { IfOk result (λ found. IfNone found
-            (IsNone (is_misplaced self.now symbols.now functions.now relocs.now) (length relocs.now))) }
+            (IsNone (is_out_of_place self.now symbols.now functions.now relocs.now) (length relocs.now))) }
     {
         let mut marked = vec![in alloc; false; self.count()]?;
         for (k, reloc) in relocs.iter().enumerate() {

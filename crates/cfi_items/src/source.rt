@@ -3,7 +3,8 @@
 ghost use Rattle.std.specs.Prelude.{◌≡◌, ◌/◌, ◌<◌, ℕ, length, None, IfOk, IfSome, slice_index_or};
 ghost use Rattle.rv_insn.specs.Insn.{InRange};
 ghost use Rattle.rv_insn.specs.InsnOf.{insn_of};
-ghost use Rattle.cfi_items.specs.Words.{is_of_text, sits_on, firsts_on, noted, insns_in, AreInRange, words_in, insn_at, reloc_at, call_at, count_of};
+ghost use Rattle.cfi_items.specs.Words.{is_of_text, sits_on, firsts_on, insns_in, AreInsnsInRange, read_words, insn_at, reloc_on, call_on, count_of};
+ghost use Rattle.cfi_items.specs.inner.Words.{noted};
 
 use elf_read::relocation::is_of_pair;
 use elf_read::{Area, Object, Reloc};
@@ -47,8 +48,8 @@ impl Source {
     }
 
     /// The first relocation on the word.
-    pub fn reloc_at(&self, w: usize) -> Option<Reloc>
-        ensures { result ≡ reloc_at self.now w }
+    pub fn reloc_on(&self, w: usize) -> Option<Reloc>
+        ensures { result ≡ reloc_on self.now w }
     {
         match self.relocs.get(w) {
             Some(reloc) => *reloc,
@@ -57,8 +58,8 @@ impl Source {
     }
 
     /// The first relocation on the word that changes a pair.
-    pub fn call_at(&self, w: usize) -> Option<Reloc>
-        ensures { result ≡ call_at self.now w }
+    pub fn call_on(&self, w: usize) -> Option<Reloc>
+        ensures { result ≡ call_on self.now w }
     {
         match self.calls.get(w) {
             Some(reloc) => *reloc,
@@ -89,7 +90,7 @@ fn insn_of(word: u32) -> Option<Insn>
 fn insns_in(alloc: Global, text: &[u8]) -> Result<Vec<Option<Insn>>, AllocError>
     ensures same { IfOk result (λ insns. insns.items ≡ insns_in text.now) }
     ensures len { IfOk result (λ insns. length insns.items ≡ length text.now / 4) }
-    ensures range { IfOk result (λ insns. AreInRange insns.items) }
+    ensures range { IfOk result (λ insns. AreInsnsInRange insns.items) }
 {
     let count = text.len() / 4;
     let mut insns = Vec::with_capacity(alloc, count)?;
@@ -132,9 +133,9 @@ fn firsts_on(
 
 /// What is read of an object's text.
 pub fn read_source(alloc: Global, object: &Object) -> Result<Source, AllocError>
-    ensures same { IfOk result (λ source. source ≡ words_in object.now) }
+    ensures same { IfOk result (λ source. source ≡ read_words object.now) }
     ensures count { IfOk result (λ source. count_of source ≡ length object.now.text / 4) }
-    ensures range { IfOk result (λ source. AreInRange source.insns) }
+    ensures range { IfOk result (λ source. AreInsnsInRange source.insns) }
 {
     let count = object.text.len() / 4;
     let relocs = object.relocs.as_slice();

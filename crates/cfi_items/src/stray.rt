@@ -3,7 +3,7 @@
 ghost use Rattle.std.specs.Prelude.{◌≡◌, ◌*◌, ◌<◌, ◌^◌, IfSome, IfNone};
 ghost use Rattle.elf_read.specs.Places.{IsFirst, IsNone};
 ghost use Rattle.cfi_items.specs.Words.{count_of};
-ghost use Rattle.cfi_items.specs.Stray.{branches_well, jumps_well, leads_well, calls_well, goes_well, is_stray};
+ghost use Rattle.cfi_items.specs.inner.Stray.{branches_well, jumps_well, leads_well, calls_well, goes_well, is_stray};
 
 use crate::functions::is_entry;
 use crate::insns::is_unlinked;
@@ -88,7 +88,7 @@ impl Source {
     }
 
     /// The first item that is stray.
-    pub fn first_stray(&self, symbols: &[Symbol], functions: &[Function]) -> Option<usize>
+    pub(crate) fn first_stray(&self, symbols: &[Symbol], functions: &[Function]) -> Option<usize>
         requires { 4 * count_of self.now < 2 ^ 32 }
         ensures some { IfSome result
             (IsFirst (is_stray self.now symbols.now functions.now) (count_of self.now)) }

@@ -2,7 +2,7 @@
 
 ghost use Rattle.std.specs.Prelude.{◌≡◌, ◌*◌, ◌<◌, ◌^◌};
 ghost use Rattle.std.specs.Option.{option_copied};
-ghost use Rattle.cfi_items.specs.Target.{offset_from, aim_by, symbol_of, aim_at_name, aim_at_symbol, aim_of, aim_of_jump, aim_of_pair};
+ghost use Rattle.cfi_items.specs.Target.{offset_from, aim_by, named_symbol, aim_at_name, aim_at_symbol, aim_of, aim_of_jump, aim_of_pair};
 
 use crate::insns::is_zero;
 use crate::source::Source;
@@ -63,8 +63,8 @@ fn aim_at_symbol(place: Place, value: u32, addend: i32) -> Aim
 }
 
 /// The symbol that a relocation names.
-pub fn symbol_of<'a>(symbols: &'a [Symbol], reloc: &Reloc) -> Option<&'a Symbol>
-    ensures { option_copied result ≡ symbol_of symbols.now reloc.now }
+pub fn named_symbol<'a>(symbols: &'a [Symbol], reloc: &Reloc) -> Option<&'a Symbol>
+    ensures { option_copied result ≡ named_symbol symbols.now reloc.now }
 {
     match reloc.symbol {
         Some(k) => symbols.get(k as usize),
@@ -76,7 +76,7 @@ pub fn symbol_of<'a>(symbols: &'a [Symbol], reloc: &Reloc) -> Option<&'a Symbol>
 pub fn aim_of(symbols: &[Symbol], reloc: &Reloc) -> Aim
     ensures { result ≡ aim_of symbols.now reloc.now }
 {
-    match symbol_of(symbols, reloc) {
+    match named_symbol(symbols, reloc) {
         Some(symbol) => aim_at_symbol(symbol.place, symbol.value, reloc.addend),
         None => Aim::Astray,
     }
@@ -88,7 +88,7 @@ impl Source {
         requires { 4 * w < 2 ^ 32 }
         ensures { result ≡ aim_of_jump self.now symbols.now w off }
     {
-        match self.reloc_at(w) {
+        match self.reloc_on(w) {
             Some(reloc) => aim_of(symbols, &reloc),
             None => aim_by(offset_from(4 * w as u32, off)),
         }
@@ -98,7 +98,7 @@ impl Source {
     pub fn aim_of_pair(&self, symbols: &[Symbol], w: usize) -> Aim
         ensures { result ≡ aim_of_pair self.now symbols.now w }
     {
-        match self.call_at(w) {
+        match self.call_on(w) {
             Some(reloc) => aim_of(symbols, &reloc),
             None => Aim::Astray,
         }

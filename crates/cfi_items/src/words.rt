@@ -3,7 +3,7 @@
 ghost use Rattle.std.specs.Prelude.{◌≡◌, IfSome, IfNone};
 ghost use Rattle.elf_read.specs.Places.{IsFirst, IsNone};
 ghost use Rattle.cfi_items.specs.Words.{count_of};
-ghost use Rattle.cfi_items.specs.Flaws.{is_illegal_at, is_reserved_at, is_trap_at, is_bad_link_at};
+ghost use Rattle.cfi_items.specs.inner.Flaws.{is_illegal_at, is_reserved_at, is_trap_at, is_bad_link_at};
 
 use crate::insns::{is_bad_link, is_reserved, is_trap};
 use crate::source::Source;
@@ -47,7 +47,7 @@ impl Source {
     }
 
     /// The first word that is no instruction.
-    pub fn first_illegal(&self) -> Option<usize>
+    pub(crate) fn first_illegal(&self) -> Option<usize>
         ensures some { IfSome result (IsFirst (is_illegal_at self.now) (count_of self.now)) }
         ensures none { IfNone result (IsNone (is_illegal_at self.now) (count_of self.now)) }
     {
@@ -60,7 +60,7 @@ impl Source {
     }
 
     /// The first word whose instruction names a register of the instrumentation.
-    pub fn first_reserved(&self) -> Option<usize>
+    pub(crate) fn first_reserved(&self) -> Option<usize>
         ensures some { IfSome result (IsFirst (is_reserved_at self.now) (count_of self.now)) }
         ensures none { IfNone result (IsNone (is_reserved_at self.now) (count_of self.now)) }
     {
@@ -73,7 +73,7 @@ impl Source {
     }
 
     /// The first EBREAK.
-    pub fn first_trap(&self) -> Option<usize>
+    pub(crate) fn first_trap(&self) -> Option<usize>
         ensures some { IfSome result (IsFirst (is_trap_at self.now) (count_of self.now)) }
         ensures none { IfNone result (IsNone (is_trap_at self.now) (count_of self.now)) }
     {
@@ -86,7 +86,7 @@ impl Source {
     }
 
     /// The first jump that links by another register than x0 and x1.
-    pub fn first_bad_link(&self) -> Option<usize>
+    pub(crate) fn first_bad_link(&self) -> Option<usize>
         ensures some { IfSome result (IsFirst (is_bad_link_at self.now) (count_of self.now)) }
         ensures none { IfNone result (IsNone (is_bad_link_at self.now) (count_of self.now)) }
     {

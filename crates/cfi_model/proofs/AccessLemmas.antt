@@ -11,7 +11,8 @@ use Rattle.cfi_model.specs.State.{State, register, regs_with}
 use Rattle.cfi_model.specs.Raw.{Raw, reg}
 use Rattle.cfi_model.specs.Service.{Reply}
 use Rattle.cfi_model.specs.Effect.{effect, masked_at, accessed}
-use Rattle.cfi_model.specs.Begin.{Private, begin_as, area_of, load_at, store_at, store_private, next, ran, stopped, units_of, is_reserved}
+use Rattle.cfi_unit.specs.Free.{is_reserved}
+use Rattle.cfi_model.specs.Begin.{Private, begin_as, area_of, load_at, store_at, store_private, next, ran, stopped, units_of}
 use Rattle.cfi_unit.specs.declared.log.Stop.TheVariants as stops
 use Rattle.cfi_model.specs.Shows.{IsBetween}
 use Rattle.cfi_model.proofs.InnerLemmas.{same_state, inner, reg-free, with_reg-free}

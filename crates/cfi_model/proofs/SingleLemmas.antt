@@ -12,7 +12,8 @@ use Rattle.cfi_model.specs.State.{State, register, regs_with, displaced, after}
 use Rattle.cfi_model.specs.Raw.{Raw, reg, with_reg}
 use Rattle.cfi_model.specs.Service.{Reply, Service, Ends, Puts, Quiets, Opens, Unknown, served, service_of, asked}
 use Rattle.cfi_model.specs.Effect.{effect, going_to}
-use Rattle.cfi_model.specs.Begin.{begin_as, is_reserved, units_of, ran}
+use Rattle.cfi_unit.specs.Free.{is_reserved}
+use Rattle.cfi_model.specs.Begin.{begin_as, units_of, ran}
 use Rattle.cfi_model.specs.Run.{serve_by}
 use Rattle.cfi_model.specs.Shows.{IsBetween}
 use Rattle.cfi_model.proofs.InnerLemmas.{same_state, inner, reg-free, with_reg-free}

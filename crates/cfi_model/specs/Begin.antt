@@ -10,9 +10,9 @@ use Rattle.rv_insn.specs.declared.insn.LoadKind.TheVariants.{Lw}
 use Rattle.rv_insn.specs.declared.insn.StoreKind.{StoreKind}
 use Rattle.rv_insn.specs.InsnOf.{insn_of}
 use Rattle.rv_alu.specs.Alu.{value_of_op, value_of_imm_op, takes}
-use Rattle.cfi_unit.specs.declared.unit.TheConstants.{FREE_REGISTERS}
 use Rattle.cfi_word.specs.declared.sizes.TheConstants.{SLOTS}
-use Rattle.cfi_word.specs.declared.map.TheConstants.{BARY, DATA_START, DATA_BYTES, TARY, CODE_BYTES}
+use Rattle.cfi_word.specs.declared.map.TheConstants.{BARY, CODE_BYTES, TARY, DATA_START, DATA_BYTES}
+use Rattle.cfi_unit.specs.Free.{is_reserved, names_reserved}
 use Rattle.cfi_unit.specs.declared.log.Log.{Log}
 use Rattle.cfi_unit.specs.declared.log.Stop.{Stop}
 use Rattle.cfi_unit.specs.declared.log.Stop.TheVariants as stops
@@ -26,25 +26,6 @@ use Rattle.cfi_model.specs.Log.{picked}
 use Rattle.cfi_model.specs.State.{displaced, after}
 use Rattle.cfi_model.specs.Service.{asked}
 use Rattle.cfi_model.specs.Raw.{Raw, reg, with_reg, access_address}
-
--- a register of the instrumentation, x28 to x31
-abbrev pub is_reserved : ℕ → Bool
-is_reserved k = nat_le FREE_REGISTERS k
-
--- the instruction names such a register
-abbrev pub names_reserved : Insn → Bool
-names_reserved (insns.Lui rd imm) = is_reserved rd
-names_reserved (insns.Auipc rd imm) = is_reserved rd
-names_reserved (insns.Jal rd off) = is_reserved rd
-names_reserved (insns.Jalr rd rs1 imm) = is_reserved rd || is_reserved rs1
-names_reserved (insns.Branch cond rs1 rs2 off) = is_reserved rs1 || is_reserved rs2
-names_reserved (insns.Load kind rd rs1 imm) = is_reserved rd || is_reserved rs1
-names_reserved (insns.Store kind rs1 rs2 imm) = is_reserved rs1 || is_reserved rs2
-names_reserved (insns.OpImm op rd rs1 imm) = is_reserved rd || is_reserved rs1
-names_reserved (insns.Op op rd rs1 rs2) = is_reserved rd || is_reserved rs1 || is_reserved rs2
-names_reserved (insns.Fence fields) = false
-names_reserved insns.Ecall = false
-names_reserved insns.Ebreak = false
 
 -- an instruction that names none counts as a unit
 abbrev pub units_of : (reserved : Bool) → ℕ

@@ -17,7 +17,7 @@ use Rattle.cfi_unit.specs.declared.spot.Spot.{Spot}
 use Rattle.cfi_verify.specs.declared.checks.CheckSpot.{CheckSpot}
 use Rattle.cfi_verify.specs.Spots.{check_in, checks_of}
 use Rattle.cfi_verify.specs.Functions.{end_before, may_be_last, IsLastIn}
-use Rattle.cfi_aux.specs.Lies.{end_of}
+use Rattle.cfi_aux.specs.Extent.{end_of}
 use Rattle.cfi_verify.specs.Faults.{IsVerifiedAs}
 use Rattle.cfi_verify.proofs.FunctionLemmas.{end_before-next}
 

@@ -20,7 +20,7 @@ use Rattle.cfi_graph.specs.Shaped.{slots_of, IsPart, IsUnitPlace, IsNamed, IsSha
 use Rattle.cfi_unit.specs.declared.spot.Spot.{Spot}
 use Rattle.cfi_verify.specs.declared.checks.CheckSpot.{CheckSpot}
 use Rattle.cfi_verify.specs.Spots.{checks_of}
-use Rattle.cfi_aux.specs.Lies.{end_of}
+use Rattle.cfi_aux.specs.Extent.{end_of}
 use Rattle.cfi_verify.specs.Branches.{IsKindOf, IsRecordOf, IsEntry, AreEntries, AreEntriesIn}
 use Rattle.cfi_verify.specs.Faults.{IsVerifiedAs}
 use Rattle.cfi_verify.proofs.FunctionLemmas.{in_order}

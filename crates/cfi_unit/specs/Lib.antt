@@ -1,3 +1,4 @@
 pub mod Unit
 pub mod Code
 pub mod Spots
+pub mod Free

@@ -9,9 +9,9 @@ use Rattle.std.proofs.lemmas.Option.{slice_get-get_or, some_pair_parts}
 use Rattle.cfi_aux.specs.declared.placed.Placed.{Placed}
 use Rattle.cfi_aux.specs.declared.placed.PlacedFunction.{PlacedFunction}
 use Rattle.cfi_unit.specs.declared.spot.Spot.{Spot}
-use Rattle.cfi_verify.specs.Lists.{Each}
+use Rattle.elf_read.specs.Lists.{Each}
 use Rattle.cfi_verify.specs.Functions.{end_in, end_before, IsIdle, FitsBehind}
-use Rattle.cfi_aux.specs.Lies.{end_of, LiesIn}
+use Rattle.cfi_aux.specs.Extent.{end_of, LiesIn}
 use Rattle.cfi_verify.specs.Target.{IsAtHome}
 use Rattle.cfi_verify.specs.Places.{AreFunctionsApart, AreInRange, IsHome, SplitsEnds}
 

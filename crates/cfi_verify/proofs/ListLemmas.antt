@@ -3,7 +3,7 @@ use Rattle.std.proofs.Common.{◌≡◌, ℕ, ◌+◌, ◌<◌, ◌≤◌, List,
 use Rattle.std.specs.List.{slice_get}
 use Rattle.std.proofs.lemmas.Bool.{cases_lt}
 use Rattle.std.proofs.lemmas.Option.{slice_get-get_or, get_or_from_slice_get, slice_get_within}
-use Rattle.cfi_verify.specs.Lists.{Each, EachBelow, Breaks, IsFirstBreak}
+use Rattle.elf_read.specs.Lists.{Each, EachBelow, Breaks, IsFirstBreak}
 
 module _ {T : Type 0} (xs : List T) (P : ℕ → T → Type 0) where
   pub each_none : EachBelow xs P 0

@@ -9,7 +9,7 @@ use Rattle.cfi_aux.specs.declared.placed.PlacedFunction.{PlacedFunction}
 use Rattle.cfi_unit.specs.declared.spot.Spot.{Spot}
 use Rattle.cfi_unit.specs.Spots.{BeginsUnit}
 use Rattle.cfi_verify.specs.Functions.{may_be_last, EndsWell}
-use Rattle.cfi_aux.specs.Lies.{end_of, LiesIn}
+use Rattle.cfi_aux.specs.Extent.{end_of, LiesIn}
 use Rattle.cfi_verify.specs.Places.{AreRising, Splits}
 
 pub at_rises : (spots : List Spot) → AreRising spots → IsNonDecreasingBy (λ (s : Spot). s.at) spots

@@ -7,13 +7,13 @@ use Rattle.cfi_verify.specs.declared.fault.VerifyFault.{VerifyFault}
 use Rattle.cfi_verify.specs.declared.fault.VerifyFault.TheVariants as faults
 use Rattle.cfi_unit.specs.declared.spot.Spot.{Spot}
 use Rattle.cfi_verify.specs.declared.checks.CheckSpot.{CheckSpot}
-use Rattle.cfi_verify.specs.Lists.{Each, Breaks, IsFirstBreak}
+use Rattle.elf_read.specs.Lists.{Each, Breaks, IsFirstBreak, own_number}
 use Rattle.cfi_verify.specs.Spots.{checks_of}
 use Rattle.cfi_unit.specs.Spots.{AreSpots}
 use Rattle.cfi_verify.specs.Functions.{FitsBehind, IsIdleBehind, EndsWell}
 use Rattle.cfi_verify.specs.Target.{LeadsWell}
 use Rattle.cfi_verify.specs.Branches.{NamesSlot, KindFits, EntriesFit}
-use Rattle.cfi_verify.specs.Faults.{unit_place, check_place, own_number, FaultStandsIn, FaultStands, fault_number, fault_place, IsFirstFault, Verifies, IsLaidOut, IsVerifiedAs}
+use Rattle.cfi_verify.specs.Faults.{unit_place, check_place, FaultStandsIn, FaultStands, fault_number, fault_place, IsFirstFault, Verifies, IsLaidOut, IsVerifiedAs}
 use Rattle.cfi_verify.specs.Places.{IsFirstUnfit, IsFirstMisfit}
 use Rattle.cfi_verify.proofs.ListLemmas.{break_of, no_break, first_is_least}
 use Rattle.cfi_verify.proofs.SpotLemmas.{spots-rising, checks-within, checks-rising, rise_from}

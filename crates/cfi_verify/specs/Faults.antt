@@ -6,22 +6,19 @@ use Rattle.cfi_verify.specs.declared.fault.VerifyFault.{VerifyFault}
 use Rattle.cfi_verify.specs.declared.fault.VerifyFault.TheVariants as faults
 use Rattle.cfi_unit.specs.declared.spot.Spot.{Spot}
 use Rattle.cfi_verify.specs.declared.checks.CheckSpot.{CheckSpot}
-use Rattle.cfi_verify.specs.Lists.{Each, Breaks}
-use Rattle.cfi_unit.specs.Spots.{AreSpots}
+use Rattle.elf_read.specs.Lists.{Each, Breaks, own_number}
 use Rattle.cfi_verify.specs.Spots.{checks_of, IsIllegal, IsNotUnit}
+use Rattle.cfi_unit.specs.Spots.{AreSpots}
 use Rattle.cfi_verify.specs.Functions.{FitsBehind, IsIdleBehind, EndsWell}
 use Rattle.cfi_verify.specs.Target.{LeadsWell}
 use Rattle.cfi_verify.specs.Branches.{NamesSlot, KindFits, EntriesFit}
 
--- where a unit and a check stand in bytes, and an item's own number
+-- where a unit and a check stand in bytes
 abbrev pub unit_place : (number : ℕ) → Spot → ℕ
 unit_place number spot = 4 * spot.at
 
 abbrev pub check_place : (number : ℕ) → CheckSpot → ℕ
 check_place number check = 4 * check.at
-
-abbrev pub own_number : {T : Type 0} → (number : ℕ) → T → ℕ
-own_number number item = number
 
 -- the fault stands against the units of a module
 abbrev pub FaultStandsIn : (m : Placed) → (loaded : List Placed) → List Spot → VerifyFault → Type 0

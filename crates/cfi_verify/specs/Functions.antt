@@ -10,7 +10,7 @@ use Rattle.cfi_aux.specs.declared.placed.Placed.{Placed}
 use Rattle.cfi_aux.specs.declared.placed.PlacedFunction.{PlacedFunction}
 use Rattle.cfi_unit.specs.declared.spot.Spot.{Spot}
 use Rattle.cfi_unit.specs.Spots.{BeginsUnit}
-use Rattle.cfi_aux.specs.Lies.{end_of, LiesIn}
+use Rattle.cfi_aux.specs.Extent.{end_of, LiesIn}
 
 -- where a function ends; before the first one, the module's first word
 abbrev pub end_in : Option PlacedFunction → ℕ

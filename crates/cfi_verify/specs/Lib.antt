@@ -1,4 +1,3 @@
-pub mod Lists
 pub mod Spots
 pub mod Functions
 pub mod Target

@@ -6,12 +6,12 @@ use Rattle.cfi_aux.specs.declared.placed.Placed.{Placed}
 use Rattle.cfi_aux.specs.declared.placed.PlacedFunction.{PlacedFunction}
 use Rattle.cfi_unit.specs.declared.spot.Spot.{Spot}
 use Rattle.cfi_verify.specs.declared.checks.CheckSpot.{CheckSpot}
-use Rattle.cfi_verify.specs.Lists.{Each, IsFirstBreak}
+use Rattle.elf_read.specs.Lists.{Each, IsFirstBreak, own_number}
 use Rattle.cfi_verify.specs.Functions.{FitsBehind, IsIdleBehind}
-use Rattle.cfi_aux.specs.Lies.{end_of, LiesIn}
+use Rattle.cfi_aux.specs.Extent.{end_of, LiesIn}
 use Rattle.cfi_verify.specs.Target.{entries_of}
 use Rattle.cfi_verify.specs.Branches.{KindFits}
-use Rattle.cfi_verify.specs.Faults.{own_number, check_place}
+use Rattle.cfi_verify.specs.Faults.{check_place}
 
 -- each unit begins after those before it
 abbrev pub AreRising : List Spot → Type 0

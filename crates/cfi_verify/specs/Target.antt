@@ -8,7 +8,7 @@ use Rattle.cfi_aux.specs.declared.placed.Placed.{Placed}
 use Rattle.cfi_aux.specs.declared.placed.PlacedFunction.{PlacedFunction}
 use Rattle.cfi_unit.specs.declared.spot.Spot.{Spot}
 use Rattle.cfi_unit.specs.Spots.{BeginsUnit}
-use Rattle.cfi_aux.specs.Lies.{LiesIn}
+use Rattle.cfi_aux.specs.Extent.{LiesIn}
 
 -- the offset leads from the word `at` to the word `to`
 abbrev pub LeadsTo : (at : ℕ) → ℤ → (to : ℕ) → Type 0

@@ -2,9 +2,8 @@
 
 ghost use Rattle.std.specs.Prelude.{◌≡◌, ℕ, ◌+◌, ◌*◌, ◌<◌, ◌^◌, length, IfSome, IfNone, IsTrue, ◌↔◌};
 ghost use Rattle.cfi_aux.specs.Format.{is_func};
-ghost use Rattle.cfi_verify.specs.Lists.{Each, IsFirstBreak};
+ghost use Rattle.elf_read.specs.Lists.{Each, IsFirstBreak, own_number};
 ghost use Rattle.cfi_verify.specs.Functions.{IsIdle, FunctionFits, FitsBehind, IsIdleBehind, may_be_last, EndsWell};
-ghost use Rattle.cfi_verify.specs.Faults.{own_number};
 ghost use Rattle.cfi_verify.specs.Places.{AreRising, AreInRange, IsWithin, IsFirstUnfit};
 
 use crate::search::{begins_at, number_at};

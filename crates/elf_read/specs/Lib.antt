@@ -1,5 +1,6 @@
 pub mod Words
 pub mod Places
+pub mod Lists
 pub mod Header
 pub mod Section
 pub mod BadSection

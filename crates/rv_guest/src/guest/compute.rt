@@ -5,7 +5,8 @@ ghost use Rattle.rv_insn.specs.declared.opcode.TheConstants as opcodes;
 ghost use Rattle.rv_insn.specs.InsnOf.{row_of};
 ghost use Rattle.cfi_unit.specs.declared.unit.TheConstants.{FREE_REGISTERS};
 ghost use Rattle.cfi_model.specs.Raw.{with_reg};
-ghost use Rattle.cfi_model.specs.Begin.{begin_by, act_by, ran, units_of, next, is_reserved};
+ghost use Rattle.cfi_unit.specs.Free.{is_reserved};
+ghost use Rattle.cfi_model.specs.Begin.{begin_by, act_by, ran, units_of, next};
 
 use crate::decode::imm_of;
 use rv_insn::rows::{imm_op_of, op_of};

@@ -4,7 +4,8 @@ ghost use Rattle.std.specs.Prelude.{◌≡◌, ◌+◌, ◌<◌, ◌≤◌, ◌^
 ghost use Rattle.rv_insn.specs.declared.opcode.TheConstants as opcodes;
 ghost use Rattle.rv_insn.specs.InsnOf.{row_of};
 ghost use Rattle.cfi_model.specs.Log.{last_picks};
-ghost use Rattle.cfi_model.specs.Begin.{begin_by, act_by, picked_by, judged, ran, units_of, is_reserved};
+ghost use Rattle.cfi_unit.specs.Free.{is_reserved};
+ghost use Rattle.cfi_model.specs.Begin.{begin_by, act_by, picked_by, judged, ran, units_of};
 ghost use Rattle.rv_guest.specs.Guest.{KeepsPolicy};
 
 use rv_insn::rows::cond_of;

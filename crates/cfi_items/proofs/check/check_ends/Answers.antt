@@ -3,8 +3,8 @@ use Rattle.elf_read.specs.Places.{IsFirst, IsNone}
 use Rattle.cfi_aux.specs.declared.records.Function.{Function}
 use Rattle.cfi_aux.specs.declared.records.Kind.{Kind}
 use Rattle.cfi_items.specs.Words.{count_of}
-use Rattle.cfi_items.specs.Functions.{falls_through}
-use Rattle.cfi_items.specs.Jumps.{has_bad_switch}
+use Rattle.cfi_items.specs.inner.Functions.{falls_through}
+use Rattle.cfi_items.specs.inner.Jumps.{has_bad_switch}
 use Rattle.cfi_items.proofs.check.check_ends.Goals as goal
 
 pub returns-in-Some-first_falling-clause-fault : goal.returns-in-Some-first_falling-clause-fault

@@ -3,7 +3,9 @@ use Rattle.std.proofs.Common.{◌≡◌, ◌∙◌, ◌<◌, ap, None, pos, get_
 use Rattle.std.proofs.lemmas.List.{take_all}
 use Rattle.std.proofs.lemmas.List.FromFn.{fill_by_all}
 use Rattle.elf_read.specs.declared.object.Reloc.{Reloc}
-use Rattle.cfi_items.specs.Words.{sits_on, first_on, noted}
+use Rattle.elf_read.specs.declared.object.Area.TheVariants.{Text}
+use Rattle.cfi_items.specs.Words.{sits_on, first_on}
+use Rattle.cfi_items.specs.inner.Words.{noted}
 use Rattle.cfi_items.proofs.TableLemmas.{first_on-more}
 use Rattle.cfi_items.proofs.source.firsts_on.Goals as goal
 use Rattle.elf_read.proofs.NoReloc.{no_reloc}

@@ -7,7 +7,7 @@ use Rattle.std.proofs.lemmas.List.Elements.{All-push}
 use Rattle.rv_insn.specs.Insn.{InRange}
 use Rattle.rv_insn.specs.InsnOf.{insn_of}
 use Rattle.rv_reloc.specs.Bytes.{word_at}
-use Rattle.cfi_items.specs.Words.{AreInRange}
+use Rattle.cfi_items.specs.Words.{AreInsnsInRange}
 use Rattle.cfi_items.proofs.source.insns_in.Goals as goal
 
 pub loop-w-preserved : goal.loop-w-preserved
@@ -24,7 +24,7 @@ loop-w-preserved c =
     record {
       each = cc;
       range =
-          subst (λ (xs : List (Option Insn)). AreInRange xs) (sym c.in_ok-push.ensures.items)
+          subst (λ (xs : List (Option Insn)). AreInsnsInRange xs) (sym c.in_ok-push.ensures.items)
           (All-push (λ (insn : Option Insn). IfSome insn InRange) c.loop-w.insns.items c.insn_of.result c.loop-w.invariant.range
           c.insn_of.ensures.range);
     }

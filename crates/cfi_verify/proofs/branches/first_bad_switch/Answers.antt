@@ -2,7 +2,7 @@ use Rattle.std.proofs.Common.{false, sym, refl, ◌∙◌}
 use Rattle.std.proofs.lemmas.Bool.{false≢true}
 use Rattle.cfi_verify.specs.declared.checks.CheckSpot.{CheckSpot}
 use Rattle.cfi_verify.specs.Branches.{EntriesFit}
-use Rattle.cfi_verify.specs.Faults.{own_number}
+use Rattle.elf_read.specs.Lists.{own_number}
 use Rattle.cfi_verify.proofs.ListLemmas.{each_more, each_all, first_here}
 use Rattle.cfi_verify.proofs.branches.first_bad_switch.Goals as goal
 

@@ -1,4 +1,4 @@
-use Rattle.cfi_verify.specs.Lists.{EachBelow}
+use Rattle.elf_read.specs.Lists.{EachBelow}
 use Rattle.cfi_verify.specs.Branches.{EntriesFit}
 use Rattle.cfi_verify.proofs.branches.first_bad_switch.Given as goal
 

@@ -1,7 +1,7 @@
 use Rattle.std.proofs.Common.{◌∙◌, sym, refl, subst}
 use Rattle.std.proofs.lemmas.Bool.{false≢true}
 use Rattle.cfi_verify.specs.Functions.{EndsWell}
-use Rattle.cfi_verify.specs.Faults.{own_number}
+use Rattle.elf_read.specs.Lists.{own_number}
 use Rattle.cfi_verify.proofs.ListLemmas.{each_more, each_all, first_here}
 use Rattle.cfi_verify.proofs.functions.first_open.Goals as goal
 

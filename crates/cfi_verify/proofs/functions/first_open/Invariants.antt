@@ -1,4 +1,4 @@
-use Rattle.cfi_verify.specs.Lists.{EachBelow}
+use Rattle.elf_read.specs.Lists.{EachBelow}
 use Rattle.cfi_verify.specs.Functions.{EndsWell}
 use Rattle.cfi_verify.proofs.functions.first_open.Given as goal
 

@@ -1,5 +1,5 @@
 use Rattle.std.proofs.Common.{◌≡◌, ◌≤◌, length}
-use Rattle.cfi_verify.specs.Lists.{EachBelow}
+use Rattle.elf_read.specs.Lists.{EachBelow}
 use Rattle.cfi_verify.specs.Functions.{end_before, FitsBehind}
 use Rattle.cfi_verify.proofs.functions.first_unfit.Given as goal
 

@@ -1,6 +1,6 @@
 use Rattle.std.proofs.Common.{Some, ap, ◌∙◌, arith}
 use Rattle.cfi_aux.specs.declared.placed.PlacedFunction.{PlacedFunction}
-use Rattle.cfi_aux.specs.Lies.{end_of}
+use Rattle.cfi_aux.specs.Extent.{end_of}
 use Rattle.cfi_verify.proofs.FunctionLemmas.{no_home_here, one_home}
 use Rattle.cfi_verify.proofs.home.home_of.Goals as goal
 

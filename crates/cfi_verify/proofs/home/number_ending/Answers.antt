@@ -3,7 +3,7 @@ use Rattle.std.proofs.lemmas.Bool.{leb-false}
 use Rattle.std.proofs.Common.{leb-true}
 use Rattle.std.proofs.lemmas.List.Sorted.{IsPartitionPoint-from_clause, IsPartitionedBy-leb}
 use Rattle.cfi_aux.specs.declared.placed.PlacedFunction.{PlacedFunction}
-use Rattle.cfi_aux.specs.Lies.{end_of}
+use Rattle.cfi_aux.specs.Extent.{end_of}
 use Rattle.cfi_verify.proofs.FunctionLemmas.{ends_rise}
 use Rattle.cfi_verify.proofs.home.number_ending.Goals as goal
 

@@ -1,7 +1,7 @@
 use Rattle.std.proofs.Common.{List, ◌∷◌}
 use Rattle.std.specs.List.Sorted.{IsPermutation}
 use Rattle.cfi_aux.specs.declared.placed.Placed.{Placed}
-use Rattle.cfi_verify.specs.Lists.{EachBelow}
+use Rattle.elf_read.specs.Lists.{EachBelow}
 use Rattle.cfi_verify.specs.Target.{LeadsWell, entries_of}
 use Rattle.cfi_verify.proofs.target.first_stray.Given as goal
 

@@ -1,6 +1,6 @@
 use Rattle.std.proofs.Common.{List, sym, subst}
 use Rattle.cfi_verify.specs.declared.checks.CheckSpot.{CheckSpot}
-use Rattle.cfi_verify.specs.Lists.{Each, IsFirstBreak}
+use Rattle.elf_read.specs.Lists.{Each, IsFirstBreak}
 use Rattle.cfi_verify.specs.Branches.{NamesSlot}
 use Rattle.cfi_verify.specs.Faults.{check_place}
 use Rattle.cfi_verify.specs.Places.{AreSmallChecks, AreInRange}

@@ -1,5 +1,5 @@
 use Rattle.elf_read.specs.Places.{IsNone}
-use Rattle.cfi_items.specs.Flaws.{is_bad_link_at}
+use Rattle.cfi_items.specs.inner.Flaws.{is_bad_link_at}
 use Rattle.cfi_items.proofs.source.Source.first_bad_link.Given as goal
 
 abbrev pub invariant-loop-w : goal.invariant-loop-w

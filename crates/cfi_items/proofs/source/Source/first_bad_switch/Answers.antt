@@ -1,6 +1,6 @@
 -- The number is that of the next indirect jump.
 use Rattle.std.proofs.Common.{◌≡◌, ◌+◌, ◌<◌, ◌∙◌, ℕ, true, false, sym, ap, below_more, arith}
-use Rattle.cfi_items.specs.Jumps.{has_bad_switch, has_bad_switch_by}
+use Rattle.cfi_items.specs.inner.Jumps.{has_bad_switch, has_bad_switch_by}
 use Rattle.cfi_items.proofs.JumpLemmas.{ordinal-more}
 use Rattle.cfi_items.proofs.source.Source.first_bad_switch.Goals as goal
 use Rattle.cfi_items.proofs.source.Source.first_bad_switch.Goals.{then-is_indirect, else-is_indirect}

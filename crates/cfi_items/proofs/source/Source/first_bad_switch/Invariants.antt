@@ -1,6 +1,7 @@
 use Rattle.std.proofs.Common.{◌≡◌, ◌≤◌}
 use Rattle.elf_read.specs.Places.{IsNone}
-use Rattle.cfi_items.specs.Jumps.{ordinal_of, has_bad_switch}
+use Rattle.cfi_items.specs.Jumps.{ordinal_of}
+use Rattle.cfi_items.specs.inner.Jumps.{has_bad_switch}
 use Rattle.cfi_items.proofs.source.Source.first_bad_switch.Given as goal
 
 abbrev pub invariant-loop-w : goal.invariant-loop-w

@@ -1,5 +1,5 @@
 use Rattle.std.proofs.Common.{◌≡◌, false, sym, below_more}
-use Rattle.cfi_items.specs.Functions.{is_malformed}
+use Rattle.cfi_items.specs.inner.Functions.{is_malformed}
 use Rattle.cfi_items.proofs.source.Source.first_malformed.Goals as goal
 
 pub loop-k-preserved : goal.loop-k-preserved

@@ -1,5 +1,5 @@
 use Rattle.elf_read.specs.Places.{IsNone}
-use Rattle.cfi_items.specs.Functions.{is_malformed}
+use Rattle.cfi_items.specs.inner.Functions.{is_malformed}
 use Rattle.cfi_items.proofs.source.Source.first_malformed.Given as goal
 
 abbrev pub invariant-loop-k : goal.invariant-loop-k

@@ -4,7 +4,7 @@ use Rattle.std.specs.List.{list_any, slice_index_or}
 use Rattle.std.proofs.lemmas.List.Folds.{list_any_more}
 use Rattle.elf_read.specs.declared.object.Reloc.{Reloc}
 use Rattle.elf_read.specs.declared.object.Area.TheVariants.{Text}
-use Rattle.cfi_items.specs.Misplaced.{is_on, is_misplaced}
+use Rattle.cfi_items.specs.inner.Misplaced.{is_on, is_out_of_place}
 use Rattle.cfi_items.proofs.RelocLemmas.{misplaced-here}
 use Rattle.cfi_items.proofs.source.Source.first_misplaced.Goals as goal
 
@@ -34,7 +34,7 @@ loop-k-preserved c =
     λ w. ap (λ (xs : List Bool). slice_index_or xs w false) c.deref.ensures.value ∙ c.loop-k.invariant.marks w in
     record {
       none =
-          below_more (λ j. is_misplaced t c.args.symbols.now c.args.functions.now relocs j ≡ false) k
+          below_more (λ j. is_out_of_place t c.args.symbols.now c.args.functions.now relocs j ≡ false) k
           c.loop-k.invariant.none
           (misplaced-here t c.args.symbols.now c.args.functions.now relocs k none c.deref.result.now true
           c.loop-k-test.true marks c.if-not-is_placed.ensures);

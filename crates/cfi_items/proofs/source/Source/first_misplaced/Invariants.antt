@@ -6,13 +6,13 @@ use Rattle.elf_read.specs.declared.object.Reloc.{Reloc}
 use Rattle.cfi_aux.specs.declared.records.Function.{Function}
 use Rattle.std.proofs.Common.{List, Bool}
 use Rattle.cfi_items.specs.Words.{Words, count_of}
-use Rattle.cfi_items.specs.Misplaced.{is_on, is_misplaced}
+use Rattle.cfi_items.specs.inner.Misplaced.{is_on, is_out_of_place}
 use Rattle.cfi_items.proofs.source.Source.first_misplaced.Given as goal
 
 -- none of the first k relocations is misplaced, and the items that they are on are marked
 pub record AreSeen (t : Words) (symbols : List Symbol) (functions : List Function) (relocs : List Reloc) (k : ℕ)
     (marked : List Bool) : Type 0 where
-  pub none : IsNone (is_misplaced t symbols functions relocs) k
+  pub none : IsNone (is_out_of_place t symbols functions relocs) k
   pub size : length marked ≡ count_of t
   pub marks : (w : ℕ) → slice_index_or marked w false ≡ list_any (is_on t w) (take k relocs)
 

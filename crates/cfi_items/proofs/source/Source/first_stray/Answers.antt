@@ -1,5 +1,5 @@
 use Rattle.std.proofs.Common.{◌≡◌, false, sym, below_more}
-use Rattle.cfi_items.specs.Stray.{is_stray}
+use Rattle.cfi_items.specs.inner.Stray.{is_stray}
 use Rattle.cfi_items.proofs.source.Source.first_stray.Goals as goal
 
 pub loop-w-preserved : goal.loop-w-preserved

@@ -1,5 +1,5 @@
 use Rattle.elf_read.specs.Places.{IsNone}
-use Rattle.cfi_items.specs.Stray.{is_stray}
+use Rattle.cfi_items.specs.inner.Stray.{is_stray}
 use Rattle.cfi_items.proofs.source.Source.first_stray.Given as goal
 
 abbrev pub invariant-loop-w : goal.invariant-loop-w

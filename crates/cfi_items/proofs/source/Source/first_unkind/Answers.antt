@@ -1,7 +1,7 @@
 -- The number is that of the next indirect jump.
 use Rattle.std.proofs.Common.{◌≡◌, ◌+◌, ◌<◌, ℕ, true, false, below_more, arith}
 use Rattle.cfi_items.specs.Words.{count_of}
-use Rattle.cfi_items.specs.Jumps.{lacks_kind}
+use Rattle.cfi_items.specs.inner.Jumps.{lacks_kind}
 use Rattle.cfi_items.proofs.JumpLemmas.{ordinal-more, kind-here, rest-here}
 use Rattle.cfi_items.proofs.source.Source.first_unkind.Goals as goal
 use Rattle.cfi_items.proofs.source.Source.first_unkind.Goals.{then-is_indirect, else-is_indirect}

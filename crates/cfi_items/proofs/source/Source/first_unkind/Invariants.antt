@@ -1,6 +1,7 @@
 use Rattle.std.proofs.Common.{◌≡◌, ◌≤◌}
 use Rattle.elf_read.specs.Places.{IsNone}
-use Rattle.cfi_items.specs.Jumps.{ordinal_of, lacks_kind}
+use Rattle.cfi_items.specs.Jumps.{ordinal_of}
+use Rattle.cfi_items.specs.inner.Jumps.{lacks_kind}
 use Rattle.cfi_items.proofs.source.Source.first_unkind.Given as goal
 
 abbrev pub invariant-loop-w : goal.invariant-loop-w

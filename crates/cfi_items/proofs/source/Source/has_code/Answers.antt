@@ -1,5 +1,5 @@
 use Rattle.std.proofs.Common.{◌∙◌, ◌/◌, sym}
-use Rattle.cfi_items.specs.Functions.{is_code}
+use Rattle.cfi_items.specs.inner.Functions.{is_code}
 use Rattle.cfi_items.proofs.TableLemmas.{any-next}
 use Rattle.cfi_items.proofs.source.Source.has_code.Goals as goal
 

@@ -1,6 +1,6 @@
 use Rattle.std.proofs.Common.{◌≡◌, ◌-◌, ◌/◌}
 use Rattle.std.specs.List.{list_any, range_with_len}
-use Rattle.cfi_items.specs.Functions.{has_code, is_code}
+use Rattle.cfi_items.specs.inner.Functions.{has_code, is_code}
 use Rattle.cfi_items.proofs.source.Source.has_code.Given as goal
 
 abbrev pub invariant-loop-w : goal.invariant-loop-w

@@ -1,5 +1,5 @@
 use Rattle.std.proofs.Common.{◌≡◌, drop}
-use Rattle.cfi_items.specs.Jumps.{lead_out}
+use Rattle.cfi_items.specs.inner.Jumps.{lead_out}
 use Rattle.cfi_items.proofs.source.Source.lead_out.Given as goal
 
 abbrev pub invariant-loop-entry : goal.invariant-loop-entry

@@ -22,3 +22,7 @@ pub record IsFirstBreak {T : Type 0} (xs : List T) (place : ℕ → T → ℕ) (
   pub here : at ≡ place number item
   pub fails : ¬ P number item
   pub before : EachBelow xs P number
+
+-- an item's own number, as its place
+abbrev pub own_number : {T : Type 0} → (number : ℕ) → T → ℕ
+own_number number item = number

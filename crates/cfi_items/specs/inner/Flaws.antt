@@ -1,7 +1,9 @@
--- Words that are refused for what they are, by their numbers.
+-- Tests of words that are refused for what they are, by their numbers.
 use Rattle.std.specs.Prelude.{ℕ, Bool, is_none}
+use Rattle.cfi_unit.specs.Free.{names_reserved}
 use Rattle.cfi_items.specs.Words.{Words, insn_at}
-use Rattle.cfi_items.specs.Insns.{holds, is_reserved, is_trap, is_bad_link}
+use Rattle.cfi_items.specs.Insns.{holds}
+use Rattle.cfi_items.specs.inner.Insns.{is_trap, is_bad_link}
 
 -- no instruction
 abbrev pub is_illegal_at : Words → (w : ℕ) → Bool
@@ -9,7 +11,7 @@ is_illegal_at t w = is_none (insn_at t w)
 
 -- names a register of the instrumentation
 abbrev pub is_reserved_at : Words → (w : ℕ) → Bool
-is_reserved_at t w = holds is_reserved (insn_at t w)
+is_reserved_at t w = holds names_reserved (insn_at t w)
 
 -- EBREAK
 abbrev pub is_trap_at : Words → (w : ℕ) → Bool

@@ -1,4 +1,4 @@
--- Which direct jumps and branches are stray.
+-- Tests of direct jumps and branches that are stray.
 use Rattle.std.specs.Prelude.{ℕ, ◌+◌, ◌*◌, Bool, true, false, not, ◌&&◌, ◌||◌, List, Option, Some, None, if◌then◌else◌}
 use Rattle.elf_read.specs.declared.object.Symbol.{Symbol}
 use Rattle.rv_insn.specs.declared.insn.Insn.{Insn}
@@ -10,7 +10,7 @@ use Rattle.cfi_items.specs.Words.{Words, insn_at}
 use Rattle.cfi_items.specs.Insns.{holds, is_unlinked}
 use Rattle.cfi_items.specs.Items.{is_item, is_pair}
 use Rattle.cfi_items.specs.Target.{aim_of_jump, aim_of_pair}
-use Rattle.cfi_items.specs.Functions.{is_own_item, is_entry}
+use Rattle.cfi_items.specs.inner.Functions.{is_own_item, is_entry}
 
 -- a branch goes to an item of its own function
 abbrev pub branches_well : Words → List Function → (at : ℕ) → Aim → Bool

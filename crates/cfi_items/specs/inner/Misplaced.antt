@@ -1,4 +1,4 @@
--- Which relocations are misplaced (RISC-V ELF psABI, "Relocations", for the form of each kind).
+-- Tests of relocations that are out of their places.
 use Rattle.std.specs.Prelude.{ℕ, ◌*◌, ◌/◌, Bool, true, false, not, ◌&&◌, ◌||◌, ◌==◌, nat_lt, ℤ, List, take, Option, Some, None, if◌then◌else◌}
 use Rattle.std.specs.List.{list_any, slice_get}
 use Rattle.elf_read.specs.declared.object.Symbol.{Symbol}
@@ -10,10 +10,12 @@ use Rattle.elf_read.specs.Relocation.{is_of_pair}
 use Rattle.rv_insn.specs.declared.insn.Insn.{Insn}
 use Rattle.cfi_aux.specs.declared.records.Function.{Function}
 use Rattle.cfi_items.specs.Words.{Words, insn_at, is_of_text, count_of}
-use Rattle.cfi_items.specs.Insns.{holds, is_lui, is_auipc, is_jal, is_branch, is_store, has_low}
-use Rattle.cfi_items.specs.Items.{is_pair, is_bound_at, item_of}
-use Rattle.cfi_items.specs.Target.{offset_from, symbol_of}
-use Rattle.cfi_items.specs.Functions.{is_covered}
+use Rattle.cfi_items.specs.Insns.{holds, is_auipc, is_branch}
+use Rattle.cfi_items.specs.Items.{is_pair, item_of}
+use Rattle.cfi_items.specs.Target.{offset_from, named_symbol}
+use Rattle.cfi_items.specs.inner.Insns.{is_lui, is_jal, is_store, has_low}
+use Rattle.cfi_items.specs.inner.Items.{is_bound_at}
+use Rattle.cfi_items.specs.inner.Functions.{is_covered}
 
 -- the instruction has the form of the kind: a case a row
 abbrev pub has_form : (kind : ℕ) → Insn → Bool
@@ -58,7 +60,7 @@ names_well t (Some symbol) addend = leads_to_bound t symbol.place symbol.value a
 abbrev pub is_placed_by : Words → List Symbol → List Function → (earlier : Bool) → Reloc → Bool
 is_placed_by t symbols functions earlier reloc =
     (not (is_of_text reloc.area) || sits_by t functions earlier reloc)
-    && names_well t (symbol_of symbols reloc) reloc.addend
+    && names_well t (named_symbol symbols reloc) reloc.addend
 
 -- a relocation after those before it
 abbrev pub is_placed : Words → List Symbol → List Function → (earlier : List Reloc) → Option Reloc → Bool
@@ -66,7 +68,7 @@ is_placed t symbols functions earlier None = true
 is_placed t symbols functions earlier (Some reloc) =
     is_placed_by t symbols functions (list_any (is_on t (item_of t (reloc.offset / 4))) earlier) reloc
 
--- relocation k is misplaced
-abbrev pub is_misplaced : Words → List Symbol → List Function → List Reloc → (k : ℕ) → Bool
-is_misplaced t symbols functions relocs k =
+-- relocation k is out of its place
+abbrev pub is_out_of_place : Words → List Symbol → List Function → List Reloc → (k : ℕ) → Bool
+is_out_of_place t symbols functions relocs k =
     not (is_placed t symbols functions (take k relocs) (slice_get relocs k))
