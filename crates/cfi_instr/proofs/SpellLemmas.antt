@@ -19,7 +19,7 @@ use Rattle.cfi_items.specs.inner.Insns.{is_trap}
 use Rattle.cfi_items.specs.Items.{is_inner, is_pair, is_item, is_indirect}
 use Rattle.cfi_items.specs.Target.{aim_of_jump}
 use Rattle.cfi_items.specs.Jumps.{ordinal_of}
-use Rattle.cfi_items.specs.inner.Rows.{PassesWords}
+use Rattle.cfi_items.proofs.RowTests.{PassesWords}
 use Rattle.cfi_instr.specs.declared.sizes.TheConstants.{MAX_WORDS}
 use Rattle.cfi_instr.specs.Sizes.{is_long, size_by, size_at, words_before, offsets_of, AreSmall}
 use Rattle.cfi_instr.specs.Reach.{target_of, is_near, insn_reaches, IsEnough}

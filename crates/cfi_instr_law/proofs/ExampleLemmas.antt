@@ -11,8 +11,7 @@ use Rattle.cfi_unit.specs.declared.unit.Unit.TheVariants as units
 use Rattle.cfi_aux.specs.Format.{is_func}
 use Rattle.cfi_items.specs.Words.{Words, words_by, read_words}
 use Rattle.cfi_items.specs.Fault.{input_by, IsInstrumentable}
-use Rattle.cfi_items.specs.inner.Rows.{PassesAll}
-use Rattle.cfi_items.proofs.RowTests.{instrumentable}
+use Rattle.cfi_items.proofs.RowTests.{PassesAll, instrumentable}
 use Rattle.cfi_instr.specs.Sizes.{size_at, is_long}
 use Rattle.cfi_instr.specs.Reach.{IsEnough, IsLeast}
 use Rattle.cfi_instr.specs.Units.{units_at}

@@ -13,7 +13,7 @@ use Rattle.cfi_items.specs.Items.{is_inner, item_of}
 use Rattle.cfi_items.specs.Target.{named_symbol}
 use Rattle.cfi_items.specs.inner.Functions.{is_covered}
 use Rattle.cfi_items.specs.Fault.{input_of}
-use Rattle.cfi_items.specs.inner.Rows.{PassesAll}
+use Rattle.cfi_items.proofs.RowTests.{PassesAll}
 use Rattle.cfi_instr.specs.Sizes.{size_at, words_before, offsets_of}
 use Rattle.cfi_instr.specs.Moves.{is_of_long, addend_by, offset_in, moved_by, moved_reloc}
 use Rattle.cfi_instr.proofs.SizeLemmas.{total-grows}

@@ -17,8 +17,7 @@ use Rattle.cfi_items.specs.Words.{Words, read_words, count_of}
 use Rattle.cfi_items.specs.Items.{is_inner}
 use Rattle.cfi_items.specs.inner.Functions.{is_covered}
 use Rattle.cfi_items.specs.Fault.{input_of}
-use Rattle.cfi_items.specs.inner.Rows.{PassesAll}
-use Rattle.cfi_items.proofs.RowTests.{passes}
+use Rattle.cfi_items.proofs.RowTests.{PassesAll, passes}
 use Rattle.cfi_instr.specs.Sizes.{words_before, offsets_of}
 use Rattle.cfi_instr.specs.Units.{units_of}
 use Rattle.cfi_instr.specs.Moves.{moved_function, moved_kind, moved_reloc}

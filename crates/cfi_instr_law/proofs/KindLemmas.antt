@@ -14,7 +14,8 @@ use Rattle.cfi_items.specs.Words.{Words, insn_at, read_words, count_of}
 use Rattle.cfi_items.specs.Insns.{holds, is_linked}
 use Rattle.cfi_items.specs.Items.{is_indirect}
 use Rattle.cfi_items.specs.Jumps.{ordinal_of}
-use Rattle.cfi_items.specs.inner.Jumps.{is_call, same, has_fitting_kind, has_rest, lacks_kind_by}
+use Rattle.cfi_items.specs.inner.Jumps.{is_call, same, has_fitting_kind, lacks_kind_by}
+use Rattle.cfi_items.proofs.JumpLemmas.{has_rest}
 use Rattle.cfi_instr.specs.Sizes.{offsets_of}
 use Rattle.cfi_instr.specs.Moves.{moved_kind}
 use Rattle.cfi_verify.specs.Branches.{IsKindOf, IsRecordOf, KindFits}

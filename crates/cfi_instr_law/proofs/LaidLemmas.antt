@@ -19,7 +19,7 @@ use Rattle.cfi_aux.specs.declared.modules.Module.{Module}
 use Rattle.cfi_aux.specs.declared.placed.Placed.{Placed}
 use Rattle.cfi_items.specs.Words.{Words, is_of_text, read_words, count_of}
 use Rattle.cfi_items.specs.Fault.{input_of}
-use Rattle.cfi_items.specs.inner.Rows.{PassesAll}
+use Rattle.cfi_items.proofs.RowTests.{PassesAll}
 use Rattle.cfi_instr.specs.Sizes.{offsets_of}
 use Rattle.cfi_instr.specs.Units.{units_of}
 use Rattle.cfi_instr.specs.Moves.{is_of_long, addend_by, moved_by, moved_reloc}

@@ -1,7 +1,7 @@
 -- What the tests of functions decide.
 use Rattle.std.proofs.Common.{◌≡◌, ◌≢◌, ℕ, ◌+◌, ◌-◌, ◌*◌, ◌/◌, ◌%◌, ◌<◌, ◌≤◌, ◌∙◌, ◌&&◌, not, Bool, true, false, eqb, ltb, leb, pos, List, length, get_or, Option, Some, None, refl, ap, sym, subst, inl, inr, ⊎_elim, arith}
-use Rattle.std.specs.List.{Contains, list_any, slice_get, range_with_len}
-use Rattle.std.proofs.lemmas.Bool.{cases_Bool, both_ways, true≢false, false≢true, and_parts, and_from, and_cases, and_left, or_cases, or_left, or_right, not-true, not-false, not_from_true, not_from_false, false_from_ne_true, eqb-true, eqb-false, eq-eqb, ne_eqb, ltb-true, lt-ltb, leb-true, le-leb}
+use Rattle.std.specs.List.{list_any, range_with_len}
+use Rattle.std.proofs.lemmas.Bool.{cases_Bool, both_ways, false≢true, and_parts, and_from, and_cases, and_left, or_cases, or_left, or_right, not-true, not-false, not_from_true, not_from_false, false_from_ne_true, eqb-true, eqb-false, eq-eqb, ne_eqb, ltb-true, lt-ltb, leb-true, le-leb}
 use Rattle.std.proofs.lemmas.List.Folds.{list_any_at}
 use Rattle.std.proofs.lemmas.List.FromFn.{length-range_with_len, get_or-range_with_len}
 use Rattle.std.proofs.lemmas.Option.{slice_get_past}
@@ -16,7 +16,7 @@ use Rattle.cfi_items.specs.Items.{is_item, BeginsItem, IsItemBound}
 use Rattle.cfi_items.specs.Functions.{IsOwnItem, byte_end_before, IsPadding, IsWellFormed, IsFormedBehind, EndsInPadding, EndsInJump}
 use Rattle.cfi_items.specs.inner.Insns.{is_nop}
 use Rattle.cfi_items.specs.inner.Items.{is_item_at, is_bound_at}
-use Rattle.cfi_items.specs.inner.Functions.{covers, is_covered, are_together, is_entry, is_own_item, is_code, has_code, is_well_formed, is_formed_at, is_malformed, runs_off, runs_off_at, falls_through}
+use Rattle.cfi_items.specs.inner.Functions.{covers, is_covered, are_together, is_entry, is_own_item, is_code, has_code, is_well_formed, is_formed_at, is_malformed, runs_off_at, falls_through}
 use Rattle.cfi_items.proofs.DecideLemmas.{Decides, some-from, from-some}
 use Rattle.cfi_items.proofs.WordTests.{holds-nop}
 

@@ -1,12 +1,26 @@
 -- Indirect jumps and their numbers.
-use Rattle.std.proofs.Common.{◌≡◌, ◌≢◌, ℕ, ◌+◌, ◌<◌, Bool, true, false, cond, List, length, eqb, sym, ap, ◌∙◌, add-one, arith}
+use Rattle.std.proofs.Common.{◌≡◌, ◌≢◌, ℕ, ◌+◌, ◌<◌, Bool, true, false, cond, List, length, eqb, ltb, sym, ap, ◌∙◌, add-one, arith}
 use Rattle.std.proofs.lemmas.Bool.{eq-eqb, ne_eqb, lt-ltb}
 use Rattle.elf_read.specs.Places.{IsFirst, IsNone}
+use Rattle.cfi_aux.specs.declared.records.Function.{Function}
 use Rattle.cfi_aux.specs.declared.records.Kind.{Kind}
 use Rattle.cfi_items.specs.Words.{Words, count_of}
 use Rattle.cfi_items.specs.Items.{is_indirect}
 use Rattle.cfi_items.specs.Jumps.{ordinal_of}
-use Rattle.cfi_items.specs.inner.Jumps.{lacks_kind_by, lacks_kind}
+use Rattle.cfi_items.specs.inner.Jumps.{lacks_kind_by, has_bad_switch_by}
+
+-- records are left over after so many
+abbrev pub has_rest : List Kind → (number : ℕ) → Bool
+has_rest branches number = ltb number (length branches)
+
+-- the indirect jump at the word has no fitting record; at the text's end records are left over
+abbrev pub lacks_kind : Words → List Kind → (w : ℕ) → Bool
+lacks_kind t branches w =
+    cond (eqb w (count_of t)) (has_rest branches (ordinal_of t w)) (lacks_kind_by t branches w (ordinal_of t w))
+
+-- the record of the indirect jump at the word has an entry that is no item of the jump's function
+abbrev pub has_bad_switch : Words → List Function → List Kind → (w : ℕ) → Bool
+has_bad_switch t functions branches w = has_bad_switch_by t functions branches w (ordinal_of t w)
 
 -- one word more
 pub ordinal-more : (t : Words) (w : ℕ) (here : Bool) → here ≡ is_indirect t w

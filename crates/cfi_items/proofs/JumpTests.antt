@@ -1,7 +1,7 @@
 -- What the tests of indirect jumps and their records decide.
-use Rattle.std.proofs.Common.{◌≡◌, ◌≢◌, ℕ, ◌*◌, ◌<◌, ◌≤◌, ◌∙◌, ◌&&◌, not, Bool, true, false, eqb, ltb, List, length, get_or, All, Option, Some, None, refl, ap, sym, subst, inl, inr, ⊎_elim, arith}
-use Rattle.std.specs.List.{list_any, slice_get}
-use Rattle.std.proofs.lemmas.Bool.{cases_Bool, both_ways, true≢false, false≢true, and_cases, and_left, and_right, not-false, not_from_true, not_from_false, true_from_ne_false, ne_eqb, eq-eqb, ltb-false, lt-ltb, false_from_ne_true, ltb-true}
+use Rattle.std.proofs.Common.{◌≡◌, ℕ, ◌*◌, ◌<◌, ◌∙◌, ◌&&◌, not, Bool, true, false, eqb, ltb, List, length, get_or, All, Option, Some, None, refl, sym, subst, inl, inr, ⊎_elim, arith}
+use Rattle.std.specs.List.{slice_get}
+use Rattle.std.proofs.lemmas.Bool.{cases_Bool, both_ways, false≢true, and_cases, and_left, and_right, not-false, not_from_true, not_from_false, true_from_ne_false, ne_eqb, eq-eqb, ltb-false, false_from_ne_true, ltb-true}
 use Rattle.std.proofs.lemmas.List.Folds.{list_any_at, list_any_none}
 use Rattle.std.proofs.lemmas.Option.{slice_get_within}
 use Rattle.rv_insn.specs.declared.insn.Insn.{Insn}
@@ -12,12 +12,13 @@ use Rattle.cfi_items.specs.Words.{Words, insn_at, count_of}
 use Rattle.cfi_items.specs.Insns.{holds, is_linked}
 use Rattle.cfi_items.specs.Items.{is_indirect}
 use Rattle.cfi_items.specs.Functions.{IsOwnItem}
-use Rattle.cfi_items.specs.Jumps.{ordinal_of, LinksAs, LinksAsIn, HasRecord, AreUsed, AreOwnItems, AreOwnItemsIn, SwitchFits}
+use Rattle.cfi_items.specs.Jumps.{ordinal_of, LinksAsIn, HasRecord, AreUsed, AreOwnItemsIn, SwitchFits}
 use Rattle.cfi_items.specs.inner.Functions.{is_own_item}
-use Rattle.cfi_items.specs.inner.Jumps.{is_call, same, has_fitting_kind, lacks_kind_by, has_rest, lacks_kind, lead_out, switches_astray, switches_astray_by, has_bad_switch}
+use Rattle.cfi_items.specs.inner.Jumps.{has_fitting_kind, lead_out, switches_astray_by}
 use Rattle.cfi_items.proofs.DecideLemmas.{Decides}
 use Rattle.cfi_items.proofs.WordTests.{at-word}
 use Rattle.cfi_items.proofs.FunctionTests.{own-holds, own-clear}
+use Rattle.cfi_items.proofs.JumpLemmas.{has_rest, lacks_kind, has_bad_switch}
 
 -- ---- records
 

@@ -1,7 +1,7 @@
 -- What the tests of relocations decide.
-use Rattle.std.proofs.Common.{◌≡◌, ◌⊎◌, ℕ, ℤ, ◌+◌, ◌*◌, ◌/◌, ◌<◌, ◌≤◌, ◌∙◌, ◌&&◌, ◌||◌, not, Bool, true, false, eqb, ltb, List, length, take, get_or, Option, Some, None, refl, ap, sym, subst, inl, inr, ⊎_elim, arith}
-use Rattle.std.specs.List.{Contains, list_any, slice_get}
-use Rattle.std.proofs.lemmas.Bool.{cases_Bool, both_ways, true≢false, false≢true, and_parts, and_from, or_cases, or_left, or_right, not-true, not-false, not_from_true, not_from_false, false_from_ne_true, eqb-true, eq-eqb, ltb-true, lt-ltb}
+use Rattle.std.proofs.Common.{◌≡◌, ◌⊎◌, ℕ, ℤ, ◌*◌, ◌/◌, ◌<◌, ◌≤◌, ◌∙◌, ◌&&◌, ◌||◌, not, Bool, true, false, eqb, ltb, List, take, Option, Some, None, refl, ap, sym, subst, inl, inr, ⊎_elim, arith}
+use Rattle.std.specs.List.{list_any}
+use Rattle.std.proofs.lemmas.Bool.{cases_Bool, both_ways, false≢true, and_parts, and_from, or_cases, not-true, not-false, not_from_true, not_from_false, false_from_ne_true, eqb-true, eq-eqb, lt-ltb}
 use Rattle.elf_read.specs.declared.object.Symbol.{Symbol}
 use Rattle.elf_read.specs.declared.object.Reloc.{Reloc}
 use Rattle.elf_read.specs.declared.object.Area.{Area}
@@ -15,19 +15,18 @@ use Rattle.rv_insn.specs.declared.insn.Insn.TheVariants as insns
 use Rattle.rv_insn.specs.declared.insn.ImmOp.{ImmOp}
 use Rattle.rv_insn.specs.declared.insn.ImmOp.TheVariants as ops
 use Rattle.cfi_aux.specs.declared.records.Function.{Function}
-use Rattle.cfi_aux.specs.Extent.{IsCovered}
 use Rattle.cfi_items.specs.Words.{Words, insn_at, is_of_text, count_of}
 use Rattle.cfi_items.specs.Insns.{holds, is_auipc, is_branch}
 use Rattle.cfi_items.specs.Items.{is_inner, is_pair, item_of, IsItemBound}
 use Rattle.cfi_items.specs.Target.{offset_from, named_symbol}
-use Rattle.cfi_items.specs.Relocs.{IsLowOfI, IsLowOfS, HasFieldOf, FitsAs, FitsOn, SharesItem, SitsOnItem, NamesWell, IsRelocPlaced, IsPlacedBehind}
+use Rattle.cfi_items.specs.Relocs.{IsLowOfI, IsLowOfS, HasFieldOf, FitsAs, FitsOn, SharesItem, SitsOnItem, NamesWell, IsRelocPlaced, IsRelocPlacedBehind}
 use Rattle.cfi_items.specs.inner.Insns.{is_lui, is_jal, is_store, has_low}
-use Rattle.cfi_items.specs.inner.Items.{is_bound_at}
 use Rattle.cfi_items.specs.inner.Functions.{is_covered}
-use Rattle.cfi_items.specs.inner.Misplaced.{has_form, fits_on, is_on, sits_by, is_bound, leads_to_bound, names_well, is_placed_by, is_placed, is_out_of_place}
+use Rattle.cfi_items.specs.inner.Misplaced.{has_form, fits_on, is_on, sits_by, is_bound, leads_to_bound, names_well}
 use Rattle.cfi_items.proofs.DecideLemmas.{Decides, some-from, from-some}
 use Rattle.cfi_items.proofs.WordTests.{holds-within, addi-is}
 use Rattle.cfi_items.proofs.FunctionTests.{bound-holds, bound-clear, covered-holds, covered-clear}
+use Rattle.cfi_items.proofs.RelocLemmas.{is_placed, is_out_of_place}
 
 -- ---- fields
 
@@ -269,7 +268,7 @@ module _ (t : Words) (symbols : List Symbol) (functions : List Function) where
       (named-clear t (named_symbol symbols reloc) reloc.addend good.names)
 
   pub placed : (relocs : List Reloc)
-      → Decides relocs (is_out_of_place t symbols functions relocs) (IsPlacedBehind t symbols functions relocs)
+      → Decides relocs (is_out_of_place t symbols functions relocs) (IsRelocPlacedBehind t symbols functions relocs)
   placed relocs = record {
     holds = λ k reloc is h.
         placed-holds (take k relocs) reloc

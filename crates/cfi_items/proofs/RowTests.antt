@@ -1,30 +1,55 @@
 -- What the tests of the rows decide: which modules can be instrumented, and the first fault of one that can not.
-use Rattle.std.proofs.Common.{◌≡◌, ℕ, ◌+◌, ◌*◌, ◌<◌, ◌≤◌, ◌∙◌, Bool, true, false, List, length, Option, refl, ap, sym, subst, inl, inr, ⊎_elim, arith}
+use Rattle.std.proofs.Common.{◌≡◌, ℕ, ◌+◌, ◌*◌, ◌<◌, ◌≤◌, ◌∙◌, Bool, false, List, length, Option, refl, ap, sym, inl, inr, ⊎_elim, arith}
 use Rattle.std.proofs.lemmas.Bool.{both_ways, cases_lt}
 use Rattle.elf_read.specs.Places.{IsFirst, IsNone}
 use Rattle.elf_read.specs.Lists.{own_number}
 use Rattle.rv_insn.specs.declared.insn.Insn.{Insn}
-use Rattle.cfi_items.specs.declared.fault.InstrFault.{InstrFault}
-use Rattle.cfi_items.specs.declared.fault.InstrFault.TheVariants as faults
+use Rattle.cfi_aux.specs.declared.records.Function.{Function}
+use Rattle.cfi_aux.specs.declared.records.Kind.{Kind}
 use Rattle.cfi_items.specs.Words.{Words, count_of}
 use Rattle.cfi_items.specs.Insns.{OfInsn, IsInsn, NamesFree, IsNoTrap, LinksWell}
-use Rattle.cfi_items.specs.Functions.{IsFormedBehind, EndsInJump}
-use Rattle.cfi_items.specs.Relocs.{IsPlacedBehind}
+use Rattle.cfi_items.specs.Functions.{IsFormedBehind}
+use Rattle.cfi_items.specs.Relocs.{IsRelocPlacedBehind}
 use Rattle.cfi_items.specs.Leads.{WordLeadsWell}
-use Rattle.cfi_items.specs.Jumps.{ordinal_of, HasRecord, SwitchFits}
-use Rattle.cfi_items.specs.Fault.{Input, HasGoodWords, HasGoodShape, HasGoodJumps, IsInstrumentable, word_place, jump_number, IsFirstWord, IsFirstMalformed, IsFirstBare, IsFirstFlaw}
+use Rattle.cfi_items.specs.Jumps.{HasRecord, SwitchFits}
+use Rattle.cfi_items.specs.Fault.{Input, HasGoodWords, HasGoodShape, HasGoodJumps, IsInstrumentable, word_place, IsFirstWord, IsFirstMalformed, IsFirstBare}
 use Rattle.cfi_items.specs.inner.Flaws.{is_illegal_at, is_reserved_at, is_trap_at, is_bad_link_at}
-use Rattle.cfi_items.specs.inner.Misplaced.{is_out_of_place}
 use Rattle.cfi_items.specs.inner.Functions.{is_malformed, falls_through}
 use Rattle.cfi_items.specs.inner.Stray.{is_stray}
-use Rattle.cfi_items.specs.inner.Jumps.{lacks_kind, has_bad_switch}
-use Rattle.cfi_items.specs.inner.Rows.{IsFirstAt, PassesWords, PassesShape, PassesJumps, PassesAll, FailsFirst}
 use Rattle.cfi_items.proofs.DecideLemmas.{Decides, each-from, none-from, break-from}
 use Rattle.cfi_items.proofs.WordTests.{legal, free, quiet, linked}
 use Rattle.cfi_items.proofs.FunctionTests.{formed, end-holds, end-clear, ends}
 use Rattle.cfi_items.proofs.LeadTests.{targets}
 use Rattle.cfi_items.proofs.JumpTests.{records, used-holds, used-clear, switches}
 use Rattle.cfi_items.proofs.RelocTests.{placed}
+use Rattle.cfi_items.proofs.RelocLemmas.{is_out_of_place}
+use Rattle.cfi_items.proofs.JumpLemmas.{lacks_kind, has_bad_switch}
+
+-- ---- inputs that pass the tests of some rows
+
+pub record PassesWords (t : Words) : Type 0 where
+  pub legal : IsNone (is_illegal_at t) (count_of t)
+  pub free : IsNone (is_reserved_at t) (count_of t)
+  pub quiet : IsNone (is_trap_at t) (count_of t)
+  pub linked : IsNone (is_bad_link_at t) (count_of t)
+
+-- and those of relocations and functions
+pub record PassesShape (p : Input) : Type 0 where
+  pub words : PassesWords p.words
+  pub relocs : IsNone (is_out_of_place p.words p.symbols p.functions p.relocs) (length p.relocs)
+  pub functions : IsNone (is_malformed p.words p.functions) (length p.functions + 1)
+
+-- and those of jumps and their records
+pub record PassesJumps (p : Input) : Type 0 where
+  pub shaped : PassesShape p
+  pub stray : IsNone (is_stray p.words p.symbols p.functions) (count_of p.words)
+  pub kinds : IsNone (lacks_kind p.words p.branches) (count_of p.words + 1)
+
+-- and all others
+pub record PassesAll (p : Input) : Type 0 where
+  pub linked : PassesJumps p
+  pub switches : IsNone (has_bad_switch p.words p.functions p.branches) (count_of p.words)
+  pub ends : IsNone (falls_through p.words p.functions) (length p.functions)
 
 -- a row of one place more, after those of a list
 none-more : (test : ℕ → Bool) (n : ℕ) → IsNone test n → test n ≡ false → IsNone test (n + 1)
@@ -54,10 +79,11 @@ module _ (t : Words) where
     linked = none-from t.insns (is_bad_link_at t) (OfInsn LinksWell) (linked t) g.linked;
   }
 
-  word-from : (test : ℕ → Bool) (P : ℕ → Option Insn → Type 0) → Decides t.insns test P → (o : ℕ)
-      → IsFirstAt test (count_of t) o → IsFirstWord t P o
-  word-from test P d o first =
-      break-from t.insns test P d word_place first.0 o first.1.within first.1.here first.1.before (λ x. first.2)
+  -- the first word that passes a test is the first of which what it decides does not hold
+  pub word-from : (test : ℕ → Bool) (P : ℕ → Option Insn → Type 0) → Decides t.insns test P → (w : ℕ)
+      → IsFirst test (count_of t) w → IsFirstWord t P (4 * w)
+  word-from test P d w first =
+      break-from t.insns test P d word_place w (4 * w) first.within first.here first.before (λ x. refl)
 
 -- ---- the whole input
 
@@ -65,20 +91,20 @@ module _ (p : Input) where
   abbrev t : Words
   t = p.words
 
-  abbrev places_well : Decides p.relocs (is_out_of_place t p.symbols p.functions p.relocs)
-      (IsPlacedBehind t p.symbols p.functions p.relocs)
+  abbrev pub places_well : Decides p.relocs (is_out_of_place t p.symbols p.functions p.relocs)
+      (IsRelocPlacedBehind t p.symbols p.functions p.relocs)
   places_well = placed t p.symbols p.functions p.relocs
 
-  abbrev forms_well : Decides p.functions (is_malformed t p.functions) (IsFormedBehind t p.functions)
+  abbrev pub forms_well : Decides p.functions (is_malformed t p.functions) (IsFormedBehind t p.functions)
   forms_well = formed t p.functions
 
-  abbrev leads_well : Decides t.insns (is_stray t p.symbols p.functions) (WordLeadsWell t p.symbols p.functions)
+  abbrev pub leads_well : Decides t.insns (is_stray t p.symbols p.functions) (WordLeadsWell t p.symbols p.functions)
   leads_well = targets t p.symbols p.functions
 
-  abbrev has_record : Decides t.insns (lacks_kind t p.branches) (HasRecord t p.branches)
+  abbrev pub has_record : Decides t.insns (lacks_kind t p.branches) (HasRecord t p.branches)
   has_record = records t p.branches
 
-  abbrev switch_fits : Decides t.insns (has_bad_switch t p.functions p.branches) (SwitchFits t p.functions p.branches)
+  abbrev pub switch_fits : Decides t.insns (has_bad_switch t p.functions p.branches) (SwitchFits t p.functions p.branches)
   switch_fits = switches t p.functions p.branches
 
   shape-good : PassesShape p → HasGoodShape p
@@ -128,82 +154,36 @@ module _ (p : Input) where
     ends = none-from p.functions _ _ (ends t p.functions) i.ends;
   }
 
-  -- ---- the first fault
+-- ---- the first that fails
 
-  malformed-first : (k : ℕ) → IsFirst (is_malformed t p.functions) (length p.functions + 1) k → IsFirstMalformed p k
-  malformed-first k first =
+module _ (t : Words) where
+  pub malformed-first : (functions : List Function) (k : ℕ)
+      → IsFirst (is_malformed t functions) (length functions + 1) k → IsFirstMalformed t functions k
+  malformed-first functions k first =
       ⊎_elim
-      (λ (inside : k < length p.functions).
-      inl (break-from p.functions _ _ forms_well own_number k k inside first.here first.before (λ x. refl)))
-      (λ (past : length p.functions ≤ k).
-      let last : k ≡ length p.functions = omega (arith, past, first.within) in
+      (λ (inside : k < length functions).
+      inl (break-from functions _ _ (formed t functions) own_number k k inside first.here first.before (λ x. refl)))
+      (λ (past : length functions ≤ k).
+      let last : k ≡ length functions = omega (arith, past, first.within) in
       inr (
         last,
-        each-from p.functions _ _ forms_well (λ j less. first.before j (omega (arith, less, last))),
-        λ pad. both_ways _ (end-clear t p.functions pad) (ap (is_malformed t p.functions) (sym last) ∙ first.here),
+        each-from functions _ _ (formed t functions) (λ j less. first.before j (omega (arith, less, last))),
+        λ pad. both_ways _ (end-clear t functions pad) (ap (is_malformed t functions) (sym last) ∙ first.here),
       ))
-      (cases_lt k (length p.functions))
+      (cases_lt k (length functions))
 
-  bare-first : (o : ℕ) → IsFirstAt (lacks_kind t p.branches) (count_of t + 1) o → IsFirstBare p o
-  bare-first o at =
-      let w : ℕ = at.0 in
-      let first = at.1 in
+  pub bare-first : (branches : List Kind) (w : ℕ) → IsFirst (lacks_kind t branches) (count_of t + 1) w
+      → IsFirstBare t branches (4 * w)
+  bare-first branches w first =
       ⊎_elim
       (λ (inside : w < count_of t).
-      inl (break-from t.insns _ _ has_record word_place w o inside first.here first.before (λ x. at.2)))
+      inl
+      (break-from t.insns _ _ (records t branches) word_place w (4 * w) inside first.here first.before (λ x. refl)))
       (λ (past : count_of t ≤ w).
       let last : w ≡ count_of t = omega (arith, past, first.within) in
       inr (
-        at.2 ∙ ap (λ (n : ℕ). 4 * n) last,
-        each-from t.insns _ _ has_record (λ j less. first.before j (omega (arith, less, last))),
-        λ used. both_ways _ (used-clear t p.branches used) (ap (lacks_kind t p.branches) (sym last) ∙ first.here),
+        ap (λ (n : ℕ). 4 * n) last,
+        each-from t.insns _ _ (records t branches) (λ j less. first.before j (omega (arith, less, last))),
+        λ used. both_ways _ (used-clear t branches used) (ap (lacks_kind t branches) (sym last) ∙ first.here),
       ))
       (cases_lt w (count_of t))
-
-  pub first-flaw : (fault : InstrFault) → FailsFirst p fault → IsFirstFlaw p fault
-  first-flaw (faults.Illegal o) f = word-from t (is_illegal_at t) IsInsn (legal t) o f
-  first-flaw (faults.Reserved o) f = (
-    each-from t.insns _ _ (legal t) f.0,
-    word-from t (is_reserved_at t) (OfInsn NamesFree) (free t) o f.1,
-  )
-  first-flaw (faults.Trap o) f = (
-    each-from t.insns _ _ (legal t) f.0,
-    each-from t.insns _ _ (free t) f.1,
-    word-from t (is_trap_at t) (OfInsn IsNoTrap) (quiet t) o f.2,
-  )
-  first-flaw (faults.BadLink o) f = (
-    each-from t.insns _ _ (legal t) f.0,
-    each-from t.insns _ _ (free t) f.1,
-    each-from t.insns _ _ (quiet t) f.2,
-    word-from t (is_bad_link_at t) (OfInsn LinksWell) (linked t) o f.3,
-  )
-  first-flaw (faults.BadReloc k) f = (
-    words-good t f.0,
-    break-from p.relocs _ _ places_well own_number k k f.1.within f.1.here f.1.before (λ x. refl),
-  )
-  first-flaw (faults.Function k) f = (
-    words-good t f.0,
-    each-from p.relocs _ _ places_well f.1,
-    malformed-first k f.2,
-  )
-  first-flaw (faults.Stray o) f = (
-    shape-good f.0,
-    word-from t (is_stray t p.symbols p.functions) (WordLeadsWell t p.symbols p.functions) leads_well o f.1,
-  )
-  first-flaw (faults.NoKind o) f = (
-    shape-good f.0,
-    each-from t.insns _ _ leads_well f.1,
-    bare-first o f.2,
-  )
-  first-flaw (faults.Switch k) f =
-      let first = f.1.1 in (
-        jumps-good f.0,
-        break-from t.insns _ _ switch_fits (jump_number t) f.1.0 k first.within first.here first.before (λ x. f.1.2),
-      )
-  first-flaw (faults.FallsThrough k) f = (
-    jumps-good f.0,
-    each-from t.insns _ _ switch_fits f.1,
-    break-from p.functions _ _ (ends t p.functions) own_number k k f.2.within f.2.here f.2.before (λ x. refl),
-  )
-  first-flaw faults.TooLong f = absurd f
-  first-flaw faults.Memory f = tt

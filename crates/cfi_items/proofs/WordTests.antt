@@ -1,5 +1,5 @@
 -- What the tests of words decide.
-use Rattle.std.proofs.Common.{◌≡◌, ◌⊎◌, ◌≢◌, ℕ, ◌<◌, ◌≤◌, ℤ, pos, negsuc, ◌∙◌, not, ◌||◌, Bool, true, false, eqb, List, Option, Some, None, refl, ap, sym, ⊎_elim, inl, inr}
+use Rattle.std.proofs.Common.{◌≡◌, ◌⊎◌, ℕ, ◌<◌, ◌≤◌, ℤ, pos, negsuc, ◌∙◌, not, ◌||◌, Bool, true, false, eqb, Option, Some, None, refl, ap, sym, ⊎_elim, inl, inr}
 use Rattle.std.specs.List.{slice_get}
 use Rattle.std.specs.Option.{is_none}
 use Rattle.std.proofs.lemmas.Bool.{cases_lt, true≢false, false≢true, and_parts, or_cases, or_left, or_right, not-false, not_from_true, eqb-true, eq-eqb}

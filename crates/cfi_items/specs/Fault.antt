@@ -1,7 +1,7 @@
 -- Which modules can be instrumented but for the length of the output, and the first fault of one that can not: a row
 -- is looked at after those before it, and within a row the least place decides. Places of words are in bytes from the
 -- text's start; relocations, functions and indirect jumps go by their numbers, from 0.
-use Rattle.std.specs.Prelude.{◌≡◌, ◌⊎◌, ℕ, ◌*◌, ◌<◌, List, length, Option, ⊤}
+use Rattle.std.specs.Prelude.{◌≡◌, ◌⊎◌, ℕ, ◌*◌, List, length, Option, ⊤}
 use Rattle.elf_read.specs.Lists.{Each, IsFirstBreak, own_number}
 use Rattle.elf_read.specs.declared.object.Symbol.{Symbol}
 use Rattle.elf_read.specs.declared.object.Reloc.{Reloc}
@@ -14,7 +14,7 @@ use Rattle.cfi_items.specs.declared.fault.InstrFault.TheVariants as faults
 use Rattle.cfi_items.specs.Words.{Words, read_words, count_of}
 use Rattle.cfi_items.specs.Insns.{OfInsn, IsInsn, NamesFree, IsNoTrap, LinksWell}
 use Rattle.cfi_items.specs.Functions.{IsFormedBehind, EndsInPadding, EndsInJump}
-use Rattle.cfi_items.specs.Relocs.{IsPlacedBehind}
+use Rattle.cfi_items.specs.Relocs.{IsRelocPlacedBehind}
 use Rattle.cfi_items.specs.Leads.{WordLeadsWell}
 use Rattle.cfi_items.specs.Jumps.{ordinal_of, HasRecord, AreUsed, SwitchFits}
 
@@ -49,7 +49,7 @@ pub record HasGoodWords (t : Words) : Type 0 where
 
 -- relocations are well placed, each after those before it
 abbrev pub HasGoodRelocs : Input → Type 0
-HasGoodRelocs p = Each p.relocs (IsPlacedBehind p.words p.symbols p.functions p.relocs)
+HasGoodRelocs p = Each p.relocs (IsRelocPlacedBehind p.words p.symbols p.functions p.relocs)
 
 -- functions are well formed, each behind the one before
 abbrev pub HasGoodFunctions : Input → Type 0
@@ -108,26 +108,26 @@ IsFirstBadLink t o = Each t.insns IsInsn × Each t.insns (OfInsn NamesFree) × E
 
 abbrev pub IsFirstBadReloc : Input → (k : ℕ) → Type 0
 IsFirstBadReloc p k = HasGoodWords p.words
-    × IsFirstBreak p.relocs own_number (IsPlacedBehind p.words p.symbols p.functions p.relocs) k
+    × IsFirstBreak p.relocs own_number (IsRelocPlacedBehind p.words p.symbols p.functions p.relocs) k
 
 -- the first function that is malformed; their number where none is, and the rest of the text is no padding
-abbrev pub IsFirstMalformed : Input → (k : ℕ) → Type 0
-IsFirstMalformed p k = IsFirstBreak p.functions own_number (IsFormedBehind p.words p.functions) k
-    ⊎ ((k ≡ length p.functions) × HasGoodFunctions p × ¬ EndsInPadding p.words p.functions)
+abbrev pub IsFirstMalformed : Words → List Function → (k : ℕ) → Type 0
+IsFirstMalformed t functions k = IsFirstBreak functions own_number (IsFormedBehind t functions) k
+    ⊎ ((k ≡ length functions) × Each functions (IsFormedBehind t functions) × ¬ EndsInPadding t functions)
 
 abbrev pub IsFirstBadFunction : Input → (k : ℕ) → Type 0
-IsFirstBadFunction p k = HasGoodWords p.words × HasGoodRelocs p × IsFirstMalformed p k
+IsFirstBadFunction p k = HasGoodWords p.words × HasGoodRelocs p × IsFirstMalformed p.words p.functions k
 
-abbrev pub IsFirstStray : Input → (offset : ℕ) → Type 0
-IsFirstStray p o = HasGoodShape p × IsFirstWord p.words (WordLeadsWell p.words p.symbols p.functions) o
+abbrev pub IsFirstLost : Input → (offset : ℕ) → Type 0
+IsFirstLost p o = HasGoodShape p × IsFirstWord p.words (WordLeadsWell p.words p.symbols p.functions) o
 
 -- the first indirect jump without its record; the text's length where each has one, and records are left over
-abbrev pub IsFirstBare : Input → (offset : ℕ) → Type 0
-IsFirstBare p o = IsFirstWord p.words (HasRecord p.words p.branches) o
-    ⊎ ((o ≡ 4 * count_of p.words) × Each p.words.insns (HasRecord p.words p.branches) × ¬ AreUsed p.words p.branches)
+abbrev pub IsFirstBare : Words → List Kind → (offset : ℕ) → Type 0
+IsFirstBare t branches o = IsFirstWord t (HasRecord t branches) o
+    ⊎ ((o ≡ 4 * count_of t) × Each t.insns (HasRecord t branches) × ¬ AreUsed t branches)
 
 abbrev pub IsFirstUnkind : Input → (offset : ℕ) → Type 0
-IsFirstUnkind p o = HasGoodShape p × HasGoodTargets p × IsFirstBare p o
+IsFirstUnkind p o = HasGoodShape p × HasGoodTargets p × IsFirstBare p.words p.branches o
 
 abbrev pub IsFirstBadSwitch : Input → (k : ℕ) → Type 0
 IsFirstBadSwitch p k = HasGoodJumps p
@@ -145,7 +145,7 @@ IsFirstFlaw p (faults.Trap o) = IsFirstTrap p.words o
 IsFirstFlaw p (faults.BadLink o) = IsFirstBadLink p.words o
 IsFirstFlaw p (faults.BadReloc k) = IsFirstBadReloc p k
 IsFirstFlaw p (faults.Function k) = IsFirstBadFunction p k
-IsFirstFlaw p (faults.Stray o) = IsFirstStray p o
+IsFirstFlaw p (faults.Stray o) = IsFirstLost p o
 IsFirstFlaw p (faults.NoKind o) = IsFirstUnkind p o
 IsFirstFlaw p (faults.Switch k) = IsFirstBadSwitch p k
 IsFirstFlaw p (faults.FallsThrough k) = IsFirstFalling p k

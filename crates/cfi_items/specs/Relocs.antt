@@ -1,6 +1,6 @@
 -- Where the relocations of a module may sit, and what they may name (RISC-V ELF psABI, "Relocations", for the field of
 -- each kind). Offsets are in bytes.
-use Rattle.std.specs.Prelude.{◌≡◌, ◌⊎◌, ℕ, ◌*◌, ◌/◌, Bool, true, false, List, take, Option, Some}
+use Rattle.std.specs.Prelude.{◌≡◌, ◌⊎◌, ℕ, ◌*◌, ◌/◌, Bool, true, false, List, take, Some}
 use Rattle.std.specs.List.{Contains}
 use Rattle.elf_read.specs.declared.object.Symbol.{Symbol}
 use Rattle.elf_read.specs.declared.object.Reloc.{Reloc}
@@ -68,6 +68,6 @@ pub record IsRelocPlaced (t : Words) (symbols : List Symbol) (functions : List F
   pub names : NamesWell t symbols reloc
 
 -- the relocation of the number is well placed
-abbrev pub IsPlacedBehind : Words → List Symbol → List Function → List Reloc → (number : ℕ) → Reloc → Type 0
-IsPlacedBehind t symbols functions relocs number reloc =
+abbrev pub IsRelocPlacedBehind : Words → List Symbol → List Function → List Reloc → (number : ℕ) → Reloc → Type 0
+IsRelocPlacedBehind t symbols functions relocs number reloc =
     IsRelocPlaced t symbols functions (take number relocs) reloc

@@ -1,6 +1,6 @@
 -- What is read of a module's text: the instruction of each word, and the relocations that sit on it. A word's number
 -- counts from 0; a relocation's offset is in bytes.
-use Rattle.std.specs.Prelude.{ℕ, ◌*◌, ◌/◌, Bool, true, false, not, ◌&&◌, ◌||◌, ◌==◌, List, length, map, find, Option, Some, None, slice_index_or, All, IfSome, if◌then◌else◌}
+use Rattle.std.specs.Prelude.{ℕ, ◌*◌, ◌/◌, Bool, true, false, not, ◌&&◌, ◌||◌, ◌==◌, List, length, map, find, Option, None, slice_index_or, All, IfSome}
 use Rattle.std.specs.List.{range_with_len}
 use Rattle.elf_read.specs.declared.object.Object.{Object}
 use Rattle.elf_read.specs.declared.object.Reloc.{Reloc}

@@ -6,4 +6,3 @@ pub mod Functions
 pub mod Misplaced
 pub mod Stray
 pub mod Jumps
-pub mod Rows

@@ -3,8 +3,7 @@
 ghost use Rattle.std.specs.Prelude.{◌≡◌, ◌*◌, ◌<◌, ◌≤◌, ◌^◌, length, IfOk, OnOk, IfErr};
 ghost use Rattle.cfi_aux.specs.declared.modules.Module.{Module};
 ghost use Rattle.cfi_items.specs.Words.{AreInsnsInRange, read_words, count_of};
-ghost use Rattle.cfi_items.specs.Fault.{input_by, input_of, IsInstrumentable, IsFirstFlaw};
-ghost use Rattle.cfi_items.specs.inner.Rows.{PassesWords, PassesShape, PassesJumps, PassesAll, FailsFirst};
+ghost use Rattle.cfi_items.specs.Fault.{input_by, input_of, HasGoodWords, HasGoodShape, HasGoodJumps, IsInstrumentable, IsFirstFlaw};
 
 use crate::fault::InstrFault;
 use crate::source::{Source, read_source};
@@ -14,8 +13,8 @@ use std::alloc::Global;
 // The words are instructions that a module may have.
 fn check_words(source: &Source) -> Result<(), InstrFault>
     requires { 4 * count_of source.now < 2 ^ 32 }
-    ensures ok { OnOk result (PassesWords source.now) }
-    ensures fault { IfErr result (λ fault. (m : Module) → FailsFirst (input_by source.now m) fault) }
+    ensures ok { OnOk result (HasGoodWords source.now) }
+    ensures fault { IfErr result (λ fault. (m : Module) → IsFirstFlaw (input_by source.now m) fault) }
 {
     if let Some(w) = source.first_illegal() {
         return Err(InstrFault::Illegal(4 * w as u32));
@@ -35,11 +34,11 @@ fn check_words(source: &Source) -> Result<(), InstrFault>
 // The relocations are well placed, and the functions well formed.
 fn check_shape(alloc: Global, source: &Source, unplaced: &Module) -> Result<(), InstrFault>
     requires count { 4 * count_of source.now < 2 ^ 32 }
-    requires legal { PassesWords source.now }
+    requires legal { HasGoodWords source.now }
     requires relocs { length unplaced.now.object.relocs ≤ 2 ^ 32 }
     requires functions { length unplaced.now.records.functions < 2 ^ 32 }
-    ensures ok { OnOk result (PassesShape (input_by source.now unplaced.now)) }
-    ensures fault { IfErr result (FailsFirst (input_by source.now unplaced.now)) }
+    ensures ok { OnOk result (HasGoodShape (input_by source.now unplaced.now)) }
+    ensures fault { IfErr result (IsFirstFlaw (input_by source.now unplaced.now)) }
 {
     let symbols = unplaced.object.symbols.as_slice();
     let functions = unplaced.records.functions.as_slice();
@@ -56,9 +55,9 @@ fn check_shape(alloc: Global, source: &Source, unplaced: &Module) -> Result<(), 
 // The direct jumps lead where they may, and the indirect ones have their records.
 fn check_jumps(source: &Source, unplaced: &Module) -> Result<(), InstrFault>
     requires count { 4 * count_of source.now < 2 ^ 32 }
-    requires shaped { PassesShape (input_by source.now unplaced.now) }
-    ensures ok { OnOk result (PassesJumps (input_by source.now unplaced.now)) }
-    ensures fault { IfErr result (FailsFirst (input_by source.now unplaced.now)) }
+    requires shaped { HasGoodShape (input_by source.now unplaced.now) }
+    ensures ok { OnOk result (HasGoodJumps (input_by source.now unplaced.now)) }
+    ensures fault { IfErr result (IsFirstFlaw (input_by source.now unplaced.now)) }
 {
     let symbols = unplaced.object.symbols.as_slice();
     let functions = unplaced.records.functions.as_slice();
@@ -75,9 +74,9 @@ fn check_jumps(source: &Source, unplaced: &Module) -> Result<(), InstrFault>
 fn check_ends(source: &Source, unplaced: &Module) -> Result<(), InstrFault>
     requires count { 4 * count_of source.now < 2 ^ 32 }
     requires functions { length unplaced.now.records.functions < 2 ^ 32 }
-    requires linked { PassesJumps (input_by source.now unplaced.now) }
-    ensures ok { OnOk result (PassesAll (input_by source.now unplaced.now)) }
-    ensures fault { IfErr result (FailsFirst (input_by source.now unplaced.now)) }
+    requires linked { HasGoodJumps (input_by source.now unplaced.now) }
+    ensures ok { OnOk result (IsInstrumentable (input_by source.now unplaced.now)) }
+    ensures fault { IfErr result (IsFirstFlaw (input_by source.now unplaced.now)) }
 {
     let functions = unplaced.records.functions.as_slice();
     let branches = unplaced.records.branches.as_slice();
@@ -95,8 +94,8 @@ fn check(alloc: Global, source: &Source, unplaced: &Module) -> Result<(), InstrF
     requires count { 4 * count_of source.now < 2 ^ 32 }
     requires relocs { length unplaced.now.object.relocs ≤ 2 ^ 32 }
     requires functions { length unplaced.now.records.functions < 2 ^ 32 }
-    ensures ok { OnOk result (PassesAll (input_by source.now unplaced.now)) }
-    ensures fault { IfErr result (FailsFirst (input_by source.now unplaced.now)) }
+    ensures ok { OnOk result (IsInstrumentable (input_by source.now unplaced.now)) }
+    ensures fault { IfErr result (IsFirstFlaw (input_by source.now unplaced.now)) }
 {
     check_words(source)?;
     check_shape(alloc, source, unplaced)?;

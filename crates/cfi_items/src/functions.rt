@@ -1,11 +1,12 @@
 //! The functions of a module over the items of its text.
 
-ghost use Rattle.std.specs.Prelude.{◌≡◌, ◌+◌, ◌<◌, ◌^◌, length, IfSome, IfNone};
-ghost use Rattle.elf_read.specs.Places.{IsFirst, IsNone};
+ghost use Rattle.std.specs.Prelude.{◌≡◌, ◌+◌, ◌<◌, ◌≤◌, ◌^◌, length, IfSome, IfNone};
+ghost use Rattle.elf_read.specs.Lists.{Each, IsFirstBreak, own_number};
 ghost use Rattle.cfi_items.specs.Words.{count_of};
 ghost use Rattle.cfi_aux.specs.Extent.{byte_end};
 ghost use Rattle.cfi_items.specs.inner.Functions.{covers, is_covered, are_together, is_entry, is_own_item, is_code, has_code, is_well_formed, is_malformed, runs_off, falls_through};
-ghost use Rattle.cfi_items.specs.Functions.{byte_end_before};
+ghost use Rattle.cfi_items.specs.Functions.{byte_end_before, IsFormedBehind, EndsInPadding, EndsInJump};
+ghost use Rattle.cfi_items.specs.Fault.{IsFirstMalformed};
 
 use crate::insns::{is_nop, is_unlinked};
 use crate::source::Source;
@@ -126,10 +127,10 @@ impl Source {
     pub(crate) fn first_malformed(&self, functions: &[Function]) -> Option<usize>
         requires count { count_of self.now < 2 ^ 62 }
         requires few { length functions.now < 2 ^ 32 }
-        ensures some { IfSome result
-            (IsFirst (is_malformed self.now functions.now) (length functions.now + 1)) }
-        ensures none { IfNone result
-            (IsNone (is_malformed self.now functions.now) (length functions.now + 1)) }
+        ensures some { IfSome result (IsFirstMalformed self.now functions.now) }
+        ensures within { IfSome result (λ k. k ≤ length functions.now) }
+        ensures none { IfNone result (Each functions.now (IsFormedBehind self.now functions.now)) }
+        ensures padding { IfNone result (EndsInPadding self.now functions.now) }
     {
         for k in 0..functions.len() + 1 {
             if self.is_malformed(functions, k) {
@@ -161,10 +162,9 @@ impl Source {
 
     /// The first function whose last item is no jump without link.
     pub(crate) fn first_falling(&self, functions: &[Function]) -> Option<usize>
-        ensures some { IfSome result
-            (IsFirst (falls_through self.now functions.now) (length functions.now)) }
-        ensures none { IfNone result
-            (IsNone (falls_through self.now functions.now) (length functions.now)) }
+        ensures some { IfSome result (IsFirstBreak functions.now own_number (EndsInJump self.now)) }
+        ensures within { IfSome result (λ k. k < length functions.now) }
+        ensures none { IfNone result (Each functions.now (EndsInJump self.now)) }
     {
         for k in 0..functions.len() {
             if self.falls_through(functions, k) {

@@ -1,10 +1,12 @@
 //! Indirect jumps and their records.
 
-ghost use Rattle.std.specs.Prelude.{◌≡◌, ◌+◌, ◌*◌, ◌<◌, ◌^◌, IfSome, IfNone};
+ghost use Rattle.std.specs.Prelude.{◌≡◌, ◌*◌, ◌<◌, ◌≤◌, ◌^◌, IfSome, IfNone};
 ghost use Rattle.std.specs.Option.{option_copied};
-ghost use Rattle.elf_read.specs.Places.{IsFirst, IsNone};
+ghost use Rattle.elf_read.specs.Lists.{Each, IsFirstBreak};
 ghost use Rattle.cfi_items.specs.Words.{count_of};
-ghost use Rattle.cfi_items.specs.inner.Jumps.{is_call, has_fitting_kind, lacks_kind_by, lacks_kind, switches_astray, lead_out, has_bad_switch_by, has_bad_switch, IsBadSwitch};
+ghost use Rattle.cfi_items.specs.Jumps.{HasRecord, AreUsed, SwitchFits};
+ghost use Rattle.cfi_items.specs.Fault.{IsFirstBare, jump_number};
+ghost use Rattle.cfi_items.specs.inner.Jumps.{is_call, has_fitting_kind, lacks_kind_by, switches_astray, lead_out, has_bad_switch_by};
 
 use crate::insns::is_linked;
 use crate::source::Source;
@@ -43,10 +45,10 @@ impl Source {
     /// The first indirect jump without a fitting record, or the number of words where records are left over.
     pub(crate) fn first_unkind(&self, branches: &[Kind]) -> Option<usize>
         requires { count_of self.now < 2 ^ 62 }
-        ensures some { IfSome result
-            (IsFirst (lacks_kind self.now branches.now) (count_of self.now + 1)) }
-        ensures none { IfNone result
-            (IsNone (lacks_kind self.now branches.now) (count_of self.now + 1)) }
+        ensures some { IfSome result (λ w. IsFirstBare self.now branches.now (4 * w)) }
+        ensures within { IfSome result (λ w. w ≤ count_of self.now) }
+        ensures none { IfNone result (Each self.now.insns (HasRecord self.now branches.now)) }
+        ensures used { IfNone result (AreUsed self.now branches.now) }
     {
         let mut number = 0;
         for w in 0..self.count() {
@@ -110,10 +112,11 @@ impl Source {
         branches: &[Kind],
     ) -> Option<usize>
         requires { 4 * count_of self.now < 2 ^ 32 }
-        ensures some { IfSome result (IsBadSwitch self.now functions.now branches.now) }
+        ensures some { IfSome result (IsFirstBreak self.now.insns (jump_number self.now)
+            (SwitchFits self.now functions.now branches.now)) }
         ensures small { IfSome result (λ k. k < 2 ^ 32) }
         ensures none { IfNone result
-            (IsNone (has_bad_switch self.now functions.now branches.now) (count_of self.now)) }
+            (Each self.now.insns (SwitchFits self.now functions.now branches.now)) }
     {
         let mut number = 0;
         for w in 0..self.count() {

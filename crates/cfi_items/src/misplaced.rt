@@ -1,11 +1,12 @@
 //! Misplaced relocations.
 
 ghost use Rattle.std.specs.Prelude.{◌≡◌, ◌/◌, ◌<◌, ◌^◌, ℕ, length, slice_index_or, false, ◌||◌, IfSome, IfNone, IfOk};
-ghost use Rattle.elf_read.specs.Places.{IsFirst, IsNone};
+ghost use Rattle.elf_read.specs.Lists.{Each, IsFirstBreak, own_number};
 ghost use Rattle.cfi_items.specs.Words.{count_of};
 ghost use Rattle.cfi_items.specs.Target.{named_symbol};
 ghost use Rattle.cfi_items.specs.Items.{item_of};
-ghost use Rattle.cfi_items.specs.inner.Misplaced.{has_form, fits_on, is_on, sits_by, leads_to_bound, names_well, is_placed_by, is_out_of_place};
+ghost use Rattle.cfi_items.specs.Relocs.{IsRelocPlacedBehind};
+ghost use Rattle.cfi_items.specs.inner.Misplaced.{has_form, fits_on, is_on, sits_by, leads_to_bound, names_well, is_placed_by};
 
 use crate::functions::is_covered;
 use crate::insns::{has_low, is_auipc, is_branch, is_jal, is_lui, is_store};
@@ -117,10 +118,11 @@ impl Source {
         functions: &[Function],
         relocs: &[Reloc],
     ) -> Result<Option<usize>, AllocError>
-        ensures some { IfOk result (λ found. IfSome found
-            (IsFirst (is_out_of_place self.now symbols.now functions.now relocs.now) (length relocs.now))) }
+        ensures some { IfOk result (λ found. IfSome found (IsFirstBreak relocs.now own_number
+            (IsRelocPlacedBehind self.now symbols.now functions.now relocs.now))) }
+        ensures within { IfOk result (λ found. IfSome found (λ k. k < length relocs.now)) }
         ensures none { IfOk result (λ found. IfNone found
-            (IsNone (is_out_of_place self.now symbols.now functions.now relocs.now) (length relocs.now))) }
+            (Each relocs.now (IsRelocPlacedBehind self.now symbols.now functions.now relocs.now))) }
     {
         let mut marked = vec![in alloc; false; self.count()]?;
         for (k, reloc) in relocs.iter().enumerate() {

@@ -1,8 +1,10 @@
 //! Stray jumps and branches.
 
 ghost use Rattle.std.specs.Prelude.{◌≡◌, ◌*◌, ◌<◌, ◌^◌, IfSome, IfNone};
-ghost use Rattle.elf_read.specs.Places.{IsFirst, IsNone};
+ghost use Rattle.elf_read.specs.Lists.{Each};
 ghost use Rattle.cfi_items.specs.Words.{count_of};
+ghost use Rattle.cfi_items.specs.Leads.{WordLeadsWell};
+ghost use Rattle.cfi_items.specs.Fault.{IsFirstWord};
 ghost use Rattle.cfi_items.specs.inner.Stray.{branches_well, jumps_well, leads_well, calls_well, goes_well, is_stray};
 
 use crate::functions::is_entry;
@@ -91,9 +93,10 @@ impl Source {
     pub(crate) fn first_stray(&self, symbols: &[Symbol], functions: &[Function]) -> Option<usize>
         requires { 4 * count_of self.now < 2 ^ 32 }
         ensures some { IfSome result
-            (IsFirst (is_stray self.now symbols.now functions.now) (count_of self.now)) }
+            (λ w. IsFirstWord self.now (WordLeadsWell self.now symbols.now functions.now) (4 * w)) }
+        ensures within { IfSome result (λ w. w < count_of self.now) }
         ensures none { IfNone result
-            (IsNone (is_stray self.now symbols.now functions.now) (count_of self.now)) }
+            (Each self.now.insns (WordLeadsWell self.now symbols.now functions.now)) }
     {
         for w in 0..self.count() {
             if self.is_stray(symbols, functions, w) {

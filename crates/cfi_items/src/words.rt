@@ -1,8 +1,10 @@
 //! The first words that are refused for what they are.
 
-ghost use Rattle.std.specs.Prelude.{◌≡◌, IfSome, IfNone};
-ghost use Rattle.elf_read.specs.Places.{IsFirst, IsNone};
+ghost use Rattle.std.specs.Prelude.{◌≡◌, ◌*◌, ◌<◌, IfSome, IfNone};
+ghost use Rattle.elf_read.specs.Lists.{Each};
 ghost use Rattle.cfi_items.specs.Words.{count_of};
+ghost use Rattle.cfi_items.specs.Insns.{OfInsn, IsInsn, NamesFree, IsNoTrap, LinksWell};
+ghost use Rattle.cfi_items.specs.Fault.{IsFirstWord};
 ghost use Rattle.cfi_items.specs.inner.Flaws.{is_illegal_at, is_reserved_at, is_trap_at, is_bad_link_at};
 
 use crate::insns::{is_bad_link, is_reserved, is_trap};
@@ -48,8 +50,9 @@ impl Source {
 
     /// The first word that is no instruction.
     pub(crate) fn first_illegal(&self) -> Option<usize>
-        ensures some { IfSome result (IsFirst (is_illegal_at self.now) (count_of self.now)) }
-        ensures none { IfNone result (IsNone (is_illegal_at self.now) (count_of self.now)) }
+        ensures some { IfSome result (λ w. IsFirstWord self.now IsInsn (4 * w)) }
+        ensures within { IfSome result (λ w. w < count_of self.now) }
+        ensures none { IfNone result (Each self.now.insns IsInsn) }
     {
         for w in 0..self.count() {
             if self.is_illegal_at(w) {
@@ -61,8 +64,9 @@ impl Source {
 
     /// The first word whose instruction names a register of the instrumentation.
     pub(crate) fn first_reserved(&self) -> Option<usize>
-        ensures some { IfSome result (IsFirst (is_reserved_at self.now) (count_of self.now)) }
-        ensures none { IfNone result (IsNone (is_reserved_at self.now) (count_of self.now)) }
+        ensures some { IfSome result (λ w. IsFirstWord self.now (OfInsn NamesFree) (4 * w)) }
+        ensures within { IfSome result (λ w. w < count_of self.now) }
+        ensures none { IfNone result (Each self.now.insns (OfInsn NamesFree)) }
     {
         for w in 0..self.count() {
             if self.is_reserved_at(w) {
@@ -74,8 +78,9 @@ impl Source {
 
     /// The first EBREAK.
     pub(crate) fn first_trap(&self) -> Option<usize>
-        ensures some { IfSome result (IsFirst (is_trap_at self.now) (count_of self.now)) }
-        ensures none { IfNone result (IsNone (is_trap_at self.now) (count_of self.now)) }
+        ensures some { IfSome result (λ w. IsFirstWord self.now (OfInsn IsNoTrap) (4 * w)) }
+        ensures within { IfSome result (λ w. w < count_of self.now) }
+        ensures none { IfNone result (Each self.now.insns (OfInsn IsNoTrap)) }
     {
         for w in 0..self.count() {
             if self.is_trap_at(w) {
@@ -87,8 +92,9 @@ impl Source {
 
     /// The first jump that links by another register than x0 and x1.
     pub(crate) fn first_bad_link(&self) -> Option<usize>
-        ensures some { IfSome result (IsFirst (is_bad_link_at self.now) (count_of self.now)) }
-        ensures none { IfNone result (IsNone (is_bad_link_at self.now) (count_of self.now)) }
+        ensures some { IfSome result (λ w. IsFirstWord self.now (OfInsn LinksWell) (4 * w)) }
+        ensures within { IfSome result (λ w. w < count_of self.now) }
+        ensures none { IfNone result (Each self.now.insns (OfInsn LinksWell)) }
     {
         for w in 0..self.count() {
             if self.is_bad_link_at(w) {

@@ -1,14 +1,12 @@
 -- Tests of indirect jumps and their records.
-use Rattle.std.specs.Prelude.{◌≡◌, ℕ, ◌*◌, Bool, true, false, not, ◌&&◌, ◌==◌, nat_lt, List, length, Option, Some, None, if◌then◌else◌}
+use Rattle.std.specs.Prelude.{ℕ, ◌*◌, Bool, true, false, not, ◌&&◌, List, Option, Some, None, if◌then◌else◌}
 use Rattle.std.specs.List.{list_any, slice_get}
-use Rattle.elf_read.specs.Places.{IsFirst}
 use Rattle.cfi_aux.specs.declared.records.Function.{Function}
 use Rattle.cfi_aux.specs.declared.records.Kind.{Kind}
 use Rattle.cfi_aux.specs.declared.records.Kind.TheVariants as kinds
-use Rattle.cfi_items.specs.Words.{Words, insn_at, count_of}
+use Rattle.cfi_items.specs.Words.{Words, insn_at}
 use Rattle.cfi_items.specs.Insns.{holds, is_linked}
 use Rattle.cfi_items.specs.Items.{is_indirect}
-use Rattle.cfi_items.specs.Jumps.{ordinal_of}
 use Rattle.cfi_items.specs.inner.Functions.{is_own_item}
 
 abbrev pub is_call : Kind → Bool
@@ -30,15 +28,6 @@ abbrev pub lacks_kind_by : Words → List Kind → (w number : ℕ) → Bool
 lacks_kind_by t branches w number =
     is_indirect t w && not (has_fitting_kind (holds is_linked (insn_at t w)) (slice_get branches number))
 
--- records are left over after so many
-abbrev pub has_rest : List Kind → (number : ℕ) → Bool
-has_rest branches number = nat_lt number (length branches)
-
--- the indirect jump at the word has no fitting record; at the text's end records are left over
-abbrev pub lacks_kind : Words → List Kind → (w : ℕ) → Bool
-lacks_kind t branches w =
-    if w == count_of t then has_rest branches (ordinal_of t w) else lacks_kind_by t branches w (ordinal_of t w)
-
 -- an entry is no item of the function that has the jump
 abbrev pub lead_out : Words → List Function → (at : ℕ) → (entries : List ℕ) → Bool
 lead_out t functions at entries = list_any (λ entry. not (is_own_item t functions at entry)) entries
@@ -58,11 +47,3 @@ switches_astray_by t functions at (Some kind) = switches_astray t functions at k
 abbrev pub has_bad_switch_by : Words → List Function → List Kind → (w number : ℕ) → Bool
 has_bad_switch_by t functions branches w number =
     is_indirect t w && switches_astray_by t functions (4 * w) (slice_get branches number)
-
-abbrev pub has_bad_switch : Words → List Function → List Kind → (w : ℕ) → Bool
-has_bad_switch t functions branches w = has_bad_switch_by t functions branches w (ordinal_of t w)
-
--- k is the number of the first indirect jump whose record has such an entry
-abbrev pub IsBadSwitch : Words → List Function → List Kind → (k : ℕ) → Type 0
-IsBadSwitch t functions branches k =
-    (w : ℕ) × IsFirst (has_bad_switch t functions branches) (count_of t) w × (k ≡ ordinal_of t w)

@@ -1,6 +1,5 @@
 -- Tests of relocations that are out of their places.
-use Rattle.std.specs.Prelude.{ℕ, ◌*◌, ◌/◌, Bool, true, false, not, ◌&&◌, ◌||◌, ◌==◌, nat_lt, ℤ, List, take, Option, Some, None, if◌then◌else◌}
-use Rattle.std.specs.List.{list_any, slice_get}
+use Rattle.std.specs.Prelude.{ℕ, ◌*◌, ◌/◌, Bool, true, false, not, ◌&&◌, ◌||◌, ◌==◌, nat_lt, ℤ, List, Option, Some, None, if◌then◌else◌}
 use Rattle.elf_read.specs.declared.object.Symbol.{Symbol}
 use Rattle.elf_read.specs.declared.object.Reloc.{Reloc}
 use Rattle.elf_read.specs.declared.object.Place.{Place}
@@ -61,14 +60,3 @@ abbrev pub is_placed_by : Words → List Symbol → List Function → (earlier :
 is_placed_by t symbols functions earlier reloc =
     (not (is_of_text reloc.area) || sits_by t functions earlier reloc)
     && names_well t (named_symbol symbols reloc) reloc.addend
-
--- a relocation after those before it
-abbrev pub is_placed : Words → List Symbol → List Function → (earlier : List Reloc) → Option Reloc → Bool
-is_placed t symbols functions earlier None = true
-is_placed t symbols functions earlier (Some reloc) =
-    is_placed_by t symbols functions (list_any (is_on t (item_of t (reloc.offset / 4))) earlier) reloc
-
--- relocation k is out of its place
-abbrev pub is_out_of_place : Words → List Symbol → List Function → List Reloc → (k : ℕ) → Bool
-is_out_of_place t symbols functions relocs k =
-    not (is_placed t symbols functions (take k relocs) (slice_get relocs k))

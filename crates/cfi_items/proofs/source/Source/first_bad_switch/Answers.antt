@@ -1,7 +1,10 @@
 -- The number is that of the next indirect jump.
 use Rattle.std.proofs.Common.{◌≡◌, ◌+◌, ◌<◌, ◌∙◌, ℕ, true, false, sym, ap, below_more, arith}
-use Rattle.cfi_items.specs.inner.Jumps.{has_bad_switch, has_bad_switch_by}
-use Rattle.cfi_items.proofs.JumpLemmas.{ordinal-more}
+use Rattle.cfi_items.specs.inner.Jumps.{has_bad_switch_by}
+use Rattle.cfi_items.specs.Fault.{jump_number}
+use Rattle.cfi_items.proofs.DecideLemmas.{each-from, break-from}
+use Rattle.cfi_items.proofs.JumpLemmas.{has_bad_switch, ordinal-more}
+use Rattle.cfi_items.proofs.JumpTests.{switches}
 use Rattle.cfi_items.proofs.source.Source.first_bad_switch.Goals as goal
 use Rattle.cfi_items.proofs.source.Source.first_bad_switch.Goals.{then-is_indirect, else-is_indirect}
 
@@ -23,3 +26,20 @@ loop-w-preserved c =
           let more = ordinal-more t w false v.if-is_indirect.ensures in
           (none, omega (arith, more, v.number-is, c.loop-w.invariant.1), omega (arith, v.number-is, c.loop-w.invariant.2))
     ]
+
+pub returns-then-has_bad_switch-clause-some : goal.returns-then-has_bad_switch-clause-some
+returns-then-has_bad_switch-clause-some c =
+    let t = c.args.self.now in
+    let branches = c.args.branches.now in
+    let functions = c.args.functions.now in
+    let w = c.loop-w.w in
+    break-from t.insns _ _ (switches t functions branches) (jump_number t) w c.loop-w.number
+    (omega (arith, c.count-w-end.ensures, c.loop-w-test.true, c.loop-w.auto.w-end))
+    (ap (has_bad_switch_by t functions branches w) (sym c.loop-w.invariant.1) ∙ sym c.if-has_bad_switch.ensures)
+    c.loop-w.invariant.0 (λ x. c.loop-w.invariant.1)
+
+pub returns-clause-none : goal.returns-clause-none
+returns-clause-none c =
+    let t = c.args.self.now in
+    each-from t.insns _ _ (switches t c.args.functions.now c.args.branches.now) (λ j less.
+    c.loop-w.invariant.0 j (omega (arith, less, c.count-w-end.ensures, c.loop-w-test.false, c.loop-w.auto.w-end)))

@@ -1,11 +1,14 @@
 -- The marks are those of the relocations so far.
-use Rattle.std.proofs.Common.{◌≡◌, ◌∙◌, ◌||◌, true, false, sym, ap, None, pos, get_or, ℕ, List, Bool, take, below_more}
+use Rattle.std.proofs.Common.{◌≡◌, ◌∙◌, ◌||◌, true, false, refl, sym, ap, None, pos, get_or, ℕ, List, Bool, take, below_more, arith}
 use Rattle.std.specs.List.{list_any, slice_index_or}
 use Rattle.std.proofs.lemmas.List.Folds.{list_any_more}
 use Rattle.elf_read.specs.declared.object.Reloc.{Reloc}
 use Rattle.elf_read.specs.declared.object.Area.TheVariants.{Text}
-use Rattle.cfi_items.specs.inner.Misplaced.{is_on, is_out_of_place}
-use Rattle.cfi_items.proofs.RelocLemmas.{misplaced-here}
+use Rattle.cfi_items.specs.inner.Misplaced.{is_on}
+use Rattle.elf_read.specs.Lists.{own_number}
+use Rattle.cfi_items.proofs.DecideLemmas.{each-from, break-from}
+use Rattle.cfi_items.proofs.RelocLemmas.{is_out_of_place, misplaced-here}
+use Rattle.cfi_items.proofs.RelocTests.{placed}
 use Rattle.cfi_items.proofs.source.Source.first_misplaced.Goals as goal
 
 abbrev none : Reloc
@@ -17,13 +20,11 @@ returns-then-not-is_placed-clause-some c =
     let marks : (w : ℕ) → slice_index_or c.deref.result.now w false
     ≡ list_any (is_on t w) (take c.loop-k.k c.args.relocs.now) =
     λ w. ap (λ (xs : List Bool). slice_index_or xs w false) c.deref.ensures.value ∙ c.loop-k.invariant.marks w in
-    record {
-      within = c.loop-k-test.true;
-      here =
-          misplaced-here t c.args.symbols.now c.args.functions.now c.args.relocs.now c.loop-k.k none
-          c.deref.result.now false c.loop-k-test.true marks c.if-not-is_placed.ensures;
-      before = c.loop-k.invariant.none;
-    }
+    break-from c.args.relocs.now _ _ (placed t c.args.symbols.now c.args.functions.now c.args.relocs.now) own_number
+    c.loop-k.k c.loop-k.k c.loop-k-test.true
+    (misplaced-here t c.args.symbols.now c.args.functions.now c.args.relocs.now c.loop-k.k none c.deref.result.now false
+    c.loop-k-test.true marks c.if-not-is_placed.ensures)
+    c.loop-k.invariant.none (λ x. refl)
 
 pub loop-k-preserved : goal.loop-k-preserved
 loop-k-preserved c =
@@ -44,3 +45,9 @@ loop-k-preserved c =
           ∙ ap (λ (b : Bool). b || is_on t w (get_or relocs k none)) (c.loop-k.invariant.marks w)
           ∙ sym (list_any_more (is_on t w) relocs k none c.loop-k-test.true);
     }
+
+pub returns-clause-none : goal.returns-clause-none
+returns-clause-none c =
+    let relocs = c.args.relocs.now in
+    each-from relocs _ _ (placed c.args.self.now c.args.symbols.now c.args.functions.now relocs) (λ j less.
+    c.loop-k.invariant.none j (omega (arith, less, c.loop-k-test.false)))

@@ -6,8 +6,9 @@ use Rattle.elf_read.specs.declared.object.Reloc.{Reloc}
 use Rattle.cfi_aux.specs.declared.records.Function.{Function}
 use Rattle.std.proofs.Common.{List, Bool}
 use Rattle.cfi_items.specs.Words.{Words, count_of}
-use Rattle.cfi_items.specs.inner.Misplaced.{is_on, is_out_of_place}
+use Rattle.cfi_items.specs.inner.Misplaced.{is_on}
 use Rattle.cfi_items.proofs.source.Source.first_misplaced.Given as goal
+use Rattle.cfi_items.proofs.RelocLemmas.{is_out_of_place}
 
 -- none of the first k relocations is misplaced, and the items that they are on are marked
 pub record AreSeen (t : Words) (symbols : List Symbol) (functions : List Function) (relocs : List Reloc) (k : ℕ)

@@ -1,8 +1,10 @@
 -- The number is that of the next indirect jump.
 use Rattle.std.proofs.Common.{◌≡◌, ◌+◌, ◌<◌, ℕ, true, false, below_more, arith}
 use Rattle.cfi_items.specs.Words.{count_of}
-use Rattle.cfi_items.specs.inner.Jumps.{lacks_kind}
-use Rattle.cfi_items.proofs.JumpLemmas.{ordinal-more, kind-here, rest-here}
+use Rattle.cfi_items.proofs.DecideLemmas.{each-from}
+use Rattle.cfi_items.proofs.JumpLemmas.{lacks_kind, ordinal-more, kind-here, rest-here}
+use Rattle.cfi_items.proofs.JumpTests.{records}
+use Rattle.cfi_items.proofs.RowTests.{bare-first}
 use Rattle.cfi_items.proofs.source.Source.first_unkind.Goals as goal
 use Rattle.cfi_items.proofs.source.Source.first_unkind.Goals.{then-is_indirect, else-is_indirect}
 
@@ -24,9 +26,29 @@ loop-w-preserved c =
           (none, omega (arith, more, v.number-is, c.loop-w.invariant.1), omega (arith, v.number-is, c.loop-w.invariant.2))
     ]
 
+pub returns-then-lacks_kind-clause-some : goal.returns-then-lacks_kind-clause-some
+returns-then-lacks_kind-clause-some c =
+    let t = c.args.self.now in
+    let lt : c.loop-w.w < count_of t = omega (arith, c.count-w-end.ensures, c.loop-w-test.true, c.loop-w.auto.w-end) in
+    bare-first t c.args.branches.now c.loop-w.w (record {
+      within = omega (arith, lt);
+      here =
+          kind-here t c.args.branches.now c.loop-w.w c.loop-w.number true lt c.loop-w.invariant.1
+          c.if-lacks_kind.ensures;
+      before = c.loop-w.invariant.0;
+    })
+
 pub returns-then-number-branches-clause-some : goal.returns-then-number-branches-clause-some
 returns-then-number-branches-clause-some c =
     let t = c.args.self.now in
-    rest-here t c.args.branches.now c.loop-w.w c.loop-w.number c.count.result c.loop-w.invariant.0
+    bare-first t c.args.branches.now c.count.result
+    (rest-here t c.args.branches.now c.loop-w.w c.loop-w.number c.count.result c.loop-w.invariant.0
     (omega (arith, c.count-w-end.ensures, c.loop-w-test.false, c.loop-w.auto.w-end)) c.count.ensures
-    c.loop-w.invariant.1 c.if-number-branches.true
+    c.loop-w.invariant.1 c.if-number-branches.true)
+
+pub returns-clause-none : goal.returns-clause-none
+returns-clause-none c =
+    let t = c.args.self.now in
+    let branches = c.args.branches.now in
+    each-from t.insns (lacks_kind t branches) _ (records t branches) (λ j less.
+    c.loop-w.invariant.0 j (omega (arith, less, c.count-w-end.ensures, c.loop-w-test.false, c.loop-w.auto.w-end)))
