@@ -1,6 +1,6 @@
 -- What records are, and the bytes of each: words with the version, the number of functions and the number of branches,
 -- then each function, then each branch. A word is four bytes, the lowest first.
-use Rattle.std.specs.Prelude.{ℕ, ◌-◌, ◌%◌, ◌<◌, ◌≤◌, ◌^◌, Bool, if◌then◌else◌, List, [], ◌∷◌, ◌++◌, length, replicate, IsTrue, All}
+use Rattle.std.specs.Prelude.{ℕ, ◌-◌, ◌%◌, ◌<◌, ◌≤◌, ◌^◌, Bool, if◌then◌else◌, List, [], ◌∷◌, ◌++◌, length, replicate, IsTrue, All, Option, Some, None, ⊤}
 use Rattle.std.specs.List.{flat_map, AllByRecursion}
 use Rattle.std.specs.Str.{is_utf8}
 use Rattle.cfi_types.specs.Node.{Node}
@@ -85,3 +85,15 @@ pub record CanBeWritten (r : Records) : Type 0 where
   pub branches : length r.branches < 2 ^ 32
   pub names : All (λ f. length f.name < 2 ^ 32) r.functions
   pub words : All (λ b. length (kind_words b) < 2 ^ 32) r.branches
+
+-- each entry of a switch has P; other branches have no entries
+abbrev pub AllEntries : (P : ℕ → Type 0) → Kind → Type 0
+AllEntries P (Switch entries) = All P entries
+AllEntries P (Call node) = ⊤
+AllEntries P (Tail node) = ⊤
+AllEntries P Return = ⊤
+
+-- where there is a record
+abbrev pub AllEntriesIn : (P : ℕ → Type 0) → Option Kind → Type 0
+AllEntriesIn P None = ⊤
+AllEntriesIn P (Some kind) = AllEntries P kind

@@ -10,17 +10,15 @@ use crate::fault::AuxFault;
 use crate::format::{
     SWITCH, VERSION, has_count, is_flag, is_func, is_length, is_name_length, is_whole,
 };
-use cfi_types::TypeTable;
+use cfi_types::{TypeTable, split_word};
 
 fn word_from(bytes: &[u8]) -> Result<(u32, &[u8]), AuxFault>
     ensures { ReadingGives (λ x. (x.0, x.1.now)) result (next_word bytes.now) }
 {
-    if bytes.len() < 4 {
-        return Err(AuxFault::Short);
+    match split_word(bytes) {
+        Some(found) => Ok(found),
+        None => Err(AuxFault::Short),
     }
-    let (front, rest) = bytes.split_at(4);
-    let word = u32::from_le_bytes([front[0], front[1], front[2], front[3]]);
-    Ok((word, rest))
 }
 
 /// The bytes after the word of the version, which stands first.

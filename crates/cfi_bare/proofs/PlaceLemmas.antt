@@ -9,11 +9,7 @@ use Rattle.cfi_unit.specs.Unit.{words_of, size_of}
 use Rattle.cfi_unit.proofs.CodeLemmas.{length-words_of}
 use Rattle.cfi_model.specs.Closed.{code_of}
 use Rattle.cfi_unit.specs.declared.spot.Spot.{Spot}
-use Rattle.cfi_unit.specs.Spots.{spots_of, AreSpots, BeginsUnit, place_of, IsOneOf}
-
--- one of the units begins at the place
-abbrev pub HasUnitAt : (body : List CodeUnit) → (at : ℕ) → Type 0
-HasUnitAt body at = IsOneOf (length body) (place_of body) at
+use Rattle.cfi_unit.specs.Spots.{spots_of, AreSpots, BeginsUnit, place_of}
 
 -- the words of one unit after others
 length-code_of : (us : List CodeUnit) (unit : CodeUnit) →

@@ -15,8 +15,8 @@ use Rattle.cfi_verify.specs.Target.{LeadsTo, LeadsHome, LeadsToEntry, MayLead, e
 use Rattle.cfi_verify.specs.Faults.{IsVerifiedAs}
 use Rattle.cfi_verify.proofs.SpotLemmas.{spots-rising, spots-within}
 use Rattle.cfi_bare.specs.Runnable.{IsWhole, IsRunnable}
-use Rattle.cfi_bare.proofs.PlaceLemmas.{HasUnitAt, spot_unit}
-use Rattle.cfi_unit.specs.Spots.{place_of}
+use Rattle.cfi_bare.proofs.PlaceLemmas.{spot_unit}
+use Rattle.cfi_unit.specs.Spots.{place_of, IsOneOf}
 use Rattle.cfi_unit.proofs.SpotLemmas.{place_number, length-spots_of, spot_place}
 
 -- the last unit is a jump or a check that does not link
@@ -26,7 +26,7 @@ EndsUnlinked body =
 
 -- the offset leads from the word `at` to a unit
 abbrev pub LeadsToUnit : (body : List CodeUnit) → (at : ℕ) → ℤ → Type 0
-LeadsToUnit body at off = (to : ℕ) × LeadsTo at off to × HasUnitAt body to
+LeadsToUnit body at off = (to : ℕ) × LeadsTo at off to × IsOneOf (length body) (place_of body) to
 
 -- a branch and a jump lead to units
 abbrev pub LeadsInside : (body : List CodeUnit) → (at : ℕ) → CodeUnit → Type 0

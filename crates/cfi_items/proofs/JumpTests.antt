@@ -12,13 +12,14 @@ use Rattle.cfi_items.specs.Words.{Words, insn_at, count_of}
 use Rattle.cfi_items.specs.Insns.{holds, is_linked}
 use Rattle.cfi_items.specs.Items.{is_indirect}
 use Rattle.cfi_items.specs.Functions.{IsOwnItem}
-use Rattle.cfi_items.specs.Jumps.{ordinal_of, LinksAsIn, HasRecord, AreUsed, AreOwnItemsIn, SwitchFits}
+use Rattle.cfi_items.specs.Jumps.{ordinal_of, LinksAsIn, HasRecord, AreUsed, SwitchFits}
 use Rattle.cfi_items.specs.inner.Functions.{is_own_item}
 use Rattle.cfi_items.specs.inner.Jumps.{has_fitting_kind, lead_out, switches_astray_by}
 use Rattle.cfi_items.proofs.DecideLemmas.{Decides}
 use Rattle.cfi_items.proofs.WordTests.{at-word}
 use Rattle.cfi_items.proofs.FunctionTests.{own-holds, own-clear}
 use Rattle.cfi_items.proofs.JumpLemmas.{has_rest, lacks_kind, has_bad_switch}
+use Rattle.cfi_aux.specs.Records.{AllEntriesIn}
 
 -- ---- records
 
@@ -111,14 +112,14 @@ module _ (t : Words) (functions : List Function) (at : ℕ) where
       list_any_none (λ (entry : ℕ). not (is_own_item t functions at entry)) entries
       (λ k d inside. not_from_true _ (own-clear t functions at (get_or entries k d) (good k d inside)))
 
-  switch-holds : (kind : Option Kind) → switches_astray_by t functions at kind ≡ false → AreOwnItemsIn t functions at kind
+  switch-holds : (kind : Option Kind) → switches_astray_by t functions at kind ≡ false → AllEntriesIn (IsOwnItem t functions at) kind
   switch-holds None h = tt
   switch-holds (Some (kinds.Switch entries)) h = entries-hold entries h
   switch-holds (Some (kinds.Call node)) h = tt
   switch-holds (Some (kinds.Tail node)) h = tt
   switch-holds (Some kinds.Return) h = tt
 
-  switch-clear : (kind : Option Kind) → AreOwnItemsIn t functions at kind → switches_astray_by t functions at kind ≡ false
+  switch-clear : (kind : Option Kind) → AllEntriesIn (IsOwnItem t functions at) kind → switches_astray_by t functions at kind ≡ false
   switch-clear None good = refl
   switch-clear (Some (kinds.Switch entries)) good = entries-clear entries good
   switch-clear (Some (kinds.Call node)) good = refl

@@ -9,6 +9,7 @@ use Rattle.cfi_items.specs.Words.{Words, count_of}
 use Rattle.cfi_items.specs.Insns.{holds, is_linked}
 use Rattle.cfi_items.specs.Items.{is_indirect}
 use Rattle.cfi_items.specs.Functions.{IsOwnItem}
+use Rattle.cfi_aux.specs.Records.{AllEntries, AllEntriesIn}
 
 -- the number of an indirect jump: how many are before it
 abbrev pub ordinal_of : Words → (w : ℕ) → ℕ
@@ -37,17 +38,9 @@ AreUsed t branches = length branches ≤ ordinal_of t (count_of t)
 
 -- each entry of a switch is an item of the function that has the jump at the offset
 abbrev pub AreOwnItems : Words → List Function → (at : ℕ) → Kind → Type 0
-AreOwnItems t functions at (kinds.Switch entries) = All (IsOwnItem t functions at) entries
-AreOwnItems t functions at (kinds.Call node) = ⊤
-AreOwnItems t functions at (kinds.Tail node) = ⊤
-AreOwnItems t functions at kinds.Return = ⊤
-
--- where there is a record
-abbrev pub AreOwnItemsIn : Words → List Function → (at : ℕ) → Option Kind → Type 0
-AreOwnItemsIn t functions at None = ⊤
-AreOwnItemsIn t functions at (Some kind) = AreOwnItems t functions at kind
+AreOwnItems t functions at kind = AllEntries (IsOwnItem t functions at) kind
 
 -- the word's record, where it is an indirect jump, has such entries
 abbrev pub SwitchFits : Words → List Function → List Kind → (w : ℕ) → Option Insn → Type 0
 SwitchFits t functions branches w insn =
-    is_indirect t w ≡ true → AreOwnItemsIn t functions (4 * w) (slice_get branches (ordinal_of t w))
+    is_indirect t w ≡ true → AllEntriesIn (IsOwnItem t functions (4 * w)) (slice_get branches (ordinal_of t w))

@@ -11,7 +11,8 @@ use Rattle.cfi_plan.specs.declared.line.Line.{Line}
 use Rattle.cfi_plan.specs.declared.line.Line.TheVariants.{Code, Versions, Epoch, Fuel, Module, Guest, Load, Refresh}
 use Rattle.cfi_plan.specs.declared.plan.Plan.{Plan}
 use Rattle.cfi_plan.specs.declared.fault.PlanFault.{PlanFault}
-use Rattle.cfi_plan.specs.Draft.{PlanSoFar, empty, is_empty, is_astray, is_within, with_line, taken, plan_of, IsDue}
+use Rattle.cfi_plan.specs.Draft.{PlanSoFar, empty, is_empty, is_astray, is_within, with_line, taken, plan_of, Fails}
+use Rattle.cfi_values.specs.Due.{Answers}
 use Rattle.cfi_plan.specs.Line.{form_of, pair_form, numbered_form, counted_form, module_form, start_in}
 use Rattle.cfi_text.specs.Names.{is_name, name_in, is_file, file_in}
 use Rattle.cfi_plan.specs.Plan.{IsPlan, IsVersions, IsFuel}
@@ -202,6 +203,6 @@ pub plan_in-IsPlan : (text : List ℕ) (plan : Plan) → plan_in text ≡ Ok pla
 unfolding plan_in
 plan_in-IsPlan text plan e = all-IsPlan (numbered_lines text) plan e
 
-pub due-IsPlan : (answer : Result Plan PlanFault) (text : List ℕ) → IsDue answer (plan_in text) → IfOk answer IsPlan
+pub due-IsPlan : (answer : Result Plan PlanFault) (text : List ℕ) → Answers Fails answer (plan_in text) → IfOk answer IsPlan
 due-IsPlan (Ok plan) text due = plan_in-IsPlan text plan due
 due-IsPlan (Err fault) text due = tt

@@ -10,7 +10,6 @@ use Rattle.cfi_plan.specs.declared.plan.ScriptLine.TheVariants as script
 use Rattle.cfi_plan.specs.declared.fault.PlanFault.{PlanFault}
 use Rattle.cfi_plan.specs.declared.fault.PlanFault.TheVariants.{Syntax, Limit, NoGuest, Memory}
 use Rattle.cfi_word.specs.declared.limits.TheConstants.{MIN_CODE_WORDS, MAX_CODE_WORDS, MIN_VERSIONS, MAX_VERSIONS, MAX_EPOCH, MAX_FUEL, FUEL, MAX_MODULES, MAX_STARTS, GUESTS, MAX_SCRIPT, MAX_REFRESHES}
-use Rattle.cfi_values.specs.Due.{Answers, Leaves}
 
 -- what the lines have said
 pub record PlanSoFar : Type 0 where
@@ -116,11 +115,3 @@ Fails Memory due = Unit {0}
 Fails (Syntax number) due = due ≡ Err (Syntax number)
 Fails (Limit number) due = due ≡ Err (Limit number)
 Fails NoGuest due = due ≡ Err NoGuest
-
--- the answer is the one that is due, unless memory ran out
-abbrev pub IsDue : {Y : Type 0} → (answer due : Result Y PlanFault) → Type 0
-IsDue answer due = Answers Fails answer due
-
--- a call that changed a draft did what is due, unless memory ran out
-abbrev pub Gives : Result (Unit {0}) PlanFault → (new : PlanSoFar) → (due : Result PlanSoFar PlanFault) → Type 0
-Gives answer new due = Leaves Fails answer new due

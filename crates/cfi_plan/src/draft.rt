@@ -1,5 +1,6 @@
 ghost use Rattle.std.specs.Prelude.{◌≡◌, Ok, Err};
-ghost use Rattle.cfi_plan.specs.Draft.{PlanSoFar as Said, empty, taken, one_if, plan_of, Gives};
+ghost use Rattle.cfi_plan.specs.Draft.{PlanSoFar as Said, empty, taken, one_if, plan_of, Fails};
+ghost use Rattle.cfi_values.specs.Due.{Leaves};
 
 use crate::fault::PlanFault;
 use crate::index::{give_number, number_of};
@@ -60,7 +61,7 @@ impl Draft {
 
     /// Adds the line of this number.
     pub fn take_line(&mut self, alloc: Global, number: u32, line: Line) -> Result<(), PlanFault>
-        ensures { Gives result self.new (taken number self.old line) }
+        ensures { Leaves Fails result self.new (taken number self.old line) }
     {
         match line {
             Line::Blank => Ok(()),
@@ -76,7 +77,7 @@ impl Draft {
     }
 
     fn set_code(&mut self, number: u32, count: u64) -> Result<(), PlanFault>
-        ensures { Gives result self.new (taken number self.old (Line.Code count)) }
+        ensures { Leaves Fails result self.new (taken number self.old (Line.Code count)) }
     {
         if self.code.is_some() {
             return Err(PlanFault::Syntax(number));
@@ -92,7 +93,7 @@ impl Draft {
     }
 
     fn set_versions(&mut self, number: u32, count: u64) -> Result<(), PlanFault>
-        ensures { Gives result self.new (taken number self.old (Line.Versions count)) }
+        ensures { Leaves Fails result self.new (taken number self.old (Line.Versions count)) }
     {
         if self.versions.is_some() {
             return Err(PlanFault::Syntax(number));
@@ -105,7 +106,7 @@ impl Draft {
     }
 
     fn set_first(&mut self, number: u32, count: u64) -> Result<(), PlanFault>
-        ensures { Gives result self.new (taken number self.old (Line.Epoch count)) }
+        ensures { Leaves Fails result self.new (taken number self.old (Line.Epoch count)) }
     {
         if self.first.is_some() {
             return Err(PlanFault::Syntax(number));
@@ -118,7 +119,7 @@ impl Draft {
     }
 
     fn set_fuel(&mut self, number: u32, count: u64) -> Result<(), PlanFault>
-        ensures { Gives result self.new (taken number self.old (Line.Fuel count)) }
+        ensures { Leaves Fails result self.new (taken number self.old (Line.Fuel count)) }
     {
         if self.fuel.is_some() {
             return Err(PlanFault::Syntax(number));
@@ -131,7 +132,7 @@ impl Draft {
     }
 
     fn add_module(&mut self, alloc: Global, number: u32, one: PlanModule) -> Result<(), PlanFault>
-        ensures { Gives result self.new (taken number self.old (Line.Module one)) }
+        ensures { Leaves Fails result self.new (taken number self.old (Line.Module one)) }
     {
         if number_of(&self.names, &one.name).is_some() {
             return Err(PlanFault::Syntax(number));
@@ -149,7 +150,7 @@ impl Draft {
     }
 
     fn add_guest(&mut self, number: u32, entry: Text) -> Result<(), PlanFault>
-        ensures { Gives result self.new (taken number self.old (Line.Guest entry)) }
+        ensures { Leaves Fails result self.new (taken number self.old (Line.Guest entry)) }
     {
         if self.guests.len() >= GUESTS as usize {
             return Err(PlanFault::Limit(number));
@@ -159,7 +160,7 @@ impl Draft {
     }
 
     fn add_load(&mut self, number: u32, name: Text) -> Result<(), PlanFault>
-        ensures { Gives result self.new (taken number self.old (Line.Load name)) }
+        ensures { Leaves Fails result self.new (taken number self.old (Line.Load name)) }
     {
         let Some(found) = number_of(&self.names, &name) else {
             return Err(PlanFault::Syntax(number));
@@ -172,7 +173,7 @@ impl Draft {
     }
 
     fn add_refreshes(&mut self, number: u32, count: u64) -> Result<(), PlanFault>
-        ensures { Gives result self.new (taken number self.old (Line.Refresh count)) }
+        ensures { Leaves Fails result self.new (taken number self.old (Line.Refresh count)) }
     {
         if self.script.len() >= MAX_SCRIPT || count > u64::from(MAX_REFRESHES - self.refreshes) {
             return Err(PlanFault::Limit(number));

@@ -1,5 +1,6 @@
 ghost use Rattle.std.specs.Prelude.{◌≡◌, ◌^◌, ◌<◌, IfOk, length};
-ghost use Rattle.cfi_plan.specs.Draft.{empty, Gives, IsDue};
+ghost use Rattle.cfi_plan.specs.Draft.{empty, Fails};
+ghost use Rattle.cfi_values.specs.Due.{Answers, Leaves};
 ghost use Rattle.cfi_plan.specs.Plan.{IsPlan};
 ghost use Rattle.cfi_plan.specs.Reading.{is_head, with_text, with_lines, plan_in};
 ghost use Rattle.cfi_text.specs.Words.{words_in};
@@ -18,7 +19,7 @@ use std::alloc::Global;
 /// decides, and on one line `Syntax` comes before `Limit`; `NoGuest` comes last.
 pub fn read_plan(alloc: Global, text: &[u8]) -> Result<Plan, PlanFault>
     requires { length text.now < 2 ^ 32 }
-    ensures due { IsDue result (plan_in text.now) }
+    ensures due { Answers Fails result (plan_in text.now) }
     ensures sound { IfOk result IsPlan }
 {
     read_text(alloc, text)
@@ -27,7 +28,7 @@ pub fn read_plan(alloc: Global, text: &[u8]) -> Result<Plan, PlanFault>
 #[tactic(auto, unfolding(crate::specs::Reading::plan_in))]
 fn read_text(alloc: Global, text: &[u8]) -> Result<Plan, PlanFault>
     requires { length text.now < 2 ^ 32 }
-    ensures { IsDue result (plan_in text.now) }
+    ensures { Answers Fails result (plan_in text.now) }
 {
     let mut lines = Lines::new(text);
     let Some((_, head)) = lines.next() else {
@@ -41,7 +42,7 @@ fn read_text(alloc: Global, text: &[u8]) -> Result<Plan, PlanFault>
 
 // The draft that the lines after line 1 say.
 fn read_lines(alloc: Global, lines: Lines<'_>) -> Result<Draft, PlanFault>
-    ensures { IsDue result (with_lines empty lines.entry) }
+    ensures { Answers Fails result (with_lines empty lines.entry) }
 {
     let mut draft = Draft::new(alloc);
     for (number, line) in lines {
@@ -52,7 +53,7 @@ fn read_lines(alloc: Global, lines: Lines<'_>) -> Result<Draft, PlanFault>
 
 #[tactic(auto, unfolding(crate::specs::Reading::with_text))]
 fn add_line(alloc: Global, draft: &mut Draft, number: u32, line: &[u8]) -> Result<(), PlanFault>
-    ensures { Gives result draft.new (with_text number draft.old line.now) }
+    ensures { Leaves Fails result draft.new (with_text number draft.old line.now) }
 {
     match read_line(alloc, statement(line))? {
         Some(line) => draft.take_line(alloc, number, line),

@@ -24,7 +24,7 @@ pub use classes::Classes;
 pub use fault::TypeFault;
 pub use kind::{ARRAY, FUNC, INT, PTR, REAL, STRUCT, UNION, VOID};
 pub use node::TypeNode;
-pub use reading::read_types;
+pub use reading::{read_types, split_word};
 pub use table::TypeTable;
 pub use writing::{read_can_be_written, write_types, written_is_read};
 

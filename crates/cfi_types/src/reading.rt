@@ -1,6 +1,7 @@
 //! Reads a type table from its bytes.
 
-ghost use Rattle.std.specs.Prelude.{◌≡◌, ◌≤◌, List, length, nat_lt, IfOk, Ok};
+ghost use Rattle.std.specs.Prelude.{◌≡◌, ◌≤◌, List, length, take, drop, nat_lt, true, false, IfOk, IfSome, IfNone, Ok};
+ghost use Rattle.std.specs.Int.{w32, from_le_bytes};
 ghost use Rattle.std.specs.List.{list_all};
 ghost use Rattle.cfi_types.specs.Kind.{nodes_of};
 ghost use Rattle.cfi_types.specs.Node.{Node};
@@ -14,15 +15,28 @@ use crate::table::TypeTable;
 use cfi_word::limits::MAX_NODES;
 use std::alloc::Global;
 
-fn word_from(bytes: &[u8]) -> Result<(u32, &[u8]), TypeFault>
-    ensures { ReadingGives (λ x. (x.0, x.1.now)) result (next_word bytes.now) }
+/// The word that bytes begin with, the lowest byte first, and the bytes after it. `None` where there are fewer than four.
+pub fn split_word(bytes: &[u8]) -> Option<(u32, &[u8])>
+    ensures word { IfSome result (λ x. x.0 ≡ from_le_bytes w32 (take 4 bytes.now)) }
+    ensures rest { IfSome result (λ x. x.1.now ≡ drop 4 bytes.now) }
+    ensures some { IfSome result (λ x. nat_lt (length bytes.now) 4 ≡ false) }
+    ensures none { IfNone result (nat_lt (length bytes.now) 4 ≡ true) }
 {
     if bytes.len() < 4 {
-        return Err(TypeFault::Short);
+        return None;
     }
     let (front, rest) = bytes.split_at(4);
     let word = u32::from_le_bytes([front[0], front[1], front[2], front[3]]);
-    Ok((word, rest))
+    Some((word, rest))
+}
+
+fn word_from(bytes: &[u8]) -> Result<(u32, &[u8]), TypeFault>
+    ensures { ReadingGives (λ x. (x.0, x.1.now)) result (next_word bytes.now) }
+{
+    match split_word(bytes) {
+        Some(found) => Ok(found),
+        None => Err(TypeFault::Short),
+    }
 }
 
 fn fields_from(

@@ -8,6 +8,7 @@ use Rattle.cfi_aux.specs.declared.records.Kind.TheVariants.{Call, Tail, Return, 
 use Rattle.cfi_unit.specs.declared.spot.Spot.{Spot}
 use Rattle.cfi_verify.specs.declared.checks.CheckSpot.{CheckSpot}
 use Rattle.cfi_verify.specs.Target.{IsAtHome}
+use Rattle.cfi_aux.specs.Records.{AllEntries, AllEntriesIn}
 
 -- the check names the slot of its number
 abbrev pub NamesSlot : Placed → (number : ℕ) → CheckSpot → Type 0
@@ -37,15 +38,11 @@ IsEntry m spots at offset = (to : ℕ) × (offset ≡ 4 * to) × IsAtHome m.func
 
 -- each entry of a switch is a unit in the function of its check
 abbrev pub AreEntries : Placed → List Spot → (at : ℕ) → Kind → Type 0
-AreEntries m spots at (Switch entries) = All (IsEntry m spots at) entries
-AreEntries m spots at (Call node) = ⊤
-AreEntries m spots at (Tail node) = ⊤
-AreEntries m spots at Return = ⊤
+AreEntries m spots at kind = AllEntries (IsEntry m spots at) kind
 
 -- where there is a record
 abbrev pub AreEntriesIn : Placed → List Spot → (at : ℕ) → Option Kind → Type 0
-AreEntriesIn m spots at None = ⊤
-AreEntriesIn m spots at (Some kind) = AreEntries m spots at kind
+AreEntriesIn m spots at kind = AllEntriesIn (IsEntry m spots at) kind
 
 abbrev pub EntriesFit : Placed → List Spot → (number : ℕ) → CheckSpot → Type 0
 EntriesFit m spots number check = AreEntriesIn m spots check.at (slice_get m.branches number)
