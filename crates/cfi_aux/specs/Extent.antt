@@ -4,6 +4,7 @@ use Rattle.std.specs.Prelude.{◌≡◌, ℕ, ◌+◌, ◌<◌, ◌≤◌, List}
 use Rattle.std.specs.List.{Contains}
 use Rattle.cfi_aux.specs.declared.records.Function.{Function}
 use Rattle.cfi_aux.specs.declared.placed.PlacedFunction.{PlacedFunction}
+use Rattle.cfi_values.specs.Lists.{HasWith}
 
 -- where a function ends
 abbrev pub byte_end : Function → ℕ
@@ -19,7 +20,7 @@ IsCovered functions offset = (f : Function) × Contains functions f × Covers f 
 
 -- some function begins there
 abbrev pub BeginsFunction : List Function → (offset : ℕ) → Type 0
-BeginsFunction functions offset = (f : Function) × Contains functions f × (f.offset ≡ offset)
+BeginsFunction functions offset = HasWith (λ f. f.offset) functions offset
 
 -- the word after the last of a placed function
 abbrev pub end_of : PlacedFunction → ℕ

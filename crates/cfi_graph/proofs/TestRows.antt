@@ -27,6 +27,10 @@ call_rows = (0, 17, 1, false) ∷ (17, 14, 1, true) ∷ (31, 14, 1, true) ∷ []
 abbrev pub call_kinds : (node : ℕ) → List Kind
 call_kinds node = kinds.Call node ∷ kinds.Return ∷ kinds.Return ∷ []
 
+-- a module of them
+abbrev pub call_module : Placed
+call_module = placed_of 16 0 call_code call_rows (call_kinds 1) void_and_function
+
 call_made : (node : ℕ) → node < 2 → IsHandMade 16 0 call_code call_rows (call_kinds node) void_and_function
 call_made node below = record {
   fit = search rules;

@@ -13,7 +13,8 @@ use Rattle.cfi_unit.specs.Unit.{IsUnit}
 use Rattle.cfi_items.specs.declared.target.Aim.{Aim}
 use Rattle.cfi_items.specs.declared.target.Aim.TheVariants as aims
 use Rattle.cfi_items.specs.Words.{Words, AreInsnsInRange, insn_at, reloc_on, count_of}
-use Rattle.cfi_items.specs.Insns.{holds, is_jalr, is_branch}
+use Rattle.cfi_items.specs.Insns.{is_jalr, is_branch}
+use Rattle.cfi_values.specs.Some.{holds}
 use Rattle.cfi_unit.specs.Free.{names_reserved}
 use Rattle.cfi_items.specs.inner.Insns.{is_trap}
 use Rattle.cfi_items.specs.Items.{is_inner, is_pair, is_item, is_indirect}

@@ -12,7 +12,8 @@ use Rattle.cfi_aux.specs.declared.placed.Placed.{Placed}
 use Rattle.cfi_aux.specs.declared.placed.PlacedFunction.{PlacedFunction}
 use Rattle.cfi_aux.specs.declared.records.Function.{Function}
 use Rattle.cfi_items.specs.Words.{Words, insn_at, read_words, count_of}
-use Rattle.cfi_items.specs.Insns.{holds, is_auipc, is_linked, is_unlinked}
+use Rattle.cfi_items.specs.Insns.{is_auipc, is_linked, is_unlinked}
+use Rattle.cfi_values.specs.Some.{holds}
 use Rattle.cfi_items.specs.Items.{is_inner, is_pair, item_of}
 use Rattle.cfi_aux.specs.Extent.{byte_end}
 use Rattle.cfi_items.specs.Functions.{byte_end_before}

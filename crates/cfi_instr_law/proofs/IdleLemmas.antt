@@ -14,7 +14,8 @@ use Rattle.cfi_aux.specs.declared.modules.Module.{Module}
 use Rattle.cfi_aux.specs.declared.placed.Placed.{Placed}
 use Rattle.cfi_aux.specs.declared.records.Function.{Function}
 use Rattle.cfi_items.specs.Words.{Words, insn_at, read_words, count_of}
-use Rattle.cfi_items.specs.Insns.{holds, is_auipc, is_zero}
+use Rattle.cfi_items.specs.Insns.{is_auipc, is_zero}
+use Rattle.cfi_values.specs.Some.{holds}
 use Rattle.cfi_items.specs.inner.Insns.{is_nop, is_addi}
 use Rattle.cfi_items.specs.Items.{is_inner, is_item}
 use Rattle.cfi_aux.specs.Extent.{byte_end}

@@ -13,7 +13,8 @@ use Rattle.cfi_unit.specs.declared.unit.Unit.{Unit as CodeUnit}
 use Rattle.cfi_unit.specs.Unit.{size_of}
 use Rattle.cfi_unit.proofs.UnitLemmas.{size_pos}
 use Rattle.cfi_items.specs.Words.{Words, insn_at, count_of}
-use Rattle.cfi_items.specs.Insns.{holds, is_auipc, is_jalr, is_branch}
+use Rattle.cfi_items.specs.Insns.{is_auipc, is_jalr, is_branch}
+use Rattle.cfi_values.specs.Some.{holds}
 use Rattle.cfi_items.specs.Items.{is_inner, is_pair, item_of}
 use Rattle.cfi_items.specs.inner.Flaws.{is_illegal_at}
 use Rattle.cfi_instr.specs.Sizes.{is_long, size_by, size_at, words_before}

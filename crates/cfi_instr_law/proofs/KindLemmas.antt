@@ -11,7 +11,8 @@ use Rattle.cfi_aux.specs.declared.placed.Placed.{Placed}
 use Rattle.cfi_aux.specs.declared.records.Kind.{Kind}
 use Rattle.cfi_aux.specs.declared.records.Kind.TheVariants.{Call, Tail, Return, Switch}
 use Rattle.cfi_items.specs.Words.{Words, insn_at, read_words, count_of}
-use Rattle.cfi_items.specs.Insns.{holds, is_linked}
+use Rattle.cfi_items.specs.Insns.{is_linked}
+use Rattle.cfi_values.specs.Some.{holds}
 use Rattle.cfi_items.specs.Items.{is_indirect}
 use Rattle.cfi_items.specs.Jumps.{ordinal_of}
 use Rattle.cfi_items.specs.inner.Jumps.{is_call, same, has_fitting_kind, lacks_kind_by}

@@ -18,7 +18,8 @@ use Rattle.rv_reloc.specs.declared.table.Formula.TheVariants as formulas
 use Rattle.rv_reloc.specs.Table.{immediate as row, rule_of}
 use Rattle.cfi_aux.specs.declared.records.Function.{Function}
 use Rattle.cfi_items.specs.Words.{Words, insn_at, is_of_text, count_of}
-use Rattle.cfi_items.specs.Insns.{holds, is_auipc, is_branch}
+use Rattle.cfi_items.specs.Insns.{is_auipc, is_branch}
+use Rattle.cfi_values.specs.Some.{holds}
 use Rattle.cfi_items.specs.inner.Insns.{is_lui, is_jal, is_store, has_low}
 use Rattle.cfi_items.specs.Items.{is_pair, item_of}
 use Rattle.cfi_items.specs.Target.{named_symbol}

@@ -11,7 +11,8 @@ use Rattle.rv_insn.specs.declared.insn.ImmOp.TheVariants as ops
 use Rattle.cfi_aux.specs.declared.records.Function.{Function}
 use Rattle.cfi_aux.specs.Extent.{byte_end, Covers, IsCovered, BeginsFunction}
 use Rattle.cfi_items.specs.Words.{Words, insn_at, count_of}
-use Rattle.cfi_items.specs.Insns.{holds, is_unlinked}
+use Rattle.cfi_items.specs.Insns.{is_unlinked}
+use Rattle.cfi_values.specs.Some.{holds}
 use Rattle.cfi_items.specs.Items.{is_item, BeginsItem, IsItemBound}
 use Rattle.cfi_items.specs.Functions.{IsOwnItem, byte_end_before, IsPadding, IsWellFormed, IsFormedBehind, EndsInPadding, EndsInJump}
 use Rattle.cfi_items.specs.inner.Insns.{is_nop}

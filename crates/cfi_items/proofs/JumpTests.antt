@@ -9,7 +9,8 @@ use Rattle.cfi_aux.specs.declared.records.Function.{Function}
 use Rattle.cfi_aux.specs.declared.records.Kind.{Kind}
 use Rattle.cfi_aux.specs.declared.records.Kind.TheVariants as kinds
 use Rattle.cfi_items.specs.Words.{Words, insn_at, count_of}
-use Rattle.cfi_items.specs.Insns.{holds, is_linked}
+use Rattle.cfi_items.specs.Insns.{is_linked}
+use Rattle.cfi_values.specs.Some.{holds}
 use Rattle.cfi_items.specs.Items.{is_indirect}
 use Rattle.cfi_items.specs.Functions.{IsOwnItem}
 use Rattle.cfi_items.specs.Jumps.{ordinal_of, LinksAsIn, HasRecord, AreUsed, SwitchFits}

@@ -9,7 +9,8 @@ use Rattle.cfi_aux.specs.Extent.{BeginsFunction}
 use Rattle.cfi_items.specs.declared.target.Aim.{Aim}
 use Rattle.cfi_items.specs.declared.target.Aim.TheVariants as aims
 use Rattle.cfi_items.specs.Words.{Words, insn_at}
-use Rattle.cfi_items.specs.Insns.{holds, is_unlinked}
+use Rattle.cfi_items.specs.Insns.{is_unlinked}
+use Rattle.cfi_values.specs.Some.{holds}
 use Rattle.cfi_items.specs.Items.{is_item, is_pair}
 use Rattle.cfi_items.specs.Target.{aim_of_jump, aim_of_pair}
 use Rattle.cfi_items.specs.Functions.{IsOwnItem}

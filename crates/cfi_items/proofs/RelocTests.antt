@@ -16,7 +16,8 @@ use Rattle.rv_insn.specs.declared.insn.ImmOp.{ImmOp}
 use Rattle.rv_insn.specs.declared.insn.ImmOp.TheVariants as ops
 use Rattle.cfi_aux.specs.declared.records.Function.{Function}
 use Rattle.cfi_items.specs.Words.{Words, insn_at, is_of_text, count_of}
-use Rattle.cfi_items.specs.Insns.{holds, is_auipc, is_branch}
+use Rattle.cfi_items.specs.Insns.{is_auipc, is_branch}
+use Rattle.cfi_values.specs.Some.{holds}
 use Rattle.cfi_items.specs.Items.{is_inner, is_pair, item_of, IsItemBound}
 use Rattle.cfi_items.specs.Target.{offset_from, named_symbol}
 use Rattle.cfi_items.specs.Relocs.{IsLowOfI, IsLowOfS, HasFieldOf, FitsAs, FitsOn, SharesItem, SitsOnItem, NamesWell, IsRelocPlaced, IsRelocPlacedBehind}

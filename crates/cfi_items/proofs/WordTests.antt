@@ -11,7 +11,8 @@ use Rattle.rv_insn.specs.declared.insn.ImmOp.{ImmOp}
 use Rattle.rv_insn.specs.declared.insn.ImmOp.TheVariants as ops
 use Rattle.cfi_unit.specs.Free.{names_reserved}
 use Rattle.cfi_items.specs.Words.{Words, insn_at, count_of}
-use Rattle.cfi_items.specs.Insns.{holds, is_zero, OfInsn, IsInsn, NamesFree, IsNoTrap, LinksWell}
+use Rattle.cfi_items.specs.Insns.{is_zero, OfInsn, IsInsn, NamesFree, IsNoTrap, LinksWell}
+use Rattle.cfi_values.specs.Some.{holds}
 use Rattle.cfi_items.specs.inner.Insns.{is_addi, is_nop, is_trap, is_bad_link}
 use Rattle.cfi_items.specs.inner.Flaws.{is_illegal_at, is_reserved_at, is_trap_at, is_bad_link_at}
 use Rattle.cfi_items.proofs.DecideLemmas.{Decides}

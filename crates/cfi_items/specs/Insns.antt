@@ -4,11 +4,6 @@ use Rattle.rv_insn.specs.declared.insn.Insn.{Insn}
 use Rattle.rv_insn.specs.declared.insn.Insn.TheVariants as insns
 use Rattle.cfi_unit.specs.Free.{names_reserved}
 
--- the word is an instruction that passes the test
-abbrev pub holds : (Insn → Bool) → Option Insn → Bool
-holds test None = false
-holds test (Some insn) = test insn
-
 -- ---- forms
 
 abbrev pub is_auipc : Insn → Bool

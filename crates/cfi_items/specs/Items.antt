@@ -2,7 +2,8 @@
 -- counts from 0; an offset is in bytes.
 use Rattle.std.specs.Prelude.{◌≡◌, ◌⊎◌, ℕ, ◌+◌, ◌-◌, ◌*◌, Bool, true, not, ◌&&◌, ◌==◌, nat_lt, if◌then◌else◌, is_some}
 use Rattle.cfi_items.specs.Words.{Words, insn_at, call_on, count_of}
-use Rattle.cfi_items.specs.Insns.{holds, is_auipc, is_jalr}
+use Rattle.cfi_items.specs.Insns.{is_auipc, is_jalr}
+use Rattle.cfi_values.specs.Some.{holds}
 
 -- a pair begins at the word
 abbrev pub is_pair : Words → (w : ℕ) → Bool

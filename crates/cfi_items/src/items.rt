@@ -1,7 +1,8 @@
 //! The items of a text.
 
 ghost use Rattle.std.specs.Prelude.{◌≡◌, ◌<◌, ◌^◌};
-ghost use Rattle.cfi_items.specs.Insns.{holds, is_jalr, is_auipc};
+ghost use Rattle.cfi_items.specs.Insns.{is_jalr, is_auipc};
+ghost use Rattle.cfi_values.specs.Some.{holds};
 ghost use Rattle.cfi_items.specs.Items.{is_pair, is_inner, is_item, item_of, is_indirect};
 ghost use Rattle.cfi_items.specs.inner.Items.{is_item_at, is_bound_at};
 

@@ -11,7 +11,6 @@ use Rattle.cfi_graph.proofs.EndLemmas.{has_ends}
 use Rattle.cfi_policy.specs.declared.group.Group.{Group}
 use Rattle.cfi_policy.specs.Groups.{IsBranch, GoAlike, IsGroup, GroupPrecedes, AreGroups}
 use Rattle.cfi_policy.proofs.SpansLemmas.{joined_alike}
-use Rattle.cfi_policy.proofs.OrderLemmas.{make_group}
 
 -- ---- two lists in one strict order that have the same members are one
 
@@ -97,7 +96,7 @@ module _ (ms : List Placed) where
         λ has. (theirs.targets z).1 ((own.targets z).0 has),
         λ has. (own.targets z).1 ((theirs.targets z).0 has),
       )) in
-      ap (λ b. make_group b one.targets) branches ∙ ap (make_group other.branches) targets
+      ap (λ b. record one { branches = b }) branches ∙ ap (λ t. record other { targets = t }) targets
 
   -- a group of the one list is one of the other
   group_there : (one other : List Group) → AreGroups ms one → AreGroups ms other → (group : Group) → Contains one group

@@ -32,12 +32,9 @@ first_least xs rises x (suc k, within, is) =
 first_contained : (xs : List ℕ) → 0 < length xs → Contains xs (get_or xs 0 0)
 first_contained xs some = (0, some, get_or_default xs 0 (get_or xs 0 0) 0 some)
 
-abbrev pub make_group : (branches targets : List ℕ) → Group
-make_group branches targets = record { branches = branches; targets = targets }
-
 -- branches that may go nowhere
 abbrev pub idle_group : List ℕ → Group
-idle_group idle = make_group idle []
+idle_group idle = record { branches = idle; targets = [] }
 
 module _ (ms : List Placed) (apart : AreApart ms) (tary bary : List ℕ)
     (are : AreNumbers (DirectEdge ms) SLOTS (MAX_CODE_WORDS + 1) tary bary)

@@ -9,6 +9,7 @@ use Rattle.cfi_unit.specs.declared.reading.ReadFault.{ReadFault}
 use Rattle.cfi_unit.specs.declared.reading.ReadFault.TheVariants.{Stops, Memory}
 use Rattle.cfi_unit.specs.Unit.{size_of, words_of}
 use Rattle.cfi_unit.specs.Code.{BeginsAt, UnitCode}
+use Rattle.cfi_values.specs.Lists.{HasWith}
 
 -- the units one after the other, the first at the word `at`
 abbrev pub spots_of : (at : ℕ) → List CodeUnit → List Spot
@@ -31,7 +32,7 @@ pub record AreSpots (words : List ℕ) (spots : List Spot) : Type 0 where
 
 -- one of the units begins at the word
 abbrev pub BeginsUnit : List Spot → (at : ℕ) → Type 0
-BeginsUnit spots at = (spot : Spot) × Contains spots spot × (spot.at ≡ at)
+BeginsUnit spots at = HasWith (λ spot. spot.at) spots at
 
 -- the words are units from their start to their end
 pub record AreUnits (words : List ℕ) : Type 0 where

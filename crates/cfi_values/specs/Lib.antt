@@ -1,3 +1,4 @@
 pub mod Then
 pub mod Some
 pub mod Due
+pub mod Lists

@@ -28,6 +28,7 @@ use Rattle.rv_asm.specs.Reference.{reference_of, is_partner}
 use Rattle.rv_asm.specs.Relocs.{relocs_of}
 use Rattle.rv_asm.specs.Symbols.{names_in}
 use Rattle.rv_asm.specs.Words.{size_of, words_of}
+use Rattle.cfi_values.specs.Some.{holds}
 
 -- the area is data
 abbrev pub is_data : Area → Bool
@@ -49,8 +50,7 @@ is_jump other = false
 
 -- the statement of a line, if it has one, is as the test says
 abbrev pub says : (Statement → Bool) → Option Statement → Bool
-says test None = false
-says test (Some statement) = test statement
+says test statement = holds test statement
 
 -- an indirect jump comes before another kind
 abbrev pub jump_comes : (rest : List Line) → Bool

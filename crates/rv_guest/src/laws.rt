@@ -10,7 +10,7 @@ ghost use Rattle.rv_guest.specs.Guest.{MayAnswer, MayLoad};
 /// Some guest may be answered, under each policy.
 pub fn some_answer_may_come()
     ensures { (policy : ℕ) → policy ≤ MAX_POLICY →
-        (reply : Reply) × (reply.policy ≡ policy) × (r : Raw) × MayAnswer reply r }
+        (r : Raw) × (reply : Reply) × (reply.policy ≡ policy) × MayAnswer reply r }
 {}
 
 /// Each word may come where nothing is logged.

@@ -2,7 +2,7 @@
 use Rattle.std.specs.Prelude.{ℕ, Bool, is_none}
 use Rattle.cfi_unit.specs.Free.{names_reserved}
 use Rattle.cfi_items.specs.Words.{Words, insn_at}
-use Rattle.cfi_items.specs.Insns.{holds}
+use Rattle.cfi_values.specs.Some.{holds}
 use Rattle.cfi_items.specs.inner.Insns.{is_trap, is_bad_link}
 
 -- no instruction

@@ -4,7 +4,8 @@ use Rattle.std.specs.List.{list_any, range_with_len, slice_get}
 use Rattle.cfi_aux.specs.declared.records.Function.{Function}
 use Rattle.cfi_aux.specs.Extent.{byte_end}
 use Rattle.cfi_items.specs.Words.{Words, insn_at, count_of}
-use Rattle.cfi_items.specs.Insns.{holds, is_unlinked}
+use Rattle.cfi_items.specs.Insns.{is_unlinked}
+use Rattle.cfi_values.specs.Some.{holds}
 use Rattle.cfi_items.specs.Items.{is_item}
 use Rattle.cfi_items.specs.Functions.{byte_end_before}
 use Rattle.cfi_items.specs.inner.Insns.{is_nop}

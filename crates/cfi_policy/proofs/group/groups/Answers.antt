@@ -8,7 +8,7 @@ use Rattle.cfi_graph.specs.Edges.{SpanDirectEdges}
 use Rattle.cfi_policy.specs.Groups.{AreGroups}
 use Rattle.cfi_policy.specs.Idle.{AreIdle}
 use Rattle.cfi_policy.proofs.EdgeLemmas.{within_code, spans}
-use Rattle.cfi_policy.proofs.OrderLemmas.{make_group, idle_group, groups_of_classes, groups_and_idle}
+use Rattle.cfi_policy.proofs.OrderLemmas.{idle_group, groups_of_classes, groups_and_idle}
 use Rattle.cfi_policy.proofs.SpansLemmas.{spanned_numbers, spanned_order}
 use Rattle.cfi_policy.proofs.group.groups.Goals as goal
 use Rattle.cfi_policy.proofs.group.groups.Goals.{then-not-is_empty+in_ok-push, else-not-is_empty}
@@ -58,9 +58,9 @@ returns c =
       | then-not-is_empty+in_ok-push w ↦
           let some : 0 < length idle = some_by_test c.in_ok-idle.idle
           (sym c.is_empty.ensures ∙ w.if-not-is_empty.true) in
-          let own : make_group w.from_vec.result w.from_vec-then-not-is_empty.result ≡ idle_group idle =
-          ap (λ slots. make_group slots w.from_vec-then-not-is_empty.result) w.from_vec.ensures
-          ∙ ap (make_group idle) (w.from_vec-then-not-is_empty.ensures ∙ w.new.ensures.items) in
+          let own : record (idle_group w.from_vec.result) { targets = w.from_vec-then-not-is_empty.result } ≡ idle_group idle =
+          ap (λ slots. record (idle_group slots) { targets = w.from_vec-then-not-is_empty.result }) w.from_vec.ensures
+          ∙ ap (λ targets. record (idle_group idle) { targets = targets }) (w.from_vec-then-not-is_empty.ensures ∙ w.new.ensures.items) in
           let is = ap (λ v. v.items) w.groups-is ∙ w.in_ok-push.ensures.items
           ∙ ap (λ group. classes ++ group ∷ []) own in
           subst (AreGroups ms) (sym is)
