@@ -72,13 +72,11 @@ impl Shelf for DirShelf {
     }
 
     fn write(&mut self, name: &str, bytes: &[u8]) -> Result<(), ShelfFault> {
-        let Err(error) = save(&self.rt, self.alloc, name, bytes) else {
+        let part = format!(in self.alloc; "{name}.cfi-part")?;
+        let Err(error) = save(&self.rt, name, part.as_str(), bytes) else {
             return Ok(());
         };
         self.error = Some(error);
-        if error.kind() == ErrorKind::OutOfMemory {
-            return Err(ShelfFault::Memory);
-        }
         raise(&mut self.faults);
         Err(ShelfFault::Failed)
     }

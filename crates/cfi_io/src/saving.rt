@@ -1,7 +1,6 @@
 //! Saving a file so that it stands whole under its name, or what stood there stays.
 
 use crate::pipe::write_file;
-use std::alloc::Global;
 use std::fs::{File, Metadata};
 use std::io::ErrorKind;
 use std::{fs, io};
@@ -39,19 +38,18 @@ fn move_in(
 
 /// Puts the bytes under the name, in place of a file that is there.
 ///
-/// They are written beside it first, under the name with `.cfi-part` at its end, and take its name and its permissions
-/// when all are written. What is no file, as a link or a device, is not replaced: it is written into.
-pub fn save(rt: &HostRuntime, alloc: Global, name: &str, bytes: &[u8]) -> io::Result<()> {
+/// They are written under the name `part` first, which takes the name and its permissions when all are written. What is
+/// no file, as a link or a device, is not replaced: it is written into.
+pub fn save(rt: &HostRuntime, name: &str, part: &str, bytes: &[u8]) -> io::Result<()> {
     let found = found_at(rt, name)?;
     if found.as_ref().is_some_and(|found| !found.is_file()) {
         return write_into(rt, name, bytes);
     }
-    let part = format!(in alloc; "{name}.cfi-part")?;
     // One may be left from a program that was cut off.
-    let _ = fs::remove_file(rt, part.as_str());
-    let saved = move_in(rt, part.as_str(), name, found, bytes);
+    let _ = fs::remove_file(rt, part);
+    let saved = move_in(rt, part, name, found, bytes);
     if saved.is_err() {
-        let _ = fs::remove_file(rt, part.as_str());
+        let _ = fs::remove_file(rt, part);
     }
     saved
 }
