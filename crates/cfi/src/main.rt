@@ -1,11 +1,11 @@
 //! The program `cfi`: the words of the command line, the files of the current folder and standard output, for `top`.
 //!
 //! Stands on `cfi_top` and `cfi_io`. Proved: that it is safe. What it does is the contract of `top`; what the real
-//! files and the real output hold is not claimed.
+//! files and the real output hold is not claimed. Only tested: what it says on standard error.
 #![tactic(auto)]
 
 use cfi_io::{DirShelf, QuietGate, StdSink};
-use cfi_top::{MEMORY, top};
+use cfi_top::{MEMORY, NO_FILE, READ_FAULT, WRITE_FAULT, top};
 use std::process::ExitCode;
 use std::{env, io};
 
@@ -18,12 +18,24 @@ fn words_of(rt: &HostRuntime) -> io::Result<Vec<String>> {
     Ok(words)
 }
 
+// What standard error says of a status, for the user alone: `error` is what the system said of a call that failed.
+fn explain(rt: &HostRuntime, status: u8, error: Option<io::Error>) -> io::Result<()> {
+    match (status, error) {
+        (READ_FAULT | NO_FILE, Some(error)) => eprintln!(rt; "cfi: reading failed: {error}"),
+        (WRITE_FAULT, Some(error)) => eprintln!(rt; "cfi: writing failed: {error}"),
+        (MEMORY, _) => eprintln!(rt; "cfi: no memory is left"),
+        _ => Ok(()),
+    }
+}
+
 fn main(rt: HostRuntime) -> ExitCode {
     let Ok(words) = words_of(&rt) else {
+        let _ = eprintln!(rt; "cfi: the words of the command cannot be read");
         return ExitCode::from(MEMORY);
     };
     let mut shelf = DirShelf::new(rt, rt.alloc());
     let mut sink = StdSink::new(rt);
     let ended = top(rt.alloc(), &words, &mut shelf, &mut sink, &QuietGate::new());
+    let _ = explain(&rt, ended.status, sink.error().or(shelf.error()));
     ExitCode::from(ended.status)
 }

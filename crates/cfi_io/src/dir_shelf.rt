@@ -3,7 +3,8 @@ ghost use Rattle.std.specs.Prelude.{◌≡◌, ◌≤◌, ◌<◌, ℕ, length, 
 ghost use Rattle.cfi_word.specs.declared.limits.TheConstants.{MAX_FILE_BYTES};
 
 use crate::count::raise;
-use crate::pipe::{read_file, write_file};
+use crate::pipe::read_file;
+use crate::saving::save;
 use crate::{Shelf, ShelfFault};
 use cfi_word::limits::MAX_FILE_BYTES;
 use std::alloc::Global;
@@ -17,10 +18,11 @@ pub struct DirShelf {
     alloc: Global,
     faults: u64,
     misses: u64,
+    error: Option<io::Error>,
 }
 
 impl DirShelf {
-    /// The shelf of the current folder, which takes memory from `alloc` where it reads. This call takes none.
+    /// The shelf of the current folder, whose calls take memory from `alloc`. This call takes none.
     pub fn new(rt: HostRuntime, alloc: Global) -> Self
         ensures faults { (⟦<DirShelf as Shelf>⟧.seen result).faults ≡ 0 }
         ensures misses { (⟦<DirShelf as Shelf>⟧.seen result).misses ≡ 0 }
@@ -30,7 +32,13 @@ impl DirShelf {
             alloc,
             faults: 0,
             misses: 0,
+            error: None,
         }
+    }
+
+    /// What the system said of the last call that it refused.
+    pub fn error(&self) -> Option<io::Error> {
+        self.error
     }
 }
 
@@ -40,12 +48,6 @@ fn bytes_of(rt: &HostRuntime, alloc: Global, name: &str) -> io::Result<Vec<u8>> 
     read_file(alloc, &mut file)
 }
 
-// Makes a file of these bytes.
-fn make(rt: &HostRuntime, name: &str, bytes: &[u8]) -> io::Result<()> {
-    let mut file = fs::create(rt, name)?;
-    write_file(&mut file, bytes)
-}
-
 impl Shelf for DirShelf {
     ghost seen = { λ shelf. record { files = None; faults = shelf.faults; misses = shelf.misses } };
 
@@ -53,7 +55,10 @@ impl Shelf for DirShelf {
         let fault = match bytes_of(&self.rt, self.alloc, name) {
             Ok(bytes) if bytes.len() <= MAX_FILE_BYTES => return Ok(bytes),
             Ok(_) => ShelfFault::TooLong,
-            Err(error) => fault_of(&error),
+            Err(error) => {
+                self.error = Some(error);
+                fault_of(&error)
+            }
         };
         match fault {
             ShelfFault::Failed => raise(&mut self.faults),
@@ -64,9 +69,11 @@ impl Shelf for DirShelf {
     }
 
     fn write(&mut self, name: &str, bytes: &[u8]) -> Result<(), ShelfFault> {
-        if make(&self.rt, name, bytes).is_ok() {
+        let part = format!(in self.alloc; "{name}.cfi-part")?;
+        let Err(error) = save(&self.rt, name, part.as_str(), bytes) else {
             return Ok(());
-        }
+        };
+        self.error = Some(error);
         raise(&mut self.faults);
         Err(ShelfFault::Failed)
     }

@@ -12,6 +12,7 @@ mod gate;
 mod mem_shelf;
 mod mem_sink;
 mod pipe;
+mod saving;
 mod shelf;
 mod sink;
 mod std_sink;

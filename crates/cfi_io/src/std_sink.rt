@@ -11,6 +11,7 @@ use std::io;
 pub struct StdSink {
     rt: HostRuntime,
     faults: u64,
+    error: Option<io::Error>,
 }
 
 impl StdSink {
@@ -18,7 +19,16 @@ impl StdSink {
     pub fn new(rt: HostRuntime) -> Self
         ensures { (⟦<StdSink as Sink>⟧.seen result).faults ≡ 0 }
     {
-        StdSink { rt, faults: 0 }
+        StdSink {
+            rt,
+            faults: 0,
+            error: None,
+        }
+    }
+
+    /// What the system said of the last write that it refused.
+    pub fn error(&self) -> Option<io::Error> {
+        self.error
     }
 }
 
@@ -26,9 +36,10 @@ impl Sink for StdSink {
     ghost seen = { λ sink. record { written = None; faults = sink.faults } };
 
     fn write(&mut self, bytes: &[u8]) -> Result<(), SinkFault> {
-        if write_file(&mut io::writer(&self.rt), bytes).is_ok() {
+        let Err(error) = write_file(&mut io::writer(&self.rt), bytes) else {
             return Ok(());
-        }
+        };
+        self.error = Some(error);
         raise(&mut self.faults);
         Err(SinkFault::Failed)
     }

@@ -105,6 +105,23 @@ fn files_of_the_current_folder(rt: HostRuntime) -> Result<(), Fail> {
 }
 
 #[test]
+fn a_failed_save_leaves_what_stood(rt: HostRuntime) -> Result<(), Fail> {
+    let mut shelf = DirShelf::new(rt, rt.alloc());
+    assert_eq!(rt; shelf.write("kept.tmp", b"nop\n"), Ok(()));
+    // A folder stands where the new bytes would be written first.
+    fs::create_dir(&rt, "kept.tmp.cfi-part")?;
+    assert_eq!(rt; shelf.write("kept.tmp", b"ret\n"), Err(ShelfFault::Failed));
+    assert!(rt; shelf.error().is_some());
+    fs::remove_dir(&rt, "kept.tmp.cfi-part")?;
+    assert_eq!(rt;
+        shelf.read("kept.tmp").map_err(|_| "kept.tmp")?.as_slice(),
+        b"nop\n".as_slice()
+    );
+    fs::remove_file(&rt, "kept.tmp")?;
+    Ok(())
+}
+
+#[test]
 fn standard_output(rt: HostRuntime) {
     let mut sink = StdSink::new(rt);
     assert_eq!(rt; sink.write(b"written\n"), Ok(()));
