@@ -4,7 +4,7 @@ use Rattle.std.proofs.lemmas.Bool.{cases_eq}
 use Rattle.std.proofs.lemmas.List.{length-set, get_or-set_same, get_or-set_other}
 use Rattle.std.proofs.lemmas.List.FromFn.{length-range_with_len, get_or-range_with_len}
 use Rattle.std.specs.List.{range_with_len}
-use Rattle.cfi_class.specs.Forest.{IsForest, HasSameRoots, ancestor_of, root_of}
+use Rattle.cfi_class.specs.inner.Forest.{IsForest, HasSameRoots, ancestor_of, root_of}
 
 -- any number of steps leads from a root to itself
 ancestor_of-root : (steps : ℕ) (parents : List ℕ) (node : ℕ) → get_or parents node 0 ≡ node

@@ -2,7 +2,7 @@
 use Rattle.std.proofs.Common.{◌≡◌, ◌⊎◌, ℕ, ◌<◌, ◌≤◌, min, max, eqb, List, length, get_or, set, sym, ◌∙◌, ap, subst, arith, inl, inr}
 use Rattle.std.proofs.lemmas.Bool.{cases_eq, cases_lt, eq-eqb, ne_eqb, cond-true, cond-false}
 use Rattle.std.proofs.lemmas.List.{length-set, get_or-set_same, get_or-set_other}
-use Rattle.cfi_class.specs.Forest.{IsForest, root_of, joined_root}
+use Rattle.cfi_class.specs.inner.Forest.{IsForest, root_of, joined_root}
 use Rattle.cfi_class.proofs.ForestLemmas.{root_of-root, root_of-parent, root_of-unique}
 
 joined_root-most : (one other root : ℕ) → root ≡ max one other → joined_root one other root ≡ min one other

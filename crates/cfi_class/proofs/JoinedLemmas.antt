@@ -2,10 +2,10 @@
 use Rattle.std.proofs.Common.{◌≡◌, ℕ, zero, suc, ◌<◌, List, All, sym, subst, ◌∙◌}
 use Rattle.cfi_word.specs.declared.lists.Edge.{Edge}
 use Rattle.cfi_word.specs.Chain.{ChainOf, Chain}
-use Rattle.cfi_class.specs.Forest.{root_of}
+use Rattle.cfi_class.specs.inner.Forest.{root_of}
 use Rattle.cfi_class.specs.Labels.{HasEdge, IsEdgeWithin, IsReached, IsUsed}
-use Rattle.cfi_class.specs.Linked.{IsEnd, end_node, IsForestOf}
-use Rattle.cfi_class.specs.Linked.End.{Slot, Address}
+use Rattle.cfi_class.specs.inner.Linked.{IsEnd, end_node, IsForestOf}
+use Rattle.cfi_class.specs.inner.Linked.End.{Slot, Address}
 use Rattle.cfi_class.proofs.LinkedLemmas.{chain_from_Linked}
 
 -- a chain stays in one tree

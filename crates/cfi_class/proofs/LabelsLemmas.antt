@@ -4,11 +4,11 @@ use Rattle.std.proofs.lemmas.Bool.{cases_lt, cases_Bool, false≢true}
 use Rattle.std.proofs.lemmas.List.{get_or_past}
 use Rattle.cfi_word.specs.declared.ids.TheConstants.{FIELD_MAX}
 use Rattle.cfi_word.specs.Chain.{Chain}
-use Rattle.cfi_class.specs.Forest.{HasSameRoots, root_of}
+use Rattle.cfi_class.specs.inner.Forest.{HasSameRoots, root_of}
 use Rattle.cfi_class.specs.Labels.{IsReached, IsUsed, IsClass, IsClassWhere, AreNumbers, AreOrderedBySlot}
-use Rattle.cfi_class.specs.Linked.{Linked, end_node, IsForestOf}
-use Rattle.cfi_class.specs.Linked.End.{Slot, Address}
-use Rattle.cfi_class.specs.Numbering.{IsMarked, MarksUsed, AreSlotNumbers, AreWordNumbers}
+use Rattle.cfi_class.specs.inner.Linked.{Linked, end_node, IsForestOf}
+use Rattle.cfi_class.specs.inner.Linked.End.{Slot, Address}
+use Rattle.cfi_class.specs.inner.Numbering.{IsMarked, MarksUsed, AreSlotNumbers, AreWordNumbers}
 use Rattle.cfi_class.proofs.ForestLemmas.{root_of-low, root_of-root_of}
 use Rattle.cfi_class.proofs.LinkedLemmas.{first_edge, last_edge}
 use Rattle.cfi_class.proofs.JoinedLemmas.{chain_root, chain_from_roots}

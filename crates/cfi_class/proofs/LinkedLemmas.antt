@@ -2,9 +2,9 @@
 use Rattle.std.proofs.Common.{◌≡◌, ◌⊎◌, ℕ, suc, refl, subst, inl, inr}
 use Rattle.cfi_word.specs.Chain.{ChainOf}
 use Rattle.cfi_class.specs.Labels.{IsReached, IsUsed}
-use Rattle.cfi_class.specs.Linked.{End, Linked}
-use Rattle.cfi_class.specs.Linked.End.{Slot, Address}
-use Rattle.cfi_class.specs.Linked.Linked.{same, to_address, to_slot}
+use Rattle.cfi_class.specs.inner.Linked.{End, Linked}
+use Rattle.cfi_class.specs.inner.Linked.End.{Slot, Address}
+use Rattle.cfi_class.specs.inner.Linked.Linked.{same, to_address, to_slot}
 
 address_of : {one other : ℕ} → Address one ≡ Address other → one ≡ other
 address_of is = cc

@@ -3,8 +3,8 @@ use Rattle.std.proofs.Common.{◌≡◌, ◌↔◌, ℕ, ◌+◌, ◌<◌, ◌�
 use Rattle.std.proofs.lemmas.Bool.{cases_lt, lt-ltb, le-ltb, cond-true, cond-false, false≢true}
 use Rattle.std.proofs.lemmas.List.{length_push, get_or_append_left, get_or_at, get_or_past}
 use Rattle.cfi_word.specs.declared.ids.TheConstants.{FIELD_MAX}
-use Rattle.cfi_class.specs.Forest.{root_of}
-use Rattle.cfi_class.specs.Numbering.{IsMarked, AreSlotNumbers}
+use Rattle.cfi_class.specs.inner.Forest.{root_of}
+use Rattle.cfi_class.specs.inner.Numbering.{IsMarked, AreSlotNumbers}
 
 -- two slots have one number exactly where they have one root
 abbrev pub AreAlike : (parents numbers : List ℕ) (one other : ℕ) → Type 0

@@ -4,11 +4,11 @@ use Rattle.std.proofs.lemmas.Bool.{cases_eq}
 use Rattle.std.proofs.lemmas.List.{length-set, get_or-set_same, get_or-set_other}
 use Rattle.cfi_word.specs.declared.lists.Edge.{Edge}
 use Rattle.cfi_class.specs.Labels.{IsEdgeWithin, IsUsed}
-use Rattle.cfi_class.specs.Forest.{IsForest, root_of, joined_root}
-use Rattle.cfi_class.specs.Linked.{End, Linked, IsEnd, end_node, IsForestOf}
-use Rattle.cfi_class.specs.Linked.End.{Slot, Address}
-use Rattle.cfi_class.specs.Linked.Linked.{same, to_address, to_slot}
-use Rattle.cfi_class.specs.Numbering.{IsMarked, MarksUsed}
+use Rattle.cfi_class.specs.inner.Forest.{IsForest, root_of, joined_root}
+use Rattle.cfi_class.specs.inner.Linked.{End, Linked, IsEnd, end_node, IsForestOf}
+use Rattle.cfi_class.specs.inner.Linked.End.{Slot, Address}
+use Rattle.cfi_class.specs.inner.Linked.Linked.{same, to_address, to_slot}
+use Rattle.cfi_class.specs.inner.Numbering.{IsMarked, MarksUsed}
 use Rattle.cfi_class.proofs.JoinLemmas.{joined_root-one, joined_root-two, joined_root-cases}
 use Rattle.cfi_class.proofs.LinkedLemmas.{Linked-append, Linked-map}
 use Rattle.cfi_class.proofs.EdgeLemmas.{HasFirst, edge_at, HasFirst-before, HasFirst-here, HasFirst-cases, HasFirst-within, edge_at-within}

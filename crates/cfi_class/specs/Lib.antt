@@ -1,4 +1,2 @@
-pub mod Forest
 pub mod Labels
-pub mod Linked
-pub mod Numbering
+pub mod inner

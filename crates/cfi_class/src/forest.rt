@@ -1,7 +1,7 @@
 //! Nodes in trees, where two trees can become one: what was joined has one root.
 
 ghost use Rattle.std.specs.Prelude.{◌≡◌, ℕ, ◌<◌, ◌≤◌, List, length, IfOk};
-ghost use Rattle.cfi_class.specs.Forest.{IsForest};
+ghost use Rattle.cfi_class.specs.inner.Forest.{IsForest};
 
 use std::alloc::{AllocError, Global};
 use std::marker::Model;
@@ -22,7 +22,7 @@ impl Model for Forest {
 }
 
 impl Forest {
-    ghost use Rattle.cfi_class.specs.Forest.{HasSameRoots, root_of, joined_root};
+    ghost use Rattle.cfi_class.specs.inner.Forest.{HasSameRoots, root_of, joined_root};
 
     // So many nodes, each the root of a tree of its own.
     pub(crate) fn new(alloc: Global, nodes: u32) -> Result<Forest, AllocError>

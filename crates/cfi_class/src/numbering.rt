@@ -2,8 +2,8 @@
 
 ghost use Rattle.std.specs.Prelude.{◌≡◌, ℕ, ◌+◌, ◌<◌, ◌≤◌, ◌^◌, length, slice_index, nat_lt, if◌then◌else◌, IfOk};
 ghost use Rattle.cfi_word.specs.declared.ids.TheConstants.{FIELD_MAX};
-ghost use Rattle.cfi_class.specs.Forest.{HasSameRoots, root_of};
-ghost use Rattle.cfi_class.specs.Numbering.{IsMarked, AreSlotNumbers, AreWordNumbers};
+ghost use Rattle.cfi_class.specs.inner.Forest.{HasSameRoots, root_of};
+ghost use Rattle.cfi_class.specs.inner.Numbering.{IsMarked, AreSlotNumbers, AreWordNumbers};
 
 use crate::forest::Forest;
 use cfi_word::FIELD_MAX;

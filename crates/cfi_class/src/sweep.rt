@@ -2,8 +2,8 @@
 
 ghost use Rattle.std.specs.Prelude.{◌+◌, ◌<◌, ◌^◌, All, IfOk};
 ghost use Rattle.cfi_class.specs.Labels.{HasEdge, IsEdgeWithin};
-ghost use Rattle.cfi_class.specs.Linked.{IsForestOf};
-ghost use Rattle.cfi_class.specs.Numbering.{MarksUsed};
+ghost use Rattle.cfi_class.specs.inner.Linked.{IsForestOf};
+ghost use Rattle.cfi_class.specs.inner.Numbering.{MarksUsed};
 
 use crate::forest::Forest;
 use cfi_word::Edge;

@@ -8,10 +8,10 @@ use Rattle.cfi_flow.specs.declared.links.Flow.{Flow}
 use Rattle.cfi_flow.specs.declared.fan.Fan.{Fan}
 use Rattle.cfi_flow.specs.declared.fans.FlowRows.{FlowRows}
 use Rattle.cfi_flow.specs.Rows.{AreRows}
-use Rattle.cfi_flow.specs.Reach.{IsWalk}
+use Rattle.cfi_flow.specs.inner.Reach.{IsWalk}
 use Rattle.cfi_flow.specs.Flow.{Links, IsPath, PointsAt, ReturnsAt, GoesBy, IsSound, AreBelow, BeginBelow}
 use Rattle.cfi_flow.specs.Fans.{Joins, JoinsOne, AreFans}
-use Rattle.cfi_flow.specs.FlowRows.{flow_row, AreFlowRows, HaveNodes, IsPointerFan, IsReturnFan}
+use Rattle.cfi_flow.specs.inner.FlowRows.{flow_row, AreFlowRows, HaveNodes, IsPointerFan, IsReturnFan}
 use Rattle.cfi_flow.proofs.Members.{no_member, member_flat, from_flat}
 use Rattle.cfi_flow.proofs.RowLemmas.{from_row, to_row}
 

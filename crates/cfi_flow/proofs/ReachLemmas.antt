@@ -4,7 +4,7 @@ use Rattle.std.specs.List.{Contains}
 use Rattle.std.proofs.lemmas.Bool.{cases_eq, cases_lt, false≢true}
 use Rattle.std.proofs.lemmas.List.{length-set, length-append, get_or-set_same, get_or-set_other, get_or_append_left, get_or_default, get_or_past, get_or-replicate, length-replicate}
 use Rattle.std.proofs.lemmas.List.Elements.{Contains-append_left, Contains-get_or, Contains-push, Contains-push_cases}
-use Rattle.cfi_flow.specs.Reach.{IsWalk, AreReached, IsMarked, AreClear, unmarked, IsVisited, IsCleared}
+use Rattle.cfi_flow.specs.inner.Reach.{IsWalk, AreReached, IsMarked, AreClear, unmarked, IsVisited, IsCleared}
 use Rattle.cfi_flow.proofs.Members.{member_first, member_of_one}
 
 -- one mark fewer is missing

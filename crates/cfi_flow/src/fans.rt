@@ -4,8 +4,8 @@ ghost use Rattle.std.specs.Prelude.{◌≡◌, ◌<◌, ◌++◌, length, All, I
 ghost use Rattle.std.specs.List.{flat_map};
 ghost use Rattle.cfi_flow.specs.Flow.{IsSound};
 ghost use Rattle.cfi_flow.specs.Fans.{AreFans};
-ghost use Rattle.cfi_flow.specs.Reach.{AreClear};
-ghost use Rattle.cfi_flow.specs.FlowRows.{flow_row, AreFlowRows, HaveNodes, IsPointerFan, IsReturnFan};
+ghost use Rattle.cfi_flow.specs.inner.Reach.{AreClear};
+ghost use Rattle.cfi_flow.specs.inner.FlowRows.{flow_row, AreFlowRows, HaveNodes, IsPointerFan, IsReturnFan};
 
 use crate::fan::Fan;
 use crate::links::Flow;

@@ -2,7 +2,7 @@
 
 ghost use Rattle.std.specs.Prelude.{◌<◌, length, vec_len, All, IfOk, OnOk};
 ghost use Rattle.std.specs.List.{AllByRecursion};
-ghost use Rattle.cfi_flow.specs.Reach.{AreReached, AreClear, IsVisited, IsCleared};
+ghost use Rattle.cfi_flow.specs.inner.Reach.{AreReached, AreClear, IsVisited, IsCleared};
 
 use crate::rows::Rows;
 use std::alloc::{AllocError, Global};

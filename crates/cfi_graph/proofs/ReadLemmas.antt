@@ -15,7 +15,7 @@ use Rattle.cfi_graph.specs.declared.fact.Fact.TheVariants as facts
 use Rattle.cfi_graph.specs.Code.{Stands}
 use Rattle.cfi_graph.specs.Calls.{HasKind}
 use Rattle.cfi_graph.specs.Facts.{IsJumpFact, IsBranchFact, IsUnitFact, UnitTells, IsTold, AreFacts}
-use Rattle.cfi_graph.specs.Flows.{arrow_in, site_in, return_in, pointer_in, entry_in, listed_in, IsFlowOf}
+use Rattle.cfi_graph.specs.inner.Flows.{arrow_in, site_in, return_in, pointer_in, entry_in, listed_in, IsFlowOf}
 use Rattle.cfi_graph.proofs.FactLemmas.{link}
 
 -- ---- members of what a function picks

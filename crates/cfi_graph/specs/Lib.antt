@@ -4,6 +4,6 @@ pub mod Calls
 pub mod Direct
 pub mod Facts
 pub mod Reading
-pub mod Flows
 pub mod Edges
 pub mod HandMade
+pub mod inner

@@ -4,7 +4,7 @@ ghost use Rattle.std.specs.Prelude.{◌≡◌, ◌<◌, ◌^◌, IfOk};
 ghost use Rattle.cfi_types.specs.Classes.{AreClasses};
 ghost use Rattle.cfi_flow.specs.Flow.{IsSound};
 ghost use Rattle.cfi_graph.specs.Reading.{tables_of, node_count, HaveGraph};
-ghost use Rattle.cfi_graph.specs.Flows.{GoesAs};
+ghost use Rattle.cfi_graph.specs.inner.Flows.{GoesAs};
 ghost use Rattle.cfi_graph.specs.Edges.{AreDirectEdges, SpanDirectEdges};
 
 use crate::fact::flow_by;

@@ -2,7 +2,7 @@
 
 ghost use Rattle.std.specs.Prelude.{◌≡◌, IfOk};
 ghost use Rattle.std.specs.List.{filter_map};
-ghost use Rattle.cfi_graph.specs.Flows.{arrow_in, site_in, return_in, pointer_in, entry_in, listed_in, IsFlowOf};
+ghost use Rattle.cfi_graph.specs.inner.Flows.{arrow_in, site_in, return_in, pointer_in, entry_in, listed_in, IsFlowOf};
 
 use cfi_flow::{Flow, Link};
 use std::alloc::{AllocError, Global};

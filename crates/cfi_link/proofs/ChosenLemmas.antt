@@ -12,7 +12,7 @@ use Rattle.cfi_link.specs.declared.fault.LinkFault.{LinkFault}
 use Rattle.cfi_link.specs.declared.fault.LinkFault.TheVariants as faults
 use Rattle.cfi_link.specs.declared.chosen.Definitions.{Definitions}
 use Rattle.cfi_link.specs.Chosen.{defines_global, defines_weak, names_with, global_in, weak_in, chosen_in, is_second, twice_from, twice_in}
-use Rattle.cfi_link.specs.Kept.{with_defined, chosen_by, IsTwice}
+use Rattle.cfi_link.specs.inner.Kept.{with_defined, chosen_by, IsTwice}
 
 -- ---- symbols with their numbers
 

@@ -20,7 +20,7 @@ use Rattle.cfi_link.specs.Chosen.{chosen_in, reaches_of, numbers_of}
 use Rattle.cfi_link.specs.Applied.{applied_from, kept_in, by_area}
 use Rattle.cfi_link.specs.Faults.{sizes_of, passed, relocated_by}
 use Rattle.cfi_link.specs.Linked.{IsMadeOf, kept_relocs}
-use Rattle.cfi_link.specs.Made.{object_of, AreSound}
+use Rattle.cfi_link.specs.inner.Made.{object_of, AreSound}
 use Rattle.cfi_link.proofs.AppliedLemmas.{applied_same, kept_same}
 use Rattle.cfi_link.proofs.LimitLemmas.{few}
 use Rattle.cfi_link.proofs.SoundLemmas.{Holds, first}

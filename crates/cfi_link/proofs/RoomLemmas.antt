@@ -8,7 +8,7 @@ use Rattle.cfi_aux.specs.declared.modules.Module.{Module}
 use Rattle.cfi_aux.specs.Sound.{IsSoundModule}
 use Rattle.cfi_link.specs.declared.start.Start.{Start}
 use Rattle.cfi_link.specs.Joined.{Joined, start_of}
-use Rattle.cfi_link.specs.Room.{HasNodes, HasRoom}
+use Rattle.cfi_link.specs.inner.Room.{HasNodes, HasRoom}
 
 -- the ends of a module's text and data
 record HasEnds (start : Start) (object : Object) : Type 0 where

@@ -20,9 +20,9 @@ use Rattle.cfi_aux.specs.Sound.{IsSoundModule}
 use Rattle.elf_read.specs.Sound.{IsInsideArea, HasField, HasSymbol, IsSoundSymbol, IsSoundReloc}
 use Rattle.cfi_link.specs.declared.start.Start.{Start}
 use Rattle.cfi_link.specs.Joined.{Joined, nothing, with_module, joined_of, start_of, value_at, offset_at, symbol_at, reloc_at, own_reloc_at, node_at, function_at, branch_at, shifted}
-use Rattle.cfi_link.specs.Room.{HasRoom}
+use Rattle.cfi_link.specs.inner.Room.{HasRoom}
 use Rattle.cfi_link.specs.Faults.{sizes_of, passed, passed_by}
-use Rattle.cfi_link.specs.Made.{object_of, AreSound}
+use Rattle.cfi_link.specs.inner.Made.{object_of, AreSound}
 use Rattle.cfi_link.proofs.JoinedLemmas.{with_module-lengths, fold-below}
 use Rattle.cfi_link.proofs.LimitLemmas.{few, room_of}
 use Rattle.cfi_link.proofs.RoomLemmas.{room_nodes}

@@ -1,11 +1,7 @@
 pub mod Gap
 pub mod Joined
-pub mod Room
-pub mod Capped
 pub mod Chosen
 pub mod Applied
-pub mod Ready
-pub mod Kept
 pub mod Faults
 pub mod Linked
-pub mod Made
+pub mod inner

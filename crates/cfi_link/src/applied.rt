@@ -2,8 +2,8 @@
 
 ghost use Rattle.std.specs.Prelude.{◌≡◌, All, Ok, Err, OnOk, IfOk, IfErr, length};
 ghost use Rattle.cfi_link.specs.Applied.{is_jump, reach_of_symbol, target_of, applied_to, applied_from};
-ghost use Rattle.cfi_link.specs.Ready.{CanBeApplied};
-ghost use Rattle.cfi_link.specs.Kept.{IsRelocFault};
+ghost use Rattle.cfi_link.specs.inner.Ready.{CanBeApplied};
+ghost use Rattle.cfi_link.specs.inner.Kept.{IsRelocFault};
 
 use crate::fault::LinkFault;
 use crate::joined::OwnReloc;

@@ -4,7 +4,7 @@ ghost use Rattle.std.specs.Prelude.{◌≡◌, ◌<◌, ◌^◌, List, ℕ, fals
 ghost use Rattle.cfi_place.specs.Names.{find_in, with_name};
 ghost use Rattle.cfi_link.specs.declared.fault.LinkFault.TheVariants as faults;
 ghost use Rattle.cfi_link.specs.Chosen.{defines_global, defines_weak, is_second, loses, chosen_in, twice_in};
-ghost use Rattle.cfi_link.specs.Kept.{chosen_by, with_defined, IsTwice};
+ghost use Rattle.cfi_link.specs.inner.Kept.{chosen_by, with_defined, IsTwice};
 
 use crate::fault::LinkFault;
 use cfi_place::Symbols;

@@ -5,7 +5,7 @@ ghost use Rattle.cfi_aux.specs.Sound.{IsSoundModule};
 ghost use Rattle.cfi_link.specs.Joined.{nothing, with_data, start_of, with_module, joined_of};
 ghost use Rattle.cfi_link.specs.Gap.{gap};
 ghost use Rattle.cfi_link.specs.Faults.{passed_by};
-ghost use Rattle.cfi_link.specs.Room.{HasRoom};
+ghost use Rattle.cfi_link.specs.inner.Room.{HasRoom};
 
 use crate::records::{push_branches, push_functions};
 use crate::shift::{push_nodes, push_relocs, push_symbols};
@@ -46,7 +46,7 @@ impl Model for Joined {
 
     ghost Value = { Whole };
 
-    ghost use Rattle.cfi_link.specs.Kept.{whole_of};
+    ghost use Rattle.cfi_link.specs.inner.Kept.{whole_of};
 
     ghost view = { whole_of };
 }

@@ -6,9 +6,9 @@ ghost use Rattle.cfi_aux.specs.Records.{CanBeWritten, spelling as records_spelli
 ghost use Rattle.cfi_aux.specs.Sound.{IsSoundModule};
 ghost use Rattle.cfi_link.specs.Chosen.{chosen_in, twice_in};
 ghost use Rattle.cfi_link.specs.Faults.{sizes_of, passed, relocated_by, IsFirstLinkFault};
-ghost use Rattle.cfi_link.specs.Kept.{chosen_by, IsRelocFault};
+ghost use Rattle.cfi_link.specs.inner.Kept.{chosen_by, IsRelocFault};
 ghost use Rattle.cfi_link.specs.Linked.{AreModules, IsTextOf, IsMadeOf, Linked, kept_relocs};
-ghost use Rattle.cfi_link.specs.Made.{AreSound, IsMakeFault};
+ghost use Rattle.cfi_link.specs.inner.Made.{AreSound, IsMakeFault};
 
 use crate::applied::applied_text;
 use crate::chosen::{Definitions, choose};

@@ -2,7 +2,7 @@
 
 ghost use Rattle.std.specs.Prelude.{◌≡◌, ◌<◌, ◌^◌, length, IfOk};
 ghost use Rattle.cfi_link.specs.Chosen.{text_value, chosen_value, settled_symbol, reach_of, reaches_of};
-ghost use Rattle.cfi_link.specs.Kept.{chosen_by};
+ghost use Rattle.cfi_link.specs.inner.Kept.{chosen_by};
 
 use crate::chosen::Definitions;
 use elf_read::{Place, Symbol};

@@ -2,7 +2,7 @@
 
 ghost use Rattle.std.specs.Prelude.{◌≡◌, ◌<◌, ◌^◌, length, IfOk};
 ghost use Rattle.cfi_link.specs.Chosen.{is_local_symbol, settled_symbol, settled, in_order};
-ghost use Rattle.cfi_link.specs.Kept.{chosen_by};
+ghost use Rattle.cfi_link.specs.inner.Kept.{chosen_by};
 
 use crate::chosen::Definitions;
 use elf_read::{Binding, Place, Symbol};

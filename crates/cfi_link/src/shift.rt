@@ -4,7 +4,7 @@ ghost use Rattle.std.specs.Prelude.{◌≡◌, ◌<◌, ◌^◌, ◌++◌, All, 
 ghost use Rattle.std.specs.List.{enumerate_from};
 ghost use Rattle.cfi_types.specs.Kind.{number_count, numbers_of, nodes_of};
 ghost use Rattle.cfi_link.specs.Joined.{value_at, symbol_at, reloc_at, own_reloc_at, node_at};
-ghost use Rattle.cfi_link.specs.Room.{HasValue, HasPlace, HasNodes};
+ghost use Rattle.cfi_link.specs.inner.Room.{HasValue, HasPlace, HasNodes};
 
 use crate::joined::OwnReloc;
 use crate::start::Start;

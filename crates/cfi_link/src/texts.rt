@@ -1,7 +1,7 @@
 //! Whether the texts of modules are units from their start to their end.
 
 ghost use Rattle.std.specs.Prelude.{◌≡◌, ◌<◌, ◌^◌, All, length, IfOk, IfSome, IfNone, IfErr, OnOk};
-ghost use Rattle.cfi_link.specs.Kept.{IsTextFault};
+ghost use Rattle.cfi_link.specs.inner.Kept.{IsTextFault};
 ghost use Rattle.cfi_link.specs.Faults.{has_text, HaveTexts};
 ghost use Rattle.cfi_unit.specs.Spots.{AreUnits, StopsAt};
 

@@ -4,10 +4,13 @@ ghost use Rattle.cfi_values.specs.Due.{Leaves};
 
 use crate::fault::PlanFault;
 use crate::index::{give_number, number_of};
-use cfi_word::limits::{GUESTS, FUEL, MAX_FUEL, MAX_MODULES, MAX_REFRESHES, MAX_SCRIPT, MAX_STARTS, MAX_CODE_WORDS, MIN_CODE_WORDS, MAX_EPOCH, MAX_VERSIONS, MIN_VERSIONS};
 use crate::line::Line;
 use crate::plan::{Plan, PlanModule, ScriptLine};
-use cfi_values::{Text, Items};
+use cfi_values::{Items, Text};
+use cfi_word::limits::{
+    FUEL, GUESTS, MAX_CODE_WORDS, MAX_EPOCH, MAX_FUEL, MAX_MODULES, MAX_REFRESHES, MAX_SCRIPT,
+    MAX_STARTS, MAX_VERSIONS, MIN_CODE_WORDS, MIN_VERSIONS,
+};
 use std::alloc::Global;
 use std::collections::BTreeMap;
 use std::marker::Model;

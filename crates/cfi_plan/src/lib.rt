@@ -17,6 +17,5 @@ mod tests;
 
 pub use fault::PlanFault;
 pub use journal::{Entry, JournalLine, ModuleLine, Who};
-pub use cfi_word::MAX_GUESTS;
 pub use plan::{Plan, PlanModule, ScriptLine};
 pub use reading::read_plan;

@@ -2,8 +2,8 @@ ghost use Rattle.std.specs.Prelude.{◌≡◌, IfOk};
 ghost use Rattle.cfi_plan.specs.Line.{form_of, pair_form, numbered_form, counted_form, module_form, start_in};
 ghost use Rattle.cfi_text.specs.Words.{words_in};
 
-use cfi_text::{file_of, name_of, next_word, read_dec};
 use crate::plan::PlanModule;
+use cfi_text::{file_of, name_of, next_word, read_dec};
 use cfi_values::Text;
 use std::alloc::{AllocError, Global};
 

@@ -1,4 +1,4 @@
-use cfi_values::{Text, Items};
+use cfi_values::{Items, Text};
 
 /// A module of a plan.
 #[derive(Debug, PartialEq, Eq, Drop)]

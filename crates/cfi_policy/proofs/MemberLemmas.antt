@@ -13,7 +13,7 @@ use Rattle.cfi_flow.specs.Flow.{Links, BeginBelow}
 use Rattle.cfi_flow.specs.Rows.{AreRows}
 use Rattle.cfi_flow.proofs.Members.{member_first, member_of_one}
 use Rattle.cfi_flow.proofs.RowLemmas.{make_link, from_row, to_row}
-use Rattle.cfi_policy.specs.ByClass.{IsMember, AreMembers, AreLinksBy, AreRowsBy}
+use Rattle.cfi_policy.specs.inner.ByClass.{IsMember, AreMembers, AreLinksBy, AreRowsBy}
 
 -- what a place had before
 kept : (step : ℕ) (numbers : List ℕ) (last number member : ℕ) → IsMember step numbers number member

@@ -3,9 +3,9 @@ use Rattle.std.proofs.Common.{◌↔◌, ℕ, zero, suc, ◌*◌, List, get_or, 
 use Rattle.cfi_word.specs.Chain.{ChainOf, Chain}
 use Rattle.cfi_word.specs.Table.{slots_of}
 use Rattle.cfi_class.specs.Labels.{IsReached, IsUsed, IsClassWhere, AreNumbers, AreOrderedBySlot, AreLabels}
-use Rattle.cfi_class.specs.Linked.{End, Linked}
-use Rattle.cfi_class.specs.Linked.End.{Slot, Address}
-use Rattle.cfi_class.specs.Linked.Linked.{same, to_address, to_slot}
+use Rattle.cfi_class.specs.inner.Linked.{End, Linked}
+use Rattle.cfi_class.specs.inner.Linked.End.{Slot, Address}
+use Rattle.cfi_class.specs.inner.Linked.Linked.{same, to_address, to_slot}
 use Rattle.cfi_class.proofs.LinkedLemmas.{Linked-append, chain_from_Linked}
 use Rattle.cfi_class.proofs.JoinedLemmas.{first_of_chain, last_of_chain}
 use Rattle.cfi_policy.specs.Spans.{Spans}

@@ -1,7 +1,7 @@
 //! The slots and addresses of each class.
 
 ghost use Rattle.std.specs.Prelude.{◌+◌, ◌*◌, ◌<◌, ◌^◌, length, IfOk};
-ghost use Rattle.cfi_policy.specs.ByClass.{AreLinksBy, AreRowsBy, IsCount, AreClassGroups};
+ghost use Rattle.cfi_policy.specs.inner.ByClass.{AreLinksBy, AreRowsBy, IsCount, AreClassGroups};
 
 use crate::group::Group;
 use cfi_flow::{Link, Rows, rows_of};

@@ -3,7 +3,7 @@
 ghost use Rattle.std.specs.Prelude.{◌≡◌, ℕ, ◌+◌, ◌<◌, length, IfOk, OnOk};
 ghost use Rattle.cfi_word.specs.declared.sizes.TheConstants.{SLOTS};
 ghost use Rattle.cfi_graph.specs.Reading.{HaveGraph};
-ghost use Rattle.cfi_policy.specs.Idle.{AddsIdle, AreIdle};
+ghost use Rattle.cfi_policy.specs.inner.Idle.{AddsIdle, AreIdle};
 
 use cfi_aux::Placed;
 use cfi_word::FIELD_MAX;

@@ -10,7 +10,7 @@ use Rattle.cfi_report.specs.declared.line.Line.TheVariants as line
 use Rattle.cfi_report.specs.declared.report.Report.{Report}
 use Rattle.cfi_report.specs.declared.report.GuestPart.{GuestPart}
 use Rattle.cfi_report.specs.Report.{ending_lines, guest_lines, report_lines}
-use Rattle.cfi_report.specs.Draft.{ReportSoFar, no_lines, report_of, with_report_line}
+use Rattle.cfi_report.specs.inner.Draft.{ReportSoFar, no_lines, report_of, with_report_line}
 
 -- the draft after the lines
 abbrev pub with_lines : ReportSoFar → List Line → ReportSoFar

@@ -9,7 +9,7 @@ use Rattle.cfi_report.specs.declared.stage.Stage.{Stage}
 use Rattle.cfi_report.specs.declared.stage.Stage.TheVariants as stages
 use Rattle.cfi_report.specs.declared.report.Report.{Report}
 use Rattle.cfi_report.specs.Report.{IsLine, report_lines, IsReport}
-use Rattle.cfi_report.specs.Draft.{ReportSoFar, report_of, with_report_line}
+use Rattle.cfi_report.specs.inner.Draft.{ReportSoFar, report_of, with_report_line}
 use Rattle.cfi_report.proofs.OrderLemmas.{with_line-stage, Follows, last_stage, last_stage-append}
 use Rattle.cfi_report.proofs.BuiltLemmas.{with_lines}
 use Rattle.cfi_report.proofs.ReachedLemmas.{IsReached, next-IsReached, ended-IsReport}

@@ -7,7 +7,7 @@ use Rattle.std.proofs.lemmas.Slice.Eq.{bytes_eq-Decides}
 use Rattle.cfi_text.specs.Decimal.{dec_text, small_number_in}
 use Rattle.cfi_text.specs.Hex.{hex8_text}
 use Rattle.cfi_text.specs.Names.{is_name, name_in}
-use Rattle.cfi_report.specs.Form.{hex_address}
+use Rattle.cfi_report.specs.inner.Form.{hex_address}
 use Rattle.cfi_report.proofs.WordLemmas.{Spells, small_number_in-spells, address_in-spells}
 
 -- what is said, if anything, is so

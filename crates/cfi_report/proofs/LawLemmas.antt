@@ -7,7 +7,7 @@ use Rattle.cfi_report.specs.declared.line.Line.{Line}
 use Rattle.cfi_report.specs.declared.report.Report.{Report}
 use Rattle.cfi_report.specs.Line.{line_text}
 use Rattle.cfi_report.specs.Report.{report_lines, lines_text, report_text, IsReport, BeginsAs, IsFirstFaultyLine}
-use Rattle.cfi_report.specs.Draft.{no_lines, report_of}
+use Rattle.cfi_report.specs.inner.Draft.{no_lines, report_of}
 use Rattle.cfi_report.proofs.BuiltLemmas.{with_lines, lines_of-built}
 use Rattle.cfi_report.proofs.NextLemmas.{whole_follows}
 use Rattle.cfi_report.proofs.ClosingLemmas.{title-IsLine, force-IsLine, end-IsLine}

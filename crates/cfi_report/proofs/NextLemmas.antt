@@ -7,9 +7,9 @@ use Rattle.cfi_report.specs.declared.line.Line.{Line}
 use Rattle.cfi_report.specs.declared.stage.Stage.{Stage}
 use Rattle.cfi_report.specs.Line.{line_words, line_text}
 use Rattle.cfi_report.specs.Report.{IsLine, lines_text}
-use Rattle.cfi_report.specs.Draft.{may_follow}
-use Rattle.cfi_report.specs.Next.{IsNext, HasNoNext}
-use Rattle.cfi_report.specs.Form.{Lacks, spaced_words, line_form}
+use Rattle.cfi_report.specs.inner.Draft.{may_follow}
+use Rattle.cfi_report.specs.inner.Next.{IsNext, HasNoNext}
+use Rattle.cfi_report.specs.inner.Form.{Lacks, spaced_words, line_form}
 use Rattle.cfi_report.proofs.BackLemmas.{form-back}
 use Rattle.cfi_report.proofs.SaidLemmas.{form-says}
 use Rattle.cfi_report.proofs.SolidLemmas.{line_words-parted, line_words-no_end, line_text-long}

@@ -12,7 +12,7 @@ use Rattle.cfi_report.specs.declared.stage.Stage.TheVariants as stages
 use Rattle.cfi_report.specs.declared.report.Report.{Report}
 use Rattle.cfi_report.specs.declared.report.GuestPart.{GuestPart}
 use Rattle.cfi_report.specs.Report.{PicksDiffer, ending_lines, guest_lines, report_lines}
-use Rattle.cfi_report.specs.Draft.{ReportSoFar, may_follow, takes_journal, takes_guests, with_report_line}
+use Rattle.cfi_report.specs.inner.Draft.{ReportSoFar, may_follow, takes_journal, takes_guests, with_report_line}
 
 -- what the last line is then
 abbrev pub stage_after : Line → Stage

@@ -10,7 +10,7 @@ use Rattle.cfi_report.specs.declared.stage.Stage.{Stage}
 use Rattle.cfi_report.specs.declared.stage.Stage.TheVariants as stages
 use Rattle.cfi_report.specs.declared.report.GuestPart.{GuestPart}
 use Rattle.cfi_report.specs.Report.{IsLine, differ, PicksDiffer, guest_lines, report_lines, IsReport}
-use Rattle.cfi_report.specs.Draft.{ReportSoFar, no_lines, report_of, may_follow, is_start, is_titled, takes_modules, takes_journal, takes_guests, takes_log, takes_out, takes_stop, takes_units, takes_steps, part_of, with_report_line}
+use Rattle.cfi_report.specs.inner.Draft.{ReportSoFar, no_lines, report_of, may_follow, is_start, is_titled, takes_modules, takes_journal, takes_guests, takes_log, takes_out, takes_stop, takes_units, takes_steps, part_of, with_report_line}
 use Rattle.cfi_report.proofs.OrderLemmas.{stage_after, with_line-stage, last_stage, last_stage-append}
 use Rattle.cfi_report.proofs.BuiltLemmas.{with_lines, with_lines-append}
 

@@ -11,8 +11,8 @@ use Rattle.cfi_report.specs.declared.stage.Stage.TheVariants as stages
 use Rattle.cfi_report.specs.declared.report.Report.{Report}
 use Rattle.cfi_report.specs.Line.{line_text}
 use Rattle.cfi_report.specs.Report.{IsLine, report_lines, lines_text, report_text, IsReport, CanBegin, IsFirstFaultyLine}
-use Rattle.cfi_report.specs.Draft.{ReportSoFar, no_lines, report_of, may_follow, is_whole, with_report_line}
-use Rattle.cfi_report.specs.Next.{IsNext, HasNoNext}
+use Rattle.cfi_report.specs.inner.Draft.{ReportSoFar, no_lines, report_of, may_follow, is_whole, with_report_line}
+use Rattle.cfi_report.specs.inner.Next.{IsNext, HasNoNext}
 use Rattle.cfi_report.proofs.BuiltLemmas.{with_lines, lines_of-built}
 use Rattle.cfi_report.proofs.NextLemmas.{follow_on, whole_follows}
 use Rattle.cfi_report.proofs.OrderLemmas.{Follows, Follows-rest, last_stage, lines_of-Follows, last_stage-lines_of}

@@ -15,7 +15,7 @@ use Rattle.cfi_report.specs.declared.line.Line.{Line}
 use Rattle.cfi_report.specs.declared.line.Line.TheVariants as line
 use Rattle.cfi_report.specs.Line.{field_text, who_field, what_fields, line_words}
 use Rattle.cfi_report.specs.Report.{IsField, IsLine}
-use Rattle.cfi_report.specs.Form.{bytes_in, who_in, what_two, loaded_three, what_three, loaded_four, what_four, loaded_five, what_five, entry_form, journal_form, lone_form, pair_form, stop_form, force_form, guest_form, pick_form, three_form, opened_form, four_form, module_form, seven_form, line_form}
+use Rattle.cfi_report.specs.inner.Form.{bytes_in, who_in, what_two, loaded_three, what_three, loaded_four, what_four, loaded_five, what_five, entry_form, journal_form, lone_form, pair_form, stop_form, force_form, guest_form, pick_form, three_form, opened_form, four_form, module_form, seven_form, line_form}
 use Rattle.cfi_report.proofs.WordLemmas.{bytes_in-says}
 use Rattle.cfi_report.proofs.FormLemmas.{Says, nothing, keyed, twice, as_value, number, address, last_number, last_address, named, told}
 

@@ -19,7 +19,7 @@ use Rattle.cfi_report.specs.declared.line.Line.{Line}
 use Rattle.cfi_report.specs.declared.line.Line.TheVariants as line
 use Rattle.cfi_report.specs.Line.{Field, Word, Decimal, Address, Name, Bytes, field_text, bytes_text, who_field, what_fields, line_fields, line_words, line_text}
 use Rattle.cfi_report.specs.Report.{IsField, IsLine}
-use Rattle.cfi_report.specs.Form.{Lacks, spaced_words}
+use Rattle.cfi_report.specs.inner.Form.{Lacks, spaced_words}
 
 -- each byte of the word is above a space
 abbrev solid : List ℕ → Bool

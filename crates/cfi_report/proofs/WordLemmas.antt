@@ -13,7 +13,7 @@ use Rattle.cfi_text.specs.Decimal.{dec_text, small_number_in}
 use Rattle.cfi_text.proofs.DecimalLemmas.{small_number_in-says}
 use Rattle.cfi_text.specs.Hex.{hex_digits, hex8_text, hex_text}
 use Rattle.cfi_text.proofs.HexLemmas.{value-hex_digits, length-hex_digits}
-use Rattle.cfi_report.specs.Form.{Lacks, spaced_words, line_form, hex_address, pair_values, is_hex, pairs_in, bytes_in}
+use Rattle.cfi_report.specs.inner.Form.{Lacks, spaced_words, line_form, hex_address, pair_values, is_hex, pairs_in, bytes_in}
 use Rattle.cfi_report.specs.Line.{bytes_text}
 
 -- a number below a limit, of which the word is the text

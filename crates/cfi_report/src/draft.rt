@@ -1,5 +1,5 @@
 ghost use Rattle.std.specs.Prelude.{◌≡◌, OnOk};
-ghost use Rattle.cfi_report.specs.Draft.{ReportSoFar as Said, no_lines, report_of, with_report_line};
+ghost use Rattle.cfi_report.specs.inner.Draft.{ReportSoFar as Said, no_lines, report_of, with_report_line};
 
 use crate::line::Line;
 use crate::report::{GuestPart, Report};
@@ -30,11 +30,11 @@ pub struct Draft {
 }
 
 impl Model for Draft {
-    ghost use Rattle.cfi_report.specs.Draft.{ReportSoFar as Said};
+    ghost use Rattle.cfi_report.specs.inner.Draft.{ReportSoFar as Said};
 
     ghost Value = { Said };
 
-    ghost use Rattle.cfi_report.specs.Kept.{view_of};
+    ghost use Rattle.cfi_report.specs.inner.Kept.{view_of};
 
     ghost view = { view_of };
 }

@@ -1,5 +1,5 @@
 ghost use Rattle.std.specs.Prelude.{◌≡◌, IfOk};
-ghost use Rattle.cfi_report.specs.Form.{spaced_words, line_form, lone_form, pair_form, three_form, force_form, guest_form, pick_form, stop_form, four_form, opened_form, seven_form, module_form};
+ghost use Rattle.cfi_report.specs.inner.Form.{spaced_words, line_form, lone_form, pair_form, three_form, force_form, guest_form, pick_form, stop_form, four_form, opened_form, seven_form, module_form};
 
 use crate::journal::{journal, what_five, what_four, what_three, what_two};
 use crate::line::Line;

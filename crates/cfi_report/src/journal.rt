@@ -1,5 +1,5 @@
 ghost use Rattle.std.specs.Prelude.{◌≡◌};
-ghost use Rattle.cfi_report.specs.Form.{who_in, what_two, what_three, what_four, what_five, loaded_three, loaded_four, loaded_five, journal_form};
+ghost use Rattle.cfi_report.specs.inner.Form.{who_in, what_two, what_three, what_four, what_five, loaded_three, loaded_four, loaded_five, journal_form};
 
 use crate::line::Line;
 use cfi_plan::{Entry, JournalLine, Who};

@@ -1,5 +1,5 @@
 ghost use Rattle.std.specs.Prelude.{◌≡◌, ◌^◌, ◌<◌, length, IfOk, IfErr, IfSome, IfNone};
-ghost use Rattle.cfi_report.specs.Next.{IsNext, HasNoNext};
+ghost use Rattle.cfi_report.specs.inner.Next.{IsNext, HasNoNext};
 ghost use Rattle.cfi_report.specs.Report.{report_text, IsReport, IsCause, AnswersReport};
 
 use crate::draft::Draft;

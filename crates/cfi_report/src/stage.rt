@@ -1,5 +1,5 @@
 ghost use Rattle.std.specs.Prelude.{◌≡◌};
-ghost use Rattle.cfi_report.specs.Draft.{takes_journal, takes_guests, takes_log, is_whole, may_follow};
+ghost use Rattle.cfi_report.specs.inner.Draft.{takes_journal, takes_guests, takes_log, is_whole, may_follow};
 ghost use Rattle.cfi_report.specs.Report.{differ};
 
 use crate::line::Line;

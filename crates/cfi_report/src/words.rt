@@ -1,7 +1,7 @@
 ghost use Rattle.std.specs.Prelude.{◌≡◌, ℕ, ◌+◌, ◌<◌, ◌++◌, ◌∷◌, [], IfOk, IfSome, IfNone, MatchOption, Option};
 ghost use Rattle.std.specs.List.{position};
 ghost use Rattle.cfi_text.specs.Hex.{hex_digits};
-ghost use Rattle.cfi_report.specs.Form.{Lacks, spaced_words, hex_address, pairs_in, bytes_in};
+ghost use Rattle.cfi_report.specs.inner.Form.{Lacks, spaced_words, hex_address, pairs_in, bytes_in};
 
 use cfi_text::{read_hex_digit, read_hex8};
 use cfi_values::Bytes;

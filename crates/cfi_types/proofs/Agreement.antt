@@ -6,8 +6,8 @@ use Rattle.std.proofs.lemmas.List.Elements.{All-head, All-tail}
 use Rattle.cfi_types.specs.Node.{Node}
 use Rattle.cfi_types.specs.Kind.{numbers_of, nodes_of}
 use Rattle.cfi_types.specs.Same.{node_of, Same, Equal}
-use Rattle.cfi_types.specs.Joined.{shifted}
-use Rattle.cfi_types.specs.Splitting.{IsClosed}
+use Rattle.cfi_types.specs.inner.Joined.{shifted}
+use Rattle.cfi_types.specs.inner.Splitting.{IsClosed}
 use Rattle.cfi_types.proofs.Places.{shifted_numbers, shifted_nodes}
 use Rattle.cfi_types.proofs.Steps.{names_below}
 

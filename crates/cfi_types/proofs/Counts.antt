@@ -5,7 +5,7 @@ use Rattle.std.proofs.lemmas.Bool.{cases_lt, lt-ltb}
 use Rattle.std.proofs.lemmas.Bool.Decides.{nat_tests}
 use Rattle.std.proofs.lemmas.List.{length_push, get_or_push, get_or_append_left}
 use Rattle.cfi_types.specs.Classes.{InOrder}
-use Rattle.cfi_types.specs.Splitting.{IsLow}
+use Rattle.cfi_types.specs.inner.Splitting.{IsLow}
 use Rattle.cfi_types.specs.Numbering.{AreNumbers}
 
 -- the next number after these

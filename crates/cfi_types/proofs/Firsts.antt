@@ -4,8 +4,8 @@ use Rattle.std.specs.Prelude.{unwrap_or, ◌⊎◌}
 use Rattle.std.specs.Str.{bytes_eq}
 use Rattle.std.proofs.lemmas.Bool.{cases_Bool, cases_lt, false≢true}
 use Rattle.std.proofs.lemmas.Slice.Eq.{bytes_eq-Decides}
-use Rattle.cfi_types.specs.Leader.{PutsFirst}
-use Rattle.cfi_types.specs.Splitting.{IsLeast}
+use Rattle.cfi_types.specs.inner.Leader.{PutsFirst}
+use Rattle.cfi_types.specs.inner.Splitting.{IsLeast}
 
 -- o is the first node below i that has the key q, if one has
 abbrev pub IsFirstBelow : (key : ℕ → List ℕ) → (i : ℕ) → (q : List ℕ) → Option ℕ → Type 0

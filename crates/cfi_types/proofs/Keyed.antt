@@ -11,7 +11,7 @@ use Rattle.std.proofs.lemmas.Bool.{cases_Bool}
 use Rattle.std.proofs.lemmas.Slice.Eq.{bytes_eq-Decides}
 use Rattle.std.proofs.lemmas.Map.Text.{is_eq-slice_cmp}
 use Rattle.cfi_types.specs.declared.leader.Firsts.{Firsts}
-use Rattle.cfi_types.specs.Leader.{first_of, PutsFirst}
+use Rattle.cfi_types.specs.inner.Leader.{first_of, PutsFirst}
 
 keeps_others : {K X : Type 0} (eq : K → K → Bool) (test : K → Bool) (old new : List (K × X))
     → KeepsOthers eq test old new → (other : K → Bool) → IsKeyTest eq other → AreApart test other

@@ -5,8 +5,8 @@ use Rattle.std.proofs.lemmas.Bool.{cases_lt}
 use Rattle.std.proofs.lemmas.List.{length_push, get_or_read, get_or_push, get_or_append_left}
 use Rattle.cfi_types.specs.Node.{Node, make_node}
 use Rattle.cfi_types.specs.Same.{node_of}
-use Rattle.cfi_types.specs.Leader.{PutsFirst}
-use Rattle.cfi_types.specs.Splitting.{key_at, key_of, IsLeast}
+use Rattle.cfi_types.specs.inner.Leader.{PutsFirst}
+use Rattle.cfi_types.specs.inner.Splitting.{key_at, key_of, IsLeast}
 use Rattle.cfi_types.specs.Reading.{nodes_at}
 use Rattle.cfi_types.proofs.Parts.{with_front}
 use Rattle.cfi_types.proofs.Firsts.{AreFirsts, least_found, more_firsts}

@@ -10,8 +10,8 @@ use Rattle.cfi_types.specs.Kind.{number_count, numbers_of, nodes_of}
 use Rattle.cfi_types.specs.Spelling.{NamesBelow, AreTypes}
 use Rattle.cfi_types.specs.Same.{node_of}
 use Rattle.cfi_types.specs.Classes.{table_of, class_of}
-use Rattle.cfi_types.specs.Joined.{shifted, joined_from}
-use Rattle.cfi_types.specs.Splitting.{IsClosed}
+use Rattle.cfi_types.specs.inner.Joined.{shifted, joined_from}
+use Rattle.cfi_types.specs.inner.Splitting.{IsClosed}
 
 abbrev pub flat : {A : Type 0} → List (List A) → List A
 flat xss = flat_map (λ xs. xs) xss

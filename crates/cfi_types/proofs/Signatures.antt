@@ -5,7 +5,7 @@ use Rattle.std.proofs.lemmas.List.{take_at, drop_at, length-append, length-take,
 use Rattle.cfi_types.specs.Node.{Node}
 use Rattle.cfi_types.specs.Kind.{number_count, numbers_of, nodes_of}
 use Rattle.cfi_types.specs.Same.{node_of}
-use Rattle.cfi_types.specs.Splitting.{signature, key_of}
+use Rattle.cfi_types.specs.inner.Splitting.{signature, key_of}
 
 -- two nodes of one kind and the same numbers, whose named nodes have the same classes
 pub record IsAlike (classes : List ℕ) (x y : Node) : Type 0 where

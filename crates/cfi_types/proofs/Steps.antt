@@ -9,8 +9,8 @@ use Rattle.cfi_types.specs.Node.{Node, make_node}
 use Rattle.cfi_types.specs.Kind.{nodes_of}
 use Rattle.cfi_types.specs.Spelling.{NamesBelow}
 use Rattle.cfi_types.specs.Same.{node_of, Same, Equal}
-use Rattle.cfi_types.specs.Splitting.{signature, key_of, IsLeast, IsSplit, IsClosed, IsLow, Leaves, names_leaving}
-use Rattle.cfi_types.specs.Refining.{AreLeaders}
+use Rattle.cfi_types.specs.inner.Splitting.{signature, key_of, IsLeast, IsSplit, IsClosed, IsLow, Leaves, names_leaving}
+use Rattle.cfi_types.specs.inner.Refining.{AreLeaders}
 use Rattle.cfi_types.proofs.Pairs.{all_zip_at_each, map_from_all_zip, list_any_from_all_zip, all_zip_from_map, total, total_lt_total, total_le_square}
 use Rattle.cfi_types.proofs.Signatures.{alike_from_signature, signature_from_alike, IsOneKey, one_key_from_key, key_from_one_key}
 

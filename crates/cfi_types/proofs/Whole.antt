@@ -9,8 +9,8 @@ use Rattle.cfi_types.specs.Node.{Node}
 use Rattle.cfi_types.specs.Spelling.{AreTypes}
 use Rattle.cfi_types.specs.Same.{node_of, Equal}
 use Rattle.cfi_types.specs.Classes.{table_of, class_of, IsNodePlace, InOrder, AreClasses}
-use Rattle.cfi_types.specs.Joined.{shifted, joined_from}
-use Rattle.cfi_types.specs.Refining.{AreLeaders}
+use Rattle.cfi_types.specs.inner.Joined.{shifted, joined_from}
+use Rattle.cfi_types.specs.inner.Refining.{AreLeaders}
 use Rattle.cfi_types.specs.Numbering.{AreNumbers}
 use Rattle.cfi_types.proofs.Places.{flat, length_joined, before, before_fits, joined_at, number_at}
 use Rattle.cfi_types.proofs.Agreement.{StandsAt, equal_there}

@@ -4,8 +4,5 @@ pub mod Spelling
 pub mod Reading
 pub mod Same
 pub mod Classes
-pub mod Joined
-pub mod Leader
-pub mod Splitting
-pub mod Refining
 pub mod Numbering
+pub mod inner

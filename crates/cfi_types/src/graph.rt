@@ -4,7 +4,7 @@ ghost use Rattle.std.specs.Prelude.{◌≡◌, ◌+◌, ◌<◌, ◌^◌, ◌++�
 ghost use Rattle.std.specs.List.{flat_map, AllByRecursion};
 ghost use Rattle.cfi_types.specs.Kind.{nodes_of};
 ghost use Rattle.cfi_types.specs.Spelling.{NamesBelow, AreTypes};
-ghost use Rattle.cfi_types.specs.Joined.{shifted, joined_from};
+ghost use Rattle.cfi_types.specs.inner.Joined.{shifted, joined_from};
 
 use crate::node::TypeNode;
 use crate::table::TypeTable;

@@ -2,8 +2,8 @@
 
 ghost use Rattle.std.specs.Prelude.{◌≡◌, ℕ, ◌<◌, List, [], ◌∷◌, None, length, vec_len, IfOk};
 ghost use Rattle.cfi_types.specs.Spelling.{NamesBelow};
-ghost use Rattle.cfi_types.specs.Splitting.{signature};
-ghost use Rattle.cfi_types.specs.Leader.{first_of, PutsFirst};
+ghost use Rattle.cfi_types.specs.inner.Splitting.{signature};
+ghost use Rattle.cfi_types.specs.inner.Leader.{first_of, PutsFirst};
 
 use crate::node::TypeNode;
 use std::alloc::{AllocError, Global};

@@ -1,7 +1,7 @@
 //! Numbers classes in order of first occurrence.
 
 ghost use Rattle.std.specs.Prelude.{◌≡◌, ℕ, ◌<◌, ◌^◌, length, slice_index, nat_lt, if◌then◌else◌, IfOk};
-ghost use Rattle.cfi_types.specs.Splitting.{IsLow};
+ghost use Rattle.cfi_types.specs.inner.Splitting.{IsLow};
 ghost use Rattle.cfi_types.specs.Numbering.{AreNumbers};
 
 use std::alloc::{AllocError, Global};

@@ -1,8 +1,8 @@
 //! Refines one class of all nodes until it stands still.
 
 ghost use Rattle.std.specs.Prelude.{◌<◌, ◌^◌, length, IfOk};
-ghost use Rattle.cfi_types.specs.Splitting.{IsClosed};
-ghost use Rattle.cfi_types.specs.Refining.{AreLeaders};
+ghost use Rattle.cfi_types.specs.inner.Splitting.{IsClosed};
+ghost use Rattle.cfi_types.specs.inner.Refining.{AreLeaders};
 
 use crate::node::TypeNode;
 use crate::splitting::{leaving, moving, split};

@@ -2,8 +2,8 @@
 
 ghost use Rattle.std.specs.Prelude.{◌≡◌, ◌<◌, ◌^◌, length, vec_len, map, slice_index, IfOk};
 ghost use Rattle.cfi_types.specs.Spelling.{NamesBelow};
-ghost use Rattle.cfi_types.specs.Leader.{first_of, PutsFirst};
-ghost use Rattle.cfi_types.specs.Splitting.{IsSplit, IsClosed, IsLow, Leaves, names_leaving, key_at};
+ghost use Rattle.cfi_types.specs.inner.Leader.{first_of, PutsFirst};
+ghost use Rattle.cfi_types.specs.inner.Splitting.{IsSplit, IsClosed, IsLow, Leaves, names_leaving, key_at};
 
 use crate::leader::{Firsts, key};
 use crate::node::TypeNode;

@@ -13,7 +13,7 @@ use Rattle.elf_read.specs.Lists.{Each}
 use Rattle.cfi_verify.specs.Functions.{end_in, end_before, IsIdle, FitsBehind}
 use Rattle.cfi_aux.specs.Extent.{end_of, LiesIn}
 use Rattle.cfi_verify.specs.Target.{IsAtHome}
-use Rattle.cfi_verify.specs.Places.{AreFunctionsApart, AreInRange, IsHome, SplitsEnds}
+use Rattle.cfi_verify.specs.inner.Places.{AreFunctionsApart, AreInRange, IsHome, SplitsEnds}
 
 -- where the function of a number ends
 pub end_before-next : (functions : List PlacedFunction) (k : ℕ) (f : PlacedFunction) →

@@ -10,7 +10,7 @@ use Rattle.cfi_unit.specs.declared.spot.Spot.{Spot}
 use Rattle.cfi_unit.specs.Spots.{BeginsUnit}
 use Rattle.cfi_verify.specs.Functions.{may_be_last, EndsWell}
 use Rattle.cfi_aux.specs.Extent.{end_of, LiesIn}
-use Rattle.cfi_verify.specs.Places.{AreRising, Splits}
+use Rattle.cfi_verify.specs.inner.Places.{AreRising, Splits}
 
 pub at_rises : (spots : List Spot) → AreRising spots → IsNonDecreasingBy (λ (s : Spot). s.at) spots
 at_rises spots rise = λ i j d order within.

@@ -14,7 +14,7 @@ use Rattle.cfi_unit.specs.declared.spot.Spot.{Spot}
 use Rattle.cfi_verify.specs.declared.checks.CheckSpot.{CheckSpot}
 use Rattle.cfi_unit.specs.Spots.{spots_of, AreSpots}
 use Rattle.cfi_verify.specs.Spots.{check_in, checks_of}
-use Rattle.cfi_verify.specs.Places.{AreRising, AreSmall, AreSmallChecks}
+use Rattle.cfi_verify.specs.inner.Places.{AreRising, AreSmall, AreSmallChecks}
 
 -- the words of the units
 abbrev words_in : List CodeUnit → ℕ

@@ -4,7 +4,7 @@ ghost use Rattle.std.specs.Prelude.{◌*◌, ◌<◌, ◌^◌, ◌≤◌, length
 ghost use Rattle.elf_read.specs.Lists.{Each, IsFirstBreak, own_number};
 ghost use Rattle.cfi_verify.specs.Branches.{NamesSlot, IsKindOf, KindFits, IsEntry, AreEntries, EntriesFit};
 ghost use Rattle.cfi_verify.specs.Faults.{check_place};
-ghost use Rattle.cfi_verify.specs.Places.{AreRising, AreSmallChecks, AreFunctionsApart, AreInRange, IsFirstMisfit};
+ghost use Rattle.cfi_verify.specs.inner.Places.{AreRising, AreSmallChecks, AreFunctionsApart, AreInRange, IsFirstMisfit};
 
 use crate::checks::CheckSpot;
 use crate::functions::is_func;

@@ -4,7 +4,7 @@ ghost use Rattle.std.specs.Prelude.{◌≡◌, ◌++◌, IfOk, OnOk, IsTrue, ◌
 ghost use Rattle.std.specs.List.{Contains};
 ghost use Rattle.std.specs.List.Sorted.{IsNonDecreasing};
 ghost use Rattle.cfi_verify.specs.Target.{entries_in};
-ghost use Rattle.cfi_verify.specs.Places.{AreEntriesOf};
+ghost use Rattle.cfi_verify.specs.inner.Places.{AreEntriesOf};
 
 use cfi_aux::Placed;
 use std::alloc::{AllocError, Global};

@@ -4,7 +4,7 @@ ghost use Rattle.std.specs.Prelude.{◌≡◌, ℕ, ◌+◌, ◌*◌, ◌<◌, �
 ghost use Rattle.cfi_aux.specs.Format.{is_func};
 ghost use Rattle.elf_read.specs.Lists.{Each, IsFirstBreak, own_number};
 ghost use Rattle.cfi_verify.specs.Functions.{IsIdle, FunctionFits, FitsBehind, IsIdleBehind, may_be_last, EndsWell};
-ghost use Rattle.cfi_verify.specs.Places.{AreRising, AreInRange, IsWithin, IsFirstUnfit};
+ghost use Rattle.cfi_verify.specs.inner.Places.{AreRising, AreInRange, IsWithin, IsFirstUnfit};
 
 use crate::search::{begins_at, number_at};
 use cfi_aux::{Placed, PlacedFunction};

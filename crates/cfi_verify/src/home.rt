@@ -5,7 +5,7 @@ ghost use Rattle.std.specs.List.{Contains};
 ghost use Rattle.cfi_aux.specs.declared.placed.PlacedFunction.{PlacedFunction as Function};
 ghost use Rattle.cfi_aux.specs.Extent.{end_of, LiesIn};
 ghost use Rattle.cfi_verify.specs.Target.{IsAtHome};
-ghost use Rattle.cfi_verify.specs.Places.{AreRising, AreFunctionsApart, AreInRange, IsHome, SplitsEnds};
+ghost use Rattle.cfi_verify.specs.inner.Places.{AreRising, AreFunctionsApart, AreInRange, IsHome, SplitsEnds};
 
 use crate::search::begins_at;
 use cfi_aux::PlacedFunction;

@@ -2,7 +2,7 @@
 
 ghost use Rattle.std.specs.Prelude.{◌*◌, ◌<◌, ◌^◌, length, IfOk, IfErr, IfSome, IfNone};
 ghost use Rattle.cfi_unit.specs.Spots.{AreSpots, InsnsBelow};
-ghost use Rattle.cfi_verify.specs.Reading.{IsFirstIllegal, IsUnread};
+ghost use Rattle.cfi_verify.specs.inner.Reading.{IsFirstIllegal, IsUnread};
 
 use crate::fault::VerifyFault;
 use cfi_unit::{ReadFault, Spot, read_units};

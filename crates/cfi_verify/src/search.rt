@@ -2,7 +2,7 @@
 
 ghost use Rattle.std.specs.Prelude.{IsTrue, ◌↔◌};
 ghost use Rattle.cfi_unit.specs.Spots.{BeginsUnit};
-ghost use Rattle.cfi_verify.specs.Places.{AreRising, Splits};
+ghost use Rattle.cfi_verify.specs.inner.Places.{AreRising, Splits};
 
 use cfi_unit::Spot;
 

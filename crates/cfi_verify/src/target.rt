@@ -6,7 +6,7 @@ ghost use Rattle.cfi_aux.specs.declared.placed.Placed.{Placed as Module};
 ghost use Rattle.elf_read.specs.Lists.{Each, IsFirstBreak};
 ghost use Rattle.cfi_verify.specs.Faults.{unit_place};
 ghost use Rattle.cfi_verify.specs.Target.{LeadsTo, LeadsHome, LeadsToEntry, MayLead, LeadsWell};
-ghost use Rattle.cfi_verify.specs.Places.{AreRising, AreSmall, AreFunctionsApart, AreInRange, AreEntriesOf};
+ghost use Rattle.cfi_verify.specs.inner.Places.{AreRising, AreSmall, AreFunctionsApart, AreInRange, AreEntriesOf};
 
 use crate::entries::is_entry;
 use crate::home::is_at_home;

@@ -1,8 +1,8 @@
 use Rattle.std.proofs.Common.{subst}
-use Rattle.cfi_class.specs.Forest.{HasSameRoots}
+use Rattle.cfi_class.specs.inner.Forest.{HasSameRoots}
 use Rattle.cfi_class.specs.Labels.{HasEdge}
-use Rattle.cfi_class.specs.Linked.{IsForestOf}
-use Rattle.cfi_class.specs.Numbering.{MarksUsed, AreSlotNumbers, AreWordNumbers}
+use Rattle.cfi_class.specs.inner.Linked.{IsForestOf}
+use Rattle.cfi_class.specs.inner.Numbering.{MarksUsed, AreSlotNumbers, AreWordNumbers}
 use Rattle.cfi_class.proofs.JoinedLemmas.{branch_within}
 use Rattle.cfi_class.proofs.LabelsLemmas.{root_marked, are_numbers, in_order}
 use Rattle.cfi_class.proofs.labels.numbers.Goals as goal

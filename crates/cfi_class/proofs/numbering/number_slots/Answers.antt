@@ -1,8 +1,8 @@
 use Rattle.std.proofs.Common.{◌≡◌, ℕ, ◌+◌, ◌<◌, ◌≤◌, cond, ltb, false, [], ◌∷◌, ◌++◌, length, get_or, sym, ap, subst, ◌∙◌, arith}
 use Rattle.std.proofs.lemmas.List.{length_push}
 use Rattle.cfi_word.specs.declared.ids.TheConstants.{FIELD_MAX}
-use Rattle.cfi_class.specs.Forest.{HasSameRoots, root_of}
-use Rattle.cfi_class.specs.Numbering.{IsMarked}
+use Rattle.cfi_class.specs.inner.Forest.{HasSameRoots, root_of}
+use Rattle.cfi_class.specs.inner.Numbering.{IsMarked}
 use Rattle.cfi_class.proofs.ForestLemmas.{root_of-low, root_of-root_of}
 use Rattle.cfi_class.proofs.NumberingLemmas.{idle_pushed, number_pushed, numbers_whole}
 use Rattle.cfi_class.proofs.numbering.number_slots.Goals as goal

@@ -1,5 +1,5 @@
 use Rattle.std.proofs.Common.{◌≡◌, length}
-use Rattle.cfi_class.specs.Forest.{HasSameRoots}
+use Rattle.cfi_class.specs.inner.Forest.{HasSameRoots}
 use Rattle.cfi_class.proofs.NumberingLemmas.{NumbersSoFar}
 use Rattle.cfi_class.proofs.numbering.number_slots.Given as goal
 

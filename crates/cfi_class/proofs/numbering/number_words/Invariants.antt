@@ -1,5 +1,5 @@
 use Rattle.std.proofs.Common.{◌≡◌, ℕ, ◌+◌, ◌<◌, length, get_or}
-use Rattle.cfi_class.specs.Forest.{HasSameRoots, root_of}
+use Rattle.cfi_class.specs.inner.Forest.{HasSameRoots, root_of}
 use Rattle.cfi_class.proofs.numbering.number_words.Given as goal
 
 abbrev pub invariant-loop-word : goal.invariant-loop-word

@@ -1,5 +1,5 @@
 use Rattle.std.proofs.Common.{◌≡◌, length, subst, arith}
-use Rattle.cfi_class.specs.Linked.{IsForestOf}
+use Rattle.cfi_class.specs.inner.Linked.{IsForestOf}
 use Rattle.cfi_class.proofs.EdgeLemmas.{HasFirst, edge_at-within}
 use Rattle.cfi_class.proofs.SweepLemmas.{no_edges, one_more_edge}
 use Rattle.cfi_class.proofs.sweep.forest_of.Goals as goal

@@ -1,4 +1,4 @@
-use Rattle.cfi_class.specs.Linked.{IsForestOf}
+use Rattle.cfi_class.specs.inner.Linked.{IsForestOf}
 use Rattle.cfi_class.proofs.EdgeLemmas.{HasFirst}
 use Rattle.cfi_class.proofs.sweep.forest_of.Given as goal
 

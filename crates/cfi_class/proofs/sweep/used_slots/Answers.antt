@@ -1,5 +1,5 @@
 use Rattle.std.proofs.Common.{◌≡◌, length, subst, arith}
-use Rattle.cfi_class.specs.Numbering.{MarksUsed}
+use Rattle.cfi_class.specs.inner.Numbering.{MarksUsed}
 use Rattle.cfi_class.proofs.EdgeLemmas.{HasFirst}
 use Rattle.cfi_class.proofs.SweepLemmas.{one_more_mark}
 use Rattle.cfi_class.proofs.sweep.used_slots.Goals as goal

@@ -1,4 +1,4 @@
-use Rattle.cfi_class.specs.Numbering.{MarksUsed}
+use Rattle.cfi_class.specs.inner.Numbering.{MarksUsed}
 use Rattle.cfi_class.proofs.EdgeLemmas.{HasFirst}
 use Rattle.cfi_class.proofs.sweep.used_slots.Given as goal
 

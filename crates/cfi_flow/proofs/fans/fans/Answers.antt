@@ -1,6 +1,6 @@
 use Rattle.std.proofs.Common.{◌≡◌, ◌∙◌, ◌+◌, ◌++◌, ◌∷◌, [], length, replicate, false, arith, rules, sym, subst, ap}
 use Rattle.cfi_flow.specs.Fans.{AreFans}
-use Rattle.cfi_flow.specs.FlowRows.{HaveNodes}
+use Rattle.cfi_flow.specs.inner.FlowRows.{HaveNodes}
 use Rattle.cfi_flow.proofs.FanLemmas.{rows_have_nodes, have_own_nodes, no_fans, more_fans}
 use Rattle.cfi_flow.proofs.ReachLemmas.{clear_begins}
 use Rattle.cfi_flow.proofs.fans.fans.Goals as goal

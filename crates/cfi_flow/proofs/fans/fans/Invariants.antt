@@ -1,6 +1,6 @@
 use Rattle.std.proofs.Common.{length}
 use Rattle.cfi_flow.specs.Fans.{AreFans}
-use Rattle.cfi_flow.specs.Reach.{AreClear}
+use Rattle.cfi_flow.specs.inner.Reach.{AreClear}
 use Rattle.cfi_flow.proofs.fans.fans.Given as goal
 
 abbrev pub invariant-loop-node : goal.invariant-loop-node

@@ -1,6 +1,6 @@
 use Rattle.std.proofs.Common.{◌≡◌, take}
 use Rattle.std.specs.List.{flat_map}
-use Rattle.cfi_flow.specs.FlowRows.{flow_row}
+use Rattle.cfi_flow.specs.inner.FlowRows.{flow_row}
 use Rattle.cfi_flow.proofs.fans.joined.Given as goal
 
 abbrev pub invariant-loop-node : goal.invariant-loop-node

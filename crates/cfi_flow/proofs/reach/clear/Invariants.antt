@@ -1,5 +1,5 @@
 use Rattle.std.proofs.Common.{take}
-use Rattle.cfi_flow.specs.Reach.{IsCleared}
+use Rattle.cfi_flow.specs.inner.Reach.{IsCleared}
 use Rattle.cfi_flow.proofs.reach.clear.Given as goal
 
 abbrev pub invariant-loop-node : goal.invariant-loop-node

@@ -1,7 +1,7 @@
 use Rattle.std.proofs.Common.{◌≡◌, ◌<◌, ◌≤◌, ◌∷◌, [], true, length, set, slice_index, slice_index_or, ap, rules, arith, sym, subst, ◌∙◌, vec_len, All}
 use Rattle.std.proofs.lemmas.List.{get_or_read}
 use Rattle.std.proofs.lemmas.List.Elements.{All-from_get_or}
-use Rattle.cfi_flow.specs.Reach.{IsVisited, IsCleared}
+use Rattle.cfi_flow.specs.inner.Reach.{IsVisited, IsCleared}
 use Rattle.cfi_flow.proofs.ReachLemmas.{IsSearch, search_begins, search_goes_on, search_ends, search_within, search_clears}
 use Rattle.cfi_flow.proofs.reach.reached.Goals as goal
 

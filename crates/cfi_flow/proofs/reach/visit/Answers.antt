@@ -1,7 +1,7 @@
 use Rattle.std.proofs.Common.{◌≡◌, ◌+◌, ◌<◌, ◌++◌, ◌∷◌, [], true, false, length, take, set, get_or, ap, rules, arith, sym, ◌∙◌, vec_len}
 use Rattle.std.proofs.lemmas.List.{take_more, get_or_read}
 use Rattle.std.proofs.lemmas.Bool.{false≢true}
-use Rattle.cfi_flow.specs.Reach.{IsMarked}
+use Rattle.cfi_flow.specs.inner.Reach.{IsMarked}
 use Rattle.cfi_flow.proofs.ReachLemmas.{visited_seen, visited_new, visited_is}
 use Rattle.cfi_flow.proofs.reach.visit.Goals as goal
 use Rattle.cfi_flow.proofs.reach.visit.Goals.{then-not-index+in_ok-push, else-not-index}

@@ -1,5 +1,5 @@
 use Rattle.std.proofs.Common.{take}
-use Rattle.cfi_flow.specs.Reach.{IsVisited}
+use Rattle.cfi_flow.specs.inner.Reach.{IsVisited}
 use Rattle.cfi_flow.proofs.reach.visit.Given as goal
 
 abbrev pub invariant-loop-node : goal.invariant-loop-node

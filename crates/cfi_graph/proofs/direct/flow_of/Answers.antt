@@ -1,7 +1,7 @@
 use Rattle.std.proofs.Common.{◌∙◌, sym, subst}
 use Rattle.cfi_flow.specs.Flow.{IsSound}
 use Rattle.cfi_graph.specs.Facts.{AreFacts}
-use Rattle.cfi_graph.specs.Flows.{IsFlowOf, GoesAs}
+use Rattle.cfi_graph.specs.inner.Flows.{IsFlowOf, GoesAs}
 use Rattle.cfi_values.proofs.ThenLemmas.{if_ok}
 use Rattle.cfi_graph.proofs.ClassLemmas.{all_read}
 use Rattle.cfi_graph.proofs.ReadLemmas.{tells_flow}

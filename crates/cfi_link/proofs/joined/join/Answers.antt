@@ -1,7 +1,7 @@
 use Rattle.std.proofs.Common.{◌∙◌, ap, sym, subst, take}
 use Rattle.cfi_aux.specs.declared.modules.Module.{Module}
 use Rattle.cfi_link.specs.Joined.{Joined, joined_of, with_module}
-use Rattle.cfi_link.specs.Room.{HasRoom}
+use Rattle.cfi_link.specs.inner.Room.{HasRoom}
 use Rattle.std.proofs.lemmas.List.{take_all}
 use Rattle.cfi_link.proofs.JoinedLemmas.{joined-more}
 use Rattle.cfi_link.proofs.LimitLemmas.{room}

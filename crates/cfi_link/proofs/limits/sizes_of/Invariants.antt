@@ -1,7 +1,7 @@
 use Rattle.std.proofs.Common.{◌≡◌, take}
 use Rattle.cfi_link.specs.Joined.{joined_of}
 use Rattle.cfi_link.specs.Faults.{sizes_of}
-use Rattle.cfi_link.specs.Capped.{capped_sizes}
+use Rattle.cfi_link.specs.inner.Capped.{capped_sizes}
 use Rattle.cfi_link.proofs.limits.sizes_of.Given as goal
 
 abbrev pub invariant-loop-added : goal.invariant-loop-added

@@ -3,7 +3,7 @@ use Rattle.cfi_link.specs.Joined.{Joined, joined_of}
 use Rattle.cfi_link.specs.Chosen.{twice_in}
 use Rattle.cfi_link.specs.Faults.{passed_by}
 use Rattle.cfi_link.specs.Linked.{IsMadeOf}
-use Rattle.cfi_link.specs.Made.{AreSound}
+use Rattle.cfi_link.specs.inner.Made.{AreSound}
 use Rattle.cfi_link.proofs.SoundLemmas.{sound_all}
 use Rattle.cfi_link.proofs.MadeLemmas.{none_left, sound_made}
 use Rattle.cfi_link.proofs.TextSizeLemmas.{text_size}

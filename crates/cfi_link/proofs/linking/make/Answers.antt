@@ -2,7 +2,7 @@ use Rattle.std.proofs.Common.{◌≡◌, ◌∙◌, ◌<◌, ◌^◌, length, Al
 use Rattle.cfi_place.specs.Names.{Names}
 use Rattle.cfi_link.specs.Joined.{Joined}
 use Rattle.cfi_link.specs.Chosen.{chosen_in, settled, in_order}
-use Rattle.cfi_link.specs.Kept.{chosen_by}
+use Rattle.cfi_link.specs.inner.Kept.{chosen_by}
 use Rattle.cfi_link.specs.Linked.{IsTextOf}
 use Rattle.cfi_link.proofs.MadeLemmas.{fields_small}
 use Rattle.cfi_link.proofs.linking.make.Goals as goal

@@ -5,7 +5,7 @@ use Rattle.cfi_place.specs.Placed.{bytes_as_words}
 use Rattle.cfi_place.specs.Slots.{HasSlots}
 use Rattle.cfi_link.specs.Joined.{Joined}
 use Rattle.cfi_link.specs.Applied.{by_area}
-use Rattle.cfi_link.specs.Kept.{chosen_by, IsRelocFault}
+use Rattle.cfi_link.specs.inner.Kept.{chosen_by, IsRelocFault}
 use Rattle.cfi_link.proofs.MadeLemmas.{relocated_is, relocs_is}
 use Rattle.cfi_link.proofs.linking.parts_of.Goals as goal
 

@@ -1,7 +1,7 @@
 use Rattle.std.proofs.Common.{ap}
 use Rattle.elf_read.specs.declared.object.Symbol.{Symbol}
 use Rattle.cfi_link.specs.Chosen.{settled_symbol, reach_of}
-use Rattle.cfi_link.specs.Kept.{chosen_by}
+use Rattle.cfi_link.specs.inner.Kept.{chosen_by}
 use Rattle.cfi_link.proofs.SettledLemmas.{reaches-more}
 use Rattle.cfi_link.proofs.reach.reaches_of.Goals as goal
 

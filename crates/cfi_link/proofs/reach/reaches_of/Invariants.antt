@@ -1,6 +1,6 @@
 use Rattle.std.proofs.Common.{◌≡◌, map, take}
 use Rattle.cfi_link.specs.Chosen.{settled, reach_of}
-use Rattle.cfi_link.specs.Kept.{chosen_by}
+use Rattle.cfi_link.specs.inner.Kept.{chosen_by}
 use Rattle.cfi_link.proofs.reach.reaches_of.Given as goal
 
 abbrev pub invariant-loop-k : goal.invariant-loop-k

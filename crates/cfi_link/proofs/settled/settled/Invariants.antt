@@ -1,7 +1,7 @@
 use Rattle.std.proofs.Common.{◌≡◌, ◌+◌, ◌++◌, map, length}
 use Rattle.std.specs.List.{enumerate_from}
 use Rattle.cfi_link.specs.Chosen.{settled_symbol, settled}
-use Rattle.cfi_link.specs.Kept.{chosen_by}
+use Rattle.cfi_link.specs.inner.Kept.{chosen_by}
 use Rattle.cfi_link.proofs.settled.settled.Given as goal
 
 abbrev pub invariant-loop-symbol : goal.invariant-loop-symbol

@@ -1,7 +1,7 @@
 use Rattle.std.proofs.Common.{◌≡◌, ◌∙◌, ℕ, ◌+◌, ◌<◌, [], ◌∷◌, ◌++◌, length, get_or, sym, ap, subst, arith}
 use Rattle.std.proofs.lemmas.List.{length_push}
 use Rattle.cfi_policy.specs.declared.group.Group.{Group}
-use Rattle.cfi_policy.specs.ByClass.{AreMembers, AreRowsBy, IsClassGroup, IsCount}
+use Rattle.cfi_policy.specs.inner.ByClass.{AreMembers, AreRowsBy, IsClassGroup, IsCount}
 use Rattle.cfi_policy.proofs.MemberLemmas.{each_pushed}
 use Rattle.cfi_policy.proofs.by_class.class_groups.Goals as goal
 

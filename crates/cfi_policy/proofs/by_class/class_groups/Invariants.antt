@@ -1,6 +1,6 @@
 use Rattle.std.proofs.Common.{◌≡◌, ℕ, ◌+◌, ◌<◌, length, get_or}
 use Rattle.cfi_policy.specs.declared.group.Group.{Group}
-use Rattle.cfi_policy.specs.ByClass.{IsClassGroup}
+use Rattle.cfi_policy.specs.inner.ByClass.{IsClassGroup}
 use Rattle.cfi_policy.proofs.by_class.class_groups.Given as goal
 
 abbrev pub invariant-loop-class : goal.invariant-loop-class

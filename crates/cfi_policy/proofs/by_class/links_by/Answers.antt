@@ -1,6 +1,6 @@
 use Rattle.std.proofs.Common.{◌≡◌, ◌∙◌, ◌+◌, ◌*◌, ◌<◌, ◌≤◌, [], ◌∷◌, ◌++◌, length, take, get_or, sym, ap, subst, arith}
 use Rattle.std.proofs.lemmas.List.{take_more, length-take-le}
-use Rattle.cfi_policy.specs.ByClass.{AreLinksBy}
+use Rattle.cfi_policy.specs.inner.ByClass.{AreLinksBy}
 use Rattle.cfi_policy.proofs.MemberLemmas.{place_passed, place_linked}
 use Rattle.cfi_policy.proofs.by_class.links_by.Goals as goal
 use Rattle.cfi_policy.proofs.by_class.links_by.Goals.{then-number-ge1+then-number-count+in_ok-push, else-number-ge1, else-number-ge1-via-then-number-ge1+else-number-count, else-number-ge1-via-else-number-ge1}

@@ -1,5 +1,5 @@
 use Rattle.std.proofs.Common.{take}
-use Rattle.cfi_policy.specs.ByClass.{AreLinksBy}
+use Rattle.cfi_policy.specs.inner.ByClass.{AreLinksBy}
 use Rattle.cfi_policy.proofs.by_class.links_by.Given as goal
 
 abbrev pub invariant-loop-place : goal.invariant-loop-place

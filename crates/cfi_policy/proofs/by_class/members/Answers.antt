@@ -1,7 +1,7 @@
 use Rattle.std.proofs.Common.{◌+◌, sym, subst}
 use Rattle.cfi_flow.specs.Flow.{BeginBelow}
 use Rattle.cfi_flow.specs.Rows.{AreRows}
-use Rattle.cfi_policy.specs.ByClass.{AreLinksBy, AreRowsBy}
+use Rattle.cfi_policy.specs.inner.ByClass.{AreLinksBy, AreRowsBy}
 use Rattle.cfi_values.proofs.ThenLemmas.{if_ok}
 use Rattle.cfi_policy.proofs.MemberLemmas.{links_begin, rows_by}
 use Rattle.cfi_policy.proofs.by_class.members.Goals as goal

@@ -1,5 +1,5 @@
 use Rattle.std.proofs.Common.{◌∙◌, ◌+◌, sym, ap, subst}
-use Rattle.cfi_policy.specs.Idle.{AddsIdle}
+use Rattle.cfi_policy.specs.inner.Idle.{AddsIdle}
 use Rattle.cfi_policy.proofs.IdleLemmas.{branch_passed, branch_added}
 use Rattle.cfi_policy.proofs.idle.add_idle.Goals as goal
 use Rattle.cfi_policy.proofs.idle.add_idle.Goals.{then-bary-slot-eq-FIELD_MAX+in_ok-push, else-bary-slot-eq-FIELD_MAX}

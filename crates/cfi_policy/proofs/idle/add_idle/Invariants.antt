@@ -1,4 +1,4 @@
-use Rattle.cfi_policy.specs.Idle.{AddsIdle}
+use Rattle.cfi_policy.specs.inner.Idle.{AddsIdle}
 use Rattle.cfi_policy.proofs.idle.add_idle.Given as goal
 
 abbrev pub invariant-loop-number : goal.invariant-loop-number

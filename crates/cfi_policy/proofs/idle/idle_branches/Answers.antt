@@ -2,7 +2,7 @@ use Rattle.std.proofs.Common.{◌≡◌, ◌∙◌, ◌+◌, [], ◌∷◌, ◌+
 use Rattle.std.specs.Prelude.{All}
 use Rattle.std.proofs.lemmas.List.{take_more}
 use Rattle.cfi_graph.specs.Shaped.{IsShaped, IsBefore}
-use Rattle.cfi_policy.specs.Idle.{AreIdle}
+use Rattle.cfi_policy.specs.inner.Idle.{AreIdle}
 use Rattle.cfi_policy.proofs.IdleLemmas.{branch_low, one_module_idle, before_one}
 use Rattle.cfi_policy.proofs.idle.idle_branches.Goals as goal
 

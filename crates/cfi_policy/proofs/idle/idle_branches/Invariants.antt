@@ -1,5 +1,5 @@
 use Rattle.std.proofs.Common.{take}
-use Rattle.cfi_policy.specs.Idle.{AreIdle}
+use Rattle.cfi_policy.specs.inner.Idle.{AreIdle}
 use Rattle.cfi_policy.proofs.idle.idle_branches.Given as goal
 
 abbrev pub invariant-loop-placed : goal.invariant-loop-placed

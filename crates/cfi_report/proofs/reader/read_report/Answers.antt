@@ -1,5 +1,5 @@
 use Rattle.std.proofs.Common.{◌≡◌, ◌+◌, ◌<◌, true, false, length, sym, ◌∙◌, subst, rules}
-use Rattle.cfi_report.specs.Draft.{ReportSoFar, is_whole}
+use Rattle.cfi_report.specs.inner.Draft.{ReportSoFar, is_whole}
 use Rattle.cfi_report.proofs.ReadLemmas.{IsRead, read-next, fault-wanted, fault-left, read-whole}
 use Rattle.cfi_report.proofs.reader.read_report.Goals as goal
 

@@ -1,9 +1,9 @@
 use Rattle.std.proofs.Common.{◌≡◌, ℕ, List, length, ap, sym, ◌∙◌, subst, arith}
 use Rattle.std.specs.Prelude.{IfOk}
 use Rattle.cfi_types.specs.Node.{Node}
-use Rattle.cfi_types.specs.Joined.{joined_from}
-use Rattle.cfi_types.specs.Splitting.{IsClosed}
-use Rattle.cfi_types.specs.Refining.{AreLeaders}
+use Rattle.cfi_types.specs.inner.Joined.{joined_from}
+use Rattle.cfi_types.specs.inner.Splitting.{IsClosed}
+use Rattle.cfi_types.specs.inner.Refining.{AreLeaders}
 use Rattle.cfi_types.specs.Numbering.{AreNumbers}
 use Rattle.cfi_types.proofs.Places.{flat, length_joined, closed_joined}
 use Rattle.cfi_types.proofs.Whole.{classes_by_table}

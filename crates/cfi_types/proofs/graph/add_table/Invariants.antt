@@ -1,5 +1,5 @@
 use Rattle.std.proofs.Common.{◌≡◌, ◌++◌, map, take}
-use Rattle.cfi_types.specs.Joined.{shifted}
+use Rattle.cfi_types.specs.inner.Joined.{shifted}
 use Rattle.cfi_types.proofs.graph.add_table.Given as goal
 
 abbrev pub invariant-loop-node : goal.invariant-loop-node

@@ -1,5 +1,5 @@
 use Rattle.std.proofs.Common.{◌≡◌, take}
-use Rattle.cfi_types.specs.Joined.{joined_from}
+use Rattle.cfi_types.specs.inner.Joined.{joined_from}
 use Rattle.cfi_types.proofs.graph.join.Given as goal
 
 abbrev pub invariant-loop-table : goal.invariant-loop-table

@@ -1,7 +1,7 @@
 use Rattle.std.proofs.Common.{◌≡◌, ◌≢◌, ◌*◌, Bool, List, length, map, sym, ap, subst, ◌∙◌}
 use Rattle.std.proofs.lemmas.Bool.{false≢true}
 use Rattle.std.proofs.lemmas.Slice.Eq.{bytes_eq-Decides}
-use Rattle.cfi_types.specs.Splitting.{names_leaving}
+use Rattle.cfi_types.specs.inner.Splitting.{names_leaving}
 use Rattle.cfi_types.proofs.Pairs.{total, less_left}
 use Rattle.cfi_types.proofs.Steps.{Refines, leaders, rises, bounded, step, split_of, leaves_of}
 use Rattle.cfi_types.proofs.refining.leaders.Goals as goal

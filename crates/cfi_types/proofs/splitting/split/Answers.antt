@@ -1,5 +1,5 @@
 use Rattle.cfi_types.proofs.Loops.{split_more}
-use Rattle.cfi_types.specs.Leader.{first_of}
+use Rattle.cfi_types.specs.inner.Leader.{first_of}
 use Rattle.cfi_types.proofs.splitting.split.Goals as goal
 
 -- this turn's node is put among the first nodes

@@ -1,5 +1,5 @@
 use Rattle.std.proofs.Common.{vec_len}
-use Rattle.cfi_types.specs.Leader.{first_of}
+use Rattle.cfi_types.specs.inner.Leader.{first_of}
 use Rattle.cfi_types.proofs.Loops.{SplitsSoFar}
 use Rattle.cfi_types.proofs.splitting.split.Given as goal
 

@@ -2,7 +2,7 @@ use Rattle.std.proofs.Common.{List, ◌≤◌, length, ap, sym, subst, arith}
 use Rattle.cfi_verify.specs.declared.checks.CheckSpot.{CheckSpot}
 use Rattle.elf_read.specs.Lists.{Each, IsFirstBreak, own_number}
 use Rattle.cfi_verify.specs.Branches.{KindFits, EntriesFit}
-use Rattle.cfi_verify.specs.Places.{AreSmallChecks, IsFirstMisfit}
+use Rattle.cfi_verify.specs.inner.Places.{AreSmallChecks, IsFirstMisfit}
 use Rattle.cfi_verify.proofs.SpotLemmas.{spots-rising, spots-small, checks-small, checks-few}
 use Rattle.cfi_verify.proofs.FunctionLemmas.{in_order, in_range}
 use Rattle.cfi_verify.proofs.RowLemmas.{clear_laid, clear_eight, clear_nine, first_target, first_kinds, first_switch}

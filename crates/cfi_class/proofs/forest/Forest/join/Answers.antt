@@ -1,5 +1,5 @@
 use Rattle.std.proofs.Common.{◌≡◌, length, get_or, ap, sym, ◌∙◌, arith}
-use Rattle.cfi_class.specs.Forest.{HasSameRoots, root_of}
+use Rattle.cfi_class.specs.inner.Forest.{HasSameRoots, root_of}
 use Rattle.cfi_class.proofs.ForestLemmas.{root_of-top}
 use Rattle.cfi_class.proofs.JoinLemmas.{joined_from, joined_roots}
 use Rattle.cfi_class.proofs.forest.Forest.join.Goals as goal

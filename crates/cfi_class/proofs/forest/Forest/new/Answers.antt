@@ -1,7 +1,7 @@
 use Rattle.std.proofs.Common.{◌≡◌, ℕ, ◌<◌, refl, subst, sym, arith}
 use Rattle.std.specs.List.{range_with_len}
 use Rattle.std.proofs.lemmas.Iterator.{items_from_collect, YieldsList-from_range}
-use Rattle.cfi_class.specs.Forest.{IsForest, root_of}
+use Rattle.cfi_class.specs.inner.Forest.{IsForest, root_of}
 use Rattle.cfi_class.proofs.ForestLemmas.{first_forest, first_roots}
 use Rattle.cfi_class.proofs.forest.Forest.new.Goals as goal
 

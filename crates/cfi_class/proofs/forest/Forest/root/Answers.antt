@@ -1,6 +1,6 @@
 use Rattle.std.proofs.Common.{◌<◌, ◌≤◌, length, get_or, ap, sym, ◌∙◌, arith}
 use Rattle.std.proofs.lemmas.List.{length-set, get_or_read}
-use Rattle.cfi_class.specs.Forest.{root_of}
+use Rattle.cfi_class.specs.inner.Forest.{root_of}
 use Rattle.cfi_class.proofs.ForestLemmas.{halved_forest, halved_roots, halved_way, root_of-root}
 use Rattle.cfi_class.proofs.forest.Forest.root.Goals as goal
 

@@ -1,5 +1,5 @@
 use Rattle.std.proofs.Common.{◌≡◌, ◌≤◌, length}
-use Rattle.cfi_class.specs.Forest.{IsForest, HasSameRoots, root_of}
+use Rattle.cfi_class.specs.inner.Forest.{IsForest, HasSameRoots, root_of}
 use Rattle.cfi_class.proofs.forest.Forest.root.Given as goal
 
 abbrev pub invariant-loop-at : goal.invariant-loop-at

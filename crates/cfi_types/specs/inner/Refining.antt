@@ -2,7 +2,7 @@
 use Rattle.std.specs.Prelude.{◌≡◌, ◌↔◌, ℕ, ◌<◌, List, length, slice_index}
 use Rattle.cfi_types.specs.Node.{Node}
 use Rattle.cfi_types.specs.Same.{Equal}
-use Rattle.cfi_types.specs.Splitting.{IsLow}
+use Rattle.cfi_types.specs.inner.Splitting.{IsLow}
 
 -- one number for equal nodes alone: that of the least of them
 pub record AreLeaders (nodes : List Node) (leaders : List ℕ) : Type 0 where

@@ -1,7 +1,7 @@
 -- Which slots have edges, and the numbers that slots and code words get from the roots of their nodes.
 use Rattle.std.specs.Prelude.{◌≡◌, ◌↔◌, ℕ, ◌+◌, ◌<◌, ◌≤◌, Bool, true, false, List, length, slice_index, slice_index_or}
 use Rattle.cfi_word.specs.declared.ids.TheConstants.{FIELD_MAX}
-use Rattle.cfi_class.specs.Forest.{root_of}
+use Rattle.cfi_class.specs.inner.Forest.{root_of}
 use Rattle.cfi_class.specs.Labels.{IsClass, IsUsed}
 
 -- the slot is marked

@@ -1,6 +1,6 @@
 -- How the code keeps a draft.
 use Rattle.cfi_report.specs.declared.draft.Draft.TheInside.{Inside}
-use Rattle.cfi_report.specs.Draft.{ReportSoFar}
+use Rattle.cfi_report.specs.inner.Draft.{ReportSoFar}
 
 abbrev pub view_of : Inside → ReportSoFar
 view_of a = record {

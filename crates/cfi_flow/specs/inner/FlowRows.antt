@@ -5,7 +5,7 @@ use Rattle.cfi_flow.specs.declared.links.Flow.{Flow}
 use Rattle.cfi_flow.specs.declared.fan.Fan.{Fan}
 use Rattle.cfi_flow.specs.declared.fans.FlowRows.{FlowRows}
 use Rattle.cfi_flow.specs.Rows.{AreRows}
-use Rattle.cfi_flow.specs.Reach.{AreReached}
+use Rattle.cfi_flow.specs.inner.Reach.{AreReached}
 
 -- the row of a node
 abbrev pub flow_row : List (List ℕ) → ℕ → List ℕ

@@ -1,6 +1,6 @@
 -- Slots and addresses that edges link, in whatever direction, as nodes of one forest: slots first, then code words.
 use Rattle.std.specs.Prelude.{◌≡◌, ℕ, ◌+◌, ◌*◌, ◌/◌, ◌%◌, ◌<◌, List, length}
-use Rattle.cfi_class.specs.Forest.{IsForest, root_of}
+use Rattle.cfi_class.specs.inner.Forest.{IsForest, root_of}
 
 -- an end of an edge
 pub data End : Type 0 where

@@ -4,7 +4,7 @@ use Rattle.cfi_report.specs.declared.line.Line.{Line}
 use Rattle.cfi_report.specs.declared.stage.Stage.{Stage}
 use Rattle.cfi_report.specs.Line.{line_text}
 use Rattle.cfi_report.specs.Report.{IsLine}
-use Rattle.cfi_report.specs.Draft.{may_follow}
+use Rattle.cfi_report.specs.inner.Draft.{may_follow}
 
 -- the line stands there and may follow, and this text comes after it
 pub record IsNext (at : Stage) (text : List ℕ) (one : Line) (rest : List ℕ) : Type 0 where
