@@ -1,9 +1,7 @@
 -- Functions that are well formed: they begin and end at items, one after the other.
-use Rattle.std.proofs.Common.{◌≡◌, ◌≢◌, ℕ, zero, suc, ◌+◌, ◌-◌, ◌*◌, ◌/◌, ◌%◌, ◌<◌, ◌≤◌, not, Bool, true, false, eqb, ltb, List, [], length, get_or, Some, refl, ap, sym, subst, ◌∙◌, inl, inr, ⊎_elim, arith}
-use Rattle.std.specs.List.{list_any, slice_get, range_with_len}
-use Rattle.std.proofs.lemmas.Bool.{cases_Bool, cases_lt, both_ways, and_parts, or_cases, not-true, not-false, eqb-true, eqb-false, ne_eqb, ltb-true, leb-true}
-use Rattle.std.proofs.lemmas.List.Folds.{list_any_at}
-use Rattle.std.proofs.lemmas.List.FromFn.{length-range_with_len, get_or-range_with_len}
+use Rattle.std.proofs.Common.{◌≡◌, ◌≢◌, ℕ, zero, suc, ◌+◌, ◌-◌, ◌*◌, ◌/◌, ◌%◌, ◌<◌, ◌≤◌, not, true, false, eqb, ltb, List, [], length, get_or, Some, refl, ap, sym, subst, ◌∙◌, inl, inr, ⊎_elim, arith}
+use Rattle.std.specs.List.{slice_get}
+use Rattle.std.proofs.lemmas.Bool.{cases_Bool, cases_lt, and_parts, or_cases, not-true, not-false, eqb-true, eqb-false, ne_eqb, ltb-true, leb-true}
 use Rattle.std.proofs.lemmas.Option.{slice_get-get_or, slice_get_past}
 use Rattle.cfi_aux.specs.declared.records.Function.{Function}
 use Rattle.cfi_items.specs.Words.{Words, count_of}

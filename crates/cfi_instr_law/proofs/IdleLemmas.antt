@@ -1,12 +1,11 @@
 -- What stands between the functions of an instrumented module at its place is `addi x0,x0,0`.
-use Rattle.std.proofs.Common.{◌≡◌, ℕ, ◌+◌, ◌*◌, ◌/◌, ◌<◌, ◌≤◌, not, ℤ, pos, negsuc, Bool, true, false, cond, List, [], ◌∷◌, length, get_or, Option, Some, None, refl, ap, sym, subst, ◌∙◌, inl, inr, ⊎_elim, arith}
+use Rattle.std.proofs.Common.{◌≡◌, ℕ, ◌+◌, ◌*◌, ◌/◌, ◌<◌, ◌≤◌, not, pos, Bool, true, false, cond, List, [], ◌∷◌, length, get_or, Option, Some, None, refl, ap, sym, subst, ◌∙◌, inl, inr, ⊎_elim, arith}
 use Rattle.std.specs.List.{Contains}
-use Rattle.std.proofs.lemmas.Bool.{cases_Bool, cases_lt, false≢true, both_ways, and_parts, and_cases, and_from, not-false, not_from_false, eqb-true, lt-ltb, ltb-true, leb-true}
+use Rattle.std.proofs.lemmas.Bool.{cases_Bool, cases_lt, false≢true, both_ways, and_parts, and_cases, and_from, not-false, not_from_false, lt-ltb, ltb-true, leb-true}
 use Rattle.std.proofs.lemmas.List.Folds.{Any-from_list_any}
 use Rattle.elf_read.specs.declared.object.Symbol.{Symbol}
 use Rattle.rv_insn.specs.declared.insn.Insn.{Insn}
 use Rattle.rv_insn.specs.declared.insn.Insn.TheVariants as insns
-use Rattle.rv_insn.specs.declared.insn.ImmOp.{ImmOp}
 use Rattle.rv_insn.specs.declared.insn.ImmOp.TheVariants as ops
 use Rattle.cfi_unit.specs.declared.unit.Unit.{Unit as CodeUnit}
 use Rattle.cfi_unit.specs.declared.unit.Unit.TheVariants as units
@@ -14,9 +13,9 @@ use Rattle.cfi_aux.specs.declared.modules.Module.{Module}
 use Rattle.cfi_aux.specs.declared.placed.Placed.{Placed}
 use Rattle.cfi_aux.specs.declared.records.Function.{Function}
 use Rattle.cfi_items.specs.Words.{Words, insn_at, read_words, count_of}
-use Rattle.cfi_items.specs.Insns.{is_auipc, is_zero}
+use Rattle.cfi_items.specs.Insns.{is_auipc}
 use Rattle.cfi_values.specs.Some.{holds}
-use Rattle.cfi_items.specs.inner.Insns.{is_nop, is_addi}
+use Rattle.cfi_items.specs.inner.Insns.{is_nop}
 use Rattle.cfi_items.specs.Items.{is_inner, is_item}
 use Rattle.cfi_aux.specs.Extent.{byte_end}
 use Rattle.cfi_items.specs.inner.Functions.{covers, is_covered, is_code, has_code}

@@ -126,7 +126,7 @@ fn is_taken(register: u32) -> bool
 }
 
 /// Whether it names a register of the instrumentation. A fence names none.
-pub(crate) fn is_reserved(insn: Insn) -> bool
+pub(crate) fn names_reserved(insn: Insn) -> bool
     ensures { result ≡ names_reserved insn }
 {
     match insn {

@@ -7,7 +7,7 @@ ghost use Rattle.cfi_items.specs.Insns.{OfInsn, IsInsn, NamesFree, IsNoTrap, Lin
 ghost use Rattle.cfi_items.specs.Fault.{IsFirstWord};
 ghost use Rattle.cfi_items.specs.inner.Flaws.{is_illegal_at, is_reserved_at, is_trap_at, is_bad_link_at};
 
-use crate::insns::{is_bad_link, is_reserved, is_trap};
+use crate::insns::{is_bad_link, is_trap, names_reserved};
 use crate::source::Source;
 
 impl Source {
@@ -23,7 +23,7 @@ impl Source {
         ensures { result ≡ is_reserved_at self.now w }
     {
         match self.insn_at(w) {
-            Some(insn) => is_reserved(insn),
+            Some(insn) => names_reserved(insn),
             None => false,
         }
     }
