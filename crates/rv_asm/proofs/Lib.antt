@@ -3,6 +3,11 @@ pub mod PlacedLemmas
 pub mod DistinctLemmas
 pub mod TableLemmas
 pub mod SurveyedLemmas
+pub mod CappedLemmas
+pub mod CappedFitLemmas
+pub mod CappedFaultLemmas
+pub mod LimitLemmas
 pub mod DraftLemmas
 pub mod StepLemmas
+pub mod DraftedLemmas
 pub mod PassLemmas

@@ -1,146 +1,38 @@
 -- The two passes give the object that the lines make, or the fault of the first faulty one.
-use Rattle.std.proofs.Common.{◌≡◌, ℕ, suc, subst, ◌+◌, Bool, true, false, ◌||◌, List, [], ◌∷◌, ◌++◌, length, map, drop, if◌then◌else◌, Option, Some, None, is_some, unwrap_or, Result, Ok, Err, refl, sym, ap, ◌∙◌, append-nil, append_assoc}
-use Rattle.std.specs.List.{filter_map, cons_option, flat_map, last_or}
-use Rattle.std.proofs.Math.Seq.{drop-append-add}
+use Rattle.std.proofs.Common.{◌≡◌, ℕ, suc, subst, ◌+◌, ◌-◌, ◌^◌, ◌≤◌, Bool, List, [], ◌∷◌, ◌++◌, length, map, if◌then◌else◌, Option, Some, None, is_some, Result, Ok, Err, refl, sym, ap, ◌∙◌, append-nil, append_assoc, length-append, arith}
+use Rattle.std.specs.List.{filter_map, cons_option, flat_map, sum_by}
+use Rattle.std.proofs.lemmas.List.{length-map}
+use Rattle.std.proofs.lemmas.List.Sums.{sum_by-append}
 use Rattle.cfi_text.specs.Lines.{lines_of}
 use Rattle.cfi_aux.specs.declared.records.Function.{Function}
-use Rattle.cfi_aux.specs.declared.records.Kind.{Kind}
+use Rattle.elf_read.specs.declared.object.Area.{Area}
 use Rattle.elf_read.specs.declared.object.Area.TheVariants as areas
 use Rattle.elf_read.specs.declared.object.Object.{Object}
 use Rattle.rv_line.specs.declared.line.Line.{Line}
 use Rattle.rv_line.specs.declared.statement.NodeKind.{NodeKind}
 use Rattle.rv_line.specs.declared.statement.Statement.{Statement}
 use Rattle.rv_names.specs.declared.names.Entry.{Entry}
+use Rattle.rv_names.specs.Names.{in_order}
 use Rattle.rv_asm.specs.declared.fault.AsmFault.{AsmFault}
 use Rattle.rv_asm.specs.declared.fault.AsmFault.TheVariants.{Syntax}
 use Rattle.rv_asm.specs.declared.file.File.{File}
+use Rattle.rv_asm.specs.declared.row.Row.{Row}
+use Rattle.rv_asm.specs.declared.spot.Spot.{Spot}
 use Rattle.rv_asm.specs.Assembled.{unless, object_or_fault, object_in}
 use Rattle.rv_asm.specs.inner.Passes.{◌>>=◌, with_row, with_rows, object_of, end_of_lines, passed_by, passed_in}
 use Rattle.rv_asm.specs.inner.Draft.{Draft, empty}
-use Rattle.rv_asm.specs.inner.Fault.{jump_follows, found_by}
-use Rattle.rv_asm.specs.Placed.{Placed, placed_behind, placed, spot_after, lines_in}
-use Rattle.rv_asm.specs.Symbols.{names_in, file_in}
-use Rattle.rv_asm.specs.Made.{text_at, text_of, data_at, data_of, relocs_at, relocs_by, nodes_in, nodes_of, opened_at, open_after, functions_at, functions_of, kind_set, kind_after, branches_in, branches_at, branches_of, object_by}
-use Rattle.rv_asm.specs.Fault.{is_kind, is_jump, says, jump_comes, line_fault, fault_at, end_faults}
-use Rattle.rv_asm.proofs.PlacedLemmas.{at_line, placed-push, made-push, last-said}
-use Rattle.rv_asm.proofs.SurveyedLemmas.{row_at, survey_after, surveyed-from}
-use Rattle.rv_asm.proofs.DraftLemmas.{draft_by, draft-eq, kind_held, kinds_held, grown, found_with, totals_by}
-use Rattle.rv_asm.proofs.StepLemmas.{or_fault, row-step, line-same}
-
--- what the lines so far have made
-abbrev kept_after : File → (before : List Line) → Option Kind
-kept_after file before =
-    unwrap_or (last_or None (filter_map (λ (l : Line). kind_held file.records file l.statement) before)) None
-
-abbrev kept_at : File → Placed → List Kind
-kept_at file at = kinds_held file.records (kept_after file at.before) at.line.statement
-
-abbrev draft_after : File → (before : List Line) → Draft
-draft_after file before =
-    draft_by (text_of file before) (data_of before) (relocs_by file areas.Text before)
-    (relocs_by file areas.Data before)
-    (nodes_of before) (functions_of file.kinds before) (flat_map (kept_at file) (placed before))
-    (kept_after file before)
-    (open_after file.kinds before)
-
-open-push : (kinds : List NodeKind) (before : List Line) (line : Line) →
-    open_after kinds (before ++ line ∷ []) ≡ unwrap_or (opened_at kinds (at_line before line))
-    (open_after kinds before)
-open-push kinds before line =
-    ap (λ (ps : List Placed). unwrap_or (last_or None (filter_map (opened_at kinds) ps)) None)
-    (placed-push before line)
-    ∙ last-said (opened_at kinds) (placed before) (at_line before line) None
-
-draft-push : (file : File) (before : List Line) (line : Line) →
-    draft_after file (before ++ line ∷ []) ≡ grown file (spot_after before) (draft_after file before) line.statement
-draft-push file before line =
-    draft-eq (made-push (text_at file) before line) (made-push data_at before line)
-    (made-push (relocs_at areas.Text file) before line) (made-push (relocs_at areas.Data file) before line)
-    (made-push (λ (at : Placed). nodes_in at.line.statement) before line)
-    (made-push (functions_at file.kinds) before line)
-    (made-push (kept_at file) before line)
-    (last-said (λ (l : Line). kind_held file.records file l.statement) before line None)
-    (open-push file.kinds before line)
-
--- with records, each indirect jump takes the kind that is set
-held-set : (file : File) (o : Option Statement) → kind_held true file o ≡ kind_set file o
-held-set file None = refl
-held-set file (Some s) = refl
-
-held-in : (kind : Option Kind) (o : Option Statement) → kinds_held true kind o ≡ branches_in kind o
-held-in kind None = refl
-held-in kind (Some s) = refl
-
-filter_map-same : {A B : Type 0} (f g : A → Option B) → ((x : A) → f x ≡ g x) → (xs : List A) → filter_map f xs
-    ≡ filter_map g xs
-filter_map-same f g same [] = refl
-filter_map-same f g same (x ∷ xs) =
-    ap (λ o. cons_option o (filter_map f xs)) (same x) ∙ ap (cons_option (g x)) (filter_map-same f g same xs)
-
-flat_map-same : {A B : Type 0} (f g : A → List B) → ((x : A) → f x ≡ g x) → (xs : List A) → flat_map f xs
-    ≡ flat_map g xs
-flat_map-same f g same [] = refl
-flat_map-same f g same (x ∷ xs) =
-    ap (λ l. l ++ flat_map f xs) (same x) ∙ ap (λ l. g x ++ l) (flat_map-same f g same xs)
-
-module _ (names : List Entry) (kinds : List NodeKind) where
-  abbrev recorded : File
-  recorded = record { names = names; kinds = kinds; records = true }
-
-  kept-same : (before : List Line) → kept_after recorded before ≡ kind_after recorded before
-  kept-same before =
-      ap (λ l. unwrap_or (last_or None l) None) (filter_map-same (λ (l : Line). kind_held true recorded l.statement)
-      (λ (l : Line). kind_set recorded l.statement) (λ l. held-set recorded l.statement) before)
-
-  kinds-same : (before : List Line) → flat_map (kept_at recorded) (placed before) ≡ branches_of recorded before
-  kinds-same before =
-      flat_map-same (kept_at recorded) (branches_at recorded)
-      (λ at. held-in (kept_after recorded at.before) at.line.statement
-      ∙ ap (λ (k : Option Kind). branches_in k at.line.statement) (kept-same at.before)) (placed before)
-
-  same_when : (records : Bool) → let file : File = record { names = names; kinds = kinds; records = records } in
-      (before : List Line) → records ≡ true →
-      (kept_after file before ≡ kind_after file before)
-      × (length (flat_map (kept_at file) (placed before)) ≡ length (branches_of file before))
-  same_when true before is = (kept-same before, ap length (kinds-same before))
-  same_when false before is = absurd (cc)
-
-  object-same : (records : Bool) → let file : File = record { names = names; kinds = kinds; records = records } in
-      (lines : List Line) → object_of file (draft_after file lines) ≡ object_by file lines
-  object-same true lines = rw (kinds-same lines) refl
-  object-same false lines = refl
-
--- the jumps that come
-comes_on : (v w : Bool) (rest more : Bool) → rest ≡ more → (if v || w then w else rest) ≡ (if v || w then w else more)
-comes_on v w rest more same = ap (λ (r : Bool). if v || w then w else r) same
-
-jump-same : (before lines : List Line) → jump_follows (map row_at (placed_behind before lines)) ≡ jump_comes lines
-jump-same before [] = refl
-jump-same before (line ∷ lines) =
-    comes_on (says is_kind line.statement) (says is_jump line.statement)
-    (jump_follows (map row_at (placed_behind (before ++ line ∷ []) lines))) (jump_comes lines)
-    (jump-same (before ++ line ∷ []) lines)
-
--- the fault of a line, by the draft of those before it
-fault-same : (file : File) (before rest : List Line) (line : Line) →
-    line_fault file (found_by (spot_after before) (draft_after file before)
-    (map row_at (placed_behind (before ++ line ∷ []) rest)))
-    (totals_by (draft_after file before) (length (names_in (before ++ line ∷ []))))
-    (length before + 1) line.label line.statement
-    ≡ fault_at file (before ++ line ∷ rest) (at_line before line)
-fault-same file before rest line =
-    let lines = before ++ line ∷ rest in
-    let draft = draft_after file before in
-    let totals = totals_by draft (length (names_in (before ++ line ∷ []))) in
-    let jump : jump_follows (map row_at (placed_behind (before ++ line ∷ []) rest))
-    ≡ jump_comes (drop (length before + 1) lines) =
-    jump-same (before ++ line ∷ []) rest ∙ ap jump_comes (sym (drop-append-add before (line ∷ rest) 1)) in
-    ap (λ (j : Bool). line_fault file (found_with (spot_after before) draft j) totals (length before + 1) line.label
-    line.statement) jump
-    ∙ line-same file.names file.kinds (found_with (spot_after before) draft
-    (jump_comes (drop (length before + 1) lines)))
-    totals (kind_after file before) (length (branches_of file before)) (length before + 1) line.label file.records
-    line.statement (same_when file.names file.kinds file.records before)
+use Rattle.rv_asm.specs.Placed.{Placed, placed_behind, placed, size_at, end_after, spot_after, lines_in}
+use Rattle.rv_asm.specs.Symbols.{line_says, says_at, said_in, table_of, names_in, kinds_in, file_in}
+use Rattle.rv_asm.specs.Made.{open_after, object_by}
+use Rattle.rv_asm.specs.Fault.{fault_at, end_faults}
+use Rattle.rv_asm.proofs.PlacedLemmas.{at_line, placed_behind-append, capped, capped-same, pairs-le}
+use Rattle.rv_asm.proofs.SurveyedLemmas.{capped_says, capped_in, records_in, row_at, survey_after, surveyed-from}
+use Rattle.rv_asm.proofs.CappedLemmas.{cap, said-from, table-cap, order-cap}
+use Rattle.rv_asm.proofs.CappedFaultLemmas.{fault-cap}
+use Rattle.rv_asm.proofs.LimitLemmas.{AreWithin, within-push}
+use Rattle.rv_asm.proofs.DraftLemmas.{grown}
+use Rattle.rv_asm.proofs.StepLemmas.{or_fault, row-step}
+use Rattle.rv_asm.proofs.DraftedLemmas.{draft_after, draft-push, object-same, fault-same}
 
 end_on : (file : File) (number : ℕ) (draft : Draft) (object : Object) (o : Option Function) →
     object_of file draft ≡ object →
@@ -149,9 +41,9 @@ end_on file number draft object None same = ap (λ (x : Object). Ok x) same
 end_on file number draft object (Some function) same = refl
 
 more_on : (o : Option AsmFault) (draft next : Draft) (object : Object) (faults : List AsmFault)
-    (go : Draft → Result Object AsmFault) → draft ≡ next → go next ≡ unless faults object →
+    (go : Draft → Result Object AsmFault) → draft ≡ next → (o ≡ None → go next ≡ unless faults object) →
     (or_fault o draft >>= go) ≡ unless (cons_option o faults) object
-more_on None draft next object faults go same is = ap go same ∙ is
+more_on None draft next object faults go same is = ap go same ∙ is refl
 more_on (Some fault) draft next object faults go same is = refl
 
 cons_option-append : {A : Type 0} (o : Option A) (xs ys : List A) → cons_option o (xs ++ ys) ≡ cons_option o xs ++ ys
@@ -163,52 +55,161 @@ bind_bind : {A B C : Type 0} (r : Result A AsmFault) (f : A → Result B AsmFaul
 bind_bind (Ok x) f g = refl
 bind_bind (Err fault) f g = refl
 
-passes-from : (file : File) (before rest : List Line) → let lines = before ++ rest in
-    (with_rows file (draft_after file before) (map row_at (placed_behind before rest)) >>= end_of_lines file
-    (length lines))
-    ≡ unless (filter_map (fault_at file lines) (placed_behind before rest)
-    ++ end_faults (length lines + 1) (open_after file.kinds lines)) (object_by file lines)
-passes-from file before [] =
-    let lines = before ++ [] in
-    ap (λ (l : List Line). end_of_lines file (length lines) (draft_after file l)) (sym (append-nil before))
-    ∙ end_on file (length lines + 1) (draft_after file lines) (object_by file lines) (open_after file.kinds lines)
-    (object-same file.names file.kinds file.records lines)
-passes-from file before (line ∷ rest) =
+-- the lines before another are no longer, and make no more
+prefix-le : (area : Area) (before rest : List Line) → end_after area before ≤ end_after area (before ++ rest)
+prefix-le area before rest =
+    let all = ap (sum_by (size_at area)) (placed_behind-append [] before rest) in
+    let sum = sum_by-append (size_at area) (placed before) (placed_behind before rest) in
+    omega arith
+
+few-lines : (before rest : List Line) → length (before ++ rest) ≤ 2 ^ 32 - 1 → length before ≤ 2 ^ 32 - 1
+few-lines before rest few = let all = length-append before rest in omega (arith, few)
+
+within-same : (before : List Line) → AreWithin before → length before ≤ 2 ^ 32 - 1 →
+    capped (spot_after before) ≡ spot_after before
+within-same before are few =
+    let pairs = pairs-le before in
+    let text = are.text in
+    let bytes = are.bytes in
+    capped-same before (omega (arith, text)) (omega (arith, bytes)) (omega (arith, pairs, few))
+
+within-before : (before rest : List Line) → AreWithin (before ++ rest) → AreWithin before
+within-before before rest are =
+    let text = prefix-le areas.Text before rest in
+    let bytes = prefix-le areas.Data before rest in
+    let all = are.text in
+    let most = are.bytes in
+    record { text = omega (arith, text, all); bytes = omega (arith, bytes, most) }
+
+-- the names of lines within the limits are as the code counts them
+said-within : (before rest : List Line) → AreWithin (before ++ rest) → length (before ++ rest) ≤ 2 ^ 32 - 1 →
+    flat_map capped_says (placed_behind before rest) ≡ flat_map says_at (placed_behind before rest)
+said-within before [] are few = refl
+said-within before (line ∷ rest) are few =
     let lines = before ++ line ∷ rest in
-    let others = map row_at (placed_behind (before ++ line ∷ []) rest) in
-    let row = row_at (at_line before line) in
-    let go = λ (d : Draft). with_rows file d others >>= end_of_lines file (length lines) in
-    let faults = filter_map (fault_at file lines) (placed_behind (before ++ line ∷ []) rest)
-    ++ end_faults (length lines + 1) (open_after file.kinds lines) in
-    bind_bind (with_row file (draft_after file before) others row line.statement)
-    (λ (d : Draft). with_rows file d others)
-    (end_of_lines file (length lines))
-    ∙ ap (λ (r : Result Draft AsmFault). r >>= go) (row-step file (draft_after file before) others row line.statement)
-    ∙ ap (λ (o : Option AsmFault). or_fault o (grown file (spot_after before)
-    (draft_after file before) line.statement) >>= go)
-    (fault-same file before rest line)
-    ∙ more_on (fault_at file lines (at_line before line)) (grown file (spot_after before)
-    (draft_after file before) line.statement)
-    (draft_after file (before ++ line ∷ [])) (object_by file lines) faults go (sym (draft-push file before line))
-    (subst (λ (l : List Line). (with_rows file (draft_after file (before ++ line ∷ [])) others >>= end_of_lines file
-    (length l))
-    ≡ unless (filter_map (fault_at file l) (placed_behind (before ++ line ∷ []) rest)
-    ++ end_faults (length l + 1) (open_after file.kinds l)) (object_by file l))
-    (append_assoc before (line ∷ []) rest) (passes-from file (before ++ line ∷ []) rest))
-    ∙ ap (λ (fs : List AsmFault). unless fs (object_by file lines))
-    (cons_option-append (fault_at file lines (at_line before line))
-    (filter_map (fault_at file lines) (placed_behind (before ++ line ∷ []) rest))
-    (end_faults (length lines + 1) (open_after file.kinds lines)))
+    let same = within-same before (within-before before (line ∷ rest) are) (few-lines before (line ∷ rest) few) in
+    let again = append_assoc before (line ∷ []) rest in
+    ap (λ (s : Spot). line_says (length before + 1) s line ++ flat_map capped_says
+    (placed_behind (before ++ line ∷ []) rest)) same
+    ∙ ap (λ (l : List Entry). says_at (at_line before line) ++ l) (said-within (before ++ line ∷ []) rest
+    (subst AreWithin (sym again) are) (subst (λ (l : List Line). length l ≤ 2 ^ 32 - 1) (sym again) few))
+
+abbrev counted_in : (lines : List Line) → List Entry
+counted_in lines = in_order (table_of (capped_in lines))
+
+names-counted : (lines : List Line) → length lines ≤ 2 ^ 32 - 1 →
+    table_of (capped_in lines) ≡ map cap (names_in lines)
+names-counted lines few = ap table_of (said-from [] lines (omega (arith, few))) ∙ table-cap (said_in lines)
+
+names-within : (lines : List Line) → AreWithin lines → length lines ≤ 2 ^ 32 - 1 →
+    map cap (in_order (names_in lines)) ≡ in_order (names_in lines)
+names-within lines are few =
+    sym (order-cap (names_in lines)) ∙ ap in_order (sym (names-counted lines few))
+    ∙ ap (λ (l : List Entry). in_order (table_of l)) (said-within [] lines are few)
+
+-- the row of a line within the limits
+abbrev plain_row : Placed → Row
+plain_row at = record {
+  number = length at.before + 1;
+  label = at.line.label;
+  statement = at.line.statement;
+  spot = spot_after at.before;
+  names = length (names_in (at.before ++ at.line ∷ []));
+}
+
+row-eq : {n : ℕ} {label : Option (List ℕ)} {o : Option Statement} {s t : Spot} {c d : ℕ} → s ≡ t → c ≡ d →
+    ◌≡◌ {A = Row} (record { number = n; label = label; statement = o; spot = s; names = c })
+    (record { number = n; label = label; statement = o; spot = t; names = d })
+row-eq spot names = rw (spot, names) refl
+
+row-same : (before : List Line) (line : Line) → AreWithin before → length (before ++ line ∷ []) ≤ 2 ^ 32 - 1 →
+    row_at (at_line before line) ≡ plain_row (at_line before line)
+row-same before line are few =
+    row-eq (within-same before are (few-lines before (line ∷ []) few))
+    (ap length (names-counted (before ++ line ∷ []) few) ∙ length-map (names_in (before ++ line ∷ [])) cap)
+
+abbrev named : (kinds : List NodeKind) (records : Bool) → List Entry → File
+named kinds records table = record { names = table; kinds = kinds; records = records }
+
+-- the second pass, from a line on
+module _ (names : List Entry) (kinds : List NodeKind) (records : Bool) where
+  abbrev exact : File
+  exact = record { names = names; kinds = kinds; records = records }
+
+  abbrev counted : File
+  counted = record { names = map cap names; kinds = kinds; records = records }
+
+  abbrev Passes : (lines before rest : List Line) → Type 0
+  Passes lines before rest =
+      (with_rows counted (draft_after counted before) (map row_at (placed_behind before rest))
+      >>= end_of_lines counted (length lines))
+      ≡ unless (filter_map (fault_at exact lines) (placed_behind before rest)
+      ++ end_faults (length lines + 1) (open_after kinds lines)) (object_by exact lines)
+
+  -- one line
+  line-passes : (before rest : List Line) (line : Line) → AreWithin before →
+      length (before ++ line ∷ []) ≤ 2 ^ 32 - 1 →
+      with_row counted (draft_after counted before) (map row_at (placed_behind (before ++ line ∷ []) rest))
+      (row_at (at_line before line)) line.statement
+      ≡ or_fault (fault_at exact (before ++ line ∷ rest) (at_line before line))
+      (grown counted (spot_after before) (draft_after counted before) line.statement)
+  line-passes before rest line are few =
+      let others = map row_at (placed_behind (before ++ line ∷ []) rest) in
+      let draft = draft_after counted before in
+      ap (λ (row : Row). with_row counted draft others row line.statement) (row-same before line are few)
+      ∙ row-step counted draft others (plain_row (at_line before line)) line.statement
+      ∙ ap (λ (o : Option AsmFault). or_fault o (grown counted (spot_after before) draft line.statement))
+      (fault-same counted before rest line
+      ∙ fault-cap names kinds records (before ++ line ∷ rest) (at_line before line) are.text)
+
+  passes-from : (before rest : List Line) → AreWithin before → length (before ++ rest) ≤ 2 ^ 32 - 1 →
+      (AreWithin (before ++ rest) → map cap names ≡ names) → Passes (before ++ rest) before rest
+  passes-from before [] are few known =
+      let lines = before ++ [] in
+      let all : AreWithin lines = subst AreWithin (sym (append-nil before)) are in
+      ap (λ (l : List Line). end_of_lines counted (length lines) (draft_after counted l)) (sym (append-nil before))
+      ∙ ap (λ (table : List Entry). end_of_lines (named kinds records table) (length lines)
+      (draft_after (named kinds records table) lines)) (known all)
+      ∙ end_on exact (length lines + 1) (draft_after exact lines) (object_by exact lines) (open_after kinds lines)
+      (object-same names kinds records lines)
+  passes-from before (line ∷ rest) are few known =
+      let lines = before ++ line ∷ rest in
+      let next = before ++ line ∷ [] in
+      let others = map row_at (placed_behind next rest) in
+      let draft = draft_after counted before in
+      let go = λ (d : Draft). with_rows counted d others >>= end_of_lines counted (length lines) in
+      let again = append_assoc before (line ∷ []) rest in
+      let ends = end_faults (length lines + 1) (open_after kinds lines) in
+      let faults = filter_map (fault_at exact lines) (placed_behind next rest) in
+      let short : length next ≤ 2 ^ 32 - 1 =
+      few-lines next rest (subst (λ (l : List Line). length l ≤ 2 ^ 32 - 1) (sym again) few) in
+      bind_bind (with_row counted draft others (row_at (at_line before line)) line.statement)
+      (λ (d : Draft). with_rows counted d others) (end_of_lines counted (length lines))
+      ∙ ap (λ (r : Result Draft AsmFault). r >>= go) (line-passes before rest line are short)
+      ∙ more_on (fault_at exact lines (at_line before line)) (grown counted (spot_after before) draft line.statement)
+      (draft_after counted next) (object_by exact lines) (faults ++ ends) go (sym (draft-push counted before line))
+      (λ none. subst (λ (l : List Line). Passes l next rest) again (passes-from next rest
+      (within-push exact lines before line are none)
+      (subst (λ (l : List Line). length l ≤ 2 ^ 32 - 1) (sym again) few)
+      (λ all. known (subst AreWithin again all))))
+      ∙ ap (λ (fs : List AsmFault). unless fs (object_by exact lines))
+      (cons_option-append (fault_at exact lines (at_line before line)) faults ends)
 
 rows-length : (before lines : List Line) → length (map row_at (placed_behind before lines)) ≡ length lines
 rows-length before [] = refl
 rows-length before (line ∷ lines) = ap suc (rows-length (before ++ line ∷ []) lines)
 
-lines-passed : (lines : List Line) → passed_by (survey_after lines) ≡ object_or_fault (file_in lines) lines
-lines-passed lines =
-    ap (λ (n : ℕ). with_rows (file_in lines) empty (map row_at (placed lines)) >>= end_of_lines (file_in lines) n)
+lines-passed : (lines : List Line) → length lines ≤ 2 ^ 32 - 1 →
+    passed_by (survey_after lines) ≡ object_or_fault (file_in lines) lines
+lines-passed lines few =
+    let file = λ (table : List Entry). named (kinds_in lines) (records_in lines) table in
+    let rows = map row_at (placed lines) in
+    ap (λ (n : ℕ). with_rows (file (counted_in lines)) empty rows >>= end_of_lines (file (counted_in lines)) n)
     (rows-length [] lines)
-    ∙ passes-from (file_in lines) [] lines
+    ∙ ap (λ (table : List Entry). with_rows (file table) empty rows >>= end_of_lines (file table) (length lines))
+    (ap in_order (names-counted lines few) ∙ order-cap (names_in lines))
+    ∙ passes-from (in_order (names_in lines)) (kinds_in lines) (records_in lines) [] lines
+    (record { text = omega arith; bytes = omega arith }) few (λ are. names-within lines are few)
 
-pub passed_in-text : (text : List ℕ) → passed_in text ≡ object_in text
-passed_in-text text = ap passed_by (surveyed-from [] (lines_of text)) ∙ lines-passed (lines_in text)
+pub passed_in-text : (text : List ℕ) → length (lines_in text) ≤ 2 ^ 32 - 1 → passed_in text ≡ object_in text
+passed_in-text text few = ap passed_by (surveyed-from [] (lines_of text)) ∙ lines-passed (lines_in text) few

@@ -1,18 +1,17 @@
 -- Lines one after the other, each behind those before it: what one more line adds.
-use Rattle.std.proofs.Common.{◌≡◌, ℕ, ◌+◌, ◌-◌, ◌^◌, ◌≤◌, min, cond, Option, Some, None, unwrap_or, List, [], ◌∷◌, ◌++◌, refl, sym, ap, ◌∙◌, append_assoc, append-nil, arith}
+use Rattle.std.proofs.Common.{◌≡◌, ℕ, ◌+◌, ◌-◌, ◌^◌, ◌≤◌, cond, Option, Some, None, unwrap_or, List, [], ◌∷◌, ◌++◌, length, refl, sym, ap, ◌∙◌, append_assoc, append-nil, arith}
 use Rattle.std.specs.List.{filter_map, flat_map, cons_option, last_or, sum_by}
 use Rattle.std.specs.Option.{option_or}
-use Rattle.std.proofs.Math.Nat.{min-le_right}
 use Rattle.std.proofs.lemmas.Grind.{flat_map-append}
-use Rattle.std.proofs.lemmas.List.Sums.{sum_by_push}
+use Rattle.std.proofs.lemmas.List.Sums.{sum_by_push, count_by-le-length}
 use Rattle.elf_read.specs.declared.object.Area.{Area}
 use Rattle.elf_read.specs.declared.object.Area.TheVariants as areas
 use Rattle.rv_line.specs.declared.line.Line.{Line}
 use Rattle.rv_line.specs.declared.statement.Statement.{Statement}
 use Rattle.rv_line.specs.declared.statement.Statement.TheVariants as statements
 use Rattle.rv_asm.specs.declared.spot.Spot.{Spot}
-use Rattle.rv_asm.specs.Spot.{plus}
-use Rattle.rv_asm.specs.inner.Spot.{after_line}
+use Rattle.rv_asm.specs.inner.Spot.{plus, at_most, after_line}
+use Rattle.rv_asm.specs.Spot.{text_size, data_size}
 use Rattle.rv_asm.specs.Placed.{Placed, placed_behind, placed, switched, area_after, size_in, size_at, end_after, is_pair, pairs_after, spot_after}
 
 pub placed_behind-append : (before a b : List Line) →
@@ -79,24 +78,22 @@ pub area-push : (before : List Line) (line : Line) →
     area_after (before ++ line ∷ []) ≡ unwrap_or (switched line.statement) (area_after before)
 area-push before line = last-said (λ (l : Line). switched l.statement) before line areas.Text
 
-min_plus : (a x m : ℕ) → min (a + x) m ≡ min (min a m + x) m
-min_plus a x m = omega arith
-
-plus-zero : (n : ℕ) → n ≤ 2 ^ 32 - 1 → n ≡ plus n 0
-plus-zero n h = omega arith
-
 pub end-push : (area : Area) (before : List Line) (line : Line) →
-    end_after area (before ++ line ∷ []) ≡ plus (end_after area before) (size_at area (at_line before line))
-end-push area before line =
-    ap (λ n. min n (2 ^ 32 - 1)) (sum-push (size_at area) before line)
-    ∙ min_plus (sum_by (size_at area) (placed before)) (size_at area (at_line before line)) (2 ^ 32 - 1)
+    end_after area (before ++ line ∷ []) ≡ end_after area before + size_at area (at_line before line)
+end-push area before line = sum-push (size_at area) before line
 
-pub pairs-push : (before : List Line) (line : Line) →
-    pairs_after (before ++ line ∷ []) ≡ plus (pairs_after before) (cond (is_pair line.statement) 1 0)
-pairs-push before line =
-    let count = λ (l : Line). cond (is_pair l.statement) 1 0 in
-    ap (λ n. min n (2 ^ 32 - 1)) (sum_by_push count before line)
-    ∙ min_plus (sum_by count before) (count line) (2 ^ 32 - 1)
+pairs-push : (before : List Line) (line : Line) →
+    pairs_after (before ++ line ∷ []) ≡ pairs_after before + cond (is_pair line.statement) 1 0
+pairs-push before line = sum_by_push (λ (l : Line). cond (is_pair l.statement) 1 0) before line
+
+-- a spot as the code counts it
+abbrev pub capped : Spot → Spot
+capped spot = record {
+  area = spot.area;
+  text_end = at_most spot.text_end;
+  data_end = at_most spot.data_end;
+  pairs = at_most spot.pairs;
+}
 
 spot-eq : {a b : Area} {t u d e p q : ℕ} → a ≡ b → t ≡ u → d ≡ e → p ≡ q →
     ◌≡◌ {A = Spot} (record { area = a; text_end = t; data_end = d; pairs = p })
@@ -106,26 +103,49 @@ spot-eq area text data_end pairs = rw (area, text, data_end, pairs) refl
 abbrev spot_by : Area → (t d p : ℕ) → Spot
 spot_by a t d p = record { area = a; text_end = t; data_end = d; pairs = p }
 
-after-parts : (a : Area) (t d p : ℕ) (s : Option Statement) → t ≡ plus t 0 → d ≡ plus d 0 → p ≡ plus p 0 →
-    spot_by (unwrap_or (switched s) a) (plus t (size_in areas.Text a s)) (plus d (size_in areas.Data a s))
-    (plus p (cond (is_pair s) 1 0))
-    ≡ after_line (spot_by a t d p) s
-after-parts areas.Text t d p None ht hd hp = spot-eq refl (sym ht) (sym hd) (sym hp)
-after-parts areas.Data t d p None ht hd hp = spot-eq refl (sym ht) (sym hd) (sym hp)
-after-parts areas.Text t d p (Some statements.Text) ht hd hp = spot-eq refl (sym ht) (sym hd) (sym hp)
-after-parts areas.Data t d p (Some statements.Text) ht hd hp = spot-eq refl (sym ht) (sym hd) (sym hp)
-after-parts areas.Text t d p (Some statements.Data) ht hd hp = spot-eq refl (sym ht) (sym hd) (sym hp)
-after-parts areas.Data t d p (Some statements.Data) ht hd hp = spot-eq refl (sym ht) (sym hd) (sym hp)
-after-parts areas.Text t d p (Some (statements.La rd name)) ht hd hp = spot-eq refl refl (sym hd) refl
-after-parts areas.Data t d p (Some (statements.La rd name)) ht hd hp = spot-eq refl (sym ht) refl refl
-after-parts areas.Text t d p (Some statement) ht hd hp = spot-eq refl refl (sym hd) (sym hp)
-after-parts areas.Data t d p (Some statement) ht hd hp = spot-eq refl (sym ht) refl (sym hp)
+stays : (n : ℕ) → at_most (n + 0) ≡ at_most n
+stays n = omega arith
+
+adds : (n x : ℕ) → at_most (n + x) ≡ plus (at_most n) x
+adds n x = omega arith
+
+adds-most : (n x : ℕ) → at_most (n + x) ≡ plus (at_most n) (at_most x)
+adds-most n x = omega arith
+
+after-parts : (a : Area) (t d p : ℕ) (s : Option Statement) →
+    spot_by (unwrap_or (switched s) a) (at_most (t + size_in areas.Text a s)) (at_most (d + size_in areas.Data a s))
+    (at_most (p + cond (is_pair s) 1 0))
+    ≡ after_line (spot_by a (at_most t) (at_most d) (at_most p)) s
+after-parts areas.Text t d p None = spot-eq refl (stays t) (stays d) (stays p)
+after-parts areas.Data t d p None = spot-eq refl (stays t) (stays d) (stays p)
+after-parts areas.Text t d p (Some statements.Text) = spot-eq refl (stays t) (stays d) (stays p)
+after-parts areas.Data t d p (Some statements.Text) = spot-eq refl (stays t) (stays d) (stays p)
+after-parts areas.Text t d p (Some statements.Data) = spot-eq refl (stays t) (stays d) (stays p)
+after-parts areas.Data t d p (Some statements.Data) = spot-eq refl (stays t) (stays d) (stays p)
+after-parts areas.Text t d p (Some (statements.La rd name)) = spot-eq refl (adds t 8) (stays d) (adds p 1)
+after-parts areas.Data t d p (Some (statements.La rd name)) = spot-eq refl (stays t) (adds-most d 0) (adds p 1)
+after-parts areas.Text t d p (Some statement) = spot-eq refl (adds t (text_size statement)) (stays d) (stays p)
+after-parts areas.Data t d p (Some statement) = spot-eq refl (stays t) (adds-most d (data_size statement)) (stays p)
 
 pub spot-push : (before : List Line) (line : Line) →
-    spot_after (before ++ line ∷ []) ≡ after_line (spot_after before) line.statement
+    capped (spot_after (before ++ line ∷ [])) ≡ after_line (capped (spot_after before)) line.statement
 spot-push before line =
-    spot-eq (area-push before line) (end-push areas.Text before line) (end-push areas.Data before line)
-    (pairs-push before line)
+    spot-eq (area-push before line) (ap at_most (end-push areas.Text before line))
+    (ap at_most (end-push areas.Data before line)) (ap at_most (pairs-push before line))
     ∙ after-parts (area_after before) (end_after areas.Text before) (end_after areas.Data before) (pairs_after before)
-    line.statement (plus-zero (end_after areas.Text before) (min-le_right _ _))
-    (plus-zero (end_after areas.Data before) (min-le_right _ _)) (plus-zero (pairs_after before) (min-le_right _ _))
+    line.statement
+
+-- a spot within the code's numbers is as it is
+least : (n : ℕ) → n ≤ 2 ^ 32 - 1 → at_most n ≡ n
+least n h = omega (arith, h)
+
+pub capped-same : (before : List Line) → end_after areas.Text before ≤ 2 ^ 32 - 1 →
+    end_after areas.Data before ≤ 2 ^ 32 - 1 → pairs_after before ≤ 2 ^ 32 - 1 →
+    capped (spot_after before) ≡ spot_after before
+capped-same before text bytes pairs =
+    spot-eq refl (least (end_after areas.Text before) text) (least (end_after areas.Data before) bytes)
+    (least (pairs_after before) pairs)
+
+-- no more `la` than lines
+pub pairs-le : (before : List Line) → pairs_after before ≤ length before
+pairs-le before = count_by-le-length (λ (l : Line). is_pair l.statement) before

@@ -1,6 +1,6 @@
 -- A survey of lines says where each of them stands, and their names.
 use Rattle.std.proofs.Common.{◌≡◌, ℕ, ◌+◌, Bool, true, false, ◌||◌, List, [], ◌∷◌, ◌++◌, length, map, Option, Some, None, refl, sym, ap, ◌∙◌, append-nil, append_assoc, length-append, arith}
-use Rattle.std.specs.List.{cons_option, list_any, enumerate_from}
+use Rattle.std.specs.List.{flat_map, cons_option, list_any, enumerate_from}
 use Rattle.std.proofs.lemmas.List.{map-append}
 use Rattle.std.proofs.lemmas.List.Elements.{filter_map-append}
 use Rattle.std.proofs.lemmas.List.Folds.{list_any-append}
@@ -17,8 +17,8 @@ use Rattle.rv_asm.specs.Reference.{reference_of}
 use Rattle.rv_asm.specs.Spot.{pair_label}
 use Rattle.rv_asm.specs.inner.Survey.{with_reference, with_statement, with_said, with_label, names_of, with_kind, Survey, row_of, with_line, with_lines}
 use Rattle.rv_asm.specs.Placed.{Placed, placed, spot_after}
-use Rattle.rv_asm.specs.Symbols.{definition_at, defining, label_says, reference_says, statement_says, said_says, line_says, says_at, said_in, table_of, names_in, node_kind, kinds_in}
-use Rattle.rv_asm.proofs.PlacedLemmas.{at_line, placed-push, made-push, spot-push}
+use Rattle.rv_asm.specs.Symbols.{definition_at, defining, label_says, reference_says, statement_says, said_says, line_says, table_of, node_kind, kinds_in}
+use Rattle.rv_asm.proofs.PlacedLemmas.{capped, at_line, placed-push, made-push, spot-push}
 use Rattle.rv_asm.proofs.TableLemmas.{name-push, definition-push, export-push, names-all}
 
 -- what a line says of names goes into the table
@@ -59,11 +59,19 @@ line-said said number spot line =
     ∙ said-said (said ++ label) number spot line.statement
     ∙ ap table_of (append_assoc said label (said_says spot (definition_at number spot) line.statement))
 
+-- what a line says by its spot as the code counts it
+abbrev pub capped_says : Placed → List Entry
+capped_says at = line_says (length at.before + 1) (capped (spot_after at.before)) at.line
+
+abbrev pub capped_in : (lines : List Line) → List Entry
+capped_in lines = flat_map capped_says (placed lines)
+
 names-push : (before : List Line) (line : Line) →
-    names_of (names_in before) (length before + 1) (spot_after before) line ≡ names_in (before ++ line ∷ [])
+    names_of (table_of (capped_in before)) (length before + 1) (capped (spot_after before)) line
+    ≡ table_of (capped_in (before ++ line ∷ []))
 names-push before line =
-    line-said (said_in before) (length before + 1) (spot_after before) line
-    ∙ ap table_of (sym (made-push says_at before line))
+    line-said (capped_in before) (length before + 1) (capped (spot_after before)) line
+    ∙ ap table_of (sym (made-push capped_says before line))
 
 -- kinds and records
 kind_on : (kinds : List NodeKind) (s : Option Statement) → with_kind kinds s ≡ kinds ++ cons_option (node_kind s) []
@@ -97,8 +105,8 @@ row_at at = record {
   number = length at.before + 1;
   label = at.line.label;
   statement = at.line.statement;
-  spot = spot_after at.before;
-  names = length (names_in (at.before ++ at.line ∷ []));
+  spot = capped (spot_after at.before);
+  names = length (table_of (capped_in (at.before ++ at.line ∷ [])));
 }
 
 rows-push : (before : List Line) (line : Line) →
@@ -110,8 +118,8 @@ rows-push before line =
 -- the survey of lines
 abbrev pub survey_after : (before : List Line) → Survey
 survey_after before = record {
-  spot = spot_after before;
-  names = names_in before;
+  spot = capped (spot_after before);
+  names = table_of (capped_in before);
   kinds = kinds_in before;
   records = records_in before;
   rows = map row_at (placed before);
@@ -130,7 +138,7 @@ row-eq before line =
       number = length before + 1;
       label = line.label;
       statement = line.statement;
-      spot = spot_after before;
+      spot = capped (spot_after before);
       names = length t;
     }) (names-push before line)
 

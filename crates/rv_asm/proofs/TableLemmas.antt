@@ -144,7 +144,7 @@ also e entry = record {
   exported = entry.exported || e.exported;
 }
 
-entry-eq : {n : List ℕ} {d e : Option Definition} {x y : Bool} → d ≡ e → x ≡ y →
+pub entry-eq : {n : List ℕ} {d e : Option Definition} {x y : Bool} → d ≡ e → x ≡ y →
     ◌≡◌ {A = Entry} (record { name = n; definition = d; exported = x })
     (record { name = n; definition = e; exported = y })
 entry-eq definition exported = rw (definition, exported) refl

@@ -1,5 +1,5 @@
--- The faults of a line where it stands. The first faulty line decides, and of its faults the first one that stands in
--- the order Syntax, UnknownName, Twice, Range. A function that is open at the end is a fault of the line after the last.
+-- The faults of a line where it stands. The first faulty line decides, and of its faults the first one that stands, in
+-- the order Syntax, UnknownName, Twice, Range. A function left open is a fault of the line after the last.
 use Rattle.std.specs.Prelude.{ℕ, ◌+◌, ◌*◌, ◌^◌, Bool, true, false, not, ◌||◌, ◌&&◌, ◌==◌, nat_lt, nat_le, ℤ, pos, negsuc, List, [], ◌∷◌, ◌++◌, drop, length, if◌then◌else◌, Option, Some, None, is_some, is_none}
 use Rattle.std.specs.List.{filter_map, list_all}
 use Rattle.std.specs.Str.{bytes_eq}

@@ -1,7 +1,6 @@
 -- The lines of a source, each behind those before it, and where that is: in the area of the last `.text` or `.data`
--- before it, in text where there is none, and as many bytes into it as the lines before it add to this area. A sum past
--- 2^32 - 1 counts as that number: a limit was passed long before.
-use Rattle.std.specs.Prelude.{ℕ, ◌-◌, ◌^◌, min, Bool, true, false, List, [], ◌∷◌, ◌++◌, map, Option, Some, None, unwrap_or}
+-- before it, in text where there is none, and as many bytes into it as the lines before it add to this area.
+use Rattle.std.specs.Prelude.{ℕ, Bool, true, false, List, [], ◌∷◌, ◌++◌, map, Option, Some, None, unwrap_or}
 use Rattle.std.specs.List.{filter_map, last_or, sum_by, count_by}
 use Rattle.cfi_text.specs.Lines.{lines_of}
 use Rattle.elf_read.specs.declared.object.Area.{Area}
@@ -56,7 +55,7 @@ size_at area at = size_in area (area_after at.before) at.line.statement
 
 -- how much of an area these lines make
 abbrev pub end_after : Area → (before : List Line) → ℕ
-end_after area before = min (sum_by (size_at area) (placed before)) (2 ^ 32 - 1)
+end_after area before = sum_by (size_at area) (placed before)
 
 -- how many `la` are among them
 abbrev pub is_pair : Option Statement → Bool
@@ -64,7 +63,7 @@ is_pair (Some (statements.La rd name)) = true
 is_pair other = false
 
 abbrev pub pairs_after : (before : List Line) → ℕ
-pairs_after before = min (count_by (λ line. is_pair line.statement) before) (2 ^ 32 - 1)
+pairs_after before = count_by (λ line. is_pair line.statement) before
 
 -- where a line behind these stands
 abbrev pub spot_after : (before : List Line) → Spot

@@ -1,5 +1,5 @@
 -- The relocations of a statement, in the order of their fields.
-use Rattle.std.specs.Prelude.{ℕ, ◌&&◌, pos, List, [], ◌∷◌, if◌then◌else◌, Option, Some, None, is_some}
+use Rattle.std.specs.Prelude.{ℕ, ◌+◌, ◌&&◌, pos, List, [], ◌∷◌, if◌then◌else◌, Option, Some, None, is_some}
 use Rattle.elf_read.specs.declared.object.Area.{Area}
 use Rattle.elf_read.specs.declared.object.Area.TheVariants as areas
 use Rattle.elf_read.specs.declared.object.Reloc.{Reloc}
@@ -10,7 +10,7 @@ use Rattle.rv_names.specs.declared.names.Entry.{Entry}
 use Rattle.rv_asm.specs.declared.spot.Spot.{Spot}
 use Rattle.rv_names.specs.Names.{number_in, text_value}
 use Rattle.rv_asm.specs.Reference.{reference_of, is_leap}
-use Rattle.rv_asm.specs.Spot.{plus, pair_label, end_of}
+use Rattle.rv_asm.specs.Spot.{pair_label, end_of}
 
 -- a relocation by a name
 abbrev pub reloc_by : (table : List Entry) → Area → (offset kind : ℕ) → (name : List ℕ) → Reloc
@@ -27,7 +27,7 @@ first_reloc table spot (Some reference) =
 -- the second one of `la`, by the label of its first instruction
 abbrev pub second_reloc : (table : List Entry) → Spot → Statement → Option Reloc
 second_reloc table spot (statements.La rd name) =
-    Some (reloc_by table areas.Text (plus spot.text_end 4) relocs.PCREL_LO12_I (pair_label spot.pairs))
+    Some (reloc_by table areas.Text (spot.text_end + 4) relocs.PCREL_LO12_I (pair_label spot.pairs))
 second_reloc table spot statement = None
 
 -- what is there of two

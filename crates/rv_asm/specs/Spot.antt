@@ -1,6 +1,5 @@
--- What the statements of a source add to text and data, and how much of them stands before a line: an end past 2^32 - 1
--- counts as that number, since a limit was passed long before.
-use Rattle.std.specs.Prelude.{ℕ, ◌+◌, ◌-◌, ◌^◌, min, ℤ, pos, negsuc, List, ◌++◌, codes}
+-- What the statements of a source add to text and data, and how much of them stands before a line.
+use Rattle.std.specs.Prelude.{ℕ, ℤ, pos, negsuc, List, ◌++◌, codes}
 use Rattle.std.specs.Fmt.{decimal}
 use Rattle.elf_read.specs.declared.object.Area.{Area}
 use Rattle.elf_read.specs.declared.object.Area.TheVariants as areas
@@ -10,10 +9,6 @@ use Rattle.rv_line.specs.declared.statement.Datum.{Datum}
 use Rattle.rv_line.specs.declared.statement.Datum.TheVariants as data_words
 use Rattle.rv_asm.specs.declared.spot.Spot.{Spot}
 use Rattle.rv_asm.specs.Words.{size_of, low_word, li_words}
-
--- a sum, at most 2^32 - 1
-abbrev pub plus : (end size : ℕ) → ℕ
-plus end size = min (end + size) (2 ^ 32 - 1)
 
 -- the bytes that a number adds to the text, where a name has no place
 abbrev pub number_size : Datum → ℕ
@@ -41,9 +36,9 @@ text_size statements.KindReturn = 0
 text_size (statements.KindSwitch names) = 0
 text_size instruction = 4
 
--- how many zeros a number asks for, at most 2^32 - 1
+-- how many zeros a number asks for
 abbrev pub zero_size : ℤ → ℕ
-zero_size (pos n) = min n (2 ^ 32 - 1)
+zero_size (pos n) = n
 zero_size (negsuc n) = 0
 
 -- the bytes that it adds to data

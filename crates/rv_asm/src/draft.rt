@@ -109,6 +109,9 @@ impl Draft {
         let Some(words) = words_of(&file.names, spot.text_end, statement) else {
             return Err(AsmFault::Range(number));
         };
+        if spot.text_end as usize > 4 * MAX_WORDS {
+            return Err(AsmFault::Range(number));
+        }
         let added = relocs_of(alloc, &file.names, spot, statement)?;
         self.add_words(number, spot, added.as_slice(), words)
     }

@@ -1,6 +1,7 @@
 //! The relocations of statements.
 
-ghost use Rattle.std.specs.Prelude.{◌≡◌, ◌≤◌, length, IfOk};
+ghost use Rattle.std.specs.Prelude.{◌≡◌, ◌*◌, ◌≤◌, length, IfOk};
+ghost use Rattle.elf_read.specs.declared.join.TheConstants.{MAX_WORDS};
 ghost use Rattle.std.specs.Option.{option_map};
 ghost use Rattle.rv_asm.specs.inner.Reference.{shown};
 ghost use Rattle.rv_asm.specs.Relocs.{reloc_by, first_reloc, second_reloc, both, relocs_of};
@@ -47,12 +48,13 @@ fn second_reloc(
     spot: Spot,
     statement: &Statement,
 ) -> Result<Option<Reloc>, AllocError>
+    requires { spot.text_end ≤ 4 * MAX_WORDS }
     ensures { IfOk result (λ reloc. reloc ≡ second_reloc names.now spot statement.now) }
 {
     match statement {
         Statement::La { .. } => {
             let label = pair_label(alloc, spot.pairs)?;
-            let offset = spot.text_end.saturating_add(4);
+            let offset = spot.text_end + 4;
             Ok(Some(reloc_by(names, Area::Text, offset, PCREL_LO12_I, label.as_str())))
         }
         _ => Ok(None),
@@ -60,12 +62,15 @@ fn second_reloc(
 }
 
 /// The relocations of a statement, in the order of their fields.
+///
+/// `spot` is within the text of an object.
 pub fn relocs_of(
     alloc: Global,
     names: &Names,
     spot: Spot,
     statement: &Statement,
 ) -> Result<Vec<Reloc>, AllocError>
+    requires { spot.text_end ≤ 4 * MAX_WORDS }
     ensures same { IfOk result (λ relocs. relocs.items ≡ relocs_of names.now spot statement.now) }
     ensures few { IfOk result (λ relocs. length relocs.items ≤ 2) }
 {

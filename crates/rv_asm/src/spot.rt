@@ -3,6 +3,7 @@
 ghost use Rattle.std.specs.Prelude.{◌≡◌, IfOk};
 ghost use Rattle.std.specs.String.{string_bytes};
 ghost use Rattle.rv_asm.specs.Spot.{number_size, text_size, data_size, zero_size, pair_label};
+ghost use Rattle.rv_asm.specs.inner.Spot.{at_most};
 
 use crate::words::{li_words, low_word};
 use elf_read::Area;
@@ -132,9 +133,9 @@ fn number_size(datum: &Datum) -> u32
     }
 }
 
-// The bytes that a statement adds to data.
+// The bytes that a statement adds to data, at most 2^32 - 1.
 fn data_size(statement: &Statement) -> u32
-    ensures { result ≡ data_size statement.now }
+    ensures { result ≡ at_most (data_size statement.now) }
 {
     match statement {
         Statement::Word(_) => 4,
@@ -145,7 +146,7 @@ fn data_size(statement: &Statement) -> u32
 
 // How many zeros a number asks for, at most 2^32 - 1.
 fn zero_size(number: i64) -> u32
-    ensures { result ≡ zero_size number }
+    ensures { result ≡ at_most (zero_size number) }
 {
     if number < 0 {
         0

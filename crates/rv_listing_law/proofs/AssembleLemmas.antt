@@ -1,8 +1,9 @@
 -- A listing is assembled to its words.
-use Rattle.std.proofs.Common.{◌≡◌, ℕ, suc, ◌+◌, ◌*◌, ◌^◌, ◌<◌, ◌≤◌, ◌==◌, ◌&&◌, Bool, true, false, Option, Some, None, Ok, List, [], ◌∷◌, ◌++◌, length, map, flat_map, refl, sym, ap, ◌∙◌, append_assoc, append-nil, arith}
+use Rattle.std.proofs.Common.{◌≡◌, ℕ, suc, ◌+◌, ◌-◌, ◌*◌, ◌^◌, ◌<◌, ◌≤◌, ◌==◌, ◌&&◌, Bool, true, false, Option, Some, None, Ok, List, [], ◌∷◌, ◌++◌, length, map, flat_map, refl, sym, ap, ◌∙◌, append_assoc, append-nil, arith}
 use Rattle.std.specs.Prelude.{nat_le, All}
 use Rattle.std.specs.List.{enumerate_from}
 use Rattle.std.proofs.lemmas.Bool.{cond-true, and_from, le-leb}
+use Rattle.std.proofs.lemmas.List.{length-map}
 use Rattle.cfi_text.specs.Lines.{lines_of, numbered_lines}
 use Rattle.elf_read.specs.declared.object.Area.TheVariants as areas
 use Rattle.cfi_word.specs.declared.limits.TheConstants.{MAX_WORDS}
@@ -22,11 +23,10 @@ use Rattle.rv_asm.specs.declared.spot.Spot.{Spot}
 use Rattle.rv_asm.specs.Assembled.{object_in}
 use Rattle.rv_asm.specs.Fault.{is_unknown, begins_again}
 use Rattle.rv_asm.specs.Relocs.{relocs_of}
-use Rattle.rv_asm.specs.Spot.{plus}
 use Rattle.rv_asm.specs.inner.Draft.{Draft, empty, has_relocs, with_code, with_statement}
 use Rattle.rv_asm.specs.inner.Fault.{is_astray}
 use Rattle.rv_asm.specs.inner.Passes.{◌>>=◌, with_said, with_rows, end_of_lines, passed_by}
-use Rattle.rv_asm.specs.inner.Spot.{after}
+use Rattle.rv_asm.specs.inner.Spot.{plus, after}
 use Rattle.rv_asm.specs.inner.Survey.{Survey, nothing, with_kind, with_line, with_lines}
 use Rattle.rv_asm.specs.inner.Survey.{with_statement as surveyed}
 use Rattle.rv_asm.specs.Words.{word_bytes}
@@ -199,9 +199,12 @@ pub object_in-listing : (words text : List ℕ) → All (λ word. word < 2 ^ 32)
     IsListing words text → object_in text ≡ Ok (text_object (flat_map word_bytes words))
 object_in-listing words text small few is =
     let rows = rows_from 2 0 words in
+    let said = ap length (said-listing words small text is) in
+    let lines = length-map words word_line in
+    let short : length (map line_in (lines_of text)) ≤ 2 ^ 32 - 1 = omega (arith, said, lines, few) in
     let survey : with_lines nothing (numbered_lines text) ≡ survey_at (0 + 4 * length words) (first_row ∷ rows) =
     with_lines-said nothing 1 (lines_of text) ∙ ap (said_lines nothing 1) (said-listing words small text is)
     ∙ said_lines-words 0 2 (first_row ∷ []) words (omega (arith, few)) in
-    sym (passed_in-text text) ∙ ap passed_by survey
+    sym (passed_in-text text short) ∙ ap passed_by survey
     ∙ ap (λ r. r >>= end_of_lines no_file (length (first_row ∷ rows)))
     (with_rows-words 2 0 [] words small (omega (arith, few)))
