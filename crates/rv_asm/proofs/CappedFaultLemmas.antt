@@ -1,7 +1,7 @@
 -- A line within the limits has the same fault whether or not the places of names are counted past 2^32 - 1.
 use Rattle.std.proofs.Common.{◌≡◌, ℕ, ◌+◌, ◌*◌, ◌≤◌, Bool, nat_lt, List, [], ◌∷◌, ◌++◌, length, map, if◌then◌else◌, Option, Some, None, is_none, unwrap_or, option_map, refl, ap, ◌∙◌, length-append, arith}
 use Rattle.std.specs.List.{cons_option, filter_map, flat_map, last_or}
-use Rattle.elf_read.specs.declared.join.TheConstants.{MAX_SYMBOLS, MAX_WORDS}
+use Rattle.cfi_word.specs.declared.limits.TheConstants.{MAX_SYMBOLS, MAX_WORDS}
 use Rattle.elf_read.specs.declared.object.Area.{Area}
 use Rattle.elf_read.specs.declared.object.Area.TheVariants as areas
 use Rattle.cfi_aux.specs.declared.records.Kind.{Kind}

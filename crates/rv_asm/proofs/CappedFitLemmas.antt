@@ -4,7 +4,7 @@ use Rattle.std.proofs.Common.{◌≡◌, ℕ, ◌+◌, ◌-◌, ◌*◌, ◌^◌
 use Rattle.std.specs.List.{list_all}
 use Rattle.std.proofs.lemmas.Bool.{cases_lt}
 use Rattle.std.proofs.lemmas.Int.{ints}
-use Rattle.elf_read.specs.declared.join.TheConstants.{MAX_WORDS}
+use Rattle.cfi_word.specs.declared.limits.TheConstants.{MAX_WORDS}
 use Rattle.elf_read.specs.declared.object.Area.{Area}
 use Rattle.elf_read.specs.declared.object.Area.TheVariants as areas
 use Rattle.elf_read.specs.declared.object.Reloc.{Reloc}
@@ -15,7 +15,7 @@ use Rattle.rv_line.specs.declared.statement.NodeKind.{NodeKind}
 use Rattle.rv_line.specs.declared.statement.Statement.{Statement}
 use Rattle.rv_line.specs.declared.statement.Statement.TheVariants as statements
 use Rattle.rv_line.specs.declared.statement.Target.TheVariants as targets
-use Rattle.rv_line.specs.Operand.{◌>>=◌}
+use Rattle.cfi_values.specs.Some.{◌>>=◌}
 use Rattle.rv_names.specs.declared.names.Definition.{Definition}
 use Rattle.rv_names.specs.declared.names.Entry.{Entry}
 use Rattle.rv_names.specs.Names.{definition_in, text_value}

@@ -1,7 +1,7 @@
 -- A line without a fault keeps text and data within their limits.
 use Rattle.std.proofs.Common.{◌≡◌, ℕ, ◌+◌, ◌*◌, ◌≤◌, Bool, true, false, nat_lt, pos, negsuc, List, [], ◌∷◌, ◌++◌, length, if◌then◌else◌, Option, Some, None, refl, sym, ap, ◌∙◌, subst, arith}
 use Rattle.std.proofs.lemmas.Bool.{and_parts, leb-true}
-use Rattle.elf_read.specs.declared.join.TheConstants.{MAX_DATA, MAX_SYMBOLS, MAX_WORDS}
+use Rattle.cfi_word.specs.declared.limits.TheConstants.{MAX_DATA, MAX_SYMBOLS, MAX_WORDS}
 use Rattle.elf_read.specs.declared.object.Area.{Area}
 use Rattle.elf_read.specs.declared.object.Area.TheVariants as areas
 use Rattle.rv_insn.specs.Insn.{word_of}
@@ -10,7 +10,7 @@ use Rattle.rv_line.specs.declared.line.Line.{Line}
 use Rattle.rv_line.specs.declared.statement.Datum.TheVariants as data_words
 use Rattle.rv_line.specs.declared.statement.Statement.{Statement}
 use Rattle.rv_line.specs.declared.statement.Statement.TheVariants as statements
-use Rattle.rv_line.specs.Operand.{◌>>=◌}
+use Rattle.cfi_values.specs.Some.{◌>>=◌}
 use Rattle.rv_names.specs.declared.names.Entry.{Entry}
 use Rattle.rv_asm.specs.declared.fault.AsmFault.TheVariants.{Syntax, UnknownName, Twice, Range}
 use Rattle.rv_asm.specs.declared.file.File.{File}

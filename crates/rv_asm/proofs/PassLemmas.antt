@@ -19,7 +19,8 @@ use Rattle.rv_asm.specs.declared.file.File.{File}
 use Rattle.rv_asm.specs.declared.row.Row.{Row}
 use Rattle.rv_asm.specs.declared.spot.Spot.{Spot}
 use Rattle.rv_asm.specs.Assembled.{unless, object_or_fault, object_in}
-use Rattle.rv_asm.specs.inner.Passes.{◌>>=◌, with_row, with_rows, object_of, end_of_lines, passed_by, passed_in}
+use Rattle.rv_asm.specs.inner.Passes.{with_row, with_rows, object_of, end_of_lines, passed_by, passed_in}
+use Rattle.cfi_values.specs.Then.{◌>>=◌}
 use Rattle.rv_asm.specs.inner.Draft.{Draft, empty}
 use Rattle.rv_asm.specs.Placed.{Placed, placed_behind, placed, size_at, end_after, spot_after, lines_in}
 use Rattle.rv_asm.specs.Symbols.{line_says, says_at, said_in, table_of, names_in, kinds_in, file_in}

@@ -1,7 +1,7 @@
 //! The relocations of statements.
 
 ghost use Rattle.std.specs.Prelude.{◌≡◌, ◌*◌, ◌≤◌, length, IfOk};
-ghost use Rattle.elf_read.specs.declared.join.TheConstants.{MAX_WORDS};
+ghost use Rattle.cfi_word.specs.declared.limits.TheConstants.{MAX_WORDS};
 ghost use Rattle.std.specs.Option.{option_map};
 ghost use Rattle.rv_asm.specs.inner.Reference.{shown};
 ghost use Rattle.rv_asm.specs.Relocs.{reloc_by, first_reloc, second_reloc, both, relocs_of};

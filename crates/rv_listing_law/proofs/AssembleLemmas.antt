@@ -25,7 +25,8 @@ use Rattle.rv_asm.specs.Fault.{is_unknown, begins_again}
 use Rattle.rv_asm.specs.Relocs.{relocs_of}
 use Rattle.rv_asm.specs.inner.Draft.{Draft, empty, has_relocs, with_code, with_statement}
 use Rattle.rv_asm.specs.inner.Fault.{is_astray}
-use Rattle.rv_asm.specs.inner.Passes.{◌>>=◌, with_said, with_rows, end_of_lines, passed_by}
+use Rattle.rv_asm.specs.inner.Passes.{with_said, with_rows, end_of_lines, passed_by}
+use Rattle.cfi_values.specs.Then.{◌>>=◌}
 use Rattle.rv_asm.specs.inner.Spot.{plus, after}
 use Rattle.rv_asm.specs.inner.Survey.{Survey, nothing, with_kind, with_line, with_lines}
 use Rattle.rv_asm.specs.inner.Survey.{with_statement as surveyed}

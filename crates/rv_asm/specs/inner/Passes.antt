@@ -19,11 +19,7 @@ use Rattle.rv_asm.specs.inner.Draft.{Draft, empty, with_statement}
 use Rattle.rv_asm.specs.inner.Fault.{is_astray}
 use Rattle.rv_asm.specs.inner.Survey.{Survey, nothing, with_lines}
 use Rattle.cfi_values.specs.Due.{Leaves}
-
-infixl 10 ◌>>=◌
-abbrev pub ◌>>=◌ : {A B : Type 0} → Result A AsmFault → (A → Result B AsmFault) → Result B AsmFault
-(Ok value) >>= next = next value
-(Err fault) >>= next = Err fault
+use Rattle.cfi_values.specs.Then.{◌>>=◌}
 
 -- what comes of a statement, within the limits
 abbrev pub or_range : (number : ℕ) → Option Draft → Result Draft AsmFault
