@@ -1,8 +1,8 @@
 //! Plans: what a run is to do, the lines that its script and its guests give the journal, and where modules lie.
 //!
 //! Stands on `cfi_text`, `cfi_values`, `cfi_word` and `thiserror`. Proved: `read_plan` gives exactly the plan that a text
-//! says, or exactly its first fault, and what it gives is within the limits. Only tested: the texts of faults, and that
-//! memory suffices. Open: nothing.
+//! says, or exactly its first fault, and what it gives is within the limits. Only tested, by the cases of `cfi_cases`:
+//! the texts of faults, and that memory suffices. Open: nothing.
 #![tactic(auto)]
 
 mod draft;
@@ -12,8 +12,6 @@ mod journal;
 mod line;
 mod plan;
 mod reading;
-#[cfg(test)]
-mod tests;
 
 pub use fault::PlanFault;
 pub use journal::{Entry, JournalLine, ModuleLine, Who};

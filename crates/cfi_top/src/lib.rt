@@ -1,21 +1,18 @@
 //! The program as one public call: `top` takes the words, a shelf, a sink and a gate.
 //!
-//! Stands on `cfi_io`, `cfi_commands`, `cfi_bare`, `cfi_fixed`, `rv_guest` and `cfi_report`; `cfi` calls it. Proved: what is
-//! reported was run by a guest of the raw machine, which shows the policy machine, unit by unit; what is listed is the
-//! listing of the object's text, what is said of a plan the stated text of its modules; what is saved is the written
-//! object that the source or the modules make; each status and its text, with its cause; that valid input gives 0 or 6;
-//! which files stay. Only tested: that memory is there where it is asked for, and that the gate is passed once in each
-//! service. Open: nothing.
+//! Stands on `cfi_io`, `cfi_commands`, `cfi_bare`, `cfi_fixed`, `rv_guest` and `cfi_report`; `cfi` calls it. Proved:
+//! what is reported was run by a guest of the raw machine, which shows the policy machine, unit by unit; what is listed
+//! is the listing of the object's text, what is said of a plan the stated text of its modules; what is saved is the
+//! written object that the source or the modules make; each status and its text, with its cause; that valid input gives
+//! 0 or 6; which files stay. Only tested, by the cases of `cfi_cases`: that memory is there where it is asked for, and
+//! that the gate is passed once in each service; by a test: runs over code with checks, which no bare file has. Open:
+//! nothing.
 #![tactic(auto)]
 
 mod answer;
 mod command;
 mod deliver;
-#[cfg(test)]
-mod file_tests;
 pub mod laws;
-#[cfg(test)]
-mod module_tests;
 mod names;
 mod plans;
 mod program;

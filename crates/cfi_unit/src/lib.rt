@@ -2,7 +2,8 @@
 //!
 //! Stands on `rv_insn`, `cfi_values` and `cfi_word`. Proved: `next_unit` and `spell` are the spellings of
 //! `specs/Unit.antt` both ways, a list of words is the code of at most one list of units, and `read_units` gives them or
-//! the word at which reading stops, by `specs/Spots.antt`. Only tested: the spellings against an assembler. Open: nothing.
+//! the word at which reading stops, by `specs/Spots.antt`. Only tested, also by the cases of `cfi_cases`: the spellings
+//! against an assembler. Open: nothing.
 #![tactic(auto)]
 
 mod check;
