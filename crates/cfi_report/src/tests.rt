@@ -1,7 +1,7 @@
 use crate::{GuestPart, Report, ReportFault, read_report, write_report};
-use cfi_values::{Items, Text, Bytes};
 use cfi_plan::{Entry, JournalLine, ModuleLine, Who};
 use cfi_unit::{Log, Stop};
+use cfi_values::{Bytes, Items, Text};
 use std::alloc::{AllocError, Global};
 use std::process::Abort;
 use std::test::Fail;
