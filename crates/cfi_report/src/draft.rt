@@ -4,9 +4,9 @@ ghost use Rattle.cfi_report.specs.inner.Draft.{ReportSoFar as Said, no_lines, re
 use crate::line::Line;
 use crate::report::{GuestPart, Report};
 use crate::stage::Stage;
-use cfi_values::{Items, Text, Bytes};
 use cfi_plan::{Entry, ModuleLine};
 use cfi_unit::{Log, Stop};
+use cfi_values::{Bytes, Items, Text};
 use std::alloc::{AllocError, Global};
 use std::marker::Model;
 use std::mem;

@@ -44,7 +44,7 @@ pub fn read_form(alloc: Global, text: &[u8]) -> Result<Option<Line>, AllocError>
     }
 }
 
-#[tactic(auto, unfolding(crate::specs::Form::lone_form))]
+#[tactic(auto, unfolding(crate::specs::inner::Form::lone_form))]
 fn lone(keyword: &[u8]) -> Option<Line>
     ensures { result ≡ lone_form keyword.now }
 {
@@ -54,7 +54,7 @@ fn lone(keyword: &[u8]) -> Option<Line>
     None
 }
 
-#[tactic(auto, unfolding(crate::specs::Form::pair_form))]
+#[tactic(auto, unfolding(crate::specs::inner::Form::pair_form))]
 fn pair(alloc: Global, keyword: &[u8], word: &[u8]) -> Result<Option<Line>, AllocError>
     ensures { IfOk result (λ found. found ≡ pair_form keyword.now word.now) }
 {
@@ -82,7 +82,7 @@ fn pair(alloc: Global, keyword: &[u8], word: &[u8]) -> Result<Option<Line>, Allo
     Ok(None)
 }
 
-#[tactic(auto, unfolding(crate::specs::Form::three_form))]
+#[tactic(auto, unfolding(crate::specs::inner::Form::three_form))]
 fn three(alloc: Global, keyword: &[u8], word: &[u8], end: &[u8]) -> Result<Option<Line>, AllocError>
     ensures { IfOk result (λ found. found ≡ three_form keyword.now word.now end.now) }
 {
@@ -101,7 +101,7 @@ fn three(alloc: Global, keyword: &[u8], word: &[u8], end: &[u8]) -> Result<Optio
     Ok(None)
 }
 
-#[tactic(auto, unfolding(crate::specs::Form::force_form))]
+#[tactic(auto, unfolding(crate::specs::inner::Form::force_form))]
 fn force(epoch: &[u8], policy: &[u8]) -> Option<Line>
     ensures { result ≡ force_form epoch.now policy.now }
 {
@@ -110,7 +110,7 @@ fn force(epoch: &[u8], policy: &[u8]) -> Option<Line>
     Some(Line::Force(epoch, policy))
 }
 
-#[tactic(auto, unfolding(crate::specs::Form::guest_form))]
+#[tactic(auto, unfolding(crate::specs::inner::Form::guest_form))]
 fn guest(alloc: Global, number_word: &[u8], entry: &[u8]) -> Result<Option<Line>, AllocError>
     ensures { IfOk result (λ found. found ≡ guest_form number_word.now entry.now) }
 {
@@ -123,7 +123,7 @@ fn guest(alloc: Global, number_word: &[u8], entry: &[u8]) -> Result<Option<Line>
     }
 }
 
-#[tactic(auto, unfolding(crate::specs::Form::pick_form))]
+#[tactic(auto, unfolding(crate::specs::inner::Form::pick_form))]
 fn pick(policy: &[u8], count: &[u8]) -> Option<Line>
     ensures { result ≡ pick_form policy.now count.now }
 {
@@ -135,7 +135,7 @@ fn pick(policy: &[u8], count: &[u8]) -> Option<Line>
     Some(Line::Log(Log::Pick { policy, count }))
 }
 
-#[tactic(auto, unfolding(crate::specs::Form::stop_form))]
+#[tactic(auto, unfolding(crate::specs::inner::Form::stop_form))]
 fn stop(word: &[u8], end: &[u8]) -> Option<Line>
     ensures { result ≡ stop_form word.now end.now }
 {
@@ -151,7 +151,7 @@ fn stop(word: &[u8], end: &[u8]) -> Option<Line>
     None
 }
 
-#[tactic(auto, unfolding(crate::specs::Form::four_form))]
+#[tactic(auto, unfolding(crate::specs::inner::Form::four_form))]
 fn four(keyword: &[u8], word: &[u8], other: &[u8], end: &[u8]) -> Option<Line>
     ensures { result ≡ four_form keyword.now word.now other.now end.now }
 {
@@ -162,7 +162,7 @@ fn four(keyword: &[u8], word: &[u8], other: &[u8], end: &[u8]) -> Option<Line>
     journal(keyword, word, what_two(other, end))
 }
 
-#[tactic(auto, unfolding(crate::specs::Form::opened_form))]
+#[tactic(auto, unfolding(crate::specs::inner::Form::opened_form))]
 fn opened(module: u32, word: &[u8], end: &[u8]) -> Option<Line>
     ensures { result ≡ opened_form word.now end.now «module» }
 {
@@ -178,7 +178,7 @@ fn opened(module: u32, word: &[u8], end: &[u8]) -> Option<Line>
     }))
 }
 
-#[tactic(auto, unfolding(crate::specs::Form::seven_form))]
+#[tactic(auto, unfolding(crate::specs::inner::Form::seven_form))]
 fn seven(
     alloc: Global,
     keyword: &[u8],
@@ -198,7 +198,7 @@ fn seven(
     Ok(journal(keyword, a, what_five(b, c, d, e, f)))
 }
 
-#[tactic(auto, unfolding(crate::specs::Form::module_form))]
+#[tactic(auto, unfolding(crate::specs::inner::Form::module_form))]
 fn module(
     alloc: Global,
     number_word: &[u8],

@@ -6,7 +6,7 @@ use cfi_plan::{Entry, JournalLine, Who};
 use cfi_text::read_small_dec;
 
 /// The line of the journal, of which this came.
-#[tactic(auto, unfolding(crate::specs::Form::journal_form))]
+#[tactic(auto, unfolding(crate::specs::inner::Form::journal_form))]
 pub fn journal(keyword: &[u8], who: &[u8], what: Option<JournalLine>) -> Option<Line>
     ensures { result ≡ journal_form keyword.now who.now what }
 {
@@ -18,7 +18,7 @@ pub fn journal(keyword: &[u8], who: &[u8], what: Option<JournalLine>) -> Option<
     Some(Line::Journal(Entry { who, what }))
 }
 
-#[tactic(auto, unfolding(crate::specs::Form::who_in))]
+#[tactic(auto, unfolding(crate::specs::inner::Form::who_in))]
 fn who_of(word: &[u8]) -> Option<Who>
     ensures { result ≡ who_in word.now }
 {
@@ -29,7 +29,7 @@ fn who_of(word: &[u8]) -> Option<Who>
 }
 
 /// What came of a call, in two words.
-#[tactic(auto, unfolding(crate::specs::Form::what_two))]
+#[tactic(auto, unfolding(crate::specs::inner::Form::what_two))]
 pub fn what_two(verb: &[u8], end: &[u8]) -> Option<JournalLine>
     ensures { result ≡ what_two verb.now end.now }
 {
@@ -40,7 +40,7 @@ pub fn what_two(verb: &[u8], end: &[u8]) -> Option<JournalLine>
 }
 
 /// What came of a call, in three words.
-#[tactic(auto, unfolding(crate::specs::Form::what_three))]
+#[tactic(auto, unfolding(crate::specs::inner::Form::what_three))]
 pub fn what_three(verb: &[u8], word: &[u8], end: &[u8]) -> Option<JournalLine>
     ensures { result ≡ what_three verb.now word.now end.now }
 {
@@ -54,7 +54,7 @@ pub fn what_three(verb: &[u8], word: &[u8], end: &[u8]) -> Option<JournalLine>
     None
 }
 
-#[tactic(auto, unfolding(crate::specs::Form::loaded_three))]
+#[tactic(auto, unfolding(crate::specs::inner::Form::loaded_three))]
 fn loaded_three(end: &[u8], module: u32) -> Option<JournalLine>
     ensures { result ≡ loaded_three end.now «module» }
 {
@@ -68,7 +68,7 @@ fn loaded_three(end: &[u8], module: u32) -> Option<JournalLine>
 }
 
 /// What came of a call, in four words.
-#[tactic(auto, unfolding(crate::specs::Form::what_four))]
+#[tactic(auto, unfolding(crate::specs::inner::Form::what_four))]
 pub fn what_four(verb: &[u8], word: &[u8], other: &[u8], end: &[u8]) -> Option<JournalLine>
     ensures { result ≡ what_four verb.now word.now other.now end.now }
 {
@@ -85,7 +85,7 @@ pub fn what_four(verb: &[u8], word: &[u8], other: &[u8], end: &[u8]) -> Option<J
     None
 }
 
-#[tactic(auto, unfolding(crate::specs::Form::loaded_four))]
+#[tactic(auto, unfolding(crate::specs::inner::Form::loaded_four))]
 fn loaded_four(word: &[u8], module: u32, last: u32) -> Option<JournalLine>
     ensures { result ≡ loaded_four word.now «module» last }
 {
@@ -105,7 +105,7 @@ fn loaded_four(word: &[u8], module: u32, last: u32) -> Option<JournalLine>
 }
 
 /// What came of a call, in five words.
-#[tactic(auto, unfolding(crate::specs::Form::what_five))]
+#[tactic(auto, unfolding(crate::specs::inner::Form::what_five))]
 pub fn what_five(
     verb: &[u8],
     word: &[u8],
@@ -124,7 +124,7 @@ pub fn what_five(
     loaded_five(other, module, first, last)
 }
 
-#[tactic(auto, unfolding(crate::specs::Form::loaded_five))]
+#[tactic(auto, unfolding(crate::specs::inner::Form::loaded_five))]
 fn loaded_five(word: &[u8], module: u32, first: u32, last: u32) -> Option<JournalLine>
     ensures { result ≡ loaded_five word.now «module» first last }
 {

@@ -1,6 +1,6 @@
 use cfi_plan::{Entry, ModuleLine};
-use cfi_values::{Text, Bytes};
 use cfi_unit::{Log, Stop};
+use cfi_values::{Bytes, Text};
 
 /// A line of a report.
 #[derive(Drop)]

@@ -1,6 +1,6 @@
-use cfi_values::{Items, Text, Bytes};
 use cfi_plan::{Entry, ModuleLine};
 use cfi_unit::{Log, Stop};
+use cfi_values::{Bytes, Items, Text};
 
 /// What a run has come to.
 #[derive(Debug, Drop)]

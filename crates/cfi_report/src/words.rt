@@ -36,7 +36,7 @@ pub fn address(word: &[u8]) -> Option<u32>
 }
 
 /// The bytes that the word spells, of which a dash is for none.
-#[tactic(auto, unfolding(crate::specs::Form::bytes_in))]
+#[tactic(auto, unfolding(crate::specs::inner::Form::bytes_in))]
 pub fn bytes(alloc: Global, word: &[u8]) -> Result<Option<Bytes>, AllocError>
     ensures { IfOk result (λ found. found ≡ bytes_in word.now) }
 {

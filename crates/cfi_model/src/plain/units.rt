@@ -164,7 +164,7 @@ impl Plain {
             self.stop = Some(Stop::Align(DATA_START + offset));
         }
         self.units += 1;
-        self.steps += ACCESS_WORDS as u32;
+        self.steps += ACCESS_WORDS as u64;
     }
 
     fn load(&mut self, kind: LoadKind, rd: u32, rs1: u32, imm: i32)
@@ -218,10 +218,10 @@ impl Plain {
     {
         self.units += 1;
         if target >= CODE_BYTES {
-            self.steps += OUTSIDE_STEPS;
+            self.steps += OUTSIDE_STEPS as u64;
             self.stop = Some(Stop::Halt(target));
         } else if target % 4 != 0 {
-            self.steps += MISALIGNED_STEPS;
+            self.steps += MISALIGNED_STEPS as u64;
             self.stop = Some(Stop::Halt(target));
         } else {
             self.log.pick(policy);
@@ -229,10 +229,10 @@ impl Plain {
                 if link {
                     self.regs[1] = self.pc.wrapping_add(4 * CHECK_WORDS as u32);
                 }
-                self.steps += PASSED_STEPS;
+                self.steps += PASSED_STEPS as u64;
                 self.pc = target;
             } else {
-                self.steps += FORBIDDEN_STEPS;
+                self.steps += FORBIDDEN_STEPS as u64;
                 self.stop = Some(Stop::Halt(target));
             }
         }
