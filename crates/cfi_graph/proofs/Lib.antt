@@ -14,5 +14,5 @@ mod DirectLemmas
 mod ClassLemmas
 mod BelowLemmas
 pub mod EndLemmas
-pub mod TestLemmas
-pub mod TestRows
+pub mod HandMadeLemmas
+pub mod CallRows

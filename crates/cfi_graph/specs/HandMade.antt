@@ -1,4 +1,4 @@
--- Modules that tests write by hand: of units and functions, without data, names and exports.
+-- Modules written by hand: of units and functions, without data, names and exports.
 use Rattle.std.specs.Prelude.{ℕ, Bool, false, List, [], ◌∷◌, map}
 use Rattle.std.specs.List.{flat_map}
 use Rattle.cfi_unit.specs.declared.unit.Unit.{Unit as CodeUnit}
@@ -33,9 +33,6 @@ placed_of base slot_base code rows branches types = record {
   exports = [];
 }
 
--- Void and a function that gives it, in either order
+-- Void and a function that gives it
 abbrev pub void_and_function : List Node
 void_and_function = make_node 0 [] ∷ make_node 7 (0 ∷ []) ∷ []
-
-abbrev pub function_and_void : List Node
-function_and_void = make_node 7 (1 ∷ []) ∷ make_node 0 [] ∷ []

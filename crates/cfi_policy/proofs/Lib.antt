@@ -6,5 +6,5 @@ mod MemberLemmas
 mod OneLemmas
 mod OrderLemmas
 mod SpansLemmas
-mod TestLemmas
+mod HandMadeLemmas
 mod WithinLemmas

@@ -31,7 +31,7 @@ fn module_of(alloc: Global, base: u32, words: &[u32]) -> Result<Placed, AllocErr
 }
 
 #[test]
-#[tactic(auto, using(crate::proofs::TestLemmas::one_apart, crate::proofs::TestLemmas::none_labelled))]
+#[tactic(auto, using(crate::proofs::HandMadeLemmas::one_apart, crate::proofs::HandMadeLemmas::none_labelled))]
 fn image(rt: HostRuntime) -> Result<(), Fail> {
     let layout = Layout::new(1024)?;
     let modules = [module_of(rt.alloc(), 16, &[0x008000ef, 0x0000006f])?];

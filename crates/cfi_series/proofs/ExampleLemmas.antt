@@ -10,7 +10,7 @@ use Rattle.cfi_aux.specs.declared.modules.Module.{Module}
 use Rattle.cfi_aux.specs.declared.placed.Placed.{Placed}
 use Rattle.cfi_aux.specs.Sound.{IsSoundModule}
 use Rattle.elf_read.specs.Sound.{IsSoundSymbol, IsSoundReloc}
-use Rattle.cfi_graph.proofs.TestLemmas.{void_first}
+use Rattle.cfi_graph.proofs.HandMadeLemmas.{void_first}
 use Rattle.cfi_place.specs.Relocated.{areas_of, relocated_from}
 use Rattle.cfi_place.specs.Slots.{ReadFrom}
 use Rattle.cfi_place.specs.Placed.{bytes_as_words}

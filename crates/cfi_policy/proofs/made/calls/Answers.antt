@@ -1,8 +1,8 @@
 use Rattle.std.proofs.Common.{◌≡◌, ◌∙◌, [], ◌∷◌, sym, ap, subst}
 use Rattle.cfi_graph.specs.HandMade.{placed_of, void_and_function}
-use Rattle.cfi_graph.proofs.TestRows.{call_code, call_rows, call_kinds}
+use Rattle.cfi_graph.proofs.CallRows.{call_code, call_rows, call_kinds}
 use Rattle.cfi_policy.specs.Image.{HaveImage}
-use Rattle.cfi_policy.proofs.TestLemmas.{call_image}
+use Rattle.cfi_policy.proofs.HandMadeLemmas.{call_image}
 use Rattle.cfi_policy.proofs.made.calls.Goals as goal
 
 pub returns : goal.returns

@@ -1,5 +1,5 @@
 use Rattle.cfi_unit.specs.Unit.{IsUnit}
-use Rattle.cfi_graph.proofs.TestLemmas.{all_by_recursion}
+use Rattle.cfi_graph.proofs.HandMadeLemmas.{all_by_recursion}
 use Rattle.cfi_policy.proofs.made.words_of.Goals as goal
 
 pub spell-requires : goal.spell-requires

@@ -12,7 +12,7 @@ use Rattle.cfi_aux.specs.declared.placed.Placed.{Placed}
 use Rattle.cfi_aux.specs.declared.records.Kind.{Kind}
 use Rattle.cfi_graph.specs.Shaped.{slots_of, IsPart, FunctionPrecedes, IsNamed, IsShaped, IsBefore}
 use Rattle.cfi_graph.specs.Reading.{HaveGraph, node_count}
-use Rattle.cfi_graph.specs.HandMade.{function_of, placed_of, void_and_function, function_and_void}
+use Rattle.cfi_graph.specs.HandMade.{function_of, placed_of, void_and_function}
 
 -- ---- lists that are written out
 
@@ -102,21 +102,6 @@ one_has_graph m shaped types nodes = record {
   nodes = nodes;
 }
 
--- and of two that follow each other
-pub two_have_graph : (m n : Placed) → IsShaped m → IsShaped n → IsBefore m n → AreTypes m.types → AreTypes n.types
-    → node_count (m ∷ n ∷ []) < 2 ^ 32 → HaveGraph (m ∷ n ∷ [])
-two_have_graph m n m_shaped n_shaped before m_types n_types nodes = record {
-  apart = record {
-    shaped = all_more IsShaped m (n ∷ []) m_shaped (all_more IsShaped n [] n_shaped (all_none IsShaped));
-    order = pairs_more IsBefore m (n ∷ []) (all_more (IsBefore m) n [] before (all_none (IsBefore m)))
-        (pairs_more IsBefore n [] (all_none (IsBefore n)) (pairs_none IsBefore));
-  };
-  types = all_more (λ x. AreTypes x.types) m (n ∷ []) m_types
-      (all_more (λ x. AreTypes x.types) n [] n_types (all_none (λ x. AreTypes x.types)));
-  few = omega arith;
-  nodes = nodes;
-}
-
 -- ---- shorthand
 
 pub all_by_recursion : {X : Type 0} (P : X → Type 0) (xs : List X) → AllByRecursion P xs → All P xs
@@ -137,11 +122,4 @@ void_first = record {
   count = omega arith;
   nodes = (record { arity = refl; fields = tt }, (record { arity = refl; fields = (omega arith, refl, tt) }, tt));
   names = (all_none (λ k. k < 2), (all_more (λ k. k < 2) 0 [] (omega arith) (all_none (λ k. k < 2)), tt));
-}
-
-pub void_last : AreTypes function_and_void
-void_last = record {
-  count = omega arith;
-  nodes = (record { arity = refl; fields = (omega arith, refl, tt) }, (record { arity = refl; fields = tt }, tt));
-  names = (all_more (λ k. k < 2) 1 [] (omega arith) (all_none (λ k. k < 2)), (all_none (λ k. k < 2), tt));
 }

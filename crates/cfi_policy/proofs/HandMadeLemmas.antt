@@ -1,12 +1,12 @@
--- What the tests' modules and their empty list of edges are.
+-- What modules written by hand, and an empty list of edges, are.
 use Rattle.std.proofs.Common.{◌≡◌, ℕ, ◌+◌, ◌<◌, ◌≤◌, [], ◌∷◌, length, get_or, sym, subst, arith}
 use Rattle.cfi_aux.specs.declared.placed.Placed.{Placed}
 use Rattle.cfi_word.specs.Table.{slots_of}
 use Rattle.cfi_class.specs.Labels.{CanBeLabelled}
 use Rattle.cfi_graph.specs.HandMade.{placed_of, void_and_function}
 use Rattle.cfi_graph.specs.Reading.{HaveGraph}
-use Rattle.cfi_graph.proofs.TestLemmas.{all_none, all_more, all_by_recursion}
-use Rattle.cfi_graph.proofs.TestRows.{call_code, call_rows, call_kinds, call_modules, call_graph, tail_code, tail_rows, tail_kinds, tail_modules, tail_graph, loop_code, loop_rows, loop_kinds, loop_modules, loop_graph, pointer_code, pointer_rows, pointer_kinds, pointer_modules, pointer_graph, switch_modules, switch_graph}
+use Rattle.cfi_graph.proofs.HandMadeLemmas.{all_none, all_more}
+use Rattle.cfi_graph.proofs.CallRows.{call_code, call_rows, call_kinds, call_modules, call_graph}
 use Rattle.cfi_policy.specs.Code.{LieApart}
 use Rattle.cfi_policy.specs.Image.{HaveImage}
 use Rattle.cfi_policy.proofs.WithinLemmas.{have_image}
@@ -41,23 +41,3 @@ pub call_image : (node : ℕ) → node < 2 → HaveImage (call_modules node) 102
 call_image node below =
     one_image (placed_of 16 0 call_code call_rows (call_kinds node) void_and_function) (call_graph node below)
     (omega arith) (omega arith)
-
-pub tail_image : HaveImage tail_modules 1024
-tail_image =
-    one_image (placed_of 16 0 tail_code tail_rows tail_kinds void_and_function) tail_graph (omega arith) (omega arith)
-
-pub loop_image : HaveImage loop_modules 1024
-loop_image =
-    one_image (placed_of 16 0 loop_code loop_rows loop_kinds void_and_function) loop_graph (omega arith) (omega arith)
-
-pub pointer_image : HaveImage pointer_modules 1024
-pointer_image =
-    one_image (placed_of 16 0 pointer_code pointer_rows pointer_kinds void_and_function) pointer_graph (omega arith)
-    (omega arith)
-
-pub switch_image : HaveImage switch_modules 1024
-switch_image =
-    have_image switch_modules switch_graph 1024
-    (all_by_recursion (λ o. o.base + length o.words < 1024) switch_modules (omega arith, (omega arith, tt)))
-    (all_by_recursion (λ o. o.slot_base + length o.branches ≤ slots_of 1024) switch_modules
-    (omega arith, (omega arith, tt)))
