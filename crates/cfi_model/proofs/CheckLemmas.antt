@@ -46,12 +46,12 @@ near p pc steps x28 x29 x30 x31 bary tary off zero_is none small =
     refl refl refl refl refl
 
 -- x28 is the high part of a slot's address
-abbrev pub high_of : (slot : ℕ) → ℕ
-high_of slot = high_of (bary_address slot) * 2 ^ 12 % 2 ^ 32
+abbrev pub high_word : (slot : ℕ) → ℕ
+high_word slot = high_of (bary_address slot) * 2 ^ 12 % 2 ^ 32
 
 pub points : (p : State) (pc steps x28 x29 x30 x31 : ℕ) (bary tary : Option ℕ) (slot : ℕ) → pc + 4 < 2 ^ 32
     → begin_as (high_insn slot) (inner p p.units pc steps x28 x29 x30 x31 bary tary None)
-    ≡ inner p p.units (pc + 4) (steps + 1) (high_of slot) x29 x30 x31 bary tary None
+    ≡ inner p p.units (pc + 4) (steps + 1) (high_word slot) x29 x30 x31 bary tary None
 points p pc steps x28 x29 x30 x31 bary tary slot small =
     same_inner p _ _ _ _ _ _ _ _ _ _ _ _ _ _ bary tary None (omega arith) (omega arith) refl refl refl refl refl
 
@@ -73,10 +73,10 @@ area_bary slot h = grind (arith, nat_tests)
 -- the slot's word is asked for
 pub asks_bary : (p : State) (pc steps x29 x30 x31 : ℕ) (bary tary : Option ℕ) (slot : ℕ) → slot < SLOTS
     → pc + 4 < 2 ^ 32
-    → begin_as (low_insn slot) (inner p p.units pc steps (high_of slot) x29 x30 x31 bary tary None)
-    ≡ inner p p.units (pc + 4) (steps + 1) (high_of slot) x29 x30 x31 bary tary (Some (waits.Bary slot 29))
+    → begin_as (low_insn slot) (inner p p.units pc steps (high_word slot) x29 x30 x31 bary tary None)
+    ≡ inner p p.units (pc + 4) (steps + 1) (high_word slot) x29 x30 x31 bary tary (Some (waits.Bary slot 29))
 asks_bary p pc steps x29 x30 x31 bary tary slot within small =
-    let r : Raw = inner p p.units pc steps (high_of slot) x29 x30 x31 bary tary None in
+    let r : Raw = inner p p.units pc steps (high_word slot) x29 x30 x31 bary tary None in
     let address = joins (bary_address slot) (omega arith) in
     ap (λ a. load_at (area_of a) Lw 29 0 r) address
     ∙ ap (λ a. load_at a Lw 29 0 r) (area_bary slot within)

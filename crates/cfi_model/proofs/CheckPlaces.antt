@@ -10,7 +10,7 @@ use Rattle.cfi_model.specs.History.{History, IsEpoch, IsTableWord, slot_class, t
 use Rattle.cfi_model.specs.Shows.{IsBetween}
 use Rattle.cfi_model.specs.Effect.{checked, is_in_code}
 use Rattle.cfi_model.proofs.InnerLemmas.{inner}
-use Rattle.cfi_model.proofs.CheckLemmas.{high_of}
+use Rattle.cfi_model.proofs.CheckLemmas.{high_word}
 use Rattle.cfi_model.proofs.IdLemmas.{IsTry}
 
 -- a place is named for what was done last
@@ -53,9 +53,9 @@ check_raw p n slot t v Far =
 check_raw p n slot t v Trying =
     inner p p.units (p.pc + 4 * 3) (p.steps + 9 * n + 3) v.x28 v.x29 v.x30 t v.kept v.last None
 check_raw p n slot t v Pointed =
-    inner p p.units (p.pc + 4 * 4) (p.steps + 9 * n + 4) (high_of slot) v.x29 v.x30 t v.kept v.last None
+    inner p p.units (p.pc + 4 * 4) (p.steps + 9 * n + 4) (high_word slot) v.x29 v.x30 t v.kept v.last None
 check_raw p n slot t v AskedBary =
-    inner p p.units (p.pc + 4 * 5) (p.steps + 9 * n + 5) (high_of slot) v.x29 v.x30 t v.kept v.last
+    inner p p.units (p.pc + 4 * 5) (p.steps + 9 * n + 5) (high_word slot) v.x29 v.x30 t v.kept v.last
     (Some (waits.Bary slot 29))
 check_raw p n slot t v FoundBary =
     inner p p.units (p.pc + 4 * 5) (p.steps + 9 * n + 5) v.x28 (id_in v.bary) v.x30 t (Some v.bary) v.last None

@@ -15,7 +15,7 @@ use Rattle.cfi_model.specs.History.{History, allows_at}
 use Rattle.cfi_model.specs.Fits.{Fits}
 use Rattle.cfi_model.proofs.InnerLemmas.{inner}
 use Rattle.cfi_model.proofs.WalkLemmas.{aims}
-use Rattle.cfi_model.proofs.CheckLemmas.{high_of, splits, far, near, points, asks_bary, tables, adds, asks_tary, equals, differs, compares, keeps_low}
+use Rattle.cfi_model.proofs.CheckLemmas.{high_word, splits, far, near, points, asks_bary, tables, adds, asks_tary, equals, differs, compares, keeps_low}
 use Rattle.cfi_model.proofs.CheckEndLemmas.{far_ends, odd_ends, not_ends, jump_ends}
 use Rattle.cfi_model.proofs.IdLemmas.{same-low, apart-low, apart-versions, equal-allows, apart-refuses}
 use Rattle.cfi_model.proofs.CheckFinish as finish
@@ -123,7 +123,7 @@ module _ (h : History) (code : List ℕ) (p : State) (link : Bool) (rs1 : ℕ) (
       inl (record {
         more = more;
         two = two;
-        values = record v { x28 = high_of slot; bary = w };
+        values = record v { x28 = high_word slot; bary = w };
         place = FoundBary;
         is = ap (λ x. take_one x (Word w)) is;
         holds = (holds, subst (λ x. Fits h code x (Word w)) is fits);

@@ -21,16 +21,16 @@ pub empty-IsReport : IsReport empty_report
 empty-IsReport = record { lines = (title-IsLine, (force-IsLine, (end-IsLine, tt))); apart = tt }
 
 -- lines without a text are none
-pub no_lines : (lines : List Line) → [] ≡ lines_text lines → lines ≡ []
-no_lines [] same = refl
-no_lines (one ∷ lines) same =
+pub without_text : (lines : List Line) → [] ≡ lines_text lines → lines ≡ []
+without_text [] same = refl
+without_text (one ∷ lines) same =
     let none : length (line_text one ++ lines_text lines) ≡ 0 = ap length (sym same) in
     absurd (omega (arith, none, length-append (line_text one) (lines_text lines), line_text-long one))
 
 pub same_text : (one other : Report) → IsReport one → IsReport other → report_text one ≡ report_text other → one ≡ other
 same_text one other h g same =
     let next = whole_follows (report_lines one) (report_lines other) [] h.lines g.lines (append-nil (report_text one) ∙ same) in
-    let end = no_lines next.0 next.1.1 in
+    let end = without_text next.0 next.1.1 in
     let lines : report_lines other ≡ report_lines one = next.1.0 ∙ ap (λ (l : List Line). report_lines one ++ l) end
     ∙ append-nil (report_lines one) in
     sym (lines_of-built one) ∙ ap (λ (l : List Line). report_of (with_lines no_lines l)) (sym lines) ∙ lines_of-built other

@@ -14,7 +14,7 @@ use Rattle.elf_read.specs.Relocation.{field_size}
 use Rattle.rv_reloc.specs.declared.fault.RelocFault.{RelocFault}
 use Rattle.rv_reloc.specs.declared.table.Form.{Form}
 use Rattle.rv_reloc.specs.declared.table.Rule.{Rule}
-use Rattle.rv_reloc.specs.Table.{table, rule_of, size_by, field_size}
+use Rattle.rv_reloc.specs.Table.{table, rule_of, size_by, rule_size}
 use Rattle.rv_reloc.specs.Bytes.{word_at, with_word}
 use Rattle.rv_reloc.specs.Field.{filled}
 use Rattle.rv_reloc.specs.Formula.{number_by}
@@ -42,16 +42,16 @@ row_in {K} {X} P test (e ∷ es) x all found = elim (cases_Bool (test e.0)) [
       row_in P test es x all.1 (sym (ap (λ (b : Bool). cond b (Some e.1) (lookup test es)) there) ∙ found)
 ]
 
-rows : AllByRecursion (λ (row : ℕ × Rule). field_size row.1 ≡ field_size row.0) table
+rows : AllByRecursion (λ (row : ℕ × Rule). rule_size row.1 ≡ field_size row.0) table
 unfolding field_size
 rows =
     (refl, (refl, (refl, (refl, (refl, (refl, (refl, (refl, (refl, (refl, (refl, (refl, (refl, tt)))))))))))))
 
-row_size : (kind : ℕ) (rule : Rule) → rule_of kind ≡ Some rule → field_size rule ≡ field_size kind
+row_size : (kind : ℕ) (rule : Rule) → rule_of kind ≡ Some rule → rule_size rule ≡ field_size kind
 unfolding rule_of
 row_size kind rule found =
-    let row = row_in (λ (row : ℕ × Rule). field_size row.1 ≡ field_size row.0) (λ number. kind == number) table rule rows found in
-    ap field_size (sym row.3) ∙ row.1 ∙ ap field_size (sym (eqb-true kind row.0.0 row.2))
+    let row = row_in (λ (row : ℕ × Rule). rule_size row.1 ≡ field_size row.0) (λ number. kind == number) table rule rows found in
+    ap rule_size (sym row.3) ∙ row.1 ∙ ap field_size (sym (eqb-true kind row.0.0 row.2))
 
 -- ---- words
 
@@ -98,7 +98,7 @@ next_kept at (Some form) (Some x) number word bytes made within =
     length-with_word (at + 4) x bytes (omega (arith, within))
 
 written_kept : (rule : Rule) (number at : ℕ) (bytes new : List ℕ) → written rule number at bytes ≡ Ok new
-    → at + field_size rule ≤ length bytes → length new ≡ length bytes
+    → at + rule_size rule ≤ length bytes → length new ≡ length bytes
 written_kept rule number at bytes new done within =
     let one = then_applied (filled rule.field number (word_at at bytes)) (λ word.
     applying.◌>>=◌ (filled_next rule.next number (word_at (at + 4) bytes)) (λ next.

@@ -9,7 +9,7 @@ use Rattle.cfi_top.specs.declared.reading.Cause.{Cause}
 use Rattle.cfi_top.specs.declared.reading.Cause.TheVariants.{Failed, Absent, TooLong}
 use Rattle.cfi_commands.specs.declared.refusal.Refusal.{Refusal}
 use Rattle.cfi_commands.specs.Refusal.{refusal_text}
-use Rattle.cfi_top.specs.Text.{report_text}
+use Rattle.cfi_top.specs.Text.{bare_text}
 
 abbrev pub usage_line : List ℕ
 usage_line = codes "usage: cfi asm|list|instrument|link|verify|graph|sim|run|gen\n"
@@ -30,7 +30,7 @@ unread_status Absent = NO_FILE
 unread_status TooLong = NO_FILE
 
 abbrev pub output_of : Answer → Output
-output_of (answers.Ran part) = outputs.Print DONE (report_text part)
+output_of (answers.Ran part) = outputs.Print DONE (bare_text part)
 output_of (answers.Print text) = outputs.Print DONE text
 output_of (answers.Save name bytes) = outputs.Save name bytes
 output_of answers.Usage = outputs.Print USAGE usage_line

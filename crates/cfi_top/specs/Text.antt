@@ -13,5 +13,5 @@ bare_module = record { number = 0; name = codes "bare"; base = FIRST_BASE; slot 
 abbrev pub bare_report : GuestPart → Report
 bare_report part = record { epoch = 0; policy = 0; modules = bare_module ∷ []; journal = []; guests = part ∷ [] }
 
-abbrev pub report_text : GuestPart → List ℕ
-report_text part = report_text (bare_report part)
+abbrev pub bare_text : GuestPart → List ℕ
+bare_text part = report_text (bare_report part)

@@ -20,7 +20,7 @@ use Rattle.cfi_top.specs.Plans.{named_files}
 use Rattle.cfi_top.specs.Reading.{AreRead, IsShort}
 use Rattle.cfi_top.specs.declared.reading.Unread.{Unread}
 use Rattle.cfi_top.specs.Outcome.{Justifies, IsVerifiedPlan, IsGraphOfPlan, Refuses, IsUnrefused, IsAllRead, IsFirstUnread, IsAnswer}
-use Rattle.cfi_top.specs.Text.{report_text}
+use Rattle.cfi_top.specs.Text.{bare_text}
 
 -- no memory was left, or an answer was delivered
 abbrev pub Ends : (words : List (List ℕ)) → (shelf shelf' : ShelfView) → (sink sink' : SinkView) → (status : ℕ) → Type 0
@@ -36,7 +36,7 @@ pub record HasRun (input : List ℕ) (shelf : ShelfView) (sink sink' : SinkView)
   pub held : Holds shelf input bytes
   pub part : GuestPart
   pub justified : Justifies bytes part
-  pub text : Appends sink.written sink'.written (report_text part)
+  pub text : Appends sink.written sink'.written (bare_text part)
 
 -- the file `input` is an object, and the sink has the listing of its text
 pub record HasListed (input : List ℕ) (shelf : ShelfView) (sink sink' : SinkView) : Type 0 where

@@ -3,7 +3,7 @@ ghost use Rattle.cfi_top.specs.declared.answer.Output.TheVariants as outputs;
 ghost use Rattle.cfi_top.specs.Answer.{output_of, refused_line, unread_line, unread_status};
 
 use crate::reading::{Cause, Unread};
-use crate::text::report_text;
+use crate::text::bare_text;
 use cfi_values::{Text, Bytes};
 use cfi_commands::{Refusal, put_refusal};
 use cfi_report::GuestPart;
@@ -101,7 +101,7 @@ pub fn output_of(alloc: Global, answer: Answer) -> Result<Output, AllocError>
 {
     match answer {
         Answer::Ran(part) => {
-            let text = report_text(alloc, part)?;
+            let text = bare_text(alloc, part)?;
             Ok(Output::Print(DONE, Bytes::from_vec(text)))
         }
         Answer::Print(text) => Ok(Output::Print(DONE, text)),

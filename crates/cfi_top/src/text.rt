@@ -1,5 +1,5 @@
 ghost use Rattle.std.specs.Prelude.{◌≡◌, IfOk, codes};
-ghost use Rattle.cfi_top.specs.Text.{bare_module, bare_report, report_text};
+ghost use Rattle.cfi_top.specs.Text.{bare_module, bare_report, bare_text};
 
 use crate::names::text_of;
 use cfi_values::{Items, Text};
@@ -48,8 +48,8 @@ fn bare_report(alloc: Global, part: GuestPart) -> Result<Report, AllocError>
 }
 
 /// The text of the report of a bare file, of which this is said of its guest.
-pub fn report_text(alloc: Global, part: GuestPart) -> Result<Vec<u8>, AllocError>
-    ensures { IfOk result (λ text. text.items ≡ report_text part) }
+pub fn bare_text(alloc: Global, part: GuestPart) -> Result<Vec<u8>, AllocError>
+    ensures { IfOk result (λ text. text.items ≡ bare_text part) }
 {
     let report = bare_report(alloc, part)?;
     write_report(alloc, &report)

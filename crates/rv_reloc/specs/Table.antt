@@ -47,5 +47,5 @@ abbrev pub size_by : (next : Option Form) → ℕ
 size_by None = 4
 size_by (Some next) = 8
 
-abbrev pub field_size : Rule → ℕ
-field_size rule = size_by rule.next
+abbrev pub rule_size : Rule → ℕ
+rule_size rule = size_by rule.next

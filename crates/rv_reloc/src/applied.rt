@@ -2,7 +2,7 @@
 
 ghost use Rattle.std.specs.Prelude.{◌≡◌, ◌+◌, ◌≤◌, true, length, Ok, Err, OnOk, OnErr, IfErr};
 ghost use Rattle.elf_read.specs.Relocation.{is_known, field_size};
-ghost use Rattle.rv_reloc.specs.Table.{field_size};
+ghost use Rattle.rv_reloc.specs.Table.{rule_size};
 ghost use Rattle.rv_reloc.specs.Applied.{written, applied};
 
 use crate::bytes::{put_word, word_at};
@@ -14,7 +14,7 @@ use elf_read::Reloc;
 
 // Gives the words of a row the number.
 fn write(bytes: &mut [u8], rule: Rule, number: u32, at: usize) -> Result<(), RelocFault>
-    requires within { at + field_size rule ≤ length bytes.old }
+    requires within { at + rule_size rule ≤ length bytes.old }
     ensures ok { OnOk result (written rule number at bytes.old ≡ Ok bytes.new) }
     ensures fault { IfErr result (λ fault. written rule number at bytes.old ≡ Err fault) }
     ensures same { OnErr result (bytes.new ≡ bytes.old) }

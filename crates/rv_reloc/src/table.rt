@@ -1,7 +1,7 @@
 //! The table of relocations (RISC-V ELF psABI, "Relocations").
 
 ghost use Rattle.std.specs.Prelude.{◌≡◌, IfSome};
-ghost use Rattle.rv_reloc.specs.Table.{one, immediate, field_size, rule_of};
+ghost use Rattle.rv_reloc.specs.Table.{one, immediate, rule_size, rule_of};
 ghost use Rattle.elf_read.specs.Relocation.{field_size};
 
 use elf_read::relocation;
@@ -84,7 +84,7 @@ fn immediate(formula: Formula, form: Form) -> Rule
 #[tactic(auto, unfolding(crate::specs::Table::rule_of, elf_read::specs::Relocation::field_size))]
 pub fn rule_of(kind: u32) -> Option<Rule>
     ensures rule { result ≡ rule_of kind }
-    ensures size { IfSome result (λ rule. field_size rule ≡ field_size kind) }
+    ensures size { IfSome result (λ rule. rule_size rule ≡ field_size kind) }
 {
     match kind {
         relocation::WORD => Some(one(Formula::Absolute, Field::Word)),
