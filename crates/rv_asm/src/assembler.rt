@@ -11,8 +11,8 @@ use crate::fault::AsmFault;
 use crate::file::File;
 use crate::row::Row;
 use crate::survey::survey_of;
-use elf_read::Object;
 use cfi_word::limits::MAX_SYMBOLS;
+use elf_read::Object;
 use rv_line::Statement;
 use std::alloc::Global;
 

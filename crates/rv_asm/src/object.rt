@@ -9,8 +9,8 @@ ghost use Rattle.rv_asm.specs.inner.Passes.{object_of};
 use crate::draft::Draft;
 use crate::file::File;
 use cfi_aux::{Records, write_records};
-use cfi_values::{Items, Bytes};
 use cfi_types::{TypeTable, write_types};
+use cfi_values::{Bytes, Items};
 use elf_read::{Object, Relocs};
 use std::alloc::{AllocError, Global};
 

@@ -5,11 +5,11 @@ ghost use Rattle.rv_line.specs.Statement.{integers_in, names_in, has_count, node
 ghost use Rattle.cfi_text.specs.Words.{words_in};
 
 use crate::called::node_kind_called;
-use cfi_text::{name_of, next_word};
 use crate::number::integer_of;
 use crate::operand::word_of;
 use crate::short::bare_form;
 use crate::statement::{NodeKind, Statement};
+use cfi_text::{name_of, next_word};
 use cfi_values::Items;
 use elf_read::Name;
 use std::alloc::{AllocError, Global};

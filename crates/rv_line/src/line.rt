@@ -15,13 +15,13 @@ use crate::forms::{
     auipc_form, branch_form, imm_op_form, jal_form, jalr_form, load_form, lui_form, op_form,
     store_form,
 };
-use cfi_text::{name_of, split_word, statement, unblanked};
 use crate::operand::cut_at;
 use crate::register::Register;
 use crate::short::{
     bare_form, j_form, jr_form, la_form, li_form, mv_form, name_form, word_form, zero_form,
 };
 use crate::statement::{Low, Statement};
+use cfi_text::{name_of, split_word, statement, unblanked};
 use elf_read::Name;
 use rv_insn::ImmOp;
 use std::alloc::{AllocError, Global};

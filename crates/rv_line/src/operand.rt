@@ -3,10 +3,10 @@
 ghost use Rattle.std.specs.Prelude.{◌≡◌, ◌<◌, length, position, Some, None, MatchOption, IfOk, IfSome};
 ghost use Rattle.rv_line.specs.Operand.{word_in, is_byte, cut, two_in, three_in, low_by, low_reference_in, high_by, high_reference_in, closed_in, low_in, high_in, base_in, number_place_in, reference_place_in, place_in, target_in, datum_in};
 
-use cfi_text::{name_of, next_word, read_small_dec};
 use crate::number::integer_of;
 use crate::register::{Register, register_of};
 use crate::statement::{Datum, High, Low, Target};
+use cfi_text::{name_of, next_word, read_small_dec};
 use elf_read::Name;
 use std::alloc::{AllocError, Global};
 

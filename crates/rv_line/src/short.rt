@@ -3,11 +3,11 @@
 ghost use Rattle.std.specs.Prelude.{◌≡◌, IfOk};
 ghost use Rattle.rv_line.specs.Statement.{bare_form, mv_form, li_form, la_form, j_form, jr_form, name_form, word_form, zero_form};
 
-use cfi_text::{name_of, next_word};
 use crate::number::integer_of;
 use crate::operand::{datum_of, target_of, two_of, word_of};
 use crate::register::{Register, register_of};
 use crate::statement::{Low, Statement};
+use cfi_text::{name_of, next_word};
 use elf_read::Name;
 use rv_insn::ImmOp;
 use std::alloc::{AllocError, Global};
