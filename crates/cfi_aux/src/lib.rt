@@ -3,8 +3,8 @@
 //! Stands on `elf_read`, `cfi_types`, `cfi_list` and `thiserror`. Proved: records are read exactly where the bytes are
 //! their one spelling, and each other list of bytes has its first fault; what is written is read again; an object is a
 //! module exactly where its two sections are a type table and records; what is read of a file is a sound object; which
-//! functions are global, and what a module exports. Only tested: the texts of faults, and that ample memory is enough.
-//! Open: nothing.
+//! functions are global, and what a module exports. Only tested, by the cases of `cfi_cases`: the texts of faults, and
+//! that ample memory is enough. Open: nothing.
 #![tactic(auto)]
 
 mod branch;
@@ -30,6 +30,3 @@ pub use placed::{Placed, PlacedFunction, address_of, exports, is_global};
 pub use reading::read_records;
 pub use records::{Function, Kind, Records};
 pub use writing::{read_can_be_written, write_records, written_is_read};
-
-#[cfg(test)]
-mod tests;

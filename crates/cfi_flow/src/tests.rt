@@ -82,35 +82,6 @@ fn edges_are(edges: &[Edge], expected: &[(u32, u32)]) -> bool {
             && edge.target == pair.1)
 }
 
-// Two functions of one type, nodes 1 and 2, that node 3 stands for; each is called by name and by a pointer.
-#[test]
-fn edges_of_two_functions(rt: HostRuntime) -> Result<(), Fail> {
-    let flow = flow_of(
-        rt.alloc(),
-        &[(3, 1), (3, 2)],
-        &[(1, 0x44), (2, 0x48), (3, 0x80)],
-        &[(1, 1), (2, 2)],
-        &[(3, 0x84), (3, 0xbc)],
-    )?;
-    let expected = [
-        (0, 0x84),
-        (0, 0xbc),
-        (1, 0x44),
-        (1, 0x80),
-        (2, 0x48),
-        (2, 0x80),
-    ];
-    assert!(rt;
-        edges_are(all_edges(rt.alloc(), &flow)?.as_slice(), &expected),
-        "all"
-    );
-    assert!(rt;
-        edges_are(few_edges(rt.alloc(), &flow)?.as_slice(), &expected),
-        "few"
-    );
-    Ok(())
-}
-
 // Nodes 1 and 2 tail call each other; each returns, and each is called twice: a few edges join all.
 #[test]
 fn edges_of_tail_calls(rt: HostRuntime) -> Result<(), Fail> {

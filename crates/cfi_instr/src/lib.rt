@@ -2,7 +2,8 @@
 //!
 //! Stands on `cfi_items`, `cfi_unit`, `cfi_aux`, `cfi_types`, `cfi_list`, `elf_read`, `rv_insn` and `rv_words`. Proved:
 //! `instrument` gives the module of `specs/Output.antt`, whose long branches are the least set that is enough, or the
-//! first fault. Only tested: that ample memory is enough, and words against an assembler. Open: when memory runs out.
+//! first fault. Only tested, by the cases of `cfi_cases`: that ample memory is enough, and words against an assembler.
+//! Open: when memory runs out.
 #![tactic(auto)]
 
 mod moves;
@@ -10,8 +11,6 @@ mod output;
 mod reach;
 mod records;
 mod sizes;
-#[cfg(test)]
-mod tests;
 mod text;
 mod units;
 

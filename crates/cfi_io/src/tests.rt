@@ -63,26 +63,6 @@ fn a_later_pair_counts(rt: HostRuntime) -> Result<(), Fail> {
 }
 
 #[test]
-fn numbered_calls_fail(rt: HostRuntime) -> Result<(), Fail> {
-    let alloc = rt.alloc();
-    let file = (text(alloc, "a.s")?, b"nop\n".to_vec(alloc)?);
-    let mut shelf = MemShelf::new(alloc, vec![in alloc; file]?, vec![in alloc; 0, 2]?);
-    let mut sink = MemSink::new(alloc, vec![in alloc; 0]?);
-    let gate = QuietGate::new();
-    let unread = Err(ShowFault::Read(ShelfFault::Failed));
-    let unwritten = Err(ShowFault::Write(SinkFault::Failed));
-    for (call, outcome) in [unread, unwritten, unread, Ok(())].iter().enumerate() {
-        assert_eq!(rt;
-            show("a.s", &mut shelf, &mut sink, &gate),
-            *outcome,
-            "call {call}"
-        );
-    }
-    assert_eq!(rt; sink.written(), b"nop\n".as_slice());
-    Ok(())
-}
-
-#[test]
 fn files_of_the_current_folder(rt: HostRuntime) -> Result<(), Fail> {
     let alloc = rt.alloc();
     let mut shelf = DirShelf::new(rt, alloc);

@@ -1,9 +1,9 @@
 //! The items of a module's text, and which modules can be instrumented.
 //!
 //! An item is one instruction, or an AUIPC and JALR pair under one relocation. Stands on `rv_insn`, `cfi_unit`,
-//! `rv_reloc`, `elf_read`, `cfi_aux` and `thiserror`, in tests on `cfi_list` and `cfi_types`; `cfi_instr` calls it. Proved:
-//! `read_items` gives what is read of the text exactly where no row of `specs/Fault.antt` has a fault, and else the
-//! first fault. Only tested: that ample memory is enough. Open: when memory runs out, and the texts of faults.
+//! `rv_reloc`, `elf_read`, `cfi_aux` and `thiserror`; `cfi_instr` calls it. Proved: `read_items` gives what is read of
+//! the text exactly where no row of `specs/Fault.antt` has a fault, and else the first fault. Only tested, by the cases
+//! of `cfi_cases`: that ample memory is enough. Open: when memory runs out, and the texts of faults.
 #![tactic(auto)]
 
 mod check;
@@ -16,8 +16,6 @@ mod misplaced;
 mod source;
 mod stray;
 mod target;
-#[cfg(test)]
-mod tests;
 mod words;
 
 pub use check::read_items;

@@ -1,9 +1,9 @@
 //! Modules linked into one: joined in order, with one definition of each name.
 //!
-//! Stands on `cfi_place`, `rv_reloc`, `rv_words`, `cfi_aux`, `cfi_unit`, `cfi_list`, `elf_read`, `cfi_types`,
-//! `thiserror`, and in tests on `elf_write`. Proved: `link` answers exactly what `specs/Linked.antt` says, or the first
-//! fault, and what it answers breaks no rule of modules. Only tested: that ample memory is enough, and words against an
-//! assembler. Open: when memory runs out.
+//! Stands on `cfi_place`, `rv_reloc`, `rv_words`, `cfi_aux`, `cfi_unit`, `cfi_list`, `elf_read`, `cfi_types` and
+//! `thiserror`. Proved: `link` answers exactly what `specs/Linked.antt` says, or the first fault, and what it answers
+//! breaks no rule of modules. Only tested, by the cases of `cfi_cases`: that ample memory is enough, and words against
+//! an assembler. Open: when memory runs out.
 #![tactic(auto)]
 
 mod applied;
@@ -18,11 +18,7 @@ mod reach;
 mod records;
 mod settled;
 mod shift;
-#[cfg(test)]
-mod sources;
 mod start;
-#[cfg(test)]
-mod tests;
 mod texts;
 
 pub use fault::LinkFault;

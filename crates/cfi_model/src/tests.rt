@@ -4,9 +4,7 @@ use cfi_word::Edge;
 use std::process::Abort;
 use std::test::Fail;
 
-mod accesses;
 mod checks;
-mod instructions;
 mod services;
 
 // Runs the unit at pc, where one can be run, under the policy 255.

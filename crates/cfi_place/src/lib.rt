@@ -1,8 +1,8 @@
 //! Modules at their places in the code and the data: addresses, relocations, slots of checks.
 //!
 //! Stands on `rv_reloc`, `cfi_aux`, `cfi_unit`, `cfi_list`, `elf_read`, `cfi_types`, `cfi_word`, `rv_insn` and
-//! `thiserror`. Proved: `place` answers exactly what `specs/Placed.antt` says, or the first fault. Only tested: that
-//! ample memory is enough, and words against an assembler. Open: when memory runs out.
+//! `thiserror`. Proved: `place` answers exactly what `specs/Placed.antt` says, or the first fault. Only tested, by the
+//! cases of `cfi_cases`: that ample memory is enough, and words against an assembler. Open: when memory runs out.
 #![tactic(auto)]
 
 mod bytes;
@@ -17,8 +17,6 @@ mod room;
 mod sizes;
 mod slots;
 mod symbols;
-#[cfg(test)]
-mod tests;
 mod value;
 mod words;
 

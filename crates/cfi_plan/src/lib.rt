@@ -1,8 +1,8 @@
 //! Plans: what a run is to do, the lines that its script and its guests give the journal, and where modules lie.
 //!
 //! Stands on `cfi_text`, `cfi_list`, `cfi_word` and `thiserror`. Proved: `read_plan` gives exactly the plan that a text
-//! says, or exactly its first fault, and what it gives is within the limits. Only tested: the texts of faults, and that
-//! memory suffices. Open: nothing.
+//! says, or exactly its first fault, and what it gives is within the limits. Only tested, by the cases of `cfi_cases`:
+//! the texts of faults, and that memory suffices. Open: nothing.
 #![tactic(auto)]
 
 mod draft;
@@ -14,8 +14,6 @@ mod line;
 mod names;
 mod plan;
 mod reading;
-#[cfg(test)]
-mod tests;
 mod text;
 
 pub use fault::PlanFault;

@@ -3,7 +3,7 @@
 ghost use Rattle.std.specs.Prelude.{◌≡◌, ◌<◌, map, IfOk};
 ghost use Rattle.std.specs.List.{flat_map, AllByRecursion};
 ghost use Rattle.cfi_unit.specs.Unit.{IsUnit, words_of};
-ghost use Rattle.cfi_graph.specs.HandMade.{function_of, placed_of, void_and_function, function_and_void};
+ghost use Rattle.cfi_graph.specs.HandMade.{function_of, placed_of, void_and_function};
 ghost use Rattle.cfi_policy.specs.Image.{HaveImage};
 
 use cfi_aux::{Kind, Placed, PlacedFunction};
@@ -83,15 +83,6 @@ fn void_and_function(alloc: Global) -> Result<TypeTable, AllocError>
     Ok(TypeTable::from_vec(vec![in alloc; void, function]?))
 }
 
-// The same types in the other order.
-fn function_and_void(alloc: Global) -> Result<TypeTable, AllocError>
-    ensures { IfOk result (λ table. table ≡ function_and_void) }
-{
-    let void = TypeNode::new(VOID, Vec::new(alloc));
-    let function = TypeNode::new(FUNC, vec![in alloc; 1]?);
-    Ok(TypeTable::from_vec(vec![in alloc; function, void]?))
-}
-
 // Calls of f and of g, and one through a pointer to a type; f and g, of the type of node 1, are taken and return.
 pub(crate) fn calls(alloc: Global, node: u32) -> Result<Vec<Placed>, AllocError>
     requires { node < 2 }
@@ -134,136 +125,4 @@ pub(crate) fn calls(alloc: Global, node: u32) -> Result<Vec<Placed>, AllocError>
     let types = void_and_function(alloc)?;
     let module = module_of(alloc, 16, 0, &code, &rows, kinds, types)?;
     Ok(vec![in alloc; module]?)
-}
-
-// A call of f, which tail calls g, which returns.
-pub(crate) fn tail_call(alloc: Global) -> Result<Vec<Placed>, AllocError>
-    ensures { IfOk result (λ modules. HaveImage modules.items 1024) }
-{
-    let code = [
-        Unit::Jump { link: true, off: 8 },
-        Unit::Jump {
-            link: false,
-            off: 0,
-        },
-        Unit::Jump {
-            link: false,
-            off: 4,
-        },
-        Unit::Check {
-            link: false,
-            rs1: 1,
-            imm: 0,
-            slot: 0,
-        },
-    ];
-    let rows = [(0, 2, 1, false), (2, 1, 1, false), (3, 14, 1, false)];
-    let kinds = vec![in alloc; Kind::Return]?;
-    let types = void_and_function(alloc)?;
-    let module = module_of(alloc, 16, 0, &code, &rows, kinds, types)?;
-    Ok(vec![in alloc; module]?)
-}
-
-// A call of f; f and g tail call each other, and each has a return.
-pub(crate) fn mutual_tail_calls(alloc: Global) -> Result<Vec<Placed>, AllocError>
-    ensures { IfOk result (λ modules. HaveImage modules.items 1024) }
-{
-    let code = [
-        Unit::Jump { link: true, off: 8 },
-        Unit::Jump {
-            link: false,
-            off: 0,
-        },
-        Unit::Jump {
-            link: false,
-            off: 60,
-        },
-        Unit::Check {
-            link: false,
-            rs1: 1,
-            imm: 0,
-            slot: 0,
-        },
-        Unit::Jump {
-            link: false,
-            off: -60,
-        },
-        Unit::Check {
-            link: false,
-            rs1: 1,
-            imm: 0,
-            slot: 1,
-        },
-    ];
-    let rows = [(0, 2, 1, false), (2, 15, 1, false), (17, 15, 1, false)];
-    let kinds = vec![in alloc; Kind::Return, Kind::Return]?;
-    let types = void_and_function(alloc)?;
-    let module = module_of(alloc, 16, 0, &code, &rows, kinds, types)?;
-    Ok(vec![in alloc; module]?)
-}
-
-// A call through a pointer to functions that give Void, of which there is none.
-pub(crate) fn call_of_nothing(alloc: Global) -> Result<Vec<Placed>, AllocError>
-    ensures { IfOk result (λ modules. HaveImage modules.items 1024) }
-{
-    let code = [
-        Unit::Check {
-            link: true,
-            rs1: 5,
-            imm: 0,
-            slot: 0,
-        },
-        Unit::Jump {
-            link: false,
-            off: 0,
-        },
-    ];
-    let rows = [(0, 15, 1, false)];
-    let kinds = vec![in alloc; Kind::Call(1)]?;
-    let types = void_and_function(alloc)?;
-    let module = module_of(alloc, 16, 0, &code, &rows, kinds, types)?;
-    Ok(vec![in alloc; module]?)
-}
-
-// The same, and a module whose only function is taken, of a type that is equal by structure alone: it goes to its
-// return by a switch.
-pub(crate) fn call_of_another(alloc: Global) -> Result<Vec<Placed>, AllocError>
-    ensures { IfOk result (λ modules. HaveImage modules.items 1024) }
-{
-    let code = [
-        Unit::Check {
-            link: true,
-            rs1: 5,
-            imm: 0,
-            slot: 0,
-        },
-        Unit::Jump {
-            link: false,
-            off: 0,
-        },
-    ];
-    let rows = [(0, 15, 1, false)];
-    let kinds = vec![in alloc; Kind::Call(1)]?;
-    let types = void_and_function(alloc)?;
-    let one = module_of(alloc, 16, 0, &code, &rows, kinds, types)?;
-    let code = [
-        Unit::Check {
-            link: false,
-            rs1: 5,
-            imm: 0,
-            slot: 1,
-        },
-        Unit::Check {
-            link: false,
-            rs1: 1,
-            imm: 0,
-            slot: 2,
-        },
-    ];
-    let rows = [(0, 28, 0, true)];
-    let entries = Items::from_vec(vec![in alloc; 56]?);
-    let kinds = vec![in alloc; Kind::Switch(entries), Kind::Return]?;
-    let types = function_and_void(alloc)?;
-    let other = module_of(alloc, 31, 1, &code, &rows, kinds, types)?;
-    Ok(vec![in alloc; one, other]?)
 }

@@ -2,10 +2,10 @@ ghost use Rattle.std.specs.Prelude.{◌≡◌, IfOk};
 ghost use Rattle.cfi_graph.specs.Reading.{HaveGraph};
 ghost use Rattle.cfi_policy.specs.Image.{HaveImage};
 
-use crate::made::{call_of_another, call_of_nothing, calls, mutual_tail_calls, tail_call};
+use crate::made::calls;
 use crate::{Group, allowed, groups, image_from, image_of};
 use cfi_aux::Placed;
-use cfi_graph::{edges, spanning};
+use cfi_graph::edges;
 use cfi_list::Items;
 use cfi_types::TypeTable;
 use cfi_word::{Edge, Image, Layout};
@@ -118,53 +118,5 @@ fn policies(rt: HostRuntime) -> Result<(), Fail> {
     assert!(rt; is_policy(alloc, &modules, &pairs, &rows)?, "calls");
     assert!(rt; allowed(alloc, &modules, 1, 0x48)?, "by a chain");
     assert!(rt; !allowed(alloc, &modules, 1, 0x84)?, "by none");
-    Ok(())
-}
-
-#[test]
-fn policies_of_branches_that_go_nowhere(rt: HostRuntime) -> Result<(), Fail> {
-    let alloc = rt.alloc();
-    // The pointer is to no function's type, so its branch may go nowhere, and no call shares a return.
-    let modules = calls(alloc, 0)?;
-    let pairs = [(1, 0x44), (2, 0x48)];
-    let rows: [(&[u32], &[u32]); 3] = [(&[1], &[0x44]), (&[2], &[0x48]), (&[0], &[])];
-    assert!(rt;
-        is_policy(alloc, &modules, &pairs, &rows)?,
-        "calls, one of nothing"
-    );
-    Ok(())
-}
-
-#[test]
-fn policies_of_tail_calls(rt: HostRuntime) -> Result<(), Fail> {
-    let alloc = rt.alloc();
-    // The return of g goes to after the call of f.
-    let modules = tail_call(alloc)?;
-    let rows: [(&[u32], &[u32]); 1] = [(&[0], &[0x44])];
-    assert!(rt; is_policy(alloc, &modules, &[(0, 0x44)], &rows)?, "one");
-    let modules = mutual_tail_calls(alloc)?;
-    let rows: [(&[u32], &[u32]); 1] = [(&[0, 1], &[0x44])];
-    assert!(rt;
-        is_policy(alloc, &modules, &[(0, 0x44), (1, 0x44)], &rows)?,
-        "mutual"
-    );
-    Ok(())
-}
-
-#[test]
-fn policies_of_pointers(rt: HostRuntime) -> Result<(), Fail> {
-    let alloc = rt.alloc();
-    let modules = call_of_nothing(alloc)?;
-    let rows: [(&[u32], &[u32]); 1] = [(&[0], &[])];
-    assert!(rt; is_policy(alloc, &modules, &[], &rows)?, "nothing");
-    // The function is at 0x7c, its return at 0xb4, the address after the call is 0x78.
-    let modules = call_of_another(alloc)?;
-    let pairs = [(0, 0x7c), (1, 0xb4), (2, 0x78)];
-    let rows: [(&[u32], &[u32]); 3] = [(&[0], &[0x7c]), (&[1], &[0xb4]), (&[2], &[0x78])];
-    assert!(rt;
-        is_policy(alloc, &modules, &pairs, &rows)?,
-        "another module's"
-    );
-    assert!(rt; are_edges(&spanning(alloc, &modules)?, &pairs), "few");
     Ok(())
 }

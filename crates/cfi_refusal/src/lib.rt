@@ -2,7 +2,7 @@
 //!
 //! Stands on the layers, `cfi_bare`, `elf_read`, `cfi_types`, `cfi_aux`, `cfi_instr`, `cfi_link`, `cfi_plan`,
 //! `cfi_place`, `rv_reloc`, `cfi_verify` and `rv_asm`; `cfi_top` calls it. Proved: `put_refusal` writes the words of
-//! `specs/Refusal.antt`. Only tested: that ample memory is enough. Open: nothing.
+//! `specs/Refusal.antt`. Only tested, by the cases of `cfi_cases`: that ample memory is enough. Open: nothing.
 #![tactic(auto)]
 
 mod asm;
@@ -14,8 +14,6 @@ mod link;
 mod place;
 mod plan;
 mod refusal;
-#[cfg(test)]
-mod tests;
 mod verify;
 
 pub use refusal::{Refusal, put_refusal};

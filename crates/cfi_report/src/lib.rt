@@ -2,7 +2,8 @@
 //!
 //! Stands on `cfi_text`, `cfi_list`, `cfi_word`, `cfi_unit`, `cfi_plan` and `thiserror`. Proved: `write_report` gives
 //! the text of `specs/Report.antt`; `read_report` takes exactly the texts of reports, and of each other text names the
-//! first line up to which no report goes. Only tested: the texts of faults, and that memory suffices. Open: nothing.
+//! first line up to which no report goes. Only tested, by the cases of `cfi_cases`: the texts of faults, and that
+//! memory suffices. Open: nothing.
 #![tactic(auto)]
 
 mod draft;
@@ -16,8 +17,6 @@ mod reader;
 mod report;
 mod spell;
 mod stage;
-#[cfg(test)]
-mod tests;
 mod words;
 mod writer;
 

@@ -6,8 +6,8 @@
 //! `specs/Assembling.antt`; `read_module` the module that a file is, or its first fault, by `specs/Reading.antt`, and
 //! `read_modules` those that several are, by `specs/Modules.antt`; `instrumented` the file of a file's instrumented
 //! module, by `specs/Instrumenting.antt`, and `linked` the file of the module that several files' modules are linked
-//! into, by `specs/Linking.antt`, or the first fault. Only tested: that ample memory is enough. Open: when memory runs
-//! out.
+//! into, by `specs/Linking.antt`, or the first fault. Only tested, by the cases of `cfi_cases`: that ample memory is
+//! enough. Open: when memory runs out.
 #![tactic(auto)]
 
 mod assembling;
@@ -16,8 +16,6 @@ mod linking;
 mod listing;
 mod modules;
 mod reading;
-#[cfg(test)]
-mod tests;
 
 pub use assembling::assembled;
 pub use instrumenting::{InstrumentFault, instrumented};

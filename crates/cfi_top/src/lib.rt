@@ -5,18 +5,15 @@
 //! by unit; what is listed is the listing of the object's text, what is said of a plan the stated text of its modules;
 //! what is saved is the written object that the source or the modules make; each status and its text, with its cause;
 //! that valid input gives 0 or 6; which files stay. It hands on the law of `cfi_proper`, which joins what `instrument`
-//! makes to what `verify` asks. Only tested: that memory is there where it is asked for, and that the gate is passed
-//! once in each service. Open: nothing.
+//! makes to what `verify` asks. Only tested, by the cases of `cfi_cases`: that memory is there where it is asked for,
+//! and that the gate is passed once in each service; by a test: runs over code with checks, which no bare file has.
+//! Open: nothing.
 #![tactic(auto)]
 
 mod answer;
 mod command;
 mod deliver;
-#[cfg(test)]
-mod file_tests;
 pub mod laws;
-#[cfg(test)]
-mod module_tests;
 mod names;
 mod plans;
 mod program;

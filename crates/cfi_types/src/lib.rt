@@ -1,8 +1,8 @@
 //! Type tables, and which types of several tables are equal.
 //!
-//! Stands on `thiserror`. Proved: a table is read exactly where the bytes are its one spelling, each
-//! other list of bytes has its first fault, and two nodes have one class exactly where their
-//! unfoldings agree to every depth. Only tested: the texts of faults. Open: nothing.
+//! Stands on `thiserror`. Proved: a table is read exactly where the bytes are its one spelling, each other list of
+//! bytes has its first fault, and two nodes have one class exactly where their unfoldings agree to every depth. Only
+//! tested, by the cases of `cfi_cases`: the texts of faults. Open: nothing.
 #![tactic(auto)]
 
 mod book;

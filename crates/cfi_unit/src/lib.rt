@@ -1,7 +1,8 @@
 //! The units of instrumented code, the words that spell them, and what machines that run units log and are answered.
 //!
 //! Stands on `rv_insn`. Proved: `next_unit` and `spell` are the spellings of `specs/Unit.antt` both ways, and a list of
-//! words is the code of at most one list of units. Only tested: the spellings against an assembler. Open: nothing.
+//! words is the code of at most one list of units. Only tested, also by the cases of `cfi_cases`: the spellings against
+//! an assembler. Open: nothing.
 #![tactic(auto)]
 
 mod check;

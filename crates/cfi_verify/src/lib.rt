@@ -1,8 +1,9 @@
 //! The verifier of placed modules: whether a module's code keeps to its functions, types and branches.
 //!
 //! Stands on `cfi_unit`, `cfi_aux`, `cfi_types`, `cfi_list`, `elf_read`, `rv_insn` and `thiserror`. Proved: `verify`
-//! answers the first fault of `specs/Faults.antt`, and Ok exactly where none stands. Only tested: that ample memory is
-//! enough, and words against an assembler. Open: when memory runs out, and the texts of faults.
+//! answers the first fault of `specs/Faults.antt`, and Ok exactly where none stands. Only tested, by the cases of
+//! `cfi_cases`: that ample memory is enough, and words against an assembler. Open: when memory runs out, and the texts
+//! of faults.
 #![tactic(auto)]
 
 mod branches;
@@ -15,8 +16,6 @@ mod laws;
 mod reader;
 mod search;
 mod target;
-#[cfg(test)]
-mod tests;
 mod verifier;
 
 pub use checks::CheckSpot;

@@ -1,8 +1,9 @@
 //! Reads ELF32 relocatable files for RISC-V.
 //!
 //! Stands on `byteorder` and `thiserror`; the crates of records, relocations and written objects stand on it. Proved:
-//! each answer is exactly the object that the bytes are, or their first fault, by `specs/Fault.antt` and what it
-//! cites. Only tested: the texts of faults, and that ample memory is enough. Open: when memory runs out.
+//! each answer is exactly the object that the bytes are, or their first fault, by `specs/Fault.antt` and what it cites.
+//! Only tested, by the cases of `cfi_cases`: the texts of faults, and that ample memory is enough. Open: when memory
+//! runs out.
 #![tactic(auto)]
 
 mod bad_section;
@@ -23,8 +24,6 @@ mod section;
 mod sections;
 mod symbol;
 mod symbol_table;
-#[cfg(test)]
-mod tests;
 mod word;
 
 pub use crate::fault::{ElfFault, Limit};

@@ -2,8 +2,8 @@
 //!
 //! Stands on `elf_read`, and in its proofs on `byteorder`; what makes object files stands on it. Proved: the bytes are
 //! exactly those of `specs/File.antt`, section by section; which objects are within the limits; and what is written of
-//! an object that a file can be (`specs/Whole.antt`) is read again. Only tested: that ample memory is enough, and that
-//! GNU readelf takes such a file. Open: when memory runs out.
+//! an object that a file can be (`specs/Whole.antt`) is read again. Only tested, by the cases of `cfi_cases`: that
+//! ample memory is enough, and that GNU readelf takes such a file. Open: when memory runs out.
 #![tactic(auto)]
 
 mod contents;
@@ -11,8 +11,6 @@ mod file;
 pub mod laws;
 mod limits;
 mod part;
-#[cfg(test)]
-mod tests;
 mod word;
 
 pub use crate::file::write_object;

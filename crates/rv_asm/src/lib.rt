@@ -2,8 +2,8 @@
 //!
 //! Stands on `rv_insn`, `rv_text`, `rv_line`, `rv_names`, `cfi_list`, `cfi_text`, `elf_read`, `cfi_types`, `cfi_aux`
 //! and `thiserror`. Proved: `assemble` gives exactly the object that the lines make, as `specs/Assembled.antt` has it,
-//! or the first faulty line with the least of its faults. Only tested: that mnemonics and short forms are spelled as
-//! GNU as spells them. Open: nothing.
+//! or the first faulty line with the least of its faults. Only tested, by the cases of `cfi_cases`: that mnemonics and
+//! short forms are spelled as GNU as spells them. Open: nothing.
 #![tactic(auto)]
 
 mod adding;
@@ -28,6 +28,3 @@ mod words;
 
 pub use assembler::assemble;
 pub use fault::AsmFault;
-
-#[cfg(test)]
-mod tests;

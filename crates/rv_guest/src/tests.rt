@@ -1,7 +1,6 @@
 use crate::{Act, Guest};
 use std::process::Abort;
 
-mod accesses;
 mod checks;
 mod instructions;
 mod services;

@@ -1,7 +1,8 @@
 //! The instructions of RV32I, and the words that spell them.
 //!
 //! Stands on nothing. Proved: `decode` and `encode` are the table of `specs/Insn.antt` both ways, and each reader of
-//! `fields` says what it read. Only tested: that the table is the manual's. Open: nothing.
+//! `fields` says what it read. Only tested, by the cases of `cfi_cases`, which assemble, list and run each row: that
+//! the table is the manual's. Open: nothing.
 #![tactic(auto)]
 
 mod decoder;

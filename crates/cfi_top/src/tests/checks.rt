@@ -108,30 +108,6 @@ fn halting_checks(rt: HostRuntime) -> Result<(), Fail> {
     Ok(())
 }
 
-// A masked lw x5,0(x5), of 6 instructions, then the check at 88, which halts with its 13th: fuel stops the guest within
-// the unit at whose number its units stand.
-#[test]
-fn fuel_within_a_halting_check(rt: HostRuntime) -> Result<(), Fail> {
-    let first = [
-        0x00028f93, 0x00cf9f93, 0x00cfdf93, 0x40000f37, 0x01efefb3, 0x000fa283, 0x00028f93,
-    ];
-    for fuel in 1..31u32 {
-        let guest = run(&rt, rt.alloc(), &first, false, fuel)?;
-        let (units, start, end) = if fuel < 6 { (0, 64, 88) } else { (1, 88, 144) };
-        if fuel < 19 {
-            assert_eq!(rt; (guest.stop(), guest.units()), (Some(Stop::Fuel), units));
-            assert_eq!(rt;
-                (guest.steps(), start <= guest.pc(), guest.pc() < end),
-                (fuel, true, true)
-            );
-        } else {
-            assert_eq!(rt; (guest.stop(), guest.units()), (Some(Stop::Halt(0)), 2));
-            assert_eq!(rt; guest.steps(), 19);
-        }
-    }
-    Ok(())
-}
-
 // addi x5,x0,64, a masked sw x0,0(x5) and the check at 92, which passes with its 10th instruction: turns of 17.
 #[test]
 fn fuel_within_passing_checks(rt: HostRuntime) -> Result<(), Fail> {
