@@ -43,6 +43,10 @@ pub enum Head {
     Left(String, Option<usize>),
     /// No file has this name.
     Gone(String),
+    /// The gate was passed so often in the last command.
+    Gate(u32),
+    /// The entry's bytes are a report, or the line of this number is the first one up to which no report goes.
+    Report(Option<u32>),
     /// Each row is a case of these commands: its file of this name has the entry's bytes and then the row's.
     Table(String, Commands),
     /// A row: the status, and the text that is printed.

@@ -1,15 +1,17 @@
 //! Cases of the program: each is words, files and calls that fail, and what the program must answer.
 //!
-//! Stands on `cfi_top` and `cfi_io`; the files named by `args`, which lie in `data/`, hold the cases, and
+//! Stands on `cfi_top`, `cfi_report` and `cfi_io`; the files named by `args`, which lie in `data/`, hold the cases, and
 //! `data/README.txt` says how they are written. Each case runs `top` over a shelf and a sink in memory. A line is
 //! printed for what differs, and at the end the number of cases and of differences. Proved: that it is safe.
 #![tactic(auto)]
 
 mod entry;
 mod files;
+mod gate;
 mod log;
 mod pieces;
 mod reader;
+mod reports;
 mod session;
 
 use crate::reader::entries_of;

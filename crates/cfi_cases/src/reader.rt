@@ -76,6 +76,17 @@ fn table_head(alloc: Global, text: &str) -> Result<Option<Head>, AllocError> {
     Ok(commands_of(alloc, rest)?.map(|commands| Head::Table(name, commands)))
 }
 
+// The head `report` or `report LINE`.
+fn report_head(text: &str) -> Head {
+    if text.is_empty() {
+        return Head::Report(None);
+    }
+    match text.parse::<u32>() {
+        Ok(line) => Head::Report(Some(line)),
+        Err(_) => Head::Bad,
+    }
+}
+
 // The head of a line that is no row.
 fn head_of(alloc: Global, line: &str) -> Result<Option<Head>, AllocError> {
     let (word, rest) = line.split_once(' ').unwrap_or((line, ""));
@@ -88,6 +99,8 @@ fn head_of(alloc: Global, line: &str) -> Result<Option<Head>, AllocError> {
         "=" => Ok(rest.parse::<u8>().ok().map(Head::Status)),
         "left" => left_head(alloc, rest),
         "gone" => Ok(Some(Head::Gone(rest.to_string(alloc)?))),
+        "gate" => Ok(rest.parse::<u32>().ok().map(Head::Gate)),
+        "report" => Ok(Some(report_head(rest))),
         "table" => table_head(alloc, rest),
         _ => Ok(None),
     }

@@ -2,8 +2,10 @@
 
 use crate::entry::{Commands, Entry, Head};
 use crate::files::Files;
+use crate::gate::CountingGate;
 use crate::log::Log;
-use cfi_io::{MemSink, QuietGate};
+use crate::reports::report_fault;
+use cfi_io::MemSink;
 use cfi_top::top;
 use std::alloc::{AllocError, Global};
 use std::mem;
@@ -32,6 +34,8 @@ pub struct Session {
     sink_fails: Vec<u32>,
     // What no line has asked for yet.
     answer: Option<Answer>,
+    // How often the gate was passed in the last command.
+    passes: u32,
     table: Option<Table>,
     log: Log,
 }
@@ -45,6 +49,7 @@ impl Session {
             shelf_fails: Vec::new(alloc),
             sink_fails: Vec::new(alloc),
             answer: None,
+            passes: 0,
             table: None,
             log: Log::new(alloc),
         }
@@ -98,6 +103,8 @@ impl Session {
             Head::Status(status) => self.judge(line, *status, &bytes),
             Head::Left(name, place) => self.judge_file(line, name, *place, &bytes),
             Head::Gone(name) => self.judge_gone(line, name),
+            Head::Gate(passes) => self.judge_gate(line, *passes),
+            Head::Report(wanted) => self.judge_report(line, &bytes, *wanted),
             Head::Table(name, commands) => self.begin_table(name, bytes, commands),
             Head::Row(status, text) => self.row(line, bytes, *status, text),
             Head::Bad => self.log.note(line, "no line of cases"),
@@ -160,7 +167,9 @@ impl Session {
     ) -> Result<(), AllocError> {
         let mut shelf = self.files.shelf(shelf_fails)?;
         let mut sink = MemSink::new(self.alloc, sink_fails);
-        let ended = top(self.alloc, words, &mut shelf, &mut sink, &QuietGate::new());
+        let gate = CountingGate::new();
+        let ended = top(self.alloc, words, &mut shelf, &mut sink, &gate);
+        self.passes = gate.passes();
         for word in words {
             if let Some(bytes) = shelf.file(word) {
                 self.files.put(word, bytes.to_vec(self.alloc)?)?;
@@ -223,6 +232,30 @@ impl Session {
             return self.log.note(line, "the file is there");
         }
         Ok(())
+    }
+
+    // Asks how often the gate was passed in the last command.
+    fn judge_gate(&mut self, line: usize, passes: u32) -> Result<(), AllocError> {
+        let came = self.passes;
+        if came == passes {
+            return Ok(());
+        }
+        let what = format!(in self.alloc; "the gate: wanted {passes}, came {came}")?;
+        self.log.note(line, &what)
+    }
+
+    // Asks for a report, or for none from this line on.
+    fn judge_report(
+        &mut self,
+        line: usize,
+        bytes: &[u8],
+        wanted: Option<u32>,
+    ) -> Result<(), AllocError> {
+        self.log.count();
+        match report_fault(self.alloc, bytes, wanted)? {
+            Some(what) => self.log.note(line, &what),
+            None => Ok(()),
+        }
     }
 
     // Plays a row of the table.

@@ -1,7 +1,7 @@
 use crate::{RelocFault, apply};
 use elf_read::relocation::{
-    ADD32, CALL, HI20, LO12_I, LO12_S, NONE, PCREL_HI20, PCREL_LO12_I, PCREL_LO12_S, SUB32, WORD,
-    field_size, is_known,
+    ADD32, CALL, CALL_PLT, HI20, LO12_I, LO12_S, NONE, PCREL_HI20, PCREL_LO12_I, PCREL_LO12_S,
+    SUB32, WORD, field_size, is_known,
 };
 use elf_read::{Area, Reloc};
 use std::test::Fail;
@@ -103,7 +103,11 @@ fn words(rt: HostRuntime) -> Result<(), Fail> {
 // By the symbol's value and the field's address: the words of AUIPC and JALR after it, by the same linker.
 #[test]
 fn pairs(rt: HostRuntime) -> Result<(), Fail> {
-    let rows = [(CALL, 0x00100810, 0x100010, 0x00001097, 0x800080e7)];
+    let rows = [
+        (CALL, 0x00100810, 0x100010, 0x00001097, 0x800080e7),
+        (CALL_PLT, 0x80100017, 0x100018, 0x80000097, 0xfff080e7),
+        (CALL_PLT, 0x00000000, 0x100020, 0xfff00097, 0xfe0080e7),
+    ];
     for (kind, value, at, high, low) in rows {
         // auipc x1,0 and jalr x1,0(x1)
         let mut bytes = [0x97, 0, 0, 0, 0xe7, 0x80, 0, 0];
