@@ -3,7 +3,7 @@
 use crate::entry::Piece;
 use std::alloc::{AllocError, Global};
 
-// What is repeated, and how often: `WORD*COUNT`, or a word once.
+/// What is repeated, and how often: `WORD*COUNT`, or a word once. `None` where the count is no number of 32 bits.
 pub fn times(word: &str) -> Option<(&str, u32)> {
     match word.rsplit_once('*') {
         Some((part, count)) => Some((part, count.parse::<u32>().ok()?)),

@@ -8,7 +8,7 @@ use cfi_flow::{Flow, Link};
 use std::alloc::{AllocError, Global};
 
 /// How many words a check has.
-pub(crate) const CHECK_WORDS: u32 = cfi_unit::CHECK_WORDS as u32;
+pub(crate) const CHECK_WORDS: u32 = cfi_word::sizes::CHECK_WORDS as u32;
 
 /// A link of a flow, by what it tells: a list of the flow for each.
 #[derive(Clone, Copy, Debug, PartialEq, Eq)]

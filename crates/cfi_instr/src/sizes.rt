@@ -10,10 +10,10 @@ use rv_insn::Insn;
 use std::alloc::Global;
 
 /// Words of a masked load or store.
-pub const ACCESS_WORDS: u32 = cfi_unit::ACCESS_WORDS as u32;
+pub const ACCESS_WORDS: u32 = cfi_word::sizes::ACCESS_WORDS as u32;
 
 /// Words of a check.
-pub const CHECK_WORDS: u32 = cfi_unit::CHECK_WORDS as u32;
+pub const CHECK_WORDS: u32 = cfi_word::sizes::CHECK_WORDS as u32;
 
 /// Words of a long branch: the inverse branch, and a jump.
 pub const LONG_WORDS: u32 = 2;
