@@ -14,7 +14,7 @@ use crate::symbols::Symbols;
 use crate::value::{see_values, values};
 use crate::words::placed_words;
 use cfi_aux::{Module, Placed, exports};
-use cfi_values::{Items, Bytes};
+use cfi_values::{Bytes, Items};
 use std::alloc::Global;
 
 /// The module at the place `room`: its relocations are done, and its checks name the slots from `room.slot_base` on.

@@ -6,8 +6,8 @@ ghost use Rattle.cfi_place.specs.Slots.{check_at, with_slot, with_slots, HasSlot
 
 use cfi_unit::{Unit, next_unit};
 use cfi_word::map::BARY;
-use rv_insn::{Insn, LoadKind, encode};
 use rv_insn::fields::{high_of, low_of};
+use rv_insn::{Insn, LoadKind, encode};
 
 // Lets the check at a place name a slot: `lui x28,%hi(address)` and `lw x29,%lo(address)(x28)`.
 fn set_slot(words: &mut [u32], at: usize, slot: u32)

@@ -7,8 +7,8 @@ ghost use Rattle.rv_insn.specs.Fields.{high_of, low_of};
 ghost use Rattle.rv_reloc.specs.Form.{with_branch, with_jal, with_lui, with_auipc, with_jalr, with_low_i, with_low_s, fits, with_number};
 
 use crate::formula::is_reach;
-use rv_insn::fields::{high_of, low_of};
 use crate::table::Form;
+use rv_insn::fields::{high_of, low_of};
 use rv_insn::{ImmOp, Insn};
 
 // The conditional branch with the number as its offset.

@@ -1,5 +1,5 @@
-use Rattle.std.proofs.Common.{sym, ap, ◌∙◌}
-use Rattle.cfi_unit.specs.Spots.{spots_of}
+use Rattle.std.proofs.Common.{subst, ap, ◌∙◌}
+use Rattle.cfi_unit.specs.Spots.{IsReadFault, spots_of}
 use Rattle.cfi_unit.proofs.CodeLemmas.{UnitCode-one}
 use Rattle.cfi_unit.proofs.StopLemmas.{no_stop}
 use Rattle.cfi_graph.proofs.spot.spots.Goals as goal
@@ -11,7 +11,8 @@ returns-in-Ok c = λ code units.
     read.places ∙ ap (spots_of 0) (UnitCode-one c.args.words.now read.code code read.units units)
 
 -- reading units does not stop
-pub unreachable : goal.unreachable
-unreachable c =
+pub unreachable-requires : goal.unreachable-requires
+unreachable-requires c =
     let units = c.requires.units in
-    no_stop c.args.words.now units.code _ units.units c.in-Stops.ensures.fault.0
+    let stops = subst (IsReadFault c.args.words.now) c.in-Err-Stops.field-0-is c.in-Err-Stops.ensures.fault in
+    no_stop c.args.words.now units.code _ units.units stops.0

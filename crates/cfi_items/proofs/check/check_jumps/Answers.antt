@@ -14,7 +14,7 @@ returns-in-Some-first_unkind-clause-fault c =
     let t = c.args.source.now in (
       c.requires.shaped,
       subst₂ (λ (ss : List Symbol) (fs : List Function). Each t.insns (WordLeadsWell t ss fs))
-          c.as_slice-symbols.ensures.same c.as_slice-functions.ensures c.in_default.ensures.none,
+          c.as_slice-symbols.ensures c.as_slice-functions.ensures c.in_default.ensures.none,
       subst (λ (ks : List Kind). IsFirstBare t ks (4 * c.in-Some-first_unkind.w)) c.as_slice.ensures
           c.in-Some-first_unkind.ensures.some,
     )
@@ -26,7 +26,7 @@ returns-clause-ok c =
       shaped = c.requires.shaped;
       targets =
           subst₂ (λ (ss : List Symbol) (fs : List Function). Each t.insns (WordLeadsWell t ss fs))
-          c.as_slice-symbols.ensures.same c.as_slice-functions.ensures c.in_default.ensures.none;
+          c.as_slice-symbols.ensures c.as_slice-functions.ensures c.in_default.ensures.none;
       records =
           subst (λ (ks : List Kind). Each t.insns (HasRecord t ks)) c.as_slice.ensures
           c.in_default-first_unkind.ensures.none;

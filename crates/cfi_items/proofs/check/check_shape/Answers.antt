@@ -19,7 +19,7 @@ returns-in-Some-first_malformed-clause-fault c =
       c.requires.legal,
       subst₃
           (λ (ss : List Symbol) (fs : List Function) (rs : List Reloc). Each rs (IsRelocPlacedBehind t ss fs rs))
-          c.as_slice-symbols.ensures.same c.as_slice-functions.ensures c.as_slice-relocs.ensures.same placed,
+          c.as_slice-symbols.ensures c.as_slice-functions.ensures c.as_slice-relocs.ensures placed,
       subst (λ (fs : List Function). IsFirstMalformed t fs c.in-Some-first_malformed.k) c.as_slice-functions.ensures
           c.in-Some-first_malformed.ensures.some,
     )
@@ -35,7 +35,7 @@ returns-clause-ok c =
       relocs =
           subst₃
           (λ (ss : List Symbol) (fs : List Function) (rs : List Reloc). Each rs (IsRelocPlacedBehind t ss fs rs))
-          c.as_slice-symbols.ensures.same c.as_slice-functions.ensures c.as_slice-relocs.ensures.same placed;
+          c.as_slice-symbols.ensures c.as_slice-functions.ensures c.as_slice-relocs.ensures placed;
       functions =
           subst (λ (fs : List Function). Each fs (IsFormedBehind t fs)) c.as_slice-functions.ensures
           c.in_default-first_malformed.ensures.none;
