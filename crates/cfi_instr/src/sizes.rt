@@ -19,7 +19,7 @@ pub const CHECK_WORDS: u32 = cfi_word::sizes::CHECK_WORDS as u32;
 pub const LONG_WORDS: u32 = 2;
 
 /// The output has at most so many words, as the text of each object.
-pub const MAX_WORDS: u32 = elf_read::MAX_WORDS as u32;
+pub const MAX_WORDS: u32 = cfi_word::limits::MAX_WORDS as u32;
 
 /// The bytes of so many words.
 pub const MAX_BYTES: u32 = 4 * MAX_WORDS;

@@ -43,7 +43,8 @@ pub fn check_texts(alloc: Global, modules: &[Module]) -> Result<(), LinkFault>
     }
     for (number, one) in modules.iter().enumerate() {
         let words = words_of(alloc, one.object.text.as_slice())?;
-        if let Some(at) = stray_word(alloc, &words)? {
+        let stray = stray_word(alloc, &words)?;
+        if let Some(at) = stray {
             return Err(LinkFault::NotUnit(number as u32, 4 * at));
         }
     }

@@ -18,7 +18,7 @@ use Rattle.rv_reloc.specs.Table.{table, rule_of, size_by, rule_size}
 use Rattle.rv_reloc.specs.Bytes.{word_at, with_word}
 use Rattle.rv_reloc.specs.Field.{filled}
 use Rattle.rv_reloc.specs.Formula.{number_by}
-use Rattle.rv_reloc.specs.Applied as applying
+use Rattle.cfi_values.specs.Then as chain
 use Rattle.rv_reloc.specs.Applied.{filled_next, with_next, written, applied_by, applied}
 use Rattle.cfi_place.specs.declared.room.Room.{Room}
 use Rattle.cfi_place.specs.Relocated.{Areas, field_address, value_in, partner_in, size_in, applied_in, numbered, relocated_by, relocated_from}
@@ -77,7 +77,7 @@ then_ok (Ok x) f y done = (x, refl, done)
 then_ok (Err e) f y done = absurd (ok_not_err done)
 
 then_applied : {A B : Type 0} (r : Result A RelocFault) (f : A → Result B RelocFault) (y : B)
-    → applying.◌>>=◌ r f ≡ Ok y → (x : A) × (r ≡ Ok x) × (f x ≡ Ok y)
+    → chain.◌>>=◌ r f ≡ Ok y → (x : A) × (r ≡ Ok x) × (f x ≡ Ok y)
 then_applied (Ok x) f y done = (x, refl, done)
 then_applied (Err e) f y done = absurd (ok_not_err done)
 
@@ -101,7 +101,7 @@ written_kept : (rule : Rule) (number at : ℕ) (bytes new : List ℕ) → writte
     → at + rule_size rule ≤ length bytes → length new ≡ length bytes
 written_kept rule number at bytes new done within =
     let one = then_applied (filled rule.field number (word_at at bytes)) (λ word.
-    applying.◌>>=◌ (filled_next rule.next number (word_at (at + 4) bytes)) (λ next.
+    chain.◌>>=◌ (filled_next rule.next number (word_at (at + 4) bytes)) (λ next.
     Ok (with_next (at + 4) next (with_word at word bytes)))) new done in
     let two = then_applied (filled_next rule.next number (word_at (at + 4) bytes)) (λ next.
     Ok (with_next (at + 4) next (with_word at one.0 bytes))) new one.2 in

@@ -4,7 +4,7 @@ use Rattle.std.specs.Prelude.{ℕ, ◌+◌, ◌*◌, ◌/◌, List, fold, length
 use Rattle.cfi_aux.specs.declared.placed.Placed.{Placed}
 use Rattle.cfi_word.specs.declared.map.TheConstants.{FIRST_BASE, DATA_START, DATA_ALIGNMENT}
 use Rattle.cfi_place.specs.declared.room.Room.{Room}
-use Rattle.core.specs.Int.{next_multiple_of}
+use Rattle.std.specs.Int.{next_multiple_of}
 
 -- the room of the first module
 abbrev pub first_room : (code_words : ℕ) → Room
