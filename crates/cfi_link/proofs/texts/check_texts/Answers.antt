@@ -1,4 +1,4 @@
-use Rattle.std.proofs.Common.{◌≡◌, ◌∙◌, ◌/◌, ◌<◌, ◌^◌, ℕ, List, true, All, length, ap, sym, subst, arith, rules}
+use Rattle.std.proofs.Common.{Option, IfSome, IfNone, ◌≡◌, ◌∙◌, ◌/◌, ◌<◌, ◌^◌, ℕ, List, true, All, length, ap, sym, subst, arith, rules}
 use Rattle.std.proofs.lemmas.Grind.{common_steps}
 use Rattle.std.proofs.lemmas.List.{take_all}
 use Rattle.std.proofs.lemmas.List.Elements.{All-more}
@@ -30,7 +30,7 @@ overflow_mul-result c =
     let count : length c.deref.result.now ≡ length text / 4 =
     ap length (c.deref.ensures.value ∙ c.in_ok-words.ensures ∙ ap bytes_as_words c.as_slice.ensures)
     ∙ length-words_in text in
-    let stops : StopsAt c.deref.result.now c.in-Some.at = c.in-Some.ensures.some in
+    let stops : StopsAt c.deref.result.now c.in-Some.at = (subst (λ (o : Option ℕ). IfSome o (StopsAt c.deref.result.now)) c.in-Some.is c.in_ok-stray.ensures.some) in
     let within : c.in-Some.at < length c.deref.result.now = stops.within in
     omega (arith, small, count, within)
 
@@ -43,7 +43,7 @@ returns-in-Some-clause-fault c =
       earlier = some;
       here = stray_at c.args.modules.now c.loop-number.number c.in-Some.at c.index-modules-number.result
           c.loop-number-test.true c.index-modules-number.is c.loop-number.invariant
-          (subst (λ (ws : List ℕ). StopsAt ws c.in-Some.at) words c.in-Some.ensures.some);
+          (subst (λ (ws : List ℕ). StopsAt ws c.in-Some.at) words (subst (λ (o : Option ℕ). IfSome o (StopsAt c.deref.result.now)) c.in-Some.is c.in_ok-stray.ensures.some));
     }
 
 pub loop-number-preserved : goal.loop-number-preserved
@@ -51,7 +51,7 @@ loop-number-preserved c =
     let words = c.deref.ensures.value ∙ c.in_ok-words.ensures ∙ ap bytes_as_words c.as_slice.ensures in
     All-more HasUnits c.args.modules.now c.loop-number.number c.index-modules-number.result c.loop-number-test.true
     c.loop-number.invariant
-    (subst HasUnits c.index-modules-number.is (subst AreUnits words c.in_default.ensures.none))
+    (subst HasUnits c.index-modules-number.is (subst AreUnits words (subst (λ (o : Option ℕ). IfNone o (AreUnits c.deref.result.now)) c.in_default.is c.in_ok-stray.ensures.none)))
 
 pub returns-clause-ok : goal.returns-clause-ok
 returns-clause-ok c =
