@@ -15,7 +15,7 @@ use Rattle.cfi_items.specs.Words.{Words, insn_at, read_words, count_of}
 use Rattle.cfi_items.specs.Insns.{is_auipc, is_linked, is_unlinked}
 use Rattle.cfi_values.specs.Some.{holds}
 use Rattle.cfi_items.specs.Items.{is_inner, is_pair, item_of}
-use Rattle.cfi_aux.specs.Extent.{byte_end}
+use Rattle.cfi_aux.specs.Extent.{byte_end, end_of}
 use Rattle.cfi_items.specs.Functions.{byte_end_before}
 use Rattle.cfi_items.specs.inner.Functions.{runs_off_at}
 use Rattle.cfi_items.proofs.WordTests.{holds-within}
@@ -203,8 +203,8 @@ module _ (source : Module) (placed : Placed) (s : IsFrom source placed) where
         ap (λ (y : Spot). y.unit) x.2 in
         let first : g.first ≡ place source placed s (f.offset / 4) =
         ap (λ (y : PlacedFunction). y.first) from ∙ made-first source placed s f (byte_end_before functions k) i in
-        let end : verify.end_of g ≡ place source placed s (byte_end f / 4) =
-        ap verify.end_of from ∙ made-end source placed s f (byte_end_before functions k) i in
+        let end : end_of g ≡ place source placed s (byte_end f / 4) =
+        ap end_of from ∙ made-end source placed s f (byte_end_before functions k) i in
         let below : last + 1 ≤ byte_end f / 4 =
         omega (arith, item-below t last_word, i.some, i.begins.whole, i.ends.whole) in
         let words =

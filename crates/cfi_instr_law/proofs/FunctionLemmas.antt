@@ -13,7 +13,7 @@ use Rattle.cfi_aux.specs.declared.placed.PlacedFunction.{PlacedFunction}
 use Rattle.cfi_aux.specs.declared.records.Function.{Function}
 use Rattle.cfi_items.specs.Words.{Words, read_words, count_of}
 use Rattle.cfi_items.specs.Items.{is_inner}
-use Rattle.cfi_aux.specs.Extent.{byte_end}
+use Rattle.cfi_aux.specs.Extent.{byte_end, end_of}
 use Rattle.cfi_items.specs.Functions.{byte_end_before}
 use Rattle.cfi_instr.specs.Sizes.{size_at, words_before, offsets_of}
 use Rattle.cfi_instr.specs.Moves.{moved_function}
@@ -90,7 +90,7 @@ module _ (source : Module) (placed : Placed) (s : IsFrom source placed) where
   made-first f before is =
       let begins = bound-moved t s.long f.offset is.begins in omega (arith, begins)
 
-  pub made-end : (f : Function) (before : ℕ) → IsFormed t before f → verify.end_of (made f) ≡ place (byte_end f / 4)
+  pub made-end : (f : Function) (before : ℕ) → IsFormed t before f → end_of (made f) ≡ place (byte_end f / 4)
   made-end f before is =
       let begins = bound-moved t s.long f.offset is.begins in
       let ends = bound-moved t s.long (byte_end f) is.ends in
@@ -150,7 +150,7 @@ module _ (source : Module) (placed : Placed) (s : IsFrom source placed) where
       let before = byte_end_before functions k in
       let first : g.first ≡ place (f.offset / 4) =
       ap (λ (x : PlacedFunction). x.first) from.2 ∙ made-first f before is in
-      let end : verify.end_of g ≡ place (byte_end f / 4) = ap verify.end_of from.2 ∙ made-end f before is in
+      let end : end_of g ≡ place (byte_end f / 4) = ap end_of from.2 ∙ made-end f before is in
       let start : verify.end_before placed.functions k ≡ place (before / 4) = made-before k (omega (arith, within)) in
       let longer : f.offset / 4 + 1 ≤ byte_end f / 4 = omega (arith, is.some, is.begins.whole, is.ends.whole) in
       record {

@@ -13,7 +13,7 @@ use Rattle.cfi_aux.specs.declared.records.Kind.TheVariants.{Call, Tail, Return, 
 use Rattle.cfi_items.specs.Words.{Words, read_words, count_of}
 use Rattle.cfi_items.specs.Items.{is_inner}
 use Rattle.cfi_items.specs.inner.Items.{is_item_at}
-use Rattle.cfi_aux.specs.Extent.{byte_end}
+use Rattle.cfi_aux.specs.Extent.{byte_end, LiesIn}
 use Rattle.cfi_items.specs.inner.Functions.{covers, are_together, is_own_item}
 use Rattle.cfi_items.specs.Functions.{byte_end_before}
 use Rattle.cfi_items.specs.Jumps.{ordinal_of}
@@ -40,7 +40,7 @@ module _ (source : Module) (placed : Placed) (s : IsFrom source placed) where
 
   -- where a placed function lies
   lies-in : (k : ℕ) (f : Function) → slice_get functions k ≡ Some f → (w : ℕ) → w < count_of t → is_inner t w ≡ false
-      → f.offset ≤ 4 * w → 4 * w < byte_end f → verify.LiesIn (made source placed s f) (place source placed s w)
+      → f.offset ≤ 4 * w → 4 * w < byte_end f → LiesIn (made source placed s f) (place source placed s w)
   lies-in k f is w inside outer low high =
       let i = formed source placed s k f is in
       let first = made-first source placed s f (byte_end_before functions k) i in

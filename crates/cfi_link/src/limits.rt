@@ -7,7 +7,9 @@ ghost use Rattle.cfi_link.specs.inner.Capped.{capped_sizes, with_sizes};
 
 use crate::start::gap;
 use cfi_aux::Module;
-use cfi_word::limits::{MAX_BRANCHES, MAX_FUNCTIONS, MAX_NODES, MAX_DATA, MAX_RELOCS, MAX_SYMBOLS, MAX_WORDS};
+use cfi_word::limits::{
+    MAX_BRANCHES, MAX_DATA, MAX_FUNCTIONS, MAX_NODES, MAX_RELOCS, MAX_SYMBOLS, MAX_WORDS,
+};
 use elf_read::Limit;
 
 /// How much modules have together.
