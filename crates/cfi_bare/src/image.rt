@@ -7,10 +7,10 @@ ghost use Rattle.cfi_bare.specs.declared.modules.TheConstants.{MAX_WORDS};
 ghost use Rattle.cfi_word.specs.declared.limits.TheConstants.{MAX_CODE_WORDS};
 ghost use Rattle.cfi_word.specs.Table.{slots_of};
 
-use cfi_word::{FIELD_MAX, Image, Layout};
 use cfi_values::Numbers;
 use cfi_word::limits::MAX_CODE_WORDS;
 use cfi_word::map::FIRST_BASE;
+use cfi_word::{FIELD_MAX, Image, Layout};
 use std::alloc::{AllocError, Global};
 
 // The number of branch slots of the largest table.

@@ -5,9 +5,9 @@ ghost use Rattle.cfi_bare.specs.File.{AreWords};
 ghost use Rattle.cfi_bare.specs.Module.{bare_types, bare_functions, bare_object, bare_module, IsPlacedFile};
 
 use cfi_aux::{Function, Kind, Module, Placed, Records};
-use cfi_values::{Items, Bytes};
 use cfi_place::{Room, Symbols as Names, place};
 use cfi_types::{FUNC, TypeNode, TypeTable, VOID};
+use cfi_values::{Bytes, Items};
 use cfi_word::limits::MAX_CODE_WORDS;
 use cfi_word::map::{DATA_START, FIRST_BASE};
 use elf_read::{Name, Object, Relocs, Symbols};

@@ -5,8 +5,8 @@ ghost use Rattle.cfi_class.specs.Labels.{AreNumbers, AreOrderedBySlot, AreLabels
 
 use crate::numbering::{number_slots, number_words};
 use crate::sweep::{forest_of, used_slots};
-use cfi_word::{Edge, FIELD_MAX, Labels, Layout};
 use cfi_values::Numbers;
+use cfi_word::{Edge, FIELD_MAX, Labels, Layout};
 use std::alloc::{AllocError, Global};
 
 /// The class number of each of so many code words and branch slots, classes in the order of their least slots.

@@ -10,8 +10,8 @@ ghost use Rattle.cfi_commands.specs.Files.{ArePlacedFiles, IsFilesFault, IsSerie
 use crate::fault::FilesFault;
 use crate::modules::read_modules;
 use cfi_aux::Module;
-use cfi_series::{JoinFault, Series};
 use cfi_plan::Plan;
+use cfi_series::{JoinFault, Series};
 use cfi_values::Bytes;
 use cfi_word::Layout;
 use std::alloc::Global;

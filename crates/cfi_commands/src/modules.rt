@@ -5,7 +5,7 @@ ghost use Rattle.cfi_commands.specs.Modules.{AreModuleFiles, IsModulesFault, IsS
 
 use crate::reading::{FileFault, read_module};
 use cfi_aux::Module;
-use cfi_values::{Items, Bytes};
+use cfi_values::{Bytes, Items};
 use std::alloc::{AllocFailed, Global};
 
 /// Why several files are not modules: the first of them that is none.

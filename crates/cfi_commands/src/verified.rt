@@ -29,7 +29,11 @@ fn put_line(text: &mut Vec<u8>, one: &PlanModule, placed: &Placed) -> Result<(),
 }
 
 // The lines of the modules.
-fn module_lines(alloc: Global, modules: &[PlanModule], placed: &[Placed]) -> Result<Vec<u8>, AllocError>
+fn module_lines(
+    alloc: Global,
+    modules: &[PlanModule],
+    placed: &[Placed],
+) -> Result<Vec<u8>, AllocError>
     requires { length placed.now ≡ length modules.now }
     ensures { IfOk result (λ text. text.items ≡ module_lines modules.now placed.now) }
 {

@@ -5,8 +5,8 @@ ghost use Rattle.cfi_word.specs.declared.limits.TheConstants.{MAX_VERSIONS};
 ghost use Rattle.cfi_model.specs.Run.{finish_of};
 ghost use Rattle.cfi_fixed.specs.Fixed.{CanRunOver, HasRunOver, MayFind, table_word};
 
-use cfi_word::{Image, Word};
 use cfi_word::limits::MAX_VERSIONS;
+use cfi_word::{Image, Word};
 use rv_guest::{Act, Guest, Wait};
 
 // The class at a place of a list, 0 past its end.

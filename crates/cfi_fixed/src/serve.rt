@@ -3,8 +3,8 @@ ghost use Rattle.cfi_model.specs.Log.{last_policy};
 ghost use Rattle.cfi_model.specs.Run.{serve_of};
 ghost use Rattle.cfi_fixed.specs.Bare.{bare_cause, bare_reply};
 
-use cfi_word::services::{NO_FUNCTION, NO_MODULE, EXIT, OPEN, PUT, TOO_MANY};
 use cfi_word::limits::MAX_OPENS;
+use cfi_word::services::{EXIT, NO_FUNCTION, NO_MODULE, OPEN, PUT, TOO_MANY};
 use rv_guest::{Answer, Guest, Wait};
 
 // Why an open is refused.

@@ -4,8 +4,8 @@ ghost use Rattle.cfi_model.specs.Data.{zeroes, load_width, store_width, loaded, 
 ghost use Rattle.cfi_model.specs.Data.{byte_at, half_at, word_at, with_byte, with_half, with_data_word, sign_extended};
 ghost use Rattle.cfi_word.specs.declared.map.TheConstants.{DATA_START, DATA_BYTES};
 
-use cfi_word::map::{DATA_BYTES, DATA_START};
 use cfi_unit::Fill;
+use cfi_word::map::{DATA_BYTES, DATA_START};
 use rv_insn::{LoadKind, StoreKind};
 use std::alloc::{AllocError, Global};
 use std::marker::Model;

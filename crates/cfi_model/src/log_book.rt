@@ -2,8 +2,8 @@ ghost use Rattle.std.specs.Prelude.{◌≡◌, ℕ, ◌+◌, ◌<◌, ◌≤◌,
 ghost use Rattle.cfi_model.specs.Log.{opens, last_policy, last_picks, last_of, is_pick_of, picked};
 ghost use Rattle.cfi_word.specs.declared.limits.TheConstants.{MAX_OPENS, MAX_POLICY};
 
-use cfi_word::limits::MAX_LOG;
 use cfi_unit::Log;
+use cfi_word::limits::MAX_LOG;
 use std::alloc::{AllocError, Global};
 use std::marker::Model;
 

@@ -10,12 +10,12 @@ ghost use Rattle.cfi_unit.specs.declared.unit.TheConstants.{FREE_REGISTERS};
 use crate::data::PrivateData;
 use crate::log_book::LogBook;
 use crate::output::Output;
-use cfi_word::Edge;
-use cfi_word::map::STACK;
-use cfi_word::services::ARGUMENT;
 use crate::step::PlainStep;
 use cfi_unit::laws::unit_within;
 use cfi_unit::{Answer, FREE_REGISTERS, Fill, Log, Stop, Unit, next_unit};
+use cfi_word::Edge;
+use cfi_word::map::STACK;
+use cfi_word::services::ARGUMENT;
 use std::alloc::{AllocError, Global};
 use std::marker::Model;
 

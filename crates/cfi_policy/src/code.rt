@@ -2,8 +2,8 @@ ghost use Rattle.std.specs.Prelude.{◌≡◌, ◌⊎◌, ℕ, ◌+◌, ◌<◌,
 ghost use Rattle.cfi_policy.specs.Code.{LieApart, IsCodeOf};
 
 use cfi_aux::Placed;
-use cfi_word::Layout;
 use cfi_values::Numbers;
+use cfi_word::Layout;
 use std::alloc::{AllocError, Global};
 
 // Puts the words into the code, from this place on.

@@ -7,9 +7,9 @@ ghost use Rattle.cfi_graph.specs.HandMade.{function_of, placed_of, void_and_func
 ghost use Rattle.cfi_policy.specs.Image.{HaveImage};
 
 use cfi_aux::{Kind, Placed, PlacedFunction};
-use cfi_values::{Items, Bytes};
 use cfi_types::{FUNC, TypeNode, TypeTable, VOID};
 use cfi_unit::{Unit, spell};
+use cfi_values::{Bytes, Items};
 use elf_read::Name;
 use std::alloc::{AllocError, Global};
 

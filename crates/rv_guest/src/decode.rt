@@ -6,8 +6,8 @@ ghost use Rattle.rv_insn.specs.Fields.{imm_i_at};
 ghost use Rattle.rv_insn.specs.Rows.{imm_funct7};
 ghost use Rattle.rv_insn.specs.InsnOf.{insn_of, row_of, imm_value};
 
-use rv_insn::fields::imm_i;
 use rv_insn::ImmOp;
+use rv_insn::fields::imm_i;
 
 /// The opcode of a word, bits 0 to 6: the rows of the table are told by it.
 #[inline(always)]

@@ -9,10 +9,10 @@ ghost use Rattle.cfi_model.specs.Log.{opens};
 ghost use Rattle.cfi_word.specs.declared.limits.TheConstants.{MAX_OPENS};
 ghost use Rattle.cfi_model.specs.Plain.{unit_of};
 
-use cfi_word::limits::{MAX_OPENS, MAX_OUTPUT};
-use cfi_word::services::{ARGUMENT, CAUSE, EXIT, OPEN, PUT, QUIET, REFUSED, SERVICE, TOO_MANY};
 use crate::plain::Plain;
 use cfi_unit::{Answer, Stop};
+use cfi_word::limits::{MAX_OPENS, MAX_OUTPUT};
+use cfi_word::services::{ARGUMENT, CAUSE, EXIT, OPEN, PUT, QUIET, REFUSED, SERVICE, TOO_MANY};
 
 impl Plain {
     // Runs a service unit: an open waits for its answer, unless no more are logged.

@@ -12,13 +12,13 @@ ghost use Rattle.cfi_word.specs.declared.map.TheConstants.{DATA_BYTES};
 ghost use Rattle.cfi_word.specs.declared.limits.TheConstants.{MAX_POLICY};
 
 use crate::data::{load_width, store_width};
+use crate::plain::Plain;
+use cfi_unit::{FREE_REGISTERS, Stop, Unit};
+use cfi_word::Edge;
+use cfi_word::map::{CODE_BYTES, DATA_BYTES, DATA_START};
 use cfi_word::sizes::{
     ACCESS_WORDS, CHECK_WORDS, FORBIDDEN_STEPS, MISALIGNED_STEPS, OUTSIDE_STEPS, PASSED_STEPS,
 };
-use cfi_word::Edge;
-use cfi_word::map::{CODE_BYTES, DATA_BYTES, DATA_START};
-use crate::plain::Plain;
-use cfi_unit::{FREE_REGISTERS, Stop, Unit};
 use rv_alu::{imm_op_value, is_taken, op_value};
 use rv_insn::{Insn, LoadKind, StoreKind};
 

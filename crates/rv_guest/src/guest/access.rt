@@ -9,15 +9,15 @@ ghost use Rattle.cfi_model.specs.Run.{finish_of};
 ghost use Rattle.cfi_word.specs.declared.map.TheConstants.{DATA_START, DATA_BYTES, TARY, CODE_BYTES};
 ghost use Rattle.rv_guest.specs.Guest.{MayLoad};
 
-use rv_insn::rows::{load_of, store_of};
 use crate::guest::Guest;
 use crate::guest::compute::is_own;
 use cfi_model::{Act, Wait, load_width, store_width};
-use cfi_word::Word;
-use cfi_word::map::{CODE_BYTES, DATA_BYTES, TARY, BARY, DATA_START};
-use cfi_word::sizes::SLOTS;
 use cfi_unit::Stop;
+use cfi_word::Word;
+use cfi_word::map::{BARY, CODE_BYTES, DATA_BYTES, DATA_START, TARY};
+use cfi_word::sizes::SLOTS;
 use rv_insn::fields::{fields_of, imm_i, imm_s};
+use rv_insn::rows::{load_of, store_of};
 use rv_insn::{LoadKind, StoreKind};
 
 impl Guest {

@@ -9,12 +9,12 @@ ghost use Rattle.cfi_unit.specs.Free.{is_reserved};
 ghost use Rattle.cfi_model.specs.Begin.{begin_by, act_by, ran, units_of, next};
 
 use crate::decode::imm_of;
-use rv_insn::rows::{imm_op_of, op_of};
 use crate::guest::Guest;
 use cfi_model::Act;
 use cfi_unit::FREE_REGISTERS;
 use rv_alu::{imm_op_value, op_value};
 use rv_insn::fields::{fields_of, upper};
+use rv_insn::rows::{imm_op_of, op_of};
 
 /// Whether the register is one of the instrumentation's, x28 to x31.
 #[inline(always)]

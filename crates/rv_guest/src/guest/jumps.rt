@@ -8,16 +8,16 @@ ghost use Rattle.cfi_unit.specs.Free.{is_reserved};
 ghost use Rattle.cfi_model.specs.Begin.{begin_by, act_by, picked_by, judged, ran, units_of};
 ghost use Rattle.rv_guest.specs.Guest.{KeepsPolicy};
 
-use rv_insn::rows::cond_of;
 use crate::guest::Guest;
 use crate::guest::compute::is_own;
 use cfi_model::{Act, LogBook, Wait};
+use cfi_unit::Stop;
 use cfi_word::Word;
 use cfi_word::services::SERVICE;
-use cfi_unit::Stop;
 use rv_alu::is_taken;
 use rv_insn::fields::{fields_of, imm_b, imm_i, imm_j};
 use rv_insn::opcode;
+use rv_insn::rows::cond_of;
 
 // Logs a pick under the policy of the kept Tary word, if one is kept.
 #[inline(always)]

@@ -8,8 +8,8 @@ ghost use Rattle.cfi_model.specs.Raw.{reg};
 
 use crate::guest::Guest;
 use cfi_model::Wait;
-use cfi_word::services::ARGUMENT;
 use cfi_unit::{Log, Stop};
+use cfi_word::services::ARGUMENT;
 
 impl Guest {
     /// The guest's number.

@@ -8,9 +8,9 @@ ghost use Rattle.rv_guest.specs.Guest.{MayAnswer, WaitsElse, WaitsIn, is_quiet, 
 
 use crate::guest::Guest;
 use cfi_model::Wait;
+use cfi_unit::{Answer, Stop};
 use cfi_word::limits::MAX_OUTPUT;
 use cfi_word::services::{ARGUMENT, CAUSE, EXIT, PUT, QUIET, REFUSED, TOO_MANY};
-use cfi_unit::{Answer, Stop};
 
 impl Guest {
     /// Ends an open with its answer.
