@@ -8,8 +8,8 @@ use Rattle.cfi_commands.specs.Verified.{HasItsChecks, module_lines}
 use Rattle.cfi_commands.proofs.verified.verified_text.Goals as goal
 
 -- there is a placed module for each of the plan
-pub lines_of-requires : goal.lines_of-requires
-lines_of-requires c =
+pub module_lines-requires : goal.module_lines-requires
+module_lines-requires c =
     let are = c.in_ok-series.ensures.ok in
     omega (
       arith,
@@ -29,7 +29,7 @@ returns-clause-ok c =
       are = c.in_ok-series.ensures.ok;
       checks = All-weaker IsShaped HasItsChecks (λ m shaped. (shaped.0, shaped.1.units, shaped.1.checks)) placed
           c.modules.ensures.graph.apart.shaped;
-      spelled = c.in_ok-lines_of.ensures
+      spelled = c.in_ok-module_lines.ensures
           ∙ ap (λ (modules : List PlanModule). module_lines modules c.modules.result.now) c.as_slice.ensures
           ∙ ap (λ (xs : List Placed). module_lines c.args.plan.now.modules xs) c.modules.ensures.value;
     }
