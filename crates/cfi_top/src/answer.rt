@@ -4,9 +4,9 @@ ghost use Rattle.cfi_top.specs.Answer.{output_of, refused_line, unread_line, unr
 
 use crate::reading::{Cause, Unread};
 use crate::text::bare_text;
-use cfi_values::{Text, Bytes};
 use cfi_commands::{Refusal, put_refusal};
 use cfi_report::GuestPart;
+use cfi_values::{Bytes, Text};
 use std::alloc::{AllocError, Global};
 
 /// What a command comes to, whatever the shelf and the sink do with it.

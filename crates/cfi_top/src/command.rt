@@ -3,11 +3,11 @@ ghost use Rattle.cfi_args.specs.Words.{IsOperand, texts};
 ghost use Rattle.cfi_top.specs.Command.{IsReading, inputs_of, more_of};
 ghost use Rattle.cfi_top.specs.Reading.{IsShort};
 
-use cfi_word::limits::MAX_INPUTS;
 use crate::names::{copies_of, named_files, names_of, one_name, text_of};
 use crate::reading::only;
 use cfi_args::split_words;
-use cfi_values::{Items, Text, Bytes};
+use cfi_values::{Bytes, Items, Text};
+use cfi_word::limits::MAX_INPUTS;
 use std::alloc::{AllocError, Global};
 
 /// A command of the program, with its operands, which are names of files.

@@ -9,9 +9,9 @@ ghost use Rattle.cfi_top.specs.Reading.{IsShort};
 
 use crate::answer::Answer;
 use crate::refused::{files_refused, plan_refused};
-use cfi_plan::read_plan;
-use cfi_values::{Text, Bytes};
 use cfi_commands::{graph_text, verified_text};
+use cfi_plan::read_plan;
+use cfi_values::{Bytes, Text};
 use std::alloc::{AllocError, Global};
 
 /// Verifies the modules of a plan, in order.

@@ -3,7 +3,7 @@ ghost use Rattle.cfi_top.specs.Reading.{HasRead, IsUnread, IsFound};
 
 use crate::names::text_of;
 use cfi_io::{Shelf, ShelfFault};
-use cfi_values::{Items, Text, Bytes};
+use cfi_values::{Bytes, Items, Text};
 use std::alloc::{AllocError, Global};
 
 /// Why a file is not read.

@@ -6,9 +6,9 @@ ghost use Rattle.cfi_top.specs.Refused.{IsAmong, IsFileRefused, IsFilesRefused, 
 
 use crate::answer::Answer;
 use crate::names::text_of;
+use cfi_commands::{FileFault, FilesFault, Refusal};
 use cfi_plan::{PlanFault, PlanModule};
 use cfi_values::Text;
-use cfi_commands::{FileFault, FilesFault, Refusal};
 use std::alloc::{AllocError, Global};
 
 /// The refusal of a file that is no module.

@@ -2,9 +2,9 @@ ghost use Rattle.std.specs.Prelude.{◌≡◌, IfOk, codes};
 ghost use Rattle.cfi_top.specs.Text.{bare_module, bare_report, bare_text};
 
 use crate::names::text_of;
-use cfi_values::{Items, Text};
 use cfi_plan::ModuleLine;
 use cfi_report::{GuestPart, Report, write_report};
+use cfi_values::{Items, Text};
 use cfi_word::map::{DATA_START, FIRST_BASE};
 use std::alloc::{AllocError, Global};
 

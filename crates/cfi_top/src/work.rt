@@ -13,12 +13,12 @@ use crate::reading::{only, read_files};
 use crate::refused::file_refused;
 use crate::run::run_bare;
 use cfi_bare::accept;
-use cfi_io::{Gate, Shelf};
-use cfi_values::{Text, Bytes};
-use cfi_word::limits::FUEL;
 use cfi_commands::{
     InstrumentFault, LinkingFault, Refusal, assembled, instrumented, linked, listing_of,
 };
+use cfi_io::{Gate, Shelf};
+use cfi_values::{Bytes, Text};
+use cfi_word::limits::FUEL;
 use elf_read::ElfFault;
 use rv_asm::AsmFault;
 use std::alloc::{AllocError, Global};
