@@ -1,5 +1,6 @@
 -- That a series can take the modules of files, one after the other, and their first fault.
-use Rattle.std.proofs.Common.{◌≡◌, ℕ, ◌+◌, ◌<◌, ◌++◌, List, [], ◌∷◌, length, take, get_or, Some, All, ap, sym, subst, ◌∙◌, arith}
+use Rattle.std.proofs.Common.{◌≡◌, ℕ, ◌+◌, ◌<◌, ◌++◌, List, [], ◌∷◌, length, take, get_or, Option, Some, None, All, refl, ap, sym, subst, ◌∙◌, arith}
+use Rattle.std.specs.Prelude.{slice_get, IsSomeAnd}
 use Rattle.std.proofs.lemmas.List.{take_more}
 use Rattle.std.proofs.lemmas.List.Elements.{All-nil, All-cons, All-head, All-tail}
 use Rattle.std.proofs.lemmas.Option.{slice_get-get_or}
@@ -9,7 +10,7 @@ use Rattle.cfi_aux.specs.declared.modules.Module.{Module}
 use Rattle.cfi_aux.specs.Sound.{IsSoundModule}
 use Rattle.cfi_aux.proofs.JoinedLists.{data_length}
 use Rattle.cfi_commands.specs.Reading.{IsModuleFile}
-use Rattle.cfi_commands.specs.Modules.{AreModuleFiles}
+use Rattle.cfi_commands.specs.Modules.{AreModuleFiles, IsFirstBadFile, IsModulesFault}
 use Rattle.cfi_commands.proofs.ListingLemmas.{short_text}
 use Rattle.cfi_commands.proofs.InstrumentingLemmas.{few_relocs}
 use Rattle.cfi_aux.specs.declared.placed.Placed.{Placed}
@@ -18,9 +19,17 @@ use Rattle.cfi_series.specs.declared.fault.JoinFault.TheVariants as joins
 use Rattle.cfi_series.specs.Order.{Joins, AreInOrder, IsJoinFault, IsFirstRefused}
 use Rattle.cfi_series.specs.Series.{Series, HasJoined, CanBeTaken}
 use Rattle.cfi_series.proofs.OrderLemmas.{order_more as in_order_more}
-use Rattle.cfi_commands.specs.declared.fault.FilesFault.{FilesFault}
-use Rattle.cfi_commands.specs.declared.fault.FilesFault.TheVariants as faults
-use Rattle.cfi_commands.specs.Files.{IsFilesFault, IsSeriesFault, fault_at}
+use Rattle.cfi_commands.specs.declared.fault.CommandFault.{CommandFault}
+use Rattle.cfi_commands.specs.declared.fault.CommandFault.TheVariants.{File, Together, Memory}
+use Rattle.cfi_commands.specs.declared.refusal.Refusal.{Refusal}
+use Rattle.cfi_commands.specs.declared.refusal.Refusal.TheVariants.{Place, Verify}
+use Rattle.cfi_commands.specs.Files.{IsFilesFault}
+use Rattle.cfi_commands.specs.inner.Order.{IsSeriesFault, fault_at}
+
+-- what no item has does not hold of one that is there
+pub some_stands : {X : Type 0} (P : X → Type 0) (found : Option X) → ((x : X) → P x → ⊥) → IsSomeAnd found P → ⊥
+some_stands P None never some = some
+some_stands P (Some x) never some = never x some
 
 -- what was read of a file is small
 pub taken : (bytes : List ℕ) (m : Module) → IsModuleFile bytes m → IsSoundModule m → CanBeTaken m
@@ -80,16 +89,30 @@ module _ (code_words : ℕ) (modules : List Module) (k : ℕ) (m : Module) (with
 
   pub series_fault : (fault : JoinFault) → IsJoinFault series.code_words series.placed m fault
       → IsSeriesFault code_words modules (fault_at k fault)
-  series_fault (joins.Place fault) why = first_refused (joins.Place fault) why
-  series_fault (joins.Verify fault) why = first_refused (joins.Verify fault) why
-  series_fault joins.Memory why = tt
+  series_fault fault why = record { number = k; why = fault; is = refl; first = first_refused fault why }
 
--- the first fault of the files is one of their modules
-pub files_fault : (code_words : ℕ) (files : List (List ℕ)) (modules : List Module) (fault : FilesFault)
-    → AreModuleFiles files modules → IsSeriesFault code_words modules fault → IsFilesFault code_words files fault
-files_fault code_words files modules (faults.File k fault) read first = absurd first
-files_fault code_words files modules (faults.Place k fault) read first =
-    record { modules = modules; read = read; refused = first }
-files_fault code_words files modules (faults.Verify k fault) read first =
-    record { modules = modules; read = read; refused = first }
-files_fault code_words files modules faults.Memory read first = tt
+module _ (code_words : ℕ) (files : List (List ℕ)) where
+  -- a file that is no module is at fault
+  not_file : (number : ℕ) (refusal : Refusal) → IsFirstBadFile files number refusal
+      → IsFilesFault code_words files (File number refusal)
+  not_file number (Place fault) bad = absurd (some_stands _ (slice_get files number) (λ bytes is. is) bad.here)
+  not_file number (Verify fault) bad = absurd (some_stands _ (slice_get files number) (λ bytes is. is) bad.here)
+  not_file number refusal bad = bad
+
+  pub modules_as_files : (fault : CommandFault) → IsModulesFault files fault → IsFilesFault code_words files fault
+  modules_as_files (File number refusal) bad = not_file number refusal bad
+  modules_as_files (Together fault) bad = absurd bad
+  modules_as_files Memory bad = tt
+
+  -- the first fault of the files is one of their modules
+  module _ (modules : List Module) (read : AreModuleFiles files modules) where
+    refused_as : (number : ℕ) (why : JoinFault) → IsFirstRefused code_words modules number why
+        → IsFilesFault code_words files (fault_at number why)
+    refused_as number (joins.Place fault) first = record { modules = modules; read = read; refused = first }
+    refused_as number (joins.Verify fault) first = record { modules = modules; read = read; refused = first }
+    refused_as number joins.Memory first = tt
+
+    pub series_as_files : (fault : CommandFault) → IsSeriesFault code_words modules fault
+        → IsFilesFault code_words files fault
+    series_as_files fault bad =
+        subst (IsFilesFault code_words files) (sym bad.is) (refused_as bad.number bad.why bad.first)

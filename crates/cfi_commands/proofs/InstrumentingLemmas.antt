@@ -9,7 +9,13 @@ use Rattle.elf_read.specs.declared.object.Object.{Object}
 use Rattle.elf_read.specs.declared.object.Reloc.{Reloc}
 use Rattle.cfi_aux.specs.declared.modules.Module.{Module}
 use Rattle.cfi_aux.proofs.JoinedLists.{joined_length}
-use Rattle.cfi_commands.specs.Reading.{IsModuleFile}
+use Rattle.cfi_commands.specs.declared.fault.CommandFault.{CommandFault}
+use Rattle.cfi_commands.specs.declared.fault.CommandFault.TheVariants.{File, Together, Memory}
+use Rattle.cfi_commands.specs.declared.refusal.Refusal.{Refusal}
+use Rattle.cfi_commands.specs.declared.refusal.Refusal.TheVariants.{Instr}
+use Rattle.cfi_commands.specs.Fault.{IsOfFile}
+use Rattle.cfi_commands.specs.Instrumenting.{IsInstrumentFault}
+use Rattle.cfi_commands.specs.Reading.{IsModuleFile, IsFileFault}
 use Rattle.cfi_commands.proofs.ListingLemmas.{short_text as short_object}
 
 pub short_text : (bytes : List ℕ) (m : Module) → IsModuleFile bytes m → length m.object.text < 2 ^ 32
@@ -53,3 +59,15 @@ few_relocs bytes m file =
     ap (λ (xs : List Reloc). length xs) file.is.kept.relocs
     ∙ joined_length (relocs_of bytes) (kept_count bytes) (section_count bytes) (λ s _. section_length bytes s) in
     omega (arith, same, kept, file.is.sound.relocs)
+
+module _ (bytes : List ℕ) where
+  -- a fault of the file is one of instrumenting it
+  file_as : (refusal : Refusal) → IsFileFault bytes refusal → IsInstrumentFault bytes refusal
+  file_as (Instr fault) is = absurd is
+  file_as refusal is = is
+
+  pub module_as_instrument : (fault : CommandFault) → IsOfFile 0 (IsFileFault bytes) fault
+      → IsOfFile 0 (IsInstrumentFault bytes) fault
+  module_as_instrument (File number refusal) is = (is.0, file_as refusal is.1)
+  module_as_instrument (Together fault) is = absurd is
+  module_as_instrument Memory is = tt

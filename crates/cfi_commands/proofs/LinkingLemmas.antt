@@ -6,7 +6,10 @@ use Rattle.cfi_aux.specs.declared.records.Records.{Records}
 use Rattle.cfi_aux.specs.Records.{AreRecords, CanBeWritten}
 use Rattle.cfi_aux.specs.Sound.{IsSoundModule}
 use Rattle.cfi_link.specs.Linked.{AreModules}
-use Rattle.cfi_commands.specs.Modules.{AreModuleFiles}
+use Rattle.cfi_commands.specs.declared.fault.CommandFault.{CommandFault}
+use Rattle.cfi_commands.specs.declared.fault.CommandFault.TheVariants.{File, Together, Memory}
+use Rattle.cfi_commands.specs.Linking.{IsLinkingFault}
+use Rattle.cfi_commands.specs.Modules.{AreModuleFiles, IsModulesFault}
 use Rattle.cfi_commands.proofs.InstrumentingLemmas.{short_text}
 use Rattle.cfi_commands.proofs.ModulesLemmas.{same_count, each_of}
 
@@ -22,3 +25,10 @@ linkable files modules are few sound written = record {
   written = each_of (λ m. CanBeWritten m.records) (λ bytes m file. written m.types m.records file.whole.parts.good)
       files modules are;
 }
+
+-- a file that is no module is at fault
+pub modules_as_linking : (files : List (List ℕ)) (fault : CommandFault) → IsModulesFault files fault
+    → IsLinkingFault files fault
+modules_as_linking files (File number refusal) bad = bad
+modules_as_linking files (Together fault) bad = absurd bad
+modules_as_linking files Memory bad = tt

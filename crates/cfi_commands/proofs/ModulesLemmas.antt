@@ -1,15 +1,16 @@
 -- Modules that are read one after the other.
 use Rattle.std.proofs.Common.{◌≡◌, ◌∙◌, ◌<◌, ◌+◌, ℕ, suc, List, [], ◌∷◌, ◌++◌, length, take, get_or, All, Option, Some, refl, sym, ap, subst, arith, add-one}
-use Rattle.std.specs.Prelude.{◌≢◌, slice_get, IsSomeAnd}
+use Rattle.std.specs.Prelude.{slice_get, IsSomeAnd}
 use Rattle.std.proofs.Math.Seq.{take-suc}
-use Rattle.std.proofs.lemmas.List.{length-take-le}
 use Rattle.std.proofs.lemmas.Option.{slice_get_read}
 use Rattle.std.proofs.lemmas.List.Elements.{All-nil, All-cons}
 use Rattle.cfi_aux.specs.declared.modules.Module.{Module}
-use Rattle.cfi_commands.specs.declared.reading.FileFault.{FileFault}
-use Rattle.cfi_commands.specs.declared.reading.FileFault.TheVariants.{Memory}
+use Rattle.cfi_commands.specs.declared.fault.CommandFault.{CommandFault}
+use Rattle.cfi_commands.specs.declared.fault.CommandFault.TheVariants.{File, Together, Memory}
+use Rattle.cfi_commands.specs.declared.refusal.Refusal.{Refusal}
+use Rattle.cfi_commands.specs.Fault.{IsOfFile}
 use Rattle.cfi_commands.specs.Reading.{IsModuleFile, IsFileFault}
-use Rattle.cfi_commands.specs.Modules.{AreModuleFiles, IsFirstBadFile}
+use Rattle.cfi_commands.specs.Modules.{AreModuleFiles, IsFirstBadFile, IsModulesFault}
 
 -- one more file at the end
 push : (files : List (List ℕ)) (modules : List Module) (bytes : List ℕ) (m : Module) → AreModuleFiles files modules
@@ -46,19 +47,22 @@ each_of P holds [] (m ∷ modules) are = absurd are
 each_of P holds (bytes ∷ files) (m ∷ modules) are =
     All-cons P m modules (holds bytes m are.0) (each_of P holds files modules are.1)
 
--- the next file is the first that is no module
-pub bad_at : (files : List (List ℕ)) (modules : List Module) (at number : ℕ) (item bytes : List ℕ) (fault : FileFault)
-    → at < length files → item ≡ get_or files at item → bytes ≡ item → AreModuleFiles (take at files) modules
-    → number ≡ length modules → IsFileFault bytes fault → fault ≢ Memory → IsFirstBadFile files number fault
-bad_at files modules at number item bytes fault within here same are counted is stands =
-    let count : number ≡ at =
-    counted ∙ same_count (take at files) modules are ∙ length-take-le at files (omega (arith, within)) in
-    let found : slice_get files number ≡ Some item =
-    ap (slice_get files) count ∙ slice_get_read files (length files) at item refl within here in
-    record {
-      modules = modules;
-      before = subst (λ (n : ℕ). AreModuleFiles (take n files) modules) (sym count) are;
-      here = subst (λ (o : Option (List ℕ)). IsSomeAnd o (λ b. IsFileFault b fault)) (sym found)
-          (subst (λ (b : List ℕ). IsFileFault b fault) same is);
-      stands = stands;
-    }
+module _ (files : List (List ℕ)) (modules : List Module) (at : ℕ) (item bytes : List ℕ) (within : at < length files)
+    (here : item ≡ get_or files at item) (same : bytes ≡ item) (are : AreModuleFiles (take at files) modules) where
+  -- the next file is the first that is no module
+  bad_at : (refusal : Refusal) → IsFileFault bytes refusal → IsFirstBadFile files at refusal
+  bad_at refusal is =
+      let found : slice_get files at ≡ Some item =
+      slice_get_read files (length files) at item refl within here in
+      record {
+        modules = modules;
+        before = are;
+        here = subst (λ (o : Option (List ℕ)). IsSomeAnd o (λ b. IsFileFault b refusal)) (sym found)
+            (subst (λ (b : List ℕ). IsFileFault b refusal) same is);
+      }
+
+  pub modules_fault : (fault : CommandFault) → IsOfFile at (IsFileFault bytes) fault → IsModulesFault files fault
+  modules_fault (File number refusal) is =
+      subst (λ (n : ℕ). IsFirstBadFile files n refusal) (sym is.0) (bad_at refusal is.1)
+  modules_fault (Together fault) is = absurd is
+  modules_fault Memory is = tt

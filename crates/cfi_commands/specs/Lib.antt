@@ -1,3 +1,4 @@
+pub mod Fault
 pub mod Assembling
 pub mod Instrumenting
 pub mod Linking
@@ -17,3 +18,4 @@ pub mod Place
 pub mod Plan
 pub mod Refusal
 pub mod Verify
+pub mod inner

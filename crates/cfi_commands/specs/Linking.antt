@@ -2,13 +2,11 @@
 use Rattle.std.specs.Prelude.{◌≡◌, ◌≢◌, ℕ, List, ⊤}
 use Rattle.elf_write.specs.File.{bytes_of}
 use Rattle.cfi_aux.specs.declared.modules.Module.{Module}
-use Rattle.cfi_link.specs.declared.fault.LinkFault.TheVariants as link_faults
+use Rattle.cfi_link.specs.declared.fault.LinkFault.TheVariants as faults
 use Rattle.cfi_link.specs.Faults.{IsFirstLinkFault}
 use Rattle.cfi_link.specs.Linked.{Linked}
-use Rattle.cfi_commands.specs.declared.modules.ModulesFault.{ModulesFault}
-use Rattle.cfi_commands.specs.declared.modules.ModulesFault.TheVariants as modules_faults
-use Rattle.cfi_commands.specs.declared.linking.LinkingFault.{LinkingFault}
-use Rattle.cfi_commands.specs.declared.linking.LinkingFault.TheVariants.{File, Link, Memory}
+use Rattle.cfi_commands.specs.declared.fault.CommandFault.{CommandFault}
+use Rattle.cfi_commands.specs.declared.fault.CommandFault.TheVariants.{File, Together, Memory}
 use Rattle.cfi_commands.specs.Modules.{AreModuleFiles, IsFirstBadFile}
 
 -- the files are modules, and the file is the one that is written of what links them
@@ -20,13 +18,8 @@ pub record IsLinkedFile (files : List (List ℕ)) (file : List ℕ) : Type 0 whe
   pub written : file ≡ bytes_of output.object
 
 -- the first fault of the files as modules, or of the modules that they are
-abbrev pub IsLinkingFault : (files : List (List ℕ)) → LinkingFault → Type 0
-IsLinkingFault files (File number fault) = IsFirstBadFile files number fault
-IsLinkingFault files (Link fault) =
-    (modules : List Module) × AreModuleFiles files modules × IsFirstLinkFault modules fault × (fault ≢ link_faults.Memory)
+abbrev pub IsLinkingFault : (files : List (List ℕ)) → CommandFault → Type 0
+IsLinkingFault files (File number refusal) = IsFirstBadFile files number refusal
+IsLinkingFault files (Together fault) =
+    (modules : List Module) × AreModuleFiles files modules × IsFirstLinkFault modules fault × (fault ≢ faults.Memory)
 IsLinkingFault files Memory = ⊤
-
--- a fault of one of the files, as one of this call
-abbrev pub linking_as : ModulesFault → LinkingFault
-linking_as (modules_faults.File number fault) = File number fault
-linking_as modules_faults.Memory = Memory

@@ -1,8 +1,9 @@
-ghost use Rattle.std.specs.Prelude.{◌≡◌, ◌≢◌, ◌+◌, ◌^◌, ◌<◌, length, IfOk, IfErr};
-ghost use Rattle.rv_asm.specs.declared.fault.AsmFault.TheVariants.{Memory};
-ghost use Rattle.rv_asm.specs.Assembled.{object_in};
-ghost use Rattle.cfi_commands.specs.Assembling.{IsAssembled};
+ghost use Rattle.std.specs.Prelude.{◌+◌, ◌^◌, ◌<◌, length, IfOk, IfErr};
+ghost use Rattle.cfi_commands.specs.Assembling.{IsAssembled, IsSourceFault};
+ghost use Rattle.cfi_commands.specs.Fault.{IsOfFile};
 
+use crate::fault::CommandFault;
+use crate::refusal::Refusal;
 use elf_write::{is_within_limits, write_object};
 use rv_asm::{AsmFault, assemble};
 use std::alloc::Global;
@@ -11,14 +12,15 @@ use std::alloc::Global;
 ///
 /// `text` is the whole source. A fault is the least of the first faulty line, as `rv_asm` has it. An object past the
 /// limits of `elf_write` is not written, and answered as want of memory.
-pub fn assembled(alloc: Global, text: &[u8]) -> Result<Vec<u8>, AsmFault>
+pub fn assembled(alloc: Global, text: &[u8]) -> Result<Vec<u8>, CommandFault>
     requires short { length text.now + 1 < 2 ^ 32 }
     ensures ok { IfOk result (λ file. IsAssembled text.now file.items) }
-    ensures fault { IfErr result (λ fault. fault ≢ Memory → object_in text.now ≡ Err fault) }
+    ensures fault { IfErr result (IsOfFile 0 (IsSourceFault text.now)) }
 {
-    let object = assemble(alloc, text)?;
-    if !is_within_limits(&object) {
-        return Err(AsmFault::Memory);
+    match assemble(alloc, text) {
+        Ok(object) if is_within_limits(&object) => Ok(write_object(alloc, &object)?),
+        Ok(_) => Err(CommandFault::Memory),
+        Err(AsmFault::Memory) => Err(CommandFault::Memory),
+        Err(fault) => Err(CommandFault::File(0, Refusal::Asm(fault))),
     }
-    Ok(write_object(alloc, &object)?)
 }

@@ -1,51 +1,35 @@
-//! Why files are no modules in order.
+//! Why a command makes nothing of its files.
 
 ghost use Rattle.std.specs.Prelude.{◌≡◌};
-ghost use Rattle.cfi_commands.specs.declared.fault.FilesFault.TheVariants.{Memory};
-ghost use Rattle.cfi_commands.specs.Files.{files_as};
+ghost use Rattle.cfi_commands.specs.declared.fault.CommandFault.TheVariants.{Memory};
 
-use crate::modules::ModulesFault;
-use crate::reading::FileFault;
-use cfi_place::PlaceFault;
-use cfi_verify::VerifyFault;
+use crate::refusal::Refusal;
+use cfi_link::LinkFault;
 use std::alloc::{AllocError, AllocFailed};
 
-/// Why files are no modules in order: the first fault, with the number of its file, from 0.
+/// Why a command makes nothing of its files: the first fault.
 #[derive(Debug, Drop)]
-pub enum FilesFault {
-    /// This file is no module.
-    File(usize, FileFault),
-    /// All files are modules, and this one is the first that does not join those before it: it does not fit.
-    Place(usize, PlaceFault),
-    /// All files are modules, and this one is the first that does not join those before it: it does not verify.
-    Verify(usize, VerifyFault),
-    /// There is no memory for them.
+pub enum CommandFault {
+    /// The file of this number, from 0, is refused.
+    File(usize, Refusal),
+    /// Each file is a module, and the modules are not linked.
+    Together(LinkFault),
+    /// There is no memory for what the command makes.
     Memory,
 }
 
-impl From<AllocError> for FilesFault {
+impl From<AllocError> for CommandFault {
     ghost from_gives = { λ _ e. e ≡ Memory };
 
-    fn from(_error: AllocError) -> FilesFault {
-        FilesFault::Memory
+    fn from(_error: AllocError) -> CommandFault {
+        CommandFault::Memory
     }
 }
 
-impl<T: Drop> From<AllocFailed<T>> for FilesFault {
+impl<T: Drop> From<AllocFailed<T>> for CommandFault {
     ghost from_gives = { λ _ e. e ≡ Memory };
 
-    fn from(_error: AllocFailed<T>) -> FilesFault {
-        FilesFault::Memory
-    }
-}
-
-impl From<ModulesFault> for FilesFault {
-    ghost from_gives = { λ fault e. e ≡ files_as fault };
-
-    fn from(fault: ModulesFault) -> FilesFault {
-        match fault {
-            ModulesFault::File { number, fault } => FilesFault::File(number, fault),
-            ModulesFault::Memory => FilesFault::Memory,
-        }
+    fn from(_error: AllocFailed<T>) -> CommandFault {
+        CommandFault::Memory
     }
 }

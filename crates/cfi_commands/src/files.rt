@@ -5,10 +5,12 @@ ghost use Rattle.cfi_plan.specs.Plan.{IsPlan};
 ghost use Rattle.cfi_commands.specs.Modules.{IsShortFile};
 ghost use Rattle.cfi_series.specs.Order.{AreInOrder};
 ghost use Rattle.cfi_series.specs.Series.{CanBeTaken};
-ghost use Rattle.cfi_commands.specs.Files.{ArePlacedFiles, IsFilesFault, IsSeriesFault, fault_at};
+ghost use Rattle.cfi_commands.specs.Files.{ArePlacedFiles, IsFilesFault};
+ghost use Rattle.cfi_commands.specs.inner.Order.{IsSeriesFault, fault_at};
 
-use crate::fault::FilesFault;
+use crate::fault::CommandFault;
 use crate::modules::read_modules;
+use crate::refusal::Refusal;
 use cfi_aux::Module;
 use cfi_plan::Plan;
 use cfi_series::{JoinFault, Series};
@@ -17,18 +19,18 @@ use cfi_word::Layout;
 use std::alloc::Global;
 
 // The fault of the module of a number.
-fn fault_at(number: usize, fault: JoinFault) -> FilesFault
+fn fault_at(number: usize, fault: JoinFault) -> CommandFault
     ensures { result ≡ fault_at number fault }
 {
     match fault {
-        JoinFault::Place(fault) => FilesFault::Place(number, fault),
-        JoinFault::Verify(fault) => FilesFault::Verify(number, fault),
-        JoinFault::Memory => FilesFault::Memory,
+        JoinFault::Place(fault) => CommandFault::File(number, Refusal::Place(fault)),
+        JoinFault::Verify(fault) => CommandFault::File(number, Refusal::Verify(fault)),
+        JoinFault::Memory => CommandFault::Memory,
     }
 }
 
 // The modules, placed in their order.
-fn place_all(alloc: Global, layout: &Layout, modules: &[Module]) -> Result<Series, FilesFault>
+fn place_all(alloc: Global, layout: &Layout, modules: &[Module]) -> Result<Series, CommandFault>
     requires taken { All CanBeTaken modules.now }
     ensures order { IfOk result (λ series. AreInOrder layout.now modules.now series.placed) }
     ensures fault { IfErr result (IsSeriesFault layout.now modules.now) }
@@ -54,7 +56,7 @@ fn layout_of(plan: &Plan) -> Layout
 ///
 /// `files` are those of the plan's modules. All are taken as modules before the first is placed. The fault is the first
 /// of this order.
-pub fn placed_files(alloc: Global, plan: &Plan, files: &[Bytes]) -> Result<Series, FilesFault>
+pub fn placed_files(alloc: Global, plan: &Plan, files: &[Bytes]) -> Result<Series, CommandFault>
     requires plan { IsPlan plan.now }
     requires small { All IsShortFile files.now }
     ensures ok { IfOk result (λ series.

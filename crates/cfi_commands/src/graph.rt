@@ -7,7 +7,7 @@ ghost use Rattle.cfi_commands.specs.Modules.{IsShortFile};
 ghost use Rattle.cfi_commands.specs.Files.{IsFilesFault};
 ghost use Rattle.cfi_commands.specs.Graph.{slot_word, address_word, group_line, IsGraphText};
 
-use crate::fault::FilesFault;
+use crate::fault::CommandFault;
 use crate::files::placed_files;
 use cfi_plan::Plan;
 use cfi_policy::{Group, groups};
@@ -69,7 +69,7 @@ fn lines_of(alloc: Global, groups: &[Group]) -> Result<Vec<u8>, AllocError>
 /// `class SLOTS : ADDRESSES`, and for the last one, where its branches may go nowhere, `none SLOTS`.
 ///
 /// The fault is the first of the files.
-pub fn graph_text(alloc: Global, plan: &Plan, files: &[Bytes]) -> Result<Vec<u8>, FilesFault>
+pub fn graph_text(alloc: Global, plan: &Plan, files: &[Bytes]) -> Result<Vec<u8>, CommandFault>
     requires plan { IsPlan plan.now }
     requires small { All IsShortFile files.now }
     ensures ok { IfOk result (λ text. IsGraphText plan.now.code_words files.now text.items) }

@@ -1,60 +1,31 @@
-ghost use Rattle.std.specs.Prelude.{◌≡◌, ◌≤◌, length, IfOk, IfErr};
+ghost use Rattle.std.specs.Prelude.{◌≤◌, length, IfOk, IfErr};
 ghost use Rattle.elf_read.specs.declared.rela.TheConstants.{MAX_FILE};
-ghost use Rattle.cfi_commands.specs.declared.instrumenting.InstrumentFault.TheVariants.{Memory};
-ghost use Rattle.cfi_commands.specs.Instrumenting.{IsInstrumentedFile, IsInstrumentFault, file_as};
+ghost use Rattle.cfi_commands.specs.Fault.{IsOfFile};
+ghost use Rattle.cfi_commands.specs.Instrumenting.{IsInstrumentedFile, IsInstrumentFault};
 
-use crate::reading::{FileFault, read_module};
+use crate::fault::CommandFault;
+use crate::reading::read_module;
+use crate::refusal::Refusal;
 use cfi_aux::read_can_be_written;
 use cfi_instr::{InstrFault, instrument};
 use elf_write::{is_within_limits, write_object};
-use std::alloc::{AllocError, Global};
-
-/// Why a file is not instrumented: the layer that refuses it, and its first fault.
-#[derive(Clone, Copy, Debug, PartialEq, Eq)]
-pub enum InstrumentFault {
-    /// It is no module.
-    File(FileFault),
-    /// The module is not instrumented.
-    Instr(InstrFault),
-    /// There is no memory for the file.
-    Memory,
-}
-
-impl From<FileFault> for InstrumentFault {
-    ghost from_gives = { λ fault e. e ≡ file_as fault };
-
-    fn from(fault: FileFault) -> InstrumentFault {
-        match fault {
-            FileFault::Elf(_) => InstrumentFault::File(fault),
-            FileFault::Aux(_) => InstrumentFault::File(fault),
-            FileFault::Memory => InstrumentFault::Memory,
-        }
-    }
-}
-
-impl From<AllocError> for InstrumentFault {
-    ghost from_gives = { λ _ e. e ≡ Memory };
-
-    fn from(_error: AllocError) -> InstrumentFault {
-        InstrumentFault::Memory
-    }
-}
+use std::alloc::Global;
 
 /// The file of the instrumented module of the module that a file is.
 ///
 /// `bytes` are the whole file. A fault of the file comes before one of its module. A module past the limits of
 /// `elf_write` is not written, and answered as want of memory.
-pub fn instrumented(alloc: Global, bytes: &[u8]) -> Result<Vec<u8>, InstrumentFault>
+pub fn instrumented(alloc: Global, bytes: &[u8]) -> Result<Vec<u8>, CommandFault>
     requires small { length bytes.now ≤ MAX_FILE }
     ensures ok { IfOk result (λ file. IsInstrumentedFile bytes.now file.items) }
-    ensures fault { IfErr result (IsInstrumentFault bytes.now) }
+    ensures fault { IfErr result (IsOfFile 0 (IsInstrumentFault bytes.now)) }
 {
     read_can_be_written();
-    let unplaced = read_module(alloc, bytes)?;
+    let unplaced = read_module(alloc, 0, bytes)?;
     match instrument(alloc, &unplaced) {
         Ok(out) if is_within_limits(&out.object) => Ok(write_object(alloc, &out.object)?),
-        Ok(_) => Err(InstrumentFault::Memory),
-        Err(InstrFault::Memory) => Err(InstrumentFault::Memory),
-        Err(fault) => Err(InstrumentFault::Instr(fault)),
+        Ok(_) => Err(CommandFault::Memory),
+        Err(InstrFault::Memory) => Err(CommandFault::Memory),
+        Err(fault) => Err(CommandFault::File(0, Refusal::Instr(fault))),
     }
 }

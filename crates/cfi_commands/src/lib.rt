@@ -35,13 +35,13 @@ mod verified;
 mod verify;
 
 pub use assembling::assembled;
-pub use fault::FilesFault;
+pub use fault::CommandFault;
 pub use files::placed_files;
 pub use graph::graph_text;
-pub use instrumenting::{InstrumentFault, instrumented};
-pub use linking::{LinkingFault, linked};
+pub use instrumenting::instrumented;
+pub use linking::linked;
 pub use listing::listing_of;
-pub use modules::{ModulesFault, read_modules};
-pub use reading::{FileFault, read_module};
+pub use modules::read_modules;
+pub use reading::read_module;
 pub use refusal::{Refusal, put_refusal};
 pub use verified::verified_text;

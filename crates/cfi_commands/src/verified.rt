@@ -6,7 +6,7 @@ ghost use Rattle.cfi_commands.specs.Modules.{IsShortFile};
 ghost use Rattle.cfi_commands.specs.Files.{IsFilesFault};
 ghost use Rattle.cfi_commands.specs.Verified.{module_line, module_lines, IsVerifiedText};
 
-use crate::fault::FilesFault;
+use crate::fault::CommandFault;
 use crate::files::placed_files;
 use cfi_aux::Placed;
 use cfi_plan::{Plan, PlanModule};
@@ -47,7 +47,7 @@ fn module_lines(
 /// The line `ok NAME WORDS CHECKS` of each module of a plan, where all place and verify in order.
 ///
 /// `files` are those of the plan's modules, one for each. The fault is the first of the files.
-pub fn verified_text(alloc: Global, plan: &Plan, files: &[Bytes]) -> Result<Vec<u8>, FilesFault>
+pub fn verified_text(alloc: Global, plan: &Plan, files: &[Bytes]) -> Result<Vec<u8>, CommandFault>
     requires plan { IsPlan plan.now }
     requires count { length plan.now.modules ≡ length files.now }
     requires small { All IsShortFile files.now }

@@ -23,7 +23,7 @@ use Rattle.cfi_verify.proofs.FunctionLemmas.{end_before-next}
 
 -- ---- units by their numbers
 
-abbrev spot_of : (at : ℕ) → CodeUnit → Spot
+abbrev pub spot_of : (at : ℕ) → CodeUnit → Spot
 spot_of at unit = record { at = at; unit = unit }
 
 -- the unit of a number stands at its place
@@ -90,7 +90,7 @@ is_call (units.Jump link off) = link
 is_call (units.Check link rs1 imm slot) = link
 is_call unit = false
 
-call_goes_on : (unit : CodeUnit) → is_call unit ≡ true → may_be_last unit ≡ true → ⊥
+pub call_goes_on : (unit : CodeUnit) → is_call unit ≡ true → may_be_last unit ≡ true → ⊥
 call_goes_on (units.Jump true off) call last = false≢true last
 call_goes_on (units.Jump false off) call last = false≢true call
 call_goes_on (units.Check true rs1 imm slot) call last = false≢true last
@@ -101,7 +101,7 @@ call_goes_on (units.Store kind rs1 rs2 imm) call last = false≢true call
 call_goes_on (units.Branch cond rs1 rs2 off) call last = false≢true call
 call_goes_on units.Service call last = false≢true call
 
-abbrev none : PlacedFunction
+abbrev pub none : PlacedFunction
 none = record { first = 0; count = 0; ty = 0; taken = false; global = false; name = [] }
 
 module _ (m : Placed) (loaded : List Placed) (spots : List Spot) (v : IsVerifiedAs m loaded spots) where
@@ -123,7 +123,7 @@ module _ (m : Placed) (loaded : List Placed) (spots : List Spot) (v : IsVerified
     unit_here k (spot_of (place_of code k) (get_or code k u)) u within,
   )
 
-  number_of : (t : Spot) → Contains spots t
+  pub number_of : (t : Spot) → Contains spots t
       → (k : ℕ) × (k < length code) × (t ≡ spot_of (place_of code k) (get_or code k t.unit))
   number_of t there =
       let within : there.0 < length code =

@@ -1,7 +1,7 @@
 -- A series is verified one after the other at the next free places, and there are few modules and types.
 use Rattle.std.proofs.Common.{◌≡◌, ◌≢◌, ℕ, zero, suc, ◌+◌, ◌*◌, ◌≤◌, List, [], ◌∷◌, length, map, take, get_or, Some, All, refl, ap, sym, subst, ◌∙◌, add-one, arith, length-append}
 use Rattle.std.specs.List.{flat_map, slice_get, AllByRecursion}
-use Rattle.std.proofs.lemmas.List.Elements.{recursion_from_All}
+use Rattle.std.proofs.lemmas.List.Elements.{recursion_from_All, Contains-get_or}
 use Rattle.std.proofs.lemmas.Option.{slice_get-get_or}
 use Rattle.cfi_types.specs.Node.{Node}
 use Rattle.cfi_types.specs.Spelling.{AreTypes}
@@ -10,7 +10,7 @@ use Rattle.cfi_aux.specs.declared.placed.Placed.{Placed}
 use Rattle.cfi_graph.specs.Reading.{type_count, HaveGraph}
 use Rattle.cfi_graph.specs.Shaped.{AreApart}
 use Rattle.cfi_place.specs.declared.room.Room.{Room}
-use Rattle.cfi_series.specs.Verified.{AreVerified}
+use Rattle.cfi_series.specs.Loaded.{AreLoaded}
 use Rattle.cfi_series.specs.Room.{room_after}
 use Rattle.cfi_series.specs.Order.{names_of}
 use Rattle.cfi_series.specs.Series.{IsSeries}
@@ -40,8 +40,9 @@ module _ (code_words : ℕ) (placed : List Placed) (series : IsSeries code_words
       let f = fits m.0 (room_after code_words (take k placed)) (names_of (take k placed)) p m.1.object_sound.relocs m.2.behind in
       omega (arith, f.code, code_after code_words (take k placed))
 
-  pub are_verified : AreVerified placed
-  are_verified = record {
+  pub are_loaded : AreLoaded code_words placed
+  are_loaded = record {
+    size = series.size;
     first = λ m is.
         let j = member code_words placed series 0 m is in
         (j.2.behind.base, j.2.behind.slot_base);
@@ -53,9 +54,12 @@ module _ (code_words : ℕ) (placed : List Placed) (series : IsSeries code_words
           slots = j.2.behind.slot_base ∙ ap (λ (r : Room). r.slot_base) room;
         };
     ends = λ k d within.
-        let p = get_or placed k d in
-        omega (arith, ends_within k p (slice_get-get_or placed k d within), series.size.most);
-    verified = λ k m is. (member code_words placed series k m is).2.verified;
+        let p = get_or placed k d in ends_within k p (slice_get-get_or placed k d within);
+    verified = λ k m is. (
+      take k placed,
+      λ j d within. Contains-get_or (take k placed) j d within,
+      (member code_words placed series k m is).2.verified,
+    );
   }
 
   -- each module has a word at least

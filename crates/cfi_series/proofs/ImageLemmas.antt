@@ -1,168 +1,271 @@
--- The modules of a series have an image: they and their slots end within the layout, and so does what their branches may
--- go to, since no module ends in a call.
-use Rattle.std.proofs.Common.{◌≡◌, ℕ, ◌+◌, ◌*◌, ◌<◌, ◌≤◌, Bool, true, false, ℤ, List, length, take, get_or, Some, refl, ap, sym, subst, ◌∙◌, arith}
-use Rattle.std.specs.List.{Contains, slice_get}
-use Rattle.std.proofs.lemmas.List.Elements.{All-contains}
+-- Modules that were loaded one after the other have an image, and each image of them is closed.
+use Rattle.std.proofs.Common.{◌≡◌, ◌≢◌, ℕ, ◌+◌, ◌-◌, ◌*◌, ◌<◌, ◌≤◌, ◌++◌, List, [], ◌∷◌, length, drop, replicate, get_or, slice_index, Some, All, refl, ap, sym, subst, ◌∙◌, ⊎_elim, arith, length-append}
+use Rattle.std.specs.List.{Contains, flat_map, slice_get}
+use Rattle.std.proofs.lemmas.Bool.{cases_lt, false≢true}
+use Rattle.std.proofs.lemmas.List.{get_or_past}
+use Rattle.std.proofs.lemmas.List.Concat.{flat_map-append}
+use Rattle.std.proofs.lemmas.List.Elements.{All-head, All-tail, All-get_or, recursion_from_All, All-from_recursion, Contains-get_or}
 use Rattle.std.proofs.lemmas.Option.{slice_get-get_or, slice_get_within, get_or_from_slice_get}
 use Rattle.cfi_unit.specs.declared.unit.Unit.{Unit as CodeUnit}
-use Rattle.cfi_unit.specs.declared.unit.Unit.TheVariants as units
-use Rattle.cfi_unit.specs.Unit.{size_of}
-use Rattle.cfi_unit.proofs.CodeLemmas.{UnitCode-one}
+use Rattle.cfi_unit.specs.Unit.{IsUnit, size_of, words_of}
+use Rattle.cfi_unit.specs.Spots.{place_of, BeginsUnit}
+use Rattle.cfi_word.specs.declared.lists.Image.{Image}
+use Rattle.cfi_word.specs.declared.ids.TheConstants.{FIELD_MAX}
+use Rattle.cfi_word.specs.declared.map.TheConstants.{FIRST_BASE}
 use Rattle.cfi_word.specs.Table.{slots_of}
 use Rattle.cfi_aux.specs.declared.placed.Placed.{Placed}
 use Rattle.cfi_aux.specs.declared.placed.PlacedFunction.{PlacedFunction}
-use Rattle.cfi_aux.specs.declared.records.Kind.{Kind}
-use Rattle.cfi_aux.specs.declared.records.Kind.TheVariants as kinds
-use Rattle.cfi_graph.specs.Code.{Stands}
-use Rattle.cfi_unit.specs.Spots.{place_of}
-use Rattle.cfi_graph.specs.Calls.{HasKind, IsCall}
-use Rattle.cfi_graph.specs.Direct.{IsPointee, IsReturnTarget, GoesTo}
+use Rattle.cfi_aux.specs.declared.records.Kind.TheVariants.{Switch}
+use Rattle.cfi_class.specs.Labels.{IsClass, IsClassWhere, IsReached, AreLabels}
+use Rattle.cfi_graph.specs.Code.{entry_of}
+use Rattle.cfi_graph.specs.Calls.{HasKind, IsFunction, ReturnsTo}
+use Rattle.cfi_graph.specs.Direct.{DirectEdge}
 use Rattle.cfi_graph.specs.Reading.{HaveGraph}
-use Rattle.cfi_unit.specs.declared.spot.Spot.{Spot}
-use Rattle.cfi_verify.specs.declared.checks.CheckSpot.{CheckSpot}
-use Rattle.cfi_verify.specs.Spots.{check_in, checks_of}
-use Rattle.cfi_verify.specs.Branches.{IsKindOf, IsRecordOf, IsEntry, AreEntriesIn}
-use Rattle.cfi_verify.specs.Faults.{IsVerifiedAs, IsVerified}
-use Rattle.cfi_place.specs.declared.room.Room.{Room}
-use Rattle.cfi_policy.specs.Image.{HaveImage}
-use Rattle.cfi_series.specs.Series.{IsSeries}
-use Rattle.cfi_series.proofs.SeriesLemmas.{code_after, member, room_at, room_more}
-use Rattle.cfi_series.proofs.EndLemmas.{check_there, is_call, call_followed, begins_within}
-use Rattle.cfi_series.proofs.GraphLemmas.{ends_within}
+use Rattle.cfi_model.specs.Closed.{idle, IsStartOf, IsStartIn, HasClasses, IsReadAs, IsClosed}
+use Rattle.cfi_policy.specs.Image.{IsImage, HaveImage}
+use Rattle.cfi_verify.specs.Functions.{may_be_last}
+use Rattle.cfi_series.specs.Loaded.{AreAmong, IsImageOf, AreLoaded, HasStarts}
+use Rattle.cfi_series.proofs.SeriesLemmas.{branch_words}
+use Rattle.cfi_series.proofs.EndLemmas.{spot_of, has as spot_there, begins_within}
+use Rattle.cfi_series.proofs.BusyLemmas.{entry_busy}
+use Rattle.cfi_series.proofs.JoinedLemmas.{IsChain, of_module, there_left, words_joined, few_slots}
+use Rattle.cfi_series.proofs.SpelledLemmas.{words_of_all, spelled}
+use Rattle.cfi_series.proofs.TrimmedLemmas.{EndsUnlinked}
+use Rattle.cfi_series.proofs.TargetLemmas.{returns_busy, switch_busy}
+use Rattle.cfi_series.proofs.ClosedLemmas.{here, verified, code, chain, all, us, trimmed, body, rest, start_at, stays, BeginsIn, edge_begins, edge_start}
 
-abbrev none : CheckSpot
-none = record { at = 0; link = false; slot = 0 }
+-- ---- classes
 
-abbrev check_spot : (at : ℕ) (link : Bool) (slot : ℕ) → CheckSpot
-check_spot at link slot = record { at = at; link = link; slot = slot }
+-- a class number, or the one where there is none, is low
+class_most : (Holds : Type 0) (other number : ℕ) → other ≤ FIELD_MAX → IsClassWhere Holds other number
+    → number ≤ FIELD_MAX
+class_most Holds other number low is = ⊎_elim
+    (λ (a : Holds × IsClass number). omega (arith, a.1.most))
+    (λ (b : (Holds → ⊥) × (number ≡ other)). omega (arith, b.1, low)) is
 
--- a check whose record is a call links
-links : (m : Placed) (link : Bool) (node : ℕ) → IsKindOf m.types link (kinds.Call node) → link ≡ true
-links m true node fits = refl
-links m false node fits = absurd fits
+class_least : (Holds : Type 0) (number : ℕ) → IsClassWhere Holds FIELD_MAX number → number ≢ 0
+class_least Holds number is none = ⊎_elim
+    (λ (a : Holds × IsClass number). omega (arith, a.1.least, none))
+    (λ (b : (Holds → ⊥) × (number ≡ FIELD_MAX)). omega (arith, b.1, none)) is
 
-module _ (m : Placed) (loaded : List Placed) (spots : List Spot) (v : IsVerifiedAs m loaded spots) where
-  -- the record of a check in the code is the one of its slot
-  record_of : (k : ℕ) (link : Bool) (rs1 : ℕ) (imm : ℤ) (slot node : ℕ)
-      → slice_get v.laid.units.code k ≡ Some (units.Check link rs1 imm slot) → HasKind m slot (kinds.Call node)
-      → link ≡ true
-  record_of k link rs1 imm slot node is has =
-      let code = v.laid.units.code in
-      let unit = units.Check link rs1 imm slot in
-      let within = slice_get_within code k unit is in
-      let c = check_spot (0 + place_of code k) link slot in
-      let here = ap (check_in (0 + place_of code k)) (get_or_from_slice_get code k unit unit is) in
-      let n = check_there 0 code k unit c within here in
-      let there : slice_get (checks_of spots) n.0 ≡ Some c =
-      ap (λ (xs : List Spot). slice_get (checks_of xs) n.0) v.laid.units.places ∙ n.1 in
-      let number : n.0 ≡ has.0 = omega (arith, v.laid.slots n.0 c there, has.1) in
-      let fits : IsRecordOf m.types link (slice_get m.branches n.0) = v.kinds n.0 c there in
-      links m link node
-      (subst (IsRecordOf m.types link) (ap (slice_get m.branches) number ∙ has.2) fits)
+-- where a target has a class, some branch may go there
+class_used : (Holds : Type 0) (number : ℕ) → IsClassWhere Holds 0 number → number ≢ 0 → Holds
+class_used Holds number is some = ⊎_elim (λ (a : Holds × IsClass number). a.0)
+    (λ (b : (Holds → ⊥) × (number ≡ 0)). absurd (some b.1)) is
 
-  -- a call is one that links
-  call_links : (k at : ℕ) (unit : CodeUnit) (n : Placed) (f : PlacedFunction)
-      → slice_get v.laid.units.code k ≡ Some unit → IsCall m at unit n f → is_call unit ≡ true
-  call_links k at (units.Jump true off) n f is call = refl
-  call_links k at (units.Jump false off) n f is call = absurd call
-  call_links k at (units.Check link rs1 imm slot) n f is call =
-      record_of k link rs1 imm slot call.0 is call.1
-  call_links k at (units.Plain insn) n f is call = absurd call
-  call_links k at (units.Load kind rd rs1 imm) n f is call = absurd call
-  call_links k at (units.Store kind rs1 rs2 imm) n f is call = absurd call
-  call_links k at (units.Branch cond rs1 rs2 off) n f is call = absurd call
-  call_links k at units.Service n f is call = absurd call
+module _ (joins : (slot address : ℕ) → Type 0) (code_words : ℕ) (image : Image)
+    (labels : AreLabels joins code_words image.tary image.bary) where
+  tary_most : (k : ℕ) → slice_index image.tary k ≤ FIELD_MAX
+  tary_most k = ⊎_elim
+      (λ (less : k < code_words).
+      class_most (IsReached joins (4 * k)) 0 (slice_index image.tary k) (omega arith) (labels.targets k less))
+      (λ (more : code_words ≤ k). omega (arith, get_or_past image.tary k 0 (omega (arith, more, labels.words))))
+      (cases_lt k code_words)
 
-  -- what a call comes back to is a word of the module
-  pub returns_within : (at : ℕ) (unit : CodeUnit) (n : Placed) (f : PlacedFunction) → Stands m at unit
-      → IsCall m at unit n f → at + size_of unit < length m.words
-  returns_within at unit n f stands call =
-      let code = v.laid.units.code in
-      let same : stands.code ≡ code = UnitCode-one m.words stands.code code stands.units v.laid.units.units in
-      let is : slice_get code stands.number ≡ Some unit =
-      ap (λ (us : List CodeUnit). slice_get us stands.number) (sym same) ∙ stands.is in
-      let here : get_or code stands.number unit ≡ unit = get_or_from_slice_get code stands.number unit unit is in
-      let links_too = ap is_call here ∙ call_links stands.number at unit n f is call in
-      let behind = call_followed m loaded spots v stands.number unit (slice_get_within code stands.number unit is) links_too in
+  bary_most : (slot : ℕ) → slice_index image.bary slot ≤ FIELD_MAX
+  bary_most slot = ⊎_elim
+      (λ (less : slot < slots_of code_words).
+      class_most _ FIELD_MAX (slice_index image.bary slot) (omega arith) (labels.branches slot less))
+      (λ (more : slots_of code_words ≤ slot).
+      omega (arith, get_or_past image.bary slot 0 (omega (arith, more, labels.slots))))
+      (cases_lt slot (slots_of code_words))
+
+  classes : (n : ℕ) → length image.code ≡ n → n ≡ code_words → HasClasses code_words image
+  classes n long same = record {
+    tary_length = labels.words;
+    bary_length = labels.slots;
+    code_length = long ∙ same;
+    tary_most = tary_most;
+    bary_most = bary_most;
+    bary_least = λ slot within. class_least _ (slice_index image.bary slot) (labels.branches slot within);
+  }
+
+  reached : (k : ℕ) → slice_index image.tary k ≢ 0 → IsReached joins (4 * k)
+  reached k some = ⊎_elim
+      (λ (less : k < code_words).
+      class_used (IsReached joins (4 * k)) (slice_index image.tary k) (labels.targets k less) some)
+      (λ (more : code_words ≤ k).
+      absurd (some (get_or_past image.tary k 0 (omega (arith, more, labels.words)))))
+      (cases_lt k code_words)
+
+-- ---- the end of all
+
+ends_all : (base slot most : ℕ) (ms : List Placed) → IsChain base slot ms → base ≤ most
+    → All (λ (m : Placed). m.base + length m.words ≤ most) ms → base + length (words_of_all ms) ≤ most
+ends_all base slot most [] follows low ends = omega (arith, low)
+ends_all base slot most (m ∷ ms) follows low ends =
+    let P : Placed → Type 0 = λ n. n.base + length n.words ≤ most in
+    let first = All-head P m ms ends in
+    omega (
+      arith,
+      length-append m.words (words_of_all ms),
+      ends_all (base + length m.words) (slot + length m.branches) most ms follows.2 (omega (arith, first, follows.0))
+          (All-tail P m ms ends),
+    )
+
+module _ (code_words : ℕ) (ms : List Placed) (loaded : AreLoaded code_words ms) where
+  slots_within : (m : Placed) → Contains ms m → m.slot_base + length m.branches ≤ slots_of code_words
+  slots_within m has =
+      let wide = recursion_from_All (λ (n : Placed). 14 * length n.branches ≤ length n.words) ms
+      (λ k d within.
+      let v = loaded.verified k (get_or ms k d) (slice_get-get_or ms k d within) in
+      branch_words (get_or ms k d) v.0 v.2) in
+      let end : m.base + length m.words ≤ code_words =
+      subst (λ (n : Placed). n.base + length n.words ≤ code_words) has.2 (loaded.ends has.0 m has.1) in
       omega (
         arith,
-        behind,
-        stands.place,
-        ap (λ (us : List CodeUnit). place_of us stands.number) same,
-        ap size_of here,
+        few_slots FIRST_BASE 0 ms (chain code_words ms loaded) wide has.0 m (here code_words ms loaded m has),
+        end,
       )
 
-  -- a function's first word is one of the module
-  pub first_within : (f : PlacedFunction) → Contains m.functions f → f.first < length m.words
-  first_within f has =
-      let is = slice_get-get_or m.functions has.0 f has.1 ∙ ap (λ (g : PlacedFunction). Some g) has.2 in
-      let fits = v.laid.functions has.0 f is in
-      omega (arith, fits.some, fits.within)
+  -- what begins a unit of a function is in the code
+  word_within : (live : List Placed) (among : AreAmong live ms) (address : ℕ)
+      → BeginsIn code_words ms loaded live among address → address < 4 * code_words
+  word_within live among address b =
+      let m = b.owner in
+      let v = verified code_words ms loaded m b.there in
+      let us = code code_words ms loaded m b.there in
+      let k = b.busy.0 in
+      let last = b.busy.2 in
+      let u = last.unit in
+      let within : k < length us = omega (arith, last.up, slice_get_within us last.last u last.is) in
+      let begins : BeginsUnit v.2.0 b.at =
+      (spot_of (place_of us k) (get_or us k u), spot_there m v.0 v.2.0 v.2.1 k u within, sym b.busy.1) in
+      let end : m.base + length m.words ≤ code_words =
+      subst (λ (n : Placed). n.base + length n.words ≤ code_words) b.there.2 (loaded.ends b.there.0 m b.there.1) in
+      omega (arith, b.is, begins_within m v.0 v.2.0 v.2.1 b.at begins, end)
 
-  -- the entries of a switch are bytes of the module
-  pub entry_within : (slot entry : ℕ) (entries : List ℕ) → HasKind m slot (kinds.Switch entries)
-      → Contains entries entry → entry < 4 * length m.words
-  entry_within slot entry entries has there =
-      let c = get_or (checks_of spots) has.0 none in
-      let is = slice_get-get_or (checks_of spots) has.0 none
-      (omega (arith, v.records, slice_get_within m.branches has.0 (kinds.Switch entries) has.2)) in
-      let all = subst (AreEntriesIn m spots c.at) has.2 (v.switches has.0 c is) in
-      let one = All-contains (IsEntry m spots c.at) entries entry all there in
-      omega (arith, one.1, begins_within m loaded spots v one.0 one.2.unit)
+  all_among : AreAmong ms ms
+  all_among = λ k d within. Contains-get_or ms k d within
 
-module _ (code_words : ℕ) (placed : List Placed) (series : IsSeries code_words placed) where
-  member_at : (m : Placed) → (has : Contains placed m) → slice_get placed has.0 ≡ Some m
-  member_at m has = slice_get-get_or placed has.0 m has.1 ∙ ap (λ (p : Placed). Some p) has.2
-
-  verified_at : (m : Placed) → (has : Contains placed m) → IsVerified m (take has.0 placed)
-  verified_at m has = (member code_words placed series has.0 m (member_at m has)).2.verified
-
-  -- the address of a word of a module is in the code
-  word_within : (m : Placed) → Contains placed m → (at : ℕ) → at < length m.words → 4 * (m.base + at) < 4 * code_words
-  word_within m has at within =
-      omega (arith, within, ends_within code_words placed series has.0 m (member_at m has))
-
-  pointee_within : (m : Placed) (node address : ℕ) → IsPointee placed m node address → address < 4 * code_words
-  pointee_within m node address p =
-      let v = verified_at p.owner p.is.placed in
-      let first = first_within p.owner (take p.is.placed.0 placed) v.0 v.1 p.function p.is.function in
-      omega (arith, p.entry, word_within p.owner p.is.placed p.function.first first)
-
-  return_within : (m : Placed) (at address : ℕ) → IsReturnTarget placed m at address → address < 4 * code_words
-  return_within m at address r =
-      let call = r.returns in
-      let v = verified_at call.caller call.placed in
-      let behind = returns_within call.caller (take call.placed.0 placed) v.0 v.1 call.at call.unit r.owner r.entered
-      call.stands call.call in
-      omega (arith, call.after, word_within call.caller call.placed (call.at + size_of call.unit) behind)
-
-  goes_within : (m : Placed) → Contains placed m → (slot at : ℕ) (kind : Kind) (address : ℕ) → HasKind m slot kind
-      → GoesTo placed m at kind address → address < 4 * code_words
-  goes_within m has slot at (kinds.Call node) address kind goes = pointee_within m node address goes
-  goes_within m has slot at (kinds.Tail node) address kind goes = pointee_within m node address goes
-  goes_within m has slot at kinds.Return address kind goes = return_within m at address goes
-  goes_within m has slot at (kinds.Switch entries) address kind goes =
-      let v = verified_at m has in
-      let entry = entry_within m (take has.0 placed) v.0 v.1 slot goes.0 entries kind goes.1 in
-      omega (arith, goes.2, entry, ends_within code_words placed series has.0 m (member_at m has))
-
-  slots_within : (k : ℕ) (p : Placed) → slice_get placed k ≡ Some p
-      → p.slot_base + length p.branches ≤ slots_of code_words
-  slots_within k p is =
-      let room = room_at code_words placed series (k + 1) (omega (arith, slice_get_within placed k p is)) in
-      let more = room_more code_words placed k p is in
-      omega (
-        arith,
-        room.slots,
-        room.code,
-        ap (λ (r : Room). r.slot_base) more,
-        code_after code_words (take (k + 1) placed),
-      )
-
-  pub have_image : HaveGraph placed → HaveImage placed code_words
+  pub have_image : HaveGraph ms → HaveImage ms code_words
   have_image graph = record {
     graph = graph;
-    words = λ k d within. ends_within code_words placed series k (get_or placed k d) (slice_get-get_or placed k d within);
-    slots = λ k d within. slots_within k (get_or placed k d) (slice_get-get_or placed k d within);
-    targets = λ slot address edge. goes_within edge.owner edge.placed slot edge.at edge.kind address edge.has edge.goes;
+    words = loaded.ends;
+    slots = λ k d within. slots_within (get_or ms k d) (Contains-get_or ms k d within);
+    targets = λ slot address edge.
+        word_within ms all_among address (edge_begins code_words ms loaded ms all_among slot address edge);
   }
+
+  -- ---- the body
+
+  abbrev units : List CodeUnit
+  units = body code_words ms loaded
+
+  abbrev idles : ℕ
+  idles = (trimmed code_words ms loaded).idles
+
+  -- each of the body is a unit
+  fits : (number : ℕ) (unit : CodeUnit) → slice_get units number ≡ Some unit → IsUnit unit
+  fits number unit is =
+      let joined = us code_words ms loaded in
+      let there : slice_get joined number ≡ Some unit =
+      ap (λ (xs : List CodeUnit). slice_get xs number) (trimmed code_words ms loaded).same
+      ∙ there_left units (rest code_words ms loaded) number unit is in
+      let o = of_module FIRST_BASE 0 ms (all code_words ms loaded) (chain code_words ms loaded) number unit there in
+      let part = o.part.code in
+      subst IsUnit (get_or_from_slice_get part o.k unit unit o.is)
+      (All-get_or IsUnit part o.k unit (slice_get_within part o.k unit o.is)
+      (All-from_recursion IsUnit part o.part.units.fit))
+
+  words_are : words_of_all ms ≡ flat_map words_of units ++ flat_map words_of (replicate idles idle)
+  words_are =
+      sym (words_joined ms (all code_words ms loaded))
+      ∙ ap (λ (xs : List CodeUnit). flat_map words_of xs) (trimmed code_words ms loaded).same
+      ∙ flat_map-append words_of units (replicate idles idle)
+
+  busy : slice_get units (length units - 1) ≢ Some idle
+  busy is = ⊎_elim
+      (λ (none : units ≡ []).
+      absurd (omega (
+        arith,
+        slice_get_within units (length units - 1) idle is,
+        ap (λ (xs : List CodeUnit). length xs) none,
+      )))
+      (λ (ends : EndsUnlinked units).
+      let there : slice_get units (length units - 1) ≡ Some ends.0 = ends.1 in
+      let same : idle ≡ ends.0 = cc in
+      false≢true (ap may_be_last same ∙ ends.2))
+      (trimmed code_words ms loaded).ends
+
+  -- each image, with the labels of some of the modules and the code of all, is closed
+  module _ (live : List Placed) (image : Image) (of : IsImageOf code_words ms live image) where
+    abbrev is : IsImage (DirectEdge live) ms code_words image
+    is = of.1
+
+    read : IsReadAs image.code units idles (length (drop (FIRST_BASE + length (words_of_all ms)) image.code))
+    read =
+        let zeros = length (drop (FIRST_BASE + length (words_of_all ms)) image.code) in
+        let end = ends_all FIRST_BASE 0 code_words ms (chain code_words ms loaded) (omega (arith, loaded.size.least))
+        loaded.ends in
+        record {
+          fit = recursion_from_All IsUnit units
+              (λ k d within. fits k (get_or units k d) (slice_get-get_or units k d within));
+          spelled = spelled image.code FIRST_BASE 0 ms (chain code_words ms loaded) is.code.placed
+              (omega (arith, end, is.code.len))
+              (λ word within none. is.code.free word (omega (arith, within, is.code.len)) none)
+              ∙ ap (λ (ws : List ℕ). ws ++ replicate zeros 0) words_are;
+          busy = busy;
+        }
+
+    pub closed : IsClosed code_words image
+    closed = (
+      units,
+      record {
+        classes = classes (DirectEdge live) code_words image is.labels code_words is.code.len refl;
+        idles = idles;
+        zeros = length (drop (FIRST_BASE + length (words_of_all ms)) image.code);
+        code = read;
+        inside = stays code_words ms loaded (length image.bary)
+            (λ m has. omega (arith, slots_within m has, is.labels.slots));
+        targets = λ k some.
+            let r = reached (DirectEdge live) code_words image is.labels k some in
+            edge_start code_words ms loaded live of.0 r.0 (4 * k) r.1;
+      },
+    )
+
+    -- ---- its starts
+
+    start : (address : ℕ) → IsStartOf units address → IsStartIn image address
+    start address starts = record {
+      body = units;
+      idles = idles;
+      zeros = length (drop (FIRST_BASE + length (words_of_all ms)) image.code);
+      code = read;
+      starts = starts;
+    }
+
+    pub function_start : (m : Placed) (f : PlacedFunction) → IsFunction ms m f → IsStartIn image (entry_of m f)
+    function_start m f is_in =
+        let v = verified code_words ms loaded m is_in.placed in
+        start (entry_of m f)
+        (start_at code_words ms loaded m is_in.placed f.first (entry_busy m v.0 v.2.0 v.2.1 f is_in.function))
+
+    pub switch_start : (m : Placed) (slot entry : ℕ) (entries : List ℕ) → Contains ms m
+        → HasKind m slot (Switch entries) → Contains entries entry → IsStartIn image (4 * m.base + entry)
+    switch_start m slot entry entries has kind there =
+        let v = verified code_words ms loaded m has in
+        let e = switch_busy m v.0 v.2.0 v.2.1 slot entry entries kind there in
+        let same : 4 * (m.base + e.0) ≡ 4 * m.base + entry = omega (arith, e.1) in
+        subst (IsStartIn image) same
+        (start (4 * (m.base + e.0)) (start_at code_words ms loaded m has e.0 e.2))
+
+    pub return_start : (n : Placed) (f : PlacedFunction) (address : ℕ) → ReturnsTo ms n f address
+        → IsStartIn image address
+    return_start n f address call =
+        let v = verified code_words ms loaded call.caller call.placed in
+        let b = returns_busy call.caller v.0 v.2.0 v.2.1 call.at call.unit n f call.stands call.call in
+        subst (IsStartIn image) (sym call.after)
+        (start _ (start_at code_words ms loaded call.caller call.placed (call.at + size_of call.unit) b))
+
+    pub edge_start_in : (slot address : ℕ) → DirectEdge live slot address → IsStartIn image address
+    edge_start_in slot address edge =
+        start address (edge_start code_words ms loaded live of.0 slot address edge)
+
+    pub starts : HasStarts ms live image
+    starts = record {
+      functions = function_start;
+      switches = switch_start;
+      returns = return_start;
+      edges = edge_start_in;
+    }

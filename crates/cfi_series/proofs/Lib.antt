@@ -10,4 +10,12 @@ pub mod SeriesLemmas
 pub mod OrderLemmas
 pub mod EndLemmas
 pub mod GraphLemmas
+pub mod BusyLemmas
+pub mod JoinedLemmas
+pub mod SpelledLemmas
+pub mod TrimmedLemmas
+pub mod InsideLemmas
+pub mod TargetLemmas
+pub mod ClosedLemmas
 pub mod ImageLemmas
+pub mod GrowthLemmas

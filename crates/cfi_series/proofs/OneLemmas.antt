@@ -1,15 +1,15 @@
 -- One module that verifies, at the first free place.
 use Rattle.std.proofs.Common.{◌≡◌, ℕ, zero, suc, ◌+◌, ◌≤◌, List, [], ◌∷◌, length, take, Some, refl, ap, subst, ◌∙◌, sym, add-one, arith}
-use Rattle.std.specs.List.{slice_get}
+use Rattle.std.specs.List.{Contains, slice_get}
 use Rattle.std.proofs.lemmas.List.Elements.{All-nil, All-cons}
 use Rattle.cfi_word.specs.declared.map.TheConstants.{FIRST_BASE}
-use Rattle.cfi_word.specs.declared.limits.TheConstants.{MAX_CODE_WORDS}
+use Rattle.cfi_word.specs.declared.limits.TheConstants.{MIN_CODE_WORDS}
 use Rattle.cfi_aux.specs.declared.placed.Placed.{Placed}
 use Rattle.cfi_graph.specs.Shaped.{Follows}
 use Rattle.cfi_verify.specs.Example.{loop_module}
 use Rattle.cfi_verify.specs.Faults.{IsVerified}
 use Rattle.cfi_verify.proofs.ExampleLemmas.{verified}
-use Rattle.cfi_series.specs.Verified.{AreVerified}
+use Rattle.cfi_series.specs.Loaded.{IsVerifiedAmong, AreLoaded}
 
 abbrev modules : List Placed
 modules = loop_module ∷ []
@@ -23,16 +23,18 @@ next : (k : ℕ) (m n : Placed) → slice_get modules k ≡ Some m → slice_get
 next k m n here there =
     let none : slice_get modules (suc k) ≡ Some n = ap (slice_get modules) (sym (add-one k)) ∙ there in absurd (cc)
 
-each : (k : ℕ) (m : Placed) → slice_get modules k ≡ Some m → IsVerified m (take k modules)
+each : (k : ℕ) (m : Placed) → slice_get modules k ≡ Some m → IsVerifiedAmong (take k modules) m
 each zero m is =
-    let same : loop_module ≡ m = cc in subst (λ (n : Placed). IsVerified n []) same verified
+    let same : loop_module ≡ m = cc in
+    ([], All-nil (Contains []), subst (λ (n : Placed). IsVerified n []) same verified)
 each (suc k) m is = absurd (cc)
 
-pub one : AreVerified modules
+pub one : AreLoaded MIN_CODE_WORDS modules
 one = record {
+  size = record { multiple = refl; least = omega arith; most = omega arith };
   first = first;
   next = next;
-  ends = All-cons (λ (m : Placed). m.base + length m.words ≤ MAX_CODE_WORDS) loop_module [] (omega arith)
-      (All-nil (λ (m : Placed). m.base + length m.words ≤ MAX_CODE_WORDS));
+  ends = All-cons (λ (m : Placed). m.base + length m.words ≤ MIN_CODE_WORDS) loop_module [] (omega arith)
+      (All-nil (λ (m : Placed). m.base + length m.words ≤ MIN_CODE_WORDS));
   verified = each;
 }

@@ -1,5 +1,5 @@
 -- Verified modules at the next free places are shaped.
-use Rattle.std.proofs.Common.{◌≡◌, ℕ, zero, suc, ◌+◌, ◌<◌, ◌≤◌, Bool, true, false, ◌&&◌, Some, List, length, take, get_or, refl, ap, subst, ◌∙◌, ⊎_elim, add-one, arith}
+use Rattle.std.proofs.Common.{◌≡◌, ℕ, zero, suc, ◌+◌, ◌<◌, ◌≤◌, Bool, true, false, Some, List, length, get_or, ap, subst, ◌∙◌, ⊎_elim, add-one, arith}
 use Rattle.std.specs.Prelude.{IsTrue, nat_lt}
 use Rattle.std.specs.List.{slice_get}
 use Rattle.std.specs.Option.{option_map}
@@ -24,7 +24,7 @@ use Rattle.cfi_aux.specs.Extent.{end_of}
 use Rattle.cfi_verify.specs.Branches.{IsKindOf, IsRecordOf, IsEntry, AreEntries, AreEntriesIn}
 use Rattle.cfi_verify.specs.Faults.{IsVerifiedAs}
 use Rattle.cfi_verify.proofs.FunctionLemmas.{in_order}
-use Rattle.cfi_series.specs.Verified.{AreVerified}
+use Rattle.cfi_series.specs.Loaded.{AreLoaded}
 use Rattle.cfi_series.proofs.SlotLemmas.{slots_are}
 use Rattle.cfi_unit.proofs.SpotLemmas.{place_number, last_place, place_mono}
 
@@ -143,22 +143,25 @@ module _ (m : Placed) (loaded : List Placed) (spots : List Spot) (v : IsVerified
       }
 
 -- no module begins before the first word
-low : (ms : List Placed) → AreVerified ms → (k : ℕ) (d : Placed) → k < length ms → FIRST_BASE ≤ (get_or ms k d).base
-low ms a zero d within =
+low : (code_words : ℕ) (ms : List Placed) → AreLoaded code_words ms → (k : ℕ) (d : Placed) → k < length ms → FIRST_BASE ≤ (get_or ms k d).base
+low code_words ms a zero d within =
     let here = a.first (get_or ms 0 d) (slice_get-get_or ms 0 d within) in omega (arith, here.0)
-low ms a (suc k) d within =
+low code_words ms a (suc k) d within =
     let less : k < length ms = omega (arith, within) in
     let next : k + 1 ≡ suc k = add-one k in
     let there : slice_get ms (k + 1) ≡ Some (get_or ms (suc k) d) =
     ap (slice_get ms) next ∙ slice_get-get_or ms (suc k) d within in
     let follows = a.next k (get_or ms k d) (get_or ms (suc k) d) (slice_get-get_or ms k d less) there in
-    omega (arith, low ms a k d less, follows.words)
+    omega (arith, low code_words ms a k d less, follows.words)
 
-pub shaped : (ms : List Placed) → AreVerified ms → AreShaped ms
-shaped ms a = record {
+pub shaped : (code_words : ℕ) (ms : List Placed) → AreLoaded code_words ms → AreShaped ms
+shaped code_words ms a = record {
   shaped = λ k d within.
       let m = get_or ms k d in
-      let v = a.verified k m (slice_get-get_or ms k d within) in
-      (v.1.laid.units.code, shaped_as m (take k ms) v.0 v.1 (low ms a k d within) (a.ends k d within));
+      let v = a.verified k m (slice_get-get_or ms k d within) in (
+        v.2.1.laid.units.code,
+        shaped_as m v.0 v.2.0 v.2.1 (low code_words ms a k d within)
+            (omega (arith, a.ends k d within, a.size.most)),
+      );
   order = a.next;
 }

@@ -1,12 +1,10 @@
 -- The slots of code are those of its checks.
-use Rattle.std.proofs.Common.{◌≡◌, ℕ, zero, suc, ◌+◌, ◌<◌, ◌≤◌, List, [], ◌∷◌, length, take, get_or, map, refl, ap, sym, ◌∙◌, arith, length-append}
-use Rattle.std.specs.List.{flat_map, cons_option}
-use Rattle.std.proofs.Math.Seq.{take-length}
+use Rattle.std.proofs.Common.{◌≡◌, ℕ, ◌+◌, List, [], ◌∷◌, map, refl, ap, sym, ◌∙◌}
+use Rattle.std.specs.List.{cons_option}
 use Rattle.cfi_unit.specs.declared.unit.Unit.{Unit as CodeUnit}
 use Rattle.cfi_unit.specs.declared.unit.Unit.TheVariants as units
-use Rattle.cfi_unit.specs.Unit.{words_of, size_of}
-use Rattle.cfi_unit.proofs.CodeLemmas.{length-words_of}
-use Rattle.cfi_unit.specs.Spots.{place_of, spots_of, AreSpots, BeginsUnit}
+use Rattle.cfi_unit.specs.Unit.{size_of}
+use Rattle.cfi_unit.specs.Spots.{spots_of, AreSpots}
 use Rattle.cfi_graph.specs.Shaped.{slot_of, slots_of}
 use Rattle.cfi_unit.specs.declared.spot.Spot.{Spot}
 use Rattle.cfi_verify.specs.declared.checks.CheckSpot.{CheckSpot}

@@ -1,4 +1,5 @@
-pub mod Verified
+pub mod Loaded
+pub mod Growth
 pub mod Room
 pub mod Order
 pub mod Series

@@ -1,6 +1,6 @@
 -- The rooms of modules that are placed one after the other: words and slots follow on, and data begins at the next
 -- multiple of `DATA_ALIGNMENT`. Places in the code are words, places of data are addresses in bytes.
-use Rattle.std.specs.Prelude.{ℕ, ◌+◌, ◌*◌, ◌/◌, List, fold, length}
+use Rattle.std.specs.Prelude.{ℕ, ◌+◌, List, fold, length}
 use Rattle.cfi_aux.specs.declared.placed.Placed.{Placed}
 use Rattle.cfi_word.specs.declared.map.TheConstants.{FIRST_BASE, DATA_START, DATA_ALIGNMENT}
 use Rattle.cfi_place.specs.declared.room.Room.{Room}

@@ -7,7 +7,11 @@ ghost use Rattle.cfi_graph.specs.Reading.{HaveGraph};
 ghost use Rattle.cfi_graph.specs.Shaped.{AreShaped};
 ghost use Rattle.cfi_policy.specs.Image.{HaveImage};
 ghost use Rattle.cfi_verify.specs.Example.{loop_module};
-ghost use Rattle.cfi_series.specs.Verified.{AreVerified};
+ghost use Rattle.cfi_word.specs.declared.limits.TheConstants.{MIN_CODE_WORDS};
+ghost use Rattle.cfi_series.specs.Loaded.{AreLoaded, HaveClosedImages, HaveStarts};
+ghost use Rattle.cfi_series.specs.Growth.{IsHistoryOf, HasNumbers};
+ghost use Rattle.cfi_model.specs.History.{History, IsHistory};
+ghost use Rattle.cfi_policy.specs.Code.{IsCodeOf};
 ghost use Rattle.cfi_series.specs.declared.fault.JoinFault.{JoinFault};
 ghost use Rattle.cfi_series.specs.declared.fault.JoinFault.TheVariants.{Memory};
 ghost use Rattle.cfi_series.specs.Order.{Joins, IsJoinFault};
@@ -15,20 +19,47 @@ ghost use Rattle.cfi_series.specs.Series.{CanBeTaken, IsSeries};
 
 use cfi_graph::shaped_are_apart;
 
-/// Modules at the next free places of the code, each of which verifies against those before it, are shaped.
-pub fn verified_are_shaped()
-    ensures { (ms : List Placed) → AreVerified ms → AreShaped ms }
+/// Modules that were loaded one after the other are shaped.
+pub fn loaded_are_shaped()
+    ensures { (code_words : ℕ) (ms : List Placed) → AreLoaded code_words ms → AreShaped ms }
 {}
 
-/// Some modules are so: the one module of the one word `j .`.
-pub fn some_modules_are_verified()
-    ensures { AreVerified (loop_module ∷ []) }
+/// An image can be made of them, where a graph can: no direct edge leads past the code, since no module ends in a call.
+pub fn loaded_have_image()
+    ensures { (code_words : ℕ) (ms : List Placed) →
+        AreLoaded code_words ms → HaveGraph ms → HaveImage ms code_words }
 {}
 
-/// The modules of a series are verified one after the other at the next free places.
-pub fn series_are_verified()
+/// Each image of them is closed, whichever class numbers it has: every unit at a start leads to starts, and so does
+/// every direct edge.
+pub fn loaded_have_closed_images()
+    ensures { (code_words : ℕ) (ms : List Placed) →
+        AreLoaded code_words ms → HaveClosedImages code_words ms }
+{}
+
+/// Where control may come to is a start of each image of them.
+pub fn loaded_have_starts()
+    ensures { (code_words : ℕ) (ms : List Placed) →
+        AreLoaded code_words ms → HaveStarts code_words ms }
+{}
+
+/// The images that a growing series makes, one epoch a load and one a refresh, are a history: each is closed, and none
+/// takes back a word of the code.
+pub fn loaded_make_a_history()
+    ensures { (code_words : ℕ) (ms : List Placed) (starts : ℕ) (h : History) (code : List ℕ) →
+        AreLoaded code_words ms → IsCodeOf ms code_words code → IsHistoryOf code_words ms starts h →
+        HasNumbers h → IsHistory h code }
+{}
+
+/// Some modules are loaded so: the one module of the one word `j .`.
+pub fn some_modules_are_loaded()
+    ensures { AreLoaded MIN_CODE_WORDS (loop_module ∷ []) }
+{}
+
+/// The modules of a series are loaded one after the other, each verified against all before it.
+pub fn series_are_loaded()
     ensures { (code_words : ℕ) (placed : List Placed) →
-        IsSeries code_words placed → AreVerified placed }
+        IsSeries code_words placed → AreLoaded code_words placed }
 {}
 
 /// A graph can be made of the modules of a series, whatever their number.
@@ -36,17 +67,9 @@ pub fn series_have_graph()
     ensures { (code_words : ℕ) (placed : List Placed) →
         IsSeries code_words placed → HaveGraph placed }
 {
-    series_are_verified();
-    verified_are_shaped();
+    series_are_loaded();
+    loaded_are_shaped();
     shaped_are_apart();
-}
-
-/// An image can be made of them: no direct edge leads past the code, since no module ends in a call.
-pub fn series_have_image()
-    ensures { (code_words : ℕ) (placed : List Placed) →
-        IsSeries code_words placed → HaveImage placed code_words }
-{
-    series_have_graph();
 }
 
 /// A module joins those before it as one placed module, or has a fault, and never both.

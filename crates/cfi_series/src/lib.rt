@@ -15,8 +15,8 @@ mod series;
 
 pub use fault::JoinFault;
 pub use laws::{
-    one_answer, series_are_verified, series_have_graph, series_have_image,
-    some_module_can_be_taken, some_modules_are_verified, some_series_has_a_module,
-    verified_are_shaped,
+    loaded_are_shaped, loaded_have_closed_images, loaded_have_image, loaded_have_starts,
+    loaded_make_a_history, one_answer, series_are_loaded, series_have_graph,
+    some_module_can_be_taken, some_modules_are_loaded, some_series_has_a_module,
 };
 pub use series::Series;

@@ -5,12 +5,15 @@ ghost use Rattle.cfi_aux.specs.declared.placed.Placed.{Placed as PlacedModule};
 ghost use Rattle.cfi_graph.specs.Reading.{HaveGraph};
 ghost use Rattle.cfi_policy.specs.Image.{HaveImage};
 ghost use Rattle.cfi_series.specs.declared.fault.JoinFault.TheVariants.{Memory};
+ghost use Rattle.cfi_series.specs.Loaded.{AreLoaded, HaveClosedImages};
 ghost use Rattle.cfi_series.specs.Order.{IsJoinFault};
 ghost use Rattle.cfi_series.specs.Series.{with_module, JoinsTo, HasJoined, CanBeTaken, IsSeries};
 
 use crate::fault::JoinFault;
 use crate::joining::join;
-use crate::laws::{series_have_graph, series_have_image};
+use crate::laws::{
+    loaded_have_closed_images, loaded_have_image, series_are_loaded, series_have_graph,
+};
 use crate::names::{add_names, names_of};
 use cfi_aux::{Module, Placed};
 use cfi_place::Symbols;
@@ -86,15 +89,19 @@ impl Series {
         }
     }
 
-    /// The placed modules, in their order. They have a graph and an image.
+    /// The placed modules, in their order. They have a graph and an image, and each image of them is closed.
     pub fn modules(&self) -> &[Placed]
         ensures value { result.now ≡ self.now.placed }
         ensures series { IsSeries self.now.code_words self.now.placed }
         ensures graph { HaveGraph self.now.placed }
+        ensures loaded { AreLoaded self.now.code_words self.now.placed }
         ensures image { HaveImage self.now.placed self.now.code_words }
+        ensures closed { HaveClosedImages self.now.code_words self.now.placed }
     {
         series_have_graph();
-        series_have_image();
+        series_are_loaded();
+        loaded_have_image();
+        loaded_have_closed_images();
         &self.placed
     }
 }

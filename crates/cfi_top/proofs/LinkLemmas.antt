@@ -4,14 +4,13 @@ use Rattle.std.specs.Prelude.{All, slice_get, IsSomeAnd}
 use Rattle.std.proofs.lemmas.Bool.{cases_lt}
 use Rattle.std.proofs.lemmas.List.Elements.{All-weaker}
 use Rattle.std.proofs.lemmas.Option.{slice_get_past}
-use Rattle.cfi_commands.specs.declared.reading.FileFault.{FileFault}
-use Rattle.cfi_commands.specs.declared.reading.FileFault.TheVariants as faults
+use Rattle.cfi_commands.specs.declared.refusal.Refusal.{Refusal}
+use Rattle.cfi_commands.specs.declared.refusal.Refusal.TheVariants.{Link}
 use Rattle.cfi_commands.specs.Modules.{IsShortFile, IsFirstBadFile}
 use Rattle.cfi_top.specs.declared.command.Command.TheVariants as commands
-use Rattle.cfi_top.specs.declared.answer.Answer.{Answer}
-use Rattle.cfi_top.specs.Refused.{IsFileRefused}
+use Rattle.cfi_commands.proofs.FileLemmas.{some_stands}
 use Rattle.cfi_top.specs.Reading.{IsShort}
-use Rattle.cfi_top.specs.Outcome.{IsWorked}
+use Rattle.cfi_top.specs.Outcome.{Refuses}
 
 -- files that the program reads are short enough to be modules
 pub short_files : (files : List (List ℕ)) → All IsShort files → All IsShortFile files
@@ -26,18 +25,15 @@ some_within {X} xs k P some =
     ]
 
 -- the file at fault is one of the inputs
-pub bad_within : (inputs files : List (List ℕ)) (number : ℕ) (fault : FileFault) → length files ≡ length inputs
-    → IsFirstBadFile files number fault → number < length inputs
-bad_within inputs files number fault count bad = omega (arith, count, some_within files number _ bad.here)
+pub bad_within : (inputs files : List (List ℕ)) (number : ℕ) (refusal : Refusal) → length files ≡ length inputs
+    → IsFirstBadFile files number refusal → number < length inputs
+bad_within inputs files number refusal count bad = omega (arith, count, some_within files number _ bad.here)
 
 -- it is refused by its name
-pub link_refused : (output : List ℕ) (inputs files : List (List ℕ)) (number : ℕ) (name : List ℕ) (fault : FileFault)
-    (answer : Answer) → slice_get inputs number ≡ Some name → IsFirstBadFile files number fault
-    → IsFileRefused name fault answer → IsWorked (commands.Link output inputs) files [] answer
-link_refused output inputs files number name (faults.Elf fault) answer named bad is =
-    subst (IsWorked (commands.Link output inputs) files []) (sym is)
-    (record { number = number; named = named; first = bad })
-link_refused output inputs files number name (faults.Aux fault) answer named bad is =
-    subst (IsWorked (commands.Link output inputs) files []) (sym is)
-    (record { number = number; named = named; first = bad })
-link_refused output inputs files number name faults.Memory answer named bad is = absurd is
+pub link_refused : (output : List ℕ) (inputs files : List (List ℕ)) (number : ℕ) (name : List ℕ) (refusal : Refusal)
+    → slice_get inputs number ≡ Some name → IsFirstBadFile files number refusal
+    → Refuses (commands.Link output inputs) files [] name refusal
+link_refused output inputs files number name (Link fault) named bad =
+    absurd (some_stands _ (slice_get files number) (λ bytes is. is) bad.here)
+link_refused output inputs files number name refusal named bad =
+    record { number = number; named = named; first = bad }

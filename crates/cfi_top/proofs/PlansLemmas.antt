@@ -10,21 +10,23 @@ use Rattle.cfi_plan.specs.declared.fault.PlanFault.TheVariants as plan_faults
 use Rattle.cfi_plan.specs.Draft.{Fails}
 use Rattle.cfi_plan.specs.Reading.{plan_in}
 use Rattle.cfi_commands.specs.declared.refusal.Refusal.{Refusal}
-use Rattle.cfi_commands.specs.declared.refusal.Refusal.TheVariants.{Elf, Aux, Place, Verify}
-use Rattle.cfi_commands.specs.declared.fault.FilesFault.{FilesFault}
-use Rattle.cfi_commands.specs.declared.fault.FilesFault.TheVariants as summary
-use Rattle.cfi_commands.specs.Files.{IsFilesFault}
-use Rattle.cfi_commands.specs.declared.reading.FileFault.{FileFault}
+use Rattle.cfi_commands.specs.declared.refusal.Refusal.TheVariants as refusals
+use Rattle.cfi_commands.specs.declared.refusal.Refusal.TheVariants.{Place, Verify}
+use Rattle.cfi_commands.specs.declared.fault.CommandFault.{CommandFault}
+use Rattle.cfi_commands.specs.declared.fault.CommandFault.TheVariants.{File, Together, Memory}
+use Rattle.cfi_commands.specs.Files.{IsFilesFault, IsFirstBadModule}
+use Rattle.cfi_commands.proofs.FileLemmas.{some_stands}
+use Rattle.cfi_series.specs.declared.fault.JoinFault.{JoinFault}
+use Rattle.cfi_series.specs.declared.fault.JoinFault.TheVariants as joins
 use Rattle.cfi_commands.specs.Reading.{IsFileFault}
 use Rattle.cfi_commands.proofs.ModulesLemmas.{same_count}
-use Rattle.cfi_commands.specs.declared.reading.FileFault.TheVariants as faults
 use Rattle.cfi_top.specs.declared.answer.Answer.{Answer}
 use Rattle.cfi_top.specs.declared.answer.Answer.TheVariants as answers
 use Rattle.cfi_top.specs.declared.command.Command.TheVariants as commands
-use Rattle.cfi_top.specs.Outcome.{SaysFault, IsModuleRefused, RefusesPlan, IsWorked}
+use Rattle.cfi_top.specs.Outcome.{RefusesPlan, IsWorked}
 use Rattle.cfi_top.specs.Plans.{files_in, files_of, named_files}
 use Rattle.cfi_top.proofs.LinkLemmas.{some_within}
-use Rattle.cfi_top.specs.Refused.{IsAmong, IsFileRefused, IsFilesRefused, plan_refused}
+use Rattle.cfi_top.specs.Refused.{IsAmong, IsModuleRefused, plan_refused}
 
 -- the files that the bytes of a plan name are the plan's
 pub named_of : (bytes : List ℕ) (plan : Plan) → plan_in bytes ≡ Ok plan → named_files bytes ≡ files_of plan
@@ -42,28 +44,31 @@ found_at : {X : Type 0} (P : X → Type 0) (found : Option X) → IsSomeAnd foun
 found_at P None some = absurd some
 found_at P (Some x) some = (x, refl, some)
 
--- the fault of files is of one of them
-among : (code_words : ℕ) (files : List (List ℕ)) (fault : FilesFault) → IsFilesFault code_words files fault
-    → IsAmong (length files) fault
-among code_words files (summary.File number fault) bad =
-    some_within files number (λ bytes. IsFileFault bytes fault) bad.here
-among code_words files (summary.Place number fault) bad =
-    omega (
-      arith,
-      slice_get_within bad.modules number bad.refused.refused bad.refused.is,
-      same_count files bad.modules bad.read,
-    )
-among code_words files (summary.Verify number fault) bad =
-    omega (
-      arith,
-      slice_get_within bad.modules number bad.refused.refused bad.refused.is,
-      same_count files bad.modules bad.read,
-    )
-among code_words files summary.Memory bad = tt
+module _ (code_words : ℕ) (files : List (List ℕ)) where
+  joined_within : (number : ℕ) (fault : JoinFault) → IsFirstBadModule code_words files number fault
+      → number < length files
+  joined_within number fault bad =
+      omega (
+        arith,
+        slice_get_within bad.modules number bad.refused.refused bad.refused.is,
+        same_count files bad.modules bad.read,
+      )
+
+  -- the fault of files is of one of them
+  file_within : (number : ℕ) (refusal : Refusal) → IsFilesFault code_words files (File number refusal)
+      → number < length files
+  file_within number (Place fault) bad = joined_within number (joins.Place fault) bad
+  file_within number (Verify fault) bad = joined_within number (joins.Verify fault) bad
+  file_within number refusal bad = some_within files number (λ bytes. IsFileFault bytes refusal) bad.here
+
+  among : (fault : CommandFault) → IsFilesFault code_words files fault → IsAmong (length files) fault
+  among (File number refusal) bad = file_within number refusal bad
+  among (Together fault) bad = bad
+  among Memory bad = tt
 
 -- ... so it is of one of the plan's modules
 pub among_modules : (bytes : List ℕ) (plan : Plan) (files : List (List ℕ)) (modules : List PlanModule)
-    (fault : FilesFault) → plan_in bytes ≡ Ok plan → length files ≡ length (named_files bytes)
+    (fault : CommandFault) → plan_in bytes ≡ Ok plan → length files ≡ length (named_files bytes)
     → modules ≡ plan.modules → IsFilesFault plan.code_words files fault → IsAmong (length modules) fault
 among_modules bytes plan files modules fault is count same bad =
     let all : length files ≡ length modules =
@@ -105,43 +110,20 @@ module _ (plan bytes : List ℕ) (files : List (List ℕ)) where
         slice_get-map (λ (m : PlanModule). m.file) p.modules number
         ∙ ap (option_map (λ (m : PlanModule). m.file)) here
 
-    refused_at : (number : ℕ) (one : PlanModule) (fault : FilesFault) (refusal : Refusal)
-        → slice_get p.modules number ≡ Some one → IsFilesFault p.code_words files fault
-        → SaysFault refusal number fault → IsModuleRefused bytes files one.file refusal
-    refused_at number one fault refusal here first said = record {
-      plan = p;
-      is = is;
-      fault = fault;
-      first = first;
-      number = number;
-      said = said;
-      named = file_at number one here;
-    }
+    file_stands : (number : ℕ) (one : PlanModule) (refusal : Refusal) → slice_get p.modules number ≡ Some one
+        → IsFilesFault p.code_words files (File number refusal) → RefusesPlan plan bytes files one.file refusal
+    file_stands number one (refusals.Plan fault) here first =
+        absurd (some_stands _ (slice_get files number) (λ bytes is. is) first.here)
+    file_stands number one refusal here first =
+        record { plan = p; is = is; number = number; named = file_at number one here; first = first }
 
-    file_stands : (number : ℕ) (one : PlanModule) (fault : FileFault) (answer : Answer)
-        → slice_get p.modules number ≡ Some one → IsFilesFault p.code_words files (summary.File number fault)
-        → IsFileRefused one.file fault answer → Stands answer
-    file_stands number one (faults.Elf fault) answer here first said =
-        subst Stands (sym said)
-        (refused_at number one (summary.File number (faults.Elf fault)) (Elf fault) here first refl)
-    file_stands number one (faults.Aux fault) answer here first said =
-        subst Stands (sym said)
-        (refused_at number one (summary.File number (faults.Aux fault)) (Aux fault) here first refl)
-    file_stands number one faults.Memory answer here first said = absurd said
-
-    pub files_stand : (fault : FilesFault) (answer : Answer) → IsFilesFault p.code_words files fault
-        → IsFilesRefused p.modules fault answer → Stands answer
-    files_stand (summary.File number fault) answer first said =
+    pub files_stand : (fault : CommandFault) (answer : Answer) → IsFilesFault p.code_words files fault
+        → IsModuleRefused p.modules fault answer → Stands answer
+    files_stand (File number refusal) answer first said =
         let one = found_at _ (slice_get p.modules number) said in
-        file_stands number one.0 fault answer one.1 first one.2
-    files_stand (summary.Place number fault) answer first said =
-        let one = found_at _ (slice_get p.modules number) said in
-        subst Stands (sym one.2) (refused_at number one.0 (summary.Place number fault) (Place fault) one.1 first refl)
-    files_stand (summary.Verify number fault) answer first said =
-        let one = found_at _ (slice_get p.modules number) said in
-        subst Stands (sym one.2)
-        (refused_at number one.0 (summary.Verify number fault) (Verify fault) one.1 first refl)
-    files_stand summary.Memory answer first said = absurd said
+        subst Stands (sym one.2) (file_stands number one.0 refusal one.1 first)
+    files_stand (Together fault) answer first said = absurd said
+    files_stand Memory answer first said = absurd said
 
   -- it is what the commands on plans come to
   pub verify_stands : (answer : Answer) → Stands answer → IsWorked (commands.Verify plan) (bytes ∷ []) files answer

@@ -1,31 +1,21 @@
 -- What each command comes to, by what the shelf tells and counts before and after.
 use Rattle.std.specs.Prelude.{◌≡◌, ◌≢◌, ℕ, ◌⊎◌, List, [], ◌∷◌, slice_get, Some, Ok, Err}
-use Rattle.elf_read.specs.declared.fault.ElfFault.TheVariants as elf_faults
-use Rattle.rv_asm.specs.declared.fault.AsmFault.TheVariants as asm_faults
-use Rattle.rv_asm.specs.Assembled.{object_in}
-use Rattle.elf_read.specs.Fault.{IsFirstFault}
 use Rattle.cfi_bare.specs.File.{IsAccepted, IsFirstRefusal}
 use Rattle.cfi_plan.specs.declared.plan.Plan.{Plan as ModulePlan}
 use Rattle.cfi_plan.specs.declared.fault.PlanFault.TheVariants as plan_faults
 use Rattle.cfi_plan.specs.Reading.{plan_in}
 use Rattle.cfi_commands.specs.declared.refusal.Refusal.{Refusal}
-use Rattle.cfi_commands.specs.declared.refusal.Refusal.TheVariants.{Bare, Elf, Aux, Instr, Asm, Link, Plan, Place, Verify}
+use Rattle.cfi_commands.specs.declared.refusal.Refusal.TheVariants.{Bare, Link, Plan}
 use Rattle.cfi_report.specs.declared.report.GuestPart.{GuestPart}
-use Rattle.cfi_commands.specs.declared.fault.FilesFault.{FilesFault}
-use Rattle.cfi_commands.specs.declared.fault.FilesFault.TheVariants as summary
+use Rattle.cfi_commands.specs.declared.fault.CommandFault.TheVariants.{File, Together}
 use Rattle.cfi_commands.specs.Files.{IsFilesFault}
 use Rattle.cfi_commands.specs.Graph.{IsGraphText}
 use Rattle.cfi_commands.specs.Verified.{IsVerifiedText}
-use Rattle.cfi_commands.specs.Assembling.{IsAssembled}
-use Rattle.cfi_commands.specs.declared.reading.FileFault.{FileFault}
-use Rattle.cfi_commands.specs.declared.reading.FileFault.TheVariants as faults
-use Rattle.cfi_commands.specs.declared.instrumenting.InstrumentFault.TheVariants as instruments
+use Rattle.cfi_commands.specs.Assembling.{IsAssembled, IsSourceFault}
 use Rattle.cfi_commands.specs.Instrumenting.{IsInstrumentedFile, IsInstrumentFault}
-use Rattle.cfi_commands.specs.declared.linking.LinkingFault.TheVariants as linkings
 use Rattle.cfi_commands.specs.Linking.{IsLinkedFile, IsLinkingFault}
-use Rattle.cfi_commands.specs.Listing.{IsObjectListing}
+use Rattle.cfi_commands.specs.Listing.{IsObjectListing, IsObjectFault}
 use Rattle.cfi_commands.specs.Modules.{IsFirstBadFile}
-use Rattle.cfi_commands.specs.Reading.{IsFileFault}
 use Rattle.cfi_top.specs.declared.command.Command.{Command}
 use Rattle.cfi_top.specs.declared.command.Command.TheVariants as commands
 use Rattle.cfi_top.specs.declared.answer.Answer.{Answer}
@@ -65,52 +55,35 @@ IsMade (commands.Run input) (bytes ∷ []) more (answers.Ran part) = Justifies b
 IsMade command files more answer = ⊥
 
 -- of the files of these names one is no module, the first of them, and this is its name
-pub record IsNamedBad (names files : List (List ℕ)) (name : List ℕ) (fault : FileFault) : Type 0 where
+pub record IsNamedBad (names files : List (List ℕ)) (name : List ℕ) (refusal : Refusal) : Type 0 where
   pub number : ℕ
   pub named : slice_get names number ≡ Some name
-  pub first : IsFirstBadFile files number fault
-
--- the refusal says that the file of the module of this number has this fault
-abbrev pub SaysFault : Refusal → (number : ℕ) → FilesFault → Type 0
-SaysFault (Elf fault) number found = found ≡ summary.File number (faults.Elf fault)
-SaysFault (Aux fault) number found = found ≡ summary.File number (faults.Aux fault)
-SaysFault (Place fault) number found = found ≡ summary.Place number fault
-SaysFault (Verify fault) number found = found ≡ summary.Verify number fault
-SaysFault refusal number found = ⊥
+  pub first : IsFirstBadFile files number refusal
 
 -- the bytes are a plan, and the file of this name, which one of its modules has, is refused for the first fault of the
 -- modules' files
-pub record IsModuleRefused (bytes : List ℕ) (files : List (List ℕ)) (name : List ℕ) (refusal : Refusal) : Type 0 where
+pub record IsModuleAtFault (bytes : List ℕ) (files : List (List ℕ)) (name : List ℕ) (refusal : Refusal) : Type 0 where
   pub plan : ModulePlan
   pub is : plan_in bytes ≡ Ok plan
-  pub fault : FilesFault
-  pub first : IsFilesFault plan.code_words files fault
   pub number : ℕ
-  pub said : SaysFault refusal number fault
   pub named : slice_get (files_of plan) number ≡ Some name
+  pub first : IsFilesFault plan.code_words files (File number refusal)
 
 -- why the bytes of a plan, or the files that it names, are refused, and the file that is at fault
 abbrev pub RefusesPlan : (plan bytes : List ℕ) → (files : List (List ℕ)) → (name : List ℕ) → Refusal → Type 0
 RefusesPlan plan bytes files name (Plan fault) =
     (name ≡ plan) × (plan_in bytes ≡ Err fault) × (fault ≢ plan_faults.Memory)
-RefusesPlan plan bytes files name refusal = IsModuleRefused bytes files name refusal
+RefusesPlan plan bytes files name refusal = IsModuleAtFault bytes files name refusal
 
 -- why a command refuses its files, and the file that is at fault: the first of the faults
 abbrev pub Refuses : Command → (files more : List (List ℕ)) → (name : List ℕ) → Refusal → Type 0
-Refuses (commands.Asm input output) (bytes ∷ []) more name (Asm fault) =
-    (name ≡ input) × (object_in bytes ≡ Err fault) × (fault ≢ asm_faults.Memory)
-Refuses (commands.List input) (bytes ∷ []) more name (Elf fault) =
-    (name ≡ input) × IsFirstFault bytes fault × (fault ≢ elf_faults.Memory)
-Refuses (commands.Instrument input output) (bytes ∷ []) more name (Elf fault) =
-    (name ≡ input) × IsFileFault bytes (faults.Elf fault)
-Refuses (commands.Instrument input output) (bytes ∷ []) more name (Aux fault) =
-    (name ≡ input) × IsFileFault bytes (faults.Aux fault)
-Refuses (commands.Instrument input output) (bytes ∷ []) more name (Instr fault) =
-    (name ≡ input) × IsInstrumentFault bytes (instruments.Instr fault)
-Refuses (commands.Link output inputs) files more name (Elf fault) = IsNamedBad inputs files name (faults.Elf fault)
-Refuses (commands.Link output inputs) files more name (Aux fault) = IsNamedBad inputs files name (faults.Aux fault)
+Refuses (commands.Asm input output) (bytes ∷ []) more name refusal = (name ≡ input) × IsSourceFault bytes refusal
+Refuses (commands.List input) (bytes ∷ []) more name refusal = (name ≡ input) × IsObjectFault bytes refusal
+Refuses (commands.Instrument input output) (bytes ∷ []) more name refusal =
+    (name ≡ input) × IsInstrumentFault bytes refusal
 Refuses (commands.Link output inputs) files more name (Link fault) =
-    (name ≡ output) × IsLinkingFault files (linkings.Link fault)
+    (name ≡ output) × IsLinkingFault files (Together fault)
+Refuses (commands.Link output inputs) files more name refusal = IsNamedBad inputs files name refusal
 Refuses (commands.Verify plan) (bytes ∷ []) more name refusal = RefusesPlan plan bytes more name refusal
 Refuses (commands.Graph plan) (bytes ∷ []) more name refusal = RefusesPlan plan bytes more name refusal
 Refuses (commands.Run input) (bytes ∷ []) more name (Bare refusal) = (name ≡ input) × IsFirstRefusal bytes refusal

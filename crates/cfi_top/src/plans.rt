@@ -8,7 +8,7 @@ ghost use Rattle.cfi_top.specs.Plans.{named_files};
 ghost use Rattle.cfi_top.specs.Reading.{IsShort};
 
 use crate::answer::Answer;
-use crate::refused::{files_refused, plan_refused};
+use crate::refused::{module_refused, plan_refused};
 use cfi_commands::{graph_text, verified_text};
 use cfi_plan::read_plan;
 use cfi_values::{Bytes, Text};
@@ -34,7 +34,7 @@ pub fn verify(
     };
     match verified_text(alloc, &found, files) {
         Ok(text) => Ok(Answer::Print(Bytes::from_vec(text))),
-        Err(fault) => files_refused(alloc, found.modules.as_slice(), fault),
+        Err(fault) => module_refused(alloc, found.modules.as_slice(), fault),
     }
 }
 
@@ -53,6 +53,6 @@ pub fn graph(alloc: Global, plan: Text, bytes: &[u8], files: &[Bytes]) -> Result
     };
     match graph_text(alloc, &found, files) {
         Ok(text) => Ok(Answer::Print(Bytes::from_vec(text))),
-        Err(fault) => files_refused(alloc, found.modules.as_slice(), fault),
+        Err(fault) => module_refused(alloc, found.modules.as_slice(), fault),
     }
 }

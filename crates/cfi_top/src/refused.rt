@@ -2,23 +2,23 @@
 
 ghost use Rattle.std.specs.Prelude.{◌≡◌, ◌≢◌, length, IfOk};
 ghost use Rattle.cfi_plan.specs.declared.fault.PlanFault.TheVariants.{Memory};
-ghost use Rattle.cfi_top.specs.Refused.{IsAmong, IsFileRefused, IsFilesRefused, plan_refused};
+ghost use Rattle.cfi_top.specs.Refused.{IsAmong, IsRefusalOf, IsModuleRefused, plan_refused};
 
 use crate::answer::Answer;
 use crate::names::text_of;
-use cfi_commands::{FileFault, FilesFault, Refusal};
+use cfi_commands::{CommandFault, Refusal};
 use cfi_plan::{PlanFault, PlanModule};
 use cfi_values::Text;
 use std::alloc::{AllocError, Global};
 
-/// The refusal of a file that is no module.
-pub fn file_refused(input: Text, fault: FileFault) -> Result<Answer, AllocError>
-    ensures { IfOk result (IsFileRefused input fault) }
+/// The refusal of the file of this name.
+pub fn refused(name: Text, fault: CommandFault) -> Result<Answer, AllocError>
+    ensures { IfOk result (IsRefusalOf name fault) }
 {
     match fault {
-        FileFault::Elf(elf) => Ok(Answer::Refused(input, Refusal::Elf(elf))),
-        FileFault::Aux(aux) => Ok(Answer::Refused(input, Refusal::Aux(aux))),
-        FileFault::Memory => Err(AllocError),
+        CommandFault::File(_, refusal) => Ok(Answer::Refused(name, refusal)),
+        CommandFault::Together(fault) => Ok(Answer::Refused(name, Refusal::Link(fault))),
+        CommandFault::Memory => Err(AllocError),
     }
 }
 
@@ -33,27 +33,21 @@ pub fn plan_refused(plan: Text, fault: PlanFault) -> Result<Answer, AllocError>
     }
 }
 
-/// The refusal of the first of the files of modules that has a fault.
-pub fn files_refused(
+/// The refusal of the first of the files of a plan's modules that has a fault.
+pub fn module_refused(
     alloc: Global,
     modules: &[PlanModule],
-    fault: FilesFault,
+    fault: CommandFault,
 ) -> Result<Answer, AllocError>
     requires { IsAmong (length modules.now) fault }
-    ensures { IfOk result (IsFilesRefused modules.now fault) }
+    ensures { IfOk result (IsModuleRefused modules.now fault) }
 {
     match fault {
-        FilesFault::File(number, fault) => {
-            file_refused(text_of(alloc, modules[number].file.as_str())?, fault)
-        }
-        FilesFault::Place(number, fault) => {
+        CommandFault::File(number, refusal) => {
             let file = text_of(alloc, modules[number].file.as_str())?;
-            Ok(Answer::Refused(file, Refusal::Place(fault)))
+            Ok(Answer::Refused(file, refusal))
         }
-        FilesFault::Verify(number, fault) => {
-            let file = text_of(alloc, modules[number].file.as_str())?;
-            Ok(Answer::Refused(file, Refusal::Verify(fault)))
-        }
-        FilesFault::Memory => Err(AllocError),
+        CommandFault::Together(_) => unreachable!(),
+        CommandFault::Memory => Err(AllocError),
     }
 }

@@ -10,17 +10,13 @@ use crate::command::Command;
 use crate::names::text_of;
 use crate::plans::{graph, verify};
 use crate::reading::{only, read_files};
-use crate::refused::file_refused;
+use crate::refused::refused;
 use crate::run::run_bare;
 use cfi_bare::accept;
-use cfi_commands::{
-    InstrumentFault, LinkingFault, Refusal, assembled, instrumented, linked, listing_of,
-};
+use cfi_commands::{CommandFault, Refusal, assembled, instrumented, linked, listing_of};
 use cfi_io::{Gate, Shelf};
 use cfi_values::{Bytes, Text};
 use cfi_word::limits::FUEL;
-use elf_read::ElfFault;
-use rv_asm::AsmFault;
 use std::alloc::{AllocError, Global};
 
 // Assembles a source.
@@ -30,8 +26,7 @@ fn asm(alloc: Global, input: Text, output: Text, bytes: &[u8]) -> Result<Answer,
 {
     match assembled(alloc, bytes) {
         Ok(file) => Ok(Answer::Save(output, Bytes::from_vec(file))),
-        Err(AsmFault::Memory) => Err(AllocError),
-        Err(fault) => Ok(Answer::Refused(input, Refusal::Asm(fault))),
+        Err(fault) => refused(input, fault),
     }
 }
 
@@ -42,8 +37,7 @@ fn list(alloc: Global, input: Text, bytes: &[u8]) -> Result<Answer, AllocError>
 {
     match listing_of(alloc, bytes) {
         Ok(text) => Ok(Answer::Print(Bytes::from_vec(text))),
-        Err(ElfFault::Memory) => Err(AllocError),
-        Err(fault) => Ok(Answer::Refused(input, Refusal::Elf(fault))),
+        Err(fault) => refused(input, fault),
     }
 }
 
@@ -54,9 +48,7 @@ fn instrument(alloc: Global, input: Text, output: Text, bytes: &[u8]) -> Result<
 {
     match instrumented(alloc, bytes) {
         Ok(made) => Ok(Answer::Save(output, Bytes::from_vec(made))),
-        Err(InstrumentFault::File(fault)) => file_refused(input, fault),
-        Err(InstrumentFault::Instr(fault)) => Ok(Answer::Refused(input, Refusal::Instr(fault))),
-        Err(InstrumentFault::Memory) => Err(AllocError),
+        Err(fault) => refused(input, fault),
     }
 }
 
@@ -69,12 +61,11 @@ fn link(alloc: Global, output: Text, inputs: &[Text], files: &[Bytes]) -> Result
 {
     match linked(alloc, files) {
         Ok(joined) => Ok(Answer::Save(output, Bytes::from_vec(joined))),
-        Err(LinkingFault::File { number, fault }) => {
+        Err(CommandFault::File(number, refusal)) => {
             let input = text_of(alloc, inputs[number].as_str())?;
-            file_refused(input, fault)
+            Ok(Answer::Refused(input, refusal))
         }
-        Err(LinkingFault::Link(fault)) => Ok(Answer::Refused(output, Refusal::Link(fault))),
-        Err(LinkingFault::Memory) => Err(AllocError),
+        Err(fault) => refused(output, fault),
     }
 }
 

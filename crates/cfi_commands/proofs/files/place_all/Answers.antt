@@ -1,5 +1,5 @@
 use Rattle.std.proofs.Common.{sym, subst}
-use Rattle.cfi_commands.specs.Files.{IsSeriesFault}
+use Rattle.cfi_commands.specs.inner.Order.{IsSeriesFault}
 use Rattle.cfi_commands.proofs.FileLemmas.{order_more, series_fault}
 use Rattle.cfi_commands.proofs.files.place_all.Goals as goal
 

@@ -1,6 +1,6 @@
 use Rattle.std.proofs.Common.{All, sym, subst}
 use Rattle.cfi_series.specs.Series.{CanBeTaken}
-use Rattle.cfi_commands.proofs.FileLemmas.{all_taken}
+use Rattle.cfi_commands.proofs.FileLemmas.{all_taken, modules_as_files}
 use Rattle.cfi_commands.proofs.files.placed_files.Goals as goal
 
 -- what was read of files can be taken
@@ -11,3 +11,8 @@ place_all-requires c =
       taken = subst (All CanBeTaken) (sym c.as_slice.ensures)
           (all_taken c.args.files.now c.in_ok-modules.modules read.ok read.sound);
     }
+
+-- a file is no module
+pub returns-in_err-modules-clause-fault : goal.returns-in_err-modules-clause-fault
+returns-in_err-modules-clause-fault c =
+    modules_as_files c.args.plan.now.code_words c.args.files.now _ c.in_err-modules.ensures.fault

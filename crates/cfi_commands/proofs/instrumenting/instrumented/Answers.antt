@@ -1,5 +1,5 @@
 use Rattle.cfi_types.proofs.Tables.{small_count, small_fields}
-use Rattle.cfi_commands.proofs.InstrumentingLemmas.{short_text, few_relocs}
+use Rattle.cfi_commands.proofs.InstrumentingLemmas.{short_text, few_relocs, module_as_instrument}
 use Rattle.cfi_commands.proofs.instrumenting.instrumented.Goals as goal
 
 -- the parts of what was read can be counted
@@ -15,3 +15,8 @@ instrument-requires c =
       text = short_text c.args.bytes.now unplaced file;
       relocs = few_relocs c.args.bytes.now unplaced file;
     }
+
+-- the file is no module
+pub returns-in_err-unplaced-clause-fault : goal.returns-in_err-unplaced-clause-fault
+returns-in_err-unplaced-clause-fault c =
+    module_as_instrument c.args.bytes.now _ c.in_err-unplaced.ensures.fault

@@ -1,6 +1,6 @@
 use Rattle.std.proofs.Common.{sym, subst}
 use Rattle.cfi_link.specs.Linked.{AreModules}
-use Rattle.cfi_commands.proofs.LinkingLemmas.{linkable}
+use Rattle.cfi_commands.proofs.LinkingLemmas.{linkable, modules_as_linking}
 use Rattle.cfi_commands.proofs.linking.linked.Goals as goal
 
 -- what was read of files can be linked
@@ -10,3 +10,7 @@ link-requires c =
     subst AreModules (sym c.as_slice.ensures)
     (linkable c.args.files.now c.in_ok-modules.modules read.ok c.requires.count read.sound
     c.read_can_be_written.ensures)
+
+-- a file is no module
+pub returns-in_err-modules-clause-fault : goal.returns-in_err-modules-clause-fault
+returns-in_err-modules-clause-fault c = modules_as_linking c.args.files.now _ c.in_err-modules.ensures.fault

@@ -1,4 +1,4 @@
-use Rattle.std.proofs.Common.{rules}
+use Rattle.std.proofs.Common.{rules, refl}
 use Rattle.std.specs.Prelude.{◌≢◌}
 use Rattle.cfi_aux.specs.declared.fault.AuxFault.TheVariants.{Memory}
 use Rattle.cfi_aux.specs.Module.{module_in}
@@ -20,6 +20,6 @@ returns-in-Err-module_of c =
     record {
       ok = tt;
       sound = tt;
-      fault = (object, c.in-Ok.ensures.ok, due, other);
+      fault = (refl, object, c.in-Ok.ensures.ok, due, other);
       only = λ m file. absurd (refused_is_none _ object fault m c.in-Ok.ensures.ok due file);
     }

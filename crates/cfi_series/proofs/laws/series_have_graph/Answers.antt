@@ -3,5 +3,6 @@ use Rattle.cfi_series.proofs.laws.series_have_graph.Goals as goal
 
 pub returns : goal.returns
 returns c = λ code_words placed series.
-    let verified = c.series_are_verified.ensures code_words placed series in
-    have_graph code_words placed series (c.shaped_are_apart.ensures placed (c.verified_are_shaped.ensures placed verified))
+    let loaded = c.series_are_loaded.ensures code_words placed series in
+    have_graph code_words placed series
+    (c.shaped_are_apart.ensures placed (c.loaded_are_shaped.ensures code_words placed loaded))

@@ -1,12 +1,12 @@
 use Rattle.std.proofs.Common.{subst}
 use Rattle.std.proofs.lemmas.Result.{IfOk-weaker}
-use Rattle.cfi_top.specs.Refused.{IsFilesRefused}
+use Rattle.cfi_top.specs.Refused.{IsModuleRefused}
 use Rattle.cfi_top.proofs.PlansLemmas.{among_modules, files_stand, graph_stands}
 use Rattle.cfi_top.proofs.plans.graph.Goals as goal
 
 -- the fault is of one of the plan's modules
-pub files_refused-requires : goal.files_refused-requires
-files_refused-requires c =
+pub module_refused-requires : goal.module_refused-requires
+module_refused-requires c =
     among_modules c.args.bytes.now c.in-Ok.found c.args.files.now c.as_slice.result.now c.in-Err-graph_text.fault
     c.in-Ok.ensures.due c.requires.named c.as_slice.ensures c.in-Err-graph_text.ensures.fault
 
@@ -17,8 +17,8 @@ returns c =
     let bytes = c.args.bytes.now in
     let files = c.args.files.now in
     let fault = c.in-Err-graph_text.fault in
-    IfOk-weaker c.files_refused.result _ _
+    IfOk-weaker c.module_refused.result _ _
     (λ answer said. graph_stands name bytes files answer
     (files_stand name bytes files c.in-Ok.found c.in-Ok.ensures.due fault answer c.in-Err-graph_text.ensures.fault
-    (subst (λ modules. IsFilesRefused modules fault answer) c.as_slice.ensures said)))
-    c.files_refused.ensures
+    (subst (λ modules. IsModuleRefused modules fault answer) c.as_slice.ensures said)))
+    c.module_refused.ensures

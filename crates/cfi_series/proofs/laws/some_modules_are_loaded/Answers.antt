@@ -1,5 +1,5 @@
 use Rattle.cfi_series.proofs.OneLemmas.{one}
-use Rattle.cfi_series.proofs.laws.some_modules_are_verified.Goals as goal
+use Rattle.cfi_series.proofs.laws.some_modules_are_loaded.Goals as goal
 
 pub returns : goal.returns
 returns c = one

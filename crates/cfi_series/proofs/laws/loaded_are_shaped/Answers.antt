@@ -1,5 +1,5 @@
 use Rattle.cfi_series.proofs.ShapedLemmas.{shaped}
-use Rattle.cfi_series.proofs.laws.verified_are_shaped.Goals as goal
+use Rattle.cfi_series.proofs.laws.loaded_are_shaped.Goals as goal
 
 pub returns : goal.returns
 returns c = shaped
