@@ -1,5 +1,5 @@
 -- The fault of modules that are placed one after the other.
-use Rattle.std.specs.Prelude.{ℕ, List, ⊤}
+use Rattle.std.specs.Prelude.{◌≡◌, ℕ, List}
 use Rattle.cfi_aux.specs.declared.modules.Module.{Module}
 use Rattle.cfi_series.specs.declared.fault.JoinFault.{JoinFault}
 use Rattle.cfi_series.specs.declared.fault.JoinFault.TheVariants as joins

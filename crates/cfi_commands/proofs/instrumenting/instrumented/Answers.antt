@@ -1,3 +1,4 @@
+use Rattle.std.proofs.lemmas.Result.{err_from_is_err_and}
 use Rattle.cfi_types.proofs.Tables.{small_count, small_fields}
 use Rattle.cfi_commands.proofs.InstrumentingLemmas.{short_text, few_relocs, module_as_instrument}
 use Rattle.cfi_commands.proofs.instrumenting.instrumented.Goals as goal
@@ -19,4 +20,5 @@ instrument-requires c =
 -- the file is no module
 pub returns-in_err-unplaced-clause-fault : goal.returns-in_err-unplaced-clause-fault
 returns-in_err-unplaced-clause-fault c =
-    module_as_instrument c.args.bytes.now _ c.in_err-unplaced.ensures.fault
+    let p = err_from_is_err_and c.from_residual.result c.from_residual.ensures.1 in
+    rw (p.1, p.2) (module_as_instrument c.args.bytes.now _ c.in_err-unplaced.ensures.fault)

@@ -1,4 +1,5 @@
 use Rattle.std.proofs.Common.{sym, subst}
+use Rattle.std.proofs.lemmas.Result.{err_from_is_err_and}
 use Rattle.cfi_link.specs.Linked.{AreModules}
 use Rattle.cfi_commands.proofs.LinkingLemmas.{linkable, modules_as_linking}
 use Rattle.cfi_commands.proofs.linking.linked.Goals as goal
@@ -13,4 +14,6 @@ link-requires c =
 
 -- a file is no module
 pub returns-in_err-modules-clause-fault : goal.returns-in_err-modules-clause-fault
-returns-in_err-modules-clause-fault c = modules_as_linking c.args.files.now _ c.in_err-modules.ensures.fault
+returns-in_err-modules-clause-fault c =
+    let p = err_from_is_err_and c.from_residual.result c.from_residual.ensures.1 in
+    rw (p.1, p.2) (modules_as_linking c.args.files.now _ c.in_err-modules.ensures.fault)

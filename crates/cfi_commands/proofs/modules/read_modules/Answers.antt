@@ -1,5 +1,6 @@
 use Rattle.std.proofs.Common.{◌≡◌, ◌+◌, length, take, All, sym, subst}
 use Rattle.std.proofs.lemmas.List.Elements.{All-push}
+use Rattle.std.proofs.lemmas.Result.{err_from_is_err_and}
 use Rattle.cfi_aux.specs.Sound.{IsSoundModule}
 use Rattle.cfi_commands.specs.Modules.{AreModuleFiles}
 use Rattle.cfi_commands.proofs.ModulesLemmas.{more_modules, modules_fault}
@@ -8,9 +9,11 @@ use Rattle.cfi_commands.proofs.modules.read_modules.Goals as goal
 -- the file is no module, and those before it are
 pub returns-in_err-found-clause-fault : goal.returns-in_err-found-clause-fault
 returns-in_err-found-clause-fault c =
-    modules_fault c.args.files.now c.loop-number.modules.items c.loop-number.number c.index-files-number.result
+    let p = err_from_is_err_and c.from_residual.result c.from_residual.ensures.1 in
+    rw (p.1, p.2)
+    (modules_fault c.args.files.now c.loop-number.modules.items c.loop-number.number c.index-files-number.result
     c.as_slice.result.now c.loop-number-test.true c.index-files-number.is c.as_slice.ensures
-    c.loop-number.invariant.are _ c.in_err-found.ensures.fault
+    c.loop-number.invariant.are _ c.in_err-found.ensures.fault)
 
 -- the file is a module too
 pub loop-number-preserved : goal.loop-number-preserved

@@ -20,6 +20,6 @@ returns-in-Err-module_of c =
     record {
       ok = tt;
       sound = tt;
-      fault = (refl, object, c.in-Ok.ensures.ok, due, other);
+      fault = (refl, (object, c.in-Ok.ensures.ok, due, other));
       only = λ m file. absurd (refused_is_none _ object fault m c.in-Ok.ensures.ok due file);
     }
