@@ -1,29 +1,30 @@
--- The image of words that can run is closed.
-use Rattle.std.proofs.Common.{◌≡◌, ◌≢◌, ℕ, ◌+◌, ◌-◌, ◌*◌, ◌<◌, ◌≤◌, ℤ, pos, negsuc, Bool, not, true, false, List, ◌++◌, length, drop, replicate, get_or, Some, refl, ap, sym, subst, ◌∙◌, ⊎_elim, arith, length-append, append_assoc}
-use Rattle.std.specs.List.{slice_get}
-use Rattle.std.proofs.Math.Seq.{drop-append_seam}
-use Rattle.std.proofs.lemmas.Bool.{cases_lt, cases_eq, false≢true}
-use Rattle.std.proofs.lemmas.List.{append-nil, length-replicate, get_or-replicate, get_or_past}
-use Rattle.std.proofs.lemmas.List.Elements.{All-get_or, All-from_recursion}
-use Rattle.std.proofs.lemmas.Option.{slice_get_within, get_or_from_slice_get}
-use Rattle.cfi_unit.specs.declared.unit.Unit.{Unit as CodeUnit}
-use Rattle.cfi_unit.specs.declared.unit.Unit.TheVariants as units
-use Rattle.cfi_unit.specs.Unit.{IsUnit, size_of}
-use Rattle.cfi_unit.specs.Code.{UnitCode}
-use Rattle.cfi_word.specs.declared.sizes.TheConstants.{SLOTS}
+-- The image of words that can run is one of a module that was loaded, with the labels of no policy.
+use Rattle.std.proofs.Common.{◌≡◌, inr, ℕ, ◌+◌, ◌-◌, ◌*◌, ◌<◌, ◌≤◌, List, [], ◌∷◌, ◌++◌, length, replicate, get_or, slice_index, All, refl, ap, sym, subst, ◌∙◌, ⊎_elim, arith, length-append}
+use Rattle.std.specs.List.{Contains}
+use Rattle.std.proofs.Math.ListN.{get_or-append}
+use Rattle.std.proofs.Math.Seq.{get_or-append_right}
+use Rattle.std.proofs.lemmas.Bool.{cases_lt}
+use Rattle.std.proofs.lemmas.List.{length-replicate, get_or-replicate}
+use Rattle.std.proofs.lemmas.List.Elements.{All-nil, All-cons, All-head}
 use Rattle.cfi_word.specs.declared.lists.Image.{Image}
 use Rattle.cfi_word.specs.declared.ids.TheConstants.{FIELD_MAX}
 use Rattle.cfi_word.specs.declared.map.TheConstants.{FIRST_BASE}
 use Rattle.cfi_word.specs.declared.limits.TheConstants.{MAX_CODE_WORDS}
 use Rattle.cfi_word.specs.Table.{slots_of}
-use Rattle.cfi_model.specs.Closed.{idle, code_of, StandsIn, IsStartOf, LeadsToStart, ReturnsToStart, StaysInside}
-use Rattle.cfi_verify.specs.Functions.{may_be_last}
+use Rattle.cfi_aux.specs.declared.placed.Placed.{Placed}
+use Rattle.cfi_aux.specs.declared.placed.PlacedFunction.{PlacedFunction}
+use Rattle.cfi_class.specs.Labels.{AreLabels}
+use Rattle.cfi_flow.proofs.Members.{member_first, no_member}
+use Rattle.cfi_graph.specs.Direct.{DirectEdge}
+use Rattle.cfi_model.specs.Closed.{IsStartIn}
+use Rattle.cfi_policy.specs.Code.{LiesInModule, HasWords, IsCodeOf}
+use Rattle.cfi_series.specs.Loaded.{IsImageOf}
+use Rattle.cfi_series.proofs.ImageLemmas.{closed, function_start}
 use Rattle.cfi_bare.specs.declared.modules.TheConstants.{MAX_WORDS}
-use Rattle.cfi_bare.specs.Runnable.{IsRunnable}
-use Rattle.cfi_bare.specs.Image.{copies, code_with, IsImageOf, IsClosedFile}
-use Rattle.cfi_bare.proofs.PlaceLemmas.{place_more}
-use Rattle.cfi_unit.specs.Spots.{place_of}
-use Rattle.cfi_bare.proofs.RunnableLemmas.{EndsUnlinked, LeadsToUnit, IsSound, sound_of}
+use Rattle.cfi_bare.specs.Runnable.{IsWhole, IsRunnable}
+use Rattle.cfi_bare.specs.Image.{copies, code_with, IsClosedFile}
+use Rattle.cfi_bare.specs.Image.{IsImageOf as IsImageOfWords}
+use Rattle.cfi_bare.proofs.LoadedLemmas.{loaded}
 
 -- copies of a value
 length-copies : (n value : ℕ) → length (copies n value) ≡ n
@@ -34,174 +35,110 @@ copies_at : (n value k : ℕ) → k < n → get_or (copies n value) k 0 ≡ valu
 unfolding copies
 copies_at n value k within = get_or-replicate n k value 0 within
 
-copies_most : (n value most k : ℕ) → value ≤ most → get_or (copies n value) k 0 ≤ most
-copies_most n value most k fits =
-    ⊎_elim (λ (low : k < n). omega (arith, copies_at n value k low))
-    (λ (high : n ≤ k).
-    let long : length (copies n value) ≤ k = omega (arith, length-copies n value) in
-    omega (arith, get_or_past (copies n value) k 0 long))
-    (cases_lt k n)
+-- ---- the code
 
-copies_rest : (n : ℕ) → copies n 0 ≡ replicate n 0
-unfolding copies
-copies_rest n = refl
+module _ (words : List ℕ) (fits : length words ≤ MAX_WORDS) where
+  abbrev low : List ℕ
+  low = copies FIRST_BASE 0
 
--- the code of an image
-length-code_with : (words : List ℕ) → length words ≤ MAX_WORDS → length (code_with words) ≡ MAX_CODE_WORDS
-length-code_with words fits =
-    let rest = MAX_CODE_WORDS - FIRST_BASE - length words in
-    omega (
-      arith,
-      length-append (copies FIRST_BASE 0 ++ words) (copies rest 0),
-      length-append (copies FIRST_BASE 0) words,
-      length-copies FIRST_BASE 0,
-      length-copies rest 0,
-    )
+  abbrev behind : ℕ
+  behind = MAX_CODE_WORDS - FIRST_BASE - length words
 
-drop-code_with : (words : List ℕ) →
-    drop FIRST_BASE (code_with words) ≡ words ++ replicate (MAX_CODE_WORDS - FIRST_BASE - length words) 0
-drop-code_with words =
-    let rest = MAX_CODE_WORDS - FIRST_BASE - length words in
-    let whole : code_with words ≡ copies FIRST_BASE 0 ++ (words ++ copies rest 0) =
-    append_assoc (copies FIRST_BASE 0) words (copies rest 0) in
-    let after : drop FIRST_BASE (copies FIRST_BASE 0 ++ (words ++ copies rest 0)) ≡ words ++ copies rest 0 =
-    subst (λ (n : ℕ). drop n (copies FIRST_BASE 0 ++ (words ++ copies rest 0)) ≡ words ++ copies rest 0)
-    (length-copies FIRST_BASE 0) (drop-append_seam (copies FIRST_BASE 0) (words ++ copies rest 0)) in
-    ap (drop FIRST_BASE) whole ∙ after ∙ ap (λ (ws : List ℕ). words ++ ws) (copies_rest rest)
+  front : length (low ++ words) ≡ FIRST_BASE + length words
+  front = omega (arith, length-append low words, length-copies FIRST_BASE 0)
 
--- a unit that control can leave at its end is not the last
-not_last : (body : List CodeUnit) (number : ℕ) (unit : CodeUnit) → EndsUnlinked body →
-    slice_get body number ≡ Some unit → may_be_last unit ≡ false → number + 1 < length body
-not_last body number unit ends here goes_on =
-    let within : number < length body = slice_get_within body number unit here in
-    ⊎_elim
-    (λ (last : number ≡ length body - 1).
-    let there : slice_get body number ≡ Some ends.0 = ap (slice_get body) last ∙ ends.1 in
-    let same : unit ≡ ends.0 = cc in
-    absurd (false≢true (sym goes_on ∙ ap may_be_last same ∙ ends.2)))
-    (λ (other : number ≢ length body - 1). omega arith)
-    (cases_eq number (length body - 1))
+  length-code : length (code_with words) ≡ MAX_CODE_WORDS
+  length-code =
+      omega (arith, fits, length-append (low ++ words) (copies behind 0), front, length-copies behind 0)
 
--- the address after such a unit is a start
-next_start : (body : List CodeUnit) (address : ℕ) (unit : CodeUnit) → EndsUnlinked body →
-    StandsIn body address unit → may_be_last unit ≡ false → IsStartOf body (address + 4 * size_of unit)
-next_start body address unit ends stands goes_on =
-    let here : slice_get body stands.0 ≡ Some unit = stands.1 in
-    let at : address ≡ 4 * (FIRST_BASE + place_of body stands.0) = stands.2 in (
-      stands.0 + 1,
-      not_last body stands.0 unit ends here goes_on,
-      omega (arith, place_more body stands.0 unit here),
-    )
+  -- the words, at the first module's place
+  word_at : (k : ℕ) → k < length words → slice_index (code_with words) (FIRST_BASE + k) ≡ slice_index words k
+  word_at k within =
+      get_or-append (low ++ words) (copies behind 0) 0 (FIRST_BASE + k) (omega (arith, within, front))
+      ∙ get_or-append_right low words (FIRST_BASE + k) 0 (omega (arith, length-copies FIRST_BASE 0))
+      ∙ ap (slice_index words) (let same : FIRST_BASE + k - length low ≡ k = omega (arith, length-copies FIRST_BASE 0) in same)
 
--- the address that a displacement leads to is a start
-far_start : (body : List CodeUnit) (address at : ℕ) (off : ℤ) → address ≡ 4 * (FIRST_BASE + at) →
-    LeadsToUnit body at off → LeadsToStart body address off
-far_start body address at (pos n) here leads =
-    let to : leads.0 ≡ place_of body leads.2.0 = leads.2.2 in
-    let goes : 4 * leads.0 ≡ 4 * at + n = leads.1 in
-    (leads.2.0, leads.2.1, omega arith)
-far_start body address at (negsuc n) here leads =
-    let to : leads.0 ≡ place_of body leads.2.0 = leads.2.2 in
-    let goes : 4 * leads.0 + n + 1 ≡ 4 * at = leads.1 in
-    (4 * (FIRST_BASE + leads.0), omega arith, (leads.2.0, leads.2.1, omega arith))
+  -- no other word
+  low_at : (k : ℕ) → k < FIRST_BASE → slice_index (code_with words) k ≡ 0
+  low_at k within =
+      get_or-append (low ++ words) (copies behind 0) 0 k (omega (arith, within, front))
+      ∙ get_or-append low words 0 k (omega (arith, within, length-copies FIRST_BASE 0))
+      ∙ copies_at FIRST_BASE 0 k within
 
--- each unit of the words is one
-unit_fits : (words : List ℕ) (body : List CodeUnit) (address : ℕ) (unit : CodeUnit) → UnitCode words body →
-    StandsIn body address unit → IsUnit unit
-unit_fits words body address unit code stands =
-    let within : stands.0 < length body = slice_get_within body stands.0 unit stands.1 in
-    subst IsUnit (get_or_from_slice_get body stands.0 unit unit stands.1)
-    (All-get_or IsUnit body stands.0 unit within (All-from_recursion IsUnit body code.fit))
+  high_at : (k : ℕ) → FIRST_BASE + length words ≤ k → k < MAX_CODE_WORDS → slice_index (code_with words) k ≡ 0
+  high_at k from within =
+      get_or-append_right (low ++ words) (copies behind 0) k 0 (omega (arith, from, front))
+      ∙ copies_at behind 0 (k - length (low ++ words)) (omega (arith, from, within, front, fits))
 
--- after a unit that links control goes on
-returns : (body : List CodeUnit) (address size : ℕ) (unit : CodeUnit) (link : Bool) → EndsUnlinked body →
-    StandsIn body address unit → may_be_last unit ≡ not link → size ≡ 4 * size_of unit →
-    ReturnsToStart body link (address + size)
-returns body address size unit true ends stands goes_on whole =
-    subst (λ n. IsStartOf body (address + n)) (sym whole) (next_start body address unit ends stands goes_on)
-returns body address size unit false ends stands goes_on whole = tt
+  module _ (m : Placed) (whole : IsWhole m words) where
+    has_words : HasWords (code_with words) m
+    has_words k within =
+        let same : m.base + k ≡ FIRST_BASE + k = omega (arith, whole.base) in
+        ap (slice_index (code_with words)) same ∙ word_at k (omega (arith, within, ap length whole.same))
+        ∙ ap (λ (xs : List ℕ). slice_index xs k) (sym whole.same)
 
--- each unit leads to starts
-stays_inside : (words : List ℕ) (body : List CodeUnit) (slots address : ℕ) (unit : CodeUnit) → IsSound words body →
-    SLOTS ≤ slots → StandsIn body address unit → StaysInside body slots address unit
-stays_inside words body slots address (units.Plain insn) runs most stands =
-    next_start body address (units.Plain insn) runs.ends stands refl
-stays_inside words body slots address (units.Load kind rd rs1 imm) runs most stands =
-    next_start body address (units.Load kind rd rs1 imm) runs.ends stands refl
-stays_inside words body slots address (units.Store kind rs1 rs2 imm) runs most stands =
-    next_start body address (units.Store kind rs1 rs2 imm) runs.ends stands refl
-stays_inside words body slots address (units.Branch cond rs1 rs2 off) runs most stands = (
-  next_start body address (units.Branch cond rs1 rs2 off) runs.ends stands refl,
-  far_start body address (place_of body stands.0) off stands.2 (runs.leads stands.0 _ stands.1),
-)
-stays_inside words body slots address (units.Jump link off) runs most stands = (
-  returns body address 4 (units.Jump link off) link runs.ends stands refl refl,
-  far_start body address (place_of body stands.0) off stands.2 (runs.leads stands.0 _ stands.1),
-)
-stays_inside words body slots address (units.Check link rs1 imm slot) runs most stands =
-    let unit : CodeUnit = units.Check link rs1 imm slot in
-    let fits : IsUnit unit = unit_fits words body address unit runs.code stands in
-    (returns body address 56 unit link runs.ends stands refl refl, omega (arith, fits.2))
-stays_inside words body slots address units.Service runs most stands =
-    next_start body address units.Service runs.ends stands refl
+    free : (word : ℕ) → word < MAX_CODE_WORDS → All (λ (n : Placed). LiesInModule n word → ⊥) (m ∷ [])
+        → slice_index (code_with words) word ≡ 0
+    free word within none =
+        let not_here = All-head (λ (n : Placed). LiesInModule n word → ⊥) m [] none in
+        ⊎_elim (λ (below : word < FIRST_BASE). low_at word below)
+        (λ (from : FIRST_BASE ≤ word). ⊎_elim
+        (λ (in_it : word < FIRST_BASE + length words).
+        absurd (not_here (
+          omega (arith, from, whole.base),
+          omega (arith, in_it, whole.base, ap length whole.same),
+        )))
+        (λ (past : FIRST_BASE + length words ≤ word). high_at word past within)
+        (cases_lt word (FIRST_BASE + length words)))
+        (cases_lt word FIRST_BASE)
 
--- the last unit is not an idle one
-busy : (body : List CodeUnit) → EndsUnlinked body → slice_get body (length body - 1) ≢ Some idle
-busy body ends is =
-    let there : slice_get body (length body - 1) ≡ Some ends.0 = ends.1 in
-    let same : idle ≡ ends.0 = cc in
-    false≢true (ap may_be_last same ∙ ends.2)
+    code_is : IsCodeOf (m ∷ []) MAX_CODE_WORDS (code_with words)
+    code_is = record {
+      len = length-code;
+      placed = All-cons (HasWords (code_with words)) m [] has_words (All-nil (HasWords (code_with words)));
+      free = free;
+    }
 
--- the image of words that can run is closed
-pub closed_file : (words : List ℕ) (image : Image) → length words ≤ MAX_WORDS → IsRunnable words →
-    IsImageOf words image → IsClosedFile words image
+-- ---- the labels
+
+-- no branch goes anywhere where no module is asked
+no_edge : (slot address : ℕ) → DirectEdge [] slot address → ⊥
+no_edge slot address edge = no_member edge.owner edge.placed
+
+labels : AreLabels (DirectEdge []) MAX_CODE_WORDS (copies MAX_CODE_WORDS 0) (copies (slots_of MAX_CODE_WORDS) FIELD_MAX)
+labels = record {
+  words = length-copies MAX_CODE_WORDS 0;
+  slots = length-copies (slots_of MAX_CODE_WORDS) FIELD_MAX;
+  targets = λ word within. inr (λ r. no_edge r.0 (4 * word) r.1, copies_at MAX_CODE_WORDS 0 word within);
+  branches = λ slot within.
+      inr (λ u. no_edge slot u.0 u.1, copies_at (slots_of MAX_CODE_WORDS) FIELD_MAX slot within);
+  classes = λ slot word in_slots in_words used reached. absurd (no_edge slot used.0 used.1);
+}
+
+-- ---- the image
+
+pub closed_file : (words : List ℕ) (image : Image) → length words ≤ MAX_WORDS → IsRunnable words
+    → IsImageOfWords words image → IsClosedFile image
 closed_file words image fits runnable is =
-    let found = sound_of words runnable in
-    let body = found.0 in
-    let runs = found.1 in
-    let ends = runs.ends in
-    let some : length body - 1 < length body = slice_get_within body (length body - 1) ends.0 ends.1 in
-    let rest = MAX_CODE_WORDS - FIRST_BASE - length words in
-    let slots : SLOTS ≤ length image.bary =
-    omega (arith, ap length is.bary, length-copies (slots_of MAX_CODE_WORDS) FIELD_MAX) in
+    let m = runnable.0 in
+    let whole = runnable.1 in
+    let of : IsImageOf MAX_CODE_WORDS (m ∷ []) [] image = (
+      All-nil (Contains (m ∷ [])),
+      record {
+        labels = subst (λ (bary : List ℕ). AreLabels (DirectEdge []) MAX_CODE_WORDS image.tary bary) (sym is.bary)
+            (subst (λ (tary : List ℕ). AreLabels (DirectEdge []) MAX_CODE_WORDS tary (copies (slots_of MAX_CODE_WORDS) FIELD_MAX))
+            (sym is.tary) labels);
+        code = subst (IsCodeOf (m ∷ []) MAX_CODE_WORDS) (sym is.code) (code_is words fits m whole);
+      },
+    ) in
+    let stands = loaded m words whole fits runnable.2 in
+    let f = whole.function in
+    let has : Contains m.functions f =
+    subst (λ (fs : List PlacedFunction). Contains fs f) (sym whole.only) (member_first f []) in
+    let first : 4 * (m.base + f.first) ≡ 4 * FIRST_BASE = omega (arith, whole.base, whole.first) in
     record {
-      body = body;
-      units = runs.code;
-      closed = record {
-        classes = record {
-          tary_length = ap length is.tary ∙ length-copies MAX_CODE_WORDS 0;
-          bary_length = ap length is.bary ∙ length-copies (slots_of MAX_CODE_WORDS) FIELD_MAX;
-          code_length = ap length is.code ∙ length-code_with words fits;
-          tary_most = λ k.
-              subst (λ (xs : List ℕ). get_or xs k 0 ≤ FIELD_MAX) (sym is.tary)
-              (copies_most MAX_CODE_WORDS 0 FIELD_MAX k (omega arith));
-          bary_most = λ slot.
-              subst (λ (xs : List ℕ). get_or xs slot 0 ≤ FIELD_MAX) (sym is.bary)
-              (copies_most (slots_of MAX_CODE_WORDS) FIELD_MAX FIELD_MAX slot (omega arith));
-          bary_least = λ slot within.
-              subst (λ (xs : List ℕ). get_or xs slot 0 ≢ 0) (sym is.bary)
-              (λ none.
-              let value : get_or (copies (slots_of MAX_CODE_WORDS) FIELD_MAX) slot 0 ≡ FIELD_MAX =
-              copies_at (slots_of MAX_CODE_WORDS) FIELD_MAX slot within in
-              omega (arith, value, none));
-        };
-        idles = 0;
-        zeros = rest;
-        code = record {
-          fit = runs.code.fit;
-          spelled = ap (drop FIRST_BASE) is.code ∙ drop-code_with words
-              ∙ ap (λ (ws : List ℕ). ws ++ replicate rest 0)
-              (runs.code.spelled ∙ sym (append-nil (code_of body)));
-          busy = busy body ends;
-        };
-        inside = λ address unit stands. stays_inside words body (length image.bary) address unit runs slots stands;
-        targets = λ k classed.
-            absurd (classed (
-            let none : get_or (copies MAX_CODE_WORDS 0) k 0 ≤ 0 =
-            copies_most MAX_CODE_WORDS 0 0 k (omega arith) in
-            let zero_there : get_or (copies MAX_CODE_WORDS 0) k 0 ≡ 0 = omega (arith, none) in
-            ap (λ (xs : List ℕ). get_or xs k 0) is.tary ∙ zero_there
-            ));
-      };
-      entry = (0, omega arith, refl);
+      closed = closed MAX_CODE_WORDS (m ∷ []) stands [] image of;
+      entry = subst (IsStartIn image) first
+          (function_start MAX_CODE_WORDS (m ∷ []) stands [] image of m f
+          (record { placed = member_first m []; function = has }));
     }

@@ -1,5 +1,4 @@
-pub mod PlaceLemmas
-pub mod RunnableLemmas
+pub mod LoadedLemmas
 pub mod ImageLemmas
 pub mod PlacedLemmas
 pub mod KeptLemmas

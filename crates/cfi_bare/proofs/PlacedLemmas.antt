@@ -76,6 +76,7 @@ whole bytes branches placed p some =
     some in
     record {
       base = p.base;
+      slot_base = p.slot_base;
       same = refl;
       function = f.0;
       only = f.1;

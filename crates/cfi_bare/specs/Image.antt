@@ -1,13 +1,11 @@
 -- The image that runs the words of a bare file, or of any one function.
 use Rattle.std.specs.Prelude.{◌≡◌, ℕ, ◌-◌, ◌*◌, List, ◌++◌, length, replicate}
-use Rattle.cfi_unit.specs.declared.unit.Unit.{Unit as CodeUnit}
-use Rattle.cfi_unit.specs.Code.{UnitCode}
 use Rattle.cfi_word.specs.declared.lists.Image.{Image}
 use Rattle.cfi_word.specs.declared.ids.TheConstants.{FIELD_MAX}
 use Rattle.cfi_word.specs.declared.map.TheConstants.{FIRST_BASE}
 use Rattle.cfi_word.specs.declared.limits.TheConstants.{MAX_CODE_WORDS}
 use Rattle.cfi_word.specs.Table.{slots_of}
-use Rattle.cfi_model.specs.Closed.{IsClosedBy, IsStartOf}
+use Rattle.cfi_model.specs.Closed.{IsClosed, IsStartIn}
 
 -- so many copies of a value
 unfoldable pub copies : (count value : ℕ) → List ℕ
@@ -23,9 +21,7 @@ pub record IsImageOf (words : List ℕ) (image : Image) : Type 0 where
   pub bary : image.bary ≡ copies (slots_of MAX_CODE_WORDS) FIELD_MAX
   pub code : image.code ≡ code_with words
 
--- the image is closed, and read as the words' units; the first module's place is a start
-pub record IsClosedFile (words : List ℕ) (image : Image) : Type 0 where
-  pub body : List CodeUnit
-  pub units : UnitCode words body
-  pub closed : IsClosedBy MAX_CODE_WORDS image body
-  pub entry : IsStartOf body (4 * FIRST_BASE)
+-- the image is closed, and the first module's place is a start
+pub record IsClosedFile (image : Image) : Type 0 where
+  pub closed : IsClosed MAX_CODE_WORDS image
+  pub entry : IsStartIn image (4 * FIRST_BASE)

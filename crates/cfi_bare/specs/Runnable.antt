@@ -8,6 +8,7 @@ use Rattle.cfi_verify.specs.Faults.{IsVerified}
 -- the words are a module's at that place, and its only function has them all
 pub record IsWhole (m : Placed) (words : List ℕ) : Type 0 where
   pub base : m.base ≡ FIRST_BASE
+  pub slot_base : m.slot_base ≡ 0
   pub same : m.words ≡ words
   pub function : PlacedFunction
   pub only : m.functions ≡ function ∷ []

@@ -74,7 +74,7 @@ impl BareCode {
 /// The lists have the lengths of a table of `MAX_CODE_WORDS` code words. `Err` where memory is out.
 pub fn image_of(alloc: Global, code: &BareCode) -> Result<Image, AllocError>
     ensures ok { IfOk result (λ image. IsImageOf code.now image) }
-    ensures closed { IfOk result (λ image. IsClosedFile code.now image) }
+    ensures closed { IfOk result IsClosedFile }
 {
     image_of_words(alloc, code.words.as_slice())
 }

@@ -45,7 +45,7 @@ pub fn image_of_words(alloc: Global, words: &[u32]) -> Result<Image, AllocError>
     requires fits { length words.now ≤ MAX_WORDS }
     requires runnable { IsRunnable words.now }
     ensures ok { IfOk result (λ image. IsImageOf words.now image) }
-    ensures closed { IfOk result (λ image. IsClosedFile words.now image) }
+    ensures closed { IfOk result IsClosedFile }
 {
     let code = code_of(alloc, words)?;
     let tary = copies(alloc, MAX_CODE_WORDS, 0)?;

@@ -6,6 +6,8 @@ use Rattle.std.proofs.lemmas.List.{length-set, length-replicate, get_or-set_othe
 use Rattle.cfi_word.specs.declared.lists.Image.{Image}
 use Rattle.cfi_word.specs.declared.ids.TheConstants.{FIELD_MAX}
 use Rattle.cfi_word.specs.declared.map.TheConstants.{FIRST_BASE}
+use Rattle.cfi_unit.specs.declared.unit.Unit.{Unit as CodeUnit}
+use Rattle.cfi_model.proofs.ReadLemmas.{read_once}
 use Rattle.cfi_model.specs.Closed.{IsStartOf, IsReadAs, StaysInside}
 use Rattle.cfi_bare.specs.Image.{IsClosedFile}
 
@@ -29,19 +31,28 @@ slots_most n class k fits =
 slots_some : (n class k : ℕ) → class ≢ 0 → k < n → slice_index (replicate n class) k ≢ 0
 slots_some n class k some within none = some (sym (get_or-replicate n k class 0 within) ∙ none)
 
-pub closed_to_entry : (words : List ℕ) (old new : Image) (class : ℕ) → class ≢ 0 → class ≤ FIELD_MAX
-    → IsClosedFile words old → new.code ≡ old.code → new.tary ≡ slice_set old.tary FIRST_BASE class
-    → new.bary ≡ replicate (length old.bary) class → IsClosedFile words new
-closed_to_entry words old new class some fits file code tary bary =
-    let closed = file.closed in
-    let body = file.body in
+pub closed_to_entry : (old new : Image) (class : ℕ) → class ≢ 0 → class ≤ FIELD_MAX → IsClosedFile old
+    → new.code ≡ old.code → new.tary ≡ slice_set old.tary FIRST_BASE class
+    → new.bary ≡ replicate (length old.bary) class → IsClosedFile new
+closed_to_entry old new class some fits file code tary bary =
+    let body = file.closed.0 in
+    let closed = file.closed.1 in
+    let entry = file.entry in
     let inside : FIRST_BASE < length old.tary = omega (arith, closed.classes.tary_length) in
     let slots : length new.bary ≡ length old.bary = ap length bary ∙ length-replicate (length old.bary) class in
+    let one : entry.body ≡ body =
+    read_once old.code entry.body body entry.idles closed.idles entry.zeros closed.zeros entry.code closed.code in
+    let first : IsStartOf body (4 * FIRST_BASE) =
+    subst (λ (us : List CodeUnit). IsStartOf us (4 * FIRST_BASE)) one entry.starts in
     record {
-      body = body;
-      units = file.units;
-      entry = file.entry;
-      closed = record {
+      entry = record {
+        body = entry.body;
+        idles = entry.idles;
+        zeros = entry.zeros;
+        code = subst (λ (ws : List ℕ). IsReadAs ws entry.body entry.idles entry.zeros) (sym code) entry.code;
+        starts = entry.starts;
+      };
+      closed = (body, record {
         classes = record {
           tary_length = ap length tary ∙ length-set old.tary FIRST_BASE class ∙ closed.classes.tary_length;
           bary_length = slots ∙ closed.classes.bary_length;
@@ -63,11 +74,11 @@ closed_to_entry words old new class some fits file code tary bary =
             subst (λ (n : ℕ). StaysInside body n address unit) (sym slots) (closed.inside address unit stands);
         targets = λ k reached.
             elim (cases_eq k FIRST_BASE) [
-              | inl same ↦ subst (λ (n : ℕ). IsStartOf body (4 * n)) (sym same) file.entry
+              | inl same ↦ subst (λ (n : ℕ). IsStartOf body (4 * n)) (sym same) first
               | inr other ↦
                   closed.targets k
                   (λ none. reached (ap (λ (xs : List ℕ). slice_index xs k) tary
                   ∙ get_or-set_other old.tary FIRST_BASE k class 0 other ∙ none))
             ];
-      };
+      });
     }

@@ -8,7 +8,7 @@ use Rattle.cfi_word.specs.Table.{IsSize}
 use Rattle.cfi_report.specs.declared.report.GuestPart.{GuestPart}
 use Rattle.cfi_model.specs.declared.act.Wait.{Wait}
 use Rattle.cfi_model.specs.declared.act.Wait.TheVariants as waits
-use Rattle.cfi_model.specs.Closed.{IsClosed, IsClosedBy, IsStartIn}
+use Rattle.cfi_model.specs.Closed.{IsClosed}
 use Rattle.cfi_model.specs.Service.{Reply}
 use Rattle.cfi_model.specs.State.{State}
 use Rattle.cfi_model.specs.Raw.{Raw}
@@ -40,20 +40,11 @@ size_is : (image : Image) → length image.code ≡ MAX_CODE_WORDS → IsSize (l
 size_is image whole = subst IsSize (sym whole) (record { multiple = refl; least = omega arith; most = omega arith })
 
 -- the guest of a bare file can run
-pub bare_can : (words : List ℕ) (image : Image) (fuel : ℕ) → IsClosedFile words image
-    → CanRunOver image fuel bare_start
-bare_can words image fuel file =
-    let whole : length image.code ≡ MAX_CODE_WORDS = file.closed.classes.code_length in
-    let closed : IsClosed (length image.code) image =
-    (file.body, subst (λ n. IsClosedBy n image file.body) (sym whole) file.closed) in
-    let start : IsStartIn image (4 * FIRST_BASE) = record {
-      body = file.body;
-      idles = file.closed.idles;
-      zeros = file.closed.zeros;
-      code = file.closed.code;
-      starts = file.entry;
-    } in
-    opened_can image (size_is image whole) closed 0 (4 * FIRST_BASE) [] start fuel
+pub bare_can : (image : Image) (fuel : ℕ) → IsClosedFile image → CanRunOver image fuel bare_start
+bare_can image fuel file =
+    let whole : length image.code ≡ MAX_CODE_WORDS = file.closed.1.classes.code_length in
+    let closed : IsClosed (length image.code) image = subst (λ n. IsClosed n image) (sym whole) file.closed in
+    opened_can image (size_is image whole) closed 0 (4 * FIRST_BASE) [] file.entry fuel
 
 -- a service's end counts no instruction
 serve_steps : (wait : Option Wait) (r : Raw) (reply : Reply) → (serve_as wait r reply).base.steps ≡ r.base.steps
@@ -67,9 +58,9 @@ served_steps r reply = serve_steps r.waits r reply
 
 -- what the guest's end says
 pub run_is : (words : List ℕ) (image : Image) (fuel : ℕ) (guest : Raw) (part : GuestPart) → IsImageOf words image
-    → IsClosedFile words image → HasEnded image fuel bare_start guest → part ≡ part_of guest → IsRun words fuel part
+    → IsClosedFile image → HasEnded image fuel bare_start guest → part ≡ part_of guest → IsRun words fuel part
 run_is words image fuel guest part placed file ended says =
-    let can = bare_can words image fuel file in
+    let can = bare_can image fuel file in
     let path = ended.path in
     let shown = raw_shows (fixed image) image.code (known image fuel bare_start can) bare_start.base can.ready 0
     bare_start

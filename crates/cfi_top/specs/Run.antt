@@ -33,7 +33,7 @@ part_of r = record {
 pub record IsRun (words : List ℕ) (fuel : ℕ) (part : GuestPart) : Type 0 where
   pub image : Image
   pub placed : IsImageOf words image
-  pub closed : IsClosedFile words image
+  pub closed : IsClosedFile image
   pub guest : Raw
   pub ended : HasEnded image fuel bare_start guest
   pub says : part ≡ part_of guest

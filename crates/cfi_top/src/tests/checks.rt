@@ -21,7 +21,7 @@ const CALL: [u32; 14] = [
 
 // The image in which each slot may go to the function's first word.
 fn image_to_entry(alloc: Global, words: &BareCode) -> Result<Image, AllocError>
-    ensures { IfOk result (IsClosedFile words.now) }
+    ensures { IfOk result IsClosedFile }
 {
     let Image { tary, bary, code } = image_of(alloc, words)?;
     let mut classes = tary.into_vec();
@@ -36,7 +36,7 @@ fn image_to_entry(alloc: Global, words: &BareCode) -> Result<Image, AllocError>
 
 // The image in which each slot may go to the function's first word, or none anywhere.
 fn image_for(alloc: Global, code: &BareCode, allowed: bool) -> Result<Image, AllocError>
-    ensures { IfOk result (IsClosedFile code.now) }
+    ensures { IfOk result IsClosedFile }
 {
     if allowed {
         return image_to_entry(alloc, code);

@@ -8,7 +8,7 @@ use Rattle.cfi_top.proofs.run.run_bare.Goals as goal
 pub run_guest-requires-clause-can : goal.run_guest-requires-clause-can
 run_guest-requires-clause-can g c κs lives =
     subst (CanRunOver c.in_ok-image.image c.args.fuel) (sym c.in_ok-guest.ensures)
-    (bare_can c.args.code.now c.in_ok-image.image c.args.fuel c.in_ok-image.ensures.closed)
+    (bare_can c.in_ok-image.image c.args.fuel c.in_ok-image.ensures.closed)
 
 -- the part says what the guest came to
 pub returns : goal.returns

@@ -9,5 +9,5 @@ returns c =
     let image = c.in_ok-tary.field-0 in
     let tary : c.from_vec.result ≡ slice_set image.tary FIRST_BASE 1 = search rules in
     let slots : c.in_ok-slots.slots.items ≡ replicate (length image.bary) 1 = search rules in
-    closed_to_entry c.args.words.now image _ 1 (λ none. omega arith) (omega arith) c.in_ok-tary.ensures.closed refl tary
+    closed_to_entry image _ 1 (λ none. omega arith) (omega arith) c.in_ok-tary.ensures.closed refl tary
     (c.from_vec-2.ensures ∙ slots)

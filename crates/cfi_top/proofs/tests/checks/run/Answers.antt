@@ -7,4 +7,4 @@ use Rattle.cfi_top.proofs.tests.checks.run.Goals as goal
 pub run_fixed-requires-clause-can : goal.run_fixed-requires-clause-can
 run_fixed-requires-clause-can g c =
     subst (CanRunOver c.in_ok-image.image c.args.fuel) (sym c.in_ok-guest.ensures)
-    (bare_can _ c.in_ok-image.image c.args.fuel c.in_ok-image.ensures)
+    (bare_can c.in_ok-image.image c.args.fuel c.in_ok-image.ensures)
