@@ -1,5 +1,5 @@
 -- A module that is instrumented and placed: the one word `j .`.
-use Rattle.std.proofs.Common.{◌≡◌, ℕ, zero, suc, pos, Bool, true, false, List, [], ◌∷◌, length, Some, None, IsTrue, refl, ap, sym, subst, arith}
+use Rattle.std.proofs.Common.{◌≡◌, ℕ, zero, suc, pos, Bool, true, false, List, [], ◌∷◌, length, Some, None, IsTrue, refl, sym, subst, arith}
 use Rattle.std.proofs.lemmas.Bool.{false≢true}
 use Rattle.std.proofs.lemmas.List.Elements.{All-nil, All-cons}
 use Rattle.elf_read.specs.Places.{IsNone}
@@ -165,7 +165,7 @@ placed = record {
 pub made : IsMadeAt loop_source loop_source loop_room no_names loop_module
 made = record {
   made = instrumented;
-  some = λ none. omega (arith, ap (λ (xs : List ℕ). length xs) none);
+  some = omega arith;
   typed = typed;
   fits = room;
   stands = placed;

@@ -1,11 +1,10 @@
 -- What is known of a module that was made of another by instrumenting it, and placed.
-use Rattle.std.proofs.Common.{◌≡◌, ◌≢◌, ℕ, ◌+◌, ◌*◌, ◌<◌, ◌≤◌, Bool, false, List, [], ◌∷◌, map, All, length, get_or, IsTrue, refl, ap, sym, subst, ◌∙◌, ⊎_elim, arith}
-use Rattle.std.specs.List.{flat_map}
-use Rattle.std.proofs.lemmas.Bool.{cases_lt}
-use Rattle.std.proofs.lemmas.List.{length-map, get_or-map, nil_from_length}
+use Rattle.std.proofs.Common.{◌≡◌, ℕ, ◌+◌, ◌*◌, ◌/◌, ◌<◌, ◌≤◌, Bool, false, List, [], ◌∷◌, map, All, length, get_or, IsTrue, refl, ap, sym, subst, ◌∙◌, arith}
+use Rattle.std.proofs.lemmas.List.{length-map, get_or-map}
+use Rattle.std.proofs.lemmas.List.FromFn.{length-map-range_with_len}
+use Rattle.elf_read.specs.declared.object.Reloc.{Reloc}
 use Rattle.elf_read.specs.declared.object.Symbol.{Symbol}
 use Rattle.cfi_types.specs.Node.{Node}
-use Rattle.cfi_types.specs.Spelling.{word}
 use Rattle.cfi_unit.specs.declared.unit.Unit.{Unit as CodeUnit}
 use Rattle.cfi_unit.specs.Unit.{size_of}
 use Rattle.cfi_aux.specs.Format.{is_func}
@@ -13,24 +12,31 @@ use Rattle.cfi_aux.specs.declared.modules.Module.{Module}
 use Rattle.cfi_aux.specs.declared.placed.Placed.{Placed}
 use Rattle.cfi_aux.specs.declared.records.Function.{Function}
 use Rattle.cfi_aux.specs.declared.records.Kind.{Kind}
+use Rattle.cfi_aux.specs.declared.records.Records.{Records}
 use Rattle.cfi_items.specs.Words.{Words, read_words, count_of}
 use Rattle.cfi_items.specs.Items.{is_inner}
 use Rattle.cfi_items.specs.inner.Functions.{is_covered}
 use Rattle.cfi_items.specs.Fault.{input_of}
 use Rattle.cfi_items.proofs.RowTests.{PassesAll, passes}
-use Rattle.cfi_instr.specs.Sizes.{words_before, offsets_of}
+use Rattle.cfi_instr.specs.Sizes.{size_at, words_before, offsets_of}
 use Rattle.cfi_instr.specs.Units.{units_of}
 use Rattle.cfi_instr.specs.Moves.{moved_function, moved_kind, moved_reloc}
-use Rattle.cfi_instr.specs.Output.{IsText}
+use Rattle.cfi_instr.specs.Output.{IsText, IsInstrumented}
+use Rattle.cfi_instr.proofs.SizeLemmas.{total-grows}
 use Rattle.cfi_place.specs.declared.room.Room.{Room}
 use Rattle.cfi_place.specs.Functions.{placed_functions}
 use Rattle.cfi_place.specs.Names.{Names}
+use Rattle.cfi_place.specs.Placed.{IsRoom, IsPlaced}
+use Rattle.cfi_unit.specs.Spots.{spots_of}
+use Rattle.rv_insn.specs.InsnOf.{insn_of}
+use Rattle.rv_reloc.specs.Bytes.{word_at}
 use Rattle.cfi_unit.specs.declared.spot.Spot.{Spot}
-use Rattle.cfi_instr_law.specs.Proper.{NamesFunc, IsMadeAt}
+use Rattle.cfi_instr_law.specs.Proper.{NamesFunc, IsTyped, IsMadeAt}
 use Rattle.cfi_instr_law.proofs.SeenLemmas.{seen_from, size-seen}
 use Rattle.cfi_instr_law.proofs.CodeLemmas.{words_in, words-cons}
-use Rattle.cfi_instr_law.proofs.ItemLemmas.{place-item}
-use Rattle.cfi_instr_law.proofs.LaidLemmas.{touches, IsLaid, laid-by}
+use Rattle.cfi_instr_law.proofs.ItemLemmas.{place-item, item-some}
+use Rattle.cfi_instr_law.proofs.LaidLemmas.{touches, IsLaid, all-sit, laid-by}
+use Rattle.cfi_instr_law.proofs.RelocatedLemmas.{Sits}
 use Rattle.cfi_instr_law.proofs.FreeLemmas.{untouched}
 
 -- units that look the same have as many words
@@ -84,20 +90,17 @@ words-end source placed s =
     let t = read_words source.object in
     laid-end t source.object.symbols s.long (offsets_of t s.long) s.touched placed s.laid
 
--- a text that is not empty has words
-made-some : (source : Module) (long : List Bool) (offsets text : List ℕ) → IsText source long offsets text → text ≢ []
+-- a text with a word has words once it is instrumented
+made-some : (source : Module) (long : List Bool) → PassesAll (input_of source) → 4 ≤ length source.object.text
     → 0 < words_before (read_words source.object) long (count_of (read_words source.object))
-made-some source long offsets text is some =
+made-some source long sound some =
     let t = read_words source.object in
-    let end : ℕ = words_before t long (count_of t) in
-    ⊎_elim (λ (less : 0 < end). less)
-    (λ (more : end ≤ 0).
-    let words : length is.words ≡ end =
-    ap (λ (ws : List ℕ). length ws) is.units.spelled
-    ∙ place-item t source.object.symbols long offsets (count_of t) in
-    let none : is.words ≡ [] = nil_from_length is.words (omega (arith, words, more)) in
-    absurd (some (is.bytes ∙ ap (λ (ws : List ℕ). flat_map word ws) none)))
-    (cases_lt 0 end)
+    let count : count_of t ≡ length source.object.text / 4 =
+    length-map-range_with_len (λ (w : ℕ). insn_of (word_at (4 * w) source.object.text)) 0
+    (length source.object.text / 4) in
+    let first = item-some t source.object.symbols long (offsets_of t long) 0 refl
+    (sound.linked.shaped.words.legal 0 (omega (arith, count, some))) in
+    omega (arith, first, count, some, total-grows (size_at t long) 1 (count_of t) (omega (arith, count, some)))
 
 typed-before : (types : List Node) (moves : Function → Function) (functions : List Function)
     → ((f : Function) → (moves f).ty ≡ f.ty) → All (λ f. IsTrue (is_func types f.ty)) (map moves functions)
@@ -108,24 +111,37 @@ typed-before types moves functions same all k d inside =
     subst (λ (n : ℕ). IsTrue (is_func types n)) (ap (λ (g : Function). g.ty) there ∙ same f)
     (all k d (subst (λ (n : ℕ). k < n) (sym (length-map functions moves)) inside))
 
-pub from-made : (source m : Module) (room : Room) (names : Names) (placed : Placed)
-    → IsMadeAt source m room names placed → IsFrom source placed
-from-made source m room names placed at =
-    let made = at.made in
+-- a module that is another one, made by instrumenting, but for the order of its relocations
+pub record IsLike (out m : Module) : Type 1 where
+  pub text : m.object.text ≡ out.object.text
+  pub relocs : (P : Reloc → Type 0) → All P out.object.relocs → All P m.object.relocs
+  pub records : m.records ≡ out.records
+
+pub from-made-like : (source out m : Module) (room : Room) (names : Names) (placed : Placed) → IsInstrumented source out
+    → IsLike out m → 4 ≤ length source.object.text → IsTyped m → IsRoom room → IsPlaced m room names placed
+    → IsFrom source placed
+from-made-like source out m room names placed made like some typed fits stands =
     let t = read_words source.object in
     let long = made.long in
     let offsets = offsets_of t long in
     let sound = passes (input_of source) made.sound in
     let relocs = map (moved_reloc t source.object.symbols long offsets) source.object.relocs in
+    let code = spots_of 0 (units_of t source.object.symbols long offsets) in
     let same : made.offsets ≡ offsets = made.plan.placed in
     let moves = moved_function t offsets in
-    let functions = made.records.functions ∙ ap (λ (xs : List ℕ). map (moved_function t xs) source.records.functions) same in
+    let functions : m.records.functions ≡ map moves source.records.functions =
+    ap (λ (r : Records). r.functions) like.records ∙ made.records.functions
+    ∙ ap (λ (xs : List ℕ). map (moved_function t xs) source.records.functions) same in
+    let moved : out.object.relocs ≡ relocs =
+    made.object.relocs
+    ∙ ap (λ (xs : List ℕ). map (moved_reloc t source.object.symbols long xs) source.object.relocs) same in
     let laid =
-    laid-by source m long sound room names placed at.fits
-    (subst (λ (xs : List ℕ). IsText source long xs m.object.text) same made.object.text)
-    (made.object.relocs
-    ∙ ap (λ (xs : List ℕ). map (moved_reloc t source.object.symbols long xs) source.object.relocs) same)
-    at.stands in
+    laid-by source m long sound room names placed fits
+    (subst (λ (xs : List ℕ). IsText source long offsets xs) (sym like.text)
+    (subst (λ (xs : List ℕ). IsText source long xs out.object.text) same made.object.text))
+    (like.relocs (Sits (touches relocs) code)
+    (subst (λ (rs : List Reloc). All (Sits (touches relocs) code) rs) (sym moved) (all-sit source m long sound)))
+    stands in
     record {
       long = long;
       sound = sound;
@@ -135,18 +151,24 @@ from-made source m room names placed at =
       some =
           subst (λ (n : ℕ). 0 < n)
           (sym (laid-end t source.object.symbols long offsets (touches relocs) placed laid))
-          (made-some source long made.offsets m.object.text made.object.text at.some);
+          (made-some source long sound some);
       symbols = m.object.symbols;
-      functions = at.stands.functions ∙ ap (placed_functions m.object.symbols) functions;
+      functions = stands.functions ∙ ap (placed_functions m.object.symbols) functions;
       branches =
-          at.stands.branches ∙ made.records.branches
+          stands.branches ∙ ap (λ (r : Records). r.branches) like.records ∙ made.records.branches
           ∙ ap (λ (xs : List ℕ). map (moved_kind t xs) source.records.branches) same;
       func_types =
           typed-before placed.types moves source.records.functions (λ f. refl)
           (subst (λ (fs : List Function). All (λ f. IsTrue (is_func placed.types f.ty)) fs) functions
           (subst (λ (ns : List Node). All (λ f. IsTrue (is_func ns f.ty)) m.records.functions)
-          (sym at.stands.types) at.typed.functions));
+          (sym stands.types) typed.functions));
       branch_types =
-          subst (λ (ks : List Kind). All (NamesFunc placed.types) ks) (sym at.stands.branches)
-          (subst (λ (ns : List Node). All (NamesFunc ns) m.records.branches) (sym at.stands.types) at.typed.branches);
+          subst (λ (ks : List Kind). All (NamesFunc placed.types) ks) (sym stands.branches)
+          (subst (λ (ns : List Node). All (NamesFunc ns) m.records.branches) (sym stands.types) typed.branches);
     }
+
+pub from-made : (source m : Module) (room : Room) (names : Names) (placed : Placed)
+    → IsMadeAt source m room names placed → IsFrom source placed
+from-made source m room names placed at =
+    from-made-like source m m room names placed at.made
+    (record { text = refl; relocs = λ P all. all; records = refl }) at.some at.typed at.fits at.stands

@@ -121,7 +121,7 @@ module _ (source m : Module) (long : List Bool) (sound : PassesAll (input_of sou
       tt
 
   -- each of the module's relocations sits well
-  all-sit : All (Sits (touches relocs) (spots_of 0 made)) relocs
+  pub all-sit : All (Sits (touches relocs) (spots_of 0 made)) relocs
   all-sit k d inside =
       let olds = source.object.relocs in
       let within : k < length olds = subst (λ (n : ℕ). k < n) (length-map olds moves) inside in
@@ -187,12 +187,11 @@ module _ (source m : Module) (long : List Bool) (sound : PassesAll (input_of sou
       }
 
   pub laid-by : (room : Room) (names : Names) (placed : Placed) → IsRoom room → IsText source long offsets m.object.text
-      → m.object.relocs ≡ relocs → (p : IsPlaced m room names placed) → IsLaid (touches relocs) made placed
-  laid-by room names placed is text moved p =
+      → All (Sits (touches relocs) (spots_of 0 made)) m.object.relocs → (p : IsPlaced m room names placed)
+      → IsLaid (touches relocs) made placed
+  laid-by room names placed is text sits p =
       let steps = placed-steps m.object room names p.bytes p.is_placed in
       let values = values_in m.object room names in
-      let sits : All (Sits (touches relocs) (spots_of 0 made)) m.object.relocs =
-      subst (λ (rs : List Reloc). All (Sits (touches relocs) (spots_of 0 made)) rs) (sym moved) all-sit in
       slotted (touches relocs) room names placed is text p
       (relocated-code (touches relocs) made room values (high_parts room values m.object.relocs) 0 m.object.relocs _
       p.bytes sits (made-code (touches relocs) text) steps.1)

@@ -4,6 +4,8 @@ use Rattle.cfi_aux.specs.declared.modules.Module.{Module}
 use Rattle.cfi_aux.specs.declared.placed.Placed.{Placed}
 use Rattle.cfi_place.specs.declared.room.Room.{Room}
 use Rattle.cfi_place.specs.Names.{Names}
+use Rattle.cfi_place.specs.Placed.{IsRoom, IsPlaced}
+use Rattle.cfi_instr.specs.Output.{IsInstrumented}
 use Rattle.cfi_verify.specs.declared.fault.VerifyFault.{VerifyFault}
 use Rattle.cfi_verify.specs.declared.fault.VerifyFault.TheVariants as faults
 use Rattle.cfi_unit.specs.declared.spot.Spot.{Spot}
@@ -15,8 +17,8 @@ use Rattle.cfi_verify.specs.Faults.{check_place, FaultStandsIn, IsFault, IsLaidO
 use Rattle.cfi_verify.proofs.ListLemmas.{no_break}
 use Rattle.cfi_verify.proofs.RowLemmas.{clear_laid}
 use Rattle.cfi_unit.proofs.SpotLemmas.{AreSpots-one}
-use Rattle.cfi_instr_law.specs.Proper.{IsMadeAt, IsTargetFault, IsProper}
-use Rattle.cfi_instr_law.proofs.FromLemmas.{IsFrom, from-made}
+use Rattle.cfi_instr_law.specs.Proper.{IsTyped, IsMadeAt, IsTargetFault, IsProper}
+use Rattle.cfi_instr_law.proofs.FromLemmas.{IsFrom, IsLike, from-made-like, from-made}
 use Rattle.cfi_instr_law.proofs.FunctionLemmas.{spots, fits, idle}
 use Rattle.cfi_instr_law.proofs.EndLemmas.{ends}
 use Rattle.cfi_instr_law.proofs.KindLemmas.{kinds, records}
@@ -76,6 +78,14 @@ settled source placed s = record {
   records = records source placed s;
   switches = switches source placed s;
 }
+
+-- the same of one whose relocations are in another order
+pub instrumented-like : (source out m : Module) (room : Room) (names : Names) (placed : Placed)
+    → IsInstrumented source out → IsLike out m → 4 ≤ length source.object.text → IsTyped m → IsRoom room
+    → IsPlaced m room names placed → (loaded : List Placed) → IsProper placed loaded
+instrumented-like source out m room names placed made like some typed fits stands loaded =
+    let s = from-made-like source out m room names placed made like some typed fits stands in
+    proper placed loaded (spots source placed s) (settled source placed s)
 
 pub instrumented : (source m : Module) (room : Room) (names : Names) (placed : Placed)
     → IsMadeAt source m room names placed → (loaded : List Placed) → IsProper placed loaded

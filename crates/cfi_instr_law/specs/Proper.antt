@@ -1,6 +1,6 @@
 -- Which faults a verifier can find in a module that was instrumented, once it is placed: none but jumps that lead
 -- elsewhere. Where a jump leads to another module is known only where both are placed.
-use Rattle.std.specs.Prelude.{◌≡◌, ◌≢◌, ℕ, List, [], All, IsTrue, ⊤}
+use Rattle.std.specs.Prelude.{◌≡◌, ℕ, ◌≤◌, List, length, All, IsTrue, ⊤}
 use Rattle.cfi_types.specs.Node.{Node}
 use Rattle.cfi_aux.specs.Format.{is_func}
 use Rattle.cfi_aux.specs.declared.modules.Module.{Module}
@@ -27,10 +27,10 @@ pub record IsTyped (m : Module) : Type 0 where
   pub functions : All (λ f. IsTrue (is_func m.types f.ty)) m.records.functions
   pub branches : All (NamesFunc m.types) m.records.branches
 
--- a module with text and with types of functions was made by instrumenting another, and is placed in a room
+-- a module with types of functions was made by instrumenting another, which has a word of text, and is placed in a room
 pub record IsMadeAt (source m : Module) (room : Room) (names : Names) (placed : Placed) : Type 0 where
   pub made : IsInstrumented source m
-  pub some : m.object.text ≢ []
+  pub some : 4 ≤ length source.object.text
   pub typed : IsTyped m
   pub fits : IsRoom room
   pub stands : IsPlaced m room names placed

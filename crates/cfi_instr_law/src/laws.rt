@@ -15,8 +15,8 @@ ghost use Rattle.cfi_verify.specs.declared.fault.VerifyFault.TheVariants.{Memory
 ghost use Rattle.cfi_instr_law.specs.Example.{loop_source, loop_room, no_names};
 ghost use Rattle.cfi_instr_law.specs.Proper.{IsTyped, IsMadeAt, IsProper, IsTargetFault};
 
-/// An instrumented module with text, whose functions and branches have types of functions, has no fault at its place
-/// but jumps that lead elsewhere, whatever modules are loaded.
+/// What is made of a module with a word of text, and whose functions and branches have types of functions, has no
+/// fault at its place but jumps that lead elsewhere, whatever modules are loaded.
 ///
 /// A law about `IsInstrumented`, which `instrument` of `cfi_instr` gives, `IsPlaced`, which `place` of `cfi_place`
 /// gives, and the faults that `verify` of `cfi_verify` looks for. MCFI, modular instrumentation and verification.

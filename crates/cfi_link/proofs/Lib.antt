@@ -11,3 +11,4 @@ pub mod TextSizeLemmas
 pub mod SettledLemmas
 pub mod AppliedLemmas
 pub mod SourceLemmas
+pub mod NumberLemmas

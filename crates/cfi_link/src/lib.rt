@@ -11,6 +11,7 @@ mod chosen;
 mod fault;
 mod joined;
 mod kept;
+pub mod laws;
 mod limits;
 mod linking;
 mod numbers;

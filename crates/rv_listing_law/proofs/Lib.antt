@@ -11,3 +11,4 @@ pub mod SayLemmas
 pub mod ListingLemmas
 pub mod WordsLemmas
 pub mod AssembleLemmas
+pub mod LengthLemmas

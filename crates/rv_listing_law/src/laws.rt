@@ -1,6 +1,6 @@
 //! Laws of listings, the reader of sources and the assembler.
 
-ghost use Rattle.std.specs.Prelude.{◌≡◌, ◌∷◌, ◌++◌, ℕ, ◌^◌, ◌<◌, ◌≤◌, List, Some, Ok, codes, length, map, flat_map, All};
+ghost use Rattle.std.specs.Prelude.{◌≡◌, ◌∷◌, ◌++◌, ℕ, ◌+◌, ◌^◌, ◌<◌, ◌≤◌, List, Some, Ok, codes, length, map, flat_map, All};
 ghost use Rattle.cfi_text.specs.Lines.{lines_of};
 ghost use Rattle.cfi_word.specs.declared.limits.TheConstants.{MAX_WORDS};
 ghost use Rattle.rv_text.specs.Listing.{IsListing};
@@ -34,9 +34,12 @@ pub fn words_back()
 
 /// A listing of words of 32 bits, at most as many as an object has, is assembled to these words as text.
 ///
-/// The object has nothing else: no data, no symbol, no relocation and no records.
+/// The object has nothing else: no data, no symbol, no relocation and no records. Such a listing is short enough for
+/// `assemble`.
 pub fn object_back()
-    ensures { (words text : List ℕ) → All (λ word. word < 2 ^ 32) words →
+    ensures same { (words text : List ℕ) → All (λ word. word < 2 ^ 32) words →
         length words ≤ MAX_WORDS → IsListing words text →
         object_in text ≡ Ok (text_object (flat_map word_bytes words)) }
+    ensures short { (words text : List ℕ) → length words ≤ MAX_WORDS → IsListing words text →
+        length text + 1 < 2 ^ 32 }
 {}
