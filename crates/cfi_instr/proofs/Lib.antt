@@ -4,3 +4,5 @@ pub mod WideLemmas
 pub mod UnitLemmas
 pub mod SpellLemmas
 pub mod OutputLemmas
+pub mod HopIsLemmas
+pub mod HopLemmas

@@ -3,3 +3,4 @@ pub mod Reach
 pub mod Units
 pub mod Moves
 pub mod Output
+pub mod inner

@@ -6,11 +6,13 @@
 //! Open: when memory runs out.
 #![tactic(auto)]
 
+mod hops;
 mod moves;
 mod output;
 mod reach;
 mod records;
 mod sizes;
+mod stretch;
 mod text;
 mod units;
 

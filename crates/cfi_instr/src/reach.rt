@@ -1,13 +1,14 @@
 //! The branches that must be long.
 
-ghost use Rattle.std.specs.Prelude.{◌≡◌, ◌*◌, ◌<◌, ◌≤◌, ◌^◌, ℕ, not, ◌||◌, ◌&&◌, length, slice_set, IfOk, IfErr};
+ghost use Rattle.std.specs.Prelude.{◌≡◌, ◌*◌, ◌<◌, ◌≤◌, ◌^◌, ℕ, List, Bool, not, ◌||◌, ◌&&◌, length, slice_set, IfOk, IfErr};
 ghost use Rattle.std.specs.Bool.{OnTrue, OnFalse};
 ghost use Rattle.cfi_items.specs.Words.{count_of};
 ghost use Rattle.cfi_instr.specs.declared.sizes.TheConstants.{MAX_WORDS};
 ghost use Rattle.cfi_instr.specs.Sizes.{is_long, words_before, offsets_of, AreSmall};
-ghost use Rattle.cfi_instr.specs.Reach.{target_of, is_near, reaches, branch_reaches, word_reaches, IsLeast, IsPassed, shorts};
+ghost use Rattle.cfi_instr.specs.Reach.{target_of, is_near, reaches, branch_reaches, word_reaches, IsEnough, IsWithin, IsLeast, IsPassed, shorts};
 
 use crate::sizes::{REACH_BACK, REACH_ON, is_long, offset_at, offsets_of};
+use crate::stretch::stretch;
 use cfi_items::{Aim, InstrFault, Source};
 use elf_read::Symbol;
 use rv_insn::Insn;
@@ -107,10 +108,25 @@ fn widen(source: &Source, symbols: &[Symbol], offsets: &[u32], long: &mut Vec<bo
     grew
 }
 
+// Branches that are long in each set that is enough.
+fn some_long(alloc: Global, source: &Source, symbols: &[Symbol]) -> Result<Vec<bool>, InstrFault>
+    requires { 4 * count_of source.now < 2 ^ 32 }
+    ensures size { IfOk result (λ long. length long.items ≡ count_of source.now) }
+    ensures within { IfOk result (λ long. (other : List Bool) →
+        IsEnough source.now symbols.now other → IsWithin long.items other) }
+    ensures fault { IfErr result (IsPassed source.now symbols.now) }
+{
+    let mut long = vec![in alloc; false; source.count()]?;
+    let offsets = offsets_of(alloc, source, &long)?;
+    stretch(alloc, source, symbols, &offsets, &mut long)?;
+    Ok(long)
+}
+
 /// Which branches are long, and the offset of each word's unit.
 ///
-/// They are the least set for which all others reach their targets. It grows from none, until it stands still: each
-/// round takes time in the number of words, and makes one branch long at least. `TooLong` where the output would be.
+/// They are the least set for which all others reach their targets. It grows from some that are long in each set that
+/// is enough, until it stands still: a round adds what they leave out, which is none. `TooLong` where the output would
+/// be.
 pub fn least_long(
     alloc: Global,
     source: &Source,
@@ -124,7 +140,7 @@ pub fn least_long(
         words_before source.now plan.0.items (count_of source.now) ≤ MAX_WORDS) }
     ensures fault { IfErr result (IsPassed source.now symbols.now) }
 {
-    let mut long = vec![in alloc; false; source.count()]?;
+    let mut long = some_long(alloc, source, symbols)?;
     let mut offsets = offsets_of(alloc, source, &long)?;
     'rounds: while widen(source, symbols, &offsets, &mut long) {
         offsets = offsets_of(alloc, source, &long)?;

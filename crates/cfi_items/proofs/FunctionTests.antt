@@ -50,7 +50,7 @@ module _ (t : Words) (offset : ℕ) where
 
 -- ---- functions that have an offset
 
-covers-holds : (offset : ℕ) (f : Function) → covers offset f ≡ true → Covers f offset
+pub covers-holds : (offset : ℕ) (f : Function) → covers offset f ≡ true → Covers f offset
 covers-holds offset f h =
     let both = and_parts (leb f.offset offset) (ltb offset (byte_end f)) h in
     (leb-true f.offset offset both.0, ltb-true offset (byte_end f) both.1)

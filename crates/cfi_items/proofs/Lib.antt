@@ -4,7 +4,9 @@ pub mod RelocLemmas
 pub mod DecideLemmas
 pub mod WordTests
 pub mod FunctionTests
+pub mod HomeLemmas
 pub mod LeadTests
 pub mod JumpTests
 pub mod RelocTests
+pub mod EndLemmas
 pub mod RowTests

@@ -144,7 +144,7 @@ item-below t w = elim (cases_Bool (is_inner t w)) [
 ]
 
 -- what fits on a word does so on one of the text
-fits-within : (t : Words) (kind w : ℕ) → fits_on t kind w ≡ true → w < count_of t
+pub fits-within : (t : Words) (kind w : ℕ) → fits_on t kind w ≡ true → w < count_of t
 fits-within t kind w h = elim (cases_Bool (is_of_pair kind)) [
   | inl pair ↦
       let is : is_pair t w ≡ true = rw pair at h in

@@ -1,5 +1,5 @@
 -- Indirect jumps and their records: record k belongs to the k-th indirect jump of the text.
-use Rattle.std.specs.Prelude.{◌≡◌, ℕ, ◌*◌, ◌≤◌, Bool, true, false, List, length, slice_get, All, Option, Some, None, ⊤}
+use Rattle.std.specs.Prelude.{◌≡◌, ℕ, ◌*◌, ◌≤◌, Bool, true, false, List, length, slice_get, Option, Some, None, ⊤}
 use Rattle.elf_read.specs.Places.{count_where}
 use Rattle.rv_insn.specs.declared.insn.Insn.{Insn}
 use Rattle.cfi_aux.specs.declared.records.Function.{Function}

@@ -4,10 +4,12 @@ ghost use Rattle.std.specs.Prelude.{◌≡◌, ◌+◌, ◌<◌, ◌≤◌, ◌^
 ghost use Rattle.elf_read.specs.Lists.{Each, IsFirstBreak, own_number};
 ghost use Rattle.cfi_items.specs.Words.{count_of};
 ghost use Rattle.cfi_aux.specs.Extent.{byte_end};
-ghost use Rattle.cfi_items.specs.inner.Functions.{covers, is_covered, are_together, is_entry, is_own_item, is_code, has_code, is_well_formed, is_malformed, runs_off, falls_through};
+ghost use Rattle.cfi_items.specs.inner.Functions.{covers, is_own_item, is_code, has_code, is_well_formed, is_malformed, runs_off, falls_through};
+ghost use Rattle.cfi_items.specs.inner.Homes.{AreApart};
 ghost use Rattle.cfi_items.specs.Functions.{byte_end_before, IsFormedBehind, EndsInPadding, EndsInJump};
 ghost use Rattle.cfi_items.specs.Fault.{IsFirstMalformed};
 
+use crate::home::are_together;
 use crate::insns::{is_nop, is_unlinked};
 use crate::source::Source;
 use cfi_aux::Function;
@@ -19,36 +21,11 @@ pub(crate) fn end_of(function: &Function) -> usize
     function.offset as usize + function.length as usize
 }
 
-// Whether the offset is in the function.
-fn covers(offset: usize, function: &Function) -> bool
+/// Whether the offset is in the function.
+pub(crate) fn covers(offset: usize, function: &Function) -> bool
     ensures { result ≡ covers offset function.now }
 {
     function.offset as usize <= offset && offset < end_of(function)
-}
-
-/// Whether some function has the offset.
-pub(crate) fn is_covered(functions: &[Function], offset: usize) -> bool
-    ensures { result ≡ is_covered functions.now offset }
-{
-    functions.iter().any(|function| covers(offset, function))
-}
-
-// Whether one function has both offsets.
-fn are_together(functions: &[Function], a: usize, b: usize) -> bool
-    ensures { result ≡ are_together functions.now a b }
-{
-    functions
-        .iter()
-        .any(|function| covers(a, function) && covers(b, function))
-}
-
-/// Whether a function begins at the offset.
-pub(crate) fn is_entry(functions: &[Function], offset: usize) -> bool
-    ensures { result ≡ is_entry functions.now offset }
-{
-    functions
-        .iter()
-        .any(|function| function.offset as usize == offset)
 }
 
 // Where the function before number k ends; 0 before the first.
@@ -67,6 +44,7 @@ fn end_before(functions: &[Function], k: usize) -> usize
 impl Source {
     /// Whether the offset begins an item that is in one function with another offset.
     pub(crate) fn is_own_item(&self, functions: &[Function], at: usize, offset: usize) -> bool
+        requires { AreApart functions.now }
         ensures { result ≡ is_own_item self.now functions.now at offset }
     {
         self.is_item_at(offset) && are_together(functions, at, offset)

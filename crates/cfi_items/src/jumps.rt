@@ -6,6 +6,7 @@ ghost use Rattle.elf_read.specs.Lists.{Each, IsFirstBreak};
 ghost use Rattle.cfi_items.specs.Words.{count_of};
 ghost use Rattle.cfi_items.specs.Jumps.{HasRecord, AreUsed, SwitchFits};
 ghost use Rattle.cfi_items.specs.Fault.{IsFirstBare, jump_number};
+ghost use Rattle.cfi_items.specs.inner.Homes.{AreApart};
 ghost use Rattle.cfi_items.specs.inner.Jumps.{is_call, has_fitting_kind, lacks_kind_by, switches_astray, lead_out, has_bad_switch_by};
 
 use crate::insns::is_linked;
@@ -67,6 +68,7 @@ impl Source {
 
     // Whether an entry is no item of the function that has the jump at the offset.
     fn lead_out(&self, functions: &[Function], at: usize, entries: &[u32]) -> bool
+        requires { AreApart functions.now }
         ensures { result ≡ lead_out self.now functions.now at entries.now }
     {
         for entry in entries {
@@ -79,6 +81,7 @@ impl Source {
 
     // Whether a switch has such an entry.
     fn switches_astray(&self, functions: &[Function], at: usize, kind: &Kind) -> bool
+        requires { AreApart functions.now }
         ensures { result ≡ switches_astray self.now functions.now at kind.now }
     {
         match kind {
@@ -95,7 +98,8 @@ impl Source {
         w: usize,
         number: usize,
     ) -> bool
-        requires { 4 * w < 2 ^ 32 }
+        requires word { 4 * w < 2 ^ 32 }
+        requires order { AreApart functions.now }
         ensures { result ≡ has_bad_switch_by self.now functions.now branches.now w number }
     {
         let astray = match branches.get(number) {
@@ -111,7 +115,8 @@ impl Source {
         functions: &[Function],
         branches: &[Kind],
     ) -> Option<usize>
-        requires { 4 * count_of self.now < 2 ^ 32 }
+        requires count { 4 * count_of self.now < 2 ^ 32 }
+        requires order { AreApart functions.now }
         ensures some { IfSome result (IsFirstBreak self.now.insns (jump_number self.now)
             (SwitchFits self.now functions.now branches.now)) }
         ensures small { IfSome result (λ k. k < 2 ^ 32) }

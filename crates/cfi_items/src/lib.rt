@@ -7,8 +7,10 @@
 #![tactic(auto)]
 
 mod check;
+mod ends;
 mod fault;
 mod functions;
+mod home;
 pub mod insns;
 mod items;
 mod jumps;

@@ -1,14 +1,16 @@
 //! Misplaced relocations.
 
-ghost use Rattle.std.specs.Prelude.{◌≡◌, ◌/◌, ◌<◌, ◌^◌, ℕ, length, slice_index_or, false, ◌||◌, IfSome, IfNone, IfOk};
+ghost use Rattle.std.specs.Prelude.{◌≡◌, ◌/◌, ◌<◌, ◌^◌, ℕ, List, length, slice_index_or, false, ◌||◌, IfSome, IfNone, IfOk};
+ghost use Rattle.cfi_aux.specs.declared.records.Function.{Function};
 ghost use Rattle.elf_read.specs.Lists.{Each, IsFirstBreak, own_number};
 ghost use Rattle.cfi_items.specs.Words.{count_of};
 ghost use Rattle.cfi_items.specs.Target.{named_symbol};
 ghost use Rattle.cfi_items.specs.Items.{item_of};
 ghost use Rattle.cfi_items.specs.Relocs.{IsRelocPlacedBehind};
+ghost use Rattle.cfi_items.specs.inner.Ends.{AreEnds};
 ghost use Rattle.cfi_items.specs.inner.Misplaced.{has_form, fits_on, is_on, sits_by, leads_to_bound, names_well, is_placed_by};
 
-use crate::functions::is_covered;
+use crate::ends::{ends_of, is_before_end};
 use crate::insns::{has_low, is_auipc, is_branch, is_jal, is_lui, is_store};
 use crate::source::{Source, is_of_text};
 use crate::target::{named_symbol, offset_from};
@@ -47,16 +49,20 @@ impl Source {
         }
     }
 
-    // Whether a relocation of the text sits well: on its form, in a function, and on an item that no earlier one is on.
-    fn sits_well(&self, functions: &[Function], marked: &[bool], reloc: &Reloc) -> bool
-        ensures { result ≡ sits_by self.now functions.now
+    // Whether a relocation of the text sits well: on its form, in a function, of which `ends` tells, and on an item that
+    // no earlier one is on.
+    fn sits_well(&self, ends: &[usize], marked: &[bool], reloc: &Reloc) -> bool
+        ensures { (functions : List Function) →
+            AreEnds functions (count_of self.now) ends.now →
+            result ≡ sits_by self.now functions
             (slice_index_or marked.now (item_of self.now (reloc.now.offset / 4)) false) reloc.now }
     {
+        if !self.fits_on(reloc.kind, (reloc.offset / 4) as usize) {
+            return false;
+        }
         let w = self.item_of((reloc.offset / 4) as usize);
         let earlier = marked.get(w).copied().unwrap_or(false);
-        self.fits_on(reloc.kind, (reloc.offset / 4) as usize)
-            && is_covered(functions, 4 * w)
-            && !earlier
+        is_before_end(ends, w) && !earlier
     }
 
     // Whether a symbol of the text, and an addend, lead to an item's start or the text's end.
@@ -83,17 +89,13 @@ impl Source {
     }
 
     // Whether a relocation is well placed, where the items that earlier ones are on are marked.
-    fn is_placed(
-        &self,
-        symbols: &[Symbol],
-        functions: &[Function],
-        marked: &[bool],
-        reloc: &Reloc,
-    ) -> bool
-        ensures { result ≡ is_placed_by self.now symbols.now functions.now
+    fn is_placed(&self, symbols: &[Symbol], ends: &[usize], marked: &[bool], reloc: &Reloc) -> bool
+        ensures { (functions : List Function) →
+            AreEnds functions (count_of self.now) ends.now →
+            result ≡ is_placed_by self.now symbols.now functions
             (slice_index_or marked.now (item_of self.now (reloc.now.offset / 4)) false) reloc.now }
     {
-        let sits = !is_of_text(reloc.area) || self.sits_well(functions, marked, reloc);
+        let sits = !is_of_text(reloc.area) || self.sits_well(ends, marked, reloc);
         sits && self.names_well(symbols, reloc)
     }
 
@@ -124,9 +126,10 @@ impl Source {
         ensures none { IfOk result (λ found. IfNone found
             (Each relocs.now (IsRelocPlacedBehind self.now symbols.now functions.now relocs.now))) }
     {
+        let ends = ends_of(alloc, functions, self.count())?;
         let mut marked = vec![in alloc; false; self.count()]?;
         for (k, reloc) in relocs.iter().enumerate() {
-            if !self.is_placed(symbols, functions, &marked, reloc) {
+            if !self.is_placed(symbols, &ends, &marked, reloc) {
                 return Ok(Some(k));
             }
             self.mark(&mut marked, reloc);

@@ -5,9 +5,10 @@ ghost use Rattle.elf_read.specs.Lists.{Each};
 ghost use Rattle.cfi_items.specs.Words.{count_of};
 ghost use Rattle.cfi_items.specs.Leads.{WordLeadsWell};
 ghost use Rattle.cfi_items.specs.Fault.{IsFirstWord};
+ghost use Rattle.cfi_items.specs.inner.Homes.{AreApart};
 ghost use Rattle.cfi_items.specs.inner.Stray.{branches_well, jumps_well, leads_well, calls_well, goes_well, is_stray};
 
-use crate::functions::is_entry;
+use crate::home::is_entry;
 use crate::insns::is_unlinked;
 use crate::source::Source;
 use crate::target::Aim;
@@ -18,6 +19,7 @@ use rv_insn::Insn;
 impl Source {
     // Whether a branch goes to an item of its own function.
     fn branches_well(&self, functions: &[Function], at: usize, aim: Aim) -> bool
+        requires { AreApart functions.now }
         ensures { result ≡ branches_well self.now functions.now at aim }
     {
         match aim {
@@ -28,6 +30,7 @@ impl Source {
 
     // Whether a jump goes to a function's first item, or without link to an item of its own function, or calls a name.
     fn jumps_well(&self, functions: &[Function], at: usize, unlinked: bool, aim: Aim) -> bool
+        requires { AreApart functions.now }
         ensures { result ≡ jumps_well self.now functions.now at unlinked aim }
     {
         match aim {
@@ -41,7 +44,8 @@ impl Source {
 
     // Whether an instruction that is an item by itself leads where it may.
     fn leads_well(&self, symbols: &[Symbol], functions: &[Function], w: usize, insn: Insn) -> bool
-        requires { 4 * w < 2 ^ 32 }
+        requires word { 4 * w < 2 ^ 32 }
+        requires order { AreApart functions.now }
         ensures { result ≡ leads_well self.now symbols.now functions.now w insn }
     {
         match insn {
@@ -58,7 +62,8 @@ impl Source {
 
     // Whether the pair at the word does.
     fn calls_well(&self, symbols: &[Symbol], functions: &[Function], w: usize) -> bool
-        requires { 4 * w < 2 ^ 32 }
+        requires word { 4 * w < 2 ^ 32 }
+        requires order { AreApart functions.now }
         ensures { result ≡ calls_well self.now symbols.now functions.now w }
     {
         let unlinked = match self.insn_at(w + 1) {
@@ -69,7 +74,8 @@ impl Source {
     }
 
     fn goes_well(&self, symbols: &[Symbol], functions: &[Function], w: usize) -> bool
-        requires { 4 * w < 2 ^ 32 }
+        requires word { 4 * w < 2 ^ 32 }
+        requires order { AreApart functions.now }
         ensures { result ≡ goes_well self.now symbols.now functions.now w }
     {
         if self.is_pair(w) {
@@ -83,7 +89,8 @@ impl Source {
 
     // Whether the item at the word is stray.
     fn is_stray(&self, symbols: &[Symbol], functions: &[Function], w: usize) -> bool
-        requires { 4 * w < 2 ^ 32 }
+        requires word { 4 * w < 2 ^ 32 }
+        requires order { AreApart functions.now }
         ensures { result ≡ is_stray self.now symbols.now functions.now w }
     {
         self.is_item(w) && !self.goes_well(symbols, functions, w)
@@ -91,7 +98,8 @@ impl Source {
 
     /// The first item that is stray.
     pub(crate) fn first_stray(&self, symbols: &[Symbol], functions: &[Function]) -> Option<usize>
-        requires { 4 * count_of self.now < 2 ^ 32 }
+        requires count { 4 * count_of self.now < 2 ^ 32 }
+        requires order { AreApart functions.now }
         ensures some { IfSome result
             (λ w. IsFirstWord self.now (WordLeadsWell self.now symbols.now functions.now) (4 * w)) }
         ensures within { IfSome result (λ w. w < count_of self.now) }

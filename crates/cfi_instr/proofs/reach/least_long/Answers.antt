@@ -1,22 +1,19 @@
 -- The set grows within each one that is enough.
-use Rattle.std.proofs.Common.{◌≡◌, ◌∙◌, ◌≤◌, List, Bool, false, replicate, sym, ap, subst, rules}
+use Rattle.std.proofs.Common.{◌∙◌, ◌≤◌, List, Bool, ap, subst, rules}
 use Rattle.cfi_items.specs.Words.{count_of}
 use Rattle.cfi_instr.specs.declared.sizes.TheConstants.{MAX_WORDS}
 use Rattle.cfi_instr.specs.Sizes.{words_before, offsets_of, IsOver}
-use Rattle.cfi_instr.specs.Reach.{IsEnough, IsWithin, IsPassed}
-use Rattle.cfi_instr.proofs.WideLemmas.{within-next, over-passed, none-within}
+use Rattle.cfi_instr.specs.Reach.{IsPassed}
+use Rattle.cfi_instr.proofs.WideLemmas.{within-next, over-passed}
 use Rattle.cfi_instr.proofs.reach.least_long.Goals as goal
 
 pub returns-in_err-offsets-clause-fault : goal.returns-in_err-offsets-clause-fault
 returns-in_err-offsets-clause-fault c =
     let t = c.args.source.now in
-    let items : c.in_ok-long.long.items ≡ replicate c.count.result false = search rules in
-    let first : c.deref.result.now ≡ replicate c.count.result false = c.deref.ensures.value ∙ items in
-    let within : (other : List Bool) → IsEnough t c.args.symbols.now other → IsWithin c.deref.result.now other =
-    λ other enough.
-    subst (λ (xs : List Bool). IsWithin xs other) (sym first) (none-within c.count.result other) in
+    let over : IsOver t c.in_ok-long.long.items c.in_err-offsets.field-0.0 =
+    subst (λ (xs : List Bool). IsOver t xs c.in_err-offsets.field-0.0) c.deref.ensures.value c.in_err-offsets.ensures.fault in
     let due : IsPassed t c.args.symbols.now c.in_err-offsets.field-0.0 =
-    over-passed t c.args.symbols.now c.deref.result.now c.in_err-offsets.field-0.0 within c.in_err-offsets.ensures.fault in
+    over-passed t c.args.symbols.now c.in_ok-long.long.items c.in_err-offsets.field-0.0 c.in_ok-long.ensures.within over in
     search rules
 
 pub returns-in_err-offsets-2-clause-fault : goal.returns-in_err-offsets-2-clause-fault

@@ -1,10 +1,12 @@
 -- Earlier rows hold, and what the slices show is the module's.
-use Rattle.std.proofs.Common.{List, subst, subst₂}
+use Rattle.std.proofs.Common.{List, sym, subst, subst₂}
 use Rattle.elf_read.specs.Lists.{Each, IsFirstBreak, own_number}
 use Rattle.cfi_aux.specs.declared.records.Function.{Function}
 use Rattle.cfi_aux.specs.declared.records.Kind.{Kind}
 use Rattle.cfi_items.specs.Functions.{EndsInJump}
 use Rattle.cfi_items.specs.Jumps.{SwitchFits}
+use Rattle.cfi_items.specs.inner.Homes.{AreApart}
+use Rattle.cfi_items.proofs.HomeLemmas.{in_order}
 use Rattle.cfi_items.proofs.check.check_ends.Goals as goal
 
 pub returns-in-Some-first_falling-clause-fault : goal.returns-in-Some-first_falling-clause-fault
@@ -29,3 +31,9 @@ returns-clause-ok c =
           subst (λ (fs : List Function). Each fs (EndsInJump t)) c.as_slice-functions.ensures
           c.in_default-first_falling.ensures.none;
     }
+
+pub first_bad_switch-requires-clause-order : goal.first_bad_switch-requires-clause-order
+first_bad_switch-requires-clause-order c =
+    let t = c.args.source.now in
+    subst (λ (fs : List Function). AreApart fs) (sym c.as_slice-functions.ensures)
+    (in_order t c.args.unplaced.now.records.functions c.requires.linked.shaped.functions)

@@ -1,5 +1,5 @@
 -- Earlier rows hold, and what the slices show is the module's.
-use Rattle.std.proofs.Common.{◌*◌, List, subst, subst₂}
+use Rattle.std.proofs.Common.{◌*◌, List, sym, subst, subst₂}
 use Rattle.elf_read.specs.declared.object.Symbol.{Symbol}
 use Rattle.elf_read.specs.Lists.{Each}
 use Rattle.cfi_aux.specs.declared.records.Function.{Function}
@@ -7,6 +7,8 @@ use Rattle.cfi_aux.specs.declared.records.Kind.{Kind}
 use Rattle.cfi_items.specs.Jumps.{HasRecord, AreUsed}
 use Rattle.cfi_items.specs.Leads.{WordLeadsWell}
 use Rattle.cfi_items.specs.Fault.{IsFirstBare}
+use Rattle.cfi_items.specs.inner.Homes.{AreApart}
+use Rattle.cfi_items.proofs.HomeLemmas.{in_order}
 use Rattle.cfi_items.proofs.check.check_jumps.Goals as goal
 
 pub returns-in-Some-first_unkind-clause-fault : goal.returns-in-Some-first_unkind-clause-fault
@@ -32,3 +34,9 @@ returns-clause-ok c =
           c.in_default-first_unkind.ensures.none;
       used = subst (λ (ks : List Kind). AreUsed t ks) c.as_slice.ensures c.in_default-first_unkind.ensures.used;
     }
+
+pub first_stray-requires-clause-order : goal.first_stray-requires-clause-order
+first_stray-requires-clause-order c =
+    let t = c.args.source.now in
+    subst (λ (fs : List Function). AreApart fs) (sym c.as_slice-functions.ensures)
+    (in_order t c.args.unplaced.now.records.functions c.requires.shaped.functions)

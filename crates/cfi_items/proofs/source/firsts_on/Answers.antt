@@ -1,9 +1,8 @@
 -- The table has the first relocation of each word, one relocation after the other.
-use Rattle.std.proofs.Common.{◌≡◌, ◌∙◌, ◌<◌, ap, None, pos, get_or, take, List, arith}
+use Rattle.std.proofs.Common.{◌≡◌, ◌∙◌, ◌<◌, ap, None, get_or, take, List, arith}
 use Rattle.std.proofs.lemmas.List.{take_all}
 use Rattle.std.proofs.lemmas.List.FromFn.{fill_by_all}
 use Rattle.elf_read.specs.declared.object.Reloc.{Reloc}
-use Rattle.elf_read.specs.declared.object.Area.TheVariants.{Text}
 use Rattle.cfi_items.specs.Words.{sits_on, first_on}
 use Rattle.cfi_items.specs.inner.Words.{noted}
 use Rattle.cfi_items.proofs.TableLemmas.{first_on-more}
