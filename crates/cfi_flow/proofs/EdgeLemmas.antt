@@ -1,16 +1,18 @@
 -- Edges of fans.
-use Rattle.std.proofs.Common.{◌≡◌, ℕ, zero, suc, List, [], ◌∷◌, ◌++◌, map, ap, subst, inl, inr}
+use Rattle.std.proofs.Common.{◌≡◌, ℕ, zero, suc, ◌+◌, ◌*◌, ◌≤◌, List, [], ◌++◌, length, map, refl, sym, ap, subst, inl, inr, arith}
 use Rattle.std.specs.List.{Contains, flat_map}
+use Rattle.std.proofs.lemmas.List.{length-append, length-map}
 use Rattle.std.proofs.lemmas.List.Elements.{Contains-append_left, Contains-append_right, Contains-append_cases}
 use Rattle.cfi_word.specs.declared.lists.Edge.{Edge}
 use Rattle.cfi_word.specs.Chain.{ChainOf, Chain}
 use Rattle.cfi_flow.specs.declared.links.Link.{Link}
 use Rattle.cfi_flow.specs.declared.links.Flow.{Flow}
 use Rattle.cfi_flow.specs.declared.fan.Fan.{Fan}
-use Rattle.cfi_flow.specs.Flow.{Links, Goes, IsSound}
-use Rattle.cfi_flow.specs.Fans.{Joins, AreFans, link_edge, all_of, spokes, few_of, IsListed}
+use Rattle.cfi_flow.specs.Flow.{Links, IsPath, Goes, IsSound, link_count}
+use Rattle.cfi_flow.specs.Fans.{Joins, AreFans, link_edge, all_of, IsListed}
+use Rattle.cfi_flow.specs.inner.Ways.{AreWays}
 use Rattle.cfi_word.specs.Edge.{edge_of}
-use Rattle.cfi_flow.proofs.Members.{no_member, member_first, member_map, from_map, member_flat, from_flat}
+use Rattle.cfi_flow.proofs.Members.{no_member, member_map, from_map, member_flat, from_flat}
 use Rattle.cfi_flow.proofs.RowLemmas.{make_link, link_is}
 use Rattle.cfi_flow.proofs.FanLemmas.{below_nodes}
 
@@ -35,12 +37,6 @@ from_edge : (targets : List ℕ) (from slot address : ℕ) → Contains (map (ed
 from_edge targets from slot address h =
     let m = from_map (edge_of from) targets (edge_of slot address) h in
     (ap (λ e. e.branch) m.2, subst (λ t. Contains targets t) (ap (λ e. e.target) m.2) m.1)
-
-to_edge : (slots : List ℕ) (to slot address : ℕ) → Contains (map (λ s. edge_of s to) slots) (edge_of slot address)
-    → Contains slots slot × (to ≡ address)
-to_edge slots to slot address h =
-    let m = from_map (λ s. edge_of s to) slots (edge_of slot address) h in
-    (subst (λ s. Contains slots s) (ap (λ e. e.branch) m.2) m.1, ap (λ e. e.target) m.2)
 
 all_joined : (fan : Fan) (slot address : ℕ) → Contains (all_of fan) (edge_of slot address) → Joins fan slot address
 all_joined fan slot address h =
@@ -76,35 +72,7 @@ all_whole flow fans sound are slot address g =
           (member_flat all_of fans j.fan (edge_of slot address) j.has (joined_all j.fan slot address j.joins))
     ]
 
--- ---- few edges of a fan
-
-spokes_sound : (slots targets : List ℕ) (slot address : ℕ) → Contains (spokes slots targets) (edge_of slot address)
-    → Contains slots slot × Contains targets address
-spokes_sound [] targets slot address h = absurd (no_member (edge_of slot address) h)
-spokes_sound (s ∷ slots) [] slot address h = absurd (no_member (edge_of slot address) h)
-spokes_sound (s ∷ slots) (t ∷ targets) slot address h =
-    elim (Contains-append_cases (map (edge_of s) (t ∷ targets)) (map (λ b. edge_of b t) (s ∷ slots)) (edge_of slot address) h) [
-      | inl a ↦
-          let e = from_edge (t ∷ targets) s slot address a in
-          (subst (λ b. Contains (s ∷ slots) b) e.0 (member_first s slots), e.1)
-      | inr a ↦
-          let e = to_edge (s ∷ slots) t slot address a in
-          (e.0, subst (λ b. Contains (t ∷ targets) b) e.1 (member_first t targets))
-    ]
-
-spokes_join : (slots targets : List ℕ) (slot address : ℕ) → Contains slots slot → Contains targets address
-    → ChainOf (IsListed (spokes slots targets)) 1 slot address
-spokes_join [] targets slot address h k = absurd (no_member slot h)
-spokes_join (s ∷ slots) [] slot address h k = absurd (no_member address k)
-spokes_join (s ∷ slots) (t ∷ targets) slot address h k =
-    let out = map (edge_of s) (t ∷ targets) in
-    let back = map (λ b. edge_of b t) (s ∷ slots) in (
-      t,
-      s,
-      Contains-append_right out back (edge_of slot t) (member_map (λ b. edge_of b t) (s ∷ slots) slot h),
-      Contains-append_left out back (edge_of s t) (member_map (edge_of s) (t ∷ targets) t (member_first t targets)),
-      Contains-append_left out back (edge_of s address) (member_map (edge_of s) (t ∷ targets) address k),
-    )
+-- ---- few edges of a flow
 
 chain_up : (R S : (slot address : ℕ) → Type 0) → ((slot address : ℕ) → R slot address → S slot address)
     → (more slot address : ℕ) → ChainOf R more slot address → ChainOf S more slot address
@@ -112,42 +80,93 @@ chain_up R S up zero slot address h = up slot address h
 chain_up R S up (suc more) slot address h =
     (h.0, h.1, up slot h.0 h.2, up h.1 h.0 h.3, chain_up R S up more h.1 address h.4)
 
-pub few_sound : (flow : Flow) (fans : List Fan) → AreFans flow flow.nodes fans → (slot address : ℕ)
-    → IsListed (map link_edge flow.listed.items ++ flat_map few_of fans) slot address → Goes flow slot address
-few_sound flow fans are slot address h =
-    elim (Contains-append_cases (map link_edge flow.listed.items) (flat_map few_of fans) (edge_of slot address) h) [
-      | inl a ↦ inl (listed_link flow.listed.items slot address a)
-      | inr b ↦
-          let m = from_flat few_of fans (edge_of slot address) b in
-          let j = spokes_sound m.0.slots.items m.0.targets.items slot address m.2 in
-          inr (are.sound slot address (record { fan = m.0; has = m.1; joins = j }))
-    ]
-
-pub few_whole : (flow : Flow) (fans : List Fan) → IsSound flow → AreFans flow flow.nodes fans → (slot address : ℕ)
-    → Goes flow slot address → Chain (IsListed (map link_edge flow.listed.items ++ flat_map few_of fans)) slot address
-few_whole flow fans sound are slot address g =
-    let here = map link_edge flow.listed.items in
-    let there = flat_map few_of fans in
-    elim g [
-      | inl a ↦ record {
-        more = 0;
-        chain = Contains-append_left here there (edge_of slot address) (link_listed flow.listed.items slot address a);
-      }
-      | inr b ↦
-          let j = are.whole slot address b.0 (below_nodes flow b.0 slot address sound b.1) b.1 in
-          record {
-            more = 1;
-            chain = chain_up (IsListed (few_of j.fan)) (IsListed (here ++ there))
-                (λ s t m. Contains-append_right here there (edge_of s t) (member_flat few_of fans j.fan (edge_of s t) j.has m))
-                1 slot address
-                (spokes_join j.fan.slots.items j.fan.targets.items slot address j.joins.0 j.joins.1);
-          }
-    ]
-
--- the same edges, listed anew
-pub chain_kept : (xs ys : List Edge) → ((e : Edge) → Contains xs e → Contains ys e) → (slot address : ℕ)
+pub chain_in : (xs ys : List Edge) → ((e : Edge) → Contains xs e → Contains ys e) → (slot address : ℕ)
     → Chain (IsListed xs) slot address → Chain (IsListed ys) slot address
-chain_kept xs ys kept slot address c = record {
+chain_in xs ys kept slot address c = record {
   more = c.more;
   chain = chain_up (IsListed xs) (IsListed ys) (λ s t m. kept (edge_of s t) m) c.more slot address c.chain;
 }
+
+stays_put : (steps a b : ℕ) → IsPath [] steps a b → a ≡ b
+stays_put zero a b e = e
+stays_put (suc steps) a b w = absurd (no_member (make_link a w.0) w.1)
+
+-- what is said of slices, said of the lists in them
+pub ways_of : (ls arrows ss sites rs returns : List Link) (edges : List Edge) → ls ≡ arrows → ss ≡ sites → rs ≡ returns
+    → AreWays ls ss rs edges → AreWays arrows sites returns edges
+ways_of ls arrows ss sites rs returns edges e f g w =
+    subst (λ xs. AreWays xs sites returns edges) e
+    (subst (λ xs. AreWays ls xs returns edges) f (subst (λ xs. AreWays ls ss xs edges) g w))
+
+-- edges of pointers and of returns, behind the listed ones
+module _ (flow : Flow) (pointing returning : List Edge)
+    (points : AreWays [] flow.entries.items flow.pointers.items pointing)
+    (backs : AreWays flow.arrows.items flow.sites.items flow.returns.items returning) where
+  abbrev pub listed : List Edge
+  listed = map link_edge flow.listed.items
+
+  abbrev pub few : List Edge
+  few = (listed ++ pointing) ++ returning
+
+  pub few_sound : (slot address : ℕ) → IsListed few slot address → Goes flow slot address
+  few_sound slot address h =
+      elim (Contains-append_cases (listed ++ pointing) returning (edge_of slot address) h) [
+        | inl a ↦ elim (Contains-append_cases listed pointing (edge_of slot address) a) [
+          | inl b ↦ inl (listed_link flow.listed.items slot address b)
+          | inr b ↦
+              let w = points.sound slot address b in
+              let same : w.returning ≡ w.node = sym (stays_put w.reached.0 w.node w.returning w.reached.1) in
+              inr (
+                w.node,
+                inl (record {
+                  pointer = subst (λ k. Links flow.pointers.items k slot) same w.back;
+                  entry = w.site;
+                }),
+              )
+        ]
+        | inr a ↦
+            let w = backs.sound slot address a in
+            inr (w.node, inr (record { site = w.site; returning = w.returning; reached = w.reached; back = w.back }))
+      ]
+
+  pub few_whole : (slot address : ℕ) → Goes flow slot address → Chain (IsListed few) slot address
+  few_whole slot address g =
+      elim g [
+        | inl a ↦ record {
+          more = 0;
+          chain = Contains-append_left (listed ++ pointing) returning (edge_of slot address)
+              (Contains-append_left listed pointing (edge_of slot address)
+              (link_listed flow.listed.items slot address a));
+        }
+        | inr b ↦ elim b.1 [
+          | inl p ↦
+              chain_in pointing few
+              (λ e m. Contains-append_left (listed ++ pointing) returning e (Contains-append_right listed pointing e m))
+              slot address
+              (points.whole slot address (record {
+                node = b.0;
+                site = p.entry;
+                returning = b.0;
+                reached = (zero, refl);
+                back = p.pointer;
+              }))
+          | inr r ↦
+              chain_in returning few (λ e m. Contains-append_right (listed ++ pointing) returning e m) slot address
+              (backs.whole slot address (record {
+                node = b.0;
+                site = r.site;
+                returning = r.returning;
+                reached = r.reached;
+                back = r.back;
+              }))
+        ]
+      ]
+
+  pub few_length : length few ≤ 2 * link_count flow
+  few_length =
+      let one : length ((listed ++ pointing) ++ returning) ≡ length (listed ++ pointing) + length returning =
+      length-append (listed ++ pointing) returning in
+      let other : length (listed ++ pointing) ≡ length listed + length pointing = length-append listed pointing in
+      let own : length listed ≡ length flow.listed.items = length-map flow.listed.items link_edge in
+      let none : length {A = Link} [] ≡ 0 = refl in
+      omega (arith, one, other, own, none, points.few, backs.few)

@@ -16,7 +16,7 @@ use Rattle.cfi_flow.proofs.Members.{no_member, member_flat, from_flat}
 use Rattle.cfi_flow.proofs.RowLemmas.{from_row, to_row}
 
 -- a member of a row is a link
-row_link : (count : ℕ) (links : List Link) (rows : List (List ℕ)) (k end : ℕ) → AreRows count links rows → k < count
+pub row_link : (count : ℕ) (links : List Link) (rows : List (List ℕ)) (k end : ℕ) → AreRows count links rows → k < count
     → Contains (flow_row rows k) end → Links links k end
 row_link count links rows k end r h m = from_row k links end (subst (λ ys. Contains ys end) (r.row k h) m)
 
@@ -25,15 +25,15 @@ link_row : (count : ℕ) (links : List Link) (rows : List (List ℕ)) (k end : �
     → Links links k end → Contains (flow_row rows k) end
 link_row count links rows k end r h m = subst (λ ys. Contains ys end) (sym (r.row k h)) (to_row k links end m)
 
-begins : (count : ℕ) (links : List Link) (a b : ℕ) → BeginBelow count links → Links links a b → a < count
+pub begins : (count : ℕ) (links : List Link) (a b : ℕ) → BeginBelow count links → Links links a b → a < count
 begins count links a b all h = All-contains (λ link. link.from < count) links (record { from = a; to = b }) all h
 
-ends : (count : ℕ) (links : List Link) (a b : ℕ) → AreBelow count links → Links links a b → b < count
+pub ends : (count : ℕ) (links : List Link) (a b : ℕ) → AreBelow count links → Links links a b → b < count
 ends count links a b all h =
     let both = All-contains (λ link. (link.from < count) × (link.to < count)) links (record { from = a; to = b }) all h in
     both.1
 
-starts : (count : ℕ) (links : List Link) (a b : ℕ) → AreBelow count links → Links links a b → a < count
+pub starts : (count : ℕ) (links : List Link) (a b : ℕ) → AreBelow count links → Links links a b → a < count
 starts count links a b all h =
     let both = All-contains (λ link. (link.from < count) × (link.to < count)) links (record { from = a; to = b }) all h in
     both.0
@@ -62,14 +62,14 @@ rows_have_nodes flow rows s r = record {
 }
 
 -- a walk along rows is a path along arrows
-walk_path : (count : ℕ) (links : List Link) (rows : List (List ℕ)) → AreBelow count links → AreRows count links rows
+pub walk_path : (count : ℕ) (links : List Link) (rows : List (List ℕ)) → AreBelow count links → AreRows count links rows
     → (steps a b : ℕ) → a < count → IsWalk rows steps a b → IsPath links steps a b
 walk_path count links rows all r zero a b h w = w
 walk_path count links rows all r (suc steps) a b h w =
     let link = row_link count links rows a w.0 r h w.1 in
     (w.0, link, walk_path count links rows all r steps w.0 b (ends count links a w.0 all link) w.2)
 
-path_walk : (count : ℕ) (links : List Link) (rows : List (List ℕ)) → AreBelow count links → AreRows count links rows
+pub path_walk : (count : ℕ) (links : List Link) (rows : List (List ℕ)) → AreBelow count links → AreRows count links rows
     → (steps a b : ℕ) → IsPath links steps a b → IsWalk rows steps a b
 path_walk count links rows all r zero a b w = w
 path_walk count links rows all r (suc steps) a b w = (

@@ -4,3 +4,5 @@ pub mod RowLemmas
 pub mod FanLemmas
 pub mod EdgeLemmas
 pub mod OrderLemmas
+pub mod SpreadLemmas
+pub mod WayLemmas

@@ -1,9 +1,10 @@
 -- Edges that are sorted and each once.
-use Rattle.std.proofs.Common.{◌≡◌, ◌∙◌, ℕ, ◌<◌, ◌==◌, ◌&&◌, ◌⊎◌, Bool, true, false, refl, ap, inl, inr, arith}
+use Rattle.std.proofs.Common.{◌≡◌, ◌∙◌, ℕ, ◌+◌, ◌<◌, ◌≤◌, ◌==◌, ◌&&◌, ◌⊎◌, Bool, true, false, List, [], ◌∷◌, length, refl, ap, inl, inr, arith}
+use Rattle.std.specs.List.{dedup, dedup_from}
 use Rattle.std.specs.declared.cmp.Ordering.TheVariants.{Less, Equal, Greater}
 use Rattle.std.specs.Ordering.{nat_cmp, ordering_then}
 use Rattle.std.specs.Cmp.{nat_cmp_is}
-use Rattle.std.proofs.lemmas.Bool.{cases_eq, cases_lt, eqb-true, false≢true}
+use Rattle.std.proofs.lemmas.Bool.{cases_Bool, cases_eq, cases_lt, eqb-true, false≢true}
 use Rattle.cfi_word.specs.declared.lists.Edge.{Edge}
 use Rattle.cfi_flow.specs.Order.{Precedes}
 
@@ -56,3 +57,19 @@ same_edge a b h =
     let both = both_hold (a.branch == b.branch) (a.target == b.target) h in
     ap (λ n. make_edge n a.target) (eqb-true a.branch b.branch both.0)
     ∙ ap (λ n. make_edge b.branch n) (eqb-true a.target b.target both.1)
+
+length-dedup_from : {X : Type 0} (same : X → X → Bool) (x : X) (xs : List X)
+    → length (dedup_from same x xs) ≤ length xs + 1
+length-dedup_from same x [] = omega arith
+length-dedup_from same x (y ∷ ys) = elim (cases_Bool (same y x)) [
+  | inl dropped ↦ rw dropped (omega (arith, length-dedup_from same x ys))
+  | inr kept ↦ rw kept (omega (arith, length-dedup_from same y ys))
+]
+
+-- no edge more is left
+pub length-dedup : {X : Type 0} (same : X → X → Bool) (xs : List X) → length (dedup same xs) ≤ length xs
+length-dedup same [] = omega arith
+length-dedup same (x ∷ xs) = omega (arith, length-dedup_from same x xs)
+
+pub most_then : (a b c : ℕ) → a ≤ b → b ≡ c → a ≤ c
+most_then a b c h e = omega (arith, h, e)

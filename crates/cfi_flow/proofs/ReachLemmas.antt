@@ -133,7 +133,7 @@ search_begins rows from marks h clear =
       closed = λ j lt. absurd (omega arith);
     }
 
-walk_on : (rows : List (List ℕ)) (steps a b c : ℕ) → IsWalk rows steps a b → Contains (slice_index_or rows b []) c
+pub walk_on : (rows : List (List ℕ)) (steps a b c : ℕ) → IsWalk rows steps a b → Contains (slice_index_or rows b []) c
     → IsWalk rows (suc steps) a c
 walk_on rows zero a b c e h = (c, subst (λ n. Contains (slice_index_or rows n []) c) (sym e) h, refl)
 walk_on rows (suc steps) a b c w h = (w.0, w.1, walk_on rows steps w.0 b c w.2 h)

@@ -1,5 +1,5 @@
 -- Fans: each of some branches may go to each of some addresses.
-use Rattle.std.specs.Prelude.{ℕ, ◌<◌, List, [], ◌∷◌, ◌++◌, map}
+use Rattle.std.specs.Prelude.{ℕ, ◌<◌, List, map}
 use Rattle.std.specs.List.{Contains, flat_map}
 use Rattle.cfi_word.specs.declared.lists.Edge.{Edge}
 use Rattle.cfi_word.specs.Chain.{Chain}
@@ -33,17 +33,7 @@ link_edge link = edge_of link.from link.to
 abbrev pub all_of : Fan → List Edge
 all_of fan = flat_map (λ slot. map (edge_of slot) fan.targets.items) fan.slots.items
 
--- few edges of a fan that join all that it joins: from its first branch, and to its first address
-abbrev pub spokes : (slots targets : List ℕ) → List Edge
-spokes [] targets = []
-spokes (slot ∷ slots) [] = []
-spokes (slot ∷ slots) (target ∷ targets) =
-    map (edge_of slot) (target ∷ targets) ++ map (λ s. edge_of s target) (slot ∷ slots)
-
-abbrev pub few_of : Fan → List Edge
-few_of fan = spokes fan.slots.items fan.targets.items
-
--- an edge_of of the list joins them
+-- an edge of the list joins them
 abbrev pub IsListed : List Edge → (slot address : ℕ) → Type 0
 IsListed edges slot address = Contains edges (edge_of slot address)
 

@@ -1,5 +1,5 @@
 -- Where control may go: nodes are what may be entered, a function or all functions of one type.
-use Rattle.std.specs.Prelude.{◌≡◌, ℕ, zero, suc, ◌<◌, ◌⊎◌, List, All}
+use Rattle.std.specs.Prelude.{◌≡◌, ℕ, zero, suc, ◌+◌, ◌<◌, ◌⊎◌, List, length, All}
 use Rattle.std.specs.List.{Contains}
 use Rattle.cfi_flow.specs.declared.links.Link.{Link}
 use Rattle.cfi_flow.specs.declared.links.Flow.{Flow}
@@ -36,6 +36,12 @@ GoesBy flow node slot address = PointsAt flow node slot address ⊎ ReturnsAt fl
 -- the branch may go to the address: it is listed, or goes there by way of a node
 abbrev pub Goes : Flow → (slot address : ℕ) → Type 0
 Goes flow slot address = Links flow.listed.items slot address ⊎ ((node : ℕ) × GoesBy flow node slot address)
+
+-- how many links the flow has
+abbrev pub link_count : Flow → ℕ
+link_count flow =
+    length flow.arrows.items + length flow.sites.items + length flow.returns.items
+    + length flow.pointers.items + length flow.entries.items + length flow.listed.items
 
 -- links that begin below the count
 abbrev pub BeginBelow : (count : ℕ) → List Link → Type 0

@@ -1,3 +1,5 @@
 -- What only private clauses cite.
 pub mod Reach
 pub mod FlowRows
+pub mod Spread
+pub mod Ways

@@ -2,8 +2,8 @@
 //!
 //! A node is what may be entered: a function, or all functions that pointers of one type may lead to. Stands on
 //! `cfi_word`. Proved: the edges of a flow are exactly those that it states, in order, each once; some of them have
-//! chains that join what any edge joins; the rows of links are where the links from each number lead. Only tested: that
-//! these edges are few, and that ample memory is enough. Open: nothing.
+//! chains that join what any edge joins, and are at most two for each link; the rows of links are where the links from
+//! each number lead. Only tested: that ample memory is enough. Open: nothing.
 #![tactic(auto)]
 
 mod edges;
@@ -12,8 +12,10 @@ mod fans;
 mod links;
 mod reach;
 mod rows;
+mod spread;
 #[cfg(test)]
 mod tests;
+mod ways;
 
 pub use edges::{all_edges, few_edges};
 pub use links::{Flow, Link};

@@ -16,3 +16,4 @@ mod BelowLemmas
 pub mod EndLemmas
 pub mod HandMadeLemmas
 pub mod CallRows
+pub mod ToldLemmas

@@ -8,6 +8,7 @@ ghost use Rattle.cfi_graph.specs.declared.fact.TheConstants.{CHECK_WORDS};
 ghost use Rattle.cfi_graph.specs.Shaped.{FunctionPrecedes};
 ghost use Rattle.cfi_graph.specs.Facts.{listed_fact, IsBranchFact, Adds};
 ghost use Rattle.cfi_graph.specs.Reading.{HasClasses, NamesInside};
+ghost use Rattle.cfi_graph.specs.Edges.{entry_count};
 
 use crate::fact::{CHECK_WORDS, Fact};
 use crate::place::{first_at, type_node};
@@ -29,8 +30,10 @@ fn add_call(
     requires classes { HasClasses classes.now number placed.now }
     requires node { node < length placed.now.types }
     requires within { placed.now.base + at + CHECK_WORDS ≤ MAX_CODE_WORDS }
-    ensures { OnOk result (Adds facts.old.items facts.new.items
+    ensures adds { OnOk result (Adds facts.old.items facts.new.items
         (IsBranchFact classes.now number placed.now at slot (Call node))) }
+    ensures few { OnOk result
+        (length facts.new.items ≤ length facts.old.items + 2) }
 {
     let from = type_node(classes, number, node);
     let to = 4 * (placed.base + at + CHECK_WORDS);
@@ -53,8 +56,10 @@ fn add_tail(
     requires node { node < length placed.now.types }
     requires order { AllPairs FunctionPrecedes placed.now.functions }
     requires within { placed.now.base + at < MAX_CODE_WORDS }
-    ensures { OnOk result (Adds facts.old.items facts.new.items
+    ensures adds { OnOk result (Adds facts.old.items facts.new.items
         (IsBranchFact classes.now number placed.now at slot (Tail node))) }
+    ensures few { OnOk result
+        (length facts.new.items ≤ length facts.old.items + 2) }
 {
     let to = type_node(classes, number, node);
     facts.push(Fact::Pointer(Link { from: to, to: slot }))?;
@@ -70,8 +75,10 @@ fn add_tail(
 fn add_return(facts: &mut Vec<Fact>, placed: &Placed, at: u32, slot: u32) -> Result<(), AllocError>
     requires order { AllPairs FunctionPrecedes placed.now.functions }
     requires within { placed.now.base + at < MAX_CODE_WORDS }
-    ensures { OnOk result ((classes : List (List ℕ)) (number : ℕ) → Adds facts.old.items
+    ensures adds { OnOk result ((classes : List (List ℕ)) (number : ℕ) → Adds facts.old.items
         facts.new.items (IsBranchFact classes number placed.now at slot Return)) }
+    ensures few { OnOk result
+        (length facts.new.items ≤ length facts.old.items + 1) }
 {
     let Some(first) = first_at(placed.functions.as_slice(), at) else {
         return Ok(());
@@ -114,8 +121,10 @@ pub(crate) fn add_branch(
     requires order { AllPairs FunctionPrecedes placed.now.functions }
     requires within { placed.now.base + at + CHECK_WORDS ≤ MAX_CODE_WORDS }
     requires named { NamesInside placed.now.base (length placed.now.types) kind.now }
-    ensures { OnOk result (Adds facts.old.items facts.new.items
+    ensures adds { OnOk result (Adds facts.old.items facts.new.items
         (IsBranchFact classes.now number placed.now at slot kind.now)) }
+    ensures few { OnOk result
+        (length facts.new.items ≤ length facts.old.items + 2 + entry_count kind.now) }
 {
     match kind {
         Kind::Call(node) => add_call(facts, classes, number, placed, at, slot, *node),

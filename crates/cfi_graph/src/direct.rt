@@ -1,11 +1,11 @@
 //! The direct edges of placed modules.
 
-ghost use Rattle.std.specs.Prelude.{◌≡◌, ◌<◌, ◌^◌, IfOk};
+ghost use Rattle.std.specs.Prelude.{◌≡◌, ◌*◌, ◌<◌, ◌≤◌, ◌^◌, length, sum_by, IfOk};
 ghost use Rattle.cfi_types.specs.Classes.{AreClasses};
-ghost use Rattle.cfi_flow.specs.Flow.{IsSound};
+ghost use Rattle.cfi_flow.specs.Flow.{IsSound, link_count};
 ghost use Rattle.cfi_graph.specs.Reading.{tables_of, node_count, HaveGraph};
 ghost use Rattle.cfi_graph.specs.inner.Flows.{GoesAs};
-ghost use Rattle.cfi_graph.specs.Edges.{AreDirectEdges, SpanDirectEdges};
+ghost use Rattle.cfi_graph.specs.Edges.{AreDirectEdges, SpanDirectEdges, told_most};
 
 use crate::fact::flow_by;
 use crate::facts::facts_of;
@@ -45,6 +45,7 @@ fn flow_of(alloc: Global, modules: &[Placed]) -> Result<Flow, AllocError>
     requires { HaveGraph modules.now }
     ensures sound { IfOk result IsSound }
     ensures goes { IfOk result (GoesAs modules.now) }
+    ensures few { IfOk result (λ flow. link_count flow ≤ sum_by told_most modules.now) }
 {
     let classes = classes_of(alloc, modules)?;
     let facts = facts_of(alloc, modules, &classes)?;
@@ -68,11 +69,13 @@ pub fn edges(alloc: Global, modules: &[Placed]) -> Result<Vec<Edge>, AllocError>
 /// Some of the direct edges of the modules, by slot and then by address, each once: a chain of them joins what any
 /// direct edge joins.
 ///
-/// There are about as many as there are branches, functions and return sites, and not one for each pair. The modules
-/// are as `edges` takes them.
+/// There are at most two for each word of code, four for each function and two for each entry of a switch, and not one
+/// for each pair of a branch and an address. The work is proportional to the modules, but for sorting. The modules are as
+/// `edges` takes them.
 pub fn spanning(alloc: Global, modules: &[Placed]) -> Result<Vec<Edge>, AllocError>
     requires { HaveGraph modules.now }
-    ensures { IfOk result (λ edges. SpanDirectEdges modules.now edges.items) }
+    ensures edges { IfOk result (λ edges. SpanDirectEdges modules.now edges.items) }
+    ensures few { IfOk result (λ edges. length edges.items ≤ 2 * sum_by told_most modules.now) }
 {
     let flow = flow_of(alloc, modules)?;
     few_edges(alloc, &flow)

@@ -1,12 +1,14 @@
 //! All facts of placed modules.
 
-ghost use Rattle.std.specs.Prelude.{◌≡◌, ◌+◌, ◌<◌, ◌^◌, length, Some, IfOk, OnOk};
+ghost use Rattle.std.specs.Prelude.{◌≡◌, ◌+◌, ◌*◌, ◌<◌, ◌≤◌, ◌^◌, length, sum_by, Some, IfOk, OnOk};
 ghost use Rattle.std.specs.List.{AllPairs, Contains};
 ghost use Rattle.cfi_word.specs.declared.limits.TheConstants.{MAX_CODE_WORDS};
 ghost use Rattle.cfi_graph.specs.Shaped.{FunctionPrecedes, slot_of};
 ghost use Rattle.cfi_graph.specs.Code.{Stands};
 ghost use Rattle.cfi_graph.specs.Facts.{IsJumpFact, IsUnitFact, IsFunctionFact, UnitTells, FunctionTells, ModuleTells, AreFacts, Adds};
 ghost use Rattle.cfi_graph.specs.Reading.{CanBeRead, CanAllBeRead};
+ghost use Rattle.cfi_graph.specs.Edges.{entry_count, told_most};
+ghost use Rattle.cfi_graph.specs.inner.Told.{listed_by, unit_told};
 
 use crate::branch_facts::add_branch;
 use crate::fact::Fact;
@@ -28,8 +30,10 @@ fn add_jump(
 ) -> Result<(), AllocError>
     requires order { AllPairs FunctionPrecedes placed.now.functions }
     requires within { placed.now.base + at < MAX_CODE_WORDS }
-    ensures { OnOk result (Adds facts.old.items facts.new.items
+    ensures adds { OnOk result (Adds facts.old.items facts.new.items
         (IsJumpFact placed.now at link off)) }
+    ensures few { OnOk result
+        (length facts.new.items ≤ length facts.old.items + 1) }
 {
     let Some(word) = word_to(placed.base + at, off) else {
         return Ok(());
@@ -59,8 +63,10 @@ fn add_check(
     requires read { CanBeRead classes.now number placed.now }
     requires stands { Stands placed.now spot.now.at spot.now.unit }
     requires slot { slot_of spot.now.unit ≡ Some slot }
-    ensures { OnOk result (Adds facts.old.items facts.new.items
+    ensures adds { OnOk result (Adds facts.old.items facts.new.items
         (IsUnitFact classes.now number placed.now spot.now.at spot.now.unit)) }
+    ensures few { OnOk result
+        (length facts.new.items ≤ length facts.old.items + 2 + listed_by placed.now (Some slot)) }
 {
     let Some(kind) = kind_of(placed, slot) else {
         return Ok(());
@@ -78,8 +84,10 @@ fn add_unit(
 ) -> Result<(), AllocError>
     requires read { CanBeRead classes.now number placed.now }
     requires stands { Stands placed.now spot.now.at spot.now.unit }
-    ensures { OnOk result (Adds facts.old.items facts.new.items
+    ensures adds { OnOk result (Adds facts.old.items facts.new.items
         (IsUnitFact classes.now number placed.now spot.now.at spot.now.unit)) }
+    ensures few { OnOk result
+        (length facts.new.items ≤ length facts.old.items + unit_told placed.now spot.now.unit) }
 {
     match spot.unit {
         Unit::Jump { link, off } => add_jump(facts, placed, spot.at, link, off),
@@ -98,8 +106,10 @@ fn add_units(
     placed: &Placed,
 ) -> Result<(), AllocError>
     requires { CanBeRead classes.now number placed.now }
-    ensures { OnOk result (Adds facts.old.items facts.new.items
+    ensures adds { OnOk result (Adds facts.old.items facts.new.items
         (UnitTells classes.now number placed.now)) }
+    ensures few { OnOk result
+        (length facts.new.items ≤ length facts.old.items + length placed.now.words + sum_by entry_count placed.now.branches) }
 {
     let spots = spots(alloc, placed.words.as_slice())?;
     for spot in &spots {
@@ -118,8 +128,10 @@ fn add_function(
 ) -> Result<(), AllocError>
     requires read { CanBeRead classes.now number placed.now }
     requires has { Contains placed.now.functions function.now }
-    ensures { OnOk result (Adds facts.old.items facts.new.items
+    ensures adds { OnOk result (Adds facts.old.items facts.new.items
         (IsFunctionFact classes.now number placed.now function.now)) }
+    ensures few { OnOk result
+        (length facts.new.items ≤ length facts.old.items + 2) }
 {
     if !function.taken {
         return Ok(());
@@ -142,8 +154,10 @@ fn add_functions(
     placed: &Placed,
 ) -> Result<(), AllocError>
     requires { CanBeRead classes.now number placed.now }
-    ensures { OnOk result (Adds facts.old.items facts.new.items
+    ensures adds { OnOk result (Adds facts.old.items facts.new.items
         (FunctionTells classes.now number placed.now)) }
+    ensures few { OnOk result
+        (length facts.new.items ≤ length facts.old.items + 2 * length placed.now.functions) }
 {
     for function in placed.functions.as_slice() {
         add_function(facts, classes, number, placed, function)?;
@@ -160,8 +174,10 @@ fn add_module(
     placed: &Placed,
 ) -> Result<(), AllocError>
     requires { CanBeRead classes.now number placed.now }
-    ensures { OnOk result (Adds facts.old.items facts.new.items
+    ensures adds { OnOk result (Adds facts.old.items facts.new.items
         (ModuleTells classes.now number placed.now)) }
+    ensures few { OnOk result
+        (length facts.new.items ≤ length facts.old.items + told_most placed.now) }
 {
     add_units(alloc, facts, classes, number, placed)?;
     add_functions(facts, classes, number, placed)
@@ -175,7 +191,8 @@ pub(crate) fn facts_of(
 ) -> Result<Vec<Fact>, AllocError>
     requires few { length modules.now < 2 ^ 32 }
     requires read { CanAllBeRead classes.now modules.now }
-    ensures { IfOk result (λ facts. AreFacts modules.now classes.now facts.items) }
+    ensures facts { IfOk result (λ facts. AreFacts modules.now classes.now facts.items) }
+    ensures few { IfOk result (λ facts. length facts.items ≤ sum_by told_most modules.now) }
 {
     let mut facts = Vec::new(alloc);
     for (number, placed) in modules.iter().enumerate() {

@@ -1,8 +1,8 @@
 //! Images of placed modules, and the policy that their direct edges make: classes and groups of branches and addresses.
 //!
 //! Stands on `cfi_aux`, `cfi_word`, `cfi_class`, `cfi_flow`, `cfi_graph`, `cfi_values`, `cfi_unit`, `elf_read` and
-//! `cfi_types`. Proved: the image of modules has exactly the labels of their direct edges, each module's words at its
-//! place, and 0 elsewhere; whether the policy lets a branch go to an address is told exactly, for any two numbers; the
+//! `cfi_types`. Proved: the image of modules has exactly the labels of their direct edges, classes in the order of their
+//! least slots, each module's words at its place, and 0 elsewhere; whether the policy lets a branch go to an address is told exactly, for any two numbers; the
 //! groups of modules are exactly the sets of branches that may go to the same addresses, with these, in order. Only
 //! tested: direct edges, groups, images and policies of modules that are written by hand. Open: nothing.
 #![tactic(auto)]

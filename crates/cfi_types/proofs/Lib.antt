@@ -13,3 +13,4 @@ pub mod Agreement
 pub mod Counts
 pub mod Rows
 pub mod Whole
+pub mod PathLemmas

@@ -11,6 +11,7 @@ use Rattle.cfi_types.specs.Spelling.{NamesBelow}
 use Rattle.cfi_types.specs.Same.{node_of, Same, Equal}
 use Rattle.cfi_types.specs.inner.Splitting.{signature, key_of, IsLeast, IsSplit, IsClosed, IsLow, Leaves, names_leaving}
 use Rattle.cfi_types.specs.inner.Refining.{AreLeaders}
+use Rattle.cfi_types.specs.inner.Paths.{KeepEqual}
 use Rattle.cfi_types.proofs.Pairs.{all_zip_at_each, map_from_all_zip, list_any_from_all_zip, all_zip_from_map, total, total_lt_total, total_le_square}
 use Rattle.cfi_types.proofs.Signatures.{alike_from_signature, signature_from_alike, IsOneKey, one_key_from_key, key_from_one_key}
 
@@ -35,7 +36,7 @@ names_below nodes a closed lt =
 -- ---- equal nodes
 
 -- the nodes that equal nodes name are equal, pair by pair
-named_equal : (nodes : List Node) (a b : ℕ) → Equal nodes a nodes b
+pub named_equal : (nodes : List Node) (a b : ℕ) → Equal nodes a nodes b
     → AllZip (λ c d. Equal nodes c nodes d) (nodes_of (node_of nodes a)) (nodes_of (node_of nodes b))
 named_equal nodes a b h =
     all_zip_at_each (λ n c d. Same n nodes c nodes d) (nodes_of (node_of nodes a)) (nodes_of (node_of nodes b))
@@ -76,7 +77,7 @@ stable_same nodes classes closed stable (suc n) a b la lb e =
 -- ---- parts
 
 -- nodes of one key have one least node
-least_alike : (key : ℕ → List ℕ) (a b m n : ℕ) → IsLeast key a m → IsLeast key b n → key a ≡ key b → m ≡ n
+pub least_alike : (key : ℕ → List ℕ) (a b m n : ℕ) → IsLeast key a m → IsLeast key b n → key a ≡ key b → m ≡ n
 least_alike key a b m n p q e =
     elim (cases_order m n) [
       | inl same ↦ same
@@ -151,6 +152,9 @@ module _ (nodes : List Node) (classes : List ℕ) (moved : List Bool) (next : Li
 
   pub next_low : IsLow next
   next_low a lt = (split.least a (omega (arith, split.len))).within
+
+  pub parts_keep : KeepEqual nodes next
+  parts_keep = record { len = split.len; low = next_low; own = own_part; kept = equal_parts }
 
   -- ---- standing still
 
@@ -262,6 +266,23 @@ first_classes nodes = record {
   kept = λ a b la lb h. (
     get_or-replicate {A = ℕ} (length nodes) a 0 0 la
         ∙ sym (get_or-replicate {A = ℕ} (length nodes) b 0 0 lb),
+    get_or-replicate (length nodes) a true false la
+        ∙ sym (get_or-replicate (length nodes) b true false lb),
+  );
+  settled =
+      λ a b la lb e stay-a stay-b. absurd (false≢true (sym stay-a ∙ get_or-replicate (length nodes) a true false la));
+}
+
+-- classes that keep equal nodes together, where all nodes have moved
+pub kept_classes : (nodes : List Node) (classes : List ℕ) → KeepEqual nodes classes
+    → Refines nodes classes (replicate (length nodes) true)
+kept_classes nodes classes keep = record {
+  len = keep.len;
+  moved_len = length-replicate (length nodes) true;
+  low = keep.low;
+  own = keep.own;
+  kept = λ a b la lb h. (
+    keep.kept a b la lb h,
     get_or-replicate (length nodes) a true false la
         ∙ sym (get_or-replicate (length nodes) b true false lb),
   );

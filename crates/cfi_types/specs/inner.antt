@@ -3,3 +3,4 @@ pub mod Joined
 pub mod Leader
 pub mod Splitting
 pub mod Refining
+pub mod Paths

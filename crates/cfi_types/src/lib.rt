@@ -13,6 +13,7 @@ mod kind;
 mod leader;
 mod node;
 mod numbering;
+mod paths;
 mod reading;
 mod refining;
 mod splitting;

@@ -5,6 +5,7 @@ ghost use Rattle.cfi_types.specs.inner.Splitting.{IsClosed};
 ghost use Rattle.cfi_types.specs.inner.Refining.{AreLeaders};
 
 use crate::node::TypeNode;
+use crate::paths::first_classes;
 use crate::splitting::{leaving, moving, split};
 use std::alloc::{AllocError, Global};
 
@@ -17,7 +18,7 @@ pub(crate) fn leaders(alloc: Global, nodes: &[TypeNode]) -> Result<Vec<u32>, All
     requires closed { IsClosed nodes.now }
     ensures { IfOk result (λ leaders. AreLeaders nodes.now leaders.items) }
 {
-    let mut classes = vec![in alloc; 0u32; nodes.len()]?;
+    let mut classes = first_classes(alloc, nodes)?;
     let mut moved = vec![in alloc; true; nodes.len()]?;
     loop {
         let next = split(alloc, nodes, classes.as_slice(), moved.as_slice())?;

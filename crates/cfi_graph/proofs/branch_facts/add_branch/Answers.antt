@@ -5,8 +5,8 @@ use Rattle.cfi_graph.proofs.AddsLemmas.{on_ok}
 use Rattle.cfi_graph.proofs.BranchLemmas.{switch_adds}
 use Rattle.cfi_graph.proofs.branch_facts.add_branch.Goals as goal
 
-pub returns-in-Return : goal.returns-in-Return
-returns-in-Return c =
+pub returns-in-Return-clause-adds : goal.returns-in-Return-clause-adds
+returns-in-Return-clause-adds c =
     let m = c.args.placed.now in
     let old = c.args.facts.now.items in
     let new = c.add_return.new.facts.items in
@@ -16,10 +16,10 @@ returns-in-Return c =
     (Adds old new (IsBranchFact c.args.classes.now c.args.number m c.args.at c.args.slot c.args.kind.now))
     (λ all. subst (λ kind. Adds old new (IsBranchFact c.args.classes.now c.args.number m c.args.at c.args.slot kind))
     (sym c.in-Return.is) (all c.args.classes.now c.args.number))
-    c.add_return.ensures
+    c.add_return.ensures.adds
 
-pub returns-in-Switch : goal.returns-in-Switch
-returns-in-Switch c =
+pub returns-in-Switch-clause-adds : goal.returns-in-Switch-clause-adds
+returns-in-Switch-clause-adds c =
     let m = c.args.placed.now in
     let old = c.args.facts.now.items in
     let new = c.add_entries.new.facts.items in

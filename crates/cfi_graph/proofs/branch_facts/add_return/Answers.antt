@@ -6,8 +6,8 @@ use Rattle.cfi_graph.proofs.FactLemmas.{nowhere_return, return_adds}
 use Rattle.cfi_graph.proofs.branch_facts.add_return.Goals as goal
 
 -- a word that lies in no function
-pub returns-in_default : goal.returns-in_default
-returns-in_default c = λ classes number.
+pub returns-in_default-clause-adds : goal.returns-in_default-clause-adds
+returns-in_default-clause-adds c = λ classes number.
     let m = c.args.placed.now in
     let no_first : (first : ℕ) → IsFirst m.functions c.args.at first → ⊥ = λ first is.
     let found = c.first_at.ensures.only first (subst (λ fs. IsFirst fs c.args.at first) (sym c.as_slice.ensures) is) in
@@ -16,8 +16,8 @@ returns-in_default c = λ classes number.
     adds_none c.args.facts.now.items (IsBranchFact classes number m c.args.at c.args.slot Return)
     (nowhere_return m c.args.at no_first classes number c.args.slot)
 
-pub returns : goal.returns
-returns c = λ classes number.
+pub returns-clause-adds : goal.returns-clause-adds
+returns-clause-adds c = λ classes number.
     let m = c.args.placed.now in
     let is_first = subst (λ fs. IsFirst fs c.args.at c.in-Some.first) c.as_slice.ensures c.in-Some.ensures.some in
     rw (c.in_ok-push.ensures.items)

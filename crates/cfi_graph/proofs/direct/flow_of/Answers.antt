@@ -1,5 +1,8 @@
-use Rattle.std.proofs.Common.{◌∙◌, sym, subst}
-use Rattle.cfi_flow.specs.Flow.{IsSound}
+use Rattle.std.proofs.Common.{◌∙◌, ◌≤◌, length, sym, ap, subst, arith}
+use Rattle.std.specs.Prelude.{sum_by}
+use Rattle.cfi_flow.specs.Flow.{IsSound, link_count}
+use Rattle.cfi_graph.specs.Edges.{told_most}
+use Rattle.cfi_graph.proofs.ToldLemmas.{as_many_links}
 use Rattle.cfi_graph.specs.Facts.{AreFacts}
 use Rattle.cfi_graph.specs.inner.Flows.{IsFlowOf, GoesAs}
 use Rattle.cfi_values.proofs.ThenLemmas.{if_ok}
@@ -19,7 +22,7 @@ returns-clause-sound c =
     let ms = c.args.modules.now in
     let classes = c.in_ok-classes.classes in
     let list = c.as_slice.result.now in
-    let are = subst (λ fs. AreFacts ms classes fs) (sym c.as_slice.ensures.value) c.in_ok-facts.ensures in
+    let are = subst (λ fs. AreFacts ms classes fs) (sym c.as_slice.ensures.value) c.in_ok-facts.ensures.facts in
     let count = c.node_count-nodes.result in
     if_ok c.flow_by.result (IsFlowOf list count) IsSound
     (λ flow is.
@@ -32,7 +35,7 @@ returns-clause-goes c =
     let ms = c.args.modules.now in
     let classes = c.in_ok-classes.classes in
     let list = c.as_slice.result.now in
-    let are = subst (λ fs. AreFacts ms classes fs) (sym c.as_slice.ensures.value) c.in_ok-facts.ensures in
+    let are = subst (λ fs. AreFacts ms classes fs) (sym c.as_slice.ensures.value) c.in_ok-facts.ensures.facts in
     let count = c.node_count-nodes.result in
     if_ok c.flow_by.result (IsFlowOf list count) (GoesAs ms)
     (λ flow is slot address.
@@ -40,4 +43,13 @@ returns-clause-goes c =
       goes_direct ms classes c.requires.apart c.in_ok-classes.ensures flow tells slot address,
       direct_goes ms classes c.requires.apart c.in_ok-classes.ensures flow tells slot address,
     ))
+    c.flow_by.ensures
+
+pub returns-clause-few : goal.returns-clause-few
+returns-clause-few c =
+    let list = c.as_slice.result.now in
+    let count = c.node_count-nodes.result in
+    let same = ap (λ fs. length fs) c.as_slice.ensures.value in
+    if_ok c.flow_by.result (IsFlowOf list count) (λ flow. link_count flow ≤ sum_by told_most c.args.modules.now)
+    (λ flow is. omega (arith, as_many_links list count flow is, same, c.in_ok-facts.ensures.few))
     c.flow_by.ensures

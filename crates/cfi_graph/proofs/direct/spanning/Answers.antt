@@ -1,10 +1,13 @@
+use Rattle.std.proofs.Common.{◌*◌, ◌≤◌, length, arith}
+use Rattle.std.specs.Prelude.{sum_by}
+use Rattle.cfi_flow.specs.Flow.{link_count}
 use Rattle.cfi_flow.specs.Fans.{AreFewEdges}
-use Rattle.cfi_graph.specs.Edges.{SpanDirectEdges}
+use Rattle.cfi_graph.specs.Edges.{SpanDirectEdges, told_most}
 use Rattle.cfi_values.proofs.ThenLemmas.{if_ok}
 use Rattle.cfi_graph.proofs.direct.spanning.Goals as goal
 
-pub returns : goal.returns
-returns c =
+pub returns-clause-edges : goal.returns-clause-edges
+returns-clause-edges c =
     let goes = c.in_ok-flow.ensures.goes in
     if_ok c.few_edges.result (λ edges. AreFewEdges c.in_ok-flow.flow edges.items)
     (λ edges. SpanDirectEdges c.args.modules.now edges.items)
@@ -13,4 +16,12 @@ returns c =
       whole = λ slot address edge. are.whole slot address ((goes slot address).1 edge);
       order = are.order;
     })
-    c.few_edges.ensures
+    c.few_edges.ensures.edges
+
+pub returns-clause-few : goal.returns-clause-few
+returns-clause-few c =
+    let ms = c.args.modules.now in
+    if_ok c.few_edges.result (λ edges. length edges.items ≤ 2 * link_count c.in_ok-flow.flow)
+    (λ edges. length edges.items ≤ 2 * sum_by told_most ms)
+    (λ edges few. omega (arith, few, c.in_ok-flow.ensures.few))
+    c.few_edges.ensures.few

@@ -7,8 +7,8 @@ use Rattle.cfi_graph.proofs.BranchLemmas.{no_kind, check_adds}
 use Rattle.cfi_graph.proofs.facts.add_check.Goals as goal
 
 -- a slot without a branch
-pub returns-in_default : goal.returns-in_default
-returns-in_default c =
+pub returns-in_default-clause-adds : goal.returns-in_default-clause-adds
+returns-in_default-clause-adds c =
     let m = c.args.placed.now in
     let spot = c.args.spot.now in
     let none : (kind : Kind) → HasKind m c.args.slot kind → ⊥ = λ kind has.
@@ -25,8 +25,8 @@ pub add_branch-requires-clause-named : goal.add_branch-requires-clause-named
 add_branch-requires-clause-named c =
     branch_names c.args.placed.now c.requires.read.shaped c.args.slot c.in-Some.kind.now c.in-Some.ensures.some
 
-pub returns : goal.returns
-returns c =
+pub returns-clause-adds : goal.returns-clause-adds
+returns-clause-adds c =
     let m = c.args.placed.now in
     let spot = c.args.spot.now in
     let classes = c.args.classes.now in
@@ -37,4 +37,4 @@ returns c =
     (Adds old new (IsUnitFact classes c.args.number m spot.at spot.unit))
     (check_adds classes c.args.number m spot.at c.args.slot c.in-Some.kind.now c.in-Some.ensures.some spot.unit
     c.requires.slot old new)
-    c.add_branch.ensures
+    c.add_branch.ensures.adds

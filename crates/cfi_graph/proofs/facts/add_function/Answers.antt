@@ -17,8 +17,8 @@ overflow_mul-first c =
     let last = shape.1.ends in
     omega (arith, ends, last)
 
-pub returns : goal.returns
-returns c =
+pub returns-clause-adds : goal.returns-clause-adds
+returns-clause-adds c =
     rw (c.in_ok-push-2.ensures.items, c.in_ok-push.ensures.items)
     (function_adds c.args.classes.now c.args.number c.args.placed.now c.args.function.now c.type_node-from.result _
     c.args.facts.now.items c.if-not-function.false c.type_node-from.ensures refl)

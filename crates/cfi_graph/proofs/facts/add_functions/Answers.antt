@@ -17,16 +17,25 @@ loop-function-preserved c =
     slice_get_read items (length items) k f refl c.loop-function-test.true c.function-item.is in
     let is : slice_get m.functions k ≡ Some f =
     subst (λ fs. slice_get fs k ≡ Some f) c.as_slice-function-items.ensures read in
-    adds_below_more c.args.facts.now.items c.loop-function.facts.items c.add_function.new.facts.items
-    (NumberTells c.args.classes.now c.args.number m) k c.loop-function.invariant
-    (number_tells c.args.classes.now c.args.number m k f is c.loop-function.facts.items c.add_function.new.facts.items
-    c.in_ok-add_function.ensures)
+    record {
+      adds = adds_below_more c.args.facts.now.items c.loop-function.facts.items c.add_function.new.facts.items
+          (NumberTells c.args.classes.now c.args.number m) k c.loop-function.invariant.adds
+          (number_tells c.args.classes.now c.args.number m k f is c.loop-function.facts.items
+          c.add_function.new.facts.items c.in_ok-add_function.ensures.adds);
+      few = omega (arith, c.loop-function.invariant.few, c.in_ok-add_function.ensures.few);
+    }
 
-pub returns : goal.returns
-returns c =
+pub returns-clause-adds : goal.returns-clause-adds
+returns-clause-adds c =
     let m = c.args.placed.now in
     let all : c.loop-function.function-index ≡ length m.functions =
     omega (arith, ap (λ fs. length fs) c.as_slice-function-items.ensures) in
     functions_tell c.args.classes.now c.args.number m c.args.facts.now.items c.loop-function.facts.items
     (subst (λ n. Adds c.args.facts.now.items c.loop-function.facts.items
-    (TellsBelow n (NumberTells c.args.classes.now c.args.number m))) all c.loop-function.invariant)
+    (TellsBelow n (NumberTells c.args.classes.now c.args.number m))) all c.loop-function.invariant.adds)
+
+pub returns-clause-few : goal.returns-clause-few
+returns-clause-few c =
+    let all : c.loop-function.function-index ≡ length c.args.placed.now.functions =
+    omega (arith, ap (λ fs. length fs) c.as_slice-function-items.ensures) in
+    omega (arith, all, c.loop-function.invariant.few)

@@ -7,8 +7,8 @@ use Rattle.cfi_graph.proofs.FactLemmas.{jump_lies_nowhere, arrow_adds}
 use Rattle.cfi_graph.proofs.facts.add_jump.Goals as goal
 
 -- a jump that lies in no function
-pub returns-in_default-first_at : goal.returns-in_default-first_at
-returns-in_default-first_at c =
+pub returns-in_default-first_at-clause-adds : goal.returns-in_default-first_at-clause-adds
+returns-in_default-first_at-clause-adds c =
     let m = c.args.placed.now in
     let no_first : (first : ℕ) → IsFirst m.functions c.args.at first → ⊥ = λ first is.
     let found = c.first_at.ensures.only first (subst (λ fs. IsFirst fs c.args.at first) (sym c.as_slice.ensures) is) in
@@ -17,8 +17,8 @@ returns-in_default-first_at c =
     adds_none c.args.facts.now.items (IsJumpFact m c.args.at c.args.link c.args.off)
     (jump_lies_nowhere m c.args.at no_first c.args.link c.args.off c.if-link.false)
 
-pub returns : goal.returns
-returns c =
+pub returns-clause-adds : goal.returns-clause-adds
+returns-clause-adds c =
     let m = c.args.placed.now in
     let is_first = subst (λ fs. IsFirst fs c.args.at c.in-Some-first_at.first) c.as_slice.ensures
     c.in-Some-first_at.ensures.some in

@@ -1,6 +1,9 @@
 use Rattle.std.proofs.Common.{◌≡◌, [], length, Some, refl, subst, arith}
 use Rattle.std.specs.Prelude.{slice_get}
 use Rattle.std.proofs.lemmas.Option.{slice_get_read}
+use Rattle.std.proofs.lemmas.List.Sums.{sum_by-take-le}
+use Rattle.cfi_graph.proofs.ToldLemmas.{told_next}
+use Rattle.cfi_graph.specs.Edges.{told_most}
 use Rattle.cfi_graph.specs.Facts.{Adds}
 use Rattle.cfi_graph.proofs.AddsLemmas.{TellsBelow, adds_below_more}
 use Rattle.cfi_graph.proofs.TellLemmas.{OwnerTells, owner_tells, all_told}
@@ -23,15 +26,23 @@ loop-number-preserved c =
     let m = c.index-modules-number.result in
     let is : slice_get ms number ≡ Some m =
     slice_get_read ms (length ms) number m refl c.loop-number-test.true c.index-modules-number.is in
-    adds_below_more [] c.loop-number.facts.items c.add_module.new.facts.items (OwnerTells ms classes) number
-    c.loop-number.invariant
-    (owner_tells ms classes number m is c.loop-number.facts.items c.add_module.new.facts.items
-    c.in_ok-add_module.ensures)
+    record {
+      adds = adds_below_more [] c.loop-number.facts.items c.add_module.new.facts.items (OwnerTells ms classes) number
+          c.loop-number.invariant.adds
+          (owner_tells ms classes number m is c.loop-number.facts.items c.add_module.new.facts.items
+          c.in_ok-add_module.ensures.adds);
+      few = told_next told_most ms number m is _ _ c.loop-number.invariant.few c.in_ok-add_module.ensures.few;
+    }
 
-pub returns : goal.returns
-returns c =
+pub returns-clause-facts : goal.returns-clause-facts
+returns-clause-facts c =
     let ms = c.args.modules.now in
     let classes = c.args.classes.now in
     let all : c.loop-number.number ≡ length ms = omega arith in
     all_told ms classes c.loop-number.facts.items
-    (subst (λ n. Adds [] c.loop-number.facts.items (TellsBelow n (OwnerTells ms classes))) all c.loop-number.invariant)
+    (subst (λ n. Adds [] c.loop-number.facts.items (TellsBelow n (OwnerTells ms classes))) all c.loop-number.invariant.adds)
+
+pub returns-clause-few : goal.returns-clause-few
+returns-clause-few c =
+    let part = sum_by-take-le told_most c.args.modules.now c.loop-number.number in
+    omega (arith, c.loop-number.invariant.few, part)

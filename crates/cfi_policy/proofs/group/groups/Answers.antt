@@ -31,7 +31,7 @@ none_by_test idle test =
 pub numbers-requires-clause-within : goal.numbers-requires-clause-within
 numbers-requires-clause-within c =
     let ms = c.args.modules.now in
-    let span = subst (λ es. SpanDirectEdges ms es) (sym c.as_slice.ensures.value) c.in_ok-edges.ensures in
+    let span = subst (λ es. SpanDirectEdges ms es) (sym c.as_slice.ensures.value) c.in_ok-edges.ensures.edges in
     within_code ms c.as_slice.result.now span c.requires
 
 -- the groups of the classes, and that of the branches without one where there are some
@@ -43,7 +43,7 @@ returns c =
     let bary = c.in_ok-labels.labels.bary in
     let idle = c.in_ok-idle.idle.items in
     let classes = c.in_ok-groups.groups.items in
-    let span = subst (λ es. SpanDirectEdges ms es) (sym c.as_slice.ensures.value) c.in_ok-edges.ensures in
+    let span = subst (λ es. SpanDirectEdges ms es) (sym c.as_slice.ensures.value) c.in_ok-edges.ensures.edges in
     let few = spans ms edges span in
     let are : AreNumbers (DirectEdge ms) SLOTS (MAX_CODE_WORDS + 1) tary bary =
     spanned_numbers (HasEdge edges) (DirectEdge ms) few SLOTS (MAX_CODE_WORDS + 1) tary bary

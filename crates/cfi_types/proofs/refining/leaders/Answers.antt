@@ -1,9 +1,9 @@
-use Rattle.std.proofs.Common.{◌≡◌, ◌≢◌, ◌*◌, Bool, List, length, map, sym, ap, subst, ◌∙◌}
+use Rattle.std.proofs.Common.{◌≡◌, ◌≢◌, ◌*◌, Bool, true, List, length, map, replicate, sym, ap, subst, ◌∙◌, rules}
 use Rattle.std.proofs.lemmas.Bool.{false≢true}
 use Rattle.std.proofs.lemmas.Slice.Eq.{bytes_eq-Decides}
 use Rattle.cfi_types.specs.inner.Splitting.{names_leaving}
 use Rattle.cfi_types.proofs.Pairs.{total, less_left}
-use Rattle.cfi_types.proofs.Steps.{Refines, leaders, rises, bounded, step, split_of, leaves_of}
+use Rattle.cfi_types.proofs.Steps.{Refines, leaders, rises, bounded, step, split_of, leaves_of, kept_classes}
 use Rattle.cfi_types.proofs.refining.leaders.Goals as goal
 
 pub returns-then-eq : goal.returns-then-eq
@@ -53,3 +53,9 @@ loop-moved-preserved c =
     ∙ ap (λ (l : List Bool). map (names_leaving l) nodes) c.as_slice-in-loop-moved-6.ensures.value in
     subst (Refines nodes next) (sym moved)
     (step nodes classes c.loop-moved.moved.items next c.requires.closed c.loop-moved.invariant split leaving leaves)
+
+pub loop-moved-init : goal.loop-moved-init
+loop-moved-init c =
+    let all : c.in_ok-moved.moved.items ≡ replicate (length c.args.nodes.now) true = search rules in
+    subst (λ ms. Refines c.args.nodes.now c.in_ok-classes.classes.items ms) (sym all)
+    (kept_classes c.args.nodes.now c.in_ok-classes.classes.items c.in_ok-classes.ensures)
