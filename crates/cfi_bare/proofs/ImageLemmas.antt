@@ -18,12 +18,11 @@ use Rattle.cfi_flow.proofs.Members.{member_first, no_member}
 use Rattle.cfi_graph.specs.Direct.{DirectEdge}
 use Rattle.cfi_model.specs.Closed.{IsStartIn}
 use Rattle.cfi_policy.specs.Code.{LiesInModule, HasWords, IsCodeOf}
-use Rattle.cfi_series.specs.Loaded.{IsImageOf}
+use Rattle.cfi_series.specs.Loaded.{IsLoadedImage}
 use Rattle.cfi_series.proofs.ImageLemmas.{closed, function_start}
 use Rattle.cfi_bare.specs.declared.modules.TheConstants.{MAX_WORDS}
 use Rattle.cfi_bare.specs.Runnable.{IsWhole, IsRunnable}
-use Rattle.cfi_bare.specs.Image.{copies, code_with, IsClosedFile}
-use Rattle.cfi_bare.specs.Image.{IsImageOf as IsImageOfWords}
+use Rattle.cfi_bare.specs.Image.{copies, code_with, IsImageOf, IsClosedFile}
 use Rattle.cfi_bare.proofs.LoadedLemmas.{loaded}
 
 -- copies of a value
@@ -118,11 +117,11 @@ labels = record {
 -- ---- the image
 
 pub closed_file : (words : List ℕ) (image : Image) → length words ≤ MAX_WORDS → IsRunnable words
-    → IsImageOfWords words image → IsClosedFile image
+    → IsImageOf words image → IsClosedFile image
 closed_file words image fits runnable is =
     let m = runnable.0 in
     let whole = runnable.1 in
-    let of : IsImageOf MAX_CODE_WORDS (m ∷ []) [] image = (
+    let of : IsLoadedImage MAX_CODE_WORDS (m ∷ []) [] image = (
       All-nil (Contains (m ∷ [])),
       record {
         labels = subst (λ (bary : List ℕ). AreLabels (DirectEdge []) MAX_CODE_WORDS image.tary bary) (sym is.bary)

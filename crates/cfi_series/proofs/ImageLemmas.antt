@@ -24,7 +24,7 @@ use Rattle.cfi_graph.specs.Reading.{HaveGraph}
 use Rattle.cfi_model.specs.Closed.{idle, IsStartOf, IsStartIn, HasClasses, IsReadAs, IsClosed}
 use Rattle.cfi_policy.specs.Image.{IsImage, HaveImage}
 use Rattle.cfi_verify.specs.Functions.{may_be_last}
-use Rattle.cfi_series.specs.Loaded.{AreAmong, IsImageOf, AreLoaded, HasStarts}
+use Rattle.cfi_series.specs.Loaded.{AreAmong, IsLoadedImage, AreLoaded, HasStarts}
 use Rattle.cfi_series.proofs.SeriesLemmas.{branch_words}
 use Rattle.cfi_series.proofs.EndLemmas.{spot_of, has as spot_there, begins_within}
 use Rattle.cfi_series.proofs.BusyLemmas.{entry_busy}
@@ -189,7 +189,7 @@ module _ (code_words : ℕ) (ms : List Placed) (loaded : AreLoaded code_words ms
       (trimmed code_words ms loaded).ends
 
   -- each image, with the labels of some of the modules and the code of all, is closed
-  module _ (live : List Placed) (image : Image) (of : IsImageOf code_words ms live image) where
+  module _ (live : List Placed) (image : Image) (of : IsLoadedImage code_words ms live image) where
     abbrev is : IsImage (DirectEdge live) ms code_words image
     is = of.1
 

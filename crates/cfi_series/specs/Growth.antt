@@ -5,7 +5,7 @@ use Rattle.std.specs.Prelude.{◌≡◌, ◌⊎◌, ℕ, ◌+◌, ◌≤◌, Lis
 use Rattle.cfi_word.specs.declared.limits.TheConstants.{MAX_EPOCH, MAX_POLICY, MIN_VERSIONS, MAX_VERSIONS}
 use Rattle.cfi_aux.specs.declared.placed.Placed.{Placed}
 use Rattle.cfi_model.specs.History.{History, IsEpoch}
-use Rattle.cfi_series.specs.Loaded.{IsImageOf}
+use Rattle.cfi_series.specs.Loaded.{IsLoadedImage}
 
 -- the history is that of the modules, of which so many were there at the start
 pub record IsHistoryOf (code_words : ℕ) (ms : List Placed) (starts : ℕ) (h : History) : Type 0 where
@@ -15,7 +15,7 @@ pub record IsHistoryOf (code_words : ℕ) (ms : List Placed) (starts : ℕ) (h :
   pub few : (epoch : ℕ) → IsEpoch h epoch → loaded epoch ≤ length ms
   pub policies : (epoch : ℕ) → IsEpoch h epoch → starts + h.policy epoch ≡ loaded epoch
   pub live : ℕ → List Placed
-  pub images : (epoch : ℕ) → IsEpoch h epoch → IsImageOf code_words (take (loaded epoch) ms) (live epoch) (h.image epoch)
+  pub images : (epoch : ℕ) → IsEpoch h epoch → IsLoadedImage code_words (take (loaded epoch) ms) (live epoch) (h.image epoch)
 
 -- the numbers of the history can be packed into table words
 pub record HasNumbers (h : History) : Type 0 where

@@ -33,13 +33,13 @@ pub record AreLoaded (code_words : ℕ) (ms : List Placed) : Type 0 where
   pub verified : (k : ℕ) (m : Placed) → slice_get ms k ≡ Some m → IsVerifiedAmong (take k ms) m
 
 -- the image has the code of all modules, and the labels of the policy of some of them
-abbrev pub IsImageOf : (code_words : ℕ) → (ms live : List Placed) → Image → Type 0
-IsImageOf code_words ms live image = AreAmong live ms × IsImage (DirectEdge live) ms code_words image
+abbrev pub IsLoadedImage : (code_words : ℕ) → (ms live : List Placed) → Image → Type 0
+IsLoadedImage code_words ms live image = AreAmong live ms × IsImage (DirectEdge live) ms code_words image
 
 -- each image of the modules is closed
 abbrev pub HaveClosedImages : (code_words : ℕ) → List Placed → Type 0
 HaveClosedImages code_words ms =
-    (live : List Placed) (image : Image) → IsImageOf code_words ms live image → IsClosed code_words image
+    (live : List Placed) (image : Image) → IsLoadedImage code_words ms live image → IsClosed code_words image
 
 -- what of the modules is a start of the image: the first word of each function, each entry of a switch, each address
 -- after a call, and each address that a branch may go to
@@ -53,4 +53,4 @@ pub record HasStarts (ms live : List Placed) (image : Image) : Type 0 where
 -- each image of the modules has these starts
 abbrev pub HaveStarts : (code_words : ℕ) → List Placed → Type 0
 HaveStarts code_words ms =
-    (live : List Placed) (image : Image) → IsImageOf code_words ms live image → HasStarts ms live image
+    (live : List Placed) (image : Image) → IsLoadedImage code_words ms live image → HasStarts ms live image

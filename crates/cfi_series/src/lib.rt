@@ -1,9 +1,11 @@
 //! Modules placed one after the other, each at the next free place and verified against those before it.
 //!
-//! Stands on `cfi_place`, `cfi_verify`, `cfi_graph`, `cfi_policy` and what these stand on. Proved: a series takes a module
-//! exactly where it places and verifies behind those that it has, and else says the module's first fault and stays as it
-//! was; modules at the next free places, each verified against those before it, are shaped; the modules of a series have a
-//! graph and an image; some series has a module. Only tested: that ample memory is enough. Open: when memory runs out.
+//! Stands on `cfi_place`, `cfi_verify`, `cfi_graph`, `cfi_policy`, `cfi_model` and what these stand on. Proved: a series
+//! takes a module exactly where it places and verifies behind those that it has, and else says the module's first fault
+//! and stays as it was; modules that were loaded at the next free places, each verified against some of those before it,
+//! are shaped, each image of them is closed, and the images of a growing list of them are a history; the modules of a
+//! series have a graph and an image; some series has a module. Only tested: that ample memory is enough. Open: when memory
+//! runs out.
 #![tactic(auto)]
 
 mod fault;
