@@ -1,16 +1,18 @@
 -- That a series can take the modules of files, one after the other, and their first fault.
-use Rattle.std.proofs.Common.{◌≡◌, ℕ, ◌+◌, ◌<◌, ◌++◌, List, [], ◌∷◌, length, take, get_or, Option, Some, None, All, refl, ap, sym, subst, ◌∙◌, arith}
+use Rattle.std.proofs.Common.{◌≡◌, ℕ, ◌+◌, ◌<◌, ◌≤◌, ◌++◌, List, [], ◌∷◌, length, take, get_or, Option, Some, None, All, refl, ap, sym, subst, ◌∙◌, ⊎_elim, arith}
 use Rattle.std.specs.Prelude.{slice_get, IsSomeAnd}
+use Rattle.std.proofs.lemmas.Bool.{cases_lt}
 use Rattle.std.proofs.lemmas.List.{take_more}
 use Rattle.std.proofs.lemmas.List.Elements.{All-nil, All-cons, All-head, All-tail}
-use Rattle.std.proofs.lemmas.Option.{slice_get-get_or}
+use Rattle.std.proofs.lemmas.Option.{slice_get-get_or, slice_get_within, slice_get_past}
 use Rattle.elf_read.specs.Header.{section_count}
 use Rattle.elf_read.specs.declared.object.Object.{Object}
 use Rattle.cfi_aux.specs.declared.modules.Module.{Module}
 use Rattle.cfi_aux.specs.Sound.{IsSoundModule}
 use Rattle.cfi_aux.proofs.JoinedLists.{data_length}
-use Rattle.cfi_commands.specs.Reading.{IsModuleFile}
+use Rattle.cfi_commands.specs.Reading.{IsModuleFile, IsFileFault}
 use Rattle.cfi_commands.specs.Modules.{AreModuleFiles, IsFirstBadFile, IsModulesFault}
+use Rattle.cfi_commands.proofs.ModulesLemmas.{same_count}
 use Rattle.cfi_commands.proofs.ListingLemmas.{short_text}
 use Rattle.cfi_commands.proofs.InstrumentingLemmas.{few_relocs}
 use Rattle.cfi_aux.specs.declared.placed.Placed.{Placed}
@@ -23,13 +25,20 @@ use Rattle.cfi_commands.specs.declared.fault.CommandFault.{CommandFault}
 use Rattle.cfi_commands.specs.declared.fault.CommandFault.TheVariants.{File, Together, Memory}
 use Rattle.cfi_commands.specs.declared.refusal.Refusal.{Refusal}
 use Rattle.cfi_commands.specs.declared.refusal.Refusal.TheVariants.{Place, Verify}
-use Rattle.cfi_commands.specs.Files.{IsFilesFault}
+use Rattle.cfi_commands.specs.Files.{IsFilesFault, IsFirstBadModule}
 use Rattle.cfi_commands.specs.inner.Order.{IsSeriesFault, fault_at}
 
 -- what no item has does not hold of one that is there
 pub some_stands : {X : Type 0} (P : X → Type 0) (found : Option X) → ((x : X) → P x → ⊥) → IsSomeAnd found P → ⊥
 some_stands P None never some = some
 some_stands P (Some x) never some = never x some
+
+-- an item that is there is within
+pub some_within : {X : Type 0} (xs : List X) (k : ℕ) (P : X → Type 0) → IsSomeAnd (slice_get xs k) P → k < length xs
+some_within {X} xs k P some = ⊎_elim (λ (within : k < length xs). within)
+    (λ (past : length xs ≤ k).
+    absurd (subst (λ (found : Option X). IsSomeAnd found P) (slice_get_past xs k past) some))
+    (cases_lt k (length xs))
 
 -- what was read of a file is small
 pub taken : (bytes : List ℕ) (m : Module) → IsModuleFile bytes m → IsSoundModule m → CanBeTaken m
@@ -98,6 +107,22 @@ module _ (code_words : ℕ) (files : List (List ℕ)) where
   not_file number (Place fault) bad = absurd (some_stands _ (slice_get files number) (λ bytes is. is) bad.here)
   not_file number (Verify fault) bad = absurd (some_stands _ (slice_get files number) (λ bytes is. is) bad.here)
   not_file number refusal bad = bad
+
+  joined_within : (number : ℕ) (fault : JoinFault) → IsFirstBadModule code_words files number fault
+      → number < length files
+  joined_within number fault bad =
+      omega (
+        arith,
+        slice_get_within bad.modules number bad.refused.refused bad.refused.is,
+        same_count files bad.modules bad.read,
+      )
+
+  -- what is at fault is one of the files
+  pub fault_within : (number : ℕ) (refusal : Refusal) → IsFilesFault code_words files (File number refusal)
+      → number < length files
+  fault_within number (Place fault) bad = joined_within number (joins.Place fault) bad
+  fault_within number (Verify fault) bad = joined_within number (joins.Verify fault) bad
+  fault_within number refusal bad = some_within files number (λ bytes. IsFileFault bytes refusal) bad.here
 
   pub modules_as_files : (fault : CommandFault) → IsModulesFault files fault → IsFilesFault code_words files fault
   modules_as_files (File number refusal) bad = not_file number refusal bad

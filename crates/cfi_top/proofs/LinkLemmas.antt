@@ -8,21 +8,13 @@ use Rattle.cfi_commands.specs.declared.refusal.Refusal.{Refusal}
 use Rattle.cfi_commands.specs.declared.refusal.Refusal.TheVariants.{Link}
 use Rattle.cfi_commands.specs.Modules.{IsShortFile, IsFirstBadFile}
 use Rattle.cfi_top.specs.declared.command.Command.TheVariants as commands
-use Rattle.cfi_commands.proofs.FileLemmas.{some_stands}
+use Rattle.cfi_commands.proofs.FileLemmas.{some_stands, some_within}
 use Rattle.cfi_top.specs.Reading.{IsShort}
 use Rattle.cfi_top.specs.Outcome.{Refuses}
 
 -- files that the program reads are short enough to be modules
 pub short_files : (files : List (List ℕ)) → All IsShort files → All IsShortFile files
 short_files files short = All-weaker IsShort IsShortFile (λ bytes fits. omega (arith, fits)) files short
-
--- an item that is there is within
-pub some_within : {X : Type 0} (xs : List X) (k : ℕ) (P : X → Type 0) → IsSomeAnd (slice_get xs k) P → k < length xs
-some_within {X} xs k P some =
-    elim (cases_lt k (length xs)) [
-      | inl within ↦ within
-      | inr past ↦ absurd (subst (λ (found : Option X). IsSomeAnd found P) (slice_get_past xs k past) some)
-    ]
 
 -- the file at fault is one of the inputs
 pub bad_within : (inputs files : List (List ℕ)) (number : ℕ) (refusal : Refusal) → length files ≡ length inputs

@@ -11,13 +11,10 @@ use Rattle.cfi_plan.specs.Draft.{Fails}
 use Rattle.cfi_plan.specs.Reading.{plan_in}
 use Rattle.cfi_commands.specs.declared.refusal.Refusal.{Refusal}
 use Rattle.cfi_commands.specs.declared.refusal.Refusal.TheVariants as refusals
-use Rattle.cfi_commands.specs.declared.refusal.Refusal.TheVariants.{Place, Verify}
 use Rattle.cfi_commands.specs.declared.fault.CommandFault.{CommandFault}
 use Rattle.cfi_commands.specs.declared.fault.CommandFault.TheVariants.{File, Together, Memory}
-use Rattle.cfi_commands.specs.Files.{IsFilesFault, IsFirstBadModule}
-use Rattle.cfi_commands.proofs.FileLemmas.{some_stands}
-use Rattle.cfi_series.specs.declared.fault.JoinFault.{JoinFault}
-use Rattle.cfi_series.specs.declared.fault.JoinFault.TheVariants as joins
+use Rattle.cfi_commands.specs.Files.{IsFilesFault}
+use Rattle.cfi_commands.proofs.FileLemmas.{some_stands, fault_within}
 use Rattle.cfi_commands.specs.Reading.{IsFileFault}
 use Rattle.cfi_commands.proofs.ModulesLemmas.{same_count}
 use Rattle.cfi_top.specs.declared.answer.Answer.{Answer}
@@ -25,7 +22,6 @@ use Rattle.cfi_top.specs.declared.answer.Answer.TheVariants as answers
 use Rattle.cfi_top.specs.declared.command.Command.TheVariants as commands
 use Rattle.cfi_top.specs.Outcome.{RefusesPlan, IsWorked}
 use Rattle.cfi_top.specs.Plans.{files_in, files_of, named_files}
-use Rattle.cfi_top.proofs.LinkLemmas.{some_within}
 use Rattle.cfi_top.specs.Refused.{IsAmong, IsModuleRefused, plan_refused}
 
 -- the files that the bytes of a plan name are the plan's
@@ -44,27 +40,12 @@ found_at : {X : Type 0} (P : X → Type 0) (found : Option X) → IsSomeAnd foun
 found_at P None some = absurd some
 found_at P (Some x) some = (x, refl, some)
 
-module _ (code_words : ℕ) (files : List (List ℕ)) where
-  joined_within : (number : ℕ) (fault : JoinFault) → IsFirstBadModule code_words files number fault
-      → number < length files
-  joined_within number fault bad =
-      omega (
-        arith,
-        slice_get_within bad.modules number bad.refused.refused bad.refused.is,
-        same_count files bad.modules bad.read,
-      )
-
-  -- the fault of files is of one of them
-  file_within : (number : ℕ) (refusal : Refusal) → IsFilesFault code_words files (File number refusal)
-      → number < length files
-  file_within number (Place fault) bad = joined_within number (joins.Place fault) bad
-  file_within number (Verify fault) bad = joined_within number (joins.Verify fault) bad
-  file_within number refusal bad = some_within files number (λ bytes. IsFileFault bytes refusal) bad.here
-
-  among : (fault : CommandFault) → IsFilesFault code_words files fault → IsAmong (length files) fault
-  among (File number refusal) bad = file_within number refusal bad
-  among (Together fault) bad = bad
-  among Memory bad = tt
+-- the fault of files is of one of them
+among : (code_words : ℕ) (files : List (List ℕ)) (fault : CommandFault) → IsFilesFault code_words files fault
+    → IsAmong (length files) fault
+among code_words files (File number refusal) bad = fault_within code_words files number refusal bad
+among code_words files (Together fault) bad = bad
+among code_words files Memory bad = tt
 
 -- ... so it is of one of the plan's modules
 pub among_modules : (bytes : List ℕ) (plan : Plan) (files : List (List ℕ)) (modules : List PlanModule)

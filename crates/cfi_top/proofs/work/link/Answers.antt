@@ -11,7 +11,7 @@ pub returns-in_ok-input-in-Err-File : goal.returns-in_ok-input-in-Err-File
 returns-in_ok-input-in-Err-File c =
     let files = c.args.files.now in
     let inputs = c.args.inputs.now in
-    let number = c.in-Err-File.field-0 in
+    let number = c.in-Err-File.number in
     let name = c.in_ok-input-in-Err-File.input in
     let bad : IsFirstBadFile files number c.in-Err-File.refusal =
     subst (IsLinkingFault files) c.in-Err-File.field-0-is c.in-Err-File.ensures.fault in
