@@ -3,6 +3,7 @@ use Rattle.std.proofs.Common.{◌≡◌, ◌≢◌, ℕ, ◌≤◌, ◌==◌, na
 use Rattle.std.specs.List.{AllByRecursion}
 use Rattle.cfi_word.specs.declared.lists.Image.{Image}
 use Rattle.cfi_unit.specs.declared.fill.Fill.{Fill}
+use Rattle.cfi_unit.specs.declared.log.Stop.TheVariants.{Fuel}
 use Rattle.cfi_word.specs.Table.{IsSize}
 use Rattle.cfi_model.proofs.FixedLemmas.{opened_ready}
 use Rattle.cfi_model.specs.Closed.{IsClosed, IsStartIn}
@@ -12,7 +13,7 @@ use Rattle.cfi_model.specs.Log.{opens, last_policy}
 use Rattle.cfi_model.specs.State.{State, register}
 use Rattle.cfi_model.specs.Raw.{Raw, raw_opened}
 use Rattle.cfi_unit.specs.declared.log.Log.TheVariants.{Open, Cause}
-use Rattle.cfi_model.specs.Service.{Reply, Service, Ends, Puts, Quiets, Opens, Unknown, service_of, served_log, succeeds, argument}
+use Rattle.cfi_model.specs.Service.{Reply, Service, Ends, Puts, Quiets, Opens, Unknown, service_of, served_log, served_stop, succeeds, argument}
 use Rattle.cfi_model.proofs.LogLemmas.{policy_push}
 use Rattle.cfi_fixed.proofs.OverLemmas.{known, between}
 use Rattle.cfi_model.specs.Run.{Take, Word, Served, take_one, run_of, serve_of, serve_as}
@@ -119,6 +120,14 @@ served_low Opens s low =
     opened_low s (bare_reply s) (succeeds (bare_reply s)) (bare_cause s == TOO_MANY) none low
 served_low Unknown s low = low
 
+-- no service ends with Fuel
+served_unspent : (service : Service) (s : State) → s.stop ≡ None → served_stop service s ≢ Some Fuel
+served_unspent Ends s going = λ spent. absurd (cc)
+served_unspent Puts s going = λ spent. absurd (cc)
+served_unspent Quiets s going = λ spent. absurd (cc)
+served_unspent Opens s going = λ spent. absurd (cc)
+served_unspent Unknown s going = λ spent. absurd (cc)
+
 module _ (image : Image) (fuel : ℕ) (start : Raw) (from : CanRunOver image fuel start) where
   abbrev h : History
   h = fixed image
@@ -128,7 +137,11 @@ module _ (image : Image) (fuel : ℕ) (start : Raw) (from : CanRunOver image fue
 
   -- at its start the guest rests
   pub rests : IsResting image fuel start start
-  rests = record { path = record { takes = []; along = tt; answers = tt; is = refl }; can = from }
+  rests = record {
+    path = record { takes = []; along = tt; answers = tt; is = refl };
+    can = from;
+    unspent = λ other. other;
+  }
 
   path_on : (old last : Raw) → IsBarePath image start old → IsRunOver image old last → IsBarePath image start last
   path_on old last path over = record {
@@ -147,9 +160,11 @@ module _ (image : Image) (fuel : ℕ) (start : Raw) (from : CanRunOver image fue
   runs_on old new None rest run = record {
     last = run.last;
     path = path_on old run.last rest.path run.over;
+    idle = sym (ap (λ r. r.waits) run.ends) ∙ run.asks.0;
     is = run.ends;
     stopped = run.asks.1;
     within = run.within;
+    fuel_is = λ other. run.fuel_is (rest.unspent other);
   }
   runs_on old new (Some number) rest run = record {
     path = subst (IsBarePath image start) (sym run.ends) (path_on old run.last rest.path run.over);
@@ -197,6 +212,8 @@ module _ (image : Image) (fuel : ℕ) (start : Raw) (from : CanRunOver image fue
               ∙ served_low (service_of number) r.base asking.unlogged;
           fuel_most = subst (λ w. (serve_as w r reply).base.steps ≤ fuel) (sym asking.waiting) asking.within;
         };
+        unspent = λ other. subst (λ w. (serve_as w r reply).base.stop ≢ Some Fuel) (sym asking.waiting)
+            (served_unspent (service_of number) r.base asking.going);
       }
 
   pub goes_on : (number : ℕ) (r new : Raw) → IsAsking image fuel start number r

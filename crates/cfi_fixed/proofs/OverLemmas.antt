@@ -207,7 +207,7 @@ module _ (image : Image) (fuel : ℕ) (old : Raw) (can : CanRunOver image fuel o
         asks = tells;
         within = omega (arith, begun.steps);
         moves = λ some. omega (arith, begun.steps, above);
-        fuel_is = λ going stop. absurd (some_stop _ _ tells.1 stop);
+        fuel_is = λ other stop. absurd (some_stop _ _ tells.1 stop);
         unlogged = begun.low.unlogged;
         shows = shown (begin_of now word) begun.over;
       }
@@ -223,7 +223,7 @@ module _ (image : Image) (fuel : ℕ) (old : Raw) (can : CanRunOver image fuel o
     asks = (idle, λ going. some_stop _ _ going stopped);
     within = omega (arith, begun.steps);
     moves = λ some. absurd (some refl);
-    fuel_is = λ going spent. absurd (other (same_stop _ _ _ stopped spent));
+    fuel_is = λ before spent. absurd (other (same_stop _ _ _ stopped spent));
     unlogged = begun.low.unlogged;
     shows = shown (begin_of now word) begun.over;
   }
@@ -257,7 +257,7 @@ module _ (image : Image) (fuel : ℕ) (old : Raw) (can : CanRunOver image fuel o
         asks = (way.idle, λ going. some_stop _ _ going stop);
         within = omega (arith, steps);
         moves = λ some. absurd (some refl);
-        fuel_is = λ going spent. steps;
+        fuel_is = λ other spent. steps;
         unlogged = way.low.unlogged;
         shows = shown now way.over;
       }
@@ -273,7 +273,7 @@ module _ (image : Image) (fuel : ℕ) (old : Raw) (can : CanRunOver image fuel o
         asks = (can.idle, λ going. some_stop _ _ going stopped);
         within = can.fuel_most;
         moves = λ some. absurd (some refl);
-        fuel_is = λ going spent. absurd (some_stop _ _ going stopped);
+        fuel_is = λ other spent. absurd (other spent);
         unlogged = can.unlogged;
         shows = shown old over;
       }

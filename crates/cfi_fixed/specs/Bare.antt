@@ -1,5 +1,6 @@
 -- The run of a guest over one image that loads nothing: where it rests, what it asks for, and what it is answered.
 use Rattle.std.specs.Prelude.{◌≡◌, ◌≢◌, ℕ, ◌≤◌, ◌==◌, nat_lt, if◌then◌else◌, List, [], ◌∷◌, Option, Some, None, ⊤}
+use Rattle.cfi_unit.specs.declared.log.Stop.TheVariants.{Fuel}
 use Rattle.cfi_word.specs.declared.lists.Image.{Image}
 use Rattle.cfi_model.specs.declared.act.Wait.TheVariants as waits
 use Rattle.cfi_word.specs.declared.services.TheConstants.{TOO_MANY, NO_MODULE, NO_FUNCTION}
@@ -38,10 +39,11 @@ pub record IsBarePath (image : Image) (start now : Raw) : Type 0 where
   pub answers : AreBareTakes start takes
   pub is : now ≡ run_of start takes
 
--- the guest can run on
+-- the guest can run on, and no fuel has stopped it
 pub record IsResting (image : Image) (fuel : ℕ) (start now : Raw) : Type 0 where
   pub path : IsBarePath image start now
   pub can : CanRunOver image fuel now
+  pub unspent : start.base.stop ≢ Some Fuel → now.base.stop ≢ Some Fuel
 
 -- it waits in a service
 pub record IsAsking (image : Image) (fuel : ℕ) (start : Raw) (number : ℕ) (now : Raw) : Type 0 where
@@ -51,13 +53,16 @@ pub record IsAsking (image : Image) (fuel : ℕ) (start : Raw) (number : ℕ) (n
   pub unlogged : last_policy now.base.log ≡ 0
   pub within : now.base.steps ≤ fuel
 
--- it has stopped, by the fuel too
+-- It has stopped, by the fuel too. Its last instruction has ended, with its service: it waits for nothing. Fuel stops it
+-- before a fetch alone, where it has run exactly so many instructions.
 pub record HasEnded (image : Image) (fuel : ℕ) (start now : Raw) : Type 0 where
   pub last : Raw
   pub path : IsBarePath image start last
+  pub idle : last.waits ≡ None
   pub is : now ≡ spent fuel last
   pub stopped : now.base.stop ≢ None
   pub within : now.base.steps ≤ fuel
+  pub fuel_is : start.base.stop ≢ Some Fuel → now.base.stop ≡ Some Fuel → now.base.steps ≡ fuel
 
 -- what a run comes to
 abbrev pub ComesTo : Image → (fuel : ℕ) → (start : Raw) → Option ℕ → (now : Raw) → Type 0

@@ -60,7 +60,7 @@ pub record HasRunOver (image : Image) (fuel : ℕ) (old new : Raw) (asked : Opti
   pub asks : Asks asked new
   pub within : new.base.steps ≤ fuel
   pub moves : asked ≢ None → old.base.steps < new.base.steps
-  pub fuel_is : old.base.stop ≡ None → new.base.stop ≡ Some Fuel → new.base.steps ≡ fuel
+  pub fuel_is : old.base.stop ≢ Some Fuel → new.base.stop ≡ Some Fuel → new.base.steps ≡ fuel
   pub unlogged : last_policy new.base.log ≡ 0
   pub shows : (state : State) × IsShown (fixed image) image.code 0 old.base old over.takes 0 state
 

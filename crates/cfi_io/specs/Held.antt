@@ -1,11 +1,12 @@
 -- What a shelf and a sink in memory hold, and which of their calls fail. Calls are numbered from 0.
-use Rattle.std.specs.Prelude.{ℕ, List, reverse, find, Some, String, Vec, string_bytes, bytes_eq}
+use Rattle.std.specs.Prelude.{ℕ, List, reverse, find, Option, Some, String, Vec, string_bytes, bytes_eq}
 use Rattle.std.specs.Option.{option_map}
 use Rattle.std.specs.declared.alloc.Global.{Global}
 use Rattle.cfi_io.specs.Files.{Files}
 use Rattle.cfi_io.specs.Seen.{ShelfView, SinkView}
 use Rattle.cfi_io.specs.declared.mem_shelf.MemShelf.{MemShelf}
 use Rattle.cfi_io.specs.declared.mem_sink.MemSink.{MemSink}
+use Rattle.cfi_io.specs.declared.undone.Undone.{Undone}
 
 -- the files of these pairs of name and bytes: of two pairs with one name the later counts
 abbrev pub files_of : List (String Global × Vec ℕ Global) → Files
@@ -31,6 +32,10 @@ shelf_faults shelf = shelf.calls.faults
 abbrev pub shelf_misses : MemShelf → ℕ
 shelf_misses shelf = shelf.misses
 
+-- the last of its calls that was not done
+abbrev pub shelf_last : MemShelf → Option Undone
+shelf_last shelf = shelf.last
+
 -- the bytes that the sink holds
 abbrev pub bytes_held : MemSink → List ℕ
 bytes_held sink = sink.bytes.items
@@ -49,7 +54,12 @@ sink_faults sink = sink.calls.faults
 
 -- what the shelf and the sink tell and count
 abbrev pub shelf_seen : MemShelf → ShelfView
-shelf_seen shelf = record { files = Some (files_held shelf); faults = shelf_faults shelf; misses = shelf_misses shelf }
+shelf_seen shelf = record {
+  files = Some (files_held shelf);
+  faults = shelf_faults shelf;
+  misses = shelf_misses shelf;
+  last = shelf_last shelf;
+}
 
 abbrev pub sink_seen : MemSink → SinkView
 sink_seen sink = record { written = Some (bytes_held sink); faults = sink_faults sink }

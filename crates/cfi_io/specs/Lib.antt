@@ -3,3 +3,4 @@ pub mod Files
 pub mod Held
 pub mod Told
 pub mod Seen
+pub mod Undone

@@ -5,7 +5,8 @@ ghost use Rattle.cfi_word.specs.declared.limits.TheConstants.{MAX_FILE_BYTES};
 use crate::count::raise;
 use crate::pipe::read_file;
 use crate::saving::save;
-use crate::{Shelf, ShelfFault};
+use crate::undone::name_of;
+use crate::{Shelf, ShelfFault, Undone};
 use cfi_word::limits::MAX_FILE_BYTES;
 use std::alloc::Global;
 use std::io::ErrorKind;
@@ -18,6 +19,7 @@ pub struct DirShelf {
     alloc: Global,
     faults: u64,
     misses: u64,
+    last: Option<Undone>,
     error: Option<io::Error>,
 }
 
@@ -26,18 +28,23 @@ impl DirShelf {
     pub fn new(rt: HostRuntime, alloc: Global) -> Self
         ensures faults { (⟦<DirShelf as Shelf>⟧.seen result).faults ≡ 0 }
         ensures misses { (⟦<DirShelf as Shelf>⟧.seen result).misses ≡ 0 }
+        ensures last { (⟦<DirShelf as Shelf>⟧.seen result).last ≡ None }
+        ensures error { result.error ≡ None }
     {
         DirShelf {
             rt,
             alloc,
             faults: 0,
             misses: 0,
+            last: None,
             error: None,
         }
     }
 
     /// What the system said of the last call that it refused.
-    pub fn error(&self) -> Option<io::Error> {
+    pub fn error(&self) -> Option<io::Error>
+        ensures { result ≡ self.now.error }
+    {
         self.error
     }
 }
@@ -49,7 +56,12 @@ fn bytes_of(rt: &HostRuntime, alloc: Global, name: &str) -> io::Result<Vec<u8>> 
 }
 
 impl Shelf for DirShelf {
-    ghost seen = { λ shelf. record { files = None; faults = shelf.faults; misses = shelf.misses } };
+    ghost seen = { λ shelf. record {
+      files = None;
+      faults = shelf.faults;
+      misses = shelf.misses;
+      last = shelf.last;
+    } };
 
     fn read(&mut self, name: &str) -> Result<Vec<u8>, ShelfFault> {
         let fault = match bytes_of(&self.rt, self.alloc, name) {
@@ -61,8 +73,14 @@ impl Shelf for DirShelf {
             }
         };
         match fault {
-            ShelfFault::Failed => raise(&mut self.faults),
-            ShelfFault::Absent | ShelfFault::TooLong => raise(&mut self.misses),
+            ShelfFault::Failed => {
+                self.last = Some(Undone::Read(name_of(self.alloc, name)?));
+                raise(&mut self.faults);
+            }
+            ShelfFault::Absent | ShelfFault::TooLong => {
+                self.last = Some(Undone::Missed(name_of(self.alloc, name)?));
+                raise(&mut self.misses);
+            }
             ShelfFault::Memory => {}
         }
         Err(fault)
@@ -70,9 +88,12 @@ impl Shelf for DirShelf {
 
     fn write(&mut self, name: &str, bytes: &[u8]) -> Result<(), ShelfFault> {
         let part = format!(in self.alloc; "{name}.cfi-part")?;
+        // The name is copied first: a save that failed is not answered as want of memory.
+        let undone = Undone::Write(name_of(self.alloc, name)?);
         let Err(error) = save(&self.rt, name, part.as_str(), bytes) else {
             return Ok(());
         };
+        self.last = Some(undone);
         self.error = Some(error);
         raise(&mut self.faults);
         Err(ShelfFault::Failed)

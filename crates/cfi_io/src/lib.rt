@@ -1,6 +1,6 @@
 //! The outside of the program: a shelf of files, a sink for its text, and a gate between its steps.
 //!
-//! Stands on `thiserror`. Proved: the clauses of the traits at the objects in memory and at the edge, and what the
+//! Stands on `cfi_values`, `cfi_word` and `thiserror`. Proved: the clauses of the traits at the objects in memory and at the edge, and what the
 //! objects in memory hold. Only tested: that the edge reaches real files and standard output. Open: what those hold,
 //! since the edge tells no content.
 #![tactic(auto)]
@@ -16,6 +16,7 @@ mod saving;
 mod shelf;
 mod sink;
 mod std_sink;
+mod undone;
 
 pub use dir_shelf::DirShelf;
 pub use fault::{ShelfFault, SinkFault};
@@ -25,6 +26,7 @@ pub use mem_sink::MemSink;
 pub use shelf::Shelf;
 pub use sink::Sink;
 pub use std_sink::StdSink;
+pub use undone::Undone;
 
 #[cfg(test)]
 mod tests;

@@ -1,14 +1,16 @@
 //! A shelf in memory, some of whose calls fail.
-ghost use Rattle.std.specs.Prelude.{◌≡◌, ◌≢◌, ◌≤◌, ◌<◌, length, Some, Contains, vec_len, IfOk, OnOk, OnErr, IsErrOf, IsSomeAnd};
+ghost use Rattle.std.specs.Prelude.{◌≡◌, ◌≢◌, ◌≤◌, ◌<◌, ◌⊎◌, length, Some, Contains, vec_len, IfOk, OnOk, OnErr, IsErrOf, IsSomeAnd, None};
 ghost use Rattle.std.specs.Option.{option_map};
 ghost use Rattle.cfi_word.specs.declared.limits.TheConstants.{MAX_FILE_BYTES};
 ghost use Rattle.cfi_io.specs.declared.fault.ShelfFault.TheVariants.{Failed, Absent, TooLong, Memory};
 ghost use Rattle.cfi_io.specs.Count.{Rose, next_count};
 ghost use Rattle.cfi_io.specs.Files.{Puts, PutsPart};
-ghost use Rattle.cfi_io.specs.Held.{files_of, files_held, shelf_calls, shelf_fails, shelf_faults, shelf_misses, shelf_seen};
+ghost use Rattle.cfi_io.specs.Held.{files_of, files_held, shelf_calls, shelf_fails, shelf_faults, shelf_misses, shelf_last, shelf_seen};
+ghost use Rattle.cfi_io.specs.Undone.{after_read, after_write};
 
 use crate::count::{Calls, raise};
-use crate::{Shelf, ShelfFault};
+use crate::undone::name_of;
+use crate::{Shelf, ShelfFault, Undone};
 use cfi_word::limits::MAX_FILE_BYTES;
 use std::alloc::Global;
 
@@ -19,6 +21,7 @@ pub struct MemShelf {
     files: Vec<(String, Vec<u8>)>,
     calls: Calls,
     misses: u64,
+    last: Option<Undone>,
 }
 
 impl MemShelf {
@@ -31,12 +34,14 @@ impl MemShelf {
         ensures calls { shelf_calls result ≡ 0 }
         ensures faults { (⟦<MemShelf as Shelf>⟧.seen result).faults ≡ 0 }
         ensures misses { (⟦<MemShelf as Shelf>⟧.seen result).misses ≡ 0 }
+        ensures last { (⟦<MemShelf as Shelf>⟧.seen result).last ≡ None }
     {
         MemShelf {
             alloc,
             files,
             calls: Calls::new(fails),
             misses: 0,
+            last: None,
         }
     }
 
@@ -73,7 +78,7 @@ impl Shelf for MemShelf {
         ensures numbered { IsErrOf result Failed →
             Contains (shelf_fails self.old) (shelf_calls self.old) }
         ensures fails { Contains (shelf_fails self.old) (shelf_calls self.old) →
-            result ≡ Err Failed }
+            (result ≡ Err Failed) ⊎ (result ≡ Err Memory) }
         ensures absent { IsErrOf result Absent →
             Rose (shelf_misses self.old) (shelf_misses self.new) }
         ensures lacks { IsErrOf result Absent → files_held self.old name.now ≡ None }
@@ -82,6 +87,7 @@ impl Shelf for MemShelf {
         ensures exceeds { IsErrOf result TooLong →
             IsSomeAnd (files_held self.old name.now) (λ bytes. MAX_FILE_BYTES < length bytes) }
         ensures same { Some (files_held self.new) ≡ Some (files_held self.old) }
+        ensures last { shelf_last self.new ≡ after_read name.now result (shelf_last self.old) }
         ensures faults { shelf_faults self.old ≤ shelf_faults self.new }
         ensures still { (result ≢ Err Failed) → shelf_faults self.new ≡ shelf_faults self.old }
         ensures misses { shelf_misses self.old ≤ shelf_misses self.new }
@@ -91,13 +97,17 @@ impl Shelf for MemShelf {
         ensures same_fails { shelf_fails self.new ≡ shelf_fails self.old }
     {
         if self.calls.fails_now() {
+            self.last = Some(Undone::Read(name_of(self.alloc, name)?));
+            raise(&mut self.calls.faults);
             return Err(ShelfFault::Failed);
         }
         let Some(bytes) = last_of(&self.files, name) else {
+            self.last = Some(Undone::Missed(name_of(self.alloc, name)?));
             raise(&mut self.misses);
             return Err(ShelfFault::Absent);
         };
         if bytes.len() > MAX_FILE_BYTES {
+            self.last = Some(Undone::Missed(name_of(self.alloc, name)?));
             raise(&mut self.misses);
             return Err(ShelfFault::TooLong);
         }
@@ -112,7 +122,7 @@ impl Shelf for MemShelf {
         ensures numbered { IsErrOf result Failed →
             Contains (shelf_fails self.old) (shelf_calls self.old) }
         ensures fails { Contains (shelf_fails self.old) (shelf_calls self.old) →
-            result ≡ Err Failed }
+            (result ≡ Err Failed) ⊎ (result ≡ Err Memory) }
         ensures part { IsErrOf result Failed →
             PutsPart name.now bytes.now (files_held self.old) (files_held self.new) }
         ensures err { OnErr result (files_held self.new ≡ files_held self.old) }
@@ -120,6 +130,7 @@ impl Shelf for MemShelf {
             Some (files_held self.new) ≡ Some (files_held self.old) }
         ensures no_absent { IsErrOf result Absent → ⊥ }
         ensures no_too_long { IsErrOf result TooLong → ⊥ }
+        ensures last { shelf_last self.new ≡ after_write name.now result (shelf_last self.old) }
         ensures faults { shelf_faults self.old ≤ shelf_faults self.new }
         ensures still { (result ≢ Err Failed) → shelf_faults self.new ≡ shelf_faults self.old }
         ensures misses { shelf_misses self.old ≤ shelf_misses self.new }
@@ -128,6 +139,8 @@ impl Shelf for MemShelf {
         ensures same_fails { shelf_fails self.new ≡ shelf_fails self.old }
     {
         if self.calls.fails_now() {
+            self.last = Some(Undone::Write(name_of(self.alloc, name)?));
+            raise(&mut self.calls.faults);
             return Err(ShelfFault::Failed);
         }
         let name = String::from_str(self.alloc, name)?;

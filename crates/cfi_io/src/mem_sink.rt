@@ -6,7 +6,7 @@ ghost use Rattle.cfi_io.specs.Count.{Rose, next_count};
 ghost use Rattle.cfi_io.specs.Told.{AppendsPrefix};
 ghost use Rattle.cfi_io.specs.Held.{bytes_held, sink_calls, sink_fails, sink_faults, sink_seen};
 
-use crate::count::Calls;
+use crate::count::{Calls, raise};
 use crate::{Sink, SinkFault};
 use std::alloc::Global;
 
@@ -62,6 +62,7 @@ impl Sink for MemSink {
         ensures same_fails { sink_fails self.new ≡ sink_fails self.old }
     {
         if self.calls.fails_now() {
+            raise(&mut self.calls.faults);
             return Err(SinkFault::Failed);
         }
         self.bytes.extend_from_slice(bytes)?;

@@ -6,6 +6,7 @@ ghost use Rattle.cfi_io.specs.Count.{Rose};
 ghost use Rattle.cfi_io.specs.Files.{Puts, PutsPart};
 ghost use Rattle.cfi_io.specs.Seen.{ShelfView};
 ghost use Rattle.cfi_io.specs.Told.{WhereTold, WhereKeptTold};
+ghost use Rattle.cfi_io.specs.Undone.{after_read, after_write};
 
 use crate::ShelfFault;
 
@@ -13,7 +14,8 @@ use crate::ShelfFault;
 ///
 /// A count that is said to rise stands still at `u64::MAX`. No count ever falls.
 pub trait Shelf {
-    /// The files, where the shelf tells them, and how often it has failed and has lacked a file.
+    /// The files, where the shelf tells them, how often it has failed and has lacked a file, and the last call that was
+    /// not done.
     ghost seen: { Self → ShelfView };
 
     /// The bytes of the file of this name, at most `MAX_FILE_BYTES`.
@@ -32,6 +34,7 @@ pub trait Shelf {
         ensures exceeds { IsErrOf result TooLong → WhereTold (seen self.old).files (λ told.
             IsSomeAnd (told name.now) (λ bytes. MAX_FILE_BYTES < length bytes)) }
         ensures same { (seen self.new).files ≡ (seen self.old).files }
+        ensures last { (seen self.new).last ≡ after_read name.now result (seen self.old).last }
         ensures faults { (seen self.old).faults ≤ (seen self.new).faults }
         ensures misses { (seen self.old).misses ≤ (seen self.new).misses };
 
@@ -48,6 +51,7 @@ pub trait Shelf {
         ensures memory { IsErrOf result Memory → (seen self.new).files ≡ (seen self.old).files }
         ensures no_absent { IsErrOf result Absent → ⊥ }
         ensures no_too_long { IsErrOf result TooLong → ⊥ }
+        ensures last { (seen self.new).last ≡ after_write name.now result (seen self.old).last }
         ensures faults { (seen self.old).faults ≤ (seen self.new).faults }
         ensures misses { (seen self.old).misses ≤ (seen self.new).misses };
 }

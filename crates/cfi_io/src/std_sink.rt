@@ -17,7 +17,8 @@ pub struct StdSink {
 impl StdSink {
     /// The standard output of this runtime. This call takes no memory, nor does a write.
     pub fn new(rt: HostRuntime) -> Self
-        ensures { (⟦<StdSink as Sink>⟧.seen result).faults ≡ 0 }
+        ensures faults { (⟦<StdSink as Sink>⟧.seen result).faults ≡ 0 }
+        ensures error { result.error ≡ None }
     {
         StdSink {
             rt,
@@ -27,7 +28,9 @@ impl StdSink {
     }
 
     /// What the system said of the last write that it refused.
-    pub fn error(&self) -> Option<io::Error> {
+    pub fn error(&self) -> Option<io::Error>
+        ensures { result ≡ self.now.error }
+    {
         self.error
     }
 }

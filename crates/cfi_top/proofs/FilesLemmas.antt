@@ -13,6 +13,7 @@ use Rattle.cfi_top.specs.Answer.{output_of}
 use Rattle.cfi_top.specs.Command.{IsCommand, inputs_of, more_of}
 use Rattle.cfi_top.specs.Outside.{IsWrittenWhole, IsBroken, status_of}
 use Rattle.cfi_io.specs.Seen.{ShelfView, SinkView}
+use Rattle.cfi_io.specs.declared.undone.Undone.{Undone}
 use Rattle.cfi_top.specs.Outcome.{Refuses, IsUnrefused, IsAllRead, IsAnswer}
 use Rattle.cfi_top.specs.Top.{Ends, IsSavedBy, Saves, IsValid, IsSteady}
 use Rattle.cfi_top.proofs.CommandLemmas.{one_command}
@@ -22,14 +23,14 @@ use Rattle.cfi_top.proofs.UnreadLemmas.{why_of}
 use Rattle.cfi_top.proofs.TopLemmas.{saves_of}
 
 -- a shelf by its parts
-abbrev shelf_view : Option Files → (faults misses : ℕ) → ShelfView
-shelf_view files faults misses = record { files = files; faults = faults; misses = misses }
+abbrev shelf_view : Option Files → (faults misses : ℕ) → (last : Option Undone) → ShelfView
+shelf_view files faults misses last = record { files = files; faults = faults; misses = misses; last = last }
 
 -- files that a command refuses are not valid
-refused_valid : (words : List (List ℕ)) (told : Files) (faults misses : ℕ) (command : Command)
+refused_valid : (words : List (List ℕ)) (told : Files) (faults misses : ℕ) (last : Option Undone) (command : Command)
     (files more : List (List ℕ)) (name : List ℕ) (refusal : Refusal) → IsValid words told → IsCommand words command
-    → IsAllRead command (shelf_view (Some told) faults misses) files more → Refuses command files more name refusal → ⊥
-refused_valid words told faults misses command files more name refusal v fits read refuses =
+    → IsAllRead command (shelf_view (Some told) faults misses last) files more → Refuses command files more name refusal → ⊥
+refused_valid words told faults misses last command files more name refusal v fits read refuses =
     let same = one_command words v.command command v.fits fits in
     let there : map told (inputs_of command) ≡ map Some v.files =
     subst (λ (c : Command). map told (inputs_of c) ≡ map Some v.files) same v.inputs.held in
@@ -47,39 +48,40 @@ refused_valid words told faults misses command files more name refusal v fits re
 
 module _ (words : List (List ℕ)) (sink sink' : SinkView) (status : ℕ) where
   -- valid input over a shelf and a sink that do not fail gives 0 or 6
-  valid_of : (told : Files) (faults misses : ℕ) (shelf' : ShelfView)
-      → Ends words (shelf_view (Some told) faults misses) shelf' sink sink' status → IsValid words told
-      → IsSteady (shelf_view (Some told) faults misses) shelf' sink sink' → (status ≡ DONE) ⊎ (status ≡ MEMORY)
-  valid_of told faults misses shelf' (inl memory) v steady = inr memory.0
-  valid_of told faults misses shelf' (inr (answers.Usage, is, inl d)) v steady = absurd (is (v.command, v.fits))
-  valid_of told faults misses shelf' (inr (answers.Ran part, is, inl d)) v steady = inl d.0
-  valid_of told faults misses shelf' (inr (answers.Print text, is, inl d)) v steady = inl d.0
-  valid_of told faults misses shelf' (inr (answers.Save name file, is, inl d)) v steady = inl d.0
-  valid_of told faults misses shelf' (inr (answers.Unread unread, is, inl d)) v steady =
-      absurd (unread_unsteady (shelf_view (Some told) faults misses) shelf' unread.name unread.cause
-      (why_of is.0 (shelf_view (Some told) faults misses) shelf' unread is.2) steady.read steady.found)
-  valid_of told faults misses shelf' (inr (answers.Refused name refusal, is, inl d)) v steady =
-      absurd (refused_valid words told faults misses is.0 is.2.0 is.2.1 name refusal v is.1 is.2.2 is.2.3)
-  valid_of told faults misses shelf' (inr (answers.Save name file, is, inr d)) v steady = absurd (steady.read d.1.1)
-  valid_of told faults misses shelf' (inr (answers.Usage, is, inr d)) v steady = absurd (steady.written d.1.1)
-  valid_of told faults misses shelf' (inr (answers.Ran part, is, inr d)) v steady = absurd (steady.written d.1.1)
-  valid_of told faults misses shelf' (inr (answers.Print text, is, inr d)) v steady = absurd (steady.written d.1.1)
-  valid_of told faults misses shelf' (inr (answers.Unread unread, is, inr d)) v steady = absurd (steady.written d.1.1)
-  valid_of told faults misses shelf' (inr (answers.Refused name refusal, is, inr d)) v steady =
+  valid_of : (told : Files) (faults misses : ℕ) (last : Option Undone) (shelf' : ShelfView)
+      → Ends words (shelf_view (Some told) faults misses last) shelf' sink sink' status → IsValid words told
+      → IsSteady (shelf_view (Some told) faults misses last) shelf' sink sink' → (status ≡ DONE) ⊎ (status ≡ MEMORY)
+  valid_of told faults misses last shelf' (inl memory) v steady = inr memory.0
+  valid_of told faults misses last shelf' (inr (answers.Usage, is, inl d)) v steady = absurd (is (v.command, v.fits))
+  valid_of told faults misses last shelf' (inr (answers.Ran part, is, inl d)) v steady = inl d.0
+  valid_of told faults misses last shelf' (inr (answers.Print text, is, inl d)) v steady = inl d.0
+  valid_of told faults misses last shelf' (inr (answers.Save name file, is, inl d)) v steady = inl d.0
+  valid_of told faults misses last shelf' (inr (answers.Unread unread, is, inl d)) v steady =
+      absurd (unread_unsteady (shelf_view (Some told) faults misses last) shelf' unread.name unread.cause
+      (why_of is.0 (shelf_view (Some told) faults misses last) shelf' unread is.2) steady.read steady.found)
+  valid_of told faults misses last shelf' (inr (answers.Refused name refusal, is, inl d)) v steady =
+      absurd (refused_valid words told faults misses last is.0 is.2.0 is.2.1 name refusal v is.1 is.2.2 is.2.3)
+  valid_of told faults misses last shelf' (inr (answers.Save name file, is, inr d)) v steady =
+      absurd (steady.read d.1.1.rose)
+  valid_of told faults misses last shelf' (inr (answers.Usage, is, inr d)) v steady = absurd (steady.written d.1.1)
+  valid_of told faults misses last shelf' (inr (answers.Ran part, is, inr d)) v steady = absurd (steady.written d.1.1)
+  valid_of told faults misses last shelf' (inr (answers.Print text, is, inr d)) v steady = absurd (steady.written d.1.1)
+  valid_of told faults misses last shelf' (inr (answers.Unread unread, is, inr d)) v steady = absurd (steady.written d.1.1)
+  valid_of told faults misses last shelf' (inr (answers.Refused name refusal, is, inr d)) v steady =
       absurd (steady.written d.1.1)
 
   -- the same, where the shelf may tell nothing
-  valid_if : (files : Option Files) (faults misses : ℕ) (shelf' : ShelfView)
-      → Ends words (shelf_view files faults misses) shelf' sink sink' status
-      → IfSome files (λ told. IsValid words told → IsSteady (shelf_view files faults misses) shelf' sink sink'
+  valid_if : (files : Option Files) (faults misses : ℕ) (last : Option Undone) (shelf' : ShelfView)
+      → Ends words (shelf_view files faults misses last) shelf' sink sink' status
+      → IfSome files (λ told. IsValid words told → IsSteady (shelf_view files faults misses last) shelf' sink sink'
       → (status ≡ DONE) ⊎ (status ≡ MEMORY))
-  valid_if None faults misses shelf' ends = tt
-  valid_if (Some told) faults misses shelf' ends = valid_of told faults misses shelf' ends
+  valid_if None faults misses last shelf' ends = tt
+  valid_if (Some told) faults misses last shelf' ends = valid_of told faults misses last shelf' ends
 
   pub valid_shelf : (shelf shelf' : ShelfView) → Ends words shelf shelf' sink sink' status
       → IfSome shelf.files (λ told. IsValid words told → IsSteady shelf shelf' sink sink'
       → (status ≡ DONE) ⊎ (status ≡ MEMORY))
-  valid_shelf shelf shelf' ends = valid_if shelf.files shelf.faults shelf.misses shelf' ends
+  valid_shelf shelf shelf' ends = valid_if shelf.files shelf.faults shelf.misses shelf.last shelf' ends
 
 module _ (words : List (List ℕ)) (shelf shelf' : ShelfView) (sink sink' : SinkView) (status : ℕ) where
   -- names that no command saves
@@ -133,7 +135,7 @@ module _ (words : List (List ℕ)) (shelf shelf' : ShelfView) (sink sink' : Sink
   broken_keeps : (answer : Answer) → IsAnswer words shelf shelf' answer → status ≡ WRITE_FAULT
       → IsBroken (output_of answer) shelf shelf' sink sink' → Keeps
   broken_keeps (answers.Save name file) is e broken =
-      inr ((name, saves_of words shelf shelf' name file is), inr (e, broken.1))
+      inr ((name, saves_of words shelf shelf' name file is), inr (e, broken.1.rose))
   broken_keeps answers.Usage is e broken = inl broken.0
   broken_keeps (answers.Ran part) is e broken = inl broken.0
   broken_keeps (answers.Print text) is e broken = inl broken.0

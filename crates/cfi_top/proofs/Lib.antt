@@ -8,6 +8,10 @@ pub mod OutcomeLemmas
 pub mod DoneLemmas
 pub mod TopLemmas
 pub mod FilesLemmas
+pub mod PartLemmas
+pub mod MomentLemmas
+pub mod ApartLemmas
+pub mod ReportLemmas
 pub mod RunLemmas
 pub mod ValidLemmas
 pub mod EntryImageLemmas

@@ -8,7 +8,7 @@ use Rattle.cfi_top.specs.declared.reading.Unread.{Unread}
 use Rattle.cfi_top.specs.Command.{inputs_of, more_of, saved_name}
 use Rattle.cfi_top.specs.declared.answer.Output.{Output}
 use Rattle.cfi_top.specs.Answer.{output_of}
-use Rattle.cfi_top.specs.Outside.{IsStarved, IsDelivered}
+use Rattle.cfi_top.specs.Outside.{IsStarved, IsDelivered, KeepsLast}
 use Rattle.cfi_io.specs.Seen.{ShelfView, SinkView}
 use Rattle.cfi_top.specs.Outcome.{IsMade, IsAllRead, IsWorked, GoesOn, IsOutcome, IsAnswer}
 use Rattle.cfi_top.specs.Reading.{AreRead}
@@ -19,14 +19,14 @@ use Rattle.cfi_top.proofs.UnreadLemmas.{first_later, read_since, stops_since}
 -- what stood while the shelf was read stands later too
 pub answer_later : (words : List (List ℕ)) (shelf mid shelf' : ShelfView) (answer : Answer) → shelf.faults ≤ mid.faults
     → mid.faults ≤ shelf'.faults → shelf.misses ≤ mid.misses → mid.misses ≤ shelf'.misses
-    → IsAnswer words shelf mid answer → IsAnswer words shelf shelf' answer
-answer_later words shelf mid shelf' answers.Usage a b c d is = is
-answer_later words shelf mid shelf' (answers.Ran part) a b c d is = is
-answer_later words shelf mid shelf' (answers.Print text) a b c d is = is
-answer_later words shelf mid shelf' (answers.Save name bytes) a b c d is = is
-answer_later words shelf mid shelf' (answers.Unread unread) a b c d is =
-    (is.0, is.1, first_later is.0 shelf mid shelf' unread a b c d is.2)
-answer_later words shelf mid shelf' (answers.Refused name refusal) a b c d is = is
+    → KeepsLast (output_of answer) mid shelf' → IsAnswer words shelf mid answer → IsAnswer words shelf shelf' answer
+answer_later words shelf mid shelf' answers.Usage a b c d same is = is
+answer_later words shelf mid shelf' (answers.Ran part) a b c d same is = is
+answer_later words shelf mid shelf' (answers.Print text) a b c d same is = is
+answer_later words shelf mid shelf' (answers.Save name bytes) a b c d same is = is
+answer_later words shelf mid shelf' (answers.Unread unread) a b c d same is =
+    (is.0, is.1, first_later is.0 shelf mid shelf' unread a b c d same is.2)
+answer_later words shelf mid shelf' (answers.Refused name refusal) a b c d same is = is
 
 -- a file that a command saves is its output
 pub saved_is_output : (command : Command) (files more : List (List ℕ)) (name file : List ℕ)
@@ -83,15 +83,16 @@ module _ (command : Command) (files : List (List ℕ)) (shelf mid shelf' : Shelf
 -- an answer that was delivered ends the program
 pub ends_of : (words : List (List ℕ)) (shelf mid shelf' : ShelfView) (sink sink' : SinkView) (status : ℕ)
     (answer : Answer) (output : Output) → output ≡ output_of answer → IsLater shelf mid → mid.faults ≤ shelf'.faults
-    → mid.misses ≤ shelf'.misses → IsAnswer words shelf mid answer
+    → mid.misses ≤ shelf'.misses → KeepsLast output mid shelf' → IsAnswer words shelf mid answer
     → IsStarved mid shelf' sink sink' status ⊎ IsDelivered output mid shelf' sink sink' status
     → Ends words shelf shelf' sink sink' status
-ends_of words shelf mid shelf' sink sink' status answer output same later faults misses is (inl memory) =
+ends_of words shelf mid shelf' sink sink' status answer output same later faults misses last is (inl memory) =
     inl (memory.0, memory.1 ∙ later.files, memory.2)
-ends_of words shelf mid shelf' sink sink' status answer output same later faults misses is (inr delivered) =
+ends_of words shelf mid shelf' sink sink' status answer output same later faults misses last is (inr delivered) =
     let said = subst (λ (o : Output). IsDelivered o mid shelf' sink sink' status) same delivered in
     inr (
       answer,
-      answer_later words shelf mid shelf' answer later.faults faults later.misses misses is,
+      answer_later words shelf mid shelf' answer later.faults faults later.misses misses
+          (subst (λ (o : Output). KeepsLast o mid shelf') same last) is,
       delivered_since (output_of answer) shelf mid shelf' sink sink' status later said,
     )

@@ -1,6 +1,7 @@
 -- What stays true of a shelf and a sink as calls go on.
-use Rattle.std.proofs.Common.{◌≡◌, ℕ, ◌≤◌, List, Option, Some, None, inl, inr, arith, refl, sym, subst, ◌∙◌}
+use Rattle.std.proofs.Common.{◌≡◌, ℕ, ◌≤◌, List, [], Option, Some, None, inl, inr, arith, refl, sym, subst, ◌∙◌, append-nil}
 use Rattle.std.specs.Prelude.{◌≢◌}
+use Rattle.std.specs.Io.KnownBytes.{Appends}
 use Rattle.cfi_io.specs.Count.{Rose}
 use Rattle.cfi_io.specs.Files.{Files, Puts, PutsPart}
 use Rattle.cfi_io.specs.Told.{WhereKeptTold}
@@ -27,16 +28,17 @@ pub record IsLater (shelf mid : ShelfView) : Type 0 where
 -- what was delivered over the later shelf was delivered over the earlier one
 whole_since : (output : Output) (shelf mid shelf' : ShelfView) (sink sink' : SinkView) → IsLater shelf mid
     → IsWrittenWhole output mid shelf' sink sink' → IsWrittenWhole output shelf shelf' sink sink'
-whole_since (outputs.Print status text) shelf mid shelf' sink sink' later is = (is.0 ∙ later.files, is.1)
+whole_since (outputs.Print status text) shelf mid shelf' sink sink' later is = (is.0 ∙ later.files, is.1, is.2)
 whole_since (outputs.Save name bytes) shelf mid shelf' sink sink' later is =
     (is.0, subst (λ (files : Option Files). WhereKeptTold files shelf'.files (Puts name bytes)) later.files is.1)
 
 broken_since : (output : Output) (shelf mid shelf' : ShelfView) (sink sink' : SinkView) → IsLater shelf mid
     → IsBroken output mid shelf' sink sink' → IsBroken output shelf shelf' sink sink'
-broken_since (outputs.Print status text) shelf mid shelf' sink sink' later is = (is.0 ∙ later.files, is.1, is.2)
+broken_since (outputs.Print status text) shelf mid shelf' sink sink' later is =
+    (is.0 ∙ later.files, is.1, is.2, is.3)
 broken_since (outputs.Save name bytes) shelf mid shelf' sink sink' later is = (
   is.0,
-  rose_earlier _ _ _ later.faults is.1,
+  record { rose = rose_earlier _ _ _ later.faults is.1.rose; last = is.1.last },
   subst (λ (files : Option Files). WhereKeptTold files shelf'.files (PutsPart name bytes)) later.files is.2,
 )
 
@@ -47,6 +49,15 @@ delivered_since output shelf mid shelf' sink sink' status later (inl is) =
     inl (is.0, whole_since output shelf mid shelf' sink sink' later is.1)
 delivered_since output shelf mid shelf' sink sink' status later (inr is) =
     inr (is.0, broken_since output shelf mid shelf' sink sink' later is.1)
+
+-- an empty text is printed by no call
+appends_nothing : (before : Option (List ℕ)) (bytes : List ℕ) → bytes ≡ [] → Appends before before bytes
+appends_nothing None bytes none = tt
+appends_nothing (Some known) bytes none = rw none (sym (append-nil known))
+
+pub nothing_printed : (status : ℕ) (text : List ℕ) (shelf : ShelfView) (sink : SinkView) → text ≡ []
+    → IsWrittenWhole (outputs.Print status text) shelf shelf sink sink
+nothing_printed status text shelf sink none = (refl, appends_nothing sink.written text none, λ same. refl)
 
 -- files that are the same agree at each name
 pub kept_same : (files files' : Option Files) (Q : List ℕ → Type 0) → files' ≡ files

@@ -72,20 +72,23 @@ same_files xs ys same =
 -- what stood when it was not read stands later
 unread_later : (shelf mid shelf' : ShelfView) (name : List ℕ) (cause : Cause) → shelf.faults ≤ mid.faults
     → mid.faults ≤ shelf'.faults → shelf.misses ≤ mid.misses → mid.misses ≤ shelf'.misses
-    → IsUnread shelf mid name cause → IsUnread shelf shelf' name cause
-unread_later shelf mid shelf' name Failed a b c d why = rose_later _ _ _ a b why
-unread_later shelf mid shelf' name Absent a b c d why = (rose_later _ _ _ c d why.0, why.1)
-unread_later shelf mid shelf' name TooLong a b c d why = (rose_later _ _ _ c d why.0, why.1)
+    → shelf'.last ≡ mid.last → IsUnread shelf mid name cause → IsUnread shelf shelf' name cause
+unread_later shelf mid shelf' name Failed a b c d same why =
+    record { rose = rose_later _ _ _ a b why.rose; last = same ∙ why.last }
+unread_later shelf mid shelf' name Absent a b c d same why =
+    record { rose = rose_later _ _ _ c d why.rose; last = same ∙ why.last; told = why.told }
+unread_later shelf mid shelf' name TooLong a b c d same why =
+    record { rose = rose_later _ _ _ c d why.rose; last = same ∙ why.last; told = why.told }
 
 pub stops_later : (shelf mid shelf' : ShelfView) (names : List (List ℕ)) (unread : Unread) → shelf.faults ≤ mid.faults
     → mid.faults ≤ shelf'.faults → shelf.misses ≤ mid.misses → mid.misses ≤ shelf'.misses
-    → StopsAt shelf mid names unread → StopsAt shelf shelf' names unread
-stops_later shelf mid shelf' names unread a b c d stops = record {
+    → shelf'.last ≡ mid.last → StopsAt shelf mid names unread → StopsAt shelf shelf' names unread
+stops_later shelf mid shelf' names unread a b c d same stops = record {
   at = stops.at;
   named = stops.named;
   files = stops.files;
   before = stops.before;
-  why = unread_later shelf mid shelf' unread.name unread.cause a b c d stops.why;
+  why = unread_later shelf mid shelf' unread.name unread.cause a b c d same stops.why;
 }
 
 -- the statuses of files that are not read lie between
@@ -102,19 +105,19 @@ unread_most TooLong = omega arith
 module _ (shelf shelf' : ShelfView) (name : List ℕ) where
   pub failed_rose : (cause : Cause) → IsUnread shelf shelf' name cause → unread_status cause ≡ READ_FAULT
       → Rose shelf.faults shelf'.faults
-  failed_rose Failed why e = why
+  failed_rose Failed why e = why.rose
   failed_rose Absent why e = absurd (omega (arith, e))
   failed_rose TooLong why e = absurd (omega (arith, e))
 
   pub missed_rose : (cause : Cause) → IsUnread shelf shelf' name cause → unread_status cause ≡ NO_FILE
       → Rose shelf.misses shelf'.misses
   missed_rose Failed why e = absurd (omega (arith, e))
-  missed_rose Absent why e = why.0
-  missed_rose TooLong why e = why.0
+  missed_rose Absent why e = why.rose
+  missed_rose TooLong why e = why.rose
 
   -- it is read where no count rises
   pub unread_unsteady : (cause : Cause) → IsUnread shelf shelf' name cause → ¬ Rose shelf.faults shelf'.faults
       → ¬ Rose shelf.misses shelf'.misses → ⊥
-  unread_unsteady Failed why read found = read why
-  unread_unsteady Absent why read found = found why.0
-  unread_unsteady TooLong why read found = found why.0
+  unread_unsteady Failed why read found = read why.rose
+  unread_unsteady Absent why read found = found why.rose
+  unread_unsteady TooLong why read found = found why.rose

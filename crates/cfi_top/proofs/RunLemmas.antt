@@ -23,6 +23,12 @@ use Rattle.cfi_fixed.specs.Bare.{HasEnded, ComesTo}
 use Rattle.cfi_fixed.proofs.OverLemmas.{known, between}
 use Rattle.cfi_fixed.proofs.BareLemmas.{opened_can}
 use Rattle.cfi_top.specs.Run.{IsRun, bare_start, part_of}
+use Rattle.cfi_report.specs.Report.{IsReport}
+use Rattle.cfi_top.specs.Text.{bare_report}
+use Rattle.cfi_top.specs.inner.Fields.{HasFields}
+use Rattle.cfi_top.proofs.ApartLemmas.{IsKept, run_kept}
+use Rattle.cfi_top.proofs.MomentLemmas.{confined}
+use Rattle.cfi_top.proofs.ReportLemmas.{report_is}
 
 -- the policy machine counts the units that it runs
 runs_units : (h : History) (code : List ℕ) (kept : List (Option ℕ)) (old new : State) → Runs h code kept old new
@@ -58,10 +64,14 @@ served_steps r reply = serve_steps r.waits r reply
 
 -- what the guest's end says
 pub run_is : (words : List ℕ) (image : Image) (fuel : ℕ) (guest : Raw) (part : GuestPart) → IsImageOf words image
-    → IsClosedFile image → HasEnded image fuel bare_start guest → part ≡ part_of guest → IsRun words fuel part
-run_is words image fuel guest part placed file ended says =
+    → IsClosedFile image → HasEnded image fuel bare_start guest → part ≡ part_of guest → HasFields part
+    → IsRun words fuel part
+run_is words image fuel guest part placed file ended says fields =
     let can = bare_can image fuel file in
     let path = ended.path in
+    let empty : IsKept bare_start.base.log = record { apart = tt; counts = tt } in
+    let kept : IsKept guest.base.log = subst (λ r. IsKept r.base.log) (sym ended.is)
+    (subst (λ r. IsKept r.base.log) (sym path.is) (run_kept path.takes bare_start empty)) in
     let shown = raw_shows (fixed image) image.code (known image fuel bare_start can) bare_start.base can.ready 0
     bare_start
     (between image fuel bare_start can) path.takes path.along in
@@ -78,12 +88,17 @@ run_is words image fuel guest part placed file ended says =
       guest = guest;
       ended = ended;
       says = says;
+      spent = λ stop. ap (λ p. p.steps) says ∙ ended.fuel_is (λ none. absurd (cc)) (sym (ap (λ p. p.stop) says) ∙ stop);
       state = shown.1;
       counted = units;
       runs = last.runs;
       shows = subst (Shows (fixed image) image.code 0 shown.1) (sym path.is)
           (subst (λ n. Shows (fixed image) image.code n shown.1 (run_of bare_start path.takes)) (last.single refl)
           last.shows);
+      confined = confined image (known image fuel bare_start can) bare_start.base bare_start can.ready
+          (between image fuel bare_start can) path.takes path.along;
+      readable = subst (λ p. IsReport (bare_report p)) (sym says)
+          (report_is guest (subst HasFields says fields) kept ended.stopped);
     }
 
 -- what a run that asked for nothing has come to
@@ -92,7 +107,8 @@ pub ends : (image : Image) (fuel : ℕ) (start now : Raw) (asked : Option ℕ) �
 ends image fuel start now None nothing comes = comes
 ends image fuel start now (Some number) nothing comes = absurd (nothing number refl)
 
--- what follows of what is said of a value
-pub if_ok : {X E : Type 0} (r : Result X E) {P Q : X → Type 0} → IfOk r P → ((x : X) → P x → Q x) → IfOk r Q
-if_ok (Ok x) holds follows = follows x holds
-if_ok (Err e) holds follows = holds
+-- what follows of two things that are said of a value
+pub if_both : {X E : Type 0} (r : Result X E) {P Q R : X → Type 0} → IfOk r P → IfOk r Q
+    → ((x : X) → P x → Q x → R x) → IfOk r R
+if_both (Ok x) one other follows = follows x one other
+if_both (Err e) one other follows = tt

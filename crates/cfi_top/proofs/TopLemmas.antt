@@ -9,7 +9,7 @@ use Rattle.cfi_top.specs.Command.{IsCommandLine}
 use Rattle.cfi_top.specs.Outside.{IsBroken}
 use Rattle.cfi_io.specs.Seen.{ShelfView, SinkView}
 use Rattle.cfi_top.specs.Outcome.{IsAnswer}
-use Rattle.cfi_top.specs.Top.{Ends, IsRefused, IsStopped, IsSavedBy, Saves}
+use Rattle.cfi_top.specs.Top.{Ends, IsRefused, IsStopped, IsSavedBy, IsUnsaved}
 use Rattle.cfi_top.proofs.OutcomeLemmas.{saved_is_output}
 use Rattle.cfi_top.proofs.ReadingLemmas.{failed_rose, missed_rose, unread_least, unread_most}
 use Rattle.cfi_top.proofs.UnreadLemmas.{why_of}
@@ -104,8 +104,8 @@ module _ (words : List (List ℕ)) (shelf shelf' : ShelfView) (sink sink' : Sink
   -- why something was delivered in part
   broken_of : (answer : Answer) → IsAnswer words shelf shelf' answer
       → IsBroken (output_of answer) shelf shelf' sink sink'
-      → Rose sink.faults sink'.faults ⊎ (Saves words × Rose shelf.faults shelf'.faults)
-  broken_of (answers.Save name file) is broken = inr ((name, saves_of words shelf shelf' name file is), broken.1)
+      → Rose sink.faults sink'.faults ⊎ IsUnsaved words shelf shelf'
+  broken_of (answers.Save name file) is broken = inr (name, saves_of words shelf shelf' name file is, broken.1)
   broken_of answers.Usage is broken = inl broken.1
   broken_of (answers.Ran part) is broken = inl broken.1
   broken_of (answers.Print text) is broken = inl broken.1
@@ -113,7 +113,7 @@ module _ (words : List (List ℕ)) (shelf shelf' : ShelfView) (sink sink' : Sink
   broken_of (answers.Refused name refusal) is broken = inl broken.1
 
   pub write_fault_of : Ends words shelf shelf' sink sink' status → status ≡ WRITE_FAULT
-      → Rose sink.faults sink'.faults ⊎ (Saves words × Rose shelf.faults shelf'.faults)
+      → Rose sink.faults sink'.faults ⊎ IsUnsaved words shelf shelf'
   write_fault_of (inl memory) e = absurd (omega (arith, e, memory.0))
   write_fault_of (inr (answers.Usage, is, inl d)) e = absurd (omega (arith, e, d.0))
   write_fault_of (inr (answers.Ran part, is, inl d)) e = absurd (omega (arith, e, d.0))

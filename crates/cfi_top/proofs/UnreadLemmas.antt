@@ -24,11 +24,11 @@ why_of command shelf shelf' unread (inr stops) = stops.2.why
 -- what stood when it was not read stands later
 pub first_later : (command : Command) (shelf mid shelf' : ShelfView) (unread : Unread) → shelf.faults ≤ mid.faults
     → mid.faults ≤ shelf'.faults → shelf.misses ≤ mid.misses → mid.misses ≤ shelf'.misses
-    → IsFirstUnread command shelf mid unread → IsFirstUnread command shelf shelf' unread
-first_later command shelf mid shelf' unread a b c d (inl stops) =
-    inl (stops_later shelf mid shelf' (inputs_of command) unread a b c d stops)
-first_later command shelf mid shelf' unread a b c d (inr stops) =
-    inr (stops.0, stops.1, stops_later shelf mid shelf' (more_of command stops.0) unread a b c d stops.2)
+    → shelf'.last ≡ mid.last → IsFirstUnread command shelf mid unread → IsFirstUnread command shelf shelf' unread
+first_later command shelf mid shelf' unread a b c d same (inl stops) =
+    inl (stops_later shelf mid shelf' (inputs_of command) unread a b c d same stops)
+first_later command shelf mid shelf' unread a b c d same (inr stops) =
+    inr (stops.0, stops.1, stops_later shelf mid shelf' (more_of command stops.0) unread a b c d same stops.2)
 
 -- ---- what was read over a later shelf was read over the earlier one
 
@@ -42,16 +42,19 @@ read_since shelf mid names files later read = record {
 
 unread_since : (shelf mid shelf' : ShelfView) (name : List ℕ) (cause : Cause) → IsLater shelf mid
     → IsUnread mid shelf' name cause → IsUnread shelf shelf' name cause
-unread_since shelf mid shelf' name Failed later why = rose_earlier _ _ _ later.faults why
-unread_since shelf mid shelf' name Absent later why = (
-  rose_earlier _ _ _ later.misses why.0,
-  subst (λ (told : Option Files). WhereTold told (λ t. t name ≡ None)) later.files why.1,
-)
-unread_since shelf mid shelf' name TooLong later why = (
-  rose_earlier _ _ _ later.misses why.0,
-  subst (λ (told : Option Files). WhereTold told (λ t. IsSomeAnd (t name) (λ bytes. MAX_FILE_BYTES < length bytes)))
-      later.files why.1,
-)
+unread_since shelf mid shelf' name Failed later why =
+    record { rose = rose_earlier _ _ _ later.faults why.rose; last = why.last }
+unread_since shelf mid shelf' name Absent later why = record {
+  rose = rose_earlier _ _ _ later.misses why.rose;
+  last = why.last;
+  told = subst (λ (told : Option Files). WhereTold told (λ t. t name ≡ None)) later.files why.told;
+}
+unread_since shelf mid shelf' name TooLong later why = record {
+  rose = rose_earlier _ _ _ later.misses why.rose;
+  last = why.last;
+  told = subst (λ (told : Option Files). WhereTold told (λ t. IsSomeAnd (t name) (λ bytes. MAX_FILE_BYTES < length bytes)))
+      later.files why.told;
+}
 
 pub stops_since : (shelf mid shelf' : ShelfView) (names : List (List ℕ)) (unread : Unread) → IsLater shelf mid
     → StopsAt mid shelf' names unread → StopsAt shelf shelf' names unread

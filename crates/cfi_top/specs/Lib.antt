@@ -1,4 +1,6 @@
 pub mod Text
+pub mod inner
+pub mod Moments
 pub mod Run
 pub mod Answer
 pub mod Plans

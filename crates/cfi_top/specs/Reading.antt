@@ -1,7 +1,8 @@
 -- Files that are read one after the other, and the first that is not read.
-use Rattle.std.specs.Prelude.{◌≡◌, ℕ, ◌<◌, ◌≤◌, List, length, map, take, slice_get, All, Some, None, IsSomeAnd, Result, Ok, Err}
+use Rattle.std.specs.Prelude.{◌≡◌, ℕ, ◌<◌, ◌≤◌, List, length, map, take, slice_get, All, Option, Some, None, IsSomeAnd, Result, Ok, Err}
 use Rattle.cfi_io.specs.Count.{Rose}
 use Rattle.cfi_io.specs.Told.{WhereTold}
+use Rattle.cfi_io.specs.declared.undone.Undone.TheVariants as undone
 use Rattle.cfi_word.specs.declared.limits.TheConstants.{MAX_FILE_BYTES}
 use Rattle.cfi_top.specs.declared.reading.Cause.{Cause}
 use Rattle.cfi_top.specs.declared.reading.Cause.TheVariants.{Failed, Absent, TooLong}
@@ -23,14 +24,23 @@ pub record AreRead (shelf : ShelfView) (names files : List (List ℕ)) : Type 0 
   pub short : All IsShort files
   pub held : WhereTold shelf.files (λ told. map told names ≡ map Some files)
 
--- why the file of this name is not read: the shelf failed, or lacks it, or it is too long
+-- the shelf failed, and the last of its calls that was not done is the read of the file of this name
+pub record HasFailed (shelf shelf' : ShelfView) (name : List ℕ) : Type 0 where
+  pub rose : Rose shelf.faults shelf'.faults
+  pub last : shelf'.last ≡ Some (undone.Read name)
+
+-- the shelf missed a file, that of this name, of which P holds where the shelf tells its files
+pub record HasMissed (shelf shelf' : ShelfView) (name : List ℕ) (P : Option (List ℕ) → Type 0) : Type 0 where
+  pub rose : Rose shelf.misses shelf'.misses
+  pub last : shelf'.last ≡ Some (undone.Missed name)
+  pub told : WhereTold shelf.files (λ told. P (told name))
+
+-- why the file of this name is not read: the shelf failed there, or lacks it, or it is too long
 abbrev pub IsUnread : (shelf shelf' : ShelfView) → (name : List ℕ) → Cause → Type 0
-IsUnread shelf shelf' name Failed = Rose shelf.faults shelf'.faults
-IsUnread shelf shelf' name Absent =
-    Rose shelf.misses shelf'.misses × WhereTold shelf.files (λ told. told name ≡ None)
+IsUnread shelf shelf' name Failed = HasFailed shelf shelf' name
+IsUnread shelf shelf' name Absent = HasMissed shelf shelf' name (λ found. found ≡ None)
 IsUnread shelf shelf' name TooLong =
-    Rose shelf.misses shelf'.misses
-    × WhereTold shelf.files (λ told. IsSomeAnd (told name) (λ bytes. MAX_FILE_BYTES < length bytes))
+    HasMissed shelf shelf' name (λ found. IsSomeAnd found (λ bytes. MAX_FILE_BYTES < length bytes))
 
 -- of the files of these names, which are read in order, the first that is not read is this
 pub record StopsAt (shelf shelf' : ShelfView) (names : List (List ℕ)) (unread : Unread) : Type 0 where

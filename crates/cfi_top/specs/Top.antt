@@ -14,7 +14,7 @@ use Rattle.cfi_top.specs.declared.command.Command.{Command}
 use Rattle.cfi_top.specs.declared.answer.Answer.{Answer}
 use Rattle.cfi_top.specs.Answer.{refused_line, unread_line, unread_status, output_of}
 use Rattle.cfi_top.specs.Command.{IsCommand, inputs_of, more_of, saved_name}
-use Rattle.cfi_top.specs.Outside.{Holds, IsStarved, IsDelivered}
+use Rattle.cfi_top.specs.Outside.{Holds, HasFailedToSave, IsStarved, IsDelivered}
 use Rattle.cfi_io.specs.Seen.{ShelfView, SinkView}
 use Rattle.cfi_top.specs.Plans.{named_files}
 use Rattle.cfi_top.specs.Reading.{AreRead, IsShort}
@@ -122,6 +122,10 @@ IsSavedBy words name = (command : Command) × IsCommand words command × (saved_
 -- the words are a command that saves a file
 abbrev pub Saves : (words : List (List ℕ)) → Type 0
 Saves words = (name : List ℕ) × IsSavedBy words name
+
+-- the shelf failed to save the file that the words' command saves
+abbrev pub IsUnsaved : (words : List (List ℕ)) → (shelf shelf' : ShelfView) → Type 0
+IsUnsaved words shelf shelf' = (name : List ℕ) × IsSavedBy words name × HasFailedToSave shelf shelf' name
 
 -- files that a shelf tells, short enough to be read
 pub record AreHeld (told : Files) (names files : List (List ℕ)) : Type 0 where

@@ -14,6 +14,7 @@ mod command;
 mod deliver;
 pub mod laws;
 mod names;
+mod part;
 mod plans;
 mod program;
 mod reading;

@@ -6,7 +6,7 @@ ghost use Rattle.cfi_top.specs.declared.answer.TheConstants.{DONE, USAGE, READ_F
 ghost use Rattle.cfi_args.specs.Words.{texts};
 ghost use Rattle.cfi_top.specs.Command.{IsCommand, IsCommandLine};
 ghost use Rattle.cfi_top.specs.Outcome.{IsAnswer};
-ghost use Rattle.cfi_top.specs.Top.{Ends, HasRun, HasListed, HasAssembled, HasInstrumented, HasLinked, HasVerified, HasGraphed, IsRefused, IsStopped, IsSavedBy, Saves, IsValid, IsSteady};
+ghost use Rattle.cfi_top.specs.Top.{Ends, HasRun, HasListed, HasAssembled, HasInstrumented, HasLinked, HasVerified, HasGraphed, IsRefused, IsStopped, IsSavedBy, IsUnsaved, Saves, IsValid, IsSteady};
 
 use crate::answer::{Answer, MEMORY, output_of};
 use crate::command::command_of;
@@ -151,7 +151,7 @@ pub fn top<F: Shelf, S: Sink, G: Gate>(
         (S.seen sink.new) result.status }
     ensures write_fault { result.status ≡ WRITE_FAULT →
         Rose (S.seen sink.old).faults (S.seen sink.new).faults
-        ⊎ (Saves (texts words.now) × Rose (F.seen shelf.old).faults (F.seen shelf.new).faults) }
+        ⊎ IsUnsaved (texts words.now) (F.seen shelf.old) (F.seen shelf.new) }
     ensures refused { result.status ≡ REFUSED → IsRefused (texts words.now)
         (F.seen shelf.old)
         (S.seen sink.old)

@@ -2,21 +2,17 @@ ghost use Rattle.std.specs.Prelude.{◌≡◌, ◌≤◌, ◌<◌, ◌*◌, IfOk
 ghost use Rattle.cfi_word.specs.declared.map.TheConstants.{FIRST_BASE};
 ghost use Rattle.cfi_fixed.specs.Fixed.{CanRunOver};
 ghost use Rattle.cfi_fixed.specs.Bare.{HasEnded};
-ghost use Rattle.cfi_top.specs.Run.{IsRun, part_of};
+ghost use Rattle.cfi_top.specs.Run.{IsRun};
 
-use crate::text::bare_name;
+use crate::part::{BARE_GUEST, part_of};
 use cfi_bare::{BareCode, image_of};
 use cfi_fixed::{run_fixed, serve_bare};
 use cfi_io::Gate;
 use cfi_report::GuestPart;
-use cfi_values::{Bytes, Items};
 use cfi_word::Image;
 use cfi_word::map::FIRST_BASE;
 use rv_guest::Guest;
 use std::alloc::{AllocError, Global};
-
-/// The number of the guest that runs a bare file.
-pub const BARE_GUEST: u32 = 0;
 
 // Runs a guest from service to service until it has stopped. The gate is passed once in each service, before the
 // service's work.
@@ -29,21 +25,6 @@ fn run_guest<G: Gate>(guest: &mut Guest, image: &Image, gate: &G, fuel: u32)
         gate.pass(BARE_GUEST, number);
         serve_bare(guest, number);
     }
-}
-
-// What a report says of a guest.
-fn part_of(alloc: Global, guest: &Guest) -> Result<GuestPart, AllocError>
-    ensures { IfOk result (λ part. part ≡ part_of guest.now) }
-{
-    Ok(GuestPart {
-        number: BARE_GUEST,
-        entry: bare_name(alloc)?,
-        log: Items::from_vec(guest.log().to_vec(alloc)?),
-        out: Bytes::from_vec(guest.output().to_vec(alloc)?),
-        stop: guest.stop(),
-        units: guest.units(),
-        steps: guest.steps(),
-    })
 }
 
 /// Runs the one guest of a bare file, until it has stopped or has run `fuel` instructions.

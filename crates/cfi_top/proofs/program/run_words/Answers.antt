@@ -13,5 +13,5 @@ returns g c =
     let later : IsLater old mid = record { files = kept.same; faults = kept.faults; misses = kept.misses } in
     record {
       ends = ends_of _ old mid _ _ _ _ _ _ c.in-Ok-output_of.ensures later c.deliver.ensures.faults
-          c.deliver.ensures.misses c.in-Ok.ensures.answer c.deliver.ensures.delivered;
+          c.deliver.ensures.misses c.deliver.ensures.last c.in-Ok.ensures.answer c.deliver.ensures.delivered;
     }

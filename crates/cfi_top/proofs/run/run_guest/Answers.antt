@@ -1,9 +1,13 @@
 use Rattle.std.proofs.Common.{subst}
 use Rattle.cfi_model.specs.Raw.{Raw}
 use Rattle.cfi_fixed.specs.Bare.{ComesTo}
-use Rattle.cfi_fixed.proofs.BareLemmas.{runs_on, goes_on}
+use Rattle.cfi_fixed.proofs.BareLemmas.{rests, runs_on, goes_on}
 use Rattle.cfi_top.proofs.RunLemmas.{ends}
 use Rattle.cfi_top.proofs.run.run_guest.Goals as goal
+
+-- at its start the guest rests
+pub loop-number-init : goal.loop-number-init
+loop-number-init g c = rests c.args.image.now c.args.fuel c.args.guest.now c.requires.can
 
 -- the guest goes on after a service
 pub loop-number-preserved : goal.loop-number-preserved
