@@ -1,8 +1,8 @@
 -- What a shelf and a sink tell and count at one moment, and what becomes of them where something is delivered.
-use Rattle.std.specs.Prelude.{◌≡◌, ◌⊎◌, ℕ, List, Option, Some}
+use Rattle.std.specs.Prelude.{◌≡◌, ◌⊎◌, ℕ, List, Some}
 use Rattle.std.specs.Io.KnownBytes.{Appends}
 use Rattle.cfi_io.specs.Count.{Rose}
-use Rattle.cfi_io.specs.Files.{Files, Puts, PutsPart}
+use Rattle.cfi_io.specs.Files.{Puts, PutsPart}
 use Rattle.cfi_io.specs.Seen.{ShelfView, SinkView}
 use Rattle.cfi_io.specs.Told.{WhereTold, WhereKeptTold, AppendsPrefix}
 use Rattle.cfi_top.specs.declared.answer.Output.{Output}
