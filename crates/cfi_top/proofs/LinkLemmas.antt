@@ -1,9 +1,7 @@
 -- What is known of a file, among those that are to be linked, that is no module.
-use Rattle.std.proofs.Common.{◌≡◌, ◌<◌, ℕ, List, [], length, Option, Some, inl, inr, sym, subst, arith}
-use Rattle.std.specs.Prelude.{All, slice_get, IsSomeAnd}
-use Rattle.std.proofs.lemmas.Bool.{cases_lt}
+use Rattle.std.proofs.Common.{◌≡◌, ◌<◌, ℕ, List, [], length, Some, arith}
+use Rattle.std.specs.Prelude.{All, slice_get}
 use Rattle.std.proofs.lemmas.List.Elements.{All-weaker}
-use Rattle.std.proofs.lemmas.Option.{slice_get_past}
 use Rattle.cfi_commands.specs.declared.refusal.Refusal.{Refusal}
 use Rattle.cfi_commands.specs.declared.refusal.Refusal.TheVariants.{Link}
 use Rattle.cfi_commands.specs.Modules.{IsShortFile, IsFirstBadFile}
