@@ -52,33 +52,36 @@ closed_to_entry old new class some fits file code tary bary =
         code = subst (λ (ws : List ℕ). IsReadAs ws entry.body entry.idles entry.zeros) (sym code) entry.code;
         starts = entry.starts;
       };
-      closed = (body, record {
-        classes = record {
-          tary_length = ap length tary ∙ length-set old.tary FIRST_BASE class ∙ closed.classes.tary_length;
-          bary_length = slots ∙ closed.classes.bary_length;
-          code_length = ap length code ∙ closed.classes.code_length;
-          tary_most = λ k.
-              subst (λ (xs : List ℕ). slice_index xs k ≤ FIELD_MAX) (sym tary)
-              (set_most old.tary class k fits inside (closed.classes.tary_most k));
-          bary_most = λ slot.
-              subst (λ (xs : List ℕ). slice_index xs slot ≤ FIELD_MAX) (sym bary)
-              (slots_most (length old.bary) class slot fits);
-          bary_least = λ slot within.
-              subst (λ (xs : List ℕ). slice_index xs slot ≢ 0) (sym bary)
-              (slots_some (length old.bary) class slot some (omega (arith, within, closed.classes.bary_length)));
-        };
-        idles = closed.idles;
-        zeros = closed.zeros;
-        code = subst (λ (ws : List ℕ). IsReadAs ws body closed.idles closed.zeros) (sym code) closed.code;
-        inside = λ address unit stands.
-            subst (λ (n : ℕ). StaysInside body n address unit) (sym slots) (closed.inside address unit stands);
-        targets = λ k reached.
-            elim (cases_eq k FIRST_BASE) [
-              | inl same ↦ subst (λ (n : ℕ). IsStartOf body (4 * n)) (sym same) first
-              | inr other ↦
-                  closed.targets k
-                  (λ none. reached (ap (λ (xs : List ℕ). slice_index xs k) tary
-                  ∙ get_or-set_other old.tary FIRST_BASE k class 0 other ∙ none))
-            ];
-      });
+      closed = (
+        body,
+        record {
+          classes = record {
+            tary_length = ap length tary ∙ length-set old.tary FIRST_BASE class ∙ closed.classes.tary_length;
+            bary_length = slots ∙ closed.classes.bary_length;
+            code_length = ap length code ∙ closed.classes.code_length;
+            tary_most = λ k.
+                subst (λ (xs : List ℕ). slice_index xs k ≤ FIELD_MAX) (sym tary)
+                (set_most old.tary class k fits inside (closed.classes.tary_most k));
+            bary_most = λ slot.
+                subst (λ (xs : List ℕ). slice_index xs slot ≤ FIELD_MAX) (sym bary)
+                (slots_most (length old.bary) class slot fits);
+            bary_least = λ slot within.
+                subst (λ (xs : List ℕ). slice_index xs slot ≢ 0) (sym bary)
+                (slots_some (length old.bary) class slot some (omega (arith, within, closed.classes.bary_length)));
+          };
+          idles = closed.idles;
+          zeros = closed.zeros;
+          code = subst (λ (ws : List ℕ). IsReadAs ws body closed.idles closed.zeros) (sym code) closed.code;
+          inside = λ address unit stands.
+              subst (λ (n : ℕ). StaysInside body n address unit) (sym slots) (closed.inside address unit stands);
+          targets = λ k reached.
+              elim (cases_eq k FIRST_BASE) [
+                | inl same ↦ subst (λ (n : ℕ). IsStartOf body (4 * n)) (sym same) first
+                | inr other ↦
+                    closed.targets k
+                    (λ none. reached (ap (λ (xs : List ℕ). slice_index xs k) tary
+                    ∙ get_or-set_other old.tary FIRST_BASE k class 0 other ∙ none))
+              ];
+        },
+      );
     }
