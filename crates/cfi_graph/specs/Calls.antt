@@ -1,7 +1,7 @@
 -- Calls and tail calls of placed modules (MCFI, Niu and Tan, PLDI 2014: an indirect call through a pointer may reach
 -- each function whose address is taken and whose type is equal).
 -- A function is told by its module and its record there, a branch by its module and its slot.
-use Rattle.std.specs.Prelude.{◌≡◌, ℕ, zero, suc, ◌+◌, ◌≤◌, ◌<◌, true, false, List, slice_get, Some, IsTrue}
+use Rattle.std.specs.Prelude.{◌≡◌, ℕ, zero, suc, ◌+◌, true, false, List, slice_get, Some, IsTrue}
 use Rattle.std.specs.List.{Contains}
 use Rattle.cfi_unit.specs.declared.unit.Unit.{Unit as CodeUnit}
 use Rattle.cfi_unit.specs.declared.unit.Unit.TheVariants as units

@@ -8,7 +8,7 @@ use Rattle.cfi_types.specs.declared.fault.TypeFault.{TypeFault}
 use Rattle.cfi_types.specs.declared.fault.TypeFault.TheVariants.{BadNode, BadIndex, Short, Memory}
 use Rattle.cfi_types.specs.Spelling.{word}
 use Rattle.cfi_types.specs.Reading.{ReadingFails, next_word}
-use Rattle.cfi_values.specs.Then.{◌>>=◌, unless_bad}
+use Rattle.cfi_values.specs.Then.{◌>>=◌}
 
 abbrev pub IsBytes : List ℕ → Type 0
 IsBytes bytes = (i : ℕ) → get_or bytes i 0 < 256

@@ -1,5 +1,5 @@
 use Rattle.std.proofs.Common.{◌≡◌, ◌∙◌, ◌<◌, All, length, map, get_or, sym, ap, subst, arith}
-use Rattle.cfi_types.specs.inner.Paths.{LeadAlike, ArePaired, KeepEqual}
+use Rattle.cfi_types.specs.inner.Paths.{ArePaired}
 use Rattle.cfi_types.proofs.PathLemmas.{steps_alike, twice_alike, all_within, paired_keep}
 use Rattle.cfi_types.proofs.paths.along.Goals as goal
 

@@ -1,4 +1,4 @@
-use Rattle.std.proofs.Common.{◌≡◌, ◌∙◌, ℕ, ◌+◌, ◌<◌, List, [], ◌∷◌, length, get_or, slice_index, rules, sym, ap, subst, arith}
+use Rattle.std.proofs.Common.{◌≡◌, rules, subst}
 use Rattle.cfi_types.specs.inner.Leader.{first_of, PutsFirst}
 use Rattle.cfi_types.specs.inner.Paths.{pair_of}
 use Rattle.cfi_types.proofs.PathLemmas.{least_more}
