@@ -14,7 +14,8 @@ use cfi_items::Source;
 use elf_read::Symbol;
 use std::alloc::{AllocError, Global};
 
-/// No branch that goes over another and reaches its target has more branches between the two, each of a word at least.
+/// A branch that goes over another and still reaches its target is at most so many branches from it, since each branch
+/// has a word.
 const NEAR: usize = (REACH_BACK / 4) as usize;
 
 // The branches that are out of their reach.
@@ -49,7 +50,7 @@ fn push_others(
     ensures each { OnOk result ((k : ℕ) (d : Hop) → k < length hops.old.items →
         StaysOrLoses word (get_or hops.old.items k d) (get_or hops.new.items k d)) }
 {
-    let end = hops.len().min(number + NEAR);
+    let end = hops.len().min(number + NEAR + 1);
     for k in number.saturating_sub(NEAR)..end {
         let hop = hops[k];
         let next = after_growth(hop, word);
