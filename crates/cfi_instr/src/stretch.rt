@@ -9,13 +9,17 @@ ghost use Rattle.cfi_instr.specs.Reach.{IsEnough, IsWithin};
 ghost use Rattle.cfi_instr.specs.inner.Hops.{AreReady, StaysOrLoses};
 
 use crate::hops::{Hop, after_growth, hops_of};
-use crate::sizes::REACH_BACK;
+use crate::sizes::{LONG_WORDS, MAX_WORDS, REACH_BACK};
 use cfi_items::Source;
 use elf_read::Symbol;
 use std::alloc::{AllocError, Global};
 
-/// No branch that goes over another and reaches its target has more branches between the two, each of a word at least.
+/// A branch that goes over another and still reaches its target is at most so many branches from it, since each branch
+/// has a word.
 const NEAR: usize = (REACH_BACK / 4) as usize;
+
+/// With so many long branches the output has too many words.
+const ENOUGH: usize = (MAX_WORDS / LONG_WORDS + 1) as usize;
 
 // The branches that are out of their reach.
 fn out_of_reach(alloc: Global, hops: &[Hop]) -> Result<Vec<usize>, AllocError> {
@@ -49,7 +53,7 @@ fn push_others(
     ensures each { OnOk result ((k : ℕ) (d : Hop) → k < length hops.old.items →
         StaysOrLoses word (get_or hops.old.items k d) (get_or hops.new.items k d)) }
 {
-    let end = hops.len().min(number + NEAR);
+    let end = hops.len().min(number + NEAR + 1);
     for k in number.saturating_sub(NEAR)..end {
         let hop = hops[k];
         let next = after_growth(hop, word);
@@ -82,7 +86,8 @@ fn lengthen(
     push_others(hops, number, hop.at, out)
 }
 
-// Makes each branch long that is out of its reach, and those that these push out of theirs. Each gets so once at most.
+// Makes branches long that are out of their reach, and those that these push out of theirs, until none is left or the
+// output has too many words by them alone.
 fn lengthen_all(
     hops: &mut Vec<Hop>,
     long: &mut Vec<bool>,
@@ -92,7 +97,7 @@ fn lengthen_all(
         AreReady t symbols hops.old.items long.old.items →
         AreReady t symbols hops.new.items long.new.items) }
 {
-    for _turn in 0..hops.len() {
+    for _turn in 0..hops.len().min(ENOUGH) {
         match out.pop() {
             Some(number) => lengthen(hops, number, long, out)?,
             None => return Ok(()),
