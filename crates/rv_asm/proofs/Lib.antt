@@ -1,4 +1,6 @@
 pub mod SurveyLemmas
+pub mod FormLemmas
+pub mod CountLemmas
 pub mod PlacedLemmas
 pub mod DistinctLemmas
 pub mod TableLemmas
