@@ -9,6 +9,7 @@ use Rattle.elf_read.specs.declared.object.Object.{Object}
 use Rattle.elf_read.specs.declared.object.Reloc.{Reloc}
 use Rattle.cfi_aux.specs.declared.modules.Module.{Module}
 use Rattle.cfi_aux.proofs.JoinedLists.{joined_length}
+use Rattle.cfi_made_law.specs.Read.{IsReadOf}
 use Rattle.cfi_commands.specs.Reading.{IsModuleFile}
 use Rattle.cfi_commands.proofs.ListingLemmas.{short_text as short_object}
 
@@ -53,3 +54,7 @@ few_relocs bytes m file =
     ap (λ (xs : List Reloc). length xs) file.is.kept.relocs
     ∙ joined_length (relocs_of bytes) (kept_count bytes) (section_count bytes) (λ s _. section_length bytes s) in
     omega (arith, same, kept, file.is.sound.relocs)
+
+-- it was read of a file
+pub read-of : (bytes : List ℕ) (m : Module) → IsModuleFile bytes m → IsReadOf m
+read-of bytes m file = record { bytes = bytes; object = file.object; is = file.is; whole = file.whole }
