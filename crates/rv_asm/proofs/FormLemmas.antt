@@ -1,16 +1,12 @@
 -- A statement has few names: at most two, or the words of a switch.
-use Rattle.std.proofs.Common.{◌≡◌, ℕ, suc, ◌+◌, ◌-◌, ◌≤◌, ◌==◌, pos, Bool, true, false, cond, List, [], ◌∷◌, length, take, drop, option_map, if◌then◌else◌, Option, Some, None, refl, ap, arith, inl, inr, length-append, take-append-drop}
-use Rattle.std.specs.Prelude.{option_and_then, codes, slice_index, nat_lt}
+use Rattle.std.proofs.Common.{◌≡◌, ℕ, suc, ◌+◌, ◌≤◌, pos, Bool, true, false, cond, List, [], ◌∷◌, length, option_map, if◌then◌else◌, Option, Some, None, refl, ap, arith}
+use Rattle.std.specs.Prelude.{option_and_then, codes}
 use Rattle.std.specs.Str.{bytes_eq}
-use Rattle.std.specs.List.{slice_split, onto_first, position_or_len, before_first, after_first}
-use Rattle.std.specs.Str.Lines.{strip_carriage_return}
-use Rattle.std.proofs.lemmas.Bool.{cases_Bool, ltb-true}
-use Rattle.std.proofs.lemmas.List.{length-take, length-drop}
+use Rattle.std.specs.List.{slice_split, onto_first}
 use Rattle.std.proofs.lemmas.List.Sums.{length-filter, count_by-le-length}
 use Rattle.cfi_values.specs.Some.{◌>>=◌}
-use Rattle.cfi_text.specs.Lines.{statement_of}
 use Rattle.cfi_text.specs.Names.{name_in}
-use Rattle.cfi_text.specs.Words.{is_blank, is_solid, has_byte, words_in, unblanked, first_word, after_word}
+use Rattle.cfi_text.specs.Words.{is_blank, has_byte, words_in}
 use Rattle.rv_insn.specs.declared.insn.Cond.{Cond}
 use Rattle.rv_insn.specs.declared.insn.LoadKind.{LoadKind}
 use Rattle.rv_insn.specs.declared.insn.StoreKind.{StoreKind}
@@ -26,11 +22,10 @@ use Rattle.rv_line.specs.declared.statement.Statement.{Statement}
 use Rattle.rv_line.specs.declared.statement.Statement.TheVariants as statements
 use Rattle.rv_line.specs.Called.{op_called, imm_op_called, load_called, store_called, cond_called, keyword_called, node_kind_called}
 use Rattle.rv_line.specs.Number.{integer_in}
-use Rattle.rv_line.specs.Line.{words_form, statement_in, labelled_in, parts_in, line_in}
-use Rattle.rv_line.specs.Operand.{is_byte, cut, word_in, two_in, three_in, low_in, target_in, datum_in}
+use Rattle.rv_line.specs.Operand.{word_in, two_in, three_in, low_in, target_in, datum_in}
 use Rattle.rv_line.specs.Register.{register_in}
 use Rattle.rv_line.specs.Statement.{op_form, takes, imm_op_form, load_form, store_form, branch_form, register_and_place, register_and_high, lui_by, lui_form, auipc_form, jal_form, alone, mv_form, li_form, la_form, j_form, jr_form, name_form, word_form, zero_form, onto, all_in, names_in, integers_in, has_count, node_words, func_by, func_words, switch_of, only_integer, kind_by, kind_words, keyword_form, form_or, form_of}
-use Rattle.rv_asm.specs.inner.Count.{most_of, said_of, count_of}
+use Rattle.rv_asm.specs.inner.Count.{most_of}
 
 -- what a form gives has at most so many
 abbrev pub HasFew : Option Statement → ℕ → Type 0
@@ -273,7 +268,7 @@ or-few : {X : Type 0} (o : Option X) (form : X → (rest : List ℕ) → Option 
 or-few None form rest other n few next = next
 or-few (Some x) form rest other n few next = few x
 
-form-few : (word rest : List ℕ) → HasFew (form_of word rest) (2 + length rest)
+pub form-few : (word rest : List ℕ) → HasFew (form_of word rest) (2 + length rest)
 unfolding form_of
 form-few word rest =
     let n : ℕ = 2 + length rest in
@@ -283,69 +278,3 @@ form-few word rest =
     (or-few (store_called word) store_form rest _ n (λ k. more-few _ (length rest) (store-few k rest))
     (or-few (cond_called word) branch_form rest _ n (λ k. more-few _ (length rest) (branch-few k rest))
     (or-few (keyword_called word) keyword_form rest None n (λ k. keyword-few k rest) (none-few n))))))
-
--- ---- lines
-
-said-few : (form : Option Statement) (n : ℕ) → HasFew form n → said_of form ≤ n
-said-few None n few = omega arith
-said-few (Some s) n few = few s refl
-
-words-said : (word rest : List ℕ) → said_of (words_form word rest) ≤ length word + length rest + 1
-words-said [] rest = omega arith
-words-said (byte ∷ bytes) rest =
-    omega (arith, said-few (form_of (byte ∷ bytes) rest) (2 + length rest) (form-few (byte ∷ bytes) rest))
-
-statement-said : (text : List ℕ) → said_of (statement_in text) ≤ length text + 1
-statement-said text =
-    let n : ℕ = position_or_len is_blank (unblanked text) in
-    omega (
-      arith,
-      words-said (first_word text) (after_word text),
-      length-append (take n (unblanked text)) (drop n (unblanked text)),
-      ap (λ (xs : List ℕ). length xs) (take-append-drop n (unblanked text)),
-      length-drop (position_or_len is_solid text) text,
-    )
-
-labelled-said : (label : Option (List ℕ)) (back text : List ℕ) → suc (length back) ≤ length text
-    → count_of (labelled_in label back text) ≤ length text + 1
-labelled-said None back text less = omega arith
-labelled-said (Some name) back text less = omega (arith, less, statement-said back)
-
-parts-said : (parts : Option (List ℕ × List ℕ)) (text : List ℕ)
-    → ((p : List ℕ × List ℕ) → parts ≡ Some p → suc (length p.1) ≤ length text)
-    → count_of (parts_in parts text) ≤ length text + 1
-parts-said None text less = omega (arith, statement-said text)
-parts-said (Some p) text less = labelled-said (name_in (unblanked p.0)) p.1 text (less p refl)
-
-cut-less : (byte : ℕ) (text : List ℕ) (p : List ℕ × List ℕ) → cut byte text ≡ Some p
-    → suc (length p.1) ≤ length text
-unfolding cut
-cut-less byte text p e =
-    elim (cases_Bool (nat_lt (position_or_len (is_byte byte) text) (length text))) [
-      | inl inside ↦
-          let found : Some (before_first (is_byte byte) text, after_first (is_byte byte) text) ≡ Some p =
-          rw inside at e in
-          let same : (before_first (is_byte byte) text, after_first (is_byte byte) text) ≡ p = cc in
-          let less = ltb-true _ _ inside in
-          let back = ap (λ (q : List ℕ × List ℕ). length q.1) same in
-          omega (arith, less, back, length-drop (position_or_len (is_byte byte) text + 1) text)
-      | inr none ↦ let never : None ≡ Some p = rw none at e in cc
-    ]
-
-stripped : (line : List ℕ) → length (strip_carriage_return line) ≤ length line
-stripped line = elim (cases_Bool (slice_index line (length line - 1) == 13)) [
-  | inl ended ↦ rw ended (omega (arith, length-take (length line - 1) line))
-  | inr other ↦ rw other (omega arith)
-]
-
--- a line has at most one name more than bytes
-pub line_few : (line : List ℕ) → count_of (line_in line) ≤ length line + 1
-line_few line =
-    let text = statement_of line in
-    let front = strip_carriage_return line in
-    omega (
-      arith,
-      parts-said (cut 58 text) text (λ p e. cut-less 58 text p e),
-      stripped line,
-      length-take (position_or_len (λ byte. byte == 35) front) front,
-    )

@@ -1,5 +1,6 @@
 pub mod SurveyLemmas
 pub mod FormLemmas
+pub mod LineCountLemmas
 pub mod CountLemmas
 pub mod PlacedLemmas
 pub mod DistinctLemmas

@@ -197,7 +197,7 @@ pub fn survey_of(alloc: Global, text: &[u8]) -> Result<Survey, AllocError>
     read_all(alloc, text)
 }
 
-#[tactic(auto, using(crate::proofs::CountLemmas::line_more, crate::proofs::FormLemmas::line_few, crate::proofs::CountLemmas::text_left))]
+#[tactic(auto, using(crate::proofs::CountLemmas::line_more, crate::proofs::LineCountLemmas::line_few, crate::proofs::CountLemmas::text_left))]
 fn read_all(alloc: Global, text: &[u8]) -> Result<Survey, AllocError>
     requires { length text.now + 1 < 2 ^ 32 }
     ensures { IfOk result (λ survey. survey ≡ with_lines nothing (numbered_lines text.now)) }
