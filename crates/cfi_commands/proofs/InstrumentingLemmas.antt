@@ -9,6 +9,7 @@ use Rattle.elf_read.specs.declared.object.Object.{Object}
 use Rattle.elf_read.specs.declared.object.Reloc.{Reloc}
 use Rattle.cfi_aux.specs.declared.modules.Module.{Module}
 use Rattle.cfi_aux.proofs.JoinedLists.{joined_length}
+use Rattle.cfi_made_law.specs.Read.{IsReadOf}
 use Rattle.cfi_commands.specs.declared.fault.CommandFault.{CommandFault}
 use Rattle.cfi_commands.specs.declared.fault.CommandFault.TheVariants.{File, Together, Memory}
 use Rattle.cfi_commands.specs.declared.refusal.Refusal.{Refusal}
@@ -59,6 +60,10 @@ few_relocs bytes m file =
     ap (λ (xs : List Reloc). length xs) file.is.kept.relocs
     ∙ joined_length (relocs_of bytes) (kept_count bytes) (section_count bytes) (λ s _. section_length bytes s) in
     omega (arith, same, kept, file.is.sound.relocs)
+
+-- it was read of a file
+pub read-of : (bytes : List ℕ) (m : Module) → IsModuleFile bytes m → IsReadOf m
+read-of bytes m file = record { bytes = bytes; object = file.object; is = file.is; whole = file.whole }
 
 module _ (bytes : List ℕ) where
   -- a fault of the file is one of instrumenting it

@@ -8,13 +8,14 @@ use crate::reading::read_module;
 use crate::refusal::Refusal;
 use cfi_aux::read_can_be_written;
 use cfi_instr::{InstrFault, instrument};
-use elf_write::{is_within_limits, write_object};
+use cfi_made_law::instrumented_are_within_limits;
+use elf_write::laws::limits_fit;
+use elf_write::write_object;
 use std::alloc::Global;
 
 /// The file of the instrumented module of the module that a file is.
 ///
-/// `bytes` are the whole file. A fault of the file comes before one of its module. A module past the limits of
-/// `elf_write` is not written, and answered as want of memory.
+/// `bytes` are the whole file. A fault of the file comes before one of its module.
 pub fn instrumented(alloc: Global, bytes: &[u8]) -> Result<Vec<u8>, CommandFault>
     requires small { length bytes.now ≤ MAX_FILE }
     ensures ok { IfOk result (λ file. IsInstrumentedFile bytes.now file.items) }
@@ -22,9 +23,10 @@ pub fn instrumented(alloc: Global, bytes: &[u8]) -> Result<Vec<u8>, CommandFault
 {
     read_can_be_written();
     let unplaced = read_module(alloc, 0, bytes)?;
+    instrumented_are_within_limits();
+    limits_fit();
     match instrument(alloc, &unplaced) {
-        Ok(out) if is_within_limits(&out.object) => Ok(write_object(alloc, &out.object)?),
-        Ok(_) => Err(CommandFault::Memory),
+        Ok(out) => Ok(write_object(alloc, &out.object)?),
         Err(InstrFault::Memory) => Err(CommandFault::Memory),
         Err(fault) => Err(CommandFault::File(0, Refusal::Instr(fault))),
     }

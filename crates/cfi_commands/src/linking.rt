@@ -6,14 +6,15 @@ use crate::fault::CommandFault;
 use crate::modules::read_modules;
 use cfi_aux::read_can_be_written;
 use cfi_link::{LinkFault, link};
+use cfi_made_law::linked_are_within_limits;
 use cfi_values::Bytes;
-use elf_write::{is_within_limits, write_object};
+use elf_write::laws::limits_fit;
+use elf_write::write_object;
 use std::alloc::Global;
 
 /// The file of the module that several are linked into.
 ///
-/// Each of `files` is a whole file. A fault of a file comes before one of the modules together. A module past the
-/// limits of `elf_write` is not written, and answered as want of memory.
+/// Each of `files` is a whole file. A fault of a file comes before one of the modules together.
 pub fn linked(alloc: Global, files: &[Bytes]) -> Result<Vec<u8>, CommandFault>
     requires small { All IsShortFile files.now }
     requires count { length files.now < 2 ^ 32 }
@@ -22,9 +23,10 @@ pub fn linked(alloc: Global, files: &[Bytes]) -> Result<Vec<u8>, CommandFault>
 {
     read_can_be_written();
     let modules = read_modules(alloc, files)?;
+    linked_are_within_limits();
+    limits_fit();
     match link(alloc, modules.as_slice()) {
-        Ok(output) if is_within_limits(&output.object) => Ok(write_object(alloc, &output.object)?),
-        Ok(_) => Err(CommandFault::Memory),
+        Ok(output) => Ok(write_object(alloc, &output.object)?),
         Err(LinkFault::Memory) => Err(CommandFault::Memory),
         Err(fault) => Err(CommandFault::Together(fault)),
     }

@@ -7,11 +7,11 @@ use Rattle.elf_write.specs.Whole.{IsWhole}
 use Rattle.cfi_aux.specs.Module.{AreSpelled, IsModuleOf}
 use Rattle.cfi_aux.specs.declared.modules.Module.{Module}
 use Rattle.cfi_commands.specs.Reading.{IsModuleFile}
-use Rattle.cfi_file_law.specs.Order.{object_of_file, module_of_file}
-use Rattle.cfi_file_law.proofs.ReadLemmas.{IsFit}
-use Rattle.cfi_file_law.proofs.OrderLemmas.{bytes-same}
-use Rattle.cfi_file_law.proofs.WholeLemmas.{AreFew, whole}
-use Rattle.cfi_file_law.proofs.SpellingLemmas.{spelled-few}
+use Rattle.cfi_made_law.specs.Order.{object_of_file, module_of_file}
+use Rattle.cfi_made_law.proofs.ReadLemmas.{IsFit}
+use Rattle.cfi_made_law.proofs.OrderLemmas.{bytes-same}
+use Rattle.cfi_made_law.proofs.WholeLemmas.{AreFew, whole}
+use Rattle.cfi_made_law.proofs.SpellingLemmas.{spelled-few}
 
 abbrev pub ReadsBack : Type 0
 ReadsBack = (object : Object) → IsWhole object → IsObject (bytes_of object) object

@@ -1,10 +1,3 @@
-pub mod ReadLemmas
-pub mod OrderLemmas
-pub mod WholeLemmas
-pub mod SpellingLemmas
-pub mod InstrLemmas
-pub mod InstrRecordLemmas
 pub mod FileLemmas
-pub mod LinkLemmas
 pub mod LinkFileLemmas
 pub mod ProperLemmas

@@ -21,14 +21,12 @@ use Rattle.cfi_commands.specs.Reading.{IsModuleFile}
 use Rattle.cfi_commands.specs.Modules.{AreModuleFiles}
 use Rattle.cfi_commands.proofs.ModulesLemmas.{each_of}
 use Rattle.cfi_commands.proofs.LinkingLemmas.{linkable}
-use Rattle.cfi_file_law.specs.Order.{by_area, module_of_file}
+use Rattle.cfi_made_law.specs.Order.{by_area, module_of_file}
 use Rattle.cfi_file_law.specs.Saved.{AreBytes}
-use Rattle.cfi_file_law.proofs.ReadLemmas.{IsFit, read-fit}
-use Rattle.cfi_file_law.proofs.OrderLemmas.{by_area-twice}
-use Rattle.cfi_file_law.proofs.LinkLemmas.{IsReadModule}
-
-abbrev pub ReadIsSound : Type 0
-ReadIsSound = (bytes : List ℕ) → (object : Object) → IsObject bytes object → IsSoundObject object
+use Rattle.cfi_made_law.proofs.ReadLemmas.{IsFit, read-fit}
+use Rattle.cfi_made_law.proofs.OrderLemmas.{by_area-twice}
+use Rattle.cfi_made_law.proofs.LinkLemmas.{IsReadModule}
+use Rattle.cfi_made_law.proofs.SourceLemmas.{ReadIsSound, read-source}
 
 pub fit-of : ReadIsSound → (bytes : List ℕ) (m : Module) → AreBytes bytes → IsModuleFile bytes m → IsFit m.object
 fit-of sound bytes m are is =
@@ -40,17 +38,23 @@ sound-of sound bytes m is = record {
   table = is.whole.parts.table;
 }
 
-pub read-modules : ReadIsSound → (files : List (List ℕ)) (modules : List Module) → All AreBytes files
-    → AreModuleFiles files modules → All IsReadModule modules
-read-modules sound files [] all are = All-nil IsReadModule
-read-modules sound [] (m ∷ modules) all are = absurd are
-read-modules sound (bytes ∷ files) (m ∷ modules) all are =
-    All-cons IsReadModule m modules
-    (record {
-      fit = fit-of sound bytes m (All-head AreBytes bytes files all) are.0;
-      records = are.0.whole.parts.good;
-    })
-    (read-modules sound files modules (All-tail AreBytes bytes files all) are.1)
+abbrev HasFit : Module → Type 0
+HasFit m = IsFit m.object
+
+pub fit-modules : ReadIsSound → (files : List (List ℕ)) (modules : List Module) → All AreBytes files
+    → AreModuleFiles files modules → All HasFit modules
+fit-modules sound files [] all are = All-nil HasFit
+fit-modules sound [] (m ∷ modules) all are = absurd are
+fit-modules sound (bytes ∷ files) (m ∷ modules) all are =
+    All-cons HasFit m modules (fit-of sound bytes m (All-head AreBytes bytes files all) are.0)
+    (fit-modules sound files modules (All-tail AreBytes bytes files all) are.1)
+
+pub read-modules : ReadIsSound → (files : List (List ℕ)) (modules : List Module) → AreModuleFiles files modules
+    → All IsReadModule modules
+read-modules sound files modules are =
+    each_of IsReadModule
+    (λ bytes m is. read-source sound m
+    (record { bytes = bytes; object = is.object; is = is.is; whole = is.whole })) files modules are
 
 pub are-modules : ReadIsSound
     → ((types : List Node) (records : Records) → AreRecords types records → CanBeWritten records)

@@ -17,9 +17,9 @@ use Rattle.cfi_place.specs.declared.room.Room.{Room}
 use Rattle.cfi_place.specs.Names.{Names}
 use Rattle.cfi_place.specs.Placed.{IsRoom, IsPlaced}
 use Rattle.cfi_commands.specs.Reading.{IsModuleFile}
-use Rattle.cfi_file_law.specs.Order.{module_of_file}
-use Rattle.cfi_file_law.proofs.OrderLemmas.{all-by_area}
-use Rattle.cfi_file_law.proofs.LinkFileLemmas.{ReadIsSound}
+use Rattle.cfi_made_law.specs.Order.{module_of_file}
+use Rattle.cfi_made_law.proofs.OrderLemmas.{all-by_area}
+use Rattle.cfi_made_law.proofs.SourceLemmas.{ReadIsSound}
 
 same-ok : (r : Result Module AuxFault) (a b : Module) → r ≡ Ok a → r ≡ Ok b → a ≡ b
 same-ok r a b one other = cc

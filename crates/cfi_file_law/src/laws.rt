@@ -1,28 +1,18 @@
 //! What the files that the program saves are read as.
 
 ghost use Rattle.std.specs.Prelude.{ℕ, ◌<◌, ◌^◌, List, length, All};
-ghost use Rattle.cfi_aux.specs.Sound.{IsSoundModule};
-ghost use Rattle.cfi_aux.specs.declared.modules.Module.{Module};
 ghost use Rattle.cfi_aux.specs.declared.placed.Placed.{Placed};
-ghost use Rattle.cfi_instr.specs.Output.{IsInstrumented};
 ghost use Rattle.cfi_instr_law.specs.Proper.{IsProper};
-ghost use Rattle.cfi_link.specs.Linked.{AreModules, Linked};
 ghost use Rattle.cfi_place.specs.declared.room.Room.{Room};
 ghost use Rattle.cfi_place.specs.Names.{Names};
 ghost use Rattle.cfi_commands.specs.Reading.{IsModuleFile};
 ghost use Rattle.cfi_commands.specs.Instrumenting.{IsInstrumentedFile};
 ghost use Rattle.cfi_commands.specs.Linking.{IsLinkedFile};
-ghost use Rattle.cfi_file_law.specs.Order.{module_of_file};
+ghost use Rattle.cfi_made_law.specs.Order.{module_of_file};
 ghost use Rattle.cfi_file_law.specs.Saved.{AreBytes, IsSavedAt};
 
 use cfi_aux::{read_can_be_written, what_is_read_is_sound};
 use elf_write::laws::written_is_read;
-
-/// Instrumenting a sound module makes a sound one.
-pub fn instrumented_are_sound()
-    ensures { (source out : Module) → IsSoundModule source → IsInstrumented source out →
-        IsSoundModule out }
-{}
 
 /// The file that `instrument` saves is read as the module that was made.
 pub fn instrumented_are_read()
@@ -42,12 +32,6 @@ pub fn saved_are_proper()
     instrumented_are_read();
     what_is_read_is_sound();
 }
-
-/// Linking sound modules makes a sound one.
-pub fn linked_are_sound()
-    ensures { (modules : List Module) (output : Module) → AreModules modules →
-        Linked modules output → IsSoundModule output }
-{}
 
 /// The file that `link` saves is read as the module that was made.
 pub fn linked_are_read()

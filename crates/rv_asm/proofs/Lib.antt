@@ -1,4 +1,7 @@
 pub mod SurveyLemmas
+pub mod FormLemmas
+pub mod LineCountLemmas
+pub mod CountLemmas
 pub mod PlacedLemmas
 pub mod DistinctLemmas
 pub mod TableLemmas

@@ -1,6 +1,6 @@
 -- The words that a statement of text makes: one or two. A number is judged by its field, of which the instruction has
 -- the range (RISC-V Unprivileged ISA 20191213, 2.3); what a relocation will fill in is 0.
-use Rattle.std.specs.Prelude.{ℕ, ◌+◌, ◌-◌, ◌/◌, ◌%◌, ◌^◌, ◌==◌, Bool, ◌&&◌, nat_lt, ℤ, pos, negsuc, ◌-ℤ◌, List, ◌++◌, if◌then◌else◌, Option, Some, None, is_some}
+use Rattle.std.specs.Prelude.{ℕ, ◌-◌, ◌%◌, ◌^◌, ◌==◌, Bool, ◌&&◌, nat_lt, ℤ, pos, negsuc, ◌-ℤ◌, List, ◌++◌, if◌then◌else◌, Option, Some, None, is_some}
 use Rattle.std.specs.Int.{w32, to_le_bytes}
 use Rattle.rv_insn.specs.declared.insn.ImmOp.{ImmOp}
 use Rattle.rv_insn.specs.declared.insn.ImmOp.TheVariants.{Addi}

@@ -6,3 +6,4 @@ pub mod Draft
 pub mod Fault
 pub mod Passes
 pub mod Kept
+pub mod Count

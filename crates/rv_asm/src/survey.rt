@@ -1,11 +1,12 @@
 //! The first reading of a source: where its lines stand, and its names.
 
-ghost use Rattle.std.specs.Prelude.{◌≡◌, ◌<◌, ◌≤◌, ◌^◌, length, IfOk, OnOk};
+ghost use Rattle.std.specs.Prelude.{◌≡◌, ◌+◌, ◌<◌, ◌≤◌, ◌^◌, length, Some, IfOk, OnOk};
 ghost use Rattle.cfi_text.specs.Lines.{numbered_lines};
 ghost use Rattle.rv_names.specs.Names.{with_name, with_definition, with_names};
 ghost use Rattle.rv_asm.specs.inner.Passes.{file_of};
 ghost use Rattle.rv_asm.specs.Reference.{reference_of};
 ghost use Rattle.rv_asm.specs.Spot.{pair_label};
+ghost use Rattle.rv_asm.specs.inner.Count.{said_of, count_of};
 ghost use Rattle.rv_asm.specs.Symbols.{definition_at};
 ghost use Rattle.rv_asm.specs.inner.Survey.{with_reference, with_statement, names_of, nothing, with_line, with_lines};
 
@@ -52,6 +53,7 @@ fn definition_at(number: u32, spot: Spot) -> Definition
     }
 }
 
+#[tactic(auto, using(crate::proofs::CountLemmas::definition_more))]
 fn add_pair(
     alloc: Global,
     names: &mut Names,
@@ -59,6 +61,7 @@ fn add_pair(
     spot: Spot,
     name: &Name,
 ) -> Result<(), AllocError>
+    requires { length names.old + 2 < 2 ^ 32 }
     ensures { OnOk result (names.new ≡ with_name
         (with_definition names.old (pair_label spot.pairs) (definition_at number spot)) name.now) }
 {
@@ -68,6 +71,7 @@ fn add_pair(
 }
 
 fn add_names(alloc: Global, names: &mut Names, added: &[Name]) -> Result<(), AllocError>
+    requires { length names.old + length added.now < 2 ^ 32 }
     ensures { OnOk result (names.new ≡ with_names names.old added.now) }
 {
     let mut added = added;
@@ -86,6 +90,7 @@ fn add_statement(
     spot: Spot,
     statement: &Statement,
 ) -> Result<(), AllocError>
+    requires { length names.old + said_of (Some statement.now) < 2 ^ 32 }
     ensures { OnOk result (names.new ≡ with_statement names.old number spot statement.now) }
 {
     match statement {
@@ -102,6 +107,7 @@ fn add_statement(
 }
 
 fn add_reference(alloc: Global, names: &mut Names, statement: &Statement) -> Result<(), AllocError>
+    requires { length names.old + 1 < 2 ^ 32 }
     ensures { OnOk result (names.new ≡ with_reference names.old (reference_of statement.now)) }
 {
     match reference_of(statement) {
@@ -111,6 +117,7 @@ fn add_reference(alloc: Global, names: &mut Names, statement: &Statement) -> Res
 }
 
 // Adds the names of a line: its label, then those of its statement.
+#[tactic(auto, using(crate::proofs::CountLemmas::definition_more))]
 fn add_line(
     alloc: Global,
     names: &mut Names,
@@ -118,6 +125,7 @@ fn add_line(
     spot: Spot,
     line: &Line,
 ) -> Result<(), AllocError>
+    requires { length names.old + count_of line.now < 2 ^ 32 }
     ensures { OnOk result (names.new ≡ names_of names.old number spot line.now) }
 {
     if let Some(label) = &line.label {
@@ -145,6 +153,7 @@ impl Survey {
 
     /// Takes the line of this number.
     pub fn take(&mut self, alloc: Global, number: u32, line: Line) -> Result<(), AllocError>
+        requires { length self.old.names + count_of line < 2 ^ 32 }
         ensures { OnOk result (self.new ≡ with_line self.old number line) }
     {
         add_line(alloc, &mut self.names, number, self.spot, &line)?;
@@ -181,15 +190,16 @@ impl Survey {
 
 /// What all lines of a text say; it has at most as many lines as bytes.
 pub fn survey_of(alloc: Global, text: &[u8]) -> Result<Survey, AllocError>
-    requires { length text.now < 2 ^ 32 }
+    requires { length text.now + 1 < 2 ^ 32 }
     ensures same { IfOk result (λ survey. survey ≡ with_lines nothing (numbered_lines text.now)) }
     ensures few { IfOk result (λ survey. length survey.rows ≤ length text.now) }
 {
     read_all(alloc, text)
 }
 
+#[tactic(auto, using(crate::proofs::CountLemmas::line_more, crate::proofs::LineCountLemmas::line_few, crate::proofs::CountLemmas::text_left))]
 fn read_all(alloc: Global, text: &[u8]) -> Result<Survey, AllocError>
-    requires { length text.now < 2 ^ 32 }
+    requires { length text.now + 1 < 2 ^ 32 }
     ensures { IfOk result (λ survey. survey ≡ with_lines nothing (numbered_lines text.now)) }
 {
     let mut survey = Survey::new(alloc);

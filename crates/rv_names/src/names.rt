@@ -1,6 +1,6 @@
 //! The names of a source.
 
-ghost use Rattle.std.specs.Prelude.{◌≡◌, ◌++◌, ◌∷◌, [], length, List, ℕ, Some, None, if◌then◌else◌, IfOk, OnOk, OnErr, map};
+ghost use Rattle.std.specs.Prelude.{◌≡◌, ◌+◌, ◌^◌, ◌<◌, ◌++◌, ◌∷◌, [], length, List, ℕ, Some, None, if◌then◌else◌, IfOk, OnOk, OnErr, map};
 ghost use Rattle.std.specs.BTreeMap.{get_by_text};
 ghost use Rattle.std.specs.Option.{option_or};
 ghost use Rattle.std.specs.Str.{bytes_eq};
@@ -163,15 +163,13 @@ impl Names {
         }
     }
 
-    /// Adds an entry at the end. More than 2^32 - 1 are want of memory.
+    /// Adds an entry at the end.
     pub fn push(&mut self, alloc: Global, entry: Entry) -> Result<(), AllocError>
+        requires { length self.old + 1 < 2 ^ 32 }
         ensures ok { OnOk result (self.new ≡ self.old ++ entry ∷ []) }
         ensures err { OnErr result (self.new ≡ self.old) }
     {
         let number = self.entries.len();
-        if number >= u32::MAX as usize {
-            return Err(AllocError);
-        }
         self.entries.reserve(1)?;
         give_number(alloc, &mut self.numbers, entry.name.as_str(), number as u32)?;
         self.entries.push_reserved(entry);
@@ -180,6 +178,7 @@ impl Names {
 
     // The place of a name's entry, which is added where there is none.
     fn place_of(&mut self, alloc: Global, name: &str) -> Result<usize, AllocError>
+        requires { length self.old + 1 < 2 ^ 32 }
         ensures ok { OnOk result (self.new ≡ with_name self.old name.now) }
         ensures place { IfOk result (λ place. number_in self.new name.now ≡ Some place) }
         ensures err { OnErr result (self.new ≡ self.old) }
@@ -199,6 +198,7 @@ impl Names {
 
     /// A name occurs.
     pub fn mention(&mut self, alloc: Global, name: &str) -> Result<(), AllocError>
+        requires { length self.old + 1 < 2 ^ 32 }
         ensures ok { OnOk result (self.new ≡ with_name self.old name.now) }
         ensures err { OnErr result (self.new ≡ self.old) }
     {
@@ -213,6 +213,7 @@ impl Names {
         name: &str,
         definition: Definition,
     ) -> Result<(), AllocError>
+        requires { length self.old + 1 < 2 ^ 32 }
         ensures ok { OnOk result (self.new ≡ with_definition self.old name.now definition) }
         ensures err { OnErr result (self.new ≡ self.old) }
     {
@@ -223,6 +224,7 @@ impl Names {
 
     /// A name is seen by other objects.
     pub fn export(&mut self, alloc: Global, name: &str) -> Result<(), AllocError>
+        requires { length self.old + 1 < 2 ^ 32 }
         ensures ok { OnOk result (self.new ≡ with_export self.old name.now) }
         ensures err { OnErr result (self.new ≡ self.old) }
     {

@@ -1,6 +1,6 @@
 -- What the two passes over the lines of a source come to: the first one surveys them, the second one drafts, line by
 -- line, or has the least fault of the first faulty line.
-use Rattle.std.specs.Prelude.{◌≡◌, ℕ, ◌+◌, nat_lt, List, [], ◌∷◌, ◌++◌, length, map, if◌then◌else◌, Option, Some, None, is_some, Result, Ok, Err}
+use Rattle.std.specs.Prelude.{ℕ, ◌+◌, nat_lt, List, [], ◌∷◌, ◌++◌, length, map, if◌then◌else◌, Option, Some, None, is_some, Result, Ok, Err}
 use Rattle.cfi_text.specs.Lines.{numbered_lines}
 use Rattle.cfi_types.specs.Spelling.{spelling as types_spelling}
 use Rattle.cfi_aux.specs.Records.{spelling as records_spelling}

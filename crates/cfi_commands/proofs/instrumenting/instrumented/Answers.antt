@@ -1,6 +1,6 @@
 use Rattle.std.proofs.lemmas.Result.{err_from_is_err_and}
 use Rattle.cfi_types.proofs.Tables.{small_count, small_fields}
-use Rattle.cfi_commands.proofs.InstrumentingLemmas.{short_text, few_relocs, module_as_instrument}
+use Rattle.cfi_commands.proofs.InstrumentingLemmas.{short_text, few_relocs, read-of, module_as_instrument}
 use Rattle.cfi_commands.proofs.instrumenting.instrumented.Goals as goal
 
 -- the parts of what was read can be counted
@@ -15,6 +15,18 @@ instrument-requires c =
       written = c.read_can_be_written.ensures unplaced.types unplaced.records file.whole.parts.good;
       text = short_text c.args.bytes.now unplaced file;
       relocs = few_relocs c.args.bytes.now unplaced file;
+    }
+
+-- the object is within the limits of a file
+pub write_object-requires : goal.write_object-requires
+write_object-requires c =
+    let source = c.in_ok-unplaced.unplaced in
+    let out = c.in-Ok.out in
+    let file = c.in_ok-unplaced.ensures.ok in
+    record {
+      writable = c.limits_fit.ensures.writable out.object
+          (c.instrumented_are_within_limits.ensures source out (read-of c.args.bytes.now source file)
+          c.in-Ok.ensures.ok);
     }
 
 -- the file is no module

@@ -1,6 +1,10 @@
-use Rattle.std.proofs.Common.{sym, subst}
+use Rattle.std.proofs.Common.{List, sym, subst}
 use Rattle.std.proofs.lemmas.Result.{err_from_is_err_and}
-use Rattle.cfi_link.specs.Linked.{AreModules}
+use Rattle.cfi_aux.specs.declared.modules.Module.{Module}
+use Rattle.cfi_link.specs.Linked.{AreModules, Linked}
+use Rattle.cfi_made_law.specs.Read.{IsReadOf}
+use Rattle.cfi_commands.proofs.InstrumentingLemmas.{read-of}
+use Rattle.cfi_commands.proofs.ModulesLemmas.{each_of}
 use Rattle.cfi_commands.proofs.LinkingLemmas.{linkable, modules_as_linking}
 use Rattle.cfi_commands.proofs.linking.linked.Goals as goal
 
@@ -11,6 +15,21 @@ link-requires c =
     subst AreModules (sym c.as_slice.ensures)
     (linkable c.args.files.now c.in_ok-modules.modules read.ok c.requires.count read.sound
     c.read_can_be_written.ensures)
+
+-- the object is within the limits of a file
+pub write_object-requires : goal.write_object-requires
+write_object-requires c =
+    let files = c.args.files.now in
+    let read = c.in_ok-modules.ensures in
+    let modules = c.in_ok-modules.modules in
+    let output = c.in-Ok.output in
+    let are = linkable files modules read.ok c.requires.count read.sound c.read_can_be_written.ensures in
+    let linked = subst (λ (ms : List Module). Linked ms output) c.as_slice.ensures c.in-Ok.ensures.ok in
+    record {
+      writable = c.limits_fit.ensures.writable output.object
+          (c.linked_are_within_limits.ensures modules output (each_of IsReadOf read-of files modules read.ok) are
+          linked);
+    }
 
 -- a file is no module
 pub returns-in_err-modules-clause-fault : goal.returns-in_err-modules-clause-fault

@@ -1,9 +1,9 @@
 use Rattle.std.proofs.Common.{List, ℕ, sym, subst}
 use Rattle.cfi_commands.specs.Reading.{IsModuleFile}
-use Rattle.cfi_file_law.specs.Order.{module_of_file}
-use Rattle.cfi_file_law.proofs.ReadLemmas.{IsFit, read-fit}
-use Rattle.cfi_file_law.proofs.InstrLemmas.{object-fits}
-use Rattle.cfi_file_law.proofs.InstrRecordLemmas.{spelled}
+use Rattle.cfi_made_law.specs.Order.{module_of_file}
+use Rattle.cfi_made_law.proofs.ReadLemmas.{IsFit, read-fit}
+use Rattle.cfi_made_law.proofs.InstrLemmas.{object-fits}
+use Rattle.cfi_made_law.proofs.InstrRecordLemmas.{spelled}
 use Rattle.cfi_file_law.proofs.FileLemmas.{module-file}
 use Rattle.cfi_file_law.proofs.laws.instrumented_are_read.Goals as goal
 

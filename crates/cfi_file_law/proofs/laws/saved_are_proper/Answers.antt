@@ -1,7 +1,7 @@
 use Rattle.std.proofs.Common.{subst}
 use Rattle.cfi_aux.specs.declared.modules.Module.{Module}
 use Rattle.cfi_place.specs.Placed.{IsPlaced}
-use Rattle.cfi_file_law.specs.Order.{module_of_file}
+use Rattle.cfi_made_law.specs.Order.{module_of_file}
 use Rattle.cfi_file_law.proofs.ProperLemmas.{one-module, some-word, proper}
 use Rattle.cfi_file_law.proofs.laws.saved_are_proper.Goals as goal
 

@@ -1,4 +1,4 @@
-use Rattle.std.proofs.Common.{◌≡◌, ◌++◌, ◌∷◌, [], length, refl, arith, length-append}
+use Rattle.std.proofs.Common.{◌≡◌, ◌++◌, ◌∷◌, [], length, refl, ap, arith, length-append}
 use Rattle.std.proofs.lemmas.Grind.{common_steps}
 use Rattle.rv_names.proofs.NamesLemmas.{number_in-push}
 use Rattle.rv_names.proofs.names.Names.push.Goals as goal
@@ -19,5 +19,5 @@ invariant_of-self-2 c =
         number_in-push table c.args.entry q,
         count,
       ) refl;
-      count = rw pushed (omega arith);
+      count = rw pushed (omega (arith, ap length c.self.view_is, c.requires));
     }

@@ -30,7 +30,7 @@ use Rattle.cfi_instr.proofs.SizeLemmas.{total-grows, offset-read, offset-past}
 use Rattle.cfi_instr_law.proofs.BytesLemmas.{length-spelled}
 use Rattle.cfi_instr_law.proofs.ItemLemmas.{place-item, begins-within}
 use Rattle.cfi_instr_law.proofs.MovedLemmas.{reloc-fits, goes-well}
-use Rattle.cfi_file_law.proofs.ReadLemmas.{IsFit}
+use Rattle.cfi_made_law.proofs.ReadLemmas.{IsSmall, IsFit}
 
 -- ---- kinds
 
@@ -290,8 +290,8 @@ module _ (source out : Module) (made : IsInstrumented source out) where
       addend-area reloc.area _ reloc
       (addend-symbol (named_symbol source.object.symbols reloc) reloc.addend fits)
 
-  pub object-fits : IsFit source.object → IsFit out.object
-  object-fits is = record {
+  pub object-small : IsSmall source.object → IsSmall out.object
+  object-small is = record {
     sound = object-sound is.sound;
     text = omega (arith, text-length, made.fits);
     static_data = omega (arith, data-length, is.static_data);
@@ -302,6 +302,11 @@ module _ (source out : Module) (made : IsInstrumented source out) where
       length-map source.object.relocs goes,
       is.relocs,
     );
+  }
+
+  pub object-fits : IsFit source.object → IsFit out.object
+  object-fits is = record {
+    small = object-small is.small;
     values = subst (λ (xs : List Symbol). All (λ s. s.value < 2 ^ 32) xs) (sym symbols)
         (All-map (λ s. s.value < 2 ^ 32) moves source.object.symbols
         (All-weaker (λ s. s.value < 2 ^ 32) (λ s. (moves s).value < 2 ^ 32)

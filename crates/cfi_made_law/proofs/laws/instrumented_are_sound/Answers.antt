@@ -1,7 +1,7 @@
 use Rattle.std.proofs.Common.{sym, subst}
 use Rattle.cfi_types.specs.Spelling.{AreTypes}
-use Rattle.cfi_file_law.proofs.InstrLemmas.{object-sound}
-use Rattle.cfi_file_law.proofs.laws.instrumented_are_sound.Goals as goal
+use Rattle.cfi_made_law.proofs.InstrLemmas.{object-sound}
+use Rattle.cfi_made_law.proofs.laws.instrumented_are_sound.Goals as goal
 
 pub returns : goal.returns
 returns c source out sound made = record {

@@ -23,7 +23,7 @@ use Rattle.cfi_instr.specs.Moves.{moved_function, moved_kind}
 use Rattle.cfi_instr.specs.Output.{IsInstrumented}
 use Rattle.cfi_instr_law.proofs.ItemLemmas.{item-some}
 use Rattle.cfi_instr_law.proofs.BoundLemmas.{bound-moved, IsFormed, formed-at}
-use Rattle.cfi_file_law.proofs.InstrLemmas.{t, long, offsets, sound, same, grows, IsPlace, moved-place}
+use Rattle.cfi_made_law.proofs.InstrLemmas.{t, long, offsets, sound, same, grows, IsPlace, moved-place}
 
 module _ (source out : Module) (made : IsInstrumented source out) where
   abbrev words : Words

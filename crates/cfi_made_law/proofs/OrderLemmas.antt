@@ -13,7 +13,7 @@ use Rattle.elf_write.specs.Contents.{is_text_area, is_data_area, is_in, rela_ent
 use Rattle.elf_write.specs.declared.part.Part.{Part}
 use Rattle.elf_write.specs.declared.part.Part.TheVariants.{Null, Text, Data, Types, Records, TextRelas, DataRelas, Symbols, SymbolNames, SectionNames}
 use Rattle.elf_write.specs.File.{sections_of, contents_of, padded, body_of, link_of, info_of_part, section_place, part_header, header_of, bytes_of}
-use Rattle.cfi_file_law.specs.Order.{by_area, object_of_file}
+use Rattle.cfi_made_law.specs.Order.{by_area, object_of_file}
 
 -- ---- filters
 

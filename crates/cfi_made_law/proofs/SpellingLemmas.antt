@@ -21,7 +21,7 @@ use Rattle.cfi_aux.proofs.Branches.{few_words}
 use Rattle.elf_read.specs.declared.object.Object.{Object}
 use Rattle.elf_write.specs.declared.limits.TheConstants.{MAX_TYPES, MAX_RECORDS}
 use Rattle.elf_write.specs.File.{bytes_or_none}
-use Rattle.cfi_file_law.proofs.WholeLemmas.{AreFew}
+use Rattle.cfi_made_law.proofs.WholeLemmas.{AreFew}
 
 words-length : (ns : List ℕ) → length (flat_map word ns) ≡ 4 * length ns
 words-length [] = refl

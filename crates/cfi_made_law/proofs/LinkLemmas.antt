@@ -41,7 +41,7 @@ use Rattle.cfi_link.proofs.OutputLemmas.{length-in_order}
 use Rattle.cfi_link.proofs.SoundLemmas.{all_enumerated, sound_all}
 use Rattle.cfi_link.proofs.MadeLemmas.{sound_made}
 use Rattle.cfi_link.proofs.TextSizeLemmas.{text_size}
-use Rattle.cfi_file_law.proofs.ReadLemmas.{IsFit}
+use Rattle.cfi_made_law.proofs.ReadLemmas.{IsSmall, IsFit}
 
 -- ---- nodes
 
@@ -107,21 +107,22 @@ HasAddend r = FitsSigned w32 r.addend
 
 record AreKept (joined : Joined) : Type 0 where
   pub words : length joined.text % 4 ≡ 0
-  pub far : All HasFar joined.symbols
-  pub addends : All (λ own. HasAddend own.reloc) joined.relocs
   pub functions : All (IsFunction joined.types) joined.functions
   pub branches : All (IsBranch joined.types) joined.branches
 
--- a module as it is read
+-- and their symbols and relocations
+record AreFit (joined : Joined) : Type 0 where
+  pub far : All HasFar joined.symbols
+  pub addends : All (λ own. HasAddend own.reloc) joined.relocs
+
+-- a module whose text is of whole words, with records that are good
 pub record IsReadModule (m : Module) : Type 0 where
-  pub fit : IsFit m.object
+  pub words : length m.object.text % 4 ≡ 0
   pub records : AreRecords m.types m.records
 
 kept-none : AreKept nothing
 kept-none = record {
   words = refl;
-  far = All-nil HasFar;
-  addends = All-nil (λ (own : OwnReloc). HasAddend own.reloc);
   functions = All-nil (IsFunction []);
   branches = All-nil (IsBranch []);
 }
@@ -218,16 +219,8 @@ kept-more joined m kept is room =
         arith,
         length-append joined.text m.object.text,
         kept.words,
-        is.fit.sound.words,
+        is.words,
       );
-      far = All-append HasFar joined.symbols (map (symbol_at start) m.object.symbols) kept.far
-          (All-map HasFar (symbol_at start) m.object.symbols
-          (All-weaker (λ (s : Symbol). s.value < 2 ^ 32) (λ s. HasFar (symbol_at start s))
-          (λ s small. far-at start s.place s.value (far-from s.place s.value small)) m.object.symbols is.fit.values));
-      addends = All-append (λ own. HasAddend own.reloc) joined.relocs
-          (map (own_reloc_at start joined.count) (enumerate_from 0 m.object.relocs)) kept.addends
-          (All-map (λ own. HasAddend own.reloc) (own_reloc_at start joined.count) (enumerate_from 0 m.object.relocs)
-          (all_enumerated (λ r. HasAddend (reloc_at start r)) 0 m.object.relocs is.fit.addends));
       functions = All-append (IsFunction all) joined.functions (map (function_at start) m.records.functions)
           (All-weaker (IsFunction old) (IsFunction all) (function-left old (map (node_at start) more))
           joined.functions kept.functions)
@@ -254,6 +247,31 @@ kept-fold (m ∷ modules) joined kept all limit =
     (kept-more joined m kept (All-head IsReadModule m modules all)
     (omega (arith, lengths.types, below.types, limit)))
     (All-tail IsReadModule m modules all) limit
+
+fit-more : (joined : Joined) (m : Module) → AreFit joined → IsFit m.object → AreFit (with_module joined m)
+unfolding with_module
+fit-more joined m kept is =
+    let start = start_of joined in
+    record {
+      far = All-append HasFar joined.symbols (map (symbol_at start) m.object.symbols) kept.far
+          (All-map HasFar (symbol_at start) m.object.symbols
+          (All-weaker (λ (s : Symbol). s.value < 2 ^ 32) (λ s. HasFar (symbol_at start s))
+          (λ s small. far-at start s.place s.value (far-from s.place s.value small)) m.object.symbols is.values));
+      addends = All-append (λ own. HasAddend own.reloc) joined.relocs
+          (map (own_reloc_at start joined.count) (enumerate_from 0 m.object.relocs)) kept.addends
+          (All-map (λ own. HasAddend own.reloc) (own_reloc_at start joined.count) (enumerate_from 0 m.object.relocs)
+          (all_enumerated (λ r. HasAddend (reloc_at start r)) 0 m.object.relocs is.addends));
+    }
+
+fit-none : AreFit nothing
+fit-none = record { far = All-nil HasFar; addends = All-nil (λ (own : OwnReloc). HasAddend own.reloc) }
+
+fit-fold : (modules : List Module) (joined : Joined) → AreFit joined → All (λ m. IsFit m.object) modules
+    → AreFit (fold with_module joined modules)
+fit-fold [] joined kept all = kept
+fit-fold (m ∷ modules) joined kept all =
+    fit-fold modules (with_module joined m) (fit-more joined m kept (All-head (λ n. IsFit n.object) m modules all))
+    (All-tail (λ n. IsFit n.object) m modules all)
 
 -- ---- the output
 
@@ -328,23 +346,15 @@ module _ (modules : List Module) (are : AreModules modules) (output : Module) (l
       let sound = sound_all modules are.sound are.written are.count none in
       sound_made joined output sound none (text_size joined output.object.text sound.words linked.made.text) linked.made
 
-  pub linked-fits : All IsReadModule modules → IsFit output.object
-  linked-fits all =
+  pub linked-small : IsSmall output.object
+  linked-small =
       let limits = few (sizes_of joined) none in
-      let kept = kept-fold modules nothing kept-none all limits.types in
       let sound = sound_all modules are.sound are.written are.count none in
       let made = linked.made in
-      let size = text_size joined output.object.text sound.words made.text in
-      let text : length output.object.text ≤ 4 * MAX_WORDS = omega (arith, size, limits.text) in
-      let static_data : length output.object.static_data ≤ MAX_DATA =
-      omega (arith, ap length made.static_data, limits.static_data) in
-      let far : All HasFar output.object.symbols =
-      subst (λ (xs : List Symbol). All HasFar xs) (sym made.symbols)
-      (far-kept (chosen_in joined.symbols) joined.symbols kept.far) in
       record {
         sound = linked-sound.object_sound;
-        text = text;
-        static_data = static_data;
+        text = omega (arith, text_size joined output.object.text sound.words made.text, limits.text);
+        static_data = omega (arith, ap length made.static_data, limits.static_data);
         symbols = omega (
           arith,
           ap length made.symbols,
@@ -357,8 +367,19 @@ module _ (modules : List Module) (are : AreModules modules) (output : Module) (l
           relocs-few (reaches_of (chosen_in joined.symbols) joined.symbols) (numbers_of joined.symbols) joined.relocs,
           limits.relocs,
         );
+      }
+
+  pub linked-fits : All (λ m. IsFit m.object) modules → IsFit output.object
+  linked-fits all =
+      let kept = fit-fold modules nothing fit-none all in
+      let made = linked.made in
+      let far : All HasFar output.object.symbols =
+      subst (λ (xs : List Symbol). All HasFar xs) (sym made.symbols)
+      (far-kept (chosen_in joined.symbols) joined.symbols kept.far) in
+      record {
+        small = linked-small;
         values = λ k d inside.
-            small-from output.object _ _ text static_data
+            small-from output.object _ _ linked-small.text linked-small.static_data
             (linked-sound.object_sound.symbols k d inside).inside (far k d inside);
         addends = subst (λ (xs : List Reloc). All HasAddend xs) (sym made.relocs)
             (addends-kept (reaches_of (chosen_in joined.symbols) joined.symbols) (numbers_of joined.symbols)

@@ -27,13 +27,17 @@ use Rattle.elf_write.proofs.ListLemmas.{total-length, count-length}
 use Rattle.cfi_aux.proofs.JoinedLists.{joined_all, text_length, text_fours, data_length}
 use Rattle.cfi_aux.proofs.SoundRelocs.{symbols_length}
 
--- an object that breaks no rule and passes no limit, whose values and addends have words
-pub record IsFit (object : Object) : Type 0 where
+-- an object that breaks no rule and passes no limit, but for its two sections
+pub record IsSmall (object : Object) : Type 0 where
   pub sound : IsSoundObject object
   pub text : length object.text ≤ 4 * MAX_WORDS
   pub static_data : length object.static_data ≤ MAX_DATA
   pub symbols : length object.symbols ≤ MAX_SYMBOLS
   pub relocs : length object.relocs ≤ MAX_RELOCS
+
+-- and whose values and addends have words
+pub record IsFit (object : Object) : Type 0 where
+  pub small : IsSmall object
   pub values : All (λ s. s.value < 2 ^ 32) object.symbols
   pub addends : All (λ r. FitsSigned w32 r.addend) object.relocs
 
@@ -78,21 +82,21 @@ kept-small bytes k are sound within kept = elim (cases_Bool (is_in_section bytes
   | inr outside ↦ rw outside (entry-small bytes k are)
 ]
 
-abbrev IsSmall : Symbol → Type 0
-IsSmall s = s.value < 2 ^ 32
+abbrev IsLow : Symbol → Type 0
+IsLow s = s.value < 2 ^ 32
 
-value-of : (bytes : List ℕ) (k : ℕ) → kept_value bytes k < 2 ^ 32 → IsSmall (kept_symbol bytes k)
+value-of : (bytes : List ℕ) (k : ℕ) → kept_value bytes k < 2 ^ 32 → IsLow (kept_symbol bytes k)
 unfolding kept_symbol
 value-of bytes k small = small
 
 one-small : (bytes : List ℕ) (k : ℕ) → IsBytes bytes → IsSound bytes → k < symbol_count bytes
-    → All IsSmall (symbols_of bytes k)
+    → All IsLow (symbols_of bytes k)
 unfolding symbols_of
 one-small bytes k are sound within = ⊎_elim
-    (λ (out : is_left_out bytes k ≡ true). rw out (All-nil IsSmall))
+    (λ (out : is_left_out bytes k ≡ true). rw out (All-nil IsLow))
     (λ (kept : is_left_out bytes k ≡ false). rw kept
-    (All-cons IsSmall (kept_symbol bytes k) [] (value-of bytes k (kept-small bytes k are sound within kept))
-    (All-nil IsSmall)))
+    (All-cons IsLow (kept_symbol bytes k) [] (value-of bytes k (kept-small bytes k are sound within kept))
+    (All-nil IsLow)))
     (cases_Bool (is_left_out bytes k))
 
 -- ---- addends
@@ -136,10 +140,8 @@ relocs-count bytes =
     (λ s within. count-length (λ i. not (is_dropped (kind_of (rela_at bytes s i)))) (reloc_of bytes s)
     (rela_count bytes s) (λ i entry. one-or-none bytes s i))
 
-pub read-fit : (bytes : List ℕ) (object : Object) → All (λ b. b < 256) bytes → IsObject bytes object
-    → IsSoundObject object → IsFit object
-read-fit bytes object all is sound =
-    let are = are-bytes bytes all in
+pub read-small : (bytes : List ℕ) (object : Object) → IsObject bytes object → IsSoundObject object → IsSmall object
+read-small bytes object is sound =
     let text = ap (λ (xs : List ℕ). length xs) is.kept.text ∙ text_length bytes is.sound in
     let bytes_of_data = ap (λ (xs : List ℕ). length xs) is.kept.static_data
     ∙ data_length bytes (section_count bytes) is.sound (omega arith) in
@@ -156,8 +158,16 @@ read-fit bytes object all is sound =
       static_data = omega (arith, bytes_of_data, is.sound.data_size);
       symbols = omega (arith, symbols, is.sound.symbols);
       relocs = omega (arith, relocs, is.sound.relocs);
-      values = subst (λ (xs : List Symbol). All IsSmall xs) (sym is.kept.symbols)
-          (joined_all IsSmall (symbols_of bytes) (symbol_count bytes)
+    }
+
+pub read-fit : (bytes : List ℕ) (object : Object) → All (λ b. b < 256) bytes → IsObject bytes object
+    → IsSoundObject object → IsFit object
+read-fit bytes object all is sound =
+    let are = are-bytes bytes all in
+    record {
+      small = read-small bytes object is sound;
+      values = subst (λ (xs : List Symbol). All IsLow xs) (sym is.kept.symbols)
+          (joined_all IsLow (symbols_of bytes) (symbol_count bytes)
           (λ k within. one-small bytes k are is.sound within));
       addends = subst (λ (xs : List Reloc). All IsShort xs) (sym is.kept.relocs)
           (joined_all IsShort (relocs_of bytes) (section_count bytes) (λ s within. section-short bytes s are));

@@ -25,9 +25,9 @@ use Rattle.elf_write.specs.Contents.{no_symbol, symbol_number, info_of}
 use Rattle.elf_write.specs.File.{bytes_or_none}
 use Rattle.elf_write.specs.Limits.{IsWithinLimits}
 use Rattle.elf_write.specs.Whole.{is_definition, HasName, HasPlace, greatest_value, bytes_in, IsOfArea, IsGoodSymbol, DefineOnce, IsGoodReloc, IsWhole}
-use Rattle.cfi_file_law.specs.Order.{object_of_file}
-use Rattle.cfi_file_law.proofs.ReadLemmas.{IsFit}
-use Rattle.cfi_file_law.proofs.OrderLemmas.{by_area-twice, length-by_area, all-by_area}
+use Rattle.cfi_made_law.specs.Order.{object_of_file}
+use Rattle.cfi_made_law.proofs.ReadLemmas.{IsSmall, IsFit}
+use Rattle.cfi_made_law.proofs.OrderLemmas.{by_area-twice, length-by_area, all-by_area}
 
 -- ---- kinds
 
@@ -125,7 +125,7 @@ pub record AreFew (object : Object) : Type 0 where
 both : (P Q R : Reloc → Type 0) → ((r : Reloc) → P r → Q r → R r) → (rs : List Reloc) → All P rs → All Q rs → All R rs
 both P Q R give rs ps qs k d inside = give _ (ps k d inside) (qs k d inside)
 
-pub limits : (object : Object) → IsFit object → AreFew object → IsWithinLimits object
+pub limits : (object : Object) → IsSmall object → AreFew object → IsWithinLimits object
 limits object fit few = record {
   text = fit.text;
   static_data = fit.static_data;
@@ -141,7 +141,7 @@ limits object fit few = record {
 
 pub whole : (object : Object) → IsFit object → AreFew object → IsWhole (object_of_file object)
 whole object fit few =
-    let within = limits object fit few in
+    let within = limits object fit.small few in
     record {
       limits = record {
         text = within.text;
@@ -153,12 +153,12 @@ whole object fit few =
         names = within.names;
         infos = all-by_area (λ r. info_of r < 2 ^ 32) object.relocs within.infos;
       };
-      words = fit.sound.words;
+      words = fit.small.sound.words;
       symbols = λ k d inside.
-          good-symbol object _ (fit.sound.symbols k d inside) (fit.values k d inside);
-      apart = apart object.symbols fit.sound.definitions;
+          good-symbol object _ (fit.small.sound.symbols k d inside) (fit.values k d inside);
+      apart = apart object.symbols fit.small.sound.definitions;
       relocs = all-by_area (IsGoodReloc (object_of_file object)) object.relocs
           (both (IsSoundReloc object) (λ r. FitsSigned w32 r.addend) (IsGoodReloc (object_of_file object))
-          (good-reloc object) object.relocs fit.sound.relocs fit.addends);
+          (good-reloc object) object.relocs fit.small.sound.relocs fit.addends);
       order = by_area-twice object.relocs;
     }

@@ -1,0 +1,42 @@
+//! Laws of what instrumenting and linking make.
+
+ghost use Rattle.std.specs.Prelude.{ℕ, List, All};
+ghost use Rattle.elf_read.specs.Fault.{IsObject};
+ghost use Rattle.elf_read.specs.declared.object.Object.{Object};
+ghost use Rattle.elf_write.specs.Limits.{IsWithinLimits};
+ghost use Rattle.cfi_aux.specs.Module.{IsModuleOf};
+ghost use Rattle.cfi_aux.specs.Sound.{IsSoundModule};
+ghost use Rattle.cfi_aux.specs.declared.modules.Module.{Module};
+ghost use Rattle.cfi_instr.specs.Output.{IsInstrumented};
+ghost use Rattle.cfi_link.specs.Linked.{AreModules, Linked};
+ghost use Rattle.cfi_made_law.specs.Read.{IsReadOf};
+
+use cfi_aux::what_is_read_is_sound;
+
+/// Instrumenting a sound module makes a sound one.
+pub fn instrumented_are_sound()
+    ensures { (source out : Module) → IsSoundModule source → IsInstrumented source out →
+        IsSoundModule out }
+{}
+
+/// Linking sound modules makes a sound one.
+pub fn linked_are_sound()
+    ensures { (modules : List Module) (output : Module) → AreModules modules →
+        Linked modules output → IsSoundModule output }
+{}
+
+/// What is made by instrumenting a module that was read of a file is within the limits of a written one.
+pub fn instrumented_are_within_limits()
+    ensures { (source out : Module) → IsReadOf source → IsInstrumented source out →
+        IsWithinLimits out.object }
+{
+    what_is_read_is_sound();
+}
+
+/// What is made by linking modules that were read of files is within the limits of a written one.
+pub fn linked_are_within_limits()
+    ensures { (modules : List Module) (output : Module) → All IsReadOf modules →
+        AreModules modules → Linked modules output → IsWithinLimits output.object }
+{
+    what_is_read_is_sound();
+}
