@@ -1,19 +1,27 @@
 //! The program `cfi`: the words of the command line, the files of the current folder and standard output, for `top`.
 //!
 //! Stands on `cfi_top` and `cfi_io`. Proved: that it is safe. What it does is the contract of `top`; what the real
-//! files and the real output hold is not claimed. Only tested: what it says on standard error.
+//! files and the real output hold is not claimed. Only tested, by `.ci/statuses` and by what `.ci/run` types: the words
+//! and the status that it hands on, and what it says on standard error.
 #![tactic(auto)]
 
 use cfi_io::{DirShelf, QuietGate, StdSink};
 use cfi_top::{MEMORY, NO_FILE, READ_FAULT, WRITE_FAULT, top};
+use std::io::ErrorKind;
 use std::process::ExitCode;
 use std::{env, io};
 
-// The words after the program's name.
+// The words after the program's name. A word that is no text fits no command, and nor do no words.
 fn words_of(rt: &HostRuntime) -> io::Result<Vec<String>> {
     let mut words = Vec::new(rt.alloc());
-    for word in env::args(rt)?.skip(1) {
-        words.push(word)?;
+    match env::args(rt) {
+        Ok(found) => {
+            for word in found.skip(1) {
+                words.push(word)?;
+            }
+        }
+        Err(error) if error.kind() == ErrorKind::InvalidData => {}
+        Err(error) => return Err(error),
     }
     Ok(words)
 }
