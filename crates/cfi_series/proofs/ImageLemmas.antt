@@ -1,10 +1,10 @@
 -- Modules that were loaded one after the other have an image, and each image of them is closed.
-use Rattle.std.proofs.Common.{◌≡◌, ◌≢◌, ℕ, ◌+◌, ◌-◌, ◌*◌, ◌<◌, ◌≤◌, ◌++◌, List, [], ◌∷◌, length, drop, replicate, get_or, slice_index, Some, All, refl, ap, sym, subst, ◌∙◌, ⊎_elim, arith, length-append}
+use Rattle.std.proofs.Common.{◌≡◌, ◌≢◌, ℕ, ◌+◌, ◌-◌, ◌*◌, ◌<◌, ◌≤◌, ◌++◌, List, [], ◌∷◌, length, take, drop, replicate, get_or, slice_index, Some, All, refl, ap, sym, subst, ◌∙◌, ⊎_elim, arith, length-append}
 use Rattle.std.specs.List.{Contains, flat_map, slice_get}
 use Rattle.std.proofs.lemmas.Bool.{cases_lt, false≢true}
-use Rattle.std.proofs.lemmas.List.{get_or_past}
+use Rattle.std.proofs.lemmas.List.{get_or_past, take-append-drop}
 use Rattle.std.proofs.lemmas.List.Concat.{flat_map-append}
-use Rattle.std.proofs.lemmas.List.Elements.{All-head, All-tail, All-get_or, recursion_from_All, All-from_recursion, Contains-get_or}
+use Rattle.std.proofs.lemmas.List.Elements.{All-head, All-tail, All-get_or, recursion_from_All, All-from_recursion, Contains-get_or, Contains-append_left}
 use Rattle.std.proofs.lemmas.Option.{slice_get-get_or, slice_get_within, get_or_from_slice_get}
 use Rattle.cfi_unit.specs.declared.unit.Unit.{Unit as CodeUnit}
 use Rattle.cfi_unit.specs.Unit.{IsUnit, size_of, words_of}
@@ -24,6 +24,7 @@ use Rattle.cfi_graph.specs.Reading.{HaveGraph}
 use Rattle.cfi_model.specs.Closed.{idle, IsStartOf, IsStartIn, HasClasses, IsReadAs, IsClosed}
 use Rattle.cfi_policy.specs.Image.{IsImage, HaveImage}
 use Rattle.cfi_verify.specs.Functions.{may_be_last}
+use Rattle.cfi_series.specs.Entry.{HasAddresses, IsEntryIn}
 use Rattle.cfi_series.specs.Loaded.{AreAmong, IsLoadedImage, AreLoaded, HasStarts}
 use Rattle.cfi_series.proofs.SeriesLemmas.{branch_words}
 use Rattle.cfi_series.proofs.EndLemmas.{spot_of, has as spot_there, begins_within}
@@ -33,6 +34,10 @@ use Rattle.cfi_series.proofs.SpelledLemmas.{words_of_all, spelled}
 use Rattle.cfi_series.proofs.TrimmedLemmas.{EndsUnlinked}
 use Rattle.cfi_series.proofs.TargetLemmas.{returns_busy, switch_busy}
 use Rattle.cfi_series.proofs.ClosedLemmas.{here, verified, code, chain, all, us, trimmed, body, rest, start_at, stays, BeginsIn, edge_begins, edge_start}
+
+-- what stands at a place of a list is in it
+contains_at : {X : Type 0} (xs : List X) (k : ℕ) (x : X) → slice_get xs k ≡ Some x → Contains xs x
+contains_at xs k x is = (k, slice_get_within xs k x is, get_or_from_slice_get xs k x x is)
 
 -- ---- classes
 
@@ -146,6 +151,17 @@ module _ (code_words : ℕ) (ms : List Placed) (loaded : AreLoaded code_words ms
     targets = λ slot address edge.
         word_within ms all_among address (edge_begins code_words ms loaded ms all_among slot address edge);
   }
+
+  -- a function's address is one of the code
+  pub addresses : All HasAddresses ms
+  addresses = λ k d within.
+      let m = get_or ms k d in
+      let is = slice_get-get_or ms k d within in
+      let v = loaded.verified k m is in
+      λ j e inside.
+      let f = get_or m.functions j e in
+      let fits = v.2.1.laid.functions j f (slice_get-get_or m.functions j e inside) in
+      omega (arith, fits.some, fits.within, loaded.ends k d within, loaded.size.most)
 
   -- ---- the body
 
@@ -269,3 +285,15 @@ module _ (code_words : ℕ) (ms : List Placed) (loaded : AreLoaded code_words ms
       returns = return_start;
       edges = edge_start_in;
     }
+
+    pub entry_start : (n : ℕ) (name : List ℕ) (address : ℕ) → IsEntryIn (take n ms) name address
+        → IsStartIn image address
+    entry_start n name address entry =
+        let m = entry.owner in
+        let first = entry.entry in
+        let f = first.function in
+        let has = contains_at (take n ms) entry.number m entry.is in
+        let in_all = subst (λ (xs : List Placed). Contains xs m) (take-append-drop n ms)
+        (Contains-append_left (take n ms) (drop n ms) m has) in
+        subst (IsStartIn image) (sym first.here)
+        (function_start m f (record { placed = in_all; function = contains_at m.functions first.number f first.is }))

@@ -19,3 +19,4 @@ pub mod TargetLemmas
 pub mod ClosedLemmas
 pub mod ImageLemmas
 pub mod GrowthLemmas
+pub mod EntryLemmas

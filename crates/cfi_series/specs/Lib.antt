@@ -1,5 +1,6 @@
 pub mod Loaded
 pub mod Growth
+pub mod Entry
 pub mod Room
 pub mod Order
 pub mod Series

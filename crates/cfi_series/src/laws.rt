@@ -1,6 +1,6 @@
 //! What holds of modules in order.
 
-ghost use Rattle.std.specs.Prelude.{◌≡◌, ℕ, List, [], ◌∷◌};
+ghost use Rattle.std.specs.Prelude.{◌≡◌, ℕ, List, [], ◌∷◌, take, All};
 ghost use Rattle.cfi_aux.specs.declared.modules.Module.{Module};
 ghost use Rattle.cfi_aux.specs.declared.placed.Placed.{Placed};
 ghost use Rattle.cfi_graph.specs.Reading.{HaveGraph};
@@ -8,7 +8,10 @@ ghost use Rattle.cfi_graph.specs.Shaped.{AreShaped};
 ghost use Rattle.cfi_policy.specs.Image.{HaveImage};
 ghost use Rattle.cfi_verify.specs.Example.{loop_module};
 ghost use Rattle.cfi_word.specs.declared.limits.TheConstants.{MIN_CODE_WORDS};
-ghost use Rattle.cfi_series.specs.Loaded.{AreLoaded, HaveClosedImages, HaveStarts};
+ghost use Rattle.cfi_series.specs.Loaded.{AreLoaded, IsLoadedImage, HaveClosedImages, HaveStarts};
+ghost use Rattle.cfi_series.specs.Entry.{HasAddresses, IsEntryIn};
+ghost use Rattle.cfi_model.specs.Closed.{IsStartIn};
+ghost use Rattle.cfi_word.specs.declared.lists.Image.{Image};
 ghost use Rattle.cfi_series.specs.Growth.{IsHistoryOf, HasNumbers};
 ghost use Rattle.cfi_model.specs.History.{History, IsHistory};
 ghost use Rattle.cfi_policy.specs.Code.{IsCodeOf};
@@ -41,6 +44,15 @@ pub fn loaded_have_closed_images()
 pub fn loaded_have_starts()
     ensures { (code_words : ℕ) (ms : List Placed) →
         AreLoaded code_words ms → HaveStarts code_words ms }
+{}
+
+/// Their functions have addresses of 32 bits, and an entry that is found in the first of them is a start of each image.
+pub fn loaded_have_entries()
+    ensures addresses { (code_words : ℕ) (ms : List Placed) →
+        AreLoaded code_words ms → All HasAddresses ms }
+    ensures starts { (code_words : ℕ) (ms live : List Placed) (image : Image) (n : ℕ) (name : List ℕ) (address : ℕ) →
+        AreLoaded code_words ms → IsLoadedImage code_words ms live image →
+        IsEntryIn (take n ms) name address → IsStartIn image address }
 {}
 
 /// The images that a growing series makes, one epoch a load and one a refresh, are a history: each is closed, and none

@@ -8,6 +8,7 @@
 //! runs out.
 #![tactic(auto)]
 
+mod entry;
 mod fault;
 mod joining;
 mod laws;
@@ -15,10 +16,11 @@ mod names;
 mod room;
 mod series;
 
+pub use entry::{entry_in, first_global};
 pub use fault::JoinFault;
 pub use laws::{
-    loaded_are_shaped, loaded_have_closed_images, loaded_have_image, loaded_have_starts,
-    loaded_make_a_history, one_answer, series_are_loaded, series_have_graph,
+    loaded_are_shaped, loaded_have_closed_images, loaded_have_entries, loaded_have_image,
+    loaded_have_starts, loaded_make_a_history, one_answer, series_are_loaded, series_have_graph,
     some_module_can_be_taken, some_modules_are_loaded, some_series_has_a_module,
 };
 pub use series::Series;
