@@ -2,7 +2,7 @@
 use Rattle.std.proofs.Common.{◌≡◌, ◌≢◌, ◌⊎◌, inl, inr, ℕ, ◌+◌, ◌-◌, ◌<◌, ◌≤◌, List, [], ◌∷◌, length, take, drop, get_or, slice_index, Some, All, ap, sym, subst, ◌∙◌, ⊎_elim, arith}
 use Rattle.std.specs.List.{Contains, slice_get}
 use Rattle.std.proofs.lemmas.Bool.{cases_lt}
-use Rattle.std.proofs.lemmas.List.{take-append-le, take-append-drop, get_or_past}
+use Rattle.std.proofs.lemmas.List.{take-append-drop, get_or_past}
 use Rattle.std.proofs.lemmas.List.Elements.{All-nil, All-cons, Contains-append_left}
 use Rattle.std.proofs.lemmas.Option.{slice_get-get_or, slice_get_within, get_or_from_slice_get}
 use Rattle.cfi_word.specs.Table.{IsSize}
@@ -13,7 +13,7 @@ use Rattle.cfi_model.specs.History.{History, IsHistory}
 use Rattle.cfi_policy.specs.Code.{LiesInModule, HasWords, IsCodeOf}
 use Rattle.cfi_series.specs.Loaded.{AreLoaded, IsVerifiedAmong}
 use Rattle.cfi_series.specs.Growth.{IsHistoryOf, HasNumbers}
-use Rattle.cfi_series.proofs.JoinedLemmas.{there_left}
+use Rattle.cfi_series.proofs.PrefixLemmas.{get_in, take_in}
 use Rattle.cfi_series.proofs.ImageLemmas.{closed}
 
 -- ---- the first of the modules
@@ -22,17 +22,8 @@ module _ (code_words n : ℕ) (ms : List Placed) (loaded : AreLoaded code_words 
   abbrev some : List Placed
   some = take n ms
 
-  -- what is there in some is there in all
   in_all : (k : ℕ) (m : Placed) → slice_get some k ≡ Some m → slice_get ms k ≡ Some m
-  in_all k m is =
-      ap (λ (xs : List Placed). slice_get xs k) (sym (take-append-drop n ms)) ∙ there_left some (drop n ms) k m is
-
-  -- those before it are the same
-  before_same : (k : ℕ) (m : Placed) → slice_get some k ≡ Some m → take k some ≡ take k ms
-  before_same k m is =
-      let within = slice_get_within some k m is in
-      sym (take-append-le k some (drop n ms) (omega (arith, within)))
-      ∙ ap (λ (xs : List Placed). take k xs) (take-append-drop n ms)
+  in_all k m is = get_in n ms k m is
 
   pub loaded_some : AreLoaded code_words some
   loaded_some = record {
@@ -45,7 +36,7 @@ module _ (code_words n : ℕ) (ms : List Placed) (loaded : AreLoaded code_words 
         subst (λ (p : Placed). p.base + length p.words ≤ code_words) (get_or_from_slice_get ms k m d is)
         (loaded.ends k d (slice_get_within ms k m is));
     verified = λ k m is.
-        subst (λ (before : List Placed). IsVerifiedAmong before m) (sym (before_same k m is))
+        subst (λ (before : List Placed). IsVerifiedAmong before m) (sym (take_in n ms k (omega (arith, slice_get_within some k m is))))
         (loaded.verified k m (in_all k m is));
   }
 

@@ -95,7 +95,7 @@ module _ (joins : (slot address : ℕ) → Type 0) (code_words : ℕ) (image : I
 
 -- ---- the end of all
 
-ends_all : (base slot most : ℕ) (ms : List Placed) → IsChain base slot ms → base ≤ most
+pub ends_all : (base slot most : ℕ) (ms : List Placed) → IsChain base slot ms → base ≤ most
     → All (λ (m : Placed). m.base + length m.words ≤ most) ms → base + length (words_of_all ms) ≤ most
 ends_all base slot most [] follows low ends = omega (arith, low)
 ends_all base slot most (m ∷ ms) follows low ends =

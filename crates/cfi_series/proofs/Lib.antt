@@ -18,5 +18,8 @@ pub mod InsideLemmas
 pub mod TargetLemmas
 pub mod ClosedLemmas
 pub mod ImageLemmas
+pub mod PrefixLemmas
 pub mod GrowthLemmas
+pub mod MadeLemmas
+pub mod TwoLemmas
 pub mod EntryLemmas

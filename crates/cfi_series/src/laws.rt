@@ -1,6 +1,8 @@
 //! What holds of modules in order.
 
-ghost use Rattle.std.specs.Prelude.{◌≡◌, ℕ, List, [], ◌∷◌, take, All};
+ghost use Rattle.std.specs.Prelude.{◌≡◌, ℕ, List, [], ◌∷◌, length, take, All};
+ghost use Rattle.cfi_model.specs.Data.{LiesInData};
+ghost use Rattle.cfi_series.specs.Fills.{fills_of};
 ghost use Rattle.cfi_aux.specs.declared.modules.Module.{Module};
 ghost use Rattle.cfi_aux.specs.declared.placed.Placed.{Placed};
 ghost use Rattle.cfi_graph.specs.Reading.{HaveGraph};
@@ -61,6 +63,20 @@ pub fn loaded_make_a_history()
     ensures { (code_words : ℕ) (ms : List Placed) (starts : ℕ) (h : History) (code : List ℕ) →
         AreLoaded code_words ms → IsCodeOf ms code_words code → IsHistoryOf code_words ms starts h →
         HasNumbers h → IsHistory h code }
+{}
+
+/// Some list of two modules makes one, of three epochs: the start, a load and a refresh.
+pub fn some_modules_make_a_history()
+    ensures { (ms : List Placed) × (h : History) × AreLoaded MIN_CODE_WORDS ms ×
+        IsHistoryOf MIN_CODE_WORDS ms 1 h × HasNumbers h × (h.count ≡ 3) × (length ms ≡ 2) }
+{}
+
+/// The first modules of a series are one, and the data of all lies inside private data.
+pub fn series_are_closed_below()
+    ensures prefix { (code_words : ℕ) (placed : List Placed) (n : ℕ) →
+        IsSeries code_words placed → IsSeries code_words (take n placed) }
+    ensures fills { (code_words : ℕ) (placed : List Placed) →
+        IsSeries code_words placed → All LiesInData (fills_of placed) }
 {}
 
 /// Some modules are loaded so: the one module of the one word `j .`.

@@ -20,7 +20,8 @@ pub use entry::{entry_in, first_global};
 pub use fault::JoinFault;
 pub use laws::{
     loaded_are_shaped, loaded_have_closed_images, loaded_have_entries, loaded_have_image,
-    loaded_have_starts, loaded_make_a_history, one_answer, series_are_loaded, series_have_graph,
-    some_module_can_be_taken, some_modules_are_loaded, some_series_has_a_module,
+    loaded_have_starts, loaded_make_a_history, one_answer, series_are_closed_below,
+    series_are_loaded, series_have_graph, some_module_can_be_taken, some_modules_are_loaded,
+    some_modules_make_a_history, some_series_has_a_module,
 };
 pub use series::Series;
