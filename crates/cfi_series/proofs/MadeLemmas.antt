@@ -73,7 +73,7 @@ some_lies base slot (m ∷ ms) follows word from to none =
 no_edge : (slot address : ℕ) → DirectEdge [] slot address → ⊥
 no_edge slot address edge = no_member edge.owner edge.placed
 
-labels : (code_words : ℕ)
+pub labels : (code_words : ℕ)
     → AreLabels (DirectEdge []) code_words (replicate code_words 0) (replicate (slots_of code_words) FIELD_MAX)
 labels code_words = record {
   words = length-replicate code_words 0;
