@@ -6,3 +6,11 @@ pub mod InstrLemmas
 pub mod InstrRecordLemmas
 pub mod LinkLemmas
 pub mod SourceLemmas
+pub mod AsmOperandLemmas
+pub mod AsmFormLemmas
+pub mod AsmLimitLemmas
+pub mod AsmRecordLemmas
+pub mod AsmBranchLemmas
+pub mod AsmNameLemmas
+pub mod AsmInfoLemmas
+pub mod AsmLemmas

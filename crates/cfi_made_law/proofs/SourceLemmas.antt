@@ -1,5 +1,5 @@
 -- Modules that were read of files are small.
-use Rattle.std.proofs.Common.{◌≡◌, ℕ, ◌%◌, List, length, sym, subst}
+use Rattle.std.proofs.Common.{ℕ, List, sym, subst}
 use Rattle.elf_read.specs.Fault.{IsObject}
 use Rattle.elf_read.specs.Sound.{IsSoundObject}
 use Rattle.elf_read.specs.declared.object.Object.{Object}

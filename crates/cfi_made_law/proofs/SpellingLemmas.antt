@@ -23,13 +23,13 @@ use Rattle.elf_write.specs.declared.limits.TheConstants.{MAX_TYPES, MAX_RECORDS}
 use Rattle.elf_write.specs.File.{bytes_or_none}
 use Rattle.cfi_made_law.proofs.WholeLemmas.{AreFew}
 
-words-length : (ns : List ℕ) → length (flat_map word ns) ≡ 4 * length ns
+pub words-length : (ns : List ℕ) → length (flat_map word ns) ≡ 4 * length ns
 words-length [] = refl
 words-length (n ∷ ns) =
     let one : length (word n) ≡ 4 = refl in
     omega (arith, length-append (word n) (flat_map word ns), one, words-length ns)
 
-pieces-short : {X : Type 0} (spell : X → List ℕ) (most : ℕ) (xs : List X) → All (λ x. length (spell x) ≤ most) xs
+pub pieces-short : {X : Type 0} (spell : X → List ℕ) (most : ℕ) (xs : List X) → All (λ x. length (spell x) ≤ most) xs
     → length (flat_map spell xs) ≤ length xs * most
 pieces-short spell most xs all =
     omega (arith, length-flat_map spell xs, sum_by-le (λ x. length (spell x)) most xs all)
@@ -39,8 +39,8 @@ pieces-short spell most xs all =
 few-fields : (kind n : ℕ) → IsTrue (has_arity kind n) → n ≤ MAX_FIELDS
 few-fields kind n arity = grind (arith, nat_tests)
 
-node-short : (x : Node) → IsNode x → length (node_bytes x) ≤ 1028
-node-short x is =
+pub node-bytes : (x : Node) → length x.fields ≤ MAX_FIELDS → length (node_bytes x) ≤ 1028
+node-bytes x few =
     let one : length (word x.kind) ≡ 4 = refl in
     let two : length (word (length x.fields)) ≡ 4 = refl in
     omega (
@@ -50,8 +50,11 @@ node-short x is =
       one,
       two,
       words-length x.fields,
-      few-fields x.kind (length x.fields) is.arity,
+      few,
     )
+
+node-short : (x : Node) → IsNode x → length (node_bytes x) ≤ 1028
+node-short x is = node-bytes x (few-fields x.kind (length x.fields) is.arity)
 
 pub types-short : (types : List Node) → AreTypes types → length (types_spelling types) ≤ MAX_TYPES
 types-short types are =
@@ -80,11 +83,10 @@ name-short name few =
       few,
     )
 
-function-short : (types : List Node) (f : Function) → IsFunction types f → length (function_bytes f) ≤ 276
-function-short types f is =
+pub function-bytes : (f : Function) → length f.name ≤ MAX_NAME → length (function_bytes f) ≤ 276
+function-bytes f few =
     let rest = name_bytes f.name in
     let flag = word (flag_of f.taken) in
-    let few = short_name (length f.name) is.name.count in
     let a : length (word f.offset) ≡ 4 = refl in
     let b : length (word f.length) ≡ 4 = refl in
     let c : length (word f.ty) ≡ 4 = refl in
@@ -101,6 +103,9 @@ function-short types f is =
       d,
       name-short f.name few,
     )
+
+function-short : (types : List Node) (f : Function) → IsFunction types f → length (function_bytes f) ≤ 276
+function-short types f is = function-bytes f (short_name (length f.name) is.name.count)
 
 branch-short : (types : List Node) (b : Kind) → IsBranch types b → length (branch_bytes b) ≤ 4104
 branch-short types b is =

@@ -1,6 +1,7 @@
-//! Laws of what instrumenting and linking make.
+//! Laws of what assembling, instrumenting and linking make.
 
-ghost use Rattle.std.specs.Prelude.{ℕ, List, All};
+ghost use Rattle.std.specs.Prelude.{◌≡◌, ℕ, ◌≤◌, List, length, All, Ok};
+ghost use Rattle.cfi_word.specs.declared.limits.TheConstants.{MAX_FILE_BYTES};
 ghost use Rattle.elf_read.specs.Fault.{IsObject};
 ghost use Rattle.elf_read.specs.declared.object.Object.{Object};
 ghost use Rattle.elf_write.specs.Limits.{IsWithinLimits};
@@ -10,6 +11,7 @@ ghost use Rattle.cfi_aux.specs.declared.modules.Module.{Module};
 ghost use Rattle.cfi_instr.specs.Output.{IsInstrumented};
 ghost use Rattle.cfi_link.specs.Linked.{AreModules, Linked};
 ghost use Rattle.cfi_made_law.specs.Read.{IsReadOf};
+ghost use Rattle.rv_asm.specs.Assembled.{object_in};
 
 use cfi_aux::what_is_read_is_sound;
 
@@ -40,3 +42,9 @@ pub fn linked_are_within_limits()
 {
     what_is_read_is_sound();
 }
+
+/// What is made of a source that is no longer than a file is within the limits of a written one.
+pub fn assembled_are_within_limits()
+    ensures { (text : List ℕ) (object : Object) → length text ≤ MAX_FILE_BYTES →
+        object_in text ≡ Ok object → IsWithinLimits object }
+{}

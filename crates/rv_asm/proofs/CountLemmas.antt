@@ -93,7 +93,7 @@ line_more table number spot line =
 -- ---- all lines
 
 -- the bytes of lines, and one more for each, by which it ends
-abbrev bytes_of : List (List ℕ) → ℕ
+abbrev pub bytes_of : List (List ℕ) → ℕ
 bytes_of [] = 0
 bytes_of (line ∷ lines) = length line + 1 + bytes_of lines
 
@@ -111,7 +111,7 @@ left-step true byte lines n h = omega (arith, h)
 left-step false byte [] n h = omega arith
 left-step false byte (line ∷ lines) n h = omega (arith, h)
 
-lines-left : (text : List ℕ) → bytes_of (lines_of text) ≤ length text + 1
+pub lines-left : (text : List ℕ) → bytes_of (lines_of text) ≤ length text + 1
 lines-left [] = omega arith
 lines-left (byte ∷ rest) = left-step (byte == 10) byte (lines_of rest) (length rest) (lines-left rest)
 

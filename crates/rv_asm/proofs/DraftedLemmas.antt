@@ -38,7 +38,7 @@ draft_after file before =
     (kept_after file before)
     (open_after file.kinds before)
 
-open-push : (kinds : List NodeKind) (before : List Line) (line : Line) →
+pub open-push : (kinds : List NodeKind) (before : List Line) (line : Line) →
     open_after kinds (before ++ line ∷ []) ≡ unwrap_or (opened_at kinds (at_line before line))
     (open_after kinds before)
 open-push kinds before line =

@@ -25,7 +25,7 @@ use Rattle.rv_asm.specs.Words.{imm_field, low_field, high_field, offset_field, o
 use Rattle.rv_asm.proofs.PlacedLemmas.{at_line, end-push}
 
 -- words, if there are any, have this size
-abbrev IsSize : ℕ → Option Words → Type 0
+abbrev pub IsSize : ℕ → Option Words → Type 0
 IsSize n None = Unit {0}
 IsSize n (Some words) = size_of words ≡ n
 
@@ -33,7 +33,7 @@ one-size : {A : Type 0} (o : Option A) (make : A → ℕ) → IsSize 4 (o >>= λ
 one-size None make = tt
 one-size (Some field) make = refl
 
-words-size : (names : List Entry) (t : ℕ) (s : Statement) → IsSize (text_size s) (words_of names t s)
+pub words-size : (names : List Entry) (t : ℕ) (s : Statement) → IsSize (text_size s) (words_of names t s)
 words-size names t (statements.OpImm op rd rs1 imm) = one-size (imm_field op imm)
     (λ f. word_of (insns.OpImm op rd rs1 f))
 words-size names t (statements.Load kind rd rs1 imm) = one-size (low_field imm)
