@@ -16,6 +16,7 @@ use Rattle.elf_write.specs.File.{padding, padded, section_place, part_header, fi
 use Rattle.cfi_types.specs.Spelling.{AreTypes}
 use Rattle.cfi_aux.specs.Format.{is_length}
 use Rattle.cfi_aux.specs.Module.{AreSpelled}
+use Rattle.cfi_aux.specs.Sound.{IsSoundModule}
 use Rattle.cfi_aux.specs.Records.{AreRecords}
 use Rattle.cfi_commands.specs.Reading.{IsModuleFile}
 use Rattle.cfi_made_law.specs.Read.{IsReadOf}
@@ -119,6 +120,17 @@ source-file = call-file call_source.object.text 4 12 3 refl (omega arith) (omega
 pub made-file : ReadsBack → IsModuleFile (bytes_of call_made.object) call_made
 made-file = call-file call_made.object.text 24 84 21 refl (omega arith) (omega arith) refl (omega arith) refl
 
+pub made-sound : IsSoundModule call_made
+made-sound = record {
+  object_sound = sound call_made.object.text 24 84 21 refl (omega arith) (omega arith) refl (omega arith) refl;
+  table = table;
+}
+
+pub made-read : ReadsBack → IsReadOf call_made
+made-read reads =
+    let is = made-file reads in
+    record { bytes = bytes_of call_made.object; object = is.object; is = is.is; whole = is.whole }
+
 pub source-read : ReadsBack → IsReadOf call_source
 source-read reads =
     let is = source-file reads in
@@ -138,6 +150,10 @@ each-byte (byte ∷ bytes) is =
 source-bytes : AreBytes (bytes_of call_source.object)
 unfolding name_table symbol_entry symbol_name_place null_entry symbol_table rela_entry relas_of padding padded section_place part_header file_header bytes_of
 source-bytes = each-byte (bytes_of call_source.object) refl
+
+pub made-bytes : AreBytes (bytes_of call_made.object)
+unfolding name_table symbol_entry symbol_name_place null_entry symbol_table rela_entry relas_of padding padded section_place part_header file_header bytes_of
+made-bytes = each-byte (bytes_of call_made.object) refl
 
 pub saved : ReadsBack →
     IsSavedAt (bytes_of call_source.object) (bytes_of call_made.object) loop_room no_names call_placed

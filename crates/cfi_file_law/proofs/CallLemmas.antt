@@ -97,7 +97,7 @@ unfolding word_at insn_of size_at
 plan = record { least = least; placed = refl }
 
 -- the units have spellings
-pub code : UnitCode (call_words (pos 0)) (call_units (pos 0))
+pub code : UnitCode (call_words (pos 0)) (call_units (pos 0) 0)
 code = record {
   fit = (
     (omega arith, omega arith, omega arith),

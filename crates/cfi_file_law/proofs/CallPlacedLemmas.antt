@@ -30,7 +30,7 @@ room = record {
 }
 
 -- the text is read as its units
-read : ReadFrom (call_words (pos 0)) 0 (call_units (pos 0))
+read : ReadFrom (call_words (pos 0)) 0 (call_units (pos 0) 0)
 read = (
   record { fits = (omega arith, omega arith, omega arith); spelled = refl },
   (
@@ -64,8 +64,8 @@ placed = record {
   slot_base = refl;
   data_base = refl;
   words = (
-    call_units (pos 0),
-    subst (λ (ws : List ℕ). ReadFrom ws 0 (call_units (pos 0))) (sym text-words) read,
+    call_units (pos 0) 0,
+    subst (λ (ws : List ℕ). ReadFrom ws 0 (call_units (pos 0) 0)) (sym text-words) read,
     sym moved-words,
   );
   static_data = refl;

@@ -4,3 +4,4 @@ pub mod ProperLemmas
 pub mod CallLemmas
 pub mod CallPlacedLemmas
 pub mod CallFileLemmas
+pub mod CallLinkedLemmas

@@ -71,12 +71,12 @@ call_source =
     (0x83 ∷ 0x20 ∷ 0x01 ∷ 0x00 ∷ 0xef ∷ 0x00 ∷ 0x00 ∷ 0x00 ∷ 0x67 ∷ 0x80 ∷ 0x00 ∷ 0x00 ∷ [])
     4 12
 
--- the units of its words, where the call leads so far: six words, one, and fourteen
-abbrev pub call_units : (off : ℤ) → List CodeUnit
-call_units off = Load Lw 1 2 (pos 0) ∷ Jump true off ∷ Check false 1 (pos 0) 0 ∷ []
+-- the units of its words, where the call leads so far and the check names a slot: six words, one, and fourteen
+abbrev pub call_units : (off : ℤ) → (slot : ℕ) → List CodeUnit
+call_units off slot = Load Lw 1 2 (pos 0) ∷ Jump true off ∷ Check false 1 (pos 0) slot ∷ []
 
 abbrev pub call_words : (off : ℤ) → List ℕ
-call_words off = flat_map words_of (call_units off)
+call_words off = flat_map words_of (call_units off 0)
 
 -- the instrumented module, whose call the relocation has not led yet
 abbrev pub call_made : Module

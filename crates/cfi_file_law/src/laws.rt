@@ -10,10 +10,12 @@ ghost use Rattle.cfi_place.specs.Names.{Names};
 ghost use Rattle.cfi_commands.specs.Reading.{IsModuleFile};
 ghost use Rattle.cfi_commands.specs.Instrumenting.{IsInstrumentedFile};
 ghost use Rattle.cfi_commands.specs.Linking.{IsLinkedFile};
+ghost use Rattle.cfi_link.specs.Linked.{AreModules, Linked};
 ghost use Rattle.cfi_made_law.specs.Order.{module_of_file};
 ghost use Rattle.cfi_made_law.specs.Read.{IsReadOf};
 ghost use Rattle.cfi_file_law.specs.Saved.{AreBytes, IsSavedAt};
 ghost use Rattle.cfi_file_law.specs.Example.{call_source, call_made, call_placed};
+ghost use Rattle.cfi_file_law.specs.LinkedExample.{linked_inputs, linked_files, linked_output};
 
 use cfi_aux::{read_can_be_written, what_is_read_is_sound};
 use elf_write::laws::written_is_read;
@@ -57,6 +59,17 @@ pub fn some_call_is_saved()
     ensures read { IsReadOf call_source }
     ensures saved { IsSavedAt (bytes_of call_source.object) (bytes_of call_made.object) loop_room
         no_names call_placed }
+{
+    written_is_read();
+}
+
+/// That module, instrumented, is linked with itself, and so are the files that it is read of.
+pub fn some_calls_are_linked()
+    ensures modules { AreModules linked_inputs }
+    ensures read { All IsReadOf linked_inputs }
+    ensures linked { Linked linked_inputs linked_output }
+    ensures bytes { All AreBytes linked_files }
+    ensures files { IsLinkedFile linked_files (bytes_of linked_output.object) }
 {
     written_is_read();
 }
