@@ -1,3 +1,7 @@
 pub mod FileLemmas
 pub mod LinkFileLemmas
 pub mod ProperLemmas
+pub mod CallLemmas
+pub mod CallPlacedLemmas
+pub mod CallFileLemmas
+pub mod CallLinkedLemmas

@@ -2,14 +2,20 @@
 
 ghost use Rattle.std.specs.Prelude.{ℕ, ◌<◌, ◌^◌, List, length, All};
 ghost use Rattle.cfi_aux.specs.declared.placed.Placed.{Placed};
-ghost use Rattle.cfi_instr_law.specs.Proper.{IsProper};
+ghost use Rattle.elf_write.specs.File.{bytes_of};
+ghost use Rattle.cfi_instr_law.specs.Example.{loop_room, no_names};
+ghost use Rattle.cfi_instr_law.specs.Proper.{IsMadeAt, IsProper};
 ghost use Rattle.cfi_place.specs.declared.room.Room.{Room};
 ghost use Rattle.cfi_place.specs.Names.{Names};
 ghost use Rattle.cfi_commands.specs.Reading.{IsModuleFile};
 ghost use Rattle.cfi_commands.specs.Instrumenting.{IsInstrumentedFile};
 ghost use Rattle.cfi_commands.specs.Linking.{IsLinkedFile};
+ghost use Rattle.cfi_link.specs.Linked.{AreModules, Linked};
 ghost use Rattle.cfi_made_law.specs.Order.{module_of_file};
+ghost use Rattle.cfi_made_law.specs.Read.{IsReadOf};
 ghost use Rattle.cfi_file_law.specs.Saved.{AreBytes, IsSavedAt};
+ghost use Rattle.cfi_file_law.specs.Example.{call_source, call_made, call_placed};
+ghost use Rattle.cfi_file_law.specs.LinkedExample.{linked_inputs, linked_files, linked_output};
 
 use cfi_aux::{read_can_be_written, what_is_read_is_sound};
 use elf_write::laws::written_is_read;
@@ -41,4 +47,29 @@ pub fn linked_are_read()
     what_is_read_is_sound();
     written_is_read();
     read_can_be_written();
+}
+
+/// A module with a masked access, a call under a relocation and a check is instrumented and placed.
+pub fn some_call_is_instrumented()
+    ensures { IsMadeAt call_source call_made loop_room no_names call_placed }
+{}
+
+/// That module is read of a file, and the file that `instrument` saves of it is read and placed.
+pub fn some_call_is_saved()
+    ensures read { IsReadOf call_source }
+    ensures saved { IsSavedAt (bytes_of call_source.object) (bytes_of call_made.object) loop_room
+        no_names call_placed }
+{
+    written_is_read();
+}
+
+/// That module, instrumented, is linked with itself, and so are the files that it is read of.
+pub fn some_calls_are_linked()
+    ensures modules { AreModules linked_inputs }
+    ensures read { All IsReadOf linked_inputs }
+    ensures linked { Linked linked_inputs linked_output }
+    ensures bytes { All AreBytes linked_files }
+    ensures files { IsLinkedFile linked_files (bytes_of linked_output.object) }
+{
+    written_is_read();
 }

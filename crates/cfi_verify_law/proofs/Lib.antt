@@ -1,0 +1,4 @@
+pub mod DecideLemmas
+pub mod UnitLemmas
+pub mod RowLemmas
+pub mod VerifiedLemmas
