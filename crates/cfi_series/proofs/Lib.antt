@@ -20,6 +20,7 @@ pub mod ClosedLemmas
 pub mod ImageLemmas
 pub mod PrefixLemmas
 pub mod GrowthLemmas
+pub mod PreparedLemmas
 pub mod MadeLemmas
 pub mod TwoLemmas
 pub mod EntryLemmas

@@ -1,5 +1,5 @@
 -- Two modules, three epochs: the one of the start, a load of the other, and a refresh.
-use Rattle.std.proofs.Common.{◌≡◌, ◌⊎◌, inl, inr, ℕ, zero, suc, ◌+◌, ◌<◌, ◌≤◌, List, [], ◌∷◌, length, take, Some, refl, ap, sym, subst, ◌∙◌, add-one, arith}
+use Rattle.std.proofs.Common.{◌≡◌, ◌⊎◌, inl, inr, ℕ, zero, suc, ◌+◌, ◌≤◌, List, [], ◌∷◌, length, take, Some, refl, ap, sym, subst, ◌∙◌, add-one, arith}
 use Rattle.std.specs.List.{Contains, slice_get}
 use Rattle.std.proofs.lemmas.List.Elements.{All-nil, All-cons}
 use Rattle.cfi_word.specs.declared.map.TheConstants.{FIRST_BASE}
@@ -7,7 +7,7 @@ use Rattle.cfi_word.specs.declared.limits.TheConstants.{MIN_CODE_WORDS, MIN_VERS
 use Rattle.cfi_word.specs.declared.lists.Image.{Image}
 use Rattle.cfi_aux.specs.declared.placed.Placed.{Placed}
 use Rattle.cfi_graph.specs.Shaped.{Follows}
-use Rattle.cfi_model.specs.History.{History, IsEpoch}
+use Rattle.cfi_model.specs.History.{History}
 use Rattle.cfi_verify.specs.Example.{loop_module}
 use Rattle.cfi_verify.specs.Faults.{IsVerified}
 use Rattle.cfi_verify.proofs.ExampleLemmas.{loop_verified}

@@ -5,3 +5,4 @@ pub mod Fills
 pub mod Room
 pub mod Order
 pub mod Series
+pub mod Prepared

@@ -13,6 +13,7 @@ mod fault;
 mod joining;
 mod laws;
 mod names;
+mod prepared;
 mod room;
 mod series;
 
@@ -24,4 +25,5 @@ pub use laws::{
     series_are_loaded, series_have_graph, some_module_can_be_taken, some_modules_are_loaded,
     some_modules_make_a_history, some_series_has_a_module,
 };
+pub use prepared::{Prepared, Refused};
 pub use series::Series;

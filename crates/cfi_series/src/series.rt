@@ -1,12 +1,13 @@
 //! Series of placed modules.
 
-ghost use Rattle.std.specs.Prelude.{◌≡◌, [], ◌⊎◌, OnOk, OnErr, IfErr, Ok, Err};
+ghost use Rattle.std.specs.Prelude.{◌≡◌, ◌<◌, [], ◌⊎◌, length, OnOk, OnErr, IfOk, IfErr, Ok, Err};
 ghost use Rattle.cfi_aux.specs.declared.placed.Placed.{Placed as PlacedModule};
 ghost use Rattle.cfi_graph.specs.Reading.{HaveGraph};
 ghost use Rattle.cfi_policy.specs.Image.{HaveImage};
 ghost use Rattle.cfi_series.specs.declared.fault.JoinFault.TheVariants.{Memory};
 ghost use Rattle.cfi_series.specs.Loaded.{AreLoaded, HaveClosedImages};
 ghost use Rattle.cfi_series.specs.Order.{IsJoinFault};
+ghost use Rattle.cfi_series.specs.Prepared.{IsImageOfSeries, without_last};
 ghost use Rattle.cfi_series.specs.Series.{with_module, JoinsTo, HasJoined, CanBeTaken, IsSeries};
 
 use crate::fault::JoinFault;
@@ -17,8 +18,9 @@ use crate::laws::{
 use crate::names::{add_names, names_of};
 use cfi_aux::{Module, Placed};
 use cfi_place::Symbols;
-use cfi_word::Layout;
-use std::alloc::Global;
+use cfi_policy::image_of;
+use cfi_word::{Image, Layout};
+use std::alloc::{AllocError, Global};
 use std::marker::Model;
 
 /// Modules that were placed one after the other, each at the next free place with the exports of those before it, and
@@ -87,6 +89,24 @@ impl Series {
                 Err(fault)
             }
         }
+    }
+
+    /// The image of all modules, in the series' layout.
+    pub fn image(&self) -> Result<Image, AllocError>
+        ensures { IfOk result (IsImageOfSeries self.now) }
+    {
+        let layout = Layout::new(self.code_words).unwrap();
+        image_of(self.alloc, self.modules(), &layout)
+    }
+
+    // Without the module that was added last.
+    pub(crate) fn without_last(mut self) -> Series
+        requires { 0 < length self.placed }
+        ensures { result ≡ without_last self }
+    {
+        self.placed.pop();
+        self.symbols = None;
+        self
     }
 
     /// The placed modules, in their order. They have a graph and an image, and each image of them is closed.
