@@ -1,11 +1,9 @@
 -- The modules of files can be linked, and what links them has its relocations in the order of a file.
 use Rattle.std.proofs.Common.{◌≡◌, ◌∙◌, ℕ, ◌<◌, ◌^◌, not, List, [], ◌∷◌, ◌++◌, length, filter, All, refl, sym, ap, subst}
 use Rattle.std.proofs.lemmas.List.Elements.{All-nil, All-cons, All-head, All-tail, filter_agree}
-use Rattle.elf_read.specs.Fault.{IsObject}
 use Rattle.elf_read.specs.Sound.{IsSoundObject}
 use Rattle.elf_read.specs.declared.object.Area.{Area}
 use Rattle.elf_read.specs.declared.object.Area.TheVariants as areas
-use Rattle.elf_read.specs.declared.object.Object.{Object}
 use Rattle.elf_read.specs.declared.object.Reloc.{Reloc}
 use Rattle.elf_write.specs.Contents.{is_text_area, is_data_area, is_in}
 use Rattle.cfi_types.specs.Node.{Node}

@@ -1,23 +1,27 @@
 //! What the files that the program saves are read as.
 
-ghost use Rattle.std.specs.Prelude.{ℕ, ◌<◌, ◌^◌, List, length, All};
+ghost use Rattle.std.specs.Prelude.{ℕ, ◌<◌, ◌≤◌, ◌^◌, List, length, All};
+ghost use Rattle.cfi_word.specs.declared.limits.TheConstants.{MAX_FILE_BYTES};
+ghost use Rattle.elf_read.specs.Fault.{IsObject};
 ghost use Rattle.cfi_aux.specs.declared.placed.Placed.{Placed};
 ghost use Rattle.elf_write.specs.File.{bytes_of};
 ghost use Rattle.cfi_instr_law.specs.Example.{loop_room, no_names};
 ghost use Rattle.cfi_instr_law.specs.Proper.{IsMadeAt, IsProper};
 ghost use Rattle.cfi_place.specs.declared.room.Room.{Room};
 ghost use Rattle.cfi_place.specs.Names.{Names};
+ghost use Rattle.cfi_commands.specs.Assembling.{IsAssembled};
 ghost use Rattle.cfi_commands.specs.Reading.{IsModuleFile};
 ghost use Rattle.cfi_commands.specs.Instrumenting.{IsInstrumentedFile};
 ghost use Rattle.cfi_commands.specs.Linking.{IsLinkedFile};
 ghost use Rattle.cfi_link.specs.Linked.{AreModules, Linked};
-ghost use Rattle.cfi_made_law.specs.Order.{module_of_file};
+ghost use Rattle.cfi_made_law.specs.Order.{object_of_file, module_of_file};
 ghost use Rattle.cfi_made_law.specs.Read.{IsReadOf};
 ghost use Rattle.cfi_file_law.specs.Saved.{AreBytes, IsSavedAt};
 ghost use Rattle.cfi_file_law.specs.Example.{call_source, call_made, call_placed};
 ghost use Rattle.cfi_file_law.specs.LinkedExample.{linked_inputs, linked_files, linked_output};
 
 use cfi_aux::{read_can_be_written, what_is_read_is_sound};
+use cfi_made_law::assembled_are_whole;
 use elf_write::laws::written_is_read;
 
 /// The file that `instrument` saves is read as the module that was made.
@@ -47,6 +51,15 @@ pub fn linked_are_read()
     what_is_read_is_sound();
     written_is_read();
     read_can_be_written();
+}
+
+/// The file that `asm` saves is read as the object that was made.
+pub fn assembled_are_read()
+    ensures { (text file : List ℕ) → length text ≤ MAX_FILE_BYTES →
+        (is : IsAssembled text file) → IsObject file (object_of_file is.object) }
+{
+    assembled_are_whole();
+    written_is_read();
 }
 
 /// A module with a masked access, a call under a relocation and a check is instrumented and placed.

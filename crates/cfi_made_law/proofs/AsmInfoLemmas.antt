@@ -72,7 +72,7 @@ suc-number : (o : Option ℕ) → symbol_number (option_map suc o) ≤ symbol_nu
 suc-number None = omega arith
 suc-number (Some k) = omega arith
 
-number-small : (table : List Entry) (name : List ℕ) → symbol_number (number_in table name) ≤ length table
+pub number-small : (table : List Entry) (name : List ℕ) → symbol_number (number_in table name) ≤ length table
 number-small [] name = omega arith
 number-small (entry ∷ table) name = elim (cases_Bool (is_named name entry)) [
   | inl here ↦ rw here (omega arith)

@@ -110,12 +110,12 @@ records-few r few names count words =
 
 -- ---- the object
 
-unless-none : (faults : List AsmFault) (made object : Object) → unless faults made ≡ Ok object
+pub unless-none : (faults : List AsmFault) (made object : Object) → unless faults made ≡ Ok object
     → (faults ≡ []) × (made ≡ object)
 unless-none [] made object is = (refl, cc)
 unless-none (fault ∷ faults) made object is = absurd (cc)
 
-front-none : {A : Type 0} (xs ys : List A) → xs ++ ys ≡ [] → xs ≡ []
+pub front-none : {A : Type 0} (xs ys : List A) → xs ++ ys ≡ [] → xs ≡ []
 front-none [] ys is = refl
 front-none (x ∷ xs) ys is = absurd (cc)
 
@@ -126,7 +126,7 @@ line-count text = omega (arith, count (lines_of text), lines-left text)
     count [] = omega arith
     count (line ∷ lines) = omega (arith, count lines)
 
-few-lines : (text : List ℕ) → length text ≤ MAX_FILE_BYTES → length (lines_in text) < 2 ^ 32
+pub few-lines : (text : List ℕ) → length text ≤ MAX_FILE_BYTES → length (lines_in text) < 2 ^ 32
 few-lines text short = omega (arith, length-map (lines_of text) line_in, line-count text, short)
 
 -- the object of lines that are not too many

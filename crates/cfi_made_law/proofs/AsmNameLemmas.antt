@@ -1,12 +1,12 @@
 -- The names of the symbols of a source are at most 255 bytes long.
-use Rattle.std.proofs.Common.{◌≡◌, ℕ, ◌+◌, ◌<◌, ◌≤◌, ◌^◌, not, List, [], ◌∷◌, ◌++◌, filter, length, map, Option, Some, None, All, refl, ◌∙◌, arith, length-append}
+use Rattle.std.proofs.Common.{◌%◌, ◌≡◌, ℕ, ◌+◌, ◌<◌, ◌≤◌, ◌^◌, not, List, [], ◌∷◌, ◌++◌, filter, length, map, Option, Some, None, All, refl, ◌∙◌, arith, length-append}
 use Rattle.std.specs.Prelude.{codes}
 use Rattle.std.specs.Fmt.{decimal}
 use Rattle.std.specs.List.{flat_map, AllByRecursion}
 use Rattle.std.specs.Str.{bytes_eq}
-use Rattle.std.proofs.lemmas.Fmt.{length-decimal-le}
+use Rattle.std.proofs.lemmas.Fmt.{length-decimal-le, decimal_by_steps}
 use Rattle.std.proofs.lemmas.List.Filters.{length-filter_both}
-use Rattle.std.proofs.lemmas.List.Elements.{All-nil, All-cons, All-head, All-tail, All-append, All-filter, All-map, All-from_recursion}
+use Rattle.std.proofs.lemmas.List.Elements.{All-weaker, All-nil, All-cons, All-head, All-tail, All-append, All-filter, All-map, All-from_recursion}
 use Rattle.cfi_word.specs.declared.limits.TheConstants.{MAX_NAME}
 use Rattle.elf_read.specs.declared.object.Symbol.{Symbol}
 use Rattle.rv_line.specs.declared.line.Line.{Line}
@@ -22,7 +22,7 @@ use Rattle.rv_asm.specs.Reference.{reference_of}
 use Rattle.rv_asm.specs.Spot.{pair_label}
 use Rattle.rv_asm.specs.Symbols.{definition_at, defining, exporting, label_says, reference_says, statement_says, said_says, line_says, says_at, said_in, distinct, entry_of, table_of, names_in}
 use Rattle.rv_asm.proofs.PlacedLemmas.{pairs-le}
-use Rattle.cfi_made_law.proofs.AsmOperandLemmas.{IsShort, RefersShort, AreShort}
+use Rattle.cfi_made_law.proofs.AsmOperandLemmas.{IsPlain, IsShort, RefersShort, AreShort}
 use Rattle.cfi_made_law.proofs.AsmFormLemmas.{LabelShort, SaidShort, IsShortLine, line-short}
 
 -- ---- names
@@ -30,15 +30,32 @@ use Rattle.cfi_made_law.proofs.AsmFormLemmas.{LabelShort, SaidShort, IsShortLine
 abbrev HasShort : Entry → Type 0
 HasShort entry = IsShort entry.name
 
+digit-plain : (n : ℕ) → n < 10 → IsPlain (48 + n)
+digit-plain n few = (omega arith, omega (arith, few))
+
+decimal-plain : (n : ℕ) → n < 2 ^ 64 → All IsPlain (decimal n)
+decimal-plain n few =
+    decimal_by_steps (λ n ds. All IsPlain ds)
+    (λ n less. All-cons IsPlain (48 + n) [] (digit-plain n less) (All-nil IsPlain))
+    (λ n ds more all. All-append IsPlain ds ((48 + n % 10) ∷ []) all
+    (All-cons IsPlain (48 + n % 10) [] (digit-plain (n % 10) (omega arith)) (All-nil IsPlain))) n few
+
+front-plain : All IsPlain (codes ".Lpc")
+front-plain =
+    All-cons IsPlain 46 (76 ∷ 112 ∷ 99 ∷ []) (omega arith, omega arith)
+    (All-cons IsPlain 76 (112 ∷ 99 ∷ []) (omega arith, omega arith)
+    (All-cons IsPlain 112 (99 ∷ []) (omega arith, omega arith)
+    (All-cons IsPlain 99 [] (omega arith, omega arith) (All-nil IsPlain))))
+
 pair-short : (n : ℕ) → n < 2 ^ 32 → IsShort (pair_label n)
 pair-short n few =
     let front : length (codes ".Lpc") ≡ 4 = refl in
-    omega (
-      arith,
-      length-append (codes ".Lpc") (decimal n),
-      front,
-      length-decimal-le 20 n (omega arith) (omega (arith, few)) (omega (arith, few)),
-    )
+    let all = length-append (codes ".Lpc") (decimal n) in
+    record {
+      size = omega (arith, all, front, length-decimal-le 20 n (omega arith) (omega (arith, few)) (omega (arith, few)));
+      some = omega (arith, all, front);
+      bytes = All-append IsPlain (codes ".Lpc") (decimal n) front-plain (decimal-plain n (omega (arith, few)));
+    }
 
 label-short : (definition : Definition) (label : Option (List ℕ)) → LabelShort label
     → All HasShort (label_says definition label)
@@ -109,8 +126,14 @@ pub lines-short : (lines : List (List ℕ)) → AllByRecursion IsShortLine (map 
 lines-short [] = tt
 lines-short (line ∷ lines) = (line-short line, lines-short lines)
 
+pub names-good : (lines : List Line) → length lines < 2 ^ 32 → AllByRecursion IsShortLine lines
+    → All (λ entry. IsShort entry.name) (in_order (names_in lines))
+names-good lines few short =
+    order-short (names_in lines) (table-short (said_in lines) (said-from [] lines (omega (arith, few)) short))
+
 pub symbols-short : (lines : List Line) → length lines < 2 ^ 32 → AllByRecursion IsShortLine lines
     → All (λ symbol. length symbol.name ≤ MAX_NAME) (map symbol_of (in_order (names_in lines)))
 symbols-short lines few short =
     All-map (λ (symbol : Symbol). length symbol.name ≤ MAX_NAME) symbol_of (in_order (names_in lines))
-    (order-short (names_in lines) (table-short (said_in lines) (said-from [] lines (omega (arith, few)) short)))
+    (All-weaker (λ (entry : Entry). IsShort entry.name) (λ (entry : Entry). length entry.name ≤ MAX_NAME)
+    (λ entry good. good.size) (in_order (names_in lines)) (names-good lines few short))

@@ -1,13 +1,16 @@
 -- A name that an operand says is at most 255 bytes long.
-use Rattle.std.proofs.Common.{◌≡◌, ℕ, ◌≤◌, ℤ, Bool, true, false, List, [], ◌∷◌, length, if◌then◌else◌, Option, Some, None, option_map, refl, subst, arith, inl, inr}
+use Rattle.std.proofs.Common.{◌&&◌, not, nat_le, ◌<◌, All, ◌≡◌, ℕ, ◌≤◌, ℤ, Bool, true, false, List, [], ◌∷◌, length, if◌then◌else◌, Option, Some, None, option_map, refl, subst, arith, inl, inr}
 use Rattle.std.specs.Prelude.{option_and_then, codes, nat_eq}
 use Rattle.std.specs.List.{AllByRecursion, starts_with}
 use Rattle.std.specs.Str.{bytes_eq}
 use Rattle.std.proofs.lemmas.Bool.{cases_Bool}
 use Rattle.std.proofs.lemmas.Bool.Decides.{nat_tests}
+use Rattle.std.specs.List.{list_all}
+use Rattle.std.proofs.lemmas.List.Sums.{AllPass-from_list_all}
+use Rattle.std.proofs.lemmas.List.Elements.{All-weaker}
 use Rattle.cfi_values.specs.Some.{◌>>=◌}
 use Rattle.cfi_word.specs.declared.limits.TheConstants.{MAX_NAME}
-use Rattle.cfi_text.specs.Names.{is_name, name_in}
+use Rattle.cfi_text.specs.Names.{is_name_byte, begins_name, is_name, name_in}
 use Rattle.rv_line.specs.declared.statement.Datum.{Datum}
 use Rattle.rv_line.specs.declared.statement.Datum.TheVariants as data_words
 use Rattle.rv_line.specs.declared.statement.High.{High}
@@ -24,8 +27,14 @@ use Rattle.rv_line.specs.Register.{register_in}
 use Rattle.rv_line.specs.Statement.{register_and_place, register_and_high, name_form, onto, names_in}
 use Rattle.rv_asm.specs.Reference.{low_reference, high_reference, target_reference, datum_reference, reference_of}
 
-abbrev pub IsShort : (name : List ℕ) → Type 0
-IsShort name = length name ≤ MAX_NAME
+-- a byte of a name is ASCII, and not 0
+abbrev pub IsPlain : (byte : ℕ) → Type 0
+IsPlain byte = (0 < byte) × (byte < 128)
+
+pub record IsShort (name : List ℕ) : Type 0 where
+  pub size : length name ≤ MAX_NAME
+  pub some : 0 < length name
+  pub bytes : All IsPlain name
 
 -- the name that is referred to
 abbrev pub RefersShort : Option (ℕ × List ℕ) → Type 0
@@ -73,9 +82,40 @@ either P false one other first second = second
 
 -- ---- operands
 
-pub name-small : (word : List ℕ) → is_name word ≡ true → length word ≤ MAX_NAME
+size-small : (word : List ℕ) → is_name word ≡ true → length word ≤ MAX_NAME
 unfolding is_name
-name-small word is = grind (arith, nat_tests)
+size-small word is = grind (arith, nat_tests)
+
+begins : (word : List ℕ) → begins_name word ≡ true → 0 < length word
+begins [] is = absurd (cc)
+begins (byte ∷ bytes) is = omega arith
+
+begins-name : (word : List ℕ) → is_name word ≡ true → begins_name word ≡ true
+unfolding is_name
+begins-name word is = grind (arith, nat_tests)
+
+third : (a b c d : Bool) → (a && b && c && d) ≡ true → c ≡ true
+third a b true d is = refl
+third true true false d is = absurd (cc)
+third true false false d is = absurd (cc)
+third false b false d is = absurd (cc)
+
+all-bytes : (word : List ℕ) → is_name word ≡ true → list_all is_name_byte word ≡ true
+unfolding is_name
+all-bytes word is =
+    third (begins_name word) (nat_le (length word) MAX_NAME) (list_all is_name_byte word)
+    (not (starts_with nat_eq word (codes ".Lpc"))) is
+
+plain-byte : (byte : ℕ) → is_name_byte byte ≡ true → IsPlain byte
+plain-byte byte is = (grind (arith, nat_tests), grind (arith, nat_tests))
+
+name-small : (word : List ℕ) → is_name word ≡ true → IsShort word
+name-small word is = record {
+  size = size-small word is;
+  some = begins word (begins-name word is);
+  bytes = All-weaker (λ byte. is_name_byte byte ≡ true) IsPlain plain-byte word
+      (AllPass-from_list_all is_name_byte word (all-bytes word is));
+}
 
 pub name-short : (word : List ℕ) → Gives IsShort (name_in word)
 name-short word = elim (cases_Bool (is_name word)) [

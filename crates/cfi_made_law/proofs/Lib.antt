@@ -14,3 +14,7 @@ pub mod AsmBranchLemmas
 pub mod AsmNameLemmas
 pub mod AsmInfoLemmas
 pub mod AsmLemmas
+pub mod AsmExactLemmas
+pub mod AsmRelocLemmas
+pub mod AsmSymbolLemmas
+pub mod AsmWholeLemmas

@@ -5,11 +5,13 @@ ghost use Rattle.cfi_word.specs.declared.limits.TheConstants.{MAX_FILE_BYTES};
 ghost use Rattle.elf_read.specs.Fault.{IsObject};
 ghost use Rattle.elf_read.specs.declared.object.Object.{Object};
 ghost use Rattle.elf_write.specs.Limits.{IsWithinLimits};
+ghost use Rattle.elf_write.specs.Whole.{IsWhole};
 ghost use Rattle.cfi_aux.specs.Module.{IsModuleOf};
 ghost use Rattle.cfi_aux.specs.Sound.{IsSoundModule};
 ghost use Rattle.cfi_aux.specs.declared.modules.Module.{Module};
 ghost use Rattle.cfi_instr.specs.Output.{IsInstrumented};
 ghost use Rattle.cfi_link.specs.Linked.{AreModules, Linked};
+ghost use Rattle.cfi_made_law.specs.Order.{object_of_file};
 ghost use Rattle.cfi_made_law.specs.Read.{IsReadOf};
 ghost use Rattle.rv_asm.specs.Assembled.{object_in};
 
@@ -47,4 +49,10 @@ pub fn linked_are_within_limits()
 pub fn assembled_are_within_limits()
     ensures { (text : List ℕ) (object : Object) → length text ≤ MAX_FILE_BYTES →
         object_in text ≡ Ok object → IsWithinLimits object }
+{}
+
+/// What is made of a source that is no longer than a file can be a file, once its relocations are in a file's order.
+pub fn assembled_are_whole()
+    ensures { (text : List ℕ) (object : Object) → length text ≤ MAX_FILE_BYTES →
+        object_in text ≡ Ok object → IsWhole (object_of_file object) }
 {}

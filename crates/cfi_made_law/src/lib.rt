@@ -8,6 +8,6 @@
 mod laws;
 
 pub use laws::{
-    assembled_are_within_limits, instrumented_are_sound, instrumented_are_within_limits,
-    linked_are_sound, linked_are_within_limits,
+    assembled_are_whole, assembled_are_within_limits, instrumented_are_sound,
+    instrumented_are_within_limits, linked_are_sound, linked_are_within_limits,
 };
