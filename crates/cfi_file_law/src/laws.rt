@@ -1,12 +1,13 @@
 //! What the files that the program saves are read as.
 
-ghost use Rattle.std.specs.Prelude.{ℕ, ◌<◌, ◌^◌, List, length, All};
+ghost use Rattle.std.specs.Prelude.{ℕ, ◌<◌, ◌^◌, List, [], length, All};
 ghost use Rattle.cfi_aux.specs.declared.placed.Placed.{Placed};
 ghost use Rattle.elf_write.specs.File.{bytes_of};
 ghost use Rattle.cfi_instr_law.specs.Example.{loop_room, no_names};
 ghost use Rattle.cfi_instr_law.specs.Proper.{IsMadeAt, IsProper};
 ghost use Rattle.cfi_place.specs.declared.room.Room.{Room};
 ghost use Rattle.cfi_place.specs.Names.{Names};
+ghost use Rattle.cfi_verify.specs.Faults.{Verifies};
 ghost use Rattle.cfi_commands.specs.Reading.{IsModuleFile};
 ghost use Rattle.cfi_commands.specs.Instrumenting.{IsInstrumentedFile};
 ghost use Rattle.cfi_commands.specs.Linking.{IsLinkedFile};
@@ -18,6 +19,7 @@ ghost use Rattle.cfi_file_law.specs.Example.{call_source, call_made, call_placed
 ghost use Rattle.cfi_file_law.specs.LinkedExample.{linked_inputs, linked_files, linked_output};
 
 use cfi_aux::{read_can_be_written, what_is_read_is_sound};
+use cfi_instr_law::instrumented_are_proper;
 use elf_write::laws::written_is_read;
 
 /// The file that `instrument` saves is read as the module that was made.
@@ -53,6 +55,14 @@ pub fn linked_are_read()
 pub fn some_call_is_instrumented()
     ensures { IsMadeAt call_source call_made loop_room no_names call_placed }
 {}
+
+/// At its place the verifier finds no fault of that module.
+pub fn some_call_verifies()
+    ensures { Verifies call_placed [] }
+{
+    some_call_is_instrumented();
+    instrumented_are_proper();
+}
 
 /// That module is read of a file, and the file that `instrument` saves of it is read and placed.
 pub fn some_call_is_saved()
