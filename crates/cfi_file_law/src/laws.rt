@@ -56,7 +56,7 @@ pub fn some_call_is_instrumented()
     ensures { IsMadeAt call_source call_made loop_room no_names call_placed }
 {}
 
-/// At its place the verifier finds no fault of that module.
+/// No fault of the verifier stands against that module at its place.
 pub fn some_call_verifies()
     ensures { Verifies call_placed [] }
 {
