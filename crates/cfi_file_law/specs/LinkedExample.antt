@@ -1,5 +1,5 @@
--- That instrumented module linked with itself: each call is led back to its own function, since no other module can name
--- it, and the checks name the slots 0 and 1.
+-- That instrumented module linked with itself: each call is led back to its own function, since no other module can
+-- name it, and the checks name the slots 0 and 1.
 use Rattle.std.specs.Prelude.{ℕ, negsuc, false, List, [], ◌∷◌, ◌++◌, Some}
 use Rattle.std.specs.List.{flat_map}
 use Rattle.elf_read.specs.declared.object.Object.{Object}

@@ -1,6 +1,6 @@
 //! What the files that the program saves are read as.
 
-ghost use Rattle.std.specs.Prelude.{ℕ, ◌<◌, ◌≤◌, ◌^◌, List, length, All};
+ghost use Rattle.std.specs.Prelude.{ℕ, ◌<◌, ◌≤◌, ◌^◌, List, [], length, All};
 ghost use Rattle.cfi_word.specs.declared.limits.TheConstants.{MAX_FILE_BYTES};
 ghost use Rattle.elf_read.specs.Fault.{IsObject};
 ghost use Rattle.cfi_aux.specs.declared.placed.Placed.{Placed};
@@ -9,7 +9,11 @@ ghost use Rattle.cfi_instr_law.specs.Example.{loop_room, no_names};
 ghost use Rattle.cfi_instr_law.specs.Proper.{IsMadeAt, IsProper};
 ghost use Rattle.cfi_place.specs.declared.room.Room.{Room};
 ghost use Rattle.cfi_place.specs.Names.{Names};
+<<<<<<< HEAD
 ghost use Rattle.cfi_commands.specs.Assembling.{IsAssembled};
+=======
+ghost use Rattle.cfi_verify.specs.Faults.{Verifies};
+>>>>>>> fad12037d9cd6cef85065b90b70d37dc3aca8b16
 ghost use Rattle.cfi_commands.specs.Reading.{IsModuleFile};
 ghost use Rattle.cfi_commands.specs.Instrumenting.{IsInstrumentedFile};
 ghost use Rattle.cfi_commands.specs.Linking.{IsLinkedFile};
@@ -21,7 +25,11 @@ ghost use Rattle.cfi_file_law.specs.Example.{call_source, call_made, call_placed
 ghost use Rattle.cfi_file_law.specs.LinkedExample.{linked_inputs, linked_files, linked_output};
 
 use cfi_aux::{read_can_be_written, what_is_read_is_sound};
+<<<<<<< HEAD
 use cfi_made_law::assembled_are_whole;
+=======
+use cfi_instr_law::instrumented_are_proper;
+>>>>>>> fad12037d9cd6cef85065b90b70d37dc3aca8b16
 use elf_write::laws::written_is_read;
 
 /// The file that `instrument` saves is read as the module that was made.
@@ -66,6 +74,14 @@ pub fn assembled_are_read()
 pub fn some_call_is_instrumented()
     ensures { IsMadeAt call_source call_made loop_room no_names call_placed }
 {}
+
+/// No fault of the verifier stands against that module at its place.
+pub fn some_call_verifies()
+    ensures { Verifies call_placed [] }
+{
+    some_call_is_instrumented();
+    instrumented_are_proper();
+}
 
 /// That module is read of a file, and the file that `instrument` saves of it is read and placed.
 pub fn some_call_is_saved()

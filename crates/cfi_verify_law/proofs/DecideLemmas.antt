@@ -49,10 +49,6 @@ when {P} {Q} one other =
     (λ (no : ¬ P). inl (λ (p : P). absurd (no p)))
     one
 
--- what is not refused holds
-pub stable : {P : Type 0} → Decided P → ((¬ P) → ⊥) → P
-stable {P} decided some = ⊎_elim (λ (p : P). p) (λ (no : ¬ P). absurd (some no)) decided
-
 -- ---- of numbers, booleans and lists of numbers
 
 pub less : (a b : ℕ) → Decided (a < b)
