@@ -9,11 +9,8 @@ ghost use Rattle.cfi_instr_law.specs.Example.{loop_room, no_names};
 ghost use Rattle.cfi_instr_law.specs.Proper.{IsMadeAt, IsProper};
 ghost use Rattle.cfi_place.specs.declared.room.Room.{Room};
 ghost use Rattle.cfi_place.specs.Names.{Names};
-<<<<<<< HEAD
 ghost use Rattle.cfi_commands.specs.Assembling.{IsAssembled};
-=======
 ghost use Rattle.cfi_verify.specs.Faults.{Verifies};
->>>>>>> fad12037d9cd6cef85065b90b70d37dc3aca8b16
 ghost use Rattle.cfi_commands.specs.Reading.{IsModuleFile};
 ghost use Rattle.cfi_commands.specs.Instrumenting.{IsInstrumentedFile};
 ghost use Rattle.cfi_commands.specs.Linking.{IsLinkedFile};
@@ -25,11 +22,8 @@ ghost use Rattle.cfi_file_law.specs.Example.{call_source, call_made, call_placed
 ghost use Rattle.cfi_file_law.specs.LinkedExample.{linked_inputs, linked_files, linked_output};
 
 use cfi_aux::{read_can_be_written, what_is_read_is_sound};
-<<<<<<< HEAD
-use cfi_made_law::assembled_are_whole;
-=======
 use cfi_instr_law::instrumented_are_proper;
->>>>>>> fad12037d9cd6cef85065b90b70d37dc3aca8b16
+use cfi_made_law::assembled_are_whole;
 use elf_write::laws::written_is_read;
 
 /// The file that `instrument` saves is read as the module that was made.
