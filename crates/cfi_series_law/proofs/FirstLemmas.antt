@@ -23,7 +23,8 @@ use Rattle.cfi_series_law.proofs.WordLemmas.{insns_or_not, units_or_stop}
 
 -- ---- the first item that is not as it should be
 
-module _ {T : Type 0} (xs : List T) (place : ℕ → T → ℕ) (P : ℕ → T → Type 0) (decided : (number : ℕ) (x : T) → Decided (P number x)) where
+module _ {T : Type 0} (xs : List T) (place : ℕ → T → ℕ) (P : ℕ → T → Type 0)
+    (decided : (number : ℕ) (x : T) → Decided (P number x)) where
   -- each is as it should be, or a first one is not
   abbrev EachOrFirst : Type 0
   EachOrFirst = Each xs P ⊎ ((at : ℕ) × IsFirstBreak xs place P at)
@@ -65,21 +66,21 @@ module _ (m : Placed) (loaded : List Placed) where
         ⊎_elim
         (λ (switches : Each (checks_of spots) (EntriesFit m spots)).
         inl (
-        spots,
-        record {
-          laid = record {
-            some = some;
-            units = are;
-            slots = slots;
-            functions = functions.0;
-            idle = functions.1;
-            ends = ends;
-          };
-          targets = targets;
-          kinds = kinds.0;
-          records = kinds.1;
-          switches = switches;
-        },
+          spots,
+          record {
+            laid = record {
+              some = some;
+              units = are;
+              slots = slots;
+              functions = functions.0;
+              idle = functions.1;
+              ends = ends;
+            };
+            targets = targets;
+            kinds = kinds.0;
+            records = kinds.1;
+            switches = switches;
+          },
         ))
         (λ (b : (at : ℕ) × IsFirstBreak (checks_of spots) own_number (EntriesFit m spots) at).
         inr (faults.Switch b.0, first_switch m loaded spots are clear b.0 b.1))
@@ -93,8 +94,8 @@ module _ (m : Placed) (loaded : List Placed) where
         ⊎_elim
         (λ (more : length (checks_of spots) < length m.branches).
         inr (
-        faults.Kinds (4 * length m.words),
-        first_kinds m loaded spots are clear (4 * length m.words) (inr (refl, each, more)),
+          faults.Kinds (4 * length m.words),
+          first_kinds m loaded spots are clear (4 * length m.words) (inr (refl, each, more)),
         ))
         (λ (few : length m.branches ≤ length (checks_of spots)).
         by_switches slots functions ends targets (each, few) (clear_nine m loaded spots are clear (each, few)))
@@ -120,8 +121,8 @@ module _ (m : Placed) (loaded : List Placed) where
         by_targets slots functions ends (clear_seven m loaded spots are some slots functions ends))
         (λ (b : (at : ℕ) × IsFirstBreak m.functions own_number (EndsWell spots) at).
         inr (
-        faults.FallsThrough b.0,
-        first_open m loaded spots are (clear_six m loaded spots are some slots functions) b.0 b.1,
+          faults.FallsThrough b.0,
+          first_open m loaded spots are (clear_six m loaded spots are some slots functions) b.0 b.1,
         ))
         (first m.functions own_number (EndsWell spots) (ends_well spots))
 
@@ -134,8 +135,8 @@ module _ (m : Placed) (loaded : List Placed) where
         (λ (idle : IsIdleBehind m spots). by_ends slots (each, idle))
         (λ (no : ¬ IsIdleBehind m spots).
         inr (
-        faults.Functions (length m.functions),
-        first_functions m loaded spots are clear (length m.functions) (inr (refl, each, no)),
+          faults.Functions (length m.functions),
+          first_functions m loaded spots are clear (length m.functions) (inr (refl, each, no)),
         ))
         (idle_behind m spots))
         (λ (b : (at : ℕ) × IsFirstBreak m.functions own_number (FitsBehind m spots) at).
@@ -155,8 +156,8 @@ module _ (m : Placed) (loaded : List Placed) where
       (λ (read : (spots : List Spot) × AreSpots m.words spots). by_slots some read.0 read.1)
       (λ (end : (at : ℕ) × StopsAt m.words at).
       inr (
-      faults.NotUnit (4 * end.0),
-      first_stop m loaded some insns (4 * end.0) (record { at = end.0; here = refl; stops = end.1 }),
+        faults.NotUnit (4 * end.0),
+        first_stop m loaded some insns (4 * end.0) (record { at = end.0; here = refl; stops = end.1 }),
       ))
       (units_or_stop m.words)
 
@@ -172,8 +173,8 @@ module _ (m : Placed) (loaded : List Placed) where
       ⊎_elim
       (λ (none : m.words ≡ []).
       inr (
-      faults.Empty,
-      is_first m loaded faults.Empty none (clear_one m loaded) (λ other same stands. omega arith),
+        faults.Empty,
+        is_first m loaded faults.Empty none (clear_one m loaded) (λ other same stands. omega arith),
       ))
       by_insns
       (empty m.words)

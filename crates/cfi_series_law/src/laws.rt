@@ -21,6 +21,7 @@ pub fn joins_or_has_a_fault()
         ⊎ ((fault : JoinFault) × (fault ≢ Memory) × IsJoinFault code_words before m fault) }
     ensures one { (code_words : ℕ) (before : List Placed) (m : Module) (p q : Placed) →
         Joins code_words before m p → Joins code_words before m q → p ≡ q }
-    ensures never { (code_words : ℕ) (before : List Placed) (m : Module) (p : Placed) (fault : JoinFault) →
-        Joins code_words before m p → IsJoinFault code_words before m fault → fault ≡ Memory }
+    ensures never { (code_words : ℕ) (before : List Placed) (m : Module) (p : Placed)
+        (fault : JoinFault) → Joins code_words before m p →
+        IsJoinFault code_words before m fault → fault ≡ Memory }
 {}

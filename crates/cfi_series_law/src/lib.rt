@@ -1,8 +1,8 @@
 //! A module joins those before it, or it has one fault.
 //!
-//! Stands on `cfi_series`, `cfi_verify_law` and what they stand on; nothing stands on it. Proved: a module that does not
-//! join modules before it has one fault; each module joins as one placed module or has a fault other than a want of
-//! memory, and never both. Only tested: nothing. Open: nothing.
+//! Stands on `cfi_series`, `cfi_verify_law` and what they stand on; nothing stands on it. Proved: a module that does
+//! not join those before it has one fault; each module joins, as one placed module, or has a fault other than a want
+//! of memory, and never both. Only tested: nothing. Open: nothing.
 #![tactic(auto)]
 
 mod laws;
