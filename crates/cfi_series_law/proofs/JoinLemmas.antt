@@ -14,7 +14,7 @@ use Rattle.cfi_series.specs.Room.{room_after}
 use Rattle.cfi_series.specs.Order.{names_of, IsPlacedBehind, Joins, IsJoinFault}
 use Rattle.cfi_series.proofs.LengthLemmas.{ok_not_err}
 use Rattle.cfi_series.proofs.PlacedLemmas.{placed_once}
-use Rattle.cfi_series_law.proofs.FirstLemmas.{verified_or_not}
+use Rattle.cfi_verify_law.proofs.VerifiedLemmas.{verified_or_first}
 use Rattle.cfi_series_law.proofs.PlaceLemmas.{placed_or_not}
 
 -- ---- one fault
@@ -51,7 +51,7 @@ module _ (code_words : ℕ) (before : List Placed) (m : Module) where
       (λ (verified : IsVerified p before). inl (p, record { behind = behind; verified = verified }))
       (λ (first : (fault : VerifyFault) × IsFirstFault p before fault).
       inr (Verify first.0, λ same. absurd (cc), (p, behind, first.1)))
-      (verified_or_not p before)
+      (verified_or_first p before)
 
   pub joins_or_faults : JoinsOrFaults
   joins_or_faults =

@@ -1,4 +1,3 @@
 pub mod WordLemmas
-pub mod FirstLemmas
 pub mod PlaceLemmas
 pub mod JoinLemmas

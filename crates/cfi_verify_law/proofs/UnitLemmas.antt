@@ -72,7 +72,7 @@ begins words at unit =
     (λ (spells : BeginsAt words at unit). (spells.fits, spells.spelled))
     (both (is_unit unit) (equal_lists (take (size_of unit) (drop at words)) (words_of unit)))
 
-begins_some : (words : List ℕ) (at : ℕ) (found : Option CodeUnit) → unit_at (drop at words) ≡ found →
+pub begins_some : (words : List ℕ) (at : ℕ) (found : Option CodeUnit) → unit_at (drop at words) ≡ found →
     Decided ((unit : CodeUnit) × BeginsAt words at unit)
 begins_some words at None none =
     inr
