@@ -23,3 +23,5 @@ pub mod GrowthLemmas
 pub mod MadeLemmas
 pub mod TwoLemmas
 pub mod EntryLemmas
+pub mod NumberLemmas
+pub mod HandLemmas

@@ -5,3 +5,5 @@ pub mod Fills
 pub mod Room
 pub mod Order
 pub mod Series
+pub mod Numbers
+pub mod Examples

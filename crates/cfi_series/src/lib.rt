@@ -4,19 +4,22 @@
 //! takes a module exactly where it places and verifies behind those that it has, and else says the module's first fault
 //! and stays as it was; modules that were loaded at the next free places, each verified against some of those before it,
 //! are shaped, each image of them is closed, and the images of a growing list of them are a history; the modules of a
-//! series have a graph and an image; some series has a module. Only tested: that ample memory is enough. Open: when memory
-//! runs out.
+//! series have a graph and an image; some series has a module; why a module does not join is one fault, told by its
+//! numbers; some places and entries, by hand. Only tested: that ample memory is enough. Open: when memory runs out.
 #![tactic(auto)]
 
 mod entry;
+mod examples;
 mod fault;
 mod joining;
 mod laws;
 mod names;
+mod numbers;
 mod room;
 mod series;
 
 pub use entry::{entry_in, first_global};
+pub use examples::places_by_hand;
 pub use fault::JoinFault;
 pub use laws::{
     loaded_are_shaped, loaded_have_closed_images, loaded_have_entries, loaded_have_image,
@@ -24,4 +27,5 @@ pub use laws::{
     series_are_loaded, series_have_graph, some_module_can_be_taken, some_modules_are_loaded,
     some_modules_make_a_history, some_series_has_a_module,
 };
+pub use numbers::{FaultNumbers, join_faults_have_numbers};
 pub use series::Series;
