@@ -24,3 +24,5 @@ pub mod PreparedLemmas
 pub mod MadeLemmas
 pub mod TwoLemmas
 pub mod EntryLemmas
+pub mod NumberLemmas
+pub mod HandLemmas

@@ -6,3 +6,5 @@ pub mod Room
 pub mod Order
 pub mod Series
 pub mod Prepared
+pub mod Numbers
+pub mod Examples

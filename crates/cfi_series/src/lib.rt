@@ -5,19 +5,23 @@
 //! and stays as it was; modules that were loaded at the next free places, each verified against some of those before it,
 //! are shaped, each image of them is closed, and the images of a growing list of them are a history; the modules of a
 //! series have a graph and an image; a load has two steps, of which the second takes no memory; the Global function of a
-//! name is found. Only tested: that ample memory is enough. Open: when memory runs out.
+//! name is found; why a module does not join is one fault, told by its numbers; some places and entries, by hand. Only
+//! tested: that ample memory is enough. Open: when memory runs out.
 #![tactic(auto)]
 
 mod entry;
+mod examples;
 mod fault;
 mod joining;
 mod laws;
 mod names;
+mod numbers;
 mod prepared;
 mod room;
 mod series;
 
 pub use entry::{entry_in, first_global};
+pub use examples::places_by_hand;
 pub use fault::JoinFault;
 pub use laws::{
     loaded_are_shaped, loaded_have_closed_images, loaded_have_entries, loaded_have_image,
@@ -25,5 +29,6 @@ pub use laws::{
     series_are_loaded, series_have_graph, some_module_can_be_taken, some_modules_are_loaded,
     some_modules_make_a_history, some_series_has_a_module,
 };
+pub use numbers::{FaultNumbers, join_faults_have_numbers};
 pub use prepared::{Prepared, Refused};
 pub use series::Series;
