@@ -1,3 +1,5 @@
 pub mod WordLemmas
 pub mod PlaceLemmas
 pub mod JoinLemmas
+pub mod ReadLemmas
+pub mod StayLemmas
