@@ -21,9 +21,9 @@ use Rattle.cfi_model.specs.History.{History, IsStart, fixed}
 use Rattle.cfi_model.specs.Fits.{Fits, FitsReply, FitsOpen, Along}
 use Rattle.cfi_model.proofs.AdvanceLemmas.{Running}
 use Rattle.cfi_model.proofs.ShownLemmas.{reached}
+use Rattle.cfi_model.proofs.SnocLemmas.{run_append, along_append, run_snoc, along_snoc}
 use Rattle.cfi_fixed.specs.Fixed.{IsWordTake, IsRunOver, CanRunOver, HasRunOver}
 use Rattle.cfi_fixed.specs.Bare.{bare_cause, bare_reply, AreBareTakes, IsBarePath, IsResting, IsAsking, ComesTo}
-use Rattle.cfi_fixed.proofs.WayLemmas.{run_snoc, along_snoc}
 use Rattle.cfi_fixed.proofs.PathLemmas.{serves}
 
 -- a guest that is opened at a start can run
@@ -47,15 +47,6 @@ opened_can image size closed number entry fills start fuel =
     }
 
 -- two lists of accesses, one after the other
-run_append : (a b : List Take) (r : Raw) → run_of r (a ++ b) ≡ run_of (run_of r a) b
-run_append [] b r = refl
-run_append (t ∷ a) b r = run_append a b (take_one r t)
-
-along_append : (h : History) (code : List ℕ) (a b : List Take) (r : Raw) → Along h code r a
-    → Along h code (run_of r a) b → Along h code r (a ++ b)
-along_append h code [] b r p q = q
-along_append h code (t ∷ a) b r p q = (p.0, along_append h code a b (take_one r t) p.1 q)
-
 answers_append : (a b : List Take) (r : Raw) → AreBareTakes r a → AreBareTakes (run_of r a) b
     → AreBareTakes r (a ++ b)
 answers_append [] b r p q = q

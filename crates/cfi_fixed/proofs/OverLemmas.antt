@@ -22,11 +22,12 @@ use Rattle.cfi_model.specs.Fits.{Fits, FitsWord}
 use Rattle.cfi_model.specs.Shows.{IsBetween, IsShown}
 use Rattle.cfi_model.proofs.FixedLemmas.{fixed_history}
 use Rattle.cfi_model.proofs.ShownLemmas.{raw_shows}
+use Rattle.cfi_model.proofs.SnocLemmas.{run_snoc, along_snoc}
 use Rattle.cfi_model.proofs.StuckLemmas.{raw_has_steps}
 use Rattle.cfi_model.proofs.StepLemmas.{counts_step}
 use Rattle.rv_guest.specs.Guest.{spent, is_spent}
 use Rattle.cfi_fixed.specs.Fixed.{IsRunOver, CanRunOver, HasRunOver, MayFind, awaited_class, table_word}
-use Rattle.cfi_fixed.proofs.WayLemmas.{IsUnderWay, HasBegun, words_snoc, run_snoc, along_snoc, insn_is, no_step, packable, finish_steps, fair_zero, some_stop, same_stop, unspent, spent_now}
+use Rattle.cfi_fixed.proofs.WayLemmas.{IsUnderWay, HasBegun, words_snoc, insn_is, no_step, packable, finish_steps, fair_zero, some_stop, same_stop, unspent, spent_now}
 use Rattle.cfi_fixed.proofs.ActLemmas.{Tells, IsTableWait, act_tells}
 use Rattle.cfi_fixed.proofs.LowLemmas.{IsLow, HasPolicyZero, HasEpochZero, low_begin}
 

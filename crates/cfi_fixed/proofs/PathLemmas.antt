@@ -10,6 +10,7 @@ use Rattle.cfi_model.specs.Service.{Reply}
 use Rattle.cfi_model.specs.Run.{Served, take_one}
 use Rattle.cfi_model.specs.History.{History}
 use Rattle.cfi_model.specs.Fits.{Fits}
+use Rattle.cfi_model.specs.Shows.{end_of}
 use Rattle.cfi_model.proofs.MaskedLemmas as masked
 use Rattle.cfi_model.proofs.CheckPlaces as check
 use Rattle.cfi_model.proofs.LawLemmas.{Ended, Begun, At}
@@ -53,7 +54,7 @@ check_waits p n slot target v check.Allowed is = is
 serve_within : (h : History) (code : List ℕ) (p : State) (n : ℕ) (unit : CodeUnit) → At h code p unit
     → (r : Raw)
     → Begun h p unit n r → IsService r.waits → (reply : Reply) → Fits h code r (Served reply)
-    → Ended h code n r.tary p (take_one r (Served reply))
+    → Ended h code n (end_of r (Served reply)) p (take_one r (Served reply))
 serve_within h code p n (units.Plain insn) at r begun is reply fits = absurd begun
 serve_within h code p n (units.Branch c rs1 rs2 off) at r begun is reply fits = absurd begun
 serve_within h code p n (units.Jump link off) at r begun is reply fits = absurd begun
@@ -74,7 +75,7 @@ serve_within h code p n units.Service at r begun is reply fits =
 -- a running machine that waits in a service stands in its unit
 pub serves : (h : History) (code : List ℕ) (p : State) (n : ℕ) (r : Raw) → Running h code p n r → (number : ℕ)
     → r.waits ≡ Some (waits.Service number) → (reply : Reply) → Fits h code r (Served reply)
-    → Ended h code n r.tary p (take_one r (Served reply))
+    → Ended h code n (end_of r (Served reply)) p (take_one r (Served reply))
 serves h code p n r (inl rests) number is reply fits =
     absurd (subst IsService (sym is ∙ rests.1.idle) tt)
 serves h code p n r (inr within) number is reply fits =

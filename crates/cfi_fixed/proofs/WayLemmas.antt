@@ -29,15 +29,6 @@ pub words_snoc : (takes : List Take) (word : ℕ) → AllByRecursion IsWordTake 
 words_snoc [] word all = (tt, tt)
 words_snoc (t ∷ takes) word all = (all.0, words_snoc takes word all.1)
 
-pub run_snoc : (takes : List Take) (t : Take) (r : Raw) → run_of r (takes ++ t ∷ []) ≡ take_one (run_of r takes) t
-run_snoc [] t r = refl
-run_snoc (x ∷ takes) t r = run_snoc takes t (take_one r x)
-
-pub along_snoc : (h : History) (code : List ℕ) (takes : List Take) (t : Take) (r : Raw) → Along h code r takes
-    → Fits h code (run_of r takes) t → Along h code r (takes ++ t ∷ [])
-along_snoc h code [] t r along fits = (fits, tt)
-along_snoc h code (x ∷ takes) t r along fits = (along.0, along_snoc h code takes t (take_one r x) along.1 fits)
-
 -- a word that has a step is an instruction
 pub insn_is : (o : Option Insn) (word : ℕ) (r : Raw) → insn_of word ≡ o → HasStepBy o r
     → (insn : Insn) × (insn_of word ≡ Some insn) × HasStep insn r

@@ -1,15 +1,16 @@
 -- What is said of a check that has ended.
-use Rattle.std.proofs.Common.{◌≡◌, ◌≢◌, ℕ, ◌+◌, ◌%◌, ◌^◌, ◌<◌, ◌≤◌, ℤ, List, Option, Some, ap, ◌∙◌, subst, arith, Bool, true}
+use Rattle.std.proofs.Common.{◌≡◌, ◌≢◌, ℕ, ◌+◌, ◌%◌, ◌^◌, ◌<◌, ◌≤◌, ℤ, List, Some, ap, ◌∙◌, subst, arith, Bool, true}
 use Rattle.std.proofs.lemmas.Bool.Decides.{nat_tests}
 use Rattle.cfi_unit.specs.declared.unit.Unit.TheVariants as units
-use Rattle.cfi_word.specs.Word.{policy_in}
+use Rattle.cfi_word.specs.Ids.{low_half}
+use Rattle.cfi_word.specs.Word.{id_in, policy_in}
 use Rattle.cfi_model.specs.Log.{last_policy}
 use Rattle.cfi_model.specs.Effect.{checked, is_in_code}
-use Rattle.cfi_model.specs.Shows.{IsBetween}
+use Rattle.cfi_model.specs.Shows.{IsBetween, End}
 use Rattle.cfi_model.specs.State.{State}
 use Rattle.cfi_model.specs.Raw.{Raw}
-use Rattle.cfi_model.specs.History.{History, allows_at}
-use Rattle.cfi_model.proofs.IdLemmas.{tary_parts}
+use Rattle.cfi_model.specs.History.{History, IsEpoch, slot_class, word_of, allows_at}
+use Rattle.cfi_model.proofs.IdLemmas.{tary_parts, one_epoch}
 use Rattle.cfi_model.proofs.FetchLemmas.{Here}
 use Rattle.cfi_model.proofs.CheckPlaces.{HasTwo, CheckEnded, IsTried}
 
@@ -26,20 +27,25 @@ whole_in_code target low whole = grind (arith, nat_tests)
 module _ (h : History) (code : List ℕ) (p : State) (link : Bool) (rs1 : ℕ) (imm : ℤ) (slot : ℕ)
     (here : Here h code p (units.Check link rs1 imm slot)) (retries : ℕ) where
   -- a check has ended that picks a policy
-  pub judged : (more : ℕ) → HasTwo h more → (to bary tary : ℕ) (tried : IsTried h p slot to bary tary)
-      → (kept : Option ℕ) → kept ≡ Some tary → (r : Raw)
+  pub judged : (more to : ℕ) → HasTwo h slot to more → (bary tary : ℕ) (tried : IsTried h p slot to bary tary)
+      → low_half (id_in tary) ≡ low_half (id_in bary)
+      → (end : End) → end.bary ≡ Some bary → end.tary ≡ Some tary → (r : Raw)
       → IsBetween (retries + more)
       (checked (policy_in tary) (allows_at h tried.words.goal.epoch slot to) link to p) r
-      → CheckEnded h p retries slot to link kept r
-  judged more two to bary tary tried kept is r ends =
+      → CheckEnded h p retries slot to link end r
+  judged more to two bary tary tried low end branch goal r ends =
       let word = tary_parts h code slot to bary tary here.known tried.words in
       let epoch : ℕ = tried.words.goal.epoch in
+      let one = one_epoch h code slot to bary tary here.known tried.words low in
       record {
         more = more;
         two = two;
         epoch = epoch;
-        known = tried.words.goal.known;
-        under = λ inside. is ∙ ap Some tried.words.goal.is;
+        known = subst (IsEpoch h) one tried.words.branch.known;
+        under = λ inside. record {
+          bary = branch ∙ ap Some (tried.words.branch.is ∙ ap (λ e. word_of h e (slot_class h e slot)) one);
+          tary = goal ∙ ap Some tried.words.goal.is;
+        };
         ends = subst (λ pick. IsBetween (retries + more) (checked pick (allows_at h epoch slot to) link to p) r)
             word.policy ends;
         logged = λ again. whole_in_code to tried.low tried.whole;
@@ -53,10 +59,10 @@ module _ (h : History) (code : List ℕ) (p : State) (link : Bool) (rs1 : ℕ) (
       checked (h.policy start.epoch) (allows_at h start.epoch slot to) link to p
 
   -- a check has ended that picks none
-  pub unpicked : (more : ℕ) → HasTwo h more → (to : ℕ) → (is_in_code to ≡ true → ⊥) → (more ≢ 0 → ⊥)
-      → (kept : Option ℕ) (r : Raw) → IsBetween (retries + more) (unpicked_state to) r
-      → CheckEnded h p retries slot to link kept r
-  unpicked more two to outside once kept r ends =
+  pub unpicked : (more to : ℕ) → HasTwo h slot to more → (is_in_code to ≡ true → ⊥) → (more ≢ 0 → ⊥)
+      → (end : End) (r : Raw) → IsBetween (retries + more) (unpicked_state to) r
+      → CheckEnded h p retries slot to link end r
+  unpicked more to two outside once end r ends =
       let start = here.ready.start here.going in
       record {
         more = more;

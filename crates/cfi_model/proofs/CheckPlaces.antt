@@ -6,8 +6,8 @@ use Rattle.cfi_model.specs.declared.act.Wait.TheVariants as waits
 use Rattle.cfi_model.specs.Log.{last_policy}
 use Rattle.cfi_model.specs.State.{State}
 use Rattle.cfi_model.specs.Raw.{Raw}
-use Rattle.cfi_model.specs.History.{History, IsEpoch, IsTableWord, slot_class, target_class, word_of, allows_at}
-use Rattle.cfi_model.specs.Shows.{IsBetween}
+use Rattle.cfi_model.specs.History.{History, IsEpoch, IsBaryWord, allows_at}
+use Rattle.cfi_model.specs.Shows.{IsBetween, IsRepeat, AreKept, IsTriedIn, End}
 use Rattle.cfi_model.specs.Effect.{checked, is_in_code}
 use Rattle.cfi_model.proofs.InnerLemmas.{inner}
 use Rattle.cfi_model.proofs.CheckLemmas.{high_word}
@@ -84,14 +84,11 @@ check_raw p n slot t v Refused =
 check_raw p n slot t v Allowed =
     inner p p.units (p.pc + 4 * 13) (p.steps + 9 * n + 9) v.x28 v.x29 v.x30 t (Some v.bary) (Some v.tary) None
 
--- the slot's word was found
-abbrev pub IsBranchWord : History → (slot bary : ℕ) → Type 0
-IsBranchWord h slot bary = IsTableWord h (λ epoch. slot_class h epoch slot) bary
-
--- a try has begun, which repeats one only where the target is whole
-pub record IsTrying (more target : ℕ) : Type 0 where
+-- a try has begun, which repeats one only where the target is whole, and for the two words that are kept
+pub record IsTrying (h : History) (more slot target : ℕ) (kept last : Option ℕ) : Type 0 where
   pub low : target < 2 ^ 18
   pub whole : more ≢ 0 → target % 4 ≡ 0
+  pub words : more ≢ 0 → AreKept h slot target kept last
 
 -- both words were found, and the second one may be logged
 pub record IsTried (h : History) (p : State) (slot target bary tary : ℕ) : Type 0 where
@@ -105,13 +102,13 @@ abbrev pub CheckHolds : History → State → (more slot target : ℕ) → Value
 CheckHolds h p more slot t v Aimed = more ≡ 0
 CheckHolds h p more slot t v Split = more ≡ 0
 CheckHolds h p more slot t v Far = (more ≡ 0) × (2 ^ 18 ≤ t)
-CheckHolds h p more slot t v Trying = IsTrying more t
-CheckHolds h p more slot t v Pointed = IsTrying more t
-CheckHolds h p more slot t v AskedBary = IsTrying more t
-CheckHolds h p more slot t v FoundBary = IsTrying more t × IsBranchWord h slot v.bary
-CheckHolds h p more slot t v Tabled = IsTrying more t × IsBranchWord h slot v.bary
-CheckHolds h p more slot t v Added = IsTrying more t × IsBranchWord h slot v.bary
-CheckHolds h p more slot t v AskedTary = (t < 2 ^ 18) × (t % 4 ≡ 0) × IsBranchWord h slot v.bary
+CheckHolds h p more slot t v Trying = IsTrying h more slot t v.kept v.last
+CheckHolds h p more slot t v Pointed = IsTrying h more slot t v.kept v.last
+CheckHolds h p more slot t v AskedBary = IsTrying h more slot t v.kept v.last
+CheckHolds h p more slot t v FoundBary = IsTrying h more slot t v.kept v.last × IsBaryWord h slot v.bary
+CheckHolds h p more slot t v Tabled = IsTrying h more slot t v.kept v.last × IsBaryWord h slot v.bary
+CheckHolds h p more slot t v Added = IsTrying h more slot t v.kept v.last × IsBaryWord h slot v.bary
+CheckHolds h p more slot t v AskedTary = (t < 2 ^ 18) × (t % 4 ≡ 0) × IsBaryWord h slot v.bary
 CheckHolds h p more slot t v FoundTary = IsTried h p slot t v.bary v.tary
 CheckHolds h p more slot t v Differed = IsTried h p slot t v.bary v.tary × (id_in v.bary ≢ id_in v.tary)
 CheckHolds h p more slot t v Compared = IsTried h p slot t v.bary v.tary × (id_in v.bary ≢ id_in v.tary)
@@ -121,28 +118,27 @@ CheckHolds h p more slot t v Refused =
     × (low_half (id_in v.tary) ≡ low_half (id_in v.bary))
 CheckHolds h p more slot t v Allowed = IsTried h p slot t v.bary v.tary × (id_in v.bary ≡ id_in v.tary)
 
--- tries are repeated where two epochs' versions differ
-abbrev pub HasTwo : History → (more : ℕ) → Type 0
-HasTwo h more =
-    more ≢ 0 → (one : ℕ) × (other : ℕ) × IsEpoch h one × IsEpoch h other × (one % h.versions ≢ other % h.versions)
+-- tries are repeated where two words' versions differ
+abbrev pub HasTwo : History → (slot target more : ℕ) → Type 0
+HasTwo h slot target more = more ≢ 0 → IsRepeat h slot target
 
 -- a raw state within a check, which has repeated some tries after those of earlier checks
 pub record CheckAt (h : History) (p : State) (retries slot target : ℕ) (r : Raw) : Type 0 where
   pub more : ℕ
-  pub two : HasTwo h more
+  pub two : HasTwo h slot target more
   pub values : Values
   pub place : CheckPlace
   pub is : r ≡ check_raw p (retries + more) slot target values place
   pub holds : CheckHolds h p more slot target values place
 
--- a check has ended, under the policy of an epoch, that of the kept Tary word
-pub record CheckEnded (h : History) (p : State) (retries slot target : ℕ) (link : Bool) (kept : Option ℕ) (r : Raw)
+-- a check has ended, under the policy of an epoch, that of the two kept words
+pub record CheckEnded (h : History) (p : State) (retries slot target : ℕ) (link : Bool) (end : End) (r : Raw)
     : Type 0 where
   pub more : ℕ
-  pub two : HasTwo h more
+  pub two : HasTwo h slot target more
   pub epoch : ℕ
   pub known : IsEpoch h epoch
-  pub under : is_in_code target ≡ true → kept ≡ Some (word_of h epoch (target_class h epoch target))
+  pub under : is_in_code target ≡ true → IsTriedIn h epoch slot target end
   pub ends : IsBetween (retries + more) (checked (h.policy epoch) (allows_at h epoch slot target) link target p) r
   pub logged : more ≢ 0 → is_in_code target ≡ true
   pub rises : is_in_code target ≡ true → last_policy p.log ≤ h.policy epoch

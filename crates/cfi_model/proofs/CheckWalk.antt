@@ -5,9 +5,10 @@ use Rattle.rv_insn.specs.declared.insn.Insn.{Insn}
 use Rattle.cfi_unit.specs.declared.unit.Unit.{Unit as CodeUnit}
 use Rattle.cfi_unit.specs.declared.unit.Unit.TheVariants as units
 use Rattle.cfi_unit.specs.Unit.{check}
+use Rattle.cfi_word.specs.Ids.{low_half}
 use Rattle.cfi_word.specs.Word.{id_in, policy_in}
 use Rattle.cfi_model.specs.Effect.{checked}
-use Rattle.cfi_model.specs.Shows.{IsBetween}
+use Rattle.cfi_model.specs.Shows.{IsBetween, IsRepeat, end_of}
 use Rattle.cfi_model.specs.State.{State, register, displaced}
 use Rattle.cfi_model.specs.Raw.{Raw}
 use Rattle.cfi_model.specs.Run.{Take, Word, Served, take_one}
@@ -52,11 +53,11 @@ module _ (h : History) (code : List ℕ) (p : State) (link : Bool) (rs1 : ℕ) (
       }
 
   -- from each place the next access leads to a place, or ends the check
-  pub check_goes_on : (more : ℕ) → HasTwo h more → (v : Values) (to : ℕ) (place : CheckPlace) (r : Raw)
+  pub check_goes_on : (more to : ℕ) → HasTwo h slot to more → (v : Values) (place : CheckPlace) (r : Raw)
       → r ≡ check_raw p (retries + more) slot to v place → CheckHolds h p more slot to v place
       → (t : Take) → Fits h code r t
-      → CheckAt h p retries slot to (take_one r t) ⊎ CheckEnded h p retries slot to link r.tary (take_one r t)
-  check_goes_on more two v to Aimed r is holds t fits =
+      → CheckAt h p retries slot to (take_one r t) ⊎ CheckEnded h p retries slot to link (end_of r t) (take_one r t)
+  check_goes_on more to two v Aimed r is holds t fits =
       let small = here.small in
       inl (record {
         more = more;
@@ -68,7 +69,7 @@ module _ (h : History) (code : List ℕ) (p : State) (link : Bool) (rs1 : ℕ) (
             ∙ counts p _ _ _ _ _ _ _ _ _ _ _ (omega arith) (omega arith)) t fits;
         holds = holds;
       })
-  check_goes_on more two v to Split r is holds t fits =
+  check_goes_on more to two v Split r is holds t fits =
       let small = here.small in
       elim (cases_lt to (2 ^ 18)) [
         | inl low ↦
@@ -80,7 +81,7 @@ module _ (h : History) (code : List ℕ) (p : State) (link : Bool) (rs1 : ℕ) (
               is = walks h code p unit here all refl 2 (omega arith) _ _ _ _ _ _ _ _ r is
                   (near p (p.pc + 4 * 2) (p.steps + 9 * (retries + more) + 2) v.x28 v.x29 (to / 2 ^ 18) to None None (pos 40) here.ready.zero_is (omega arith) (omega arith)
                   ∙ counts p _ _ _ _ _ _ _ _ _ _ _ (omega arith) (omega arith)) t fits;
-              holds = record { low = low; whole = λ some. absurd (some holds) };
+              holds = record { low = low; whole = λ some. absurd (some holds); words = λ some. absurd (some holds) };
             })
         | inr high ↦
             inl (record {
@@ -94,7 +95,7 @@ module _ (h : History) (code : List ℕ) (p : State) (link : Bool) (rs1 : ℕ) (
               holds = (holds, high);
             })
       ]
-  check_goes_on more two v to Trying r is holds t fits =
+  check_goes_on more to two v Trying r is holds t fits =
       let small = here.small in
       inl (record {
         more = more;
@@ -106,7 +107,7 @@ module _ (h : History) (code : List ℕ) (p : State) (link : Bool) (rs1 : ℕ) (
             ∙ counts p _ _ _ _ _ _ _ _ _ _ _ (omega arith) (omega arith)) t fits;
         holds = holds;
       })
-  check_goes_on more two v to Pointed r is holds t fits =
+  check_goes_on more to two v Pointed r is holds t fits =
       let small = here.small in
       inl (record {
         more = more;
@@ -118,7 +119,7 @@ module _ (h : History) (code : List ℕ) (p : State) (link : Bool) (rs1 : ℕ) (
             ∙ counts p _ _ _ _ _ _ _ _ _ _ _ (omega arith) (omega arith)) t fits;
         holds = holds;
       })
-  check_goes_on more two v to AskedBary r is holds (Word w) fits =
+  check_goes_on more to two v AskedBary r is holds (Word w) fits =
       let small = here.small in
       inl (record {
         more = more;
@@ -128,9 +129,9 @@ module _ (h : History) (code : List ℕ) (p : State) (link : Bool) (rs1 : ℕ) (
         is = ap (λ x. take_one x (Word w)) is;
         holds = (holds, subst (λ x. Fits h code x (Word w)) is fits);
       })
-  check_goes_on more two v to AskedBary r is holds (Served reply) fits =
+  check_goes_on more to two v AskedBary r is holds (Served reply) fits =
       absurd (subst (λ x. Fits h code x (Served reply)) is fits)
-  check_goes_on more two v to FoundBary r is holds t fits =
+  check_goes_on more to two v FoundBary r is holds t fits =
       let small = here.small in
       inl (record {
         more = more;
@@ -142,7 +143,7 @@ module _ (h : History) (code : List ℕ) (p : State) (link : Bool) (rs1 : ℕ) (
             ∙ counts p _ _ _ _ _ _ _ _ _ _ _ (omega arith) (omega arith)) t fits;
         holds = holds;
       })
-  check_goes_on more two v to Tabled r is holds t fits =
+  check_goes_on more to two v Tabled r is holds t fits =
       let small = here.small in
       inl (record {
         more = more;
@@ -154,7 +155,7 @@ module _ (h : History) (code : List ℕ) (p : State) (link : Bool) (rs1 : ℕ) (
             ∙ counts p _ _ _ _ _ _ _ _ _ _ _ (omega arith) (omega arith)) t fits;
         holds = holds;
       })
-  check_goes_on more two v to Added r is holds t fits =
+  check_goes_on more to two v Added r is holds t fits =
       let small = here.small in
       let start = here.ready.start here.going in
       elim (cases_eq (to % 4) 0) [
@@ -170,13 +171,13 @@ module _ (h : History) (code : List ℕ) (p : State) (link : Bool) (rs1 : ℕ) (
               holds = (holds.0.low, whole, holds.1);
             })
         | inr odd ↦
-            inr (finish.unpicked h code p link rs1 imm slot here retries more two to (λ inside. odd (in_code_whole to inside)) (λ some. odd (holds.0.whole some)) r.tary
+            inr (finish.unpicked h code p link rs1 imm slot here retries more to two (λ inside. odd (in_code_whole to inside)) (λ some. odd (holds.0.whole some)) (end_of r t)
             (take_one r t) (subst (IsBetween (retries + more) (unpicked_state to))
             (sym (walks h code p unit here all refl 7 (omega arith) _ _ _ _ _ _ _ _ r is refl t fits))
             (odd_ends p (retries + more) v.x28 (id_in v.bary) to (Some v.bary) v.last (h.policy start.epoch)
             (allows_at h start.epoch slot to) link holds.0.low odd)))
       ]
-  check_goes_on more two v to AskedTary r is holds (Word w) fits =
+  check_goes_on more to two v AskedTary r is holds (Word w) fits =
       let small = here.small in
       let given : Fits h code (check_raw p (retries + more) slot to v AskedTary) (Word w) =
       subst (λ x. Fits h code x (Word w)) is fits in
@@ -193,9 +194,9 @@ module _ (h : History) (code : List ℕ) (p : State) (link : Bool) (rs1 : ℕ) (
           rises = given.rises;
         };
       })
-  check_goes_on more two v to AskedTary r is holds (Served reply) fits =
+  check_goes_on more to two v AskedTary r is holds (Served reply) fits =
       absurd (subst (λ x. Fits h code x (Served reply)) is fits)
-  check_goes_on more two v to FoundTary r is holds t fits =
+  check_goes_on more to two v FoundTary r is holds t fits =
       let small = here.small in
       elim (cases_eq (id_in v.bary) (id_in v.tary)) [
         | inl same ↦
@@ -221,7 +222,7 @@ module _ (h : History) (code : List ℕ) (p : State) (link : Bool) (rs1 : ℕ) (
               holds = (holds, other);
             })
       ]
-  check_goes_on more two v to Differed r is holds t fits =
+  check_goes_on more to two v Differed r is holds t fits =
       let small = here.small in
       inl (record {
         more = more;
@@ -233,7 +234,7 @@ module _ (h : History) (code : List ℕ) (p : State) (link : Bool) (rs1 : ℕ) (
             ∙ counts p _ _ _ _ _ _ _ _ _ _ _ (omega arith) (omega arith)) t fits;
         holds = holds;
       })
-  check_goes_on more two v to Compared r is holds t fits =
+  check_goes_on more to two v Compared r is holds t fits =
       let small = here.small in
       inl (record {
         more = more;
@@ -245,7 +246,7 @@ module _ (h : History) (code : List ℕ) (p : State) (link : Bool) (rs1 : ℕ) (
             ∙ counts p _ _ _ _ _ _ _ _ _ _ _ (omega arith) (omega arith)) t fits;
         holds = holds;
       })
-  check_goes_on more two v to Lowered r is holds t fits =
+  check_goes_on more to two v Lowered r is holds t fits =
       let small = here.small in
       elim (cases_eq (bit_xor (id_in v.tary) (id_in v.bary) * 2 ^ 16 % 2 ^ 32) 0) [
         | inl none ↦
@@ -262,39 +263,44 @@ module _ (h : History) (code : List ℕ) (p : State) (link : Bool) (rs1 : ℕ) (
         | inr some ↦
             let apart = apart-versions h code slot to v.bary v.tary here.known holds.0.words
             (apart-low (id_in v.tary) (id_in v.bary) some) in
+            let repeat : IsRepeat h slot to = record { bary = v.bary; tary = v.tary; apart = apart } in
             inl (record {
               more = more + 1;
-              two = λ again. (_, _, holds.0.words.branch.known, holds.0.words.goal.known, apart);
+              two = λ again. repeat;
               values = record v { x29 = id_in v.bary; x30 = (bit_xor (id_in v.tary) (id_in v.bary) * 2 ^ 16 % 2 ^ 32); kept = Some v.bary; last = Some v.tary };
               place = Trying;
               is = walks h code p unit here all refl 11 (omega arith) _ _ _ _ _ _ _ _ r is
                   (far p (p.pc + 4 * 11) (p.steps + 9 * (retries + more) + 11) v.x28 (id_in v.bary) (bit_xor (id_in v.tary) (id_in v.bary) * 2 ^ 16 % 2 ^ 32) to (Some v.bary) (Some v.tary) (negsuc 31) here.ready.zero_is some
                   ∙ counts p _ _ _ _ _ _ _ _ _ _ _ (omega arith) (omega arith)) t fits;
-              holds = record { low = holds.0.low; whole = λ again. holds.0.whole };
+              holds = record {
+                low = holds.0.low;
+                whole = λ again. holds.0.whole;
+                words = λ again. record { words = repeat; kept = refl; last = refl };
+              };
             })
       ]
-  check_goes_on more two v to Refused r is holds t fits =
+  check_goes_on more to two v Refused r is holds t fits =
       let epoch : ℕ = holds.0.words.goal.epoch in
       let apart = apart-refuses h code slot to v.bary v.tary here.known holds.0.words holds.2 holds.1 in
       let refused : allows_at h epoch slot to ≡ false = search (rules, arith) in
-      inr (finish.judged h code p link rs1 imm slot here retries more two to v.bary v.tary holds.0 r.tary (ap (λ x. x.tary) is)
+      inr (finish.judged h code p link rs1 imm slot here retries more to two v.bary v.tary holds.0 holds.2 (end_of r t) (ap (λ x. x.bary) is) (ap (λ x. x.tary) is)
       (take_one r t) (subst (IsBetween (retries + more) (checked (policy_in v.tary) (allows_at h epoch slot to) link to p))
       (sym (walks h code p unit here all refl 12 (omega arith) _ _ _ _ _ _ _ _ r is refl t fits))
       (not_ends p (retries + more) v.x28 v.x29 v.x30 to v.tary (Some v.bary) (allows_at h epoch slot to) link
       holds.0.low holds.0.whole refused)))
-  check_goes_on more two v to Allowed r is holds t fits =
+  check_goes_on more to two v Allowed r is holds t fits =
       let epoch : ℕ = holds.0.words.goal.epoch in
       let same = equal-allows h code slot to v.bary v.tary here.known holds.0.words holds.1 in
       let granted : allows_at h epoch slot to ≡ true = search (rules, arith) in
-      inr (finish.judged h code p link rs1 imm slot here retries more two to v.bary v.tary holds.0 r.tary (ap (λ x. x.tary) is)
+      inr (finish.judged h code p link rs1 imm slot here retries more to two v.bary v.tary holds.0 (ap low_half (sym holds.1)) (end_of r t) (ap (λ x. x.bary) is) (ap (λ x. x.tary) is)
       (take_one r t) (subst (IsBetween (retries + more) (checked (policy_in v.tary) (allows_at h epoch slot to) link to p))
       (sym (walks h code p unit here all refl 13 (omega arith) _ _ _ _ _ _ _ _ r is refl t fits))
       (jump_ends p (retries + more) v.x28 v.x29 v.x30 to v.tary (Some v.bary) (allows_at h epoch slot to) link
       holds.0.low holds.0.whole granted here.going)))
-  check_goes_on more two v to Far r is holds t fits =
+  check_goes_on more to two v Far r is holds t fits =
       let start = here.ready.start here.going in
-      inr (finish.unpicked h code p link rs1 imm slot here retries more two to (λ inside. in_code_low to inside holds.1) (λ some. some holds.0)
-      r.tary (take_one r t) (subst (IsBetween (retries + more) (unpicked_state to))
+      inr (finish.unpicked h code p link rs1 imm slot here retries more to two (λ inside. in_code_low to inside holds.1) (λ some. some holds.0)
+      (end_of r t) (take_one r t) (subst (IsBetween (retries + more) (unpicked_state to))
       (sym (walks h code p unit here all refl 12 (omega arith) _ _ _ _ _ _ _ _ r is refl t fits))
       (far_ends p (retries + more) v.x28 v.x29 v.x30 to None (h.policy start.epoch) (allows_at h start.epoch slot to)
       link holds.1)))

@@ -17,6 +17,7 @@ fixed_history image size closed = record {
   versions_most = omega arith;
   epochs_fit = λ epoch is. omega (arith, is.most);
   policies_fit = λ epoch is. omega arith;
+  classes = λ epoch is. closed.1.classes;
   closed = λ epoch is. closed;
   kept = λ epoch place is some. refl;
 }

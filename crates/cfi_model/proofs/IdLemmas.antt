@@ -6,7 +6,8 @@ use Rattle.cfi_word.specs.Ids.{IsField, id_of, low_half}
 use Rattle.cfi_word.specs.Word.{IsPackable, packed, id_in, policy_in, epoch_in}
 use Rattle.cfi_word.proofs.IdLemmas.{low_half-id_of_any, same_versions, same_classes}
 use Rattle.cfi_word.proofs.WordLemmas.{IsField-version, id_in-packed, policy_in-packed, epoch_in-packed}
-use Rattle.cfi_model.specs.History.{History, IsEpoch, IsHistory, IsTableWord, IsFair, target_class, slot_class}
+use Rattle.cfi_model.specs.History.{History, IsEpoch, IsSeen, IsHistory, IsBaryWord, IsTaryWord, IsFair, target_class, slot_class}
+use Rattle.cfi_model.specs.Shows.{AreApart}
 
 -- numbers are equal exactly where they differ in no bit
 pub same-xor : (a b : ℕ) → bit_xor a b ≡ 0 → a ≡ b
@@ -25,8 +26,12 @@ apart-low a b some same =
     ap (λ x. bit_xor (a % 2 ^ 16) x) (sym same) ∙ xor_self (a % 2 ^ 16) in
     some (omega arith)
 
+-- an epoch that is or was in force is seen
+pub seen_of : (h : History) (epoch : ℕ) → IsEpoch h epoch → IsSeen h epoch
+seen_of h epoch is = record { least = is.least; most = omega (arith, is.most) }
+
 -- a table word of a history can be packed
-packable : (h : History) (code : List ℕ) (epoch class : ℕ) → IsHistory h code → IsEpoch h epoch → IsField class
+packable : (h : History) (code : List ℕ) (epoch class : ℕ) → IsHistory h code → IsSeen h epoch → IsField class
     → IsPackable epoch (h.policy epoch) class h.versions
 packable h code epoch class known is field = record {
   epoch_fits = known.epochs_fit epoch is;
@@ -37,18 +42,18 @@ packable h code epoch class known is field = record {
 }
 
 -- the classes of a history have fourteen bits
-slot-field : (h : History) (code : List ℕ) (epoch slot : ℕ) → IsHistory h code → IsEpoch h epoch
+slot-field : (h : History) (code : List ℕ) (epoch slot : ℕ) → IsHistory h code → IsSeen h epoch
     → IsField (slot_class h epoch slot)
-slot-field h code epoch slot known is = (known.closed epoch is).1.classes.bary_most slot
+slot-field h code epoch slot known is = (known.classes epoch is).bary_most slot
 
-target-field : (h : History) (code : List ℕ) (epoch target : ℕ) → IsHistory h code → IsEpoch h epoch
+target-field : (h : History) (code : List ℕ) (epoch target : ℕ) → IsHistory h code → IsSeen h epoch
     → IsField (target_class h epoch target)
-target-field h code epoch target known is = (known.closed epoch is).1.classes.tary_most (target / 4)
+target-field h code epoch target known is = (known.classes epoch is).tary_most (target / 4)
 
 -- the words of one try
 pub record IsTry (h : History) (slot target bary tary : ℕ) : Type 0 where
-  pub branch : IsTableWord h (λ epoch. slot_class h epoch slot) bary
-  pub goal : IsTableWord h (λ epoch. target_class h epoch target) tary
+  pub branch : IsBaryWord h slot bary
+  pub goal : IsTaryWord h target tary
   pub fair : IsFair h (Some bary) tary
 
 -- a word of a history, by its parts
@@ -59,7 +64,7 @@ pub record Parts (h : History) (class_of : ℕ → ℕ) (word epoch : ℕ) : Typ
   pub class : IsField (class_of epoch)
   pub version : IsField (epoch % h.versions)
 
-parts_of : (h : History) (code : List ℕ) (class_of : ℕ → ℕ) (word epoch : ℕ) → IsHistory h code → IsEpoch h epoch
+parts_of : (h : History) (code : List ℕ) (class_of : ℕ → ℕ) (word epoch : ℕ) → IsHistory h code → IsSeen h epoch
     → IsField (class_of epoch) → word ≡ packed epoch (h.policy epoch) (class_of epoch) h.versions
     → Parts h class_of word epoch
 parts_of h code class_of word epoch known is field packs =
@@ -75,14 +80,29 @@ parts_of h code class_of word epoch known is field packs =
 pub bary_parts : (h : History) (code : List ℕ) (slot target bary tary : ℕ) → IsHistory h code
     → (try : IsTry h slot target bary tary) → Parts h (λ epoch. slot_class h epoch slot) bary try.branch.epoch
 bary_parts h code slot target bary tary known try =
-    parts_of h code (λ epoch. slot_class h epoch slot) bary try.branch.epoch known try.branch.known
-    (slot-field h code try.branch.epoch slot known try.branch.known) try.branch.is
+    let seen = seen_of h try.branch.epoch try.branch.known in
+    parts_of h code (λ epoch. slot_class h epoch slot) bary try.branch.epoch known seen
+    (slot-field h code try.branch.epoch slot known seen) try.branch.is
 
 pub tary_parts : (h : History) (code : List ℕ) (slot target bary tary : ℕ) → IsHistory h code
     → (try : IsTry h slot target bary tary) → Parts h (λ epoch. target_class h epoch target) tary try.goal.epoch
 tary_parts h code slot target bary tary known try =
     parts_of h code (λ epoch. target_class h epoch target) tary try.goal.epoch known try.goal.known
     (target-field h code try.goal.epoch target known try.goal.known) try.goal.is
+
+-- the epoch of a slot's word, and that of a target's
+pub bary_epoch : (h : History) (code : List ℕ) (slot : ℕ) → {bary : ℕ} → IsHistory h code
+    → (found : IsBaryWord h slot bary) → epoch_in bary ≡ found.epoch
+bary_epoch h code slot {bary} known found =
+    let seen = seen_of h found.epoch found.known in
+    (parts_of h code (λ epoch. slot_class h epoch slot) bary found.epoch known seen
+    (slot-field h code found.epoch slot known seen) found.is).epoch_is
+
+pub tary_epoch : (h : History) (code : List ℕ) (target : ℕ) → {tary : ℕ} → IsHistory h code
+    → (found : IsTaryWord h target tary) → epoch_in tary ≡ found.epoch
+tary_epoch h code target {tary} known found =
+    (parts_of h code (λ epoch. target_class h epoch target) tary found.epoch known found.known
+    (target-field h code found.epoch target known found.known) found.is).epoch_is
 
 -- equal low halves are one epoch
 pub one_epoch : (h : History) (code : List ℕ) (slot target bary tary : ℕ) → IsHistory h code
@@ -123,15 +143,21 @@ apart-refuses h code slot target bary tary known try same other classes =
     other (b.id ∙ ap (λ e. id_of (slot_class h e slot) (e % h.versions)) one
     ∙ ap (λ c. id_of c (try.goal.epoch % h.versions)) classes ∙ sym t.id)
 
--- two versions are two epochs
+-- two low halves are two versions
 pub apart-versions : (h : History) (code : List ℕ) (slot target bary tary : ℕ) → IsHistory h code
     → (try : IsTry h slot target bary tary) → low_half (id_in tary) ≢ low_half (id_in bary)
-    → try.branch.epoch % h.versions ≢ try.goal.epoch % h.versions
-apart-versions h code slot target bary tary known try other versions =
-    let b = bary_parts h code slot target bary tary known try in
-    let t = tary_parts h code slot target bary tary known try in
-    other (ap low_half t.id
-    ∙ low_half-id_of_any (target_class h try.goal.epoch target) (slot_class h try.branch.epoch slot)
-    (try.goal.epoch % h.versions)
-    ∙ ap (λ v. low_half (id_of (slot_class h try.branch.epoch slot) v)) (sym versions)
-    ∙ sym (ap low_half b.id))
+    → AreApart h slot target bary tary
+apart-versions h code slot target bary tary known try other = record {
+  branch = try.branch;
+  goal = try.goal;
+  apart = λ same.
+      let b = bary_parts h code slot target bary tary known try in
+      let t = tary_parts h code slot target bary tary known try in
+      let versions : try.branch.epoch % h.versions ≡ try.goal.epoch % h.versions =
+      sym (ap (λ e. e % h.versions) b.epoch_is) ∙ same ∙ ap (λ e. e % h.versions) t.epoch_is in
+      other (ap low_half t.id
+      ∙ low_half-id_of_any (target_class h try.goal.epoch target) (slot_class h try.branch.epoch slot)
+      (try.goal.epoch % h.versions)
+      ∙ ap (λ v. low_half (id_of (slot_class h try.branch.epoch slot) v)) (sym versions)
+      ∙ sym (ap low_half b.id));
+}

@@ -1,5 +1,5 @@
 -- One access after the other: the raw machine stays within a unit, or ends it as the policy machine does.
-use Rattle.std.proofs.Common.{◌≡◌, ◌≢◌, ℕ, ◌+◌, ◌*◌, ◌/◌, ◌%◌, ◌<◌, ◌≤◌, ◌&&◌, true, List, Option, length, refl, ◌∙◌, subst, arith}
+use Rattle.std.proofs.Common.{◌≡◌, ◌≢◌, ℕ, ◌+◌, ◌*◌, ◌/◌, ◌%◌, ◌<◌, ◌≤◌, ◌&&◌, true, List, None, length, refl, ◌∙◌, subst, arith}
 use Rattle.std.proofs.lemmas.Bool.Decides.{nat_tests}
 use Rattle.cfi_unit.specs.declared.unit.Unit.{Unit as CodeUnit}
 use Rattle.cfi_unit.specs.declared.unit.Unit.TheVariants as units
@@ -10,25 +10,27 @@ use Rattle.cfi_model.specs.Raw.{Raw}
 use Rattle.cfi_model.specs.Service.{Reply}
 use Rattle.cfi_model.specs.Effect.{effect, is_in_code}
 use Rattle.cfi_model.specs.History.{History, IsEpoch, IsHistory, IsStart, allows_at, slot_class, target_class}
-use Rattle.cfi_model.specs.Shows.{IsStep, IsReady, IsAnswered, AsksUnder, IsBetween}
+use Rattle.cfi_model.specs.Running.{IsHeld}
+use Rattle.cfi_model.specs.Shows.{End, IsStep, IsReady, IsAnswered, AsksUnder, IsBetween, IsRetried}
 use Rattle.cfi_model.proofs.StartLemmas.{body_at}
 use Rattle.cfi_model.proofs.ReadyLemmas.{Targets, ready_kept}
 use Rattle.cfi_model.proofs.FetchLemmas.{Here}
 use Rattle.cfi_model.proofs.MaskedLemmas.{MaskedAt}
-use Rattle.cfi_model.proofs.CheckPlaces.{CheckAt, HasTwo}
+use Rattle.cfi_model.proofs.CheckPlaces.{CheckAt}
 use Rattle.cfi_model.proofs.PickLemmas.{IsRising, effect_rises}
 use Rattle.cfi_model.proofs.SingleLemmas.{service_raw}
 
 -- a unit has ended, and the policy machine has run it
-pub record Ended (h : History) (code : List ℕ) (retries : ℕ) (kept : Option ℕ) (old : State) (r : Raw) : Type 0 where
+pub record Ended (h : History) (code : List ℕ) (retries : ℕ) (end : End) (old : State) (r : Raw) : Type 0 where
   pub new : State
-  pub step : IsStep h code kept old new
+  pub step : IsStep h code end old new
   pub ready : IsReady h new
   pub more : ℕ
-  pub two : HasTwo h more
+  pub two : more ≢ 0 → IsRetried h step.unit old
   pub logged : more ≢ 0 → 0 < pick_entries new.log
   pub picks : pick_entries old.log ≤ pick_entries new.log
   pub between : IsBetween (retries + more) new r
+  pub held : new.stop ≢ None → IsHeld h code new r
 
 -- a raw state within a service, which waits for its end
 pub record ServiceAt (p : State) (retries : ℕ) (r : Raw) : Type 0 where
@@ -80,14 +82,16 @@ target_starts h code known epoch slot target is within granted =
 
 -- the unit has ended under the policy of an epoch
 pub ends_as : (h : History) (code : List ℕ) (retries more : ℕ) (p : State) (unit : CodeUnit) → At h code p unit
-    → (epoch : ℕ) → IsEpoch h epoch → (kept : Option ℕ) → AsksUnder h epoch kept unit p → (reply : Reply)
-    → IsAnswered unit reply p → IsRising unit (h.policy epoch) p
-    → Targets h (allows_at h epoch) unit p → HasTwo h more
+    → (epoch : ℕ) → IsEpoch h epoch → (end : End) → AsksUnder h epoch end unit p → (reply : Reply)
+    → IsAnswered unit end reply p → IsRising unit (h.policy epoch) p
+    → Targets h (allows_at h epoch) unit p → (more ≢ 0 → IsRetried h unit p)
     → (more ≢ 0 → 0 < pick_entries (effect unit (h.policy epoch) (allows_at h epoch) reply p).log)
     → (r : Raw) → IsBetween (retries + more) (effect unit (h.policy epoch) (allows_at h epoch) reply p) r
-    → Ended h code retries kept p r
-ends_as h code retries more p unit at epoch is kept under reply answered rising targets two logged r between =
-    let rises = effect_rises unit (h.policy epoch) (allows_at h epoch) reply p answered rising in
+    → ((effect unit (h.policy epoch) (allows_at h epoch) reply p).stop ≢ None
+    → IsHeld h code (effect unit (h.policy epoch) (allows_at h epoch) reply p) r)
+    → Ended h code retries end p r
+ends_as h code retries more p unit at epoch is end under reply answered rising targets two logged r between held =
+    let rises = effect_rises unit (h.policy epoch) (allows_at h epoch) end reply p answered rising in
     let here = at.here in
     record {
       new = effect unit (h.policy epoch) (allows_at h epoch) reply p;
@@ -110,18 +114,21 @@ ends_as h code retries more p unit at epoch is kept under reply answered rising 
       logged = logged;
       picks = rises.picks;
       between = between;
+      held = held;
     }
 
 -- a unit that is no check has ended, with no try
 pub plainly : (h : History) (code : List ℕ) (retries : ℕ) (p : State) (unit : CodeUnit) → (at : At h code p unit)
-    → (kept : Option ℕ) → AsksUnder h at.epoch kept unit p → (reply : Reply) → IsAnswered unit reply p
+    → (end : End) → AsksUnder h at.epoch end unit p → (reply : Reply) → IsAnswered unit end reply p
     → IsRising unit (h.policy at.epoch) p
     → Targets h (allows_at h at.epoch) unit p
     → (r : Raw) → IsBetween retries (effect unit (h.policy at.epoch) (allows_at h at.epoch) reply p) r
-    → Ended h code retries kept p r
-plainly h code retries p unit at kept under reply answered rising targets r between =
+    → ((effect unit (h.policy at.epoch) (allows_at h at.epoch) reply p).stop ≢ None
+    → IsHeld h code (effect unit (h.policy at.epoch) (allows_at h at.epoch) reply p) r)
+    → Ended h code retries end p r
+plainly h code retries p unit at end under reply answered rising targets r between held =
     let same : retries ≡ retries + 0 = omega arith in
-    ends_as h code retries 0 p unit at at.epoch at.is kept under reply answered rising targets
+    ends_as h code retries 0 p unit at at.epoch at.is end under reply answered rising targets
     (λ some. absurd (some refl))
     (λ some. absurd (some refl)) r
-    (subst (λ n. IsBetween n (effect unit (h.policy at.epoch) (allows_at h at.epoch) reply p) r) same between)
+    (subst (λ n. IsBetween n (effect unit (h.policy at.epoch) (allows_at h at.epoch) reply p) r) same between) held

@@ -16,12 +16,16 @@ pub mod CheckWalk
 pub mod PickLemmas
 pub mod SingleLemmas
 pub mod LawLemmas
+pub mod PlaceLemmas
 pub mod AdvanceLemmas
 pub mod InsideLemmas
-pub mod KeptLemmas
+pub mod EndLemmas
 pub mod ShownLemmas
 pub mod StepLemmas
 pub mod StuckLemmas
+pub mod SnocLemmas
+pub mod RunningLemmas
+pub mod GrowLemmas
 pub mod FixedLemmas
 pub mod ClosedLemmas
 pub mod CanLemmas

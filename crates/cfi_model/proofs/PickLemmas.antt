@@ -11,7 +11,7 @@ use Rattle.cfi_model.specs.State.{State, register, displaced}
 use Rattle.cfi_model.specs.Service.{Reply, Service, Ends, Puts, Quiets, Opens, Unknown, served_log, succeeds, argument, asked, service_of}
 use Rattle.cfi_model.specs.Effect.{effect, is_in_code}
 use Rattle.cfi_model.specs.Fits.{FitsOpen}
-use Rattle.cfi_model.specs.Shows.{IsAnswered}
+use Rattle.cfi_model.specs.Shows.{End, IsAnswered}
 use Rattle.cfi_model.proofs.LogLemmas.{within, ends_with, set_last, policy_push, picks_push}
 
 -- a log that ends with a pick is not empty
@@ -126,18 +126,18 @@ IsRising (units.Check link rs1 imm slot) pick s =
 IsRising unit pick s = ⊤
 
 -- the logged policies never fall, nor does the number of entries of picks
-pub effect_rises : (unit : CodeUnit) (pick : ℕ) (allows : ℕ → ℕ → Bool) (reply : Reply) (s : State)
-    → IsAnswered unit reply s → IsRising unit pick s
+pub effect_rises : (unit : CodeUnit) (pick : ℕ) (allows : ℕ → ℕ → Bool) (end : End) (reply : Reply) (s : State)
+    → IsAnswered unit end reply s → IsRising unit pick s
     → Rises s.log (effect unit pick allows reply s).log
-effect_rises (units.Plain insn) pick allows reply s answered rising = same_log s.log
-effect_rises (units.Load kind rd rs1 imm) pick allows reply s answered rising = same_log s.log
-effect_rises (units.Store kind rs1 rs2 imm) pick allows reply s answered rising = same_log s.log
-effect_rises (units.Branch c rs1 rs2 off) pick allows reply s answered rising = same_log s.log
-effect_rises (units.Jump link off) pick allows reply s answered rising = same_log s.log
-effect_rises (units.Check link rs1 imm slot) pick allows reply s answered rising =
+effect_rises (units.Plain insn) pick allows end reply s answered rising = same_log s.log
+effect_rises (units.Load kind rd rs1 imm) pick allows end reply s answered rising = same_log s.log
+effect_rises (units.Store kind rs1 rs2 imm) pick allows end reply s answered rising = same_log s.log
+effect_rises (units.Branch c rs1 rs2 off) pick allows end reply s answered rising = same_log s.log
+effect_rises (units.Jump link off) pick allows end reply s answered rising = same_log s.log
+effect_rises (units.Check link rs1 imm slot) pick allows end reply s answered rising =
     checked_rises (is_in_code (displaced (register s rs1) imm)) s.log pick rising
-effect_rises units.Service pick allows reply s answered rising =
-    served_rises (service_of (asked s)) reply s (λ is. answered (opens_is (asked s) is))
+effect_rises units.Service pick allows end reply s answered rising =
+    served_rises (service_of (asked s)) reply s (λ is. answered.fits (opens_is (asked s) is))
 
 -- a check's pick is logged
 pub pick_logged : (pick : ℕ) (allows : ℕ → ℕ → Bool) (reply : Reply) (s : State) (link : Bool) (rs1 : ℕ) (imm : ℤ)

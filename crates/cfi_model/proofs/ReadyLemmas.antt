@@ -100,7 +100,7 @@ module _ (h : History) (code : List ℕ) (known : IsHistory h code) (epoch : ℕ
         };
       })
 
-  falls : (pc bytes : ℕ) → IsStartOf body (pc + bytes) → IsStart h (after bytes pc)
+  pub falls : (pc bytes : ℕ) → IsStartOf body (pc + bytes) → IsStart h (after bytes pc)
   falls pc bytes start = lands _ (pc + bytes) start (λ small. omega arith)
 
   leads : (pc : ℕ) (off : ℤ) → pc < 2 ^ 18 → LeadsToStart body pc off → IsStart h (displaced pc off)

@@ -1,19 +1,21 @@
 -- What the raw machine shows after a list of accesses.
 use Rattle.std.proofs.Common.{◌≡◌, ◌≢◌, ℕ, zero, suc, ◌+◌, ◌%◌, List, [], ◌∷◌, ◌++◌, refl, sym, ◌∙◌, ap, subst, arith, inl, inr}
-use Rattle.cfi_model.specs.State.{State}
+use Rattle.cfi_unit.specs.declared.unit.Unit.{Unit as CodeUnit}
+use Rattle.cfi_unit.specs.declared.unit.Unit.TheVariants as units
+use Rattle.cfi_model.specs.State.{State, register, displaced}
 use Rattle.cfi_model.specs.Raw.{Raw}
 use Rattle.cfi_model.specs.Run.{Take, take_one, run_of}
-use Rattle.cfi_model.specs.History.{History, IsHistory, IsEpoch}
-use Rattle.cfi_model.specs.Fits.{Fits, Along}
-use Rattle.cfi_model.specs.Shows.{IsReady, IsBetween, IsShown, StaysOrEnds, Runs, Shows, kept_along}
-use Rattle.cfi_model.proofs.CheckPlaces.{HasTwo}
-use Rattle.cfi_model.proofs.KeptLemmas.{effect_units, none_kept, one_kept}
+use Rattle.cfi_model.specs.History.{History, IsHistory, IsSeen}
+use Rattle.cfi_model.specs.Fits.{Along}
+use Rattle.cfi_model.specs.Shows.{IsReady, IsBetween, IsShown, IsRepeat, IsRetried, Runs, Shows, end_of, ends_along}
+use Rattle.cfi_model.proofs.IdLemmas.{seen_of, bary_epoch, tary_epoch}
+use Rattle.cfi_model.proofs.EndLemmas.{effect_units, none_ended, one_ended}
 use Rattle.cfi_model.proofs.LawLemmas.{Ended}
 use Rattle.cfi_model.proofs.InsideLemmas.{shown_within}
 use Rattle.cfi_model.proofs.AdvanceLemmas.{Running, advance}
 
 -- a running machine shows its state
-shows_running : (h : History) (code : List ℕ) (p : State) (retries : ℕ) (r : Raw) → Running h code p retries r
+pub shows_running : (h : History) (code : List ℕ) (p : State) (retries : ℕ) (r : Raw) → Running h code p retries r
     → Shows h code retries p r
 shows_running h code p retries r (inl rests) = inl rests.1
 shows_running h code p retries r (inr within) = inr (shown_within h code p within.0 retries r within.1 within.2)
@@ -44,30 +46,45 @@ at_rest h code p retries r running = record {
 }
 
 -- a history of one epoch has no other
-only : (h : History) (one other : ℕ) → h.count ≡ 1 → IsEpoch h one → IsEpoch h other → one ≡ other
+only : (h : History) (one other : ℕ) → h.count + h.ahead ≡ 1 → IsSeen h one → IsSeen h other → one ≡ other
 only h one other count a b = omega (arith, a.least, a.most, b.least, b.most)
 
 -- one epoch has one version
-never_two : (h : History) (more : ℕ) → h.count ≡ 1 → HasTwo h more → more ≡ 0
-never_two h zero one two = refl
-never_two h (suc more) one two =
-    let some : suc more ≢ 0 = λ e. omega arith in
-    let apart = two some in
-    absurd (apart.4 (ap (λ e. e % h.versions) (only h apart.0 apart.1 one apart.2 apart.3)))
+never_two : (h : History) (code : List ℕ) → IsHistory h code → (slot target more : ℕ) → h.count + h.ahead ≡ 1
+    → (more ≢ 0 → IsRepeat h slot target) → more ≡ 0
+never_two h code known slot target zero one two = refl
+never_two h code known slot target (suc more) one two =
+    let words = (two (λ e. omega arith)).apart in
+    let b = bary_epoch h code slot known words.branch in
+    let t = tary_epoch h code target known words.goal in
+    let same = only h words.branch.epoch words.goal.epoch one (seen_of h words.branch.epoch words.branch.known)
+    words.goal.known in
+    absurd (words.apart (ap (λ e. e % h.versions) (b ∙ same ∙ sym t)))
 
--- no try was repeated
-no_more : (more retries : ℕ) → (more ≢ 0 → ⊥) → retries + more ≡ retries
-no_more zero retries none = omega arith
-no_more (suc more) retries none =
-    let some : suc more ≢ 0 = λ e. omega arith in
-    absurd (none some)
+-- there is none
+no_try : (more : ℕ) → (more ≢ 0 → ⊥) → more ≡ 0
+no_try zero none = refl
+no_try (suc more) none = absurd (none (λ e. omega arith))
 
-module _ (h : History) (code : List ℕ) (retries : ℕ) (p : State) (r : Raw) (t : Take) (takes : List Take) where
+-- no unit but a check repeats a try
+never_retried : (h : History) (code : List ℕ) → IsHistory h code → (unit : CodeUnit) (s : State) (more : ℕ)
+    → h.count + h.ahead ≡ 1 → (more ≢ 0 → IsRetried h unit s) → more ≡ 0
+never_retried h code known (units.Check link rs1 imm slot) s more one two =
+    never_two h code known slot (displaced (register s rs1) imm) more one two
+never_retried h code known (units.Plain insn) s more one two = no_try more two
+never_retried h code known (units.Load kind rd rs1 imm) s more one two = no_try more two
+never_retried h code known (units.Store kind rs1 rs2 imm) s more one two = no_try more two
+never_retried h code known (units.Branch c rs1 rs2 off) s more one two = no_try more two
+never_retried h code known (units.Jump link off) s more one two = no_try more two
+never_retried h code known units.Service s more one two = no_try more two
+
+module _ (h : History) (code : List ℕ) (known : IsHistory h code) (retries : ℕ) (p : State) (r : Raw) (t : Take)
+    (takes : List Take) where
   -- an access within a unit, before the others
   within_unit : (settled : ℕ) (new : State) → (take_one r t).base.units ≡ r.base.units
       → IsShown h code retries p (take_one r t) takes settled new → IsShown h code retries p r (t ∷ takes) settled new
   within_unit settled new same s =
-      let kept = ap (λ ks. ks ++ kept_along (take_one r t) takes) (none_kept r (take_one r t) same) in
+      let kept = ap (λ ks. ks ++ ends_along (take_one r t) takes) (none_ended r t same) in
       record {
         runs = subst (λ ks. Runs h code ks p new) (sym kept) s.runs;
         ready = s.ready;
@@ -79,21 +96,26 @@ module _ (h : History) (code : List ℕ) (retries : ℕ) (p : State) (r : Raw) (
       }
 
   -- the last access of a unit, before the others
-  one_more : (e : Ended h code retries r.tary p (take_one r t)) → r.base.units ≡ p.units
+  one_more : (e : Ended h code retries (end_of r t) p (take_one r t)) → r.base.units ≡ p.units
       → (settled : ℕ) (new : State) → IsShown h code (retries + e.more) e.new (take_one r t) takes settled new
       → IsShown h code retries p r (t ∷ takes) settled new
   one_more e before settled new s =
       let counts = effect_units e.step.unit _ _ e.step.reply p in
       let ended : (take_one r t).base.units ≡ r.base.units + 1 =
       ap (λ b. b.units) e.between.base ∙ ap (λ x. x.units) e.step.is ∙ counts ∙ ap (λ n. n + 1) (sym before) in
-      let kept = ap (λ ks. ks ++ kept_along (take_one r t) takes) (one_kept r (take_one r t) ended) in
+      let kept = ap (λ ks. ks ++ ends_along (take_one r t) takes) (one_ended r t ended) in
       record {
         runs = subst (λ ks. Runs h code ks p new) (sym kept) (e.new, e.step, s.runs);
         ready = s.ready;
         least = omega (arith, s.least);
         picks = omega (arith, e.picks, s.picks);
-        picked = λ none. s.picked none ∙ no_more e.more retries (λ some. omega (arith, e.logged some, s.picks));
-        single = λ one. s.single one ∙ ap (λ m. retries + m) (never_two h e.more one e.two) ∙ omega arith;
+        picked = λ none.
+            s.picked none
+            ∙ ap (λ m. retries + m) (no_try e.more (λ some. omega (arith, e.logged some, s.picks)))
+            ∙ omega arith;
+        single = λ one.
+            s.single one ∙ ap (λ m. retries + m) (never_retried h code known e.step.unit p e.more one e.two)
+            ∙ omega arith;
         shows = s.shows;
       }
 
@@ -123,7 +145,7 @@ reached h code known (t ∷ takes) p retries r running along =
           record {
             settled = rest.settled;
             new = rest.new;
-            shown = within_unit h code retries p r t takes rest.settled rest.new (after ∙ sym before) rest.shown;
+            shown = within_unit h code known retries p r t takes rest.settled rest.new (after ∙ sym before) rest.shown;
             running = rest.running;
           }
       | inr e ↦
@@ -132,7 +154,7 @@ reached h code known (t ∷ takes) p retries r running along =
           record {
             settled = rest.settled;
             new = rest.new;
-            shown = one_more h code retries p r t takes e before rest.settled rest.new rest.shown;
+            shown = one_more h code known retries p r t takes e before rest.settled rest.new rest.shown;
             running = rest.running;
           }
     ]
@@ -144,33 +166,3 @@ pub raw_shows : (h : History) (code : List ℕ) → IsHistory h code → (old : 
 raw_shows h code known old ready retries r between takes along =
     let now = reached h code known takes old retries r (inl (ready, between)) along in
     (now.settled, now.new, now.shown)
-
--- one more access
-pub raw_follows : (h : History) (code : List ℕ) → IsHistory h code → (old : State) → IsReady h old
-    → (retries : ℕ) (r : Raw) → IsBetween retries old r → (takes : List Take) → Along h code r takes
-    → (t : Take) → Fits h code (run_of r takes) t
-    → (settled : ℕ) × (new : State) × IsShown h code retries old r takes settled new
-    × StaysOrEnds h code settled new (run_of r takes) (take_one (run_of r takes) t)
-raw_follows h code known old ready retries r between takes along t fits =
-    let now = reached h code known takes old retries r (inl (ready, between)) along in
-    elim (advance h code now.new now.settled known (run_of r takes) now.running t fits) [
-      | inl within ↦ (
-        now.settled,
-        now.new,
-        now.shown,
-        inl (inr (shown_within h code now.new within.0 now.settled _ within.1
-            within.2)),
-      )
-      | inr e ↦ (
-        now.settled,
-        now.new,
-        now.shown,
-        inr (record {
-          more = e.more;
-          after = e.new;
-          step = e.step;
-          ready = e.ready;
-          between = e.between;
-        }),
-      )
-    ]

@@ -64,7 +64,7 @@ begins_in code body idles zeros n u read h =
     }
 
 -- the unit stands in each list that keeps the words that are not 0
-begins_on : (old new : List ℕ) (at : ℕ) (u : CodeUnit) → BeginsAt old at u → length old ≡ length new
+pub begins_on : (old new : List ℕ) (at : ℕ) (u : CodeUnit) → BeginsAt old at u → length old ≡ length new
     → ((k : ℕ) → slice_index old k ≢ 0 → slice_index new k ≡ slice_index old k)
     → BeginsAt new at u
 begins_on old new at u begins same kept =

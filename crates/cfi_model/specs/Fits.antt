@@ -10,11 +10,11 @@ use Rattle.cfi_model.specs.State.{State}
 use Rattle.cfi_model.specs.Service.{Reply, IsAnswer}
 use Rattle.cfi_model.specs.Raw.{Raw}
 use Rattle.cfi_model.specs.Run.{Take, Word, Served, take_one}
-use Rattle.cfi_model.specs.History.{History, IsTableWord, IsFair, target_class, slot_class}
+use Rattle.cfi_model.specs.History.{History, IsBaryWord, IsTaryWord, IsFair}
 
 -- a Tary word may come: it is fair to the kept Bary word, and no policy that is logged is above its own
 pub record FitsTary (h : History) (r : Raw) (at word : ℕ) : Type 0 where
-  pub found : IsTableWord h (λ epoch. target_class h epoch at) word
+  pub found : IsTaryWord h at word
   pub fair : IsFair h r.bary word
   pub rises : last_policy r.base.log ≤ policy_in word
 
@@ -27,7 +27,7 @@ pub record FitsOpen (reply : Reply) (s : State) : Type 0 where
 abbrev pub FitsWord : History → (code : List ℕ) → Option Wait → Raw → (word : ℕ) → Type 0
 FitsWord h code None r word = (r.base.stop ≡ None) × (word ≡ slice_index code (r.base.pc / 4))
 FitsWord h code (Some (waits.Tary at rd)) r word = FitsTary h r at word
-FitsWord h code (Some (waits.Bary slot rd)) r word = IsTableWord h (λ epoch. slot_class h epoch slot) word
+FitsWord h code (Some (waits.Bary slot rd)) r word = IsBaryWord h slot word
 FitsWord h code (Some (waits.Service number)) r word = ⊥
 
 -- a service's end may come

@@ -12,3 +12,4 @@ pub mod Closed
 pub mod History
 pub mod Fits
 pub mod Shows
+pub mod Running

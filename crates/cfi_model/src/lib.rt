@@ -22,5 +22,5 @@ pub use data::{PrivateData, load_width, store_width};
 pub use log_book::LogBook;
 pub use output::Output;
 pub use plain::Plain;
-pub use shows::{an_opened_guest_shows, raw_shows_policy};
+pub use shows::{a_guest_runs, an_opened_guest_shows, raw_shows_policy};
 pub use step::PlainStep;

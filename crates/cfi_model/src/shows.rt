@@ -1,17 +1,32 @@
 //! The raw machine shows the policy machine: the law that every run of a guest stands on.
 
-ghost use Rattle.cfi_model.specs.Shows.{RawShowsPolicy, RawFollowsPolicy, RawHasSteps, FixedIsHistory, OpenedIsReady};
+ghost use Rattle.cfi_model.specs.Shows.{RawShowsPolicy, RawHasSteps, FixedIsHistory, OpenedIsReady};
+ghost use Rattle.cfi_model.specs.Running.{OpenedRuns, RestingRuns, RunningGoesOn, RunningGrows};
+ghost use Rattle.cfi_model.specs.Running.{RunningShows, RunningHasSteps};
 
 /// From a state that shows one of the policy machine, the raw machine shows a later one, whatever fits comes.
 ///
 /// What fits is the code's word, a table word of some epoch of the history, fair to the one before, and an answer.
 /// `shows`: the policy machine has run one unit for each that has ended; a check that asked the policy ran under that
-/// of the epoch whose Tary word was kept when it ended. `follows`: one more access leaves the state that is shown, or
-/// ends its unit. `steps`: a raw machine that waits for nothing has a step for the code's word.
+/// of the one epoch whose Bary word and Tary word were kept when it ended. `steps`: a raw machine that waits for
+/// nothing has a step for the code's word.
 pub fn raw_shows_policy()
     ensures shows { RawShowsPolicy }
-    ensures follows { RawFollowsPolicy }
     ensures steps { RawHasSteps }
+{}
+
+/// The law of a guest that runs, one access after the other, for a history and a code that grow.
+///
+/// `starts` and `rests`: a guest that is opened at a start, or whose unit has ended, runs. `goes_on`: one access more
+/// leaves what it shows as it was, or ends its unit. `grows`: a longer history and more code leave it running. `shows`
+/// and `steps`: what it shows, and that it has a step for what it fetches.
+pub fn a_guest_runs()
+    ensures starts { OpenedRuns }
+    ensures rests { RestingRuns }
+    ensures goes_on { RunningGoesOn }
+    ensures grows { RunningGrows }
+    ensures shows { RunningShows }
+    ensures steps { RunningHasSteps }
 {}
 
 /// The premises of the law are met by a guest that is opened at a start of a closed image.

@@ -73,7 +73,7 @@ image_at epoch = image_for MIN_CODE_WORDS (take (loaded_at epoch) modules)
     (loaded_some MIN_CODE_WORDS (loaded_at epoch) modules two)
 
 abbrev pub growth : History
-growth = record { first = 0; count = 3; versions = MIN_VERSIONS; policy = policy_at; image = image_at }
+growth = record { first = 0; count = 3; ahead = 0; versions = MIN_VERSIONS; policy = policy_at; image = image_at }
 
 steps : (epoch : ℕ) → (loaded_at (epoch + 1) ≡ loaded_at epoch) ⊎ (loaded_at (epoch + 1) ≡ loaded_at epoch + 1)
 steps zero = inr refl

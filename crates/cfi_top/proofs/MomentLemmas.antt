@@ -20,14 +20,13 @@ use Rattle.cfi_model.specs.Fits.{Fits, FitsWord, Along}
 use Rattle.cfi_model.specs.History.{History, IsHistory, fixed}
 use Rattle.cfi_model.specs.Raw.{Raw, access_address}
 use Rattle.cfi_model.specs.Run.{Take, Word, take_one, run_of}
-use Rattle.cfi_model.specs.Shows.{IsReady, IsBetween, Stands}
+use Rattle.cfi_model.specs.Shows.{LiesIn, IsReady, IsBetween, Stands}
 use Rattle.cfi_model.specs.State.{State}
 use Rattle.cfi_model.proofs.AdvanceLemmas.{first_access, next_access, goes_on, start_is, at_start}
-use Rattle.cfi_model.proofs.CheckPlaces as check
 use Rattle.cfi_model.proofs.LawLemmas.{Ended, Begun, At}
-use Rattle.cfi_model.proofs.MaskedLemmas as masked
+use Rattle.cfi_model.proofs.PlaceLemmas.{idle_lies}
 use Rattle.cfi_model.proofs.StuckLemmas.{raw_has_steps}
-use Rattle.cfi_top.specs.Moments.{at_moment, Fetches, LiesIn, HasEntered, IsOwn, StoresInside, IsConfined, fetched}
+use Rattle.cfi_top.specs.Moments.{at_moment, Fetches, HasEntered, IsOwn, StoresInside, IsConfined, fetched}
 
 -- ---- moments, one after the other
 
@@ -68,57 +67,6 @@ same_moment now moment least most = omega arith
 up_to : (now moment : ℕ) → moment ≤ suc now → (moment ≤ now) ⊎ (moment ≡ suc now)
 up_to now moment most =
     elim (cases_lt now moment) [ inl above ↦ inr (omega (arith, above, most)) | inr below ↦ inl below ]
-
--- ---- places within a unit
-
-module _ (p : State) where
-  masked_lies : (n address x28 x29 x30 : ℕ) (unit : CodeUnit) → size_of unit ≡ 6 → (place : masked.MaskedPlace)
-      → LiesIn p.pc unit (masked.masked_raw p n address x28 x29 x30 place).base.pc
-  masked_lies n address x28 x29 x30 unit size masked.Aimed = record { place = 1; within = omega (arith, size); is = refl }
-  masked_lies n address x28 x29 x30 unit size masked.Shifted =
-      record { place = 2; within = omega (arith, size); is = refl }
-  masked_lies n address x28 x29 x30 unit size masked.Cut = record { place = 3; within = omega (arith, size); is = refl }
-  masked_lies n address x28 x29 x30 unit size masked.Based = record { place = 4; within = omega (arith, size); is = refl }
-  masked_lies n address x28 x29 x30 unit size masked.Merged =
-      record { place = 5; within = omega (arith, size); is = refl }
-
-  check_lies : (n slot target : ℕ) (v : check.Values) (unit : CodeUnit) → size_of unit ≡ 14 → (place : check.CheckPlace)
-      → LiesIn p.pc unit (check.check_raw p n slot target v place).base.pc
-  check_lies n slot target v unit size check.Aimed = record { place = 1; within = omega (arith, size); is = refl }
-  check_lies n slot target v unit size check.Split = record { place = 2; within = omega (arith, size); is = refl }
-  check_lies n slot target v unit size check.Far = record { place = 12; within = omega (arith, size); is = refl }
-  check_lies n slot target v unit size check.Trying = record { place = 3; within = omega (arith, size); is = refl }
-  check_lies n slot target v unit size check.Pointed = record { place = 4; within = omega (arith, size); is = refl }
-  check_lies n slot target v unit size check.AskedBary = record { place = 5; within = omega (arith, size); is = refl }
-  check_lies n slot target v unit size check.FoundBary = record { place = 5; within = omega (arith, size); is = refl }
-  check_lies n slot target v unit size check.Tabled = record { place = 6; within = omega (arith, size); is = refl }
-  check_lies n slot target v unit size check.Added = record { place = 7; within = omega (arith, size); is = refl }
-  check_lies n slot target v unit size check.AskedTary = record { place = 8; within = omega (arith, size); is = refl }
-  check_lies n slot target v unit size check.FoundTary = record { place = 8; within = omega (arith, size); is = refl }
-  check_lies n slot target v unit size check.Differed = record { place = 9; within = omega (arith, size); is = refl }
-  check_lies n slot target v unit size check.Compared = record { place = 10; within = omega (arith, size); is = refl }
-  check_lies n slot target v unit size check.Lowered = record { place = 11; within = omega (arith, size); is = refl }
-  check_lies n slot target v unit size check.Refused = record { place = 12; within = omega (arith, size); is = refl }
-  check_lies n slot target v unit size check.Allowed = record { place = 13; within = omega (arith, size); is = refl }
-
-  -- what is fetched within a unit that has begun is a word of it
-  begun_lies : (h : History) (unit : CodeUnit) (retries : ℕ) (r : Raw) → Begun h p unit retries r → Fetches r
-      → LiesIn p.pc unit r.base.pc
-  begun_lies h (units.Plain insn) retries r begun next = absurd begun
-  begun_lies h (units.Branch c rs1 rs2 off) retries r begun next = absurd begun
-  begun_lies h (units.Jump link off) retries r begun next = absurd begun
-  begun_lies h (units.Load kind rd rs1 imm) retries r begun next =
-      subst (λ x. LiesIn p.pc (units.Load kind rd rs1 imm) x.base.pc) (sym begun.is)
-      (masked_lies retries _ begun.x28 begun.x29 begun.x30 (units.Load kind rd rs1 imm) refl begun.place)
-  begun_lies h (units.Store kind rs1 rs2 imm) retries r begun next =
-      subst (λ x. LiesIn p.pc (units.Store kind rs1 rs2 imm) x.base.pc) (sym begun.is)
-      (masked_lies retries _ begun.x28 begun.x29 begun.x30 (units.Store kind rs1 rs2 imm) refl begun.place)
-  begun_lies h (units.Check link rs1 imm slot) retries r begun next =
-      subst (λ x. LiesIn p.pc (units.Check link rs1 imm slot) x.base.pc) (sym begun.is)
-      (check_lies (retries + begun.more) slot _ begun.values (units.Check link rs1 imm slot) refl begun.place)
-  begun_lies h units.Service retries r begun next =
-      let waits = sym (ap (λ x. x.waits) begun.is) ∙ next.idle in
-      absurd (cc)
 
 -- ---- stores
 
@@ -209,7 +157,7 @@ module _ (image : Image) (known : IsHistory (fixed image) image.code) (first : S
         is = ap (λ k. (at k).base.pc) same ∙ there ∙ omega arith;
       }
       | inr same ↦ subst (λ k. LiesIn p.pc unit (at k).base.pc) (sym same)
-          (begun_lies p h unit retries (at (suc now)) begun (subst (λ k. Fetches (at k)) same next))
+          (idle_lies p h unit retries (at (suc now)) begun (subst (λ k. Fetches (at k)) same next).idle)
     ];
   }
 
@@ -226,7 +174,7 @@ module _ (image : Image) (known : IsHistory (fixed image) image.code) (first : S
     inside = λ moment least most next. elim (up_to now moment most) [
       | inl before ↦ w.inside moment least before next
       | inr same ↦ subst (λ k. LiesIn p.pc w.unit (at k).base.pc) (sym same)
-          (begun_lies p h w.unit retries (at (suc now)) begun (subst (λ k. Fetches (at k)) same next))
+          (idle_lies p h w.unit retries (at (suc now)) begun (subst (λ k. Fetches (at k)) same next).idle)
     ];
   }
 

@@ -14,8 +14,8 @@ use Rattle.cfi_model.specs.State.{State}
 use Rattle.cfi_model.specs.Raw.{Raw}
 use Rattle.cfi_model.specs.Run.{run_of, serve_as, serve_of}
 use Rattle.cfi_model.specs.History.{History, fixed}
-use Rattle.cfi_model.specs.Shows.{Runs, Shows, kept_along}
-use Rattle.cfi_model.proofs.KeptLemmas.{effect_units}
+use Rattle.cfi_model.specs.Shows.{End, Runs, Shows, ends_along}
+use Rattle.cfi_model.proofs.EndLemmas.{effect_units}
 use Rattle.cfi_model.proofs.ShownLemmas.{raw_shows, shows_units}
 use Rattle.cfi_bare.specs.Image.{IsImageOf, IsClosedFile}
 use Rattle.cfi_fixed.specs.Fixed.{CanRunOver}
@@ -31,14 +31,14 @@ use Rattle.cfi_top.proofs.MomentLemmas.{confined}
 use Rattle.cfi_top.proofs.ReportLemmas.{report_is}
 
 -- the policy machine counts the units that it runs
-runs_units : (h : History) (code : List ℕ) (kept : List (Option ℕ)) (old new : State) → Runs h code kept old new
-    → new.units ≡ old.units + length kept
+runs_units : (h : History) (code : List ℕ) (ends : List End) (old new : State) → Runs h code ends old new
+    → new.units ≡ old.units + length ends
 runs_units h code [] old new runs = ap (λ s. s.units) runs ∙ omega arith
-runs_units h code (word ∷ kept) old new runs =
+runs_units h code (end ∷ ends) old new runs =
     let step = runs.1 in
     let first : (runs.0).units ≡ old.units + 1 =
     ap (λ s. s.units) step.is ∙ effect_units step.unit _ _ step.reply old in
-    let rest = runs_units h code kept runs.0 new runs.2 in
+    let rest = runs_units h code ends runs.0 new runs.2 in
     omega arith
 
 -- the image's size is that of the greatest table
@@ -76,10 +76,10 @@ run_is words image fuel guest part placed file ended says fields =
     bare_start
     (between image fuel bare_start can) path.takes path.along in
     let last = shown.2 in
-    let counted = runs_units (fixed image) image.code (kept_along bare_start path.takes) bare_start.base shown.1
+    let counted = runs_units (fixed image) image.code (ends_along bare_start path.takes) bare_start.base shown.1
     last.runs in
     let same = shows_units (fixed image) image.code shown.0 shown.1 (run_of bare_start path.takes) last.shows in
-    let units : length (kept_along bare_start path.takes) ≡ part.units =
+    let units : length (ends_along bare_start path.takes) ≡ part.units =
     omega (arith, ap (λ p. p.units) says, ap (λ r. r.base.units) ended.is, ap (λ r. r.base.units) path.is) in
     record {
       image = image;

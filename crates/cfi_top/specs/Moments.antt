@@ -5,14 +5,13 @@ use Rattle.rv_insn.specs.declared.insn.Insn.{Insn}
 use Rattle.rv_insn.specs.declared.insn.Insn.TheVariants.{Store}
 use Rattle.rv_insn.specs.InsnOf.{insn_of}
 use Rattle.cfi_unit.specs.declared.unit.Unit.{Unit as CodeUnit}
-use Rattle.cfi_unit.specs.Unit.{size_of}
 use Rattle.cfi_word.specs.declared.lists.Image.{Image}
 use Rattle.cfi_word.specs.declared.map.TheConstants.{DATA_START, DATA_BYTES}
 use Rattle.cfi_model.specs.Closed.{IsStartIn}
 use Rattle.cfi_model.specs.Data.{store_width, is_aligned}
 use Rattle.cfi_model.specs.Raw.{Raw, access_address}
 use Rattle.cfi_model.specs.Run.{Take, run_of}
-use Rattle.cfi_model.specs.Shows.{Stands}
+use Rattle.cfi_model.specs.Shows.{Stands, LiesIn}
 
 -- the guest at a moment
 abbrev pub at_moment : (start : Raw) → List Take → (moment : ℕ) → Raw
@@ -22,12 +21,6 @@ at_moment start takes moment = run_of start (take moment takes)
 pub record Fetches (r : Raw) : Type 0 where
   pub going : r.base.stop ≡ None
   pub idle : r.waits ≡ None
-
--- the address is that of a word of the unit that begins at the start
-pub record LiesIn (start : ℕ) (unit : CodeUnit) (address : ℕ) : Type 0 where
-  pub place : ℕ
-  pub within : place < size_of unit
-  pub is : address ≡ start + 4 * place
 
 -- Now the guest runs a unit of the image, which it has begun at its start: at an earlier moment it stood there, and all
 -- that it has fetched since then are words of this unit.

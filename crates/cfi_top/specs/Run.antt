@@ -7,7 +7,7 @@ use Rattle.cfi_word.specs.declared.map.TheConstants.{FIRST_BASE}
 use Rattle.cfi_model.specs.State.{State}
 use Rattle.cfi_model.specs.Raw.{Raw, raw_opened}
 use Rattle.cfi_model.specs.History.{fixed}
-use Rattle.cfi_model.specs.Shows.{Runs, Shows, kept_along}
+use Rattle.cfi_model.specs.Shows.{Runs, Shows, ends_along}
 use Rattle.cfi_bare.specs.Image.{IsImageOf, IsClosedFile}
 use Rattle.cfi_fixed.specs.Bare.{HasEnded}
 use Rattle.cfi_top.specs.declared.part.TheConstants.{BARE_GUEST}
@@ -45,8 +45,8 @@ pub record IsRun (words : List ℕ) (fuel : ℕ) (part : GuestPart) : Type 0 whe
   pub says : part ≡ part_of guest
   pub spent : part.stop ≡ Some Fuel → part.steps ≡ fuel
   pub state : State
-  pub counted : length (kept_along bare_start ended.path.takes) ≡ part.units
-  pub runs : Runs (fixed image) image.code (kept_along bare_start ended.path.takes) bare_start.base state
+  pub counted : length (ends_along bare_start ended.path.takes) ≡ part.units
+  pub runs : Runs (fixed image) image.code (ends_along bare_start ended.path.takes) bare_start.base state
   pub shows : Shows (fixed image) image.code 0 state ended.last
   pub confined : IsConfined image bare_start ended.path.takes
   pub readable : IsReport (bare_report part)

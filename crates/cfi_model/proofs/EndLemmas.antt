@@ -1,4 +1,4 @@
--- The Tary words that are kept at the ends of units.
+-- The ends of units.
 use Rattle.std.proofs.Common.{◌≡◌, ℕ, ◌+◌, ◌∷◌, [], nat_lt, true, false, cond, refl, ap, arith, rules}
 use Rattle.cfi_unit.specs.declared.unit.Unit.{Unit as CodeUnit}
 use Rattle.cfi_unit.specs.declared.unit.Unit.TheVariants as units
@@ -6,7 +6,8 @@ use Rattle.cfi_model.specs.Effect.{effect}
 use Rattle.cfi_model.specs.Service.{Reply}
 use Rattle.cfi_model.specs.State.{State}
 use Rattle.cfi_model.specs.Raw.{Raw}
-use Rattle.cfi_model.specs.Shows.{kept_before}
+use Rattle.cfi_model.specs.Run.{Take, take_one}
+use Rattle.cfi_model.specs.Shows.{end_of, ends_before}
 
 -- a unit counts one
 pub effect_units : (unit : CodeUnit) (pick : ℕ) (allows : _) (reply : Reply) (s : State)
@@ -20,13 +21,13 @@ effect_units (units.Check link rs1 imm slot) pick allows reply s = refl
 effect_units units.Service pick allows reply s = refl
 
 -- no unit has ended
-pub none_kept : (old new : Raw) → new.base.units ≡ old.base.units → kept_before old new ≡ []
-none_kept old new same =
-    let still : nat_lt old.base.units new.base.units ≡ false = search (rules, arith) in
-    ap (λ b. cond b (old.tary ∷ []) []) still
+pub none_ended : (r : Raw) (t : Take) → (take_one r t).base.units ≡ r.base.units → ends_before r t ≡ []
+none_ended r t same =
+    let still : nat_lt r.base.units (take_one r t).base.units ≡ false = search (rules, arith) in
+    ap (λ b. cond b (end_of r t ∷ []) []) still
 
 -- a unit has ended
-pub one_kept : (old new : Raw) → new.base.units ≡ old.base.units + 1 → kept_before old new ≡ old.tary ∷ []
-one_kept old new more =
-    let ended : nat_lt old.base.units new.base.units ≡ true = search (rules, arith) in
-    ap (λ b. cond b (old.tary ∷ []) []) ended
+pub one_ended : (r : Raw) (t : Take) → (take_one r t).base.units ≡ r.base.units + 1 → ends_before r t ≡ end_of r t ∷ []
+one_ended r t more =
+    let ended : nat_lt r.base.units (take_one r t).base.units ≡ true = search (rules, arith) in
+    ap (λ b. cond b (end_of r t ∷ []) []) ended
