@@ -24,7 +24,7 @@ zero_is_none : insn_of 0 ≡ None
 unfolding insn_of
 zero_is_none = refl
 
-no_step : (r : Raw) (word : ℕ) → HasStepBy (insn_of word) r → word ≢ 0
+pub no_step : (r : Raw) (word : ℕ) → HasStepBy (insn_of word) r → word ≢ 0
 no_step r word has zero = subst (λ i. HasStepBy i r) (ap insn_of zero ∙ zero_is_none) has
 
 module _ (h g : History) (e : Extends h g) where

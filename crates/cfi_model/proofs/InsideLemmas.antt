@@ -19,7 +19,7 @@ use Rattle.cfi_model.proofs.LawLemmas.{Begun, At}
 inside : (h : History) (code : List ℕ) (p : State) (unit : CodeUnit) (retries : ℕ) → At h code p unit
     → (at more few x28 x29 x30 x31 : ℕ) (bary tary : Option ℕ) (wait : Option Wait) (r : Raw)
     → r ≡ inner p p.units (p.pc + 4 * at) (p.steps + 9 * (retries + more) + few) x28 x29 x30 x31 bary tary wait
-    → IsPlaceIn unit wait at few → MayWait (length code) p wait → KeepsWords unit bary tary
+    → IsPlaceIn unit wait at few → MayWait (length code) unit p wait → KeepsWords unit bary tary
     → (more ≢ 0 → IsRetried h unit p)
     → (more ≢ 0 → at ≡ try_place → AreRetried h unit p bary tary) → IsInside h code retries p r
 inside h code p unit retries a at more few x28 x29 x30 x31 bary tary wait r is place waits keeps retried words =
@@ -49,24 +49,25 @@ again p n few pc x28 x29 x30 x31 bary tary wait =
 
 -- within a masked access
 inside_masked : (h : History) (code : List ℕ) (p : State) (unit : CodeUnit) (retries address : ℕ) → At h code p unit
-    → ((at : ℕ) → at < 6 → IsPlaceIn unit None at at) → KeepsWords unit None None
+    → ((at : ℕ) → at < 6 → IsPlaceIn unit None at at) → MayWait (length code) unit p None
+    → KeepsWords unit None None
     → (x28 x29 x30 : ℕ) (place : masked.MaskedPlace) (r : Raw)
     → r ≡ masked.masked_raw p retries address x28 x29 x30 place → IsInside h code retries p r
-inside_masked h code p unit n address a fits keeps x28 x29 x30 masked.Aimed r is =
+inside_masked h code p unit n address a fits idle keeps x28 x29 x30 masked.Aimed r is =
     inside h code p unit n a 1 0 1 _ _ _ _ _ _ None r (is ∙ again p n 1 (p.pc + 4 * 1) _ _ _ _ _ _ _)
-    (fits 1 (omega arith)) tt keeps (λ some. absurd (some refl)) (λ some there. absurd (some refl))
-inside_masked h code p unit n address a fits keeps x28 x29 x30 masked.Shifted r is =
+    (fits 1 (omega arith)) idle keeps (λ some. absurd (some refl)) (λ some there. absurd (some refl))
+inside_masked h code p unit n address a fits idle keeps x28 x29 x30 masked.Shifted r is =
     inside h code p unit n a 2 0 2 _ _ _ _ _ _ None r (is ∙ again p n 2 (p.pc + 4 * 2) _ _ _ _ _ _ _)
-    (fits 2 (omega arith)) tt keeps (λ some. absurd (some refl)) (λ some there. absurd (some refl))
-inside_masked h code p unit n address a fits keeps x28 x29 x30 masked.Cut r is =
+    (fits 2 (omega arith)) idle keeps (λ some. absurd (some refl)) (λ some there. absurd (some refl))
+inside_masked h code p unit n address a fits idle keeps x28 x29 x30 masked.Cut r is =
     inside h code p unit n a 3 0 3 _ _ _ _ _ _ None r (is ∙ again p n 3 (p.pc + 4 * 3) _ _ _ _ _ _ _)
-    (fits 3 (omega arith)) tt keeps (λ some. absurd (some refl)) (λ some there. absurd (some refl))
-inside_masked h code p unit n address a fits keeps x28 x29 x30 masked.Based r is =
+    (fits 3 (omega arith)) idle keeps (λ some. absurd (some refl)) (λ some there. absurd (some refl))
+inside_masked h code p unit n address a fits idle keeps x28 x29 x30 masked.Based r is =
     inside h code p unit n a 4 0 4 _ _ _ _ _ _ None r (is ∙ again p n 4 (p.pc + 4 * 4) _ _ _ _ _ _ _)
-    (fits 4 (omega arith)) tt keeps (λ some. absurd (some refl)) (λ some there. absurd (some refl))
-inside_masked h code p unit n address a fits keeps x28 x29 x30 masked.Merged r is =
+    (fits 4 (omega arith)) idle keeps (λ some. absurd (some refl)) (λ some there. absurd (some refl))
+inside_masked h code p unit n address a fits idle keeps x28 x29 x30 masked.Merged r is =
     inside h code p unit n a 5 0 5 _ _ _ _ _ _ None r (is ∙ again p n 5 (p.pc + 4 * 5) _ _ _ _ _ _ _)
-    (fits 5 (omega arith)) tt keeps (λ some. absurd (some refl)) (λ some there. absurd (some refl))
+    (fits 5 (omega arith)) idle keeps (λ some. absurd (some refl)) (λ some there. absurd (some refl))
 
 -- a check's slot is one of the table
 slot_within : (h : History) (code : List ℕ) (p : State) (link : Bool) (rs1 : ℕ) (imm : ℤ) (slot : ℕ)
@@ -97,7 +98,7 @@ inside_check h code p retries slot link rs1 imm a more two v check.Pointed r is 
     inside h code p _ retries a 4 more 4 _ _ _ _ _ _ _ r is (omega arith, omega arith) tt tt two
     (λ again there. absurd (omega (arith, there)))
 inside_check h code p retries slot link rs1 imm a more two v check.AskedBary r is holds =
-    inside h code p _ retries a 5 more 5 _ _ _ _ _ _ _ r is (omega arith, omega arith) (slot_within h code p link rs1 imm slot a) tt two
+    inside h code p _ retries a 5 more 5 _ _ _ _ _ _ _ r is (omega arith, omega arith) (refl, slot_within h code p link rs1 imm slot a) tt two
     (λ again there. absurd (omega (arith, there)))
 inside_check h code p retries slot link rs1 imm a more two v check.FoundBary r is holds =
     inside h code p _ retries a 5 more 5 _ _ _ _ _ _ _ r is (omega arith, omega arith) tt tt two
@@ -109,7 +110,7 @@ inside_check h code p retries slot link rs1 imm a more two v check.Added r is ho
     inside h code p _ retries a 7 more 7 _ _ _ _ _ _ _ r is (omega arith, omega arith) tt tt two
     (λ again there. absurd (omega (arith, there)))
 inside_check h code p retries slot link rs1 imm a more two v check.AskedTary r is holds =
-    inside h code p _ retries a 8 more 8 _ _ _ _ _ _ _ r is (omega arith, omega arith) (holds.0, holds.1) tt two
+    inside h code p _ retries a 8 more 8 _ _ _ _ _ _ _ r is (omega arith, omega arith) (refl, holds.0, holds.1) tt two
     (λ again there. absurd (omega (arith, there)))
 inside_check h code p retries slot link rs1 imm a more two v check.FoundTary r is holds =
     inside h code p _ retries a 8 more 8 _ _ _ _ _ _ _ r is (omega arith, omega arith) tt tt two
@@ -137,11 +138,13 @@ shown_within h code p (units.Plain insn) retries r a begun = absurd begun
 shown_within h code p (units.Branch c rs1 rs2 off) retries r a begun = absurd begun
 shown_within h code p (units.Jump link off) retries r a begun = absurd begun
 shown_within h code p (units.Load kind rd rs1 imm) retries r a begun =
-    inside_masked h code p (units.Load kind rd rs1 imm) retries _ a (λ at within. (within, omega (arith, within))) (refl, refl) begun.x28 begun.x29 begun.x30
+    inside_masked h code p (units.Load kind rd rs1 imm) retries _ a (λ at within. (within, omega (arith, within))) tt (refl, refl)
+    begun.x28 begun.x29 begun.x30
     begun.place r
     begun.is
 shown_within h code p (units.Store kind rs1 rs2 imm) retries r a begun =
-    inside_masked h code p (units.Store kind rs1 rs2 imm) retries _ a (λ at within. (within, omega (arith, within))) (refl, refl) begun.x28 begun.x29 begun.x30
+    inside_masked h code p (units.Store kind rs1 rs2 imm) retries _ a (λ at within. (within, omega (arith, within))) tt (refl, refl)
+    begun.x28 begun.x29 begun.x30
     begun.place
     r begun.is
 shown_within h code p (units.Check link rs1 imm slot) retries r a begun =

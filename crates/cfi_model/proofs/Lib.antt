@@ -29,3 +29,4 @@ pub mod GrowLemmas
 pub mod FixedLemmas
 pub mod ClosedLemmas
 pub mod CanLemmas
+pub mod TableLemmas

@@ -12,4 +12,11 @@ pub mod Closed
 pub mod History
 pub mod Fits
 pub mod Shows
+pub mod Words
+pub mod Phases
+pub mod Tables
+pub mod Quiet
+pub mod Tries
+pub mod World
+pub mod Epochs
 pub mod Running

@@ -127,12 +127,16 @@ abbrev pub IsPlaceIn : CodeUnit → Option Wait → (at few : ℕ) → Type 0
 IsPlaceIn units.Service (Some (waits.Service number)) at few = (at ≡ 1) × (few ≡ 1)
 IsPlaceIn unit wait at few = (at < size_of unit) × (few ≤ few_of unit)
 
--- what the unit may wait for: a slot of the table, a word of the code, or the service that was asked for
-abbrev pub MayWait : (code_words : ℕ) → State → Option Wait → Type 0
-MayWait code_words s None = ⊤
-MayWait code_words s (Some (waits.Tary at rd)) = (at < CODE_BYTES) × (at % 4 ≡ 0)
-MayWait code_words s (Some (waits.Bary slot rd)) = slot < slots_of code_words
-MayWait code_words s (Some (waits.Service number)) = number ≡ asked s
+-- what the unit may wait for: a check for the word of its slot, one of the table, or of its target, a word of the code;
+-- a service for its end
+abbrev pub MayWait : (code_words : ℕ) → CodeUnit → State → Option Wait → Type 0
+MayWait code_words (units.Check link rs1 imm slot) s (Some (waits.Bary asked_slot rd)) =
+    (asked_slot ≡ slot) × (slot < slots_of code_words)
+MayWait code_words (units.Check link rs1 imm slot) s (Some (waits.Tary at rd)) =
+    (at ≡ displaced (register s rs1) imm) × (at < CODE_BYTES) × (at % 4 ≡ 0)
+MayWait code_words units.Service s (Some (waits.Service number)) = number ≡ asked s
+MayWait code_words unit s None = ⊤
+MayWait code_words unit s (Some wait) = ⊥
 
 -- only a check keeps table words
 abbrev pub KeepsWords : CodeUnit → (bary tary : Option ℕ) → Type 0
@@ -178,7 +182,7 @@ pub record IsInside (h : History) (code : List ℕ) (retries : ℕ) (s : State) 
   pub at : ℕ
   pub few : ℕ
   pub place : IsPlaceIn unit r.waits at few
-  pub waits : MayWait (length code) s r.waits
+  pub waits : MayWait (length code) unit s r.waits
   pub keeps : KeepsWords unit r.bary r.tary
   pub more : ℕ
   pub retried : more ≢ 0 → IsRetried h unit s

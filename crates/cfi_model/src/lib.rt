@@ -7,10 +7,14 @@
 
 mod act;
 mod data;
+mod epochs;
+mod history;
 pub mod laws;
 mod log_book;
 mod output;
+mod phase;
 mod plain;
+mod quiet;
 mod shows;
 mod step;
 #[cfg(test)]
@@ -19,8 +23,12 @@ mod tests;
 pub use act::{Act, Wait};
 pub use cfi_unit::{Answer, Fill, Log, Stop};
 pub use data::{PrivateData, load_width, store_width};
+pub use epochs::tables_have_a_history;
+pub use history::{Access, Entry, Refusal};
 pub use log_book::LogBook;
 pub use output::Output;
+pub use phase::Phase;
 pub use plain::Plain;
+pub use quiet::{Point, Quiet};
 pub use shows::{a_guest_runs, an_opened_guest_shows, raw_shows_policy};
 pub use step::PlainStep;
