@@ -13,3 +13,9 @@ pub mod History
 pub mod Fits
 pub mod Shows
 pub mod Running
+pub mod Words
+pub mod Phases
+pub mod Tables
+pub mod Quiet
+pub mod Tries
+pub mod World

@@ -7,20 +7,28 @@
 
 mod act;
 mod data;
+mod history;
 pub mod laws;
 mod log_book;
 mod output;
+mod phase;
 mod plain;
+mod quiet;
 mod shows;
 mod step;
 #[cfg(test)]
 mod tests;
+mod words;
 
 pub use act::{Act, Wait};
 pub use cfi_unit::{Answer, Fill, Log, Stop};
 pub use data::{PrivateData, load_width, store_width};
+pub use history::{Access, Entry, Refusal};
 pub use log_book::LogBook;
 pub use output::Output;
+pub use phase::Phase;
 pub use plain::Plain;
+pub use quiet::{Point, Quiet};
 pub use shows::{a_guest_runs, an_opened_guest_shows, raw_shows_policy};
 pub use step::PlainStep;
+pub use words::{epoch_tells_force, opened_tables_are_tables, phases_tell_words};

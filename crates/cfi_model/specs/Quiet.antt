@@ -1,0 +1,16 @@
+-- QUIET words, quiescent points, and which updates are admitted (MCFI, Niu and Tan, PLDI 2014: a version is used again
+-- only when no check can still hold a word of the epoch that had it).
+use Rattle.std.specs.Prelude.{◌≡◌, ℕ, ◌+◌, ◌-◌, nat_le, Bool, true}
+use Rattle.cfi_model.specs.declared.quiet.Quiet.{Quiet}
+use Rattle.cfi_model.specs.declared.quiet.Quiet.TheVariants.{Unregistered, Published}
+
+-- the word that tells it
+abbrev pub quiet_word_of : Quiet → ℕ
+quiet_word_of Unregistered = 0
+quiet_word_of (Published epoch) = epoch + 1
+
+-- an update to this epoch may go on where it finds this in a QUIET word: after the guest's quiescent point its Bary word
+-- has an epoch of at least one less than was published, so all that its next try can meet have different versions
+abbrev pub admits : (versions epoch : ℕ) → Quiet → Bool
+admits versions epoch Unregistered = true
+admits versions epoch (Published quiet) = nat_le epoch (quiet + versions - 2)
