@@ -44,7 +44,7 @@ module _ (t : Tables) (is : IsTables t) where
 
 -- the tables of an opening
 module _ (code_words versions first : ℕ) (image : Image) where
-  t : Tables
+  abbrev t : Tables
   t = opened_tables code_words versions first (first_entry image)
 
   first_is : (number : ℕ) → number < 1 → entry_at t number ≡ first_entry image

@@ -19,3 +19,4 @@ pub mod Tables
 pub mod Quiet
 pub mod Tries
 pub mod World
+pub mod InForce
