@@ -29,4 +29,5 @@ pub mod GrowLemmas
 pub mod FixedLemmas
 pub mod ClosedLemmas
 pub mod CanLemmas
+pub mod PhaseLemmas
 pub mod TableLemmas

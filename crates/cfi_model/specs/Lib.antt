@@ -20,3 +20,10 @@ pub mod Tries
 pub mod World
 pub mod Epochs
 pub mod Running
+pub mod Words
+pub mod Phases
+pub mod Tables
+pub mod Quiet
+pub mod Tries
+pub mod World
+pub mod InForce

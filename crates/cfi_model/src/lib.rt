@@ -7,7 +7,6 @@
 
 mod act;
 mod data;
-mod epochs;
 mod history;
 pub mod laws;
 mod log_book;
@@ -19,11 +18,11 @@ mod shows;
 mod step;
 #[cfg(test)]
 mod tests;
+mod words;
 
 pub use act::{Act, Wait};
 pub use cfi_unit::{Answer, Fill, Log, Stop};
 pub use data::{PrivateData, load_width, store_width};
-pub use epochs::tables_have_a_history;
 pub use history::{Access, Entry, Refusal};
 pub use log_book::LogBook;
 pub use output::Output;
@@ -32,3 +31,4 @@ pub use plain::Plain;
 pub use quiet::{Point, Quiet};
 pub use shows::{a_guest_runs, an_opened_guest_shows, raw_shows_policy};
 pub use step::PlainStep;
+pub use words::{epoch_tells_force, opened_tables_are_tables, phases_tell_words};

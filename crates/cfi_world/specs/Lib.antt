@@ -1,0 +1,6 @@
+pub mod inner
+pub mod Seats
+pub mod Updates
+pub mod Turns
+pub mod Premises
+pub mod Worlds

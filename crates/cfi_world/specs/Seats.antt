@@ -1,0 +1,84 @@
+-- A guest's seat in a world: the guest, how far it is in a quiescent point, and what its QUIET word tells. An event of
+-- the guest is one load or store of a shared word, with the private work up to the next one.
+use Rattle.std.specs.Prelude.{ℕ, ◌/◌, ◌==◌, nat_lt, ◌&&◌, Bool, true, false, is_none, if◌then◌else◌, slice_set, Option, Some, None}
+use Rattle.cfi_word.specs.declared.limits.TheConstants.{MAX_OPENS}
+use Rattle.cfi_word.specs.declared.services.TheConstants.{OPEN}
+use Rattle.cfi_word.specs.Table.{Code, Tary, Bary}
+use Rattle.cfi_model.specs.declared.act.Wait.{Wait}
+use Rattle.cfi_model.specs.declared.act.Wait.TheVariants as waits
+use Rattle.cfi_model.specs.declared.quiet.Point.{Point}
+use Rattle.cfi_model.specs.declared.quiet.Point.TheVariants.{Outside, Found, Asking}
+use Rattle.cfi_model.specs.declared.quiet.Quiet.{Quiet}
+use Rattle.cfi_model.specs.declared.quiet.Quiet.TheVariants.{Published}
+use Rattle.cfi_model.specs.Begin.{begin_of}
+use Rattle.cfi_model.specs.Log.{opens}
+use Rattle.cfi_model.specs.Raw.{Raw}
+use Rattle.cfi_model.specs.Run.{finish_of, serve_of}
+use Rattle.cfi_model.specs.Service.{too_many}
+use Rattle.cfi_model.specs.Words.{Tables, epoch_in_force, word_at}
+use Rattle.cfi_model.specs.World.{World, quiet_of, point_of}
+use Rattle.rv_guest.specs.Guest.{spent}
+
+pub record Seat : Type 0 where
+  pub guest : Raw
+  pub point : Point
+  pub quiet : Quiet
+
+-- the seat of a guest of a world, and the world with another seat for it
+abbrev pub seat_of : World → (guest : ℕ) → Raw → Seat
+seat_of w guest r = record { guest = r; point = point_of w guest; quiet = quiet_of w guest }
+
+abbrev pub with_seat : World → (guest : ℕ) → Seat → World
+with_seat w guest s = record w {
+  quiets = slice_set w.quiets guest s.quiet;
+  guests = slice_set w.guests guest s.guest;
+  points = slice_set w.points guest s.point;
+}
+
+-- a guest that would fetch next, and has fetched as many instructions as it was given, stops with Fuel
+abbrev pub rested : (fuel : ℕ) → Raw → Raw
+rested fuel r = if is_none r.waits then spent fuel r else r
+
+-- a Tary word past the code is that of code word 0
+abbrev pub tary_index : (code_words address : ℕ) → ℕ
+tary_index code_words address = if nat_lt (address / 4) code_words then address / 4 else 0
+
+-- the guest fetches a code word, or loads the table word that it waits for
+abbrev pub loads : Option Wait → Tables → Raw → Raw
+loads None t r = begin_of r (word_at t (Code (r.base.pc / 4)))
+loads (Some (waits.Tary at rd)) t r = finish_of r (word_at t (Tary (tary_index t.code_words at)))
+loads (Some (waits.Bary slot rd)) t r = finish_of r (word_at t (Bary slot))
+loads (Some (waits.Service number)) t r = r
+
+-- a service needs an answer: it is an open that may be logged
+abbrev pub needs_answer : (number : ℕ) → Raw → Bool
+needs_answer number r = (number == OPEN) && nat_lt (opens r.base.log) MAX_OPENS
+
+-- a service begins with a quiescent point: a load of EPOCH, then a store in the guest's QUIET word, with which the
+-- service ends or the guest waits for its answer
+abbrev pub serves : Point → Tables → (fuel number : ℕ) → Seat → Seat
+serves Outside t fuel number s = record s { point = Found (epoch_in_force t) }
+serves (Found epoch) t fuel number s = record {
+  guest = if needs_answer number s.guest then s.guest else rested fuel (serve_of s.guest too_many);
+  point = if needs_answer number s.guest then Asking else Outside;
+  quiet = Published epoch;
+}
+serves Asking t fuel number s = s
+
+-- an event of the guest, by what it waits for
+abbrev pub seat_by : Option Wait → Tables → (fuel : ℕ) → Seat → Seat
+seat_by (Some (waits.Service number)) t fuel s = serves s.point t fuel number s
+seat_by None t fuel s = record s { guest = rested fuel (loads None t s.guest) }
+seat_by (Some (waits.Tary at rd)) t fuel s =
+    record s { guest = rested fuel (loads (Some (waits.Tary at rd)) t s.guest) }
+seat_by (Some (waits.Bary slot rd)) t fuel s =
+    record s { guest = rested fuel (loads (Some (waits.Bary slot rd)) t s.guest) }
+
+abbrev pub seat_after : Tables → (fuel : ℕ) → Seat → Seat
+seat_after t fuel s = seat_by s.guest.waits t fuel s
+
+-- the guest waits for an answer
+abbrev pub is_asking : Point → Bool
+is_asking Outside = false
+is_asking (Found epoch) = false
+is_asking Asking = true

@@ -1,0 +1,51 @@
+-- What holds of a world at every moment.
+use Rattle.std.specs.Prelude.{◌≡◌, ◌≢◌, ℕ, ◌+◌, ◌-◌, ◌≤◌, ◌<◌, length, slice_get, Option, Some, None, ⊤, ⊥}
+use Rattle.cfi_word.specs.declared.limits.TheConstants.{GUESTS, MAX_OPENS}
+use Rattle.cfi_word.specs.declared.services.TheConstants.{OPEN}
+use Rattle.cfi_model.specs.declared.act.Wait.{Wait}
+use Rattle.cfi_model.specs.declared.act.Wait.TheVariants as waits
+use Rattle.cfi_model.specs.declared.history.Entry.{Entry}
+use Rattle.cfi_model.specs.declared.quiet.Point.{Point}
+use Rattle.cfi_model.specs.declared.quiet.Point.TheVariants.{Outside, Found, Asking}
+use Rattle.cfi_model.specs.Log.{last_policy, opens}
+use Rattle.cfi_model.specs.Raw.{Raw}
+use Rattle.cfi_model.specs.Tables.{IsTables}
+use Rattle.cfi_model.specs.Words.{Tables, epoch_in_force, policy_in_force}
+use Rattle.cfi_model.specs.World.{World}
+use Rattle.cfi_world.specs.Seats.{Seat, seat_of}
+
+-- a guest in a service
+abbrev pub IsServing : Option Wait → Type 0
+IsServing None = ⊥
+IsServing (Some (waits.Tary at rd)) = ⊥
+IsServing (Some (waits.Bary slot rd)) = ⊥
+IsServing (Some (waits.Service number)) = ⊤
+
+-- a quiescent point belongs to a service; one that waits for its answer is an open that may be logged
+abbrev pub FitsPoint : Tables → Raw → Point → Type 0
+FitsPoint t r Outside = ⊤
+FitsPoint t r (Found epoch) = IsServing r.waits × (epoch ≤ epoch_in_force t)
+FitsPoint t r Asking = (r.waits ≡ Some (waits.Service OPEN)) × (opens r.base.log < MAX_OPENS)
+
+-- a guest has no more steps than its fuel, and one that would fetch has fewer; one that has stopped waits for nothing;
+-- no policy that is logged is above the one in force
+pub record IsSeat (t : Tables) (fuel : ℕ) (s : Seat) : Type 0 where
+  pub steps_most : s.guest.base.steps ≤ fuel
+  pub steps_left : s.guest.base.stop ≡ None → s.guest.waits ≡ None → s.guest.base.steps < fuel
+  pub stopped : s.guest.base.stop ≢ None → s.guest.waits ≡ None
+  pub point : FitsPoint t s.guest s.point
+  pub logged : last_policy s.guest.base.log ≤ policy_in_force t
+
+-- an update under way is one entry more, some day
+abbrev pub pending : Option Entry → ℕ
+pending None = 0
+pending (Some entry) = 1
+
+pub record IsWorld (w : World) : Type 0 where
+  pub tables : IsTables w.tables
+  pub quiets_many : length w.quiets ≡ GUESTS
+  pub points_many : length w.points ≡ GUESTS
+  pub few : length w.guests ≤ GUESTS
+  pub room : w.updates ≤ w.room
+  pub entries_few : length w.tables.entries + pending w.tables.asked ≤ w.updates + 1
+  pub seats : (guest : ℕ) (r : Raw) → slice_get w.guests guest ≡ Some r → IsSeat w.tables w.fuel (seat_of w guest r)
