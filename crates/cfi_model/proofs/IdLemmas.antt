@@ -104,6 +104,12 @@ tary_epoch h code target {tary} known found =
     (parts_of h code (λ epoch. target_class h epoch target) tary found.epoch known found.known
     (target-field h code found.epoch target known found.known) found.is).epoch_is
 
+pub tary_policy : (h : History) (code : List ℕ) (target : ℕ) → {tary : ℕ} → IsHistory h code
+    → (found : IsTaryWord h target tary) → policy_in tary ≡ h.policy found.epoch
+tary_policy h code target {tary} known found =
+    (parts_of h code (λ epoch. target_class h epoch target) tary found.epoch known found.known
+    (target-field h code found.epoch target known found.known) found.is).policy
+
 -- equal low halves are one epoch
 pub one_epoch : (h : History) (code : List ℕ) (slot target bary tary : ℕ) → IsHistory h code
     → (try : IsTry h slot target bary tary) → low_half (id_in tary) ≡ low_half (id_in bary)

@@ -20,10 +20,3 @@ pub mod Tries
 pub mod World
 pub mod Epochs
 pub mod Running
-pub mod Words
-pub mod Phases
-pub mod Tables
-pub mod Quiet
-pub mod Tries
-pub mod World
-pub mod InForce

@@ -1,4 +1,4 @@
-use Rattle.cfi_model.proofs.TableLemmas.{is_history, bary_found, tary_found, code_found, extends, keeps}
+use Rattle.cfi_model.proofs.EpochLemmas.{is_history, bary_found, tary_found, code_found, extends, keeps}
 use Rattle.cfi_model.proofs.epochs.tables_have_a_history.Goals as goal
 
 pub returns-clause-history : goal.returns-clause-history
