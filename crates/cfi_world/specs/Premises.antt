@@ -1,8 +1,9 @@
 -- What a world is opened for, and which events it may be given.
-use Rattle.std.specs.Prelude.{◌≡◌, ℕ, ◌≤◌, ◌<◌, List, length, slice_get, Option, Some, None, ⊤}
+use Rattle.std.specs.Prelude.{◌≡◌, ◌≢◌, ℕ, ◌≤◌, ◌<◌, List, length, slice_get, Option, Some, None, ⊤}
 use Rattle.std.specs.List.{All}
 use Rattle.cfi_unit.specs.declared.fill.Fill.{Fill}
 use Rattle.cfi_word.specs.declared.lists.Image.{Image}
+use Rattle.cfi_word.specs.declared.services.TheConstants.{TOO_MANY}
 use Rattle.cfi_word.specs.declared.limits.TheConstants.{GUESTS, MAX_EPOCH, MIN_VERSIONS, MAX_VERSIONS}
 use Rattle.cfi_model.specs.Closed.{IsClosed, IsStartIn}
 use Rattle.cfi_model.specs.Data.{LiesInData}
@@ -42,9 +43,11 @@ pub record HasRoom (w : World) (image : Option Image) : Type 0 where
   pub room : w.updates < w.room
   pub may : MayBegin w.tables image
 
--- an answer has the policy in force, and its fills lie inside private data
+-- An answer has the policy in force, and its fills lie inside private data. That there are too many opens is never the
+-- answer to one that asks: the world itself answers that, where no more can be logged.
 pub record MayAnswer (w : World) (reply : Reply) : Type 0 where
   pub policy : reply.policy ≡ policy_in_force w.tables
+  pub few : reply.cause ≢ TOO_MANY
   pub inside : All LiesInData reply.fills
 
 abbrev pub MayTurn : World → Event → Type 0

@@ -16,6 +16,7 @@ use Rattle.cfi_model.specs.Raw.{Raw}
 use Rattle.cfi_model.specs.Run.{finish_of, serve_of}
 use Rattle.cfi_model.specs.Service.{too_many}
 use Rattle.cfi_model.specs.Words.{Tables, epoch_in_force, word_at}
+use Rattle.cfi_model.specs.Epochs.{tary_index}
 use Rattle.cfi_model.specs.World.{World, quiet_of, point_of}
 use Rattle.rv_guest.specs.Guest.{spent}
 
@@ -38,10 +39,6 @@ with_seat w guest s = record w {
 -- a guest that would fetch next, and has fetched as many instructions as it was given, stops with Fuel
 abbrev pub rested : (fuel : ℕ) → Raw → Raw
 rested fuel r = if is_none r.waits then spent fuel r else r
-
--- a Tary word past the code is that of code word 0
-abbrev pub tary_index : (code_words address : ℕ) → ℕ
-tary_index code_words address = if nat_lt (address / 4) code_words then address / 4 else 0
 
 -- the guest fetches a code word, or loads the table word that it waits for
 abbrev pub loads : Option Wait → Tables → Raw → Raw
