@@ -31,3 +31,4 @@ pub mod ClosedLemmas
 pub mod CanLemmas
 pub mod PhaseLemmas
 pub mod TableLemmas
+pub mod InForceLemmas
