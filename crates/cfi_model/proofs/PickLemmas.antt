@@ -21,8 +21,8 @@ ends_in_pick log policy (Some e) is picks = (e, is)
 ends_in_pick log policy None is picks = absurd (cc)
 
 -- what a log says after a pick: one more entry, or the last one anew
-record AfterPick (policy : ℕ) (old new : List Log) : Type 0 where
-  last : last_policy new ≡ policy
+pub record AfterPick (policy : ℕ) (old new : List Log) : Type 0 where
+  pub last : last_policy new ≡ policy
   some : 0 < pick_entries new
   least : pick_entries old ≤ pick_entries new
 
@@ -60,7 +60,7 @@ after_pick log policy true is =
     set_again log policy (picks_of policy (last_of log) + 1) entry.0 entry.1
 after_pick log policy false is = pushed log policy
 
-picked_is : (log : List Log) (policy : ℕ) → AfterPick policy log (picked policy log)
+pub picked_is : (log : List Log) (policy : ℕ) → AfterPick policy log (picked policy log)
 picked_is log policy = after_pick log policy (is_pick_of policy (last_of log)) refl
 
 -- the logged policies have not fallen, and no pick is lost
