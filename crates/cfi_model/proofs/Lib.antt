@@ -31,5 +31,5 @@ pub mod ClosedLemmas
 pub mod CanLemmas
 pub mod PhaseLemmas
 pub mod TableLemmas
-pub mod EpochLemmas
-pub mod AfterLemmas
+pub mod InForceLemmas
+pub mod BoundLemmas

@@ -33,4 +33,6 @@ pub use plain::Plain;
 pub use quiet::{Point, Quiet};
 pub use shows::{a_guest_runs, an_opened_guest_shows, raw_shows_policy};
 pub use step::PlainStep;
-pub use words::{epoch_tells_force, opened_tables_are_tables, phases_tell_words};
+pub use words::{
+    epoch_tells_force, opened_tables_are_tables, phases_tell_words, tables_have_a_history,
+};

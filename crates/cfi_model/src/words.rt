@@ -1,12 +1,15 @@
 //! What the phases of an update tell of the tables' words.
 
-ghost use Rattle.std.specs.Prelude.{◌≡◌, ◌≢◌, ℕ, ◌+◌, ◌≤◌};
+ghost use Rattle.std.specs.Prelude.{◌≡◌, ◌≢◌, ℕ, ◌+◌, ◌/◌, ◌<◌, ◌≤◌, slice_index};
 ghost use Rattle.cfi_word.specs.declared.lists.Image.{Image};
 ghost use Rattle.cfi_word.specs.declared.limits.TheConstants.{MIN_VERSIONS, MAX_VERSIONS, MAX_EPOCH};
 ghost use Rattle.cfi_word.specs.Rank.{rank, IsStored};
-ghost use Rattle.cfi_word.specs.Table.{IsSize, Place, Epoch, IsPlace, word_number};
+ghost use Rattle.cfi_word.specs.Table.{IsSize, Place, Epoch, Code, Tary, Bary, IsPlace, word_number};
 ghost use Rattle.cfi_model.specs.Closed.{IsClosed};
+ghost use Rattle.cfi_model.specs.History.{IsHistory, IsBaryWord, IsTaryWord};
+ghost use Rattle.cfi_model.specs.InForce.{GoesOn, history_of, code_of};
 ghost use Rattle.cfi_model.specs.Phases.{phase_of, number_in, one_more};
+ghost use Rattle.cfi_model.specs.Running.{Extends, Keeps};
 ghost use Rattle.cfi_model.specs.Tables.{IsTables};
 ghost use Rattle.cfi_model.specs.Words.{Tables, entry_at, epoch_in_force, newest, number_at, opened_tables};
 ghost use Rattle.cfi_model.specs.Words.{policy_in_force, rank_at, word_at, word_of_entry};
@@ -34,6 +37,26 @@ pub fn epoch_tells_force()
     ensures epoch { (t : Tables) → IsTables t → epoch_in_force t ≡ t.first + number_at t Epoch }
     ensures policy { (t : Tables) → IsTables t →
         policy_in_force t ≡ (entry_at t (number_at t Epoch)).policy }
+{}
+
+/// Tables have a history, of which each loaded word is, and which goes on as they do.
+///
+/// `bary`, `tary` and `past`: what is loaded for a slot, an address of the code and one past it. `code`: what is fetched
+/// where the code in force has a word. `extends` and `keeps`: later tables have a longer history, and keep the code.
+pub fn tables_have_a_history()
+    ensures history { (t : Tables) → IsTables t → IsHistory (history_of t) (code_of t) }
+    ensures bary { (t : Tables) → IsTables t → (slot : ℕ) →
+        IsBaryWord (history_of t) slot (word_at t (Bary slot)) }
+    ensures tary { (t : Tables) → IsTables t → (address : ℕ) →
+        IsTaryWord (history_of t) address (word_at t (Tary (address / 4))) }
+    ensures past { (t : Tables) → IsTables t → (address : ℕ) → t.code_words ≤ address / 4 →
+        IsTaryWord (history_of t) address (word_at t (Tary 0)) }
+    ensures code { (t : Tables) → IsTables t → (index : ℕ) → slice_index (code_of t) index ≢ 0 →
+        word_at t (Code index) ≡ slice_index (code_of t) index }
+    ensures extends { (t u : Tables) → IsTables t → IsTables u → GoesOn t u →
+        Extends (history_of t) (history_of u) }
+    ensures keeps { (t u : Tables) → IsTables t → IsTables u → GoesOn t u →
+        Keeps (code_of t) (code_of u) }
 {}
 
 /// The tables of a closed image are such tables.

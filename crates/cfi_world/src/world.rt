@@ -93,7 +93,7 @@ impl World {
     /// in force, and its fills lie inside private data.
     pub fn turn(&mut self, event: Event<'_>) -> Turned
         requires { MayTurn self.old event }
-        ensures { Turns self.old event self.new result }
+        ensures { Turns self.old event.entry self.new result }
     {
         match event {
             Event::Guest(guest) => self.go(guest),

@@ -4,6 +4,8 @@ ghost use Rattle.std.specs.Prelude.{◌≡◌, ◌≢◌, ◌+◌, ◌≤◌, �
 ghost use Rattle.cfi_model.specs.declared.phase.Phase.TheVariants.{Idle};
 ghost use Rattle.cfi_model.specs.Phases.{phase_of};
 ghost use Rattle.cfi_word.specs.Rank.{stores_of};
+ghost use Rattle.cfi_word.specs.declared.limits.TheConstants.{MAX_EPOCH};
+ghost use Rattle.cfi_model.specs.Words.{next_epoch};
 ghost use Rattle.cfi_world.specs.Premises.{MayBegin};
 ghost use Rattle.cfi_world.specs.Updates.{begun, dropped, next_store, passed_by, stored};
 ghost use Rattle.cfi_world.specs.inner.Entries.{AreKept, entries_by, last_policy_of, update_by};

@@ -1,6 +1,6 @@
 // The words of the tables.
 
-ghost use Rattle.std.specs.Prelude.{◌≡◌, ◌<◌, length, slice_index, nat_lt, if◌then◌else◌};
+ghost use Rattle.std.specs.Prelude.{◌≡◌, ◌+◌, ◌<◌, length, slice_index, nat_lt, if◌then◌else◌};
 ghost use Rattle.cfi_word.specs.Ids.{IsField};
 ghost use Rattle.cfi_word.specs.Table.{Epoch, Code, Tary, Bary};
 ghost use Rattle.cfi_word.specs.Word.{packed};
@@ -38,7 +38,7 @@ impl Tables {
 
     // The image of an entry.
     #[inline(always)]
-    fn image(&self, number: usize) -> &Image
+    pub(super) fn image(&self, number: usize) -> &Image
         requires { number < length self.now.tables.entries }
         ensures { result.now ≡ (entry_at self.now.tables number).image }
     {
