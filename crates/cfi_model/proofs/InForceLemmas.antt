@@ -1,6 +1,6 @@
 -- The history of tables, and what their words are in it.
 use Rattle.std.proofs.Common.{◌≡◌, ◌≢◌, ℕ, zero, suc, ◌+◌, ◌-◌, ◌*◌, ◌/◌, ◌<◌, ◌≤◌, nat_lt, cond, Bool, true, false, inl, inr, refl, sym, ap, subst, ◌∙◌, arith, length, slice_index, List, Option, Some, None}
-use Rattle.std.proofs.lemmas.Bool.{cases_lt}
+use Rattle.std.proofs.lemmas.Bool.{cases_lt, lt-ltb, le-ltb}
 use Rattle.std.proofs.lemmas.List.{get_or_past}
 use Rattle.std.proofs.lemmas.Bool.Decides.{nat_tests}
 use Rattle.cfi_word.specs.declared.lists.Image.{Image}
@@ -10,7 +10,7 @@ use Rattle.cfi_word.proofs.WordLemmas.{policy_in-packed, epoch_in-packed}
 use Rattle.cfi_model.specs.declared.history.Entry.{Entry}
 use Rattle.cfi_model.specs.Closed.{HasClasses, IsClosed}
 use Rattle.cfi_model.specs.History.{History, IsEpoch, IsSeen, IsHistory, IsBaryWord, IsTaryWord, target_class}
-use Rattle.cfi_model.specs.InForce.{GoesOn, in_force, history_of, code_of}
+use Rattle.cfi_model.specs.InForce.{GoesOn, in_force, history_of, code_in_force, tary_index}
 use Rattle.cfi_model.specs.Running.{Extends, Keeps}
 use Rattle.cfi_model.specs.Tables.{IsTables, IsUpdate, IsRefresh, IsLoad, KeepsCode}
 use Rattle.cfi_model.specs.Words.{Tables, entry_at, epoch_in_force, policy_in_force, is_stored, newest, before, number_at, rank_at, word_at}
@@ -76,17 +76,17 @@ module _ (t : Tables) (is : IsTables t) where
   pub force_within : in_force t < length t.entries
   force_within = number_within t is (is_stored t Epoch)
 
-  code_many : length (code_of t) ≡ t.code_words
+  code_many : length (code_in_force t) ≡ t.code_words
   code_many = (is.closed (in_force t) force_within).1.classes.code_length
 
   -- the number of an epoch
   seen_within : (epoch : ℕ) → IsSeen (history_of t) epoch → epoch - t.first < length t.entries
   seen_within epoch seen = omega (arith, seen.least, seen.most, force_within)
 
-  epoch_within : (epoch : ℕ) → IsEpoch (history_of t) epoch → epoch - t.first ≤ in_force t
+  pub epoch_within : (epoch : ℕ) → IsEpoch (history_of t) epoch → epoch - t.first ≤ in_force t
   epoch_within epoch known = omega (arith, known.least, known.most)
 
-  pub history_is : IsHistory (history_of t) (code_of t)
+  pub history_is : IsHistory (history_of t) (code_in_force t)
   history_is = record {
     size = subst IsSize (sym code_many) is.size;
     versions_least = is.versions_least;
@@ -186,9 +186,6 @@ module _ (t : Tables) (is : IsTables t) where
             (slice_index (entry_at t k).image.tary (address / 4)) t.versions) (back n);
       }
 
-  pub tary_is : (address : ℕ) → IsTaryWord (history_of t) address (word_at t (Tary (address / 4)))
-  tary_is address = tary_by (address / 4) address refl
-
   -- code word 0 is no target, nor is a place past the code
   none_first : (image : Image) → IsClosed t.code_words image → slice_index image.tary 0 ≡ 0
   none_first image closed = elim (cases_lt 0 (slice_index image.tary 0)) [
@@ -202,26 +199,41 @@ module _ (t : Tables) (is : IsTables t) where
   none_past image closed place past =
       get_or_past image.tary place 0 (omega (arith, past, closed.1.classes.tary_length))
 
-  pub tary_past : (address : ℕ) → t.code_words ≤ address / 4
-      → IsTaryWord (history_of t) address (word_at t (Tary 0))
-  tary_past address past =
-      let n : ℕ = number_at t (Tary 0) in
-      let closed = is.closed n (number_within t is (is_stored t (Tary 0))) in
-      tary_by 0 address
-      (none_first (entry_at t n).image closed ∙ sym (none_past (entry_at t n).image closed (address / 4) past))
+  pub index_within : (address : ℕ) → tary_index t.code_words address < t.code_words
+  index_within address = elim (cases_lt (address / 4) t.code_words) [
+    | inl inside ↦
+        subst (λ k. k < t.code_words) (sym (ap (λ b. cond b (address / 4) 0) (lt-ltb _ _ inside))) inside
+    | inr past ↦
+        let some : 0 < t.code_words = omega (arith, is.size.least) in
+        subst (λ k. k < t.code_words) (sym (ap (λ b. cond b (address / 4) 0) (le-ltb _ _ past))) some
+  ]
+
+  pub tary_is : (address : ℕ) → IsTaryWord (history_of t) address (word_at t (Tary (tary_index t.code_words address)))
+  tary_is address = elim (cases_lt (address / 4) t.code_words) [
+    | inl inside ↦
+        subst (λ k. IsTaryWord (history_of t) address (word_at t (Tary k)))
+        (sym (ap (λ b. cond b (address / 4) 0) (lt-ltb _ _ inside))) (tary_by (address / 4) address refl)
+    | inr past ↦
+        let n : ℕ = number_at t (Tary 0) in
+        let closed = is.closed n (number_within t is (is_stored t (Tary 0))) in
+        subst (λ k. IsTaryWord (history_of t) address (word_at t (Tary k)))
+        (sym (ap (λ b. cond b (address / 4) 0) (le-ltb _ _ past)))
+        (tary_by 0 address
+        (none_first (entry_at t n).image closed ∙ sym (none_past (entry_at t n).image closed (address / 4) past)))
+  ]
 
   -- a code word of the image in force that is not 0 is found
-  code_by : (index : ℕ) → index < t.code_words → slice_index (code_of t) index ≢ 0
-      → word_at t (Code index) ≡ slice_index (code_of t) index
+  code_by : (index : ℕ) → index < t.code_words → slice_index (code_in_force t) index ≢ 0
+      → word_at t (Code index) ≡ slice_index (code_in_force t) index
   code_by index inside some =
       later_keeps (in_force t) (number_at t (Code index)) (number_falls t Epoch (Code index) (omega arith))
       (number_within t is (is_stored t (Code index))) index some
 
-  pub code_is : (index : ℕ) → slice_index (code_of t) index ≢ 0
-      → word_at t (Code index) ≡ slice_index (code_of t) index
+  pub code_is : (index : ℕ) → slice_index (code_in_force t) index ≢ 0
+      → word_at t (Code index) ≡ slice_index (code_in_force t) index
   code_is index some = elim (cases_lt index t.code_words) [
     | inl inside ↦ code_by index inside some
-    | inr past ↦ absurd (some (get_or_past (code_of t) index 0 (omega (arith, past, code_many))))
+    | inr past ↦ absurd (some (get_or_past (code_in_force t) index 0 (omega (arith, past, code_many))))
   ]
 
 -- how the history goes on
@@ -242,11 +254,11 @@ module _ (t u : Tables) (is : IsTables t) (then : IsTables u) (on : GoesOn t u) 
     image = λ epoch seen. ap (λ e. e.image) (entry_same epoch seen);
   }
 
-  pub keeps : Keeps (code_of t) (code_of u)
+  pub keeps : Keeps (code_in_force t) (code_in_force u)
   keeps = record {
     same = code_many t is ∙ sym on.code_words ∙ sym (code_many u then);
     kept = λ place some.
-        (let e : slice_index (entry_at u (in_force t)).image.code place ≡ slice_index (code_of t) place =
+        (let e : slice_index (entry_at u (in_force t)).image.code place ≡ slice_index (code_in_force t) place =
         ap (λ x. slice_index x.image.code place) (on.entries (in_force t) (force_within t is)) in
         later_keeps u then (in_force t) (in_force u) on.force (force_within u then) place
         (λ none. some (sym e ∙ none)) ∙ e);

@@ -32,4 +32,4 @@ pub mod CanLemmas
 pub mod PhaseLemmas
 pub mod TableLemmas
 pub mod InForceLemmas
-pub mod BoundLemmas
+pub mod AfterLemmas

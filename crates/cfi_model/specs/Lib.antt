@@ -18,5 +18,5 @@ pub mod Tables
 pub mod Quiet
 pub mod Tries
 pub mod World
-pub mod Epochs
 pub mod Running
+pub mod InForce

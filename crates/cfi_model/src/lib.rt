@@ -7,7 +7,6 @@
 
 mod act;
 mod data;
-mod epochs;
 mod history;
 pub mod laws;
 mod log_book;
@@ -24,7 +23,6 @@ mod words;
 pub use act::{Act, Wait};
 pub use cfi_unit::{Answer, Fill, Log, Stop};
 pub use data::{PrivateData, load_width, store_width};
-pub use epochs::tables_have_a_history;
 pub use history::{Access, Entry, Refusal};
 pub use log_book::LogBook;
 pub use output::Output;

@@ -1,13 +1,13 @@
 //! What the phases of an update tell of the tables' words.
 
-ghost use Rattle.std.specs.Prelude.{◌≡◌, ◌≢◌, ℕ, ◌+◌, ◌/◌, ◌<◌, ◌≤◌, slice_index};
+ghost use Rattle.std.specs.Prelude.{◌≡◌, ◌≢◌, ℕ, ◌+◌, ◌≤◌, slice_index};
 ghost use Rattle.cfi_word.specs.declared.lists.Image.{Image};
 ghost use Rattle.cfi_word.specs.declared.limits.TheConstants.{MIN_VERSIONS, MAX_VERSIONS, MAX_EPOCH};
 ghost use Rattle.cfi_word.specs.Rank.{rank, IsStored};
 ghost use Rattle.cfi_word.specs.Table.{IsSize, Place, Epoch, Code, Tary, Bary, IsPlace, word_number};
 ghost use Rattle.cfi_model.specs.Closed.{IsClosed};
 ghost use Rattle.cfi_model.specs.History.{IsHistory, IsBaryWord, IsTaryWord};
-ghost use Rattle.cfi_model.specs.InForce.{GoesOn, history_of, code_of};
+ghost use Rattle.cfi_model.specs.InForce.{GoesOn, history_of, code_in_force, tary_index};
 ghost use Rattle.cfi_model.specs.Phases.{phase_of, number_in, one_more};
 ghost use Rattle.cfi_model.specs.Running.{Extends, Keeps};
 ghost use Rattle.cfi_model.specs.Tables.{IsTables};
@@ -41,22 +41,20 @@ pub fn epoch_tells_force()
 
 /// Tables have a history, of which each loaded word is, and which goes on as they do.
 ///
-/// `bary`, `tary` and `past`: what is loaded for a slot, an address of the code and one past it. `code`: what is fetched
-/// where the code in force has a word. `extends` and `keeps`: later tables have a longer history, and keep the code.
+/// `bary` and `tary`: what is loaded for a slot and for an address. `code`: what is fetched where the code in force has
+/// a word. `extends` and `keeps`: later tables have a longer history, and keep the code.
 pub fn tables_have_a_history()
-    ensures history { (t : Tables) → IsTables t → IsHistory (history_of t) (code_of t) }
+    ensures history { (t : Tables) → IsTables t → IsHistory (history_of t) (code_in_force t) }
     ensures bary { (t : Tables) → IsTables t → (slot : ℕ) →
         IsBaryWord (history_of t) slot (word_at t (Bary slot)) }
     ensures tary { (t : Tables) → IsTables t → (address : ℕ) →
-        IsTaryWord (history_of t) address (word_at t (Tary (address / 4))) }
-    ensures past { (t : Tables) → IsTables t → (address : ℕ) → t.code_words ≤ address / 4 →
-        IsTaryWord (history_of t) address (word_at t (Tary 0)) }
-    ensures code { (t : Tables) → IsTables t → (index : ℕ) → slice_index (code_of t) index ≢ 0 →
-        word_at t (Code index) ≡ slice_index (code_of t) index }
+        IsTaryWord (history_of t) address (word_at t (Tary (tary_index t.code_words address))) }
+    ensures code { (t : Tables) → IsTables t → (index : ℕ) → slice_index (code_in_force t) index ≢ 0 →
+        word_at t (Code index) ≡ slice_index (code_in_force t) index }
     ensures extends { (t u : Tables) → IsTables t → IsTables u → GoesOn t u →
         Extends (history_of t) (history_of u) }
     ensures keeps { (t u : Tables) → IsTables t → IsTables u → GoesOn t u →
-        Keeps (code_of t) (code_of u) }
+        Keeps (code_in_force t) (code_in_force u) }
 {}
 
 /// The tables of a closed image are such tables.

@@ -1,4 +1,4 @@
-use Rattle.cfi_model.proofs.InForceLemmas.{history_is, bary_is, tary_is, tary_past, code_is, extends, keeps}
+use Rattle.cfi_model.proofs.InForceLemmas.{history_is, bary_is, tary_is, code_is, extends, keeps}
 use Rattle.cfi_model.proofs.words.tables_have_a_history.Goals as goal
 
 pub returns-clause-history : goal.returns-clause-history
@@ -9,9 +9,6 @@ returns-clause-bary c = bary_is
 
 pub returns-clause-tary : goal.returns-clause-tary
 returns-clause-tary c = tary_is
-
-pub returns-clause-past : goal.returns-clause-past
-returns-clause-past c = tary_past
 
 pub returns-clause-code : goal.returns-clause-code
 returns-clause-code c = code_is
