@@ -16,7 +16,7 @@ use Rattle.cfi_model.specs.Raw.{Raw}
 use Rattle.cfi_model.specs.Run.{finish_of, serve_of}
 use Rattle.cfi_model.specs.Service.{too_many}
 use Rattle.cfi_model.specs.Words.{Tables, epoch_in_force, word_at}
-use Rattle.cfi_model.specs.Epochs.{tary_index}
+use Rattle.cfi_model.specs.InForce.{tary_index}
 use Rattle.cfi_model.specs.World.{World, quiet_of, point_of}
 use Rattle.rv_guest.specs.Guest.{spent}
 

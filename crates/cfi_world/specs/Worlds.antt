@@ -1,5 +1,7 @@
 -- What holds of a world at every moment.
 use Rattle.std.specs.Prelude.{◌≡◌, ◌≢◌, ℕ, ◌+◌, ◌-◌, ◌≤◌, ◌<◌, length, slice_get, Option, Some, None, ⊤}
+use Rattle.cfi_unit.specs.declared.log.Stop.TheVariants.{Fuel}
+use Rattle.cfi_word.specs.Word.{epoch_in}
 use Rattle.cfi_word.specs.declared.limits.TheConstants.{GUESTS, MAX_OPENS}
 use Rattle.cfi_word.specs.declared.services.TheConstants.{OPEN}
 use Rattle.cfi_model.specs.declared.act.Wait.{Wait}
@@ -9,7 +11,7 @@ use Rattle.cfi_model.specs.declared.quiet.Point.{Point}
 use Rattle.cfi_model.specs.declared.quiet.Point.TheVariants.{Outside, Found, Asking}
 use Rattle.cfi_model.specs.declared.quiet.Quiet.{Quiet}
 use Rattle.cfi_model.specs.declared.quiet.Quiet.TheVariants.{Unregistered, Published}
-use Rattle.cfi_model.specs.Epochs.{in_force, history_of, code_in_force}
+use Rattle.cfi_model.specs.InForce.{history_of, code_in_force}
 use Rattle.cfi_model.specs.Running.{IsGuest}
 use Rattle.cfi_model.specs.State.{State}
 use Rattle.cfi_model.specs.Log.{last_policy, opens}
@@ -44,12 +46,12 @@ pub record IsSeat (t : Tables) (fuel : ℕ) (s : Seat) : Type 0 where
 -- a Bary word that a guest keeps since then: it is of the epoch before at the earliest
 pub record IsKeptSince (t : Tables) (quiet word : ℕ) : Type 0 where
   pub least : quiet ≤ epoch_in word + 1
-  pub most : epoch_in word ≤ t.first + in_force t
+  pub most : epoch_in word ≤ epoch_in_force t
 
 -- Since the guest published this epoch no update has come too far: neither the newest one, nor the next one, where it
 -- has passed the guest's test.
 pub record IsQuietSince (t : Tables) (guest : ℕ) (r : Raw) (quiet : ℕ) : Type 0 where
-  pub published : quiet ≤ t.first + in_force t
+  pub published : quiet ≤ epoch_in_force t
   pub newest : next_epoch t + 1 ≤ quiet + t.versions
   pub next : t.asked ≢ None → guest < t.tested → next_epoch t + 2 ≤ quiet + t.versions
   pub kept : (word : ℕ) → r.bary ≡ Some word → IsKeptSince t quiet word

@@ -1,0 +1,74 @@
+-- A seat at a later moment of the tables, when its guest has had no event.
+use Rattle.std.proofs.Common.{◌≡◌, ◌≢◌, ℕ, ◌+◌, ◌<◌, ◌≤◌, List, Option, Some, None, refl, sym, ◌∙◌, ap, subst, arith, ⊎_elim, ◌⊎◌, inl, inr}
+use Rattle.cfi_word.specs.Table.{Epoch}
+use Rattle.cfi_model.specs.declared.quiet.Point.{Point}
+use Rattle.cfi_model.specs.declared.quiet.Point.TheVariants.{Outside, Found, Asking}
+use Rattle.cfi_model.specs.declared.quiet.Quiet.{Quiet}
+use Rattle.cfi_model.specs.declared.quiet.Quiet.TheVariants.{Unregistered, Published}
+use Rattle.cfi_model.specs.InForce.{in_force, history_of, code_in_force, GoesOn}
+use Rattle.cfi_model.specs.History.{History}
+use Rattle.cfi_model.specs.Raw.{Raw}
+use Rattle.cfi_model.specs.Running.{IsGuest}
+use Rattle.cfi_model.specs.State.{State}
+use Rattle.cfi_model.specs.Tables.{IsTables}
+use Rattle.cfi_model.specs.Words.{Tables, entry_at, next_epoch, epoch_in_force, policy_in_force}
+use Rattle.cfi_model.proofs.InForceLemmas.{history_is, extends, keeps, force_rises, policy_rises}
+use Rattle.cfi_model.proofs.GrowLemmas.{running_grows}
+use Rattle.cfi_model.proofs.TableLemmas.{force_epoch, force_policy}
+use Rattle.cfi_world.proofs.SeatLemmas.{AreSeated}
+use Rattle.cfi_world.specs.Seats.{Seat}
+use Rattle.cfi_world.specs.Worlds.{IsQuietSince, IsKeptSince, QuietFits, FitsPoint}
+
+module _ (t u : Tables) (is : IsTables t) (later : IsTables u) (on : GoesOn t u) where
+  -- the update has come no further than the guest's quiescent point lets it
+  pub record IsAdmittedAt (guest quiet : ℕ) : Type 0 where
+    pub newest : next_epoch u + 1 ≤ quiet + u.versions
+    pub next : u.asked ≢ None → guest < u.tested → next_epoch u + 2 ≤ quiet + u.versions
+
+  guest_later : (retries : ℕ) (s : State) (r : Raw) → IsGuest (history_of t) (code_in_force t) retries s r
+      → IsGuest (history_of u) (code_in_force u) retries s r
+  guest_later retries s r (inl runs) =
+      inl (running_grows (history_of t) (history_of u) (extends t u is later on) (code_in_force t) (code_in_force u)
+      (keeps t u is later on) (history_is t is) retries s r runs)
+  guest_later retries s r (inr over) =
+      inr (over.0, running_grows (history_of t) (history_of u) (extends t u is later on) (code_in_force t)
+      (code_in_force u) (keeps t u is later on) (history_is t is) retries s over.0 over.1, over.2)
+
+  quiet_later : (guest : ℕ) (r : Raw) (quiet : Quiet) → ((q : ℕ) → IsQuietSince t guest r q → IsAdmittedAt guest q)
+      → QuietFits t guest r quiet → QuietFits u guest r quiet
+  quiet_later guest r Unregistered admitted fits = fits
+  quiet_later guest r (Published q) admitted fits =
+      let now = admitted q fits in
+      record {
+        published = omega (arith, fits.published, force_rises t u is later on);
+        newest = now.newest;
+        next = now.next;
+        kept = λ word e.
+            let kept = fits.kept word e in
+            record { least = kept.least; most = omega (arith, kept.most, force_rises t u is later on) };
+      }
+
+  point_later : (r : Raw) (point : Point) → FitsPoint t r point → FitsPoint u r point
+  point_later r Outside fits = tt
+  point_later r (Found epoch) fits = (fits.0, omega (arith, fits.1, force_rises t u is later on))
+  point_later r Asking fits = fits
+
+  pub seat_later : (fuel guest : ℕ) (s : Seat) → ((q : ℕ) → IsQuietSince t guest s.guest q → IsAdmittedAt guest q)
+      → AreSeated t is fuel guest s → AreSeated u later fuel guest s
+  seat_later fuel guest s admitted both = record {
+    seat = record {
+      steps_most = both.seat.steps_most;
+      steps_left = both.seat.steps_left;
+      stopped = both.seat.stopped;
+      point = point_later s.guest s.point both.seat.point;
+      logged = omega (arith, both.seat.logged, policy_rises t u is later on);
+    };
+    running = record {
+      retries = both.running.retries;
+      shown = both.running.shown;
+      runs = guest_later both.running.retries both.running.shown s.guest both.running.runs;
+      spent = both.running.spent;
+      quiet = quiet_later guest s.guest s.quiet admitted both.running.quiet;
+      found = both.running.found;
+    };
+  }

@@ -1,0 +1,431 @@
+-- A guest's own events leave what holds of its seat.
+use Rattle.std.proofs.Common.{◌≡◌, ◌≢◌, ℕ, zero, suc, ◌+◌, ◌-◌, ◌*◌, ◌/◌, ◌%◌, ◌<◌, ◌≤◌, ◌==◌, ◌&&◌, nat_lt, Bool, true, false, cond, is_none, List, [], length, slice_index, Option, Some, None, refl, sym, ◌∙◌, ap, subst, arith, rules, ◌⊎◌, inl, inr, if◌then◌else◌}
+use Rattle.std.proofs.lemmas.Bool.{cases_lt, cases_eq, lt-ltb, le-ltb}
+use Rattle.std.proofs.lemmas.Nat.{div-add-mod'}
+use Rattle.std.proofs.Math.Nat.{mul-le-mul_right, suc-mul}
+use Rattle.rv_insn.specs.InsnOf.{insn_of}
+use Rattle.cfi_unit.specs.declared.log.Stop.TheVariants.{Fuel}
+use Rattle.cfi_unit.specs.declared.unit.Unit.{Unit as CodeUnit}
+use Rattle.cfi_unit.specs.declared.unit.Unit.TheVariants as units
+use Rattle.cfi_word.specs.Table.{Epoch, Code, Tary, Bary}
+use Rattle.cfi_word.specs.Word.{epoch_in, policy_in}
+use Rattle.cfi_model.specs.declared.act.Wait.{Wait}
+use Rattle.cfi_model.specs.declared.act.Wait.TheVariants as waits
+use Rattle.cfi_model.specs.declared.quiet.Point.{Point}
+use Rattle.cfi_model.specs.declared.quiet.Point.TheVariants.{Outside, Found, Asking}
+use Rattle.cfi_model.specs.declared.quiet.Quiet.{Quiet}
+use Rattle.cfi_model.specs.declared.quiet.Quiet.TheVariants.{Unregistered, Published}
+use Rattle.cfi_model.specs.Begin.{HasStepBy, begin_of}
+use Rattle.cfi_model.specs.InForce.{in_force, history_of, code_in_force, tary_index}
+use Rattle.cfi_model.specs.Fits.{Fits, FitsWord, FitsTary}
+use Rattle.cfi_model.specs.History.{History, IsEpoch, IsHistory, IsTaryWord, IsFair, allows_at}
+use Rattle.cfi_model.specs.Log.{last_policy}
+use Rattle.cfi_model.specs.Raw.{Raw}
+use Rattle.cfi_model.specs.Run.{Take, Word, Served, take_one, take_word, finish_as, finish_of}
+use Rattle.cfi_model.specs.Running.{IsResting, IsRunning, IsSpent, IsGuest, EndsUnit}
+use Rattle.cfi_model.specs.Service.{Reply}
+use Rattle.cfi_model.specs.Shows.{Shows, End, IsAnswered, IsStep, end_of, reply_in}
+use Rattle.cfi_model.specs.State.{State}
+use Rattle.cfi_model.specs.Tables.{IsTables}
+use Rattle.cfi_model.specs.Words.{Tables, entry_at, next_epoch, epoch_in_force, policy_in_force, word_at}
+use Rattle.cfi_model.proofs.AfterLemmas.{effect_logs, effect_unspent, KeepsBary, begin_keeps, begin_counts}
+use Rattle.cfi_model.proofs.GrowLemmas.{no_step}
+use Rattle.cfi_model.proofs.RunningLemmas.{rests_run, goes_on, running_shows, running_steps}
+use Rattle.cfi_model.proofs.TableLemmas.{force_policy}
+use Rattle.cfi_model.proofs.InForceLemmas.{history_is, force_within, later_rises, epoch_within, bary_is, bary_epoch, tary_is, tary_epoch, tary_policy, index_within, code_is}
+use Rattle.cfi_world.specs.Seats.{Seat, rested, loads, seat_by}
+use Rattle.cfi_world.specs.Worlds.{IsServing, IsQuietSince, IsKeptSince, QuietFits, FoundFits, FitsPoint, IsSeat, IsRunningSeat}
+use Rattle.rv_guest.specs.Guest.{spent, is_spent}
+
+-- ---- a guest that rests
+
+is_nothing : {X : Type 0} (o : Option X) → is_none o ≡ true → o ≡ None
+is_nothing None is = refl
+is_nothing (Some x) is = absurd (cc)
+
+both_true : (a b : Bool) → a && b ≡ true → (a ≡ true) × (b ≡ true)
+both_true true true is = (refl, refl)
+both_true true false is = absurd (cc)
+both_true false b is = absurd (cc)
+
+module _ (fuel : ℕ) (r : Raw) where
+  -- it goes on as it is, or the fuel stops it
+  pub data Rest : Type 0 where
+    Goes : rested fuel r ≡ r → (r.base.stop ≡ None → r.waits ≡ None → r.base.steps ≢ fuel) → Rest
+    Stops : IsSpent r (rested fuel r) → r.base.steps ≡ fuel → Rest
+
+  abbrev with_stop : Bool → Raw
+  with_stop done = record r { base = record r.base { stop = cond done (Some Fuel) r.base.stop } }
+
+  spent_not : r.base.stop ≡ None → r.base.steps ≡ fuel → is_spent fuel r ≡ false → ⊥
+  spent_not going steps on =
+      let same : (r.base.steps == fuel) ≡ true = search (rules, arith) in
+      let over : is_spent fuel r ≡ true = ap (λ o. is_none o && (r.base.steps == fuel)) going ∙ same in
+      absurd (cc)
+
+  busy : is_none r.waits ≡ false → r.waits ≡ None → ⊥
+  busy is idle =
+      let none : is_none r.waits ≡ true = ap (λ o. is_none o) idle in
+      absurd (cc)
+
+  rest_by : (idle done : Bool) → is_none r.waits ≡ idle → is_spent fuel r ≡ done → Rest
+  rest_by true true is over =
+      let parts = both_true (is_none r.base.stop) (r.base.steps == fuel) over in
+      let steps : r.base.steps ≡ fuel = (let test : (r.base.steps == fuel) ≡ true = parts.1 in search (rules, arith)) in
+      Stops (record {
+        going = is_nothing r.base.stop parts.0;
+        idle = is_nothing r.waits is;
+        is = ap (λ b. cond b (spent fuel r) r) is ∙ ap with_stop over;
+      }) steps
+  rest_by true false is on =
+      Goes (ap (λ b. cond b (spent fuel r) r) is ∙ ap with_stop on)
+      (λ going idle steps. spent_not going steps on)
+  rest_by false done is on =
+      Goes (ap (λ b. cond b (spent fuel r) r) is) (λ going idle steps. busy is idle)
+
+  pub rest_of : Rest
+  rest_of = rest_by (is_none r.waits) (is_spent fuel r) refl refl
+
+-- the fuel that is left
+pub record HasFuel (fuel : ℕ) (r : Raw) : Type 0 where
+  pub most : r.base.steps ≤ fuel
+  pub left : r.base.stop ≡ None → r.waits ≡ None → r.base.steps < fuel
+  pub stopped : r.base.stop ≢ None → r.waits ≡ None
+  pub spent : r.base.stop ≡ Some Fuel → r.base.steps ≡ fuel
+
+pub fuel_rests : (fuel : ℕ) (r : Raw) → r.base.steps ≤ fuel → r.base.stop ≢ Some Fuel
+    → (r.base.stop ≢ None → r.waits ≡ None) → HasFuel fuel (rested fuel r)
+fuel_rests fuel r most unspent idle = elim (rest_of fuel r) [
+  | Goes same left ↦ subst (HasFuel fuel) (sym same) (record {
+    most = most;
+    left = λ going quiet.
+        let other = left going quiet in
+        omega (arith, most, other);
+    stopped = idle;
+    spent = λ stop. absurd (unspent stop);
+  })
+  | Stops ends steps ↦ subst (HasFuel fuel) (sym ends.is) (record {
+    most = most;
+    left = λ going quiet. absurd (cc);
+    stopped = λ stops. ends.idle;
+    spent = λ stop. steps;
+  })
+]
+
+-- and that it runs, or was stopped
+pub guest_rests : (h : History) (code : List ℕ) (retries : ℕ) (s : State) (fuel : ℕ) (r : Raw)
+    → IsRunning h code retries s r → IsGuest h code retries s (rested fuel r)
+guest_rests h code retries s fuel r runs = elim (rest_of fuel r) [
+  | Goes same left ↦ inl (subst (IsRunning h code retries s) (sym same) runs)
+  | Stops ends steps ↦ inr (r, runs, ends)
+]
+
+-- of its parts it leaves the log, the kept words and the waits as they are
+pub same_log : (fuel : ℕ) (r : Raw) → (rested fuel r).base.log ≡ r.base.log
+same_log fuel r = elim (rest_of fuel r) [
+  | Goes same left ↦ ap (λ x. x.base.log) same
+  | Stops ends steps ↦ ap (λ x. x.base.log) ends.is
+]
+
+pub same_bary : (fuel : ℕ) (r : Raw) → (rested fuel r).bary ≡ r.bary
+same_bary fuel r = elim (rest_of fuel r) [
+  | Goes same left ↦ ap (λ x. x.bary) same
+  | Stops ends steps ↦ ap (λ x. x.bary) ends.is
+]
+
+-- a guest that has not stopped runs
+pub going_runs : (h : History) (code : List ℕ) (retries : ℕ) (s : State) (r : Raw) → IsGuest h code retries s r
+    → r.base.stop ≡ None → IsRunning h code retries s r
+going_runs h code retries s r (inl runs) going = runs
+going_runs h code retries s r (inr over) going =
+    let stop : r.base.stop ≡ Some Fuel = ap (λ x. x.base.stop) over.2.is in
+    absurd (cc)
+
+-- what a running guest shows
+pub shown_log : (h : History) (code : List ℕ) (retries : ℕ) (s : State) (r : Raw) → Shows h code retries s r
+    → r.base.log ≡ s.log
+shown_log h code retries s r (inl between) = ap (λ b. b.log) between.base
+shown_log h code retries s r (inr inside) = ap (λ b. b.log) inside.base
+
+pub shown_stop : (h : History) (code : List ℕ) (retries : ℕ) (s : State) (r : Raw) → Shows h code retries s r
+    → r.base.stop ≡ s.stop
+shown_stop h code retries s r (inl between) = ap (λ b. b.stop) between.base
+shown_stop h code retries s r (inr inside) = ap (λ b. b.stop) inside.base
+
+-- it has stopped for one reason, or none
+fuel_not : (s : State) → s.stop ≡ Some Fuel → s.stop ≡ None → ⊥
+fuel_not s some none = absurd (cc)
+
+-- the answer with which a service has ended
+came : (end : End) (reply : Reply) (s : State) (unit : CodeUnit) → unit ≡ units.Service → IsAnswered unit end reply s
+    → end.reply ≡ Some reply
+came end reply s unit same answered = (subst (λ u. IsAnswered u end reply s) same answered).came
+
+-- ---- versions
+
+further : (x y n : ℕ) → x < y → x * n + n ≤ y * n
+further x y n less =
+    let most : suc x * n ≤ y * n = mul-le-mul_right n less in
+    omega (arith, suc-mul x n, most)
+
+-- two numbers less than n apart, with one remainder, are one number
+one_turn : (a b n : ℕ) → a ≤ b → b < a + n → a % n ≡ b % n → a ≡ b
+one_turn a b n least most same =
+    let x : ℕ = a / n * n in
+    let y : ℕ = b / n * n in
+    let p : x + a % n ≡ a = div-add-mod' a n in
+    let q : y + b % n ≡ b = div-add-mod' b n in
+    elim (cases_lt (a / n) (b / n)) [
+      | inl less ↦
+          let far : x + n ≤ y = further (a / n) (b / n) n less in
+          absurd (omega (arith, p, q, far, same, most))
+      | inr no_less ↦
+          let near : y ≤ x = mul-le-mul_right n no_less in
+          omega (arith, p, q, near, same, least)
+    ]
+
+-- ---- one access
+
+module _ (t : Tables) (is : IsTables t) where
+  abbrev h : History
+  h = history_of t
+
+  abbrev code : List ℕ
+  code = code_in_force t
+
+  abbrev force : ℕ
+  force = policy_in_force t
+
+  -- the policy of an epoch that is or was in force is not above the one in force
+  low_policy : (epoch : ℕ) → IsEpoch h epoch → h.policy epoch ≤ force
+  low_policy epoch known =
+      subst (λ p. h.policy epoch ≤ p) (sym (force_policy t is))
+      (later_rises t is (epoch - t.first) (in_force t) (epoch_within t is epoch known) (force_within t is))
+
+  -- after an access the guest runs, and has logged no policy above that in force
+  pub record HasMoved (retries : ℕ) (s : State) (r : Raw) (take : Take) : Type 0 where
+    pub more : ℕ
+    pub after : State
+    pub moves : ((more ≡ retries) × (after ≡ s))
+        ⊎ ((e : EndsUnit h code retries s r take) × (more ≡ retries + e.more) × (after ≡ e.after))
+    pub runs : IsRunning h code more after (take_one r take)
+    pub logged : last_policy (take_one r take).base.log ≤ policy_in_force t
+    pub unspent : (take_one r take).base.stop ≢ Some Fuel
+    pub idle : (take_one r take).base.stop ≢ None → (take_one r take).waits ≡ None
+
+  -- an answer's policy is not above it
+  abbrev pub FitsForce : Take → Type 0
+  FitsForce take = (reply : Reply) → reply_in take ≡ Some reply → reply.cause ≡ 0 → reply.policy ≤ force
+
+  pub moved : (retries : ℕ) (s : State) (r : Raw) → IsRunning h code retries s r → last_policy r.base.log ≤ force
+      → r.base.stop ≡ None → (take : Take) → Fits h code r take → FitsForce take → HasMoved retries s r take
+  moved retries s r runs low going take fits answer =
+      let known = history_is t is in
+      let before = running_shows h code known retries s r runs in
+      let s_going : s.stop ≡ None = sym (shown_stop h code retries s r before) ∙ going in
+      elim (goes_on h code known retries s r runs take fits) [
+        | inl on ↦
+            let shows = running_shows h code known retries s (take_one r take) on in
+            record {
+              more = retries;
+              after = s;
+              moves = inl (refl, refl);
+              runs = on;
+              logged = subst (λ l. last_policy l ≤ force)
+                  (shown_log h code retries s r before ∙ sym (shown_log h code retries s (take_one r take) shows)) low;
+              unspent = λ stop. fuel_not s (sym (shown_stop h code retries s (take_one r take) shows) ∙ stop) s_going;
+              idle = λ stops. absurd (stops (shown_stop h code retries s (take_one r take) shows ∙ s_going));
+            }
+        | inr e ↦
+            let step = e.step in
+            let low_s : last_policy s.log ≤ force =
+            subst (λ l. last_policy l ≤ force) (shown_log h code retries s r before) low in
+            let log = effect_logs step.unit (h.policy step.epoch) (allows_at h step.epoch) step.reply s force low_s
+            (low_policy step.epoch step.known)
+            (λ service free. answer step.reply (came (end_of r take) step.reply s step.unit service step.answered) free) in
+            let base = e.rests.between.base in
+            record {
+              more = retries + e.more;
+              after = e.after;
+              moves = inr (e, refl, refl);
+              runs = rests_run h code (retries + e.more) e.after (take_one r take) e.rests;
+              logged = subst (λ l. last_policy l ≤ force) (sym (ap (λ b. b.log) base ∙ ap (λ x. x.log) step.is)) log;
+              unspent = λ stop. effect_unspent step.unit (h.policy step.epoch) (allows_at h step.epoch) step.reply s
+                  step.going (sym (ap (λ x. x.stop) step.is) ∙ sym (ap (λ b. b.stop) base) ∙ stop);
+              idle = λ stops. e.rests.between.idle;
+            }
+      ]
+
+  -- ---- what comes fits
+
+  -- the code word at the guest's address
+  fetch_fits : (retries : ℕ) (s : State) (r : Raw) → IsRunning h code retries s r → r.base.stop ≡ None
+      → r.waits ≡ None → Fits h code r (Word (word_at t (Code (r.base.pc / 4))))
+  fetch_fits retries s r runs going idle =
+      let place : ℕ = r.base.pc / 4 in
+      let word : ℕ = slice_index code place in
+      let fits : Fits h code r (Word word) = subst (λ w. FitsWord h code w r word) (sym idle) (going, refl) in
+      let has = running_steps h code (history_is t is) retries s r runs idle word fits in
+      subst (λ w. Fits h code r (Word w)) (sym (code_is t is place (no_step r word has))) fits
+
+  -- the word of a branch slot
+  bary_fits : (r : Raw) (slot rd : ℕ) → r.waits ≡ Some (waits.Bary slot rd)
+      → Fits h code r (Word (word_at t (Bary slot)))
+  bary_fits r slot rd wait =
+      subst (λ w. FitsWord h code w r (word_at t (Bary slot))) (sym wait) (bary_is t is slot)
+
+  -- its epoch is the one in force or the one before
+  bary_since : (guest : ℕ) (r : Raw) (quiet slot : ℕ) → IsQuietSince t guest r quiet
+      → IsKeptSince t quiet (word_at t (Bary slot))
+  bary_since guest r quiet slot since =
+      let epoch = bary_epoch t is slot in
+      record { least = omega (arith, epoch.1, since.published); most = epoch.0 }
+
+  -- equal versions are equal epochs, since no version has come again since the guest's quiescent point
+  fair_word : (guest : ℕ) (r : Raw) (quiet kept word : ℕ) → IsQuietSince t guest r quiet → IsKeptSince t quiet kept
+      → epoch_in_force t ≤ epoch_in word → epoch_in word < next_epoch t
+      → epoch_in kept % t.versions ≡ epoch_in word % t.versions → epoch_in kept ≡ epoch_in word
+  fair_word guest r quiet kept word since keeps least most same =
+      one_turn (epoch_in kept) (epoch_in word) t.versions (omega (arith, keeps.most, least))
+      (omega (arith, keeps.least, since.newest, most)) same
+
+  fair_to : (guest : ℕ) (r : Raw) (quiet : Quiet) → QuietFits t guest r quiet → r.base.stop ≡ None
+      → (kept : Option ℕ) → r.bary ≡ kept → (word : ℕ) → epoch_in_force t ≤ epoch_in word
+      → epoch_in word < next_epoch t → IsFair h kept word
+  fair_to guest r quiet fits going None is_kept word least most = tt
+  fair_to guest r Unregistered fits going (Some kept) is_kept word least most = absurd (fits going)
+  fair_to guest r (Published quiet) fits going (Some kept) is_kept word least most =
+      fair_word guest r quiet kept word fits (fits.kept kept is_kept) least most
+
+  tary_fits : (guest : ℕ) (r : Raw) (quiet : Quiet) (at rd : ℕ) → QuietFits t guest r quiet → r.base.stop ≡ None
+      → last_policy r.base.log ≤ force → r.waits ≡ Some (waits.Tary at rd)
+      → Fits h code r (Word (word_at t (Tary (tary_index t.code_words at))))
+  tary_fits guest r quiet at rd fits going low wait =
+      let index : ℕ = tary_index t.code_words at in
+      let word : ℕ = word_at t (Tary index) in
+      let inside = index_within t is at in
+      let epoch = tary_epoch t is index inside in
+      subst (λ w. FitsWord h code w r word) (sym wait) (record {
+        found = tary_is t is at;
+        fair = fair_to guest r quiet fits going r.bary refl word epoch.0 epoch.1;
+        rises = omega (arith, low, tary_policy t is index inside);
+      })
+
+  -- ---- the seat after an event of its guest
+
+  pub record AreSeated (fuel guest : ℕ) (s : Seat) : Type 0 where
+    pub seat : IsSeat t fuel s
+    pub running : IsRunningSeat t fuel guest s
+
+  quiet_rests : (fuel guest : ℕ) (r new : Raw) (quiet : Quiet) → QuietFits t guest r quiet → r.base.stop ≡ None
+      → ((q : ℕ) → IsQuietSince t guest r q → (word : ℕ) → new.bary ≡ Some word → IsKeptSince t q word)
+      → QuietFits t guest (rested fuel new) quiet
+  quiet_rests fuel guest r new Unregistered fits going keeps = absurd (fits going)
+  quiet_rests fuel guest r new (Published q) fits going keeps = record {
+    published = fits.published;
+    newest = fits.newest;
+    next = fits.next;
+    kept = λ word e. keeps q fits word (sym (same_bary fuel new) ∙ e);
+  }
+
+  -- a guest that is in no service is in no quiescent point
+  point_rests : (r new : Raw) (point : Point) → FitsPoint t r point → (IsServing r.waits → ⊥) → FitsPoint t new point
+  point_rests r new Outside fits other = tt
+  point_rests r new (Found epoch) fits other = absurd (other fits.0)
+  point_rests r new Asking fits other = absurd (other (subst IsServing (sym fits.0) tt))
+
+  pub seat_moved : (fuel guest : ℕ) (s : Seat) → AreSeated fuel guest s → s.guest.base.stop ≡ None → (take : Take)
+      → Fits h code s.guest take → FitsForce take → (new : Raw) → new ≡ take_one s.guest take → new.base.steps ≤ fuel
+      → (quiet : Quiet) → QuietFits t guest (rested fuel new) quiet
+      → (point : Point) → FitsPoint t (rested fuel new) point → FoundFits quiet point
+      → AreSeated fuel guest (record { guest = rested fuel new; point = point; quiet = quiet })
+  seat_moved fuel guest s both going take fits answer new is_new most quiet quiets point points found =
+      let runs = going_runs h code both.running.retries both.running.shown s.guest both.running.runs going in
+      let m = moved both.running.retries both.running.shown s.guest runs both.seat.logged going take fits answer in
+      let left = fuel_rests fuel new most (subst (λ x. x.base.stop ≢ Some Fuel) (sym is_new) m.unspent)
+      (subst (λ x. x.base.stop ≢ None → x.waits ≡ None) (sym is_new) m.idle) in
+      record {
+        seat = record {
+          steps_most = left.most;
+          steps_left = left.left;
+          stopped = left.stopped;
+          point = points;
+          logged = subst (λ l. last_policy l ≤ force) (sym (same_log fuel new))
+              (subst (λ x. last_policy x.base.log ≤ force) (sym is_new) m.logged);
+        };
+        running = record {
+          retries = m.more;
+          shown = m.after;
+          runs = guest_rests h code m.more m.after fuel new
+              (subst (IsRunning h code m.more m.after) (sym is_new) m.runs);
+          spent = left.spent;
+          quiet = quiets;
+          found = found;
+        };
+      }
+
+  no_reply : (word : ℕ) → FitsForce (Word word)
+  no_reply word = λ reply came free. absurd (cc)
+
+  module _ (fuel guest : ℕ) (s : Seat) (both : AreSeated fuel guest s) (going : s.guest.base.stop ≡ None) where
+    abbrev r : Raw
+    r = s.guest
+
+    found_rests : (point : Point) → s.point ≡ point → (IsServing r.waits → ⊥) → FoundFits s.quiet point
+    found_rests Outside e other = tt
+    found_rests (Found epoch) e other = absurd (other (subst (FitsPoint t r) e both.seat.point).0)
+    found_rests Asking e other = tt
+
+    -- a fetch
+    pub fetched : r.waits ≡ None
+        → AreSeated fuel guest (record s { guest = rested fuel (begin_of r (word_at t (Code (r.base.pc / 4)))) })
+    fetched idle =
+        let word : ℕ = word_at t (Code (r.base.pc / 4)) in
+        let runs = going_runs h code both.running.retries both.running.shown r both.running.runs going in
+        let fits = fetch_fits both.running.retries both.running.shown r runs going idle in
+        let has = running_steps h code (history_is t is) both.running.retries both.running.shown r runs idle word fits in
+        let steps = begin_counts r (insn_of word) has in
+        let few = both.seat.steps_left going idle in
+        let other : IsServing r.waits → ⊥ = λ serving. subst IsServing idle serving in
+        let new : Raw = begin_of r word in
+        seat_moved fuel guest s both going (Word word) fits (no_reply word) new
+        (sym (ap (λ x. take_word x r word) idle)) (omega (arith, steps, few)) s.quiet
+        (quiet_rests fuel guest r new s.quiet both.running.quiet going
+        (λ q since found e. since.kept found (begin_keeps r (insn_of word) found e)))
+        s.point (point_rests r (rested fuel new) s.point both.seat.point other) (found_rests s.point refl other)
+
+    -- a load of a table's word, with which the guest goes on
+    found_word : (wait : Wait) → (IsServing (Some wait) → ⊥) → r.waits ≡ Some wait → (word : ℕ)
+        → Fits h code r (Word word) → (finish_as (Some wait) r word).base.steps ≡ r.base.steps
+        → ((q : ℕ) → IsQuietSince t guest r q → (found : ℕ) → (finish_as (Some wait) r word).bary ≡ Some found
+        → IsKeptSince t q found)
+        → AreSeated fuel guest (record s { guest = rested fuel (finish_of r word) })
+    found_word wait no_service waits_is word fits steps keeps =
+        let new : Raw = finish_of r word in
+        let done : new ≡ finish_as (Some wait) r word = ap (λ x. finish_as x r word) waits_is in
+        let other : IsServing r.waits → ⊥ = λ serving. no_service (subst IsServing waits_is serving) in
+        seat_moved fuel guest s both going (Word word) fits (no_reply word) new
+        (done ∙ sym (ap (λ x. take_word x r word) waits_is))
+        (subst (λ n. n ≤ fuel) (sym (ap (λ x. x.base.steps) done ∙ steps)) both.seat.steps_most) s.quiet
+        (quiet_rests fuel guest r new s.quiet both.running.quiet going
+        (λ q since found e. keeps q since found (sym (ap (λ x. x.bary) done) ∙ e)))
+        s.point (point_rests r (rested fuel new) s.point both.seat.point other) (found_rests s.point refl other)
+
+    same_word : (a b : ℕ) → Some a ≡ Some b → b ≡ a
+    same_word a b e = cc
+
+    pub found_bary : (slot rd : ℕ) → r.waits ≡ Some (waits.Bary slot rd)
+        → AreSeated fuel guest (record s { guest = rested fuel (finish_of r (word_at t (Bary slot))) })
+    found_bary slot rd waits_is =
+        let word : ℕ = word_at t (Bary slot) in
+        found_word (waits.Bary slot rd) (λ serving. serving) waits_is word (bary_fits r slot rd waits_is) refl
+        (λ q since found e. subst (IsKeptSince t q) (sym (same_word word found e)) (bary_since guest r q slot since))
+
+    pub found_tary : (at rd : ℕ) → r.waits ≡ Some (waits.Tary at rd)
+        → AreSeated fuel guest
+        (record s { guest = rested fuel (finish_of r (word_at t (Tary (tary_index t.code_words at)))) })
+    found_tary at rd waits_is =
+        let word : ℕ = word_at t (Tary (tary_index t.code_words at)) in
+        found_word (waits.Tary at rd) (λ serving. serving) waits_is word
+        (tary_fits guest r s.quiet at rd both.running.quiet going both.seat.logged waits_is) refl
+        (λ q since found e. since.kept found e)
