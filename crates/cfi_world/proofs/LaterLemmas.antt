@@ -34,11 +34,11 @@ module _ (t u : Tables) (is : IsTables t) (later : IsTables u) (on : GoesOn t u)
       inr (over.0, running_grows (history_of t) (history_of u) (extends t u is later on) (code_in_force t)
       (code_in_force u) (keeps t u is later on) (history_is t is) retries s over.0 over.1, over.2)
 
-  quiet_later : (guest : ℕ) (r : Raw) (quiet : Quiet) → ((q : ℕ) → IsQuietSince t guest r q → IsAdmittedAt guest q)
-      → QuietFits t guest r quiet → QuietFits u guest r quiet
+  quiet_later : (guest : ℕ) (r : Raw) (quiet : Quiet)
+      → ((q : ℕ) → quiet ≡ Published q → IsQuietSince t guest r q → IsAdmittedAt guest q) → QuietFits t guest r quiet → QuietFits u guest r quiet
   quiet_later guest r Unregistered admitted fits = fits
   quiet_later guest r (Published q) admitted fits =
-      let now = admitted q fits in
+      let now = admitted q refl fits in
       record {
         published = omega (arith, fits.published, force_rises t u is later on);
         newest = now.newest;
@@ -53,7 +53,8 @@ module _ (t u : Tables) (is : IsTables t) (later : IsTables u) (on : GoesOn t u)
   point_later r (Found epoch) fits = (fits.0, omega (arith, fits.1, force_rises t u is later on))
   point_later r Asking fits = fits
 
-  pub seat_later : (fuel guest : ℕ) (s : Seat) → ((q : ℕ) → IsQuietSince t guest s.guest q → IsAdmittedAt guest q)
+  pub seat_later : (fuel guest : ℕ) (s : Seat)
+      → ((q : ℕ) → s.quiet ≡ Published q → IsQuietSince t guest s.guest q → IsAdmittedAt guest q)
       → AreSeated t is fuel guest s → AreSeated u later fuel guest s
   seat_later fuel guest s admitted both = record {
     seat = record {

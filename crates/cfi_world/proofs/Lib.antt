@@ -1,3 +1,5 @@
 pub mod SeatLemmas
 pub mod ServiceLemmas
 pub mod LaterLemmas
+pub mod UpdateLemmas
+pub mod WorldLemmas
