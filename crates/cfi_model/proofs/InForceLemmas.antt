@@ -138,13 +138,22 @@ module _ (t : Tables) (is : IsTables t) where
   word_policy n class within fits =
       policy_in-packed (t.first + n) (entry_at t n).policy class t.versions (packable t is n class within fits)
 
+  pub bary_epoch_is : (slot : ℕ) → epoch_in (word_at t (Bary slot)) ≡ t.first + number_at t (Bary slot)
+  bary_epoch_is slot =
+      let n : ℕ = number_at t (Bary slot) in
+      let within = number_within t is (is_stored t (Bary slot)) in
+      word_epoch n (slice_index (entry_at t n).image.bary slot) within ((is.closed n within).1.classes.bary_most slot)
+
+  pub tary_epoch_is : (index : ℕ) → epoch_in (word_at t (Tary index)) ≡ t.first + number_at t (Tary index)
+  tary_epoch_is index =
+      let n : ℕ = number_at t (Tary index) in
+      let within = number_within t is (is_stored t (Tary index)) in
+      word_epoch n (slice_index (entry_at t n).image.tary index) within ((is.closed n within).1.classes.tary_most index)
+
   pub bary_epoch : (slot : ℕ) → epoch_in (word_at t (Bary slot)) ≤ epoch_in_force t
       × (epoch_in_force t ≤ epoch_in (word_at t (Bary slot)) + 1)
   bary_epoch slot =
-      let n : ℕ = number_at t (Bary slot) in
-      let within : n < length t.entries = number_within t is (is_stored t (Bary slot)) in
-      let e = word_epoch n (slice_index (entry_at t n).image.bary slot) within
-      ((is.closed n within).1.classes.bary_most slot) in
+      let e = bary_epoch_is slot in
       let force = force_epoch t is in
       let down = bary_number slot in
       let close = number_near t Epoch (Bary slot) in
@@ -157,12 +166,10 @@ module _ (t : Tables) (is : IsTables t) where
   pub tary_epoch : (index : ℕ) → index < t.code_words → epoch_in_force t ≤ epoch_in (word_at t (Tary index))
       × (epoch_in (word_at t (Tary index)) < t.first + length t.entries)
   tary_epoch index inside =
-      let n : ℕ = number_at t (Tary index) in
-      let within : n < length t.entries = number_within t is (is_stored t (Tary index)) in
-      let e = word_epoch n (slice_index (entry_at t n).image.tary index) within
-      ((is.closed n within).1.classes.tary_most index) in
+      let e = tary_epoch_is index in
       let force = force_epoch t is in
       let up = tary_number index inside in
+      let within = number_within t is (is_stored t (Tary index)) in
       (omega (arith, e, force, up), omega (arith, e, within))
 
   pub tary_policy : (index : ℕ) → index < t.code_words → policy_in_force t ≤ policy_in (word_at t (Tary index))

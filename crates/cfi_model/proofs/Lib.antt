@@ -33,3 +33,4 @@ pub mod PhaseLemmas
 pub mod TableLemmas
 pub mod InForceLemmas
 pub mod AfterLemmas
+pub mod HaltLemmas

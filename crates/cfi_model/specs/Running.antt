@@ -1,17 +1,19 @@
 -- The law of a running guest, one access after the other: where it starts, what one access makes of it, and that it goes
 -- on where the history and the code grow.
-use Rattle.std.specs.Prelude.{◌≡◌, ◌≢◌, ℕ, ◌+◌, ◌*◌, ◌<◌, ◌≤◌, ◌⊎◌, List, [], length, slice_index, Option, Some, None}
+use Rattle.std.specs.Prelude.{◌≡◌, ◌≢◌, ℕ, ℤ, Bool, true, ◌+◌, ◌*◌, ◌<◌, ◌≤◌, ◌⊎◌, List, [], length, slice_index, Option, Some, None}
 use Rattle.rv_insn.specs.InsnOf.{insn_of}
 use Rattle.cfi_unit.specs.declared.fill.Fill.{Fill}
 use Rattle.cfi_unit.specs.declared.log.Stop.TheVariants as stops
 use Rattle.cfi_unit.specs.declared.unit.Unit.{Unit as CodeUnit}
+use Rattle.cfi_unit.specs.declared.unit.Unit.TheVariants as units
+use Rattle.cfi_model.specs.Effect.{is_in_code}
 use Rattle.cfi_model.specs.Begin.{HasStepBy}
-use Rattle.cfi_model.specs.State.{State, opened}
+use Rattle.cfi_model.specs.State.{State, register, displaced, opened}
 use Rattle.cfi_model.specs.Raw.{Raw, raw_opened}
 use Rattle.cfi_model.specs.Run.{Take, Word, take_one, run_of}
-use Rattle.cfi_model.specs.History.{History, IsEpoch, IsSeen, IsStart, IsHistory}
+use Rattle.cfi_model.specs.History.{History, IsEpoch, IsSeen, IsStart, IsHistory, slot_class, target_class}
 use Rattle.cfi_model.specs.Fits.{Fits, Along}
-use Rattle.cfi_model.specs.Shows.{Stands, LiesIn, IsReady, IsBetween, IsStep, Shows, end_of, ends_along}
+use Rattle.cfi_model.specs.Shows.{Stands, LiesIn, End, IsTriedIn, IsReady, IsBetween, IsStep, Shows, end_of, ends_along}
 
 -- a guest that has stopped stands in the unit that stopped it, which it had entered at its start
 pub record IsHeld (h : History) (code : List ℕ) (s : State) (r : Raw) : Type 0 where
@@ -52,6 +54,24 @@ pub record EndsUnit (h : History) (code : List ℕ) (retries : ℕ) (s : State) 
   pub after : State
   pub step : IsStep h code (end_of r t) s after
   pub rests : IsResting h code (retries + more) after (take_one r t)
+
+-- the two words are of an epoch that is or was in force, in which the slot and the target have different classes
+pub record HasApartClasses (h : History) (end : End) (slot target : ℕ) : Type 0 where
+  pub epoch : ℕ
+  pub known : IsEpoch h epoch
+  pub tried : IsTriedIn h epoch slot target end
+  pub apart : slot_class h epoch slot ≢ target_class h epoch target
+
+-- a check has stopped the guest: its target is none of the code, or the two words that the guest kept, which are of one
+-- epoch, have different classes
+pub record IsForbidden (h : History) (code : List ℕ) (end : End) (s : State) (target : ℕ) : Type 0 where
+  pub link : Bool
+  pub rs1 : ℕ
+  pub imm : ℤ
+  pub slot : ℕ
+  pub stands : Stands code s.pc (units.Check link rs1 imm slot)
+  pub is : target ≡ displaced (register s rs1) imm
+  pub forbids : is_in_code target ≡ true → HasApartClasses h end slot target
 
 -- the history has this one's epochs as they are; none that was in force is ahead
 pub record Extends (h g : History) : Type 0 where
@@ -105,3 +125,9 @@ RunningHasSteps =
     (h : History) (code : List ℕ) → IsHistory h code →
     (retries : ℕ) (s : State) (r : Raw) → IsRunning h code retries s r → r.waits ≡ None →
     (word : ℕ) → Fits h code r (Word word) → HasStepBy (insn_of word) r
+
+-- a guest is stopped with Halt only where its policy forbids the edge
+abbrev pub OnlyChecksHalt : Type 0
+OnlyChecksHalt =
+    (h : History) (code : List ℕ) (end : End) (old new : State) → IsStep h code end old new →
+    (target : ℕ) → new.stop ≡ Some (stops.Halt target) → IsForbidden h code end old target

@@ -2,7 +2,7 @@
 
 ghost use Rattle.cfi_model.specs.Shows.{RawShowsPolicy, RawHasSteps, FixedIsHistory, OpenedIsReady};
 ghost use Rattle.cfi_model.specs.Running.{OpenedRuns, RestingRuns, RunningGoesOn, RunningGrows};
-ghost use Rattle.cfi_model.specs.Running.{RunningShows, RunningHasSteps};
+ghost use Rattle.cfi_model.specs.Running.{RunningShows, RunningHasSteps, OnlyChecksHalt};
 
 /// From a state that shows one of the policy machine, the raw machine shows a later one, whatever fits comes.
 ///
@@ -19,7 +19,8 @@ pub fn raw_shows_policy()
 ///
 /// `starts` and `rests`: a guest that is opened at a start, or whose unit has ended, runs. `goes_on`: one access more
 /// leaves what it shows as it was, or ends its unit. `grows`: a longer history and more code leave it running. `shows`
-/// and `steps`: what it shows, and that it has a step for what it fetches.
+/// and `steps`: what it shows, and that it has a step for what it fetches. `halts`: only a check stops a guest with
+/// Halt, for a target outside the code or a pair that one epoch's classes forbid.
 pub fn a_guest_runs()
     ensures starts { OpenedRuns }
     ensures rests { RestingRuns }
@@ -27,6 +28,7 @@ pub fn a_guest_runs()
     ensures grows { RunningGrows }
     ensures shows { RunningShows }
     ensures steps { RunningHasSteps }
+    ensures halts { OnlyChecksHalt }
 {}
 
 /// The premises of the law are met by a guest that is opened at a start of a closed image.

@@ -25,7 +25,7 @@ module _ (t u : Tables) (is : IsTables t) (later : IsTables u) (on : GoesOn t u)
     pub newest : next_epoch u + 1 ≤ quiet + u.versions
     pub next : u.asked ≢ None → guest < u.tested → next_epoch u + 2 ≤ quiet + u.versions
 
-  guest_later : (retries : ℕ) (s : State) (r : Raw) → IsGuest (history_of t) (code_in_force t) retries s r
+  pub guest_later : (retries : ℕ) (s : State) (r : Raw) → IsGuest (history_of t) (code_in_force t) retries s r
       → IsGuest (history_of u) (code_in_force u) retries s r
   guest_later retries s r (inl runs) =
       inl (running_grows (history_of t) (history_of u) (extends t u is later on) (code_in_force t) (code_in_force u)

@@ -3,3 +3,4 @@ pub mod ServiceLemmas
 pub mod LaterLemmas
 pub mod UpdateLemmas
 pub mod WorldLemmas
+pub mod RefineLemmas

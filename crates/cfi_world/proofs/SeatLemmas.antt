@@ -33,7 +33,8 @@ use Rattle.cfi_model.proofs.GrowLemmas.{no_step}
 use Rattle.cfi_model.proofs.RunningLemmas.{rests_run, goes_on, running_shows, running_steps}
 use Rattle.cfi_model.proofs.TableLemmas.{force_policy}
 use Rattle.cfi_model.proofs.InForceLemmas.{history_is, force_within, later_rises, epoch_within, bary_is, bary_epoch, tary_is, tary_epoch, tary_policy, index_within, code_is}
-use Rattle.cfi_world.specs.Seats.{Seat, rested, loads, seat_by}
+use Rattle.cfi_world.specs.Laws.{IsStepped}
+use Rattle.cfi_world.specs.Seats.{Seat, rested}
 use Rattle.cfi_world.specs.Worlds.{IsServing, IsQuietSince, IsKeptSince, QuietFits, FoundFits, FitsPoint, IsSeat, IsRunningSeat}
 use Rattle.rv_guest.specs.Guest.{spent, is_spent}
 
@@ -202,12 +203,15 @@ module _ (t : Tables) (is : IsTables t) where
       subst (λ p. h.policy epoch ≤ p) (sym (force_policy t is))
       (later_rises t is (epoch - t.first) (in_force t) (epoch_within t is epoch known) (force_within t is))
 
+  -- after an access the guest shows what it showed, or the policy machine's next state
+  abbrev pub Moves : (retries : ℕ) → State → Raw → (more : ℕ) → State → Type 0
+  Moves retries s r more after = ((more ≡ retries) × (after ≡ s)) ⊎ IsStepped h code retries s r more after
+
   -- after an access the guest runs, and has logged no policy above that in force
   pub record HasMoved (retries : ℕ) (s : State) (r : Raw) (take : Take) : Type 0 where
     pub more : ℕ
     pub after : State
-    pub moves : ((more ≡ retries) × (after ≡ s))
-        ⊎ ((e : EndsUnit h code retries s r take) × (more ≡ retries + e.more) × (after ≡ e.after))
+    pub moves : Moves retries s r more after
     pub runs : IsRunning h code more after (take_one r take)
     pub logged : last_policy (take_one r take).base.log ≤ policy_in_force t
     pub unspent : (take_one r take).base.stop ≢ Some Fuel
@@ -247,7 +251,13 @@ module _ (t : Tables) (is : IsTables t) where
             record {
               more = retries + e.more;
               after = e.after;
-              moves = inr (e, refl, refl);
+              moves = inr (record {
+                end = end_of r take;
+                bary = refl;
+                tary = refl;
+                step = step;
+                least = omega arith;
+              });
               runs = rests_run h code (retries + e.more) e.after (take_one r take) e.rests;
               logged = subst (λ l. last_policy l ≤ force) (sym (ap (λ b. b.log) base ∙ ap (λ x. x.log) step.is)) log;
               unspent = λ stop. effect_unspent step.unit (h.policy step.epoch) (allows_at h step.epoch) step.reply s
@@ -282,7 +292,7 @@ module _ (t : Tables) (is : IsTables t) where
       record { least = omega (arith, epoch.1, since.published); most = epoch.0 }
 
   -- equal versions are equal epochs, since no version has come again since the guest's quiescent point
-  fair_word : (guest : ℕ) (r : Raw) (quiet kept word : ℕ) → IsQuietSince t guest r quiet → IsKeptSince t quiet kept
+  pub fair_word : (guest : ℕ) (r : Raw) (quiet kept word : ℕ) → IsQuietSince t guest r quiet → IsKeptSince t quiet kept
       → epoch_in_force t ≤ epoch_in word → epoch_in word < next_epoch t
       → epoch_in kept % t.versions ≡ epoch_in word % t.versions → epoch_in kept ≡ epoch_in word
   fair_word guest r quiet kept word since keeps least most same =
@@ -317,6 +327,11 @@ module _ (t : Tables) (is : IsTables t) where
     pub seat : IsSeat t fuel s
     pub running : IsRunningSeat t fuel guest s
 
+  -- a seat after an event of its guest
+  pub record HasGone (fuel guest : ℕ) (s : Seat) (both : AreSeated fuel guest s) (new : Seat) : Type 0 where
+    pub seated : AreSeated fuel guest new
+    pub moves : Moves both.running.retries both.running.shown s.guest seated.running.retries seated.running.shown
+
   quiet_rests : (fuel guest : ℕ) (r new : Raw) (quiet : Quiet) → QuietFits t guest r quiet → r.base.stop ≡ None
       → ((q : ℕ) → IsQuietSince t guest r q → (word : ℕ) → new.bary ≡ Some word → IsKeptSince t q word)
       → QuietFits t guest (rested fuel new) quiet
@@ -334,34 +349,37 @@ module _ (t : Tables) (is : IsTables t) where
   point_rests r new (Found epoch) fits other = absurd (other fits.0)
   point_rests r new Asking fits other = absurd (other (subst IsServing (sym fits.0) tt))
 
-  pub seat_moved : (fuel guest : ℕ) (s : Seat) → AreSeated fuel guest s → s.guest.base.stop ≡ None → (take : Take)
+  pub seat_moved : (fuel guest : ℕ) (s : Seat) (both : AreSeated fuel guest s) → s.guest.base.stop ≡ None → (take : Take)
       → Fits h code s.guest take → FitsForce take → (new : Raw) → new ≡ take_one s.guest take → new.base.steps ≤ fuel
       → (quiet : Quiet) → QuietFits t guest (rested fuel new) quiet
       → (point : Point) → FitsPoint t (rested fuel new) point → FoundFits quiet point
-      → AreSeated fuel guest (record { guest = rested fuel new; point = point; quiet = quiet })
+      → HasGone fuel guest s both (record { guest = rested fuel new; point = point; quiet = quiet })
   seat_moved fuel guest s both going take fits answer new is_new most quiet quiets point points found =
       let runs = going_runs h code both.running.retries both.running.shown s.guest both.running.runs going in
       let m = moved both.running.retries both.running.shown s.guest runs both.seat.logged going take fits answer in
       let left = fuel_rests fuel new most (subst (λ x. x.base.stop ≢ Some Fuel) (sym is_new) m.unspent)
       (subst (λ x. x.base.stop ≢ None → x.waits ≡ None) (sym is_new) m.idle) in
       record {
-        seat = record {
-          steps_most = left.most;
-          steps_left = left.left;
-          stopped = left.stopped;
-          point = points;
-          logged = subst (λ l. last_policy l ≤ force) (sym (same_log fuel new))
-              (subst (λ x. last_policy x.base.log ≤ force) (sym is_new) m.logged);
+        seated = record {
+          seat = record {
+            steps_most = left.most;
+            steps_left = left.left;
+            stopped = left.stopped;
+            point = points;
+            logged = subst (λ l. last_policy l ≤ force) (sym (same_log fuel new))
+                (subst (λ x. last_policy x.base.log ≤ force) (sym is_new) m.logged);
+          };
+          running = record {
+            retries = m.more;
+            shown = m.after;
+            runs = guest_rests h code m.more m.after fuel new
+                (subst (IsRunning h code m.more m.after) (sym is_new) m.runs);
+            spent = left.spent;
+            quiet = quiets;
+            found = found;
+          };
         };
-        running = record {
-          retries = m.more;
-          shown = m.after;
-          runs = guest_rests h code m.more m.after fuel new
-              (subst (IsRunning h code m.more m.after) (sym is_new) m.runs);
-          spent = left.spent;
-          quiet = quiets;
-          found = found;
-        };
+        moves = m.moves;
       }
 
   no_reply : (word : ℕ) → FitsForce (Word word)
@@ -378,7 +396,7 @@ module _ (t : Tables) (is : IsTables t) where
 
     -- a fetch
     pub fetched : r.waits ≡ None
-        → AreSeated fuel guest (record s { guest = rested fuel (begin_of r (word_at t (Code (r.base.pc / 4)))) })
+        → HasGone fuel guest s both (record s { guest = rested fuel (begin_of r (word_at t (Code (r.base.pc / 4)))) })
     fetched idle =
         let word : ℕ = word_at t (Code (r.base.pc / 4)) in
         let runs = going_runs h code both.running.retries both.running.shown r both.running.runs going in
@@ -399,7 +417,7 @@ module _ (t : Tables) (is : IsTables t) where
         → Fits h code r (Word word) → (finish_as (Some wait) r word).base.steps ≡ r.base.steps
         → ((q : ℕ) → IsQuietSince t guest r q → (found : ℕ) → (finish_as (Some wait) r word).bary ≡ Some found
         → IsKeptSince t q found)
-        → AreSeated fuel guest (record s { guest = rested fuel (finish_of r word) })
+        → HasGone fuel guest s both (record s { guest = rested fuel (finish_of r word) })
     found_word wait no_service waits_is word fits steps keeps =
         let new : Raw = finish_of r word in
         let done : new ≡ finish_as (Some wait) r word = ap (λ x. finish_as x r word) waits_is in
@@ -415,14 +433,14 @@ module _ (t : Tables) (is : IsTables t) where
     same_word a b e = cc
 
     pub found_bary : (slot rd : ℕ) → r.waits ≡ Some (waits.Bary slot rd)
-        → AreSeated fuel guest (record s { guest = rested fuel (finish_of r (word_at t (Bary slot))) })
+        → HasGone fuel guest s both (record s { guest = rested fuel (finish_of r (word_at t (Bary slot))) })
     found_bary slot rd waits_is =
         let word : ℕ = word_at t (Bary slot) in
         found_word (waits.Bary slot rd) (λ serving. serving) waits_is word (bary_fits r slot rd waits_is) refl
         (λ q since found e. subst (IsKeptSince t q) (sym (same_word word found e)) (bary_since guest r q slot since))
 
     pub found_tary : (at rd : ℕ) → r.waits ≡ Some (waits.Tary at rd)
-        → AreSeated fuel guest
+        → HasGone fuel guest s both
         (record s { guest = rested fuel (finish_of r (word_at t (Tary (tary_index t.code_words at)))) })
     found_tary at rd waits_is =
         let word : ℕ = word_at t (Tary (tary_index t.code_words at)) in

@@ -31,7 +31,7 @@ use Rattle.cfi_model.specs.Words.{Tables, entry_at, next_epoch, epoch_in_force, 
 use Rattle.cfi_model.proofs.InForceLemmas.{history_is, force_within}
 use Rattle.cfi_model.proofs.RunningLemmas.{running_shows}
 use Rattle.cfi_model.proofs.TableLemmas.{force_policy}
-use Rattle.cfi_world.proofs.SeatLemmas.{AreSeated, FitsForce, going_runs, seat_moved, fetched, found_bary, found_tary, same_bary}
+use Rattle.cfi_world.proofs.SeatLemmas.{AreSeated, HasGone, FitsForce, going_runs, seat_moved, fetched, found_bary, found_tary, same_bary}
 use Rattle.cfi_world.specs.Seats.{Seat, rested, needs_answer, serves, seat_by, seat_after}
 use Rattle.cfi_world.specs.Worlds.{IsServing, IsQuietSince, IsKeptSince, QuietFits, IsAtMost, FoundFits, FitsPoint, IsSeat, IsRunningSeat}
 
@@ -115,7 +115,7 @@ module _ (t : Tables) (is : IsTables t) (fuel guest : ℕ) (s : Seat) (both : Ar
   served : (number : ℕ) → r.base.stop ≡ None → r.waits ≡ Some (waits.Service number) → (reply : Reply)
       → (number ≡ OPEN → FitsOpen reply r.base) → (reply.cause ≡ 0 → reply.policy ≤ policy_in_force t)
       → (quiet : Quiet) → ((new : Raw) → new.bary ≡ None → QuietFits t guest new quiet)
-      → AreSeated t is fuel guest
+      → HasGone t is fuel guest s both
       (record { guest = rested fuel (serve_of r reply); point = Outside; quiet = quiet })
   served number going is_wait reply fits force quiet quiets =
       let new : Raw = serve_of r reply in
@@ -173,7 +173,7 @@ module _ (t : Tables) (is : IsTables t) (fuel guest : ℕ) (s : Seat) (both : Ar
   -- the service ends, or needs an answer
   publishes : (number epoch : ℕ) → r.base.stop ≡ None → r.waits ≡ Some (waits.Service number)
       → IsAtMost s.quiet epoch → epoch ≤ epoch_in_force t → (need : Bool) → needs_answer number r ≡ need
-      → AreSeated t is fuel guest (record {
+      → HasGone t is fuel guest s both (record {
         guest = cond need r (rested fuel (serve_of r too_many));
         point = cond need Asking Outside;
         quiet = Published epoch;
@@ -185,21 +185,24 @@ module _ (t : Tables) (is : IsTables t) (fuel guest : ℕ) (s : Seat) (both : Ar
       let few : opens r.base.log < MAX_OPENS =
       (let test : nat_lt (opens r.base.log) MAX_OPENS ≡ true = parts.1 in search (rules, arith)) in
       record {
-        seat = record {
-          steps_most = both.seat.steps_most;
-          steps_left = both.seat.steps_left;
-          stopped = both.seat.stopped;
-          point = (is_wait ∙ ap (λ n. Some (waits.Service n)) opens_it, few);
-          logged = both.seat.logged;
+        seated = record {
+          seat = record {
+            steps_most = both.seat.steps_most;
+            steps_left = both.seat.steps_left;
+            stopped = both.seat.stopped;
+            point = (is_wait ∙ ap (λ n. Some (waits.Service n)) opens_it, few);
+            logged = both.seat.logged;
+          };
+          running = record {
+            retries = both.running.retries;
+            shown = both.running.shown;
+            runs = both.running.runs;
+            spent = both.running.spent;
+            quiet = published_fits epoch going s.quiet both.running.quiet most low r none;
+            found = tt;
+          };
         };
-        running = record {
-          retries = both.running.retries;
-          shown = both.running.shown;
-          runs = both.running.runs;
-          spent = both.running.spent;
-          quiet = published_fits epoch going s.quiet both.running.quiet most low r none;
-          found = tt;
-        };
+        moves = inl (refl, refl);
       }
   publishes number epoch going is_wait most low false needs =
       served number going is_wait too_many (finds_many number needs) (λ free. absurd (never_free free))
@@ -207,46 +210,49 @@ module _ (t : Tables) (is : IsTables t) (fuel guest : ℕ) (s : Seat) (both : Ar
 
   -- an event in a service
   serves_on : (number : ℕ) → r.base.stop ≡ None → r.waits ≡ Some (waits.Service number) → (point : Point)
-      → s.point ≡ point → AreSeated t is fuel guest (serves point t fuel number s)
+      → s.point ≡ point → HasGone t is fuel guest s both (serves point t fuel number s)
   serves_on number going is_wait Outside is_point = record {
-    seat = record {
-      steps_most = both.seat.steps_most;
-      steps_left = both.seat.steps_left;
-      stopped = both.seat.stopped;
-      point = (subst IsServing (sym is_wait) tt, omega arith);
-      logged = both.seat.logged;
+    seated = record {
+      seat = record {
+        steps_most = both.seat.steps_most;
+        steps_left = both.seat.steps_left;
+        stopped = both.seat.stopped;
+        point = (subst IsServing (sym is_wait) tt, omega arith);
+        logged = both.seat.logged;
+      };
+      running = record {
+        retries = both.running.retries;
+        shown = both.running.shown;
+        runs = both.running.runs;
+        spent = both.running.spent;
+        quiet = both.running.quiet;
+        found = finds_force s.quiet both.running.quiet;
+      };
     };
-    running = record {
-      retries = both.running.retries;
-      shown = both.running.shown;
-      runs = both.running.runs;
-      spent = both.running.spent;
-      quiet = both.running.quiet;
-      found = finds_force s.quiet both.running.quiet;
-    };
+    moves = inl (refl, refl);
   }
   serves_on number going is_wait (Found epoch) is_point =
       let point = subst (FitsPoint t r) is_point both.seat.point in
       let most = subst (FoundFits s.quiet) is_point both.running.found in
       publishes number epoch going is_wait most point.1
       (needs_answer number r) refl
-  serves_on number going is_wait Asking is_point = both
+  serves_on number going is_wait Asking is_point = record { seated = both; moves = inl (refl, refl) }
 
   -- every event of a guest that has not stopped
   after_by : (wait : Option Wait) → r.waits ≡ wait → r.base.stop ≡ None
-      → AreSeated t is fuel guest (seat_by wait t fuel s)
+      → HasGone t is fuel guest s both (seat_by wait t fuel s)
   after_by None is_wait going =
       fetched t is fuel guest s both going is_wait
   after_by (Some (waits.Tary at rd)) is_wait going = found_tary t is fuel guest s both going at rd is_wait
   after_by (Some (waits.Bary slot rd)) is_wait going = found_bary t is fuel guest s both going slot rd is_wait
   after_by (Some (waits.Service number)) is_wait going = serves_on number going is_wait s.point refl
 
-  pub seat_goes : r.base.stop ≡ None → AreSeated t is fuel guest (seat_after t fuel s)
+  pub seat_goes : r.base.stop ≡ None → HasGone t is fuel guest s both (seat_after t fuel s)
   seat_goes going = after_by r.waits refl going
 
   -- the answer to its open
   pub answered : s.point ≡ Asking → (reply : Reply) → reply.policy ≡ policy_in_force t → reply.cause ≢ TOO_MANY
-      → All LiesInData reply.fills → AreSeated t is fuel guest (record s { guest = rested fuel (serve_of r reply); point = Outside })
+      → All LiesInData reply.fills → HasGone t is fuel guest s both (record s { guest = rested fuel (serve_of r reply); point = Outside })
   answered is_point reply policy some inside =
       let point = subst (FitsPoint t r) is_point both.seat.point in
       let going = going_by r.base.stop r.waits (waits.Service OPEN) both.seat.stopped point.0 in

@@ -33,6 +33,7 @@ use Rattle.cfi_model.specs.Service.{Reply}
 use Rattle.cfi_model.specs.Tables.{IsTables, MayBeAsked}
 use Rattle.cfi_model.specs.Words.{Tables, entry_at, next_epoch, epoch_in_force, policy_in_force}
 use Rattle.cfi_model.specs.World.{World, opened_world, quiet_of, point_of}
+use Rattle.cfi_world.specs.Laws.{MayTurns, world_after}
 use Rattle.cfi_world.specs.Premises.{CanOpen, HasRoom, MayAnswer, MayTurn}
 use Rattle.cfi_world.specs.Seats.{Seat, seat_of, with_seat, seat_after, rested, is_asking}
 use Rattle.cfi_world.specs.Turns.{did, nothing, seated, guest_turn, begin_turn, tested_turn, refused, update_turn, answered, answer_turn, is_registered, release_turn, reply_in, turn_of}
@@ -70,7 +71,7 @@ set_same xs k v x is =
 
 -- ---- seats
 
-seated_in : (w : World) (is : IsWorld w) (guest : ℕ) (r : Raw) → slice_get w.guests guest ≡ Some r
+pub seated_in : (w : World) (is : IsWorld w) (guest : ℕ) (r : Raw) → slice_get w.guests guest ≡ Some r
     → AreSeated w.tables is.tables w.fuel guest (seat_of w guest r)
 seated_in w is guest r e = record { seat = is.seats guest r e; running = is.running guest r e }
 
@@ -200,7 +201,7 @@ set_there : {X : Type 0} (xs : List X) (k : ℕ) (x : X) → slice_get xs k ≡ 
 set_there xs k x is = ap (slice_set xs k) (sym (get_or_from_slice_get xs k x x is)) ∙ set-get_or xs k x
 
 -- a test of two parts that fails
-neither : (a b : Bool) → a || b ≡ false → (a ≡ false) × (b ≡ false)
+pub neither : (a b : Bool) → a || b ≡ false → (a ≡ false) × (b ≡ false)
 neither true b e = absurd (cc)
 neither false b e = (refl, e)
 
@@ -208,7 +209,7 @@ both_hold : (a b : Bool) → a && b ≡ true → (a ≡ true) × (b ≡ true)
 both_hold true b e = (refl, e)
 both_hold false b e = absurd (cc)
 
-not_some : {X : Type 0} (o : Option X) → is_some o ≡ false → o ≡ None
+pub not_some : {X : Type 0} (o : Option X) → is_some o ≡ false → o ≡ None
 not_some None e = refl
 not_some (Some x) e = absurd (cc)
 
@@ -216,7 +217,7 @@ is_there : {X : Type 0} (o : Option X) → is_some o ≡ true → o ≢ None
 is_there None e = absurd (cc)
 is_there (Some x) e = λ none. absurd (cc)
 
-asks_it : (point : Point) → is_asking point ≡ true → point ≡ Asking
+pub asks_it : (point : Point) → is_asking point ≡ true → point ≡ Asking
 asks_it Outside e = absurd (cc)
 asks_it (Found epoch) e = absurd (cc)
 asks_it Asking e = refl
@@ -230,7 +231,7 @@ module _ (w : World) (is : IsWorld w) where
   guest_by guest r here false e =
       let going = not_some r.base.stop (neither (is_some r.base.stop) (is_asking (point_of w guest)) e).0 in
       world_seated w is guest r here (seat_after w.tables w.fuel (seat_of w guest r))
-      (service.seat_goes w.tables is.tables w.fuel guest (seat_of w guest r) (seated_in w is guest r here) going)
+      (service.seat_goes w.tables is.tables w.fuel guest (seat_of w guest r) (seated_in w is guest r here) going).seated
 
   -- the beginning of an update
   begin_by : (image : Option Image) → HasRoom w image → (idle spent : Bool) → is_idle (phase_of w.tables) ≡ idle
@@ -341,7 +342,7 @@ module _ (w : World) (is : IsWorld w) where
       })
       is.room is.entries_few
 
-  testing_is : (asked : Option Entry) (tested c s guest : ℕ) → phase_by asked tested c s ≡ phases.Testing guest
+  pub testing_is : (asked : Option Entry) (tested c s guest : ℕ) → phase_by asked tested c s ≡ phases.Testing guest
       → guest ≡ tested
   testing_is (Some entry) tested c s guest e = cc
   testing_is None tested c s guest e = absurd (row_none c s (phase_after c s) guest (phase_row c s) e)
@@ -369,7 +370,7 @@ module _ (w : World) (is : IsWorld w) where
       (asks_it (point_of w guest) e) reply may.policy may.few may.inside in
       let same = set_again w.quiets guest Unregistered in
       subst (λ quiets. IsWorld (record (answered w guest reply r) { quiets = quiets })) same
-      (world_seated w is guest r here new both)
+      (world_seated w is guest r here new both.seated)
 
   -- a release
   release_by : (guest : ℕ) (r : Raw) → slice_get w.guests guest ≡ Some r → (may : Bool)
@@ -439,6 +440,12 @@ module _ (w : World) (is : IsWorld w) where
   turn_kept events.Update may = update_by (phase_of w.tables) refl
   turn_kept (events.Answer guest answer) may = answer_is guest (reply_in answer) may (slice_get w.guests guest) refl
   turn_kept (events.Release guest) may = release_is guest (slice_get w.guests guest) refl
+
+-- every list of events
+pub stays_a_world : (w : World) → IsWorld w → (events : List Event) → MayTurns w events → IsWorld (world_after w events)
+stays_a_world w is [] may = is
+stays_a_world w is (event ∷ later) may =
+    stays_a_world (turn_of w event).world (turn_kept w is event may.0) later may.1
 
 -- ---- the opening
 

@@ -4,3 +4,4 @@ pub mod Updates
 pub mod Turns
 pub mod Premises
 pub mod Worlds
+pub mod Laws

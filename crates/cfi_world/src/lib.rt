@@ -5,6 +5,7 @@
 #![tactic(auto)]
 
 mod event;
+pub mod laws;
 mod seat;
 mod stores;
 mod tables;

@@ -1,5 +1,6 @@
 use Rattle.cfi_model.proofs.RunningLemmas.{opened_runs, rests_run, goes_on, running_shows, running_steps}
 use Rattle.cfi_model.proofs.GrowLemmas.{running_grows}
+use Rattle.cfi_model.proofs.HaltLemmas.{only_checks_halt}
 use Rattle.cfi_model.proofs.shows.a_guest_runs.Goals as goal
 
 pub returns-clause-starts : goal.returns-clause-starts
@@ -19,3 +20,6 @@ returns-clause-shows c = λ h code known retries s r runs. running_shows h code 
 
 pub returns-clause-steps : goal.returns-clause-steps
 returns-clause-steps c = λ h code known retries s r runs. running_steps h code known retries s r runs
+
+pub returns-clause-halts : goal.returns-clause-halts
+returns-clause-halts c = only_checks_halt

@@ -1,0 +1,15 @@
+use Rattle.cfi_world.proofs.RefineLemmas.{refines, others_stay, only_updates, force_stays}
+use Rattle.cfi_world.proofs.laws.events_refine_guests.Goals as goal
+
+pub returns-clause-refines : goal.returns-clause-refines
+returns-clause-refines c = λ w is event may guest r here retries s runs.
+    refines w is guest r here retries s runs event may
+
+pub returns-clause-others : goal.returns-clause-others
+returns-clause-others c = λ w event guest apart. others_stay w event guest apart
+
+pub returns-clause-stores : goal.returns-clause-stores
+returns-clause-stores c = λ w event other. only_updates w event other
+
+pub returns-clause-force : goal.returns-clause-force
+returns-clause-force c = force_stays

@@ -1,0 +1,11 @@
+use Rattle.cfi_world.proofs.RefineLemmas.{bary_load, tary_load, picks}
+use Rattle.cfi_world.proofs.laws.tries_find_epochs.Goals as goal
+
+pub returns-clause-bary : goal.returns-clause-bary
+returns-clause-bary c = bary_load
+
+pub returns-clause-tary : goal.returns-clause-tary
+returns-clause-tary c = tary_load
+
+pub returns-clause-picks : goal.returns-clause-picks
+returns-clause-picks c = picks
