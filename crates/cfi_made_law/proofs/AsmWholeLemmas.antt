@@ -29,7 +29,7 @@ use Rattle.rv_asm.specs.Made.{open_after, object_by, relocs_by}
 use Rattle.rv_asm.specs.Placed.{placed, end_after, lines_in}
 use Rattle.rv_asm.specs.Symbols.{said_in, names_in, table_of, file_in}
 use Rattle.cfi_made_law.specs.Order.{object_of_file}
-use Rattle.cfi_made_law.proofs.OrderLemmas.{by_area-twice, length-by_area, all-by_area}
+use Rattle.cfi_made_law.proofs.OrderLemmas.{in-order, length-by_area, all-by_area}
 use Rattle.cfi_made_law.proofs.AsmOperandLemmas.{IsPlain, IsShort}
 use Rattle.cfi_made_law.proofs.AsmFormLemmas.{IsShortLine}
 use Rattle.cfi_made_law.proofs.AsmNameLemmas.{lines-short, names-good}
@@ -139,7 +139,7 @@ whole lines few names clear within =
       relocs = all-by_area (IsGoodReloc object) made.relocs
           (All-append (IsGoodReloc object) (relocs_by file areas.Text lines) (relocs_by file areas.Data lines)
           (good areas.Text) (good areas.Data));
-      order = by_area-twice made.relocs;
+      order = in-order made.relocs;
     }
 
 pub assembled-whole : (text : List ℕ) (object : Object) → length text ≤ MAX_FILE_BYTES → object_in text ≡ Ok object
