@@ -1,10 +1,10 @@
 -- The functions of lines without a fault are as records want them.
-use Rattle.std.proofs.Common.{◌≡◌, ◌≢◌, ℕ, ◌+◌, ◌-◌, ◌*◌, ◌%◌, ◌<◌, ◌≤◌, ◌^◌, ◌==◌, ◌&&◌, not, nat_le, Bool, true, false, ℤ, List, [], ◌∷◌, ◌++◌, length, Option, Some, None, option_map, unwrap_or, IsTrue, All, refl, sym, ap, ◌∙◌, subst, arith}
+use Rattle.std.proofs.Common.{◌≡◌, ◌≢◌, ℕ, ◌+◌, ◌-◌, ◌%◌, ◌<◌, ◌≤◌, ◌^◌, ◌==◌, not, nat_le, Bool, true, false, ℤ, List, [], ◌∷◌, ◌++◌, length, Option, Some, None, option_map, unwrap_or, IsTrue, All, refl, sym, ap, ◌∙◌, subst, arith}
 use Rattle.std.specs.List.{filter_map, AllByRecursion}
 use Rattle.std.proofs.lemmas.Bool.{and_from, eq-eqb, ne_eqb, le-leb, false≢true}
 use Rattle.std.proofs.lemmas.List.Elements.{All-nil, All-cons, All-append}
 use Rattle.std.proofs.lemmas.Str.{IsUtf8-from_ascii, is_utf8-from_IsUtf8}
-use Rattle.cfi_word.specs.declared.limits.TheConstants.{MAX_NAME, MAX_WORDS}
+use Rattle.cfi_word.specs.declared.limits.TheConstants.{MAX_NAME}
 use Rattle.cfi_aux.specs.Format.{is_length, is_func as names_func}
 use Rattle.cfi_aux.specs.Records.{IsName, IsFunction}
 use Rattle.cfi_aux.specs.declared.records.Function.{Function}
@@ -143,7 +143,8 @@ module _ (file : File) (lines : List Line) (formed : AllByRecursion IsFormedLine
           → line.statement ≡ o → AreGood (before ++ line ∷ [])
       from None formed none is = absurd (cc)
       from (Some s) formed none is =
-          let clear = clear-said file (found_at file lines at) (totals_at file at) (length before + 1) line.label s none in
+          let clear =
+          clear-said file (found_at file lines at) (totals_at file at) (length before + 1) line.label s none in
           let adds = said-adds end next held (found_at file lines at) (totals_at file at) s formed clear refl refl
           so_far.held (end-aligned areas.Text before) small (omega (arith, end-push areas.Text before line)) in
           let made : functions_of file.kinds (before ++ line ∷ [])

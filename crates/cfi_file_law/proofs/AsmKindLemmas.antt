@@ -1,5 +1,5 @@
 -- The branches of lines without a fault are as records want them, but that a switch may have more entries.
-use Rattle.std.proofs.Common.{◌≡◌, ℕ, ◌+◌, ◌%◌, ◌<◌, ◌≤◌, ◌^◌, ◌==◌, nat_le, Bool, true, false, ℤ, List, [], ◌∷◌, ◌++◌, length, map, if◌then◌else◌, Option, Some, None, option_map, unwrap_or, IsTrue, All, refl, sym, ap, ◌∙◌, subst, arith, inl, inr}
+use Rattle.std.proofs.Common.{◌≡◌, ℕ, ◌+◌, ◌%◌, ◌<◌, ◌≤◌, ◌^◌, nat_le, ℤ, List, [], ◌∷◌, ◌++◌, length, Option, Some, None, option_map, unwrap_or, IsTrue, All, refl, sym, ap, ◌∙◌, subst, arith, inl, inr}
 use Rattle.std.specs.Prelude.{option_and_then}
 use Rattle.std.specs.List.{filter_map, AllByRecursion}
 use Rattle.std.proofs.lemmas.Bool.{cases_Bool, and_from, eq-eqb, le-leb, ltb-true}
@@ -18,7 +18,7 @@ use Rattle.rv_line.specs.declared.statement.Statement.{Statement}
 use Rattle.rv_line.specs.declared.statement.Statement.TheVariants as statements
 use Rattle.rv_names.specs.declared.names.Definition.{Definition}
 use Rattle.rv_names.specs.declared.names.Entry.{Entry}
-use Rattle.rv_names.specs.Names.{is_named, definition_in, value_by, value_in_text, text_value}
+use Rattle.rv_names.specs.Names.{is_named, definition_in, value_by, value_in_text}
 use Rattle.rv_asm.specs.declared.file.File.{File}
 use Rattle.rv_asm.specs.Fault.{Found, Totals, line_fault, fault_at, found_at, totals_at}
 use Rattle.rv_asm.specs.Made.{value_in, values_in, kind_set, kind_after, branches_in, branches_at, branches_of, nodes_of}
@@ -126,13 +126,16 @@ module _ (file : File) (lines : List Line) (formed : AllByRecursion IsFormedLine
 
   said-adds : (held : Option Kind) (found : Found) (totals : Totals) (s : Statement) → IsFormed s
       → IsClear file found totals s → KindIs held → Adds held s
-  said-adds held found totals (statements.Jalr rd rs1 imm) formed clear is = record { made = jump-good held is; left = tt }
-  said-adds held found totals statements.Ret formed clear is = record { made = jump-good held is; left = tt }
+  said-adds held found totals (statements.Jalr rd rs1 imm) formed clear is =
+      record { made = jump-good held is; left = tt }
+  said-adds held found totals statements.Ret formed clear is =
+      record { made = jump-good held is; left = tt }
   said-adds held found totals (statements.KindCall node) formed clear is =
       record { made = All-nil IsGood; left = call-good node (func_in file.kinds node) refl }
   said-adds held found totals (statements.KindTail node) formed clear is =
       record { made = All-nil IsGood; left = tail-good node (func_in file.kinds node) refl }
-  said-adds held found totals statements.KindReturn formed clear is = record { made = All-nil IsGood; left = return-good }
+  said-adds held found totals statements.KindReturn formed clear is =
+      record { made = All-nil IsGood; left = return-good }
   said-adds held found totals (statements.KindSwitch names) formed clear is = record {
     made = All-nil IsGood;
     left = record {
@@ -160,7 +163,8 @@ module _ (file : File) (lines : List Line) (formed : AllByRecursion IsFormedLine
           → line.statement ≡ o → AreGood (before ++ line ∷ [])
       from None formed none is = absurd (cc)
       from (Some s) formed none is =
-          let clear = clear-said file (found_at file lines at) (totals_at file at) (length before + 1) line.label s none in
+          let clear =
+          clear-said file (found_at file lines at) (totals_at file at) (length before + 1) line.label s none in
           let adds = said-adds held (found_at file lines at) (totals_at file at) s formed clear so_far.held in
           let made : branches_of file (before ++ line ∷ []) ≡ branches_of file before ++ branches_in held (Some s) =
           made-push (branches_at file) before line

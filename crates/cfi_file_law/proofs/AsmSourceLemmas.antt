@@ -1,30 +1,26 @@
 -- What the object of a source is read as: its module, or no module for the want of records or for a switch.
-use Rattle.std.proofs.Common.{◌≡◌, ℕ, ◌+◌, ◌<◌, ◌≤◌, ◌^◌, Bool, true, false, List, [], length, get_or, take, Option, Some, None, Result, Ok, Err, All, refl, sym, ap, ◌∙◌, subst, arith, ⊎_elim}
+use Rattle.std.proofs.Common.{◌≡◌, ℕ, ◌+◌, ◌<◌, ◌≤◌, ◌^◌, Bool, true, false, List, [], length, get_or, Some, None, Ok, Err, All, refl, sym, ap, ◌∙◌, subst, arith, ⊎_elim}
 use Rattle.std.specs.Prelude.{slice_get}
 use Rattle.std.specs.List.{filter_map, AllByRecursion}
 use Rattle.std.proofs.lemmas.Bool.{cases_lt}
 use Rattle.std.proofs.lemmas.List.Elements.{All-append, All-filter, recursion_from_All}
 use Rattle.std.proofs.lemmas.Option.{slice_get_within, get_or_from_slice_get}
-use Rattle.cfi_word.specs.declared.limits.TheConstants.{MAX_FILE_BYTES, MAX_ENTRIES}
+use Rattle.cfi_word.specs.declared.limits.TheConstants.{MAX_ENTRIES}
 use Rattle.cfi_text.specs.Lines.{lines_of}
 use Rattle.elf_read.specs.declared.object.Area.TheVariants as areas
 use Rattle.elf_read.specs.declared.object.Object.{Object}
-use Rattle.cfi_types.specs.Node.{Node}
 use Rattle.cfi_types.specs.Spelling.{AreTypes, spelling as types_spelling}
 use Rattle.cfi_types.proofs.Tables.{types_again}
-use Rattle.cfi_aux.specs.declared.fault.AuxFault.{AuxFault}
 use Rattle.cfi_aux.specs.declared.fault.AuxFault.TheVariants.{NoRecords, BadRecord}
-use Rattle.cfi_aux.specs.declared.modules.Module.{Module}
 use Rattle.cfi_aux.specs.declared.records.Kind.{Kind}
 use Rattle.cfi_aux.specs.declared.records.Kind.TheVariants as branches
-use Rattle.cfi_aux.specs.declared.records.Records.{Records}
-use Rattle.cfi_aux.specs.Module.{AreSpelled, module_in, parts_by}
-use Rattle.cfi_aux.specs.Records.{kind_words, spelling as records_spelling, IsFunction, IsBranch, AreRecords}
+use Rattle.cfi_aux.specs.Module.{AreSpelled, module_in}
+use Rattle.cfi_aux.specs.Records.{spelling as records_spelling, IsFunction, IsBranch, AreRecords}
 use Rattle.rv_line.specs.declared.line.Line.{Line}
 use Rattle.rv_names.specs.Names.{is_local, is_seen}
 use Rattle.rv_asm.specs.Assembled.{object_in}
 use Rattle.rv_asm.specs.Fault.{fault_at, end_faults, faults_of}
-use Rattle.rv_asm.specs.Made.{only_if, open_after, nodes_of, functions_of, branches_of, object_by}
+use Rattle.rv_asm.specs.Made.{only_if, open_after, functions_of, object_by}
 use Rattle.rv_asm.specs.Placed.{placed, end_after, lines_in}
 use Rattle.rv_asm.specs.Symbols.{said_in, names_in, file_in}
 use Rattle.rv_asm.specs.declared.file.File.{File}

@@ -1,5 +1,5 @@
 -- The type nodes of lines without a fault are a type table.
-use Rattle.std.proofs.Common.{◌≡◌, ℕ, suc, ◌+◌, ◌<◌, ◌≤◌, ◌^◌, ◌==◌, ◌&&◌, not, nat_lt, nat_le, Bool, true, false, ℤ, pos, negsuc, List, [], ◌∷◌, ◌++◌, length, map, drop, get_or, if◌then◌else◌, Option, Some, None, is_some, slice_get, IsTrue, All, refl, sym, ap, ◌∙◌, subst, arith, append-nil}
+use Rattle.std.proofs.Common.{◌≡◌, ℕ, suc, ◌+◌, ◌<◌, ◌^◌, ◌==◌, ◌&&◌, not, nat_lt, nat_le, Bool, true, false, ℤ, pos, negsuc, List, [], ◌∷◌, ◌++◌, length, map, drop, get_or, if◌then◌else◌, Option, Some, None, is_some, slice_get, IsTrue, All, refl, sym, ap, ◌∙◌, subst, arith}
 use Rattle.std.specs.List.{filter_map, cons_option, list_all, AllByRecursion}
 use Rattle.std.proofs.lemmas.Bool.{and_parts, and_from, eqb-true, ltb-true}
 use Rattle.std.proofs.lemmas.List.{map-append, length-map, get_or-map, drop-map}
@@ -20,7 +20,7 @@ use Rattle.rv_line.specs.Statement.{has_count}
 use Rattle.rv_asm.specs.declared.file.File.{File}
 use Rattle.rv_asm.specs.Fault.{Found, Totals, line_fault, fault_at, found_at, totals_at}
 use Rattle.rv_asm.specs.Made.{listed, nodes_in, nodes_of}
-use Rattle.rv_asm.specs.Node.{number_of, is_node, is_func, is_func_kind, func_in, names_nodes, is_word, is_integer, fits, node_of}
+use Rattle.rv_asm.specs.Node.{number_of, is_node, is_func, func_in, names_nodes, is_word, is_integer, fits, node_of}
 use Rattle.rv_asm.specs.Placed.{Placed, placed_behind}
 use Rattle.rv_asm.specs.Symbols.{node_kind, kinds_in}
 use Rattle.rv_asm.specs.Words.{low_word}
@@ -197,7 +197,8 @@ nodes-step file lines before line formed none so_far = from line.statement forme
         → line.statement ≡ o → AreMade count (before ++ line ∷ [])
     from None formed none is = absurd (cc)
     from (Some s) formed none is =
-        let clear = clear-said file (found_at file lines at) (totals_at file at) (length before + 1) line.label s none in
+        let clear =
+        clear-said file (found_at file lines at) (totals_at file at) (length before + 1) line.label s none in
         let more = said-made file (found_at file lines at) (totals_at file at) s formed clear in
         let made : nodes_of (before ++ line ∷ []) ≡ nodes_of before ++ nodes_in (Some s) =
         made-push (λ (a : Placed). nodes_in a.line.statement) before line
@@ -252,7 +253,8 @@ module _ (file : File) (lines : List Line) (formed : AllByRecursion IsFormedLine
   func-there n is =
       let within : n < length file.kinds = slice_get_within file.kinds n kinds.Func is in
       let below : n < length (nodes_of lines) = omega (arith, within, count-is) in
-      let at : get_or file.kinds n kinds.Func ≡ kinds.Func = get_or_from_slice_get file.kinds n kinds.Func kinds.Func is in
+      let at : get_or file.kinds n kinds.Func ≡ kinds.Func =
+      get_or_from_slice_get file.kinds n kinds.Func kinds.Func is in
       func-from (nodes_of lines) n below
       (sym (get_or-map kind_of (nodes_of lines) n no_node 0 below)
       ∙ ap (λ (xs : List ℕ). get_or xs n 0) kinds-are ∙ get_or-map number_of file.kinds n kinds.Func 0 within

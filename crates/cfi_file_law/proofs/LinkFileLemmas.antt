@@ -1,6 +1,6 @@
 -- The modules of files can be linked, and what links them has its relocations in the order of a file.
-use Rattle.std.proofs.Common.{◌≡◌, ◌∙◌, ℕ, ◌<◌, ◌^◌, not, List, [], ◌∷◌, ◌++◌, length, filter, All, refl, sym, ap, subst}
-use Rattle.std.proofs.lemmas.List.Elements.{All-nil, All-cons, All-head, All-tail, filter_agree}
+use Rattle.std.proofs.Common.{◌≡◌, ◌∙◌, ℕ, ◌<◌, ◌^◌, List, [], ◌∷◌, length, All, sym, ap, subst}
+use Rattle.std.proofs.lemmas.List.Elements.{All-nil, All-cons, All-head, All-tail}
 use Rattle.elf_read.specs.Sound.{IsSoundObject}
 use Rattle.elf_read.specs.declared.object.Reloc.{Reloc}
 use Rattle.cfi_types.specs.Node.{Node}

@@ -1,5 +1,5 @@
 -- The source of one function that returns is assembled.
-use Rattle.std.proofs.Common.{◌≡◌, true, List, [], ◌∷◌, Ok, All, refl, arith}
+use Rattle.std.proofs.Common.{◌≡◌, true, [], Ok, All, refl, arith}
 use Rattle.std.proofs.lemmas.List.Elements.{All-nil, All-cons}
 use Rattle.std.specs.Fmt.{digits}
 use Rattle.cfi_text.specs.Decimal.{number_in, small_number_in}

@@ -1,5 +1,5 @@
--- The names in a line of a source are at most 255 bytes long, its node has as many fields as it may have, and its switch
--- a name.
+-- The names in a line of a source are at most 255 bytes long, its node has as many fields as its kind may have, and its
+-- switch has a name.
 use Rattle.std.proofs.Common.{◌≡◌, ℕ, ℤ, pos, Bool, true, false, List, [], ◌∷◌, length, if◌then◌else◌, Option, Some, None, refl, arith}
 use Rattle.std.specs.Prelude.{codes}
 use Rattle.std.specs.Str.{bytes_eq}

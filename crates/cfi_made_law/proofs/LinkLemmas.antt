@@ -56,7 +56,8 @@ func-parts types n is =
     let both = and_parts _ _ is in
     (ltb-true n (length types) both.0, eqb-true _ FUNC both.1)
 
-pub func-from : (types : List Node) (n : ℕ) → n < length types → (node_of types n).kind ≡ FUNC → IsTrue (is_func types n)
+pub func-from : (types : List Node) (n : ℕ) → n < length types → (node_of types n).kind ≡ FUNC
+    → IsTrue (is_func types n)
 func-from types n less is = and_from _ _ (lt-ltb n (length types) less) (eq-eqb _ FUNC is)
 
 abbrev pub no_node : Node

@@ -1,6 +1,3 @@
-use Rattle.std.proofs.Common.{◌≡◌, ◌+◌, length, Some, Err}
-use Rattle.cfi_aux.specs.declared.fault.AuxFault.{AuxFault}
-use Rattle.cfi_aux.specs.declared.fault.AuxFault.TheVariants.{NoRecords, BadRecord, Memory}
 use Rattle.cfi_made_law.specs.Order.{object_of_file}
 use Rattle.cfi_file_law.specs.Source.{source_module}
 use Rattle.cfi_file_law.proofs.FileLemmas.{kept}
