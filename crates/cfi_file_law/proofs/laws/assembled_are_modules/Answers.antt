@@ -5,9 +5,12 @@ use Rattle.cfi_file_law.proofs.AsmSourceLemmas.{source-spelled, source-bare, sou
 use Rattle.cfi_file_law.proofs.laws.assembled_are_modules.Goals as goal
 
 pub returns-clause-bare : goal.returns-clause-bare
-returns-clause-bare c = λ text file short is off.
-    (object_of_file is.object, c.assembled_are_read.ensures text file short is, source-bare text is.object is.is off,
-    λ same. cc)
+returns-clause-bare c = λ text file short is off. (
+  object_of_file is.object,
+  c.assembled_are_read.ensures text file short is,
+  source-bare text is.object is.is off,
+  λ same. cc,
+)
 
 pub returns-clause-module : goal.returns-clause-module
 returns-clause-module c = λ text file short is on few. record {
@@ -17,6 +20,9 @@ returns-clause-module c = λ text file short is on few. record {
 }
 
 pub returns-clause-long : goal.returns-clause-long
-returns-clause-long c = λ text file short is on number first.
-    (object_of_file is.object, c.assembled_are_read.ensures text file short is,
-    source-long text is.object is.is on number first, λ same. cc)
+returns-clause-long c = λ text file short is on number first. (
+  object_of_file is.object,
+  c.assembled_are_read.ensures text file short is,
+  source-long text is.object is.is on number first,
+  λ same. cc,
+)
