@@ -14,6 +14,7 @@ use Rattle.cfi_instr.specs.Sizes.{size_at, is_long}
 use Rattle.cfi_instr.specs.Reach.{IsEnough, IsLeast}
 use Rattle.cfi_instr.specs.Units.{units_at}
 use Rattle.cfi_instr.specs.Output.{IsLayout, IsText, AreMoved, IsInstrumented}
+use Rattle.cfi_instr_law.proofs.ExampleLemmas.{none-of-one, none-of-two}
 use Rattle.cfi_file_law.specs.Example.{call_source, call_made, call_reloc, call_units, call_words}
 
 -- what is read of the source's text
@@ -27,15 +28,6 @@ source_words =
 words-are : read_words call_source.object ≡ source_words
 unfolding word_at insn_of
 words-are = refl
-
-none-of-one : (test : ℕ → Bool) → test 0 ≡ false → IsNone test 1
-none-of-one test first zero less = first
-none-of-one test first (suc j) less = absurd (omega (arith, less))
-
-none-of-two : (test : ℕ → Bool) → test 0 ≡ false → test 1 ≡ false → IsNone test 2
-none-of-two test first second zero less = first
-none-of-two test first second (suc zero) less = second
-none-of-two test first second (suc (suc j)) less = absurd (omega (arith, less))
 
 none-of-three : (test : ℕ → Bool) → test 0 ≡ false → test 1 ≡ false → test 2 ≡ false → IsNone test 3
 none-of-three test first second third zero less = first

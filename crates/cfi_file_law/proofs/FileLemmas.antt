@@ -23,7 +23,7 @@ object-file reads object fit few =
     (reads (object_of_file object) (whole object fit few))
 
 -- the two sections are kept
-kept : (m : Module) → AreSpelled m.object m.types m.records → IsModuleOf (object_of_file m.object) (module_of_file m)
+pub kept : (m : Module) → AreSpelled m.object m.types m.records → IsModuleOf (object_of_file m.object) (module_of_file m)
 kept m is = record {
   object_kept = refl;
   parts = record {

@@ -6,3 +6,9 @@ pub mod CallPlacedLemmas
 pub mod CallVerifiedLemmas
 pub mod CallFileLemmas
 pub mod CallLinkedLemmas
+pub mod LongLemmas
+pub mod AsmTypeLemmas
+pub mod AsmFunctionLemmas
+pub mod AsmKindLemmas
+pub mod AsmSourceLemmas
+pub mod SourceExampleLemmas

@@ -1,11 +1,8 @@
 -- The modules of files can be linked, and what links them has its relocations in the order of a file.
-use Rattle.std.proofs.Common.{◌≡◌, ◌∙◌, ℕ, ◌<◌, ◌^◌, not, List, [], ◌∷◌, ◌++◌, length, filter, All, refl, sym, ap, subst}
-use Rattle.std.proofs.lemmas.List.Elements.{All-nil, All-cons, All-head, All-tail, filter_agree}
+use Rattle.std.proofs.Common.{◌≡◌, ◌∙◌, ℕ, ◌<◌, ◌^◌, List, [], ◌∷◌, length, All, sym, ap, subst}
+use Rattle.std.proofs.lemmas.List.Elements.{All-nil, All-cons, All-head, All-tail}
 use Rattle.elf_read.specs.Sound.{IsSoundObject}
-use Rattle.elf_read.specs.declared.object.Area.{Area}
-use Rattle.elf_read.specs.declared.object.Area.TheVariants as areas
 use Rattle.elf_read.specs.declared.object.Reloc.{Reloc}
-use Rattle.elf_write.specs.Contents.{is_text_area, is_data_area, is_in}
 use Rattle.cfi_types.specs.Node.{Node}
 use Rattle.cfi_aux.specs.Records.{AreRecords, CanBeWritten}
 use Rattle.cfi_aux.specs.Sound.{IsSoundModule}
@@ -13,13 +10,13 @@ use Rattle.cfi_aux.specs.declared.modules.Module.{Module}
 use Rattle.cfi_aux.specs.declared.records.Records.{Records}
 use Rattle.cfi_link.specs.Joined.{joined_of}
 use Rattle.cfi_link.specs.Chosen.{chosen_in, numbers_of, reaches_of}
-use Rattle.cfi_link.specs.Applied.{is_in_text, kept_in, is_in as is_linked_in, by_area as linked_by_area}
+use Rattle.cfi_link.specs.Applied.{kept_in, by_area}
 use Rattle.cfi_link.specs.Linked.{AreModules, Linked}
 use Rattle.cfi_commands.specs.Reading.{IsModuleFile}
 use Rattle.cfi_commands.specs.Modules.{AreModuleFiles}
 use Rattle.cfi_commands.proofs.ModulesLemmas.{each_of}
 use Rattle.cfi_commands.proofs.LinkingLemmas.{linkable}
-use Rattle.cfi_made_law.specs.Order.{by_area, module_of_file}
+use Rattle.cfi_made_law.specs.Order.{module_of_file}
 use Rattle.cfi_file_law.specs.Saved.{AreBytes}
 use Rattle.cfi_made_law.proofs.ReadLemmas.{IsFit, read-fit}
 use Rattle.cfi_made_law.proofs.OrderLemmas.{by_area-twice}
@@ -63,27 +60,12 @@ are-modules sound written files modules are few =
 
 -- ---- the order
 
-text-same : (a : Area) → is_in_text a ≡ is_text_area a
-text-same areas.Text = refl
-text-same areas.Data = refl
-
-data-same : (a : Area) → not (is_in_text a) ≡ is_data_area a
-data-same areas.Text = refl
-data-same areas.Data = refl
-
-same-order : (relocs : List Reloc) → linked_by_area relocs ≡ by_area relocs
-same-order relocs =
-    ap (λ xs. xs ++ filter (is_linked_in areas.Data) relocs)
-    (filter_agree (is_linked_in areas.Text) (is_in areas.Text) (λ r. text-same r.area) relocs)
-    ∙ ap (λ ys. filter (is_in areas.Text) relocs ++ ys)
-    (filter_agree (is_linked_in areas.Data) (is_in areas.Data) (λ r. data-same r.area) relocs)
-
 -- the output is as its file has it
 pub as-it-is : (modules : List Module) (output : Module) → Linked modules output → module_of_file output ≡ output
 as-it-is modules output linked =
     let joined = joined_of modules in
     let kept = kept_in (reaches_of (chosen_in joined.symbols) joined.symbols) (numbers_of joined.symbols) joined.relocs in
-    let is : output.object.relocs ≡ by_area kept = linked.made.relocs ∙ same-order kept in
+    let is : output.object.relocs ≡ by_area kept = linked.made.relocs in
     let ordered : by_area output.object.relocs ≡ output.object.relocs =
     ap by_area is ∙ sym (by_area-twice kept) ∙ sym is in
     ap (λ (rs : List Reloc). record output { object = record output.object { relocs = rs } }) ordered

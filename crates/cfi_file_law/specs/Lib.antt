@@ -1,3 +1,5 @@
 pub mod Saved
 pub mod Example
 pub mod LinkedExample
+pub mod Source
+pub mod SourceExample

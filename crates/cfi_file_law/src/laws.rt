@@ -1,6 +1,6 @@
 //! What the files that the program saves are read as.
 
-ghost use Rattle.std.specs.Prelude.{ℕ, ◌<◌, ◌≤◌, ◌^◌, List, [], length, All};
+ghost use Rattle.std.specs.Prelude.{◌≡◌, ℕ, ◌+◌, ◌<◌, ◌≤◌, ◌^◌, true, false, List, [], length, All};
 ghost use Rattle.cfi_word.specs.declared.limits.TheConstants.{MAX_FILE_BYTES};
 ghost use Rattle.elf_read.specs.Fault.{IsObject};
 ghost use Rattle.cfi_aux.specs.declared.placed.Placed.{Placed};
@@ -11,14 +11,18 @@ ghost use Rattle.cfi_place.specs.declared.room.Room.{Room};
 ghost use Rattle.cfi_place.specs.Names.{Names};
 ghost use Rattle.cfi_commands.specs.Assembling.{IsAssembled};
 ghost use Rattle.cfi_verify.specs.Faults.{Verifies};
-ghost use Rattle.cfi_commands.specs.Reading.{IsModuleFile};
+ghost use Rattle.cfi_commands.specs.Reading.{IsModuleFile, IsFileFault};
+ghost use Rattle.cfi_commands.specs.declared.refusal.Refusal.TheVariants.{Aux};
+ghost use Rattle.cfi_aux.specs.declared.fault.AuxFault.TheVariants.{NoRecords, BadRecord};
 ghost use Rattle.cfi_commands.specs.Instrumenting.{IsInstrumentedFile};
 ghost use Rattle.cfi_commands.specs.Linking.{IsLinkedFile};
 ghost use Rattle.cfi_link.specs.Linked.{AreModules, Linked};
 ghost use Rattle.cfi_made_law.specs.Order.{object_of_file, module_of_file};
 ghost use Rattle.cfi_made_law.specs.Read.{IsReadOf};
+ghost use Rattle.cfi_file_law.specs.Source.{has_records, source_records, source_module, IsFew, IsFirstLong};
 ghost use Rattle.cfi_file_law.specs.Saved.{AreBytes, IsSavedAt};
 ghost use Rattle.cfi_file_law.specs.Example.{call_source, call_made, call_placed};
+ghost use Rattle.cfi_file_law.specs.SourceExample.{return_source, return_object};
 ghost use Rattle.cfi_file_law.specs.LinkedExample.{linked_inputs, linked_files, linked_output};
 
 use cfi_aux::{read_can_be_written, what_is_read_is_sound};
@@ -64,6 +68,23 @@ pub fn assembled_are_read()
     written_is_read();
 }
 
+/// What a file that `asm` saved is read as. One of a source without a line of records is no module, for it has none; one
+/// of a source with such lines is the module of its lines, or the record of the first branch that has too many words
+/// is a bad one.
+pub fn assembled_are_modules()
+    ensures bare { (text file : List ℕ) → length text ≤ MAX_FILE_BYTES → IsAssembled text file →
+        has_records text ≡ false → IsFileFault file (Aux NoRecords) }
+    ensures module { (text file : List ℕ) → length text ≤ MAX_FILE_BYTES →
+        (is : IsAssembled text file) → has_records text ≡ true →
+        All IsFew (source_records text).branches →
+        IsModuleFile file (module_of_file (source_module text is.object)) }
+    ensures long { (text file : List ℕ) → length text ≤ MAX_FILE_BYTES → IsAssembled text file →
+        has_records text ≡ true → (number : ℕ) → IsFirstLong (source_records text).branches number →
+        IsFileFault file (Aux (BadRecord (length (source_records text).functions + number))) }
+{
+    assembled_are_read();
+}
+
 /// A module with a masked access, a call under a relocation and a check is instrumented and placed.
 pub fn some_call_is_instrumented()
     ensures { IsMadeAt call_source call_made loop_room no_names call_placed }
@@ -96,3 +117,11 @@ pub fn some_calls_are_linked()
 {
     written_is_read();
 }
+
+/// Some source with records is assembled, and no branch of it has too many words.
+pub fn some_source_is_assembled()
+    ensures assembled { IsAssembled return_source (bytes_of return_object) }
+    ensures records { has_records return_source ≡ true }
+    ensures few { All IsFew (source_records return_source).branches }
+    ensures short { length return_source ≤ MAX_FILE_BYTES }
+{}

@@ -32,11 +32,12 @@ words-are : read_words loop_object ≡ loop_words
 unfolding word_at insn_of
 words-are = refl
 
-none-of-one : (test : ℕ → Bool) → test 0 ≡ false → IsNone test 1
+-- a test that a few first numbers do not pass
+pub none-of-one : (test : ℕ → Bool) → test 0 ≡ false → IsNone test 1
 none-of-one test first zero less = first
 none-of-one test first (suc j) less = absurd (omega (arith, less))
 
-none-of-two : (test : ℕ → Bool) → test 0 ≡ false → test 1 ≡ false → IsNone test 2
+pub none-of-two : (test : ℕ → Bool) → test 0 ≡ false → test 1 ≡ false → IsNone test 2
 none-of-two test first second zero less = first
 none-of-two test first second (suc zero) less = second
 none-of-two test first second (suc (suc j)) less = absurd (omega (arith, less))

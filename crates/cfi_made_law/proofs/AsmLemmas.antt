@@ -30,7 +30,7 @@ use Rattle.rv_asm.specs.Placed.{placed, lines_in}
 use Rattle.rv_asm.specs.Symbols.{names_in, file_in}
 use Rattle.rv_asm.specs.inner.Count.{count_of}
 use Rattle.rv_asm.proofs.CountLemmas.{bytes_of, lines-left}
-use Rattle.cfi_made_law.proofs.AsmFormLemmas.{IsShortLine}
+use Rattle.cfi_made_law.proofs.AsmFormLemmas.{IsFormedLine}
 use Rattle.cfi_made_law.proofs.AsmLimitLemmas.{room, relocs-few, names-few}
 use Rattle.cfi_made_law.proofs.SpellingLemmas.{words-length, pieces-short, node-bytes, function-bytes}
 use Rattle.cfi_made_law.proofs.AsmRecordLemmas.{nodes-few, functions-few}
@@ -130,7 +130,7 @@ pub few-lines : (text : List ℕ) → length text ≤ MAX_FILE_BYTES → length 
 few-lines text short = omega (arith, length-map (lines_of text) line_in, line-count text, short)
 
 -- the object of lines that are not too many
-within : (lines : List Line) → length lines < 2 ^ 32 → AllByRecursion IsShortLine lines
+within : (lines : List Line) → length lines < 2 ^ 32 → AllByRecursion IsFormedLine lines
     → sum_by count_of lines ≤ MAX_FILE_BYTES + 1
     → filter_map (fault_at (file_in lines) lines) (placed lines) ≡ [] → IsWithinLimits (object_by (file_in lines) lines)
 within lines short names words clear =

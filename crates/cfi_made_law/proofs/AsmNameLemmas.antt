@@ -22,8 +22,8 @@ use Rattle.rv_asm.specs.Reference.{reference_of}
 use Rattle.rv_asm.specs.Spot.{pair_label}
 use Rattle.rv_asm.specs.Symbols.{definition_at, defining, exporting, label_says, reference_says, statement_says, said_says, line_says, says_at, said_in, distinct, entry_of, table_of, names_in}
 use Rattle.rv_asm.proofs.PlacedLemmas.{pairs-le}
-use Rattle.cfi_made_law.proofs.AsmOperandLemmas.{IsPlain, IsShort, RefersShort, AreShort}
-use Rattle.cfi_made_law.proofs.AsmFormLemmas.{LabelShort, SaidShort, IsShortLine, line-short}
+use Rattle.cfi_made_law.proofs.AsmOperandLemmas.{IsPlain, IsShort, RefersShort, IsFormed}
+use Rattle.cfi_made_law.proofs.AsmFormLemmas.{LabelShort, SaidFormed, IsFormedLine, line-short}
 
 -- ---- names
 
@@ -67,7 +67,7 @@ refers-short : (o : Option (ℕ × List ℕ)) → RefersShort o → All HasShort
 refers-short None short = All-nil HasShort
 refers-short (Some reference) short = All-cons HasShort (fresh reference.1) [] short (All-nil HasShort)
 
-statement-short : (spot : Spot) (definition : Definition) (s : Statement) → spot.pairs < 2 ^ 32 → AreShort s
+statement-short : (spot : Spot) (definition : Definition) (s : Statement) → spot.pairs < 2 ^ 32 → IsFormed s
     → All HasShort (statement_says spot definition s)
 statement-short spot definition (statements.La rd name) few short =
     All-cons HasShort (defining (pair_label spot.pairs) definition) (fresh name ∷ []) (pair-short spot.pairs few)
@@ -77,22 +77,23 @@ statement-short spot definition (statements.Globl name) few short =
 statement-short spot definition (statements.Func name node taken) few short =
     All-cons HasShort (defining name definition) [] short (All-nil HasShort)
 statement-short spot definition (statements.KindSwitch names) few short =
-    All-map HasShort fresh names (All-from_recursion IsShort names short)
+    All-map HasShort fresh names (All-from_recursion IsShort names short.0)
+statement-short spot definition (statements.Node kind fields) few short = All-nil HasShort
 statement-short spot definition s few short = refers-short (reference_of s) short
 
-said-short : (spot : Spot) (definition : Definition) (o : Option Statement) → spot.pairs < 2 ^ 32 → SaidShort o
+said-short : (spot : Spot) (definition : Definition) (o : Option Statement) → spot.pairs < 2 ^ 32 → SaidFormed o
     → All HasShort (said_says spot definition o)
 said-short spot definition None few short = All-nil HasShort
 said-short spot definition (Some s) few short = statement-short spot definition s few short
 
-line-says : (number : ℕ) (spot : Spot) (line : Line) → spot.pairs < 2 ^ 32 → IsShortLine line
+line-says : (number : ℕ) (spot : Spot) (line : Line) → spot.pairs < 2 ^ 32 → IsFormedLine line
     → All HasShort (line_says number spot line)
 line-says number spot line few short =
     All-append HasShort (label_says (definition_at number spot) line.label) _
     (label-short (definition_at number spot) line.label short.0)
     (said-short spot (definition_at number spot) line.statement few short.1)
 
-said-from : (before lines : List Line) → length before + length lines < 2 ^ 32 → AllByRecursion IsShortLine lines
+said-from : (before lines : List Line) → length before + length lines < 2 ^ 32 → AllByRecursion IsFormedLine lines
     → All HasShort (flat_map says_at (placed_behind before lines))
 said-from before [] few short = All-nil HasShort
 said-from before (line ∷ lines) few short =
@@ -122,16 +123,16 @@ order-length table =
     length-append (filter is_local table) (filter is_seen table)
     ∙ length-filter_both is_local is_seen (λ entry. refl) table
 
-pub lines-short : (lines : List (List ℕ)) → AllByRecursion IsShortLine (map line_in lines)
+pub lines-short : (lines : List (List ℕ)) → AllByRecursion IsFormedLine (map line_in lines)
 lines-short [] = tt
 lines-short (line ∷ lines) = (line-short line, lines-short lines)
 
-pub names-good : (lines : List Line) → length lines < 2 ^ 32 → AllByRecursion IsShortLine lines
+pub names-good : (lines : List Line) → length lines < 2 ^ 32 → AllByRecursion IsFormedLine lines
     → All (λ entry. IsShort entry.name) (in_order (names_in lines))
 names-good lines few short =
     order-short (names_in lines) (table-short (said_in lines) (said-from [] lines (omega (arith, few)) short))
 
-pub symbols-short : (lines : List Line) → length lines < 2 ^ 32 → AllByRecursion IsShortLine lines
+pub symbols-short : (lines : List Line) → length lines < 2 ^ 32 → AllByRecursion IsFormedLine lines
     → All (λ symbol. length symbol.name ≤ MAX_NAME) (map symbol_of (in_order (names_in lines)))
 symbols-short lines few short =
     All-map (λ (symbol : Symbol). length symbol.name ≤ MAX_NAME) symbol_of (in_order (names_in lines))

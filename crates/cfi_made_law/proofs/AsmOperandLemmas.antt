@@ -24,7 +24,7 @@ use Rattle.rv_line.specs.declared.statement.Statement.TheVariants as statements
 use Rattle.rv_line.specs.Number.{integer_in}
 use Rattle.rv_line.specs.Operand.{word_in, cut, is_empty, two_in, low_by, low_reference_in, high_by, high_reference_in, closed_in, low_or, low_in, high_or, high_in, base_in, number_place_in, reference_place_in, place_in, target_in, datum_or, datum_in}
 use Rattle.rv_line.specs.Register.{register_in}
-use Rattle.rv_line.specs.Statement.{register_and_place, register_and_high, name_form, onto, names_in}
+use Rattle.rv_line.specs.Statement.{register_and_place, register_and_high, name_form, onto, names_in, has_count}
 use Rattle.rv_asm.specs.Reference.{low_reference, high_reference, target_reference, datum_reference, reference_of}
 
 -- a byte of a name is ASCII, and not 0
@@ -41,13 +41,14 @@ abbrev pub RefersShort : Option (ℕ × List ℕ) → Type 0
 RefersShort None = Unit {0}
 RefersShort (Some reference) = IsShort reference.1
 
--- the names of a statement
-abbrev pub AreShort : Statement → Type 0
-AreShort (statements.La rd name) = IsShort name
-AreShort (statements.Globl name) = IsShort name
-AreShort (statements.Func name node taken) = IsShort name
-AreShort (statements.KindSwitch names) = AllByRecursion IsShort names
-AreShort s = RefersShort (reference_of s)
+-- the names of a statement are short; a node has as many fields as its kind may have, and a switch a name
+abbrev pub IsFormed : Statement → Type 0
+IsFormed (statements.La rd name) = IsShort name
+IsFormed (statements.Globl name) = IsShort name
+IsFormed (statements.Node kind fields) = has_count kind (length fields) ≡ true
+IsFormed (statements.Func name node taken) = IsShort name
+IsFormed (statements.KindSwitch names) = AllByRecursion IsShort names × (0 < length names)
+IsFormed s = RefersShort (reference_of s)
 
 -- ---- what may be there
 

@@ -1,9 +1,11 @@
--- The symbols of a source define a name once, and their values are inside of what the source makes.
-use Rattle.std.proofs.Common.{◌≡◌, ◌≢◌, ℕ, suc, ◌+◌, ◌≤◌, false, List, [], ◌∷◌, ◌++◌, filter, length, map, Option, Some, None, slice_get, All, sym, ◌∙◌, arith, append_assoc}
-use Rattle.std.specs.List.{filter_map, cons_option, flat_map, AllPairs}
+-- The symbols of a source define a name once, and their values are inside of what the source makes, those of text at
+-- instructions.
+use Rattle.std.proofs.Common.{◌≡◌, ◌≢◌, ℕ, suc, ◌+◌, ◌%◌, ◌≤◌, false, List, [], ◌∷◌, ◌++◌, filter, length, map, Option, Some, None, slice_get, All, refl, sym, ◌∙◌, arith, append_assoc}
+use Rattle.std.specs.List.{filter_map, cons_option, flat_map, sum_by, AllPairs}
 use Rattle.std.specs.Str.{bytes_eq}
 use Rattle.std.proofs.lemmas.Bool.{or_parts, false≢true}
 use Rattle.std.proofs.lemmas.List.Elements.{All-nil, All-cons, All-append, All-filter, All-map, All-head, All-tail, filter_passes}
+use Rattle.std.proofs.lemmas.List.Sums.{sum_by-cons}
 use Rattle.std.proofs.lemmas.List.Kept.{AllPairs-filter, AllPairs-cons}
 use Rattle.std.proofs.lemmas.Slice.Eq.{bytes_eq-Decides}
 use Rattle.elf_read.specs.declared.object.Area.{Area}
@@ -15,11 +17,11 @@ use Rattle.rv_names.specs.declared.names.Definition.{Definition}
 use Rattle.rv_names.specs.declared.names.Entry.{Entry}
 use Rattle.rv_names.specs.Names.{is_named, fresh, is_local, is_seen, in_order}
 use Rattle.rv_asm.specs.declared.spot.Spot.{Spot}
-use Rattle.rv_asm.specs.Placed.{placed_behind, end_after, spot_after}
+use Rattle.rv_asm.specs.Placed.{Placed, placed_behind, placed, area_after, size_at, end_after, spot_after}
 use Rattle.rv_asm.specs.Reference.{reference_of}
 use Rattle.rv_asm.specs.Spot.{end_in, pair_label}
 use Rattle.rv_asm.specs.Symbols.{definition_at, defining, exporting, label_says, reference_says, said_says, line_says, says_at, distinct, entry_of, table_of}
-use Rattle.cfi_made_law.proofs.AsmExactLemmas.{before-le}
+use Rattle.cfi_made_law.proofs.AsmExactLemmas.{line-four, before-le}
 use Rattle.rv_asm.proofs.DistinctLemmas.{has, apart, apart-distinct}
 
 -- ---- no name twice
@@ -72,10 +74,30 @@ order-apart said =
 
 -- ---- values
 
+-- a place of text is at an instruction
+abbrev pub IsAligned : Area → (value : ℕ) → Type 0
+IsAligned areas.Text value = value % 4 ≡ 0
+IsAligned areas.Data value = Unit {0}
+
+sum-four : (ps : List Placed) → sum_by (size_at areas.Text) ps % 4 ≡ 0
+sum-four [] = refl
+sum-four (p ∷ ps) =
+    omega (
+      arith,
+      sum_by-cons (size_at areas.Text) p ps,
+      (line-four (area_after p.before) p.line.statement).1,
+      sum-four ps,
+    )
+
+pub end-aligned : (area : Area) (before : List Line) → IsAligned area (end_after area before)
+end-aligned areas.Text before = sum-four (placed before)
+end-aligned areas.Data before = tt
+
 module _ (lines : List Line) where
   abbrev pub IsInside : Option Definition → Type 0
   IsInside None = Unit {0}
-  IsInside (Some definition) = definition.value ≤ end_after definition.area lines
+  IsInside (Some definition) =
+      (definition.value ≤ end_after definition.area lines) × IsAligned definition.area definition.value
 
   abbrev pub HasInside : Entry → Type 0
   HasInside entry = IsInside entry.definition
@@ -132,6 +154,7 @@ module _ (lines : List Line) where
       (said-from (before ++ line ∷ []) rest (append_assoc before (line ∷ []) rest ∙ is))
     where
       end-inside : (area : Area) → before ++ line ∷ rest ≡ lines
-          → end_in (spot_after before) area ≤ end_after area lines
-      end-inside areas.Text whole = before-le areas.Text before (line ∷ rest) lines whole
-      end-inside areas.Data whole = before-le areas.Data before (line ∷ rest) lines whole
+          → (end_in (spot_after before) area ≤ end_after area lines) × IsAligned area (end_in (spot_after before) area)
+      end-inside areas.Text whole =
+          (before-le areas.Text before (line ∷ rest) lines whole, end-aligned areas.Text before)
+      end-inside areas.Data whole = (before-le areas.Data before (line ∷ rest) lines whole, tt)

@@ -29,9 +29,9 @@ use Rattle.rv_asm.specs.Made.{open_after, object_by, relocs_by}
 use Rattle.rv_asm.specs.Placed.{placed, end_after, lines_in}
 use Rattle.rv_asm.specs.Symbols.{said_in, names_in, table_of, file_in}
 use Rattle.cfi_made_law.specs.Order.{object_of_file}
-use Rattle.cfi_made_law.proofs.OrderLemmas.{by_area-twice, length-by_area, all-by_area}
+use Rattle.cfi_made_law.proofs.OrderLemmas.{in-order, length-by_area, all-by_area}
 use Rattle.cfi_made_law.proofs.AsmOperandLemmas.{IsPlain, IsShort}
-use Rattle.cfi_made_law.proofs.AsmFormLemmas.{IsShortLine}
+use Rattle.cfi_made_law.proofs.AsmFormLemmas.{IsFormedLine}
 use Rattle.cfi_made_law.proofs.AsmNameLemmas.{lines-short, names-good}
 use Rattle.cfi_made_law.proofs.AsmExactLemmas.{exact}
 use Rattle.cfi_made_law.proofs.AsmRelocLemmas.{relocs-good}
@@ -43,7 +43,7 @@ use Rattle.cfi_made_law.proofs.AsmLemmas.{unless-none, front-none, few-lines, as
 plain-zero : (byte : ℕ) → IsPlain byte → (byte == 0) ≡ false
 plain-zero byte plain = let some = plain.0 in grind (arith, nat_tests)
 
-plain-ascii : (name : List ℕ) → All IsPlain name → IsAscii name
+pub plain-ascii : (name : List ℕ) → All IsPlain name → IsAscii name
 plain-ascii name all i = elim (cases_lt i (length name)) [
   | inl inside ↦ (all i 0 inside).1
   | inr past ↦ rw (get_or_past name i 0 past) (omega arith)
@@ -75,7 +75,7 @@ module _ (object : Object) (lines : List Line) (text : length object.text ≡ en
 
   value-of : (o : Option Definition) → IsInside lines o → value_of o ≤ greatest_value object (place_of o)
   value-of None inside = omega arith
-  value-of (Some definition) inside = value-in definition.area definition.value inside
+  value-of (Some definition) inside = value-in definition.area definition.value inside.0
 
   symbol-good : (entry : Entry) → IsShort entry.name → HasInside lines entry → IsGoodSymbol object (symbol_of entry)
   symbol-good entry name inside = record {
@@ -110,7 +110,7 @@ once said i j less inside one other same =
 
 -- ---- the object
 
-whole : (lines : List Line) → length lines < 2 ^ 32 → AllByRecursion IsShortLine lines
+whole : (lines : List Line) → length lines < 2 ^ 32 → AllByRecursion IsFormedLine lines
     → filter_map (fault_at (file_in lines) lines) (placed lines) ≡ []
     → IsWithinLimits (object_by (file_in lines) lines) → IsWhole (object_of_file (object_by (file_in lines) lines))
 whole lines few names clear within =
@@ -139,7 +139,7 @@ whole lines few names clear within =
       relocs = all-by_area (IsGoodReloc object) made.relocs
           (All-append (IsGoodReloc object) (relocs_by file areas.Text lines) (relocs_by file areas.Data lines)
           (good areas.Text) (good areas.Data));
-      order = by_area-twice made.relocs;
+      order = in-order made.relocs;
     }
 
 pub assembled-whole : (text : List ℕ) (object : Object) → length text ≤ MAX_FILE_BYTES → object_in text ≡ Ok object

@@ -7,7 +7,6 @@ use Rattle.std.proofs.lemmas.Bool.{cases_Bool, and_parts, and_from, eq-eqb, eqb-
 use Rattle.std.proofs.lemmas.List.{length-map, get_or-map, get_or-append-add}
 use Rattle.std.proofs.lemmas.List.Sums.{length-filter, count_by-le-length}
 use Rattle.std.proofs.lemmas.List.Elements.{All-nil, All-head, All-tail, All-map, All-append, All-filter, All-weaker, All-from_recursion, recursion_from_All}
-use Rattle.elf_read.specs.declared.object.Area.TheVariants as areas
 use Rattle.elf_read.specs.declared.object.Object.{Object}
 use Rattle.elf_read.specs.declared.object.Place.{Place}
 use Rattle.elf_read.specs.declared.object.Place.TheVariants as places
@@ -32,7 +31,7 @@ use Rattle.cfi_link.specs.declared.start.Start.{Start}
 use Rattle.cfi_link.specs.declared.joined.OwnReloc.{OwnReloc}
 use Rattle.cfi_link.specs.Joined.{Joined, nothing, start_of, shifted, value_at, symbol_at, reloc_at, own_reloc_at, node_at, function_at, branch_at, with_module, joined_of}
 use Rattle.cfi_link.specs.Chosen.{chosen_in, loses, is_local_symbol, settled_symbol, settled, in_order, numbers_of, reaches_of}
-use Rattle.cfi_link.specs.Applied.{is_kept, renumbered, kept_in, is_in, by_area}
+use Rattle.cfi_link.specs.Applied.{is_kept, renumbered, kept_in, by_area}
 use Rattle.cfi_link.specs.Faults.{sizes_of, passed_by}
 use Rattle.cfi_link.specs.Linked.{AreModules, Linked}
 use Rattle.cfi_link.proofs.JoinedLemmas.{with_module-lengths, fold-below}
@@ -41,6 +40,7 @@ use Rattle.cfi_link.proofs.OutputLemmas.{length-in_order}
 use Rattle.cfi_link.proofs.SoundLemmas.{all_enumerated, sound_all}
 use Rattle.cfi_link.proofs.MadeLemmas.{sound_made}
 use Rattle.cfi_link.proofs.TextSizeLemmas.{text_size}
+use Rattle.cfi_made_law.proofs.OrderLemmas.{length-by_area, all-by_area}
 use Rattle.cfi_made_law.proofs.ReadLemmas.{IsSmall, IsFit}
 
 -- ---- nodes
@@ -56,10 +56,11 @@ func-parts types n is =
     let both = and_parts _ _ is in
     (ltb-true n (length types) both.0, eqb-true _ FUNC both.1)
 
-func-from : (types : List Node) (n : ℕ) → n < length types → (node_of types n).kind ≡ FUNC → IsTrue (is_func types n)
+pub func-from : (types : List Node) (n : ℕ) → n < length types → (node_of types n).kind ≡ FUNC
+    → IsTrue (is_func types n)
 func-from types n less is = and_from _ _ (lt-ltb n (length types) less) (eq-eqb _ FUNC is)
 
-abbrev no_node : Node
+abbrev pub no_node : Node
 no_node = make_node 0 []
 
 func-left : (old more : List Node) (n : ℕ) → IsTrue (is_func old n) → IsTrue (is_func (old ++ more) n)
@@ -302,33 +303,16 @@ far-kept chosen symbols all =
 addends-kept : (reaches : List (Option ℕ)) (numbers : List ℕ) (relocs : List OwnReloc)
     → All (λ own. HasAddend own.reloc) relocs → All HasAddend (by_area (kept_in reaches numbers relocs))
 addends-kept reaches numbers relocs all =
-    let kept : All HasAddend (kept_in reaches numbers relocs) =
-    All-map HasAddend (λ (own : OwnReloc). renumbered numbers own.reloc) (filter (is_kept reaches) relocs)
-    (All-filter (is_kept reaches) (λ own. HasAddend own.reloc) relocs all) in
-    All-append HasAddend (filter (is_in areas.Text) (kept_in reaches numbers relocs))
-    (filter (is_in areas.Data) (kept_in reaches numbers relocs))
-    (All-filter (is_in areas.Text) HasAddend (kept_in reaches numbers relocs) kept)
-    (All-filter (is_in areas.Data) HasAddend (kept_in reaches numbers relocs) kept)
-
--- two tests of which at most one passes keep no more than there are
-filters-few : (xs : List Reloc) → length (by_area xs) ≤ length xs
-filters-few xs =
-    omega (arith, length-append (filter (is_in areas.Text) xs) (filter (is_in areas.Data) xs), parts xs)
-  where
-    parts : (ys : List Reloc) → length (filter (is_in areas.Text) ys) + length (filter (is_in areas.Data) ys)
-        ≤ length ys
-    parts [] = omega arith
-    parts (y ∷ ys) = elim (cases_Bool (is_in areas.Text y)) [
-      | inl text ↦ rw text (omega (arith, parts ys))
-      | inr other ↦ rw other (omega (arith, parts ys))
-    ]
+    all-by_area HasAddend (kept_in reaches numbers relocs)
+    (All-map HasAddend (λ (own : OwnReloc). renumbered numbers own.reloc) (filter (is_kept reaches) relocs)
+    (All-filter (is_kept reaches) (λ own. HasAddend own.reloc) relocs all))
 
 relocs-few : (reaches : List (Option ℕ)) (numbers : List ℕ) (relocs : List OwnReloc)
     → length (by_area (kept_in reaches numbers relocs)) ≤ length relocs
 relocs-few reaches numbers relocs =
     omega (
       arith,
-      filters-few (kept_in reaches numbers relocs),
+      length-by_area (kept_in reaches numbers relocs),
       length-map (filter (is_kept reaches) relocs) (λ (own : OwnReloc). renumbered numbers own.reloc),
       length-filter (is_kept reaches) relocs,
       count_by-le-length (is_kept reaches) relocs,

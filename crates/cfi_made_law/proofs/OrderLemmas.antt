@@ -3,7 +3,7 @@ use Rattle.std.proofs.Common.{◌≡◌, ℕ, not, Bool, true, false, List, [], 
 use Rattle.std.proofs.Math.Path.{fun_ext}
 use Rattle.std.proofs.lemmas.Bool.{cases_Bool}
 use Rattle.std.proofs.lemmas.List.Filters.{length-filter_both}
-use Rattle.std.proofs.lemmas.List.Elements.{filter-append, All-append, All-filter}
+use Rattle.std.proofs.lemmas.List.Elements.{filter-append, filter_agree, All-append, All-filter}
 use Rattle.elf_read.specs.Places.{joined}
 use Rattle.elf_read.specs.declared.object.Area.{Area}
 use Rattle.elf_read.specs.declared.object.Area.TheVariants as areas
@@ -13,7 +13,8 @@ use Rattle.elf_write.specs.Contents.{is_text_area, is_data_area, is_in, rela_ent
 use Rattle.elf_write.specs.declared.part.Part.{Part}
 use Rattle.elf_write.specs.declared.part.Part.TheVariants.{Null, Text, Data, Types, Records, TextRelas, DataRelas, Symbols, SymbolNames, SectionNames}
 use Rattle.elf_write.specs.File.{sections_of, contents_of, padded, body_of, link_of, info_of_part, section_place, part_header, header_of, bytes_of}
-use Rattle.cfi_made_law.specs.Order.{by_area, object_of_file}
+use Rattle.cfi_link.specs.Applied.{is_in_text, is_in as is_linked_in, by_area}
+use Rattle.cfi_made_law.specs.Order.{object_of_file}
 
 -- ---- filters
 
@@ -44,11 +45,27 @@ data-is : (a : Area) → is_data_area a ≡ not (is_text_area a)
 data-is areas.Text = refl
 data-is areas.Data = refl
 
+-- the order, by the tests of a written file
+text-same : (a : Area) → is_in_text a ≡ is_text_area a
+text-same areas.Text = refl
+text-same areas.Data = refl
+
+data-same : (a : Area) → not (is_in_text a) ≡ is_data_area a
+data-same areas.Text = refl
+data-same areas.Data = refl
+
+parted : (relocs : List Reloc) → by_area relocs ≡ filter (is_in areas.Text) relocs ++ filter (is_in areas.Data) relocs
+parted relocs =
+    ap (λ xs. xs ++ filter (is_linked_in areas.Data) relocs)
+    (filter_agree (is_linked_in areas.Text) (is_in areas.Text) (λ r. text-same r.area) relocs)
+    ∙ ap (λ ys. filter (is_in areas.Text) relocs ++ ys)
+    (filter_agree (is_linked_in areas.Data) (is_in areas.Data) (λ r. data-same r.area) relocs)
+
 pub text-by_area : (relocs : List Reloc) → filter (is_in areas.Text) (by_area relocs) ≡ filter (is_in areas.Text) relocs
 text-by_area relocs =
     let text = is_in areas.Text in
     let others = is_in areas.Data in
-    filter-append text (filter text relocs) (filter others relocs)
+    ap (filter text) (parted relocs) ∙ filter-append text (filter text relocs) (filter others relocs)
     ∙ ap (λ ys. filter text (filter text relocs) ++ ys)
     (filter-none text others (λ r is. data-other r.area is) relocs)
     ∙ append-nil (filter text (filter text relocs)) ∙ filter-twice text relocs
@@ -57,25 +74,31 @@ pub data-by_area : (relocs : List Reloc) → filter (is_in areas.Data) (by_area 
 data-by_area relocs =
     let text = is_in areas.Text in
     let others = is_in areas.Data in
-    filter-append others (filter text relocs) (filter others relocs)
+    ap (filter others) (parted relocs) ∙ filter-append others (filter text relocs) (filter others relocs)
     ∙ ap (λ ys. ys ++ filter others (filter others relocs))
     (filter-none others text (λ r is. text-other r.area is) relocs)
     ∙ filter-twice others relocs
 
-pub by_area-twice : (relocs : List Reloc) → by_area relocs ≡ by_area (by_area relocs)
-by_area-twice relocs =
-    ap (λ xs. xs ++ filter (is_in areas.Data) relocs) (sym (text-by_area relocs))
+pub in-order : (relocs : List Reloc)
+    → by_area relocs ≡ filter (is_in areas.Text) (by_area relocs) ++ filter (is_in areas.Data) (by_area relocs)
+in-order relocs =
+    parted relocs
+    ∙ ap (λ xs. xs ++ filter (is_in areas.Data) relocs) (sym (text-by_area relocs))
     ∙ ap (λ ys. filter (is_in areas.Text) (by_area relocs) ++ ys) (sym (data-by_area relocs))
+
+pub by_area-twice : (relocs : List Reloc) → by_area relocs ≡ by_area (by_area relocs)
+by_area-twice relocs = in-order relocs ∙ sym (parted (by_area relocs))
 
 pub length-by_area : (relocs : List Reloc) → length (by_area relocs) ≡ length relocs
 length-by_area relocs =
-    length-append (filter (is_in areas.Text) relocs) (filter (is_in areas.Data) relocs)
+    ap (λ (xs : List Reloc). length xs) (parted relocs)
+    ∙ length-append (filter (is_in areas.Text) relocs) (filter (is_in areas.Data) relocs)
     ∙ length-filter_both (is_in areas.Text) (is_in areas.Data) (λ r. data-is r.area) relocs
 
 pub all-by_area : (P : Reloc → Type 0) (relocs : List Reloc) → All P relocs → All P (by_area relocs)
 all-by_area P relocs all =
-    All-append P (filter (is_in areas.Text) relocs) (filter (is_in areas.Data) relocs)
-    (All-filter (is_in areas.Text) P relocs all) (All-filter (is_in areas.Data) P relocs all)
+    All-append P (filter (is_linked_in areas.Text) relocs) (filter (is_linked_in areas.Data) relocs)
+    (All-filter (is_linked_in areas.Text) P relocs all) (All-filter (is_linked_in areas.Data) P relocs all)
 
 -- ---- what is written
 

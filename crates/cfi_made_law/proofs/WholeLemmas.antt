@@ -27,7 +27,7 @@ use Rattle.elf_write.specs.Limits.{IsWithinLimits}
 use Rattle.elf_write.specs.Whole.{is_definition, HasName, HasPlace, greatest_value, bytes_in, IsOfArea, IsGoodSymbol, DefineOnce, IsGoodReloc, IsWhole}
 use Rattle.cfi_made_law.specs.Order.{object_of_file}
 use Rattle.cfi_made_law.proofs.ReadLemmas.{IsSmall, IsFit}
-use Rattle.cfi_made_law.proofs.OrderLemmas.{by_area-twice, length-by_area, all-by_area}
+use Rattle.cfi_made_law.proofs.OrderLemmas.{in-order, length-by_area, all-by_area}
 
 -- ---- kinds
 
@@ -160,5 +160,5 @@ whole object fit few =
       relocs = all-by_area (IsGoodReloc (object_of_file object)) object.relocs
           (both (IsSoundReloc object) (λ r. FitsSigned w32 r.addend) (IsGoodReloc (object_of_file object))
           (good-reloc object) object.relocs fit.small.sound.relocs fit.addends);
-      order = by_area-twice object.relocs;
+      order = in-order object.relocs;
     }

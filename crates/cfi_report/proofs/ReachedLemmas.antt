@@ -82,7 +82,7 @@ AllByRecursion-first P [] ys h = tt
 AllByRecursion-first P (x ∷ xs) ys h = (h.0, AllByRecursion-first P xs ys h.1)
 
 -- a further entry that differs from the last one
-apart-push : (first : List Log) (last entry : Log) → PicksDiffer (first ++ last ∷ []) → differ last entry ≡ true
+pub apart-push : (first : List Log) (last entry : Log) → PicksDiffer (first ++ last ∷ []) → differ last entry ≡ true
     → PicksDiffer ((first ++ last ∷ []) ++ entry ∷ [])
 apart-push [] last entry h d = (d, tt)
 apart-push (one ∷ []) last entry h d = (h.0, (d, tt))

@@ -1,13 +1,11 @@
 -- Modules that were loaded one after the other have an image, and each image of them is closed.
-use Rattle.std.proofs.Common.{◌≡◌, ◌≢◌, ℕ, ◌+◌, ◌-◌, ◌*◌, ◌<◌, ◌≤◌, ◌++◌, List, [], ◌∷◌, length, take, drop, replicate, get_or, slice_index, Some, All, refl, ap, sym, subst, ◌∙◌, ⊎_elim, arith, length-append}
-use Rattle.std.specs.List.{Contains, flat_map, slice_get}
-use Rattle.std.proofs.lemmas.Bool.{cases_lt, false≢true}
+use Rattle.std.proofs.Common.{◌≡◌, ◌≢◌, ℕ, ◌+◌, ◌*◌, ◌<◌, ◌≤◌, List, length, take, drop, get_or, slice_index, All, refl, sym, subst, ◌∙◌, ⊎_elim, arith}
+use Rattle.std.specs.List.{Contains}
+use Rattle.std.proofs.lemmas.Bool.{cases_lt}
 use Rattle.std.proofs.lemmas.List.{get_or_past, take-append-drop}
-use Rattle.std.proofs.lemmas.List.Concat.{flat_map-append}
-use Rattle.std.proofs.lemmas.List.Elements.{All-head, All-tail, All-get_or, recursion_from_All, All-from_recursion, Contains-get_or, Contains-append_left}
-use Rattle.std.proofs.lemmas.Option.{slice_get-get_or, slice_get_within, get_or_from_slice_get}
-use Rattle.cfi_unit.specs.declared.unit.Unit.{Unit as CodeUnit}
-use Rattle.cfi_unit.specs.Unit.{IsUnit, size_of, words_of}
+use Rattle.std.proofs.lemmas.List.Elements.{recursion_from_All, Contains-get_or, Contains-append_left}
+use Rattle.std.proofs.lemmas.Option.{slice_get-get_or, slice_get_within}
+use Rattle.cfi_unit.specs.Unit.{size_of}
 use Rattle.cfi_unit.specs.Spots.{place_of, BeginsUnit}
 use Rattle.cfi_word.specs.declared.lists.Image.{Image}
 use Rattle.cfi_word.specs.declared.ids.TheConstants.{FIELD_MAX}
@@ -21,23 +19,19 @@ use Rattle.cfi_graph.specs.Code.{entry_of}
 use Rattle.cfi_graph.specs.Calls.{HasKind, IsFunction, ReturnsTo}
 use Rattle.cfi_graph.specs.Direct.{DirectEdge}
 use Rattle.cfi_graph.specs.Reading.{HaveGraph}
-use Rattle.cfi_model.specs.Closed.{idle, IsStartOf, IsStartIn, HasClasses, IsReadAs, IsClosed}
+use Rattle.cfi_graph.proofs.BoundLemmas.{contains_at}
+use Rattle.cfi_model.specs.Closed.{IsStartOf, IsStartIn, HasClasses, IsClosed}
 use Rattle.cfi_policy.specs.Image.{IsImage, HaveImage}
-use Rattle.cfi_verify.specs.Functions.{may_be_last}
 use Rattle.cfi_series.specs.Entry.{HasAddresses, IsEntryIn}
 use Rattle.cfi_series.specs.Loaded.{AreAmong, IsLoadedImage, AreLoaded, HasStarts}
 use Rattle.cfi_series.proofs.SeriesLemmas.{branch_words}
 use Rattle.cfi_series.proofs.EndLemmas.{spot_of, has as spot_there, begins_within}
 use Rattle.cfi_series.proofs.BusyLemmas.{entry_busy}
-use Rattle.cfi_series.proofs.JoinedLemmas.{IsChain, of_module, there_left, words_joined, few_slots}
-use Rattle.cfi_series.proofs.SpelledLemmas.{words_of_all, spelled}
-use Rattle.cfi_series.proofs.TrimmedLemmas.{EndsUnlinked}
+use Rattle.cfi_series.proofs.JoinedLemmas.{few_slots}
+use Rattle.cfi_series.proofs.SpelledLemmas.{words_of_all}
 use Rattle.cfi_series.proofs.TargetLemmas.{returns_busy, switch_busy}
-use Rattle.cfi_series.proofs.ClosedLemmas.{here, verified, code, chain, all, us, trimmed, body, rest, start_at, stays, BeginsIn, edge_begins, edge_start}
-
--- what stands at a place of a list is in it
-contains_at : {X : Type 0} (xs : List X) (k : ℕ) (x : X) → slice_get xs k ≡ Some x → Contains xs x
-contains_at xs k x is = (k, slice_get_within xs k x is, get_or_from_slice_get xs k x x is)
+use Rattle.cfi_series.proofs.ReadLemmas.{units, idles, read}
+use Rattle.cfi_series.proofs.ClosedLemmas.{here, verified, code, chain, start_at, stays, BeginsIn, edge_begins, edge_start}
 
 -- ---- classes
 
@@ -92,21 +86,6 @@ module _ (joins : (slot address : ℕ) → Type 0) (code_words : ℕ) (image : I
       (λ (more : code_words ≤ k).
       absurd (some (get_or_past image.tary k 0 (omega (arith, more, labels.words)))))
       (cases_lt k code_words)
-
--- ---- the end of all
-
-pub ends_all : (base slot most : ℕ) (ms : List Placed) → IsChain base slot ms → base ≤ most
-    → All (λ (m : Placed). m.base + length m.words ≤ most) ms → base + length (words_of_all ms) ≤ most
-ends_all base slot most [] follows low ends = omega (arith, low)
-ends_all base slot most (m ∷ ms) follows low ends =
-    let P : Placed → Type 0 = λ n. n.base + length n.words ≤ most in
-    let first = All-head P m ms ends in
-    omega (
-      arith,
-      length-append m.words (words_of_all ms),
-      ends_all (base + length m.words) (slot + length m.branches) most ms follows.2 (omega (arith, first, follows.0))
-          (All-tail P m ms ends),
-    )
 
 module _ (code_words : ℕ) (ms : List Placed) (loaded : AreLoaded code_words ms) where
   slots_within : (m : Placed) → Contains ms m → m.slot_base + length m.branches ≤ slots_of code_words
@@ -163,75 +142,19 @@ module _ (code_words : ℕ) (ms : List Placed) (loaded : AreLoaded code_words ms
       let fits = v.2.1.laid.functions j f (slice_get-get_or m.functions j e inside) in
       omega (arith, fits.some, fits.within, loaded.ends k d within, loaded.size.most)
 
-  -- ---- the body
-
-  abbrev units : List CodeUnit
-  units = body code_words ms loaded
-
-  abbrev idles : ℕ
-  idles = (trimmed code_words ms loaded).idles
-
-  -- each of the body is a unit
-  fits : (number : ℕ) (unit : CodeUnit) → slice_get units number ≡ Some unit → IsUnit unit
-  fits number unit is =
-      let joined = us code_words ms loaded in
-      let there : slice_get joined number ≡ Some unit =
-      ap (λ (xs : List CodeUnit). slice_get xs number) (trimmed code_words ms loaded).same
-      ∙ there_left units (rest code_words ms loaded) number unit is in
-      let o = of_module FIRST_BASE 0 ms (all code_words ms loaded) (chain code_words ms loaded) number unit there in
-      let part = o.part.code in
-      subst IsUnit (get_or_from_slice_get part o.k unit unit o.is)
-      (All-get_or IsUnit part o.k unit (slice_get_within part o.k unit o.is)
-      (All-from_recursion IsUnit part o.part.units.fit))
-
-  words_are : words_of_all ms ≡ flat_map words_of units ++ flat_map words_of (replicate idles idle)
-  words_are =
-      sym (words_joined ms (all code_words ms loaded))
-      ∙ ap (λ (xs : List CodeUnit). flat_map words_of xs) (trimmed code_words ms loaded).same
-      ∙ flat_map-append words_of units (replicate idles idle)
-
-  busy : slice_get units (length units - 1) ≢ Some idle
-  busy is = ⊎_elim
-      (λ (none : units ≡ []).
-      absurd (omega (
-        arith,
-        slice_get_within units (length units - 1) idle is,
-        ap (λ (xs : List CodeUnit). length xs) none,
-      )))
-      (λ (ends : EndsUnlinked units).
-      let there : slice_get units (length units - 1) ≡ Some ends.0 = ends.1 in
-      let same : idle ≡ ends.0 = cc in
-      false≢true (ap may_be_last same ∙ ends.2))
-      (trimmed code_words ms loaded).ends
-
   -- each image, with the labels of some of the modules and the code of all, is closed
   module _ (live : List Placed) (image : Image) (of : IsLoadedImage code_words ms live image) where
     abbrev is : IsImage (DirectEdge live) ms code_words image
     is = of.1
 
-    read : IsReadAs image.code units idles (length (drop (FIRST_BASE + length (words_of_all ms)) image.code))
-    read =
-        let zeros = length (drop (FIRST_BASE + length (words_of_all ms)) image.code) in
-        let end = ends_all FIRST_BASE 0 code_words ms (chain code_words ms loaded) (omega (arith, loaded.size.least))
-        loaded.ends in
-        record {
-          fit = recursion_from_All IsUnit units
-              (λ k d within. fits k (get_or units k d) (slice_get-get_or units k d within));
-          spelled = spelled image.code FIRST_BASE 0 ms (chain code_words ms loaded) is.code.placed
-              (omega (arith, end, is.code.len))
-              (λ word within none. is.code.free word (omega (arith, within, is.code.len)) none)
-              ∙ ap (λ (ws : List ℕ). ws ++ replicate zeros 0) words_are;
-          busy = busy;
-        }
-
     pub closed : IsClosed code_words image
     closed = (
-      units,
+      units code_words ms loaded,
       record {
         classes = classes (DirectEdge live) code_words image is.labels code_words is.code.len refl;
-        idles = idles;
+        idles = idles code_words ms loaded;
         zeros = length (drop (FIRST_BASE + length (words_of_all ms)) image.code);
-        code = read;
+        code = read code_words ms loaded live image of;
         inside = stays code_words ms loaded (length image.bary)
             (λ m has. omega (arith, slots_within m has, is.labels.slots));
         targets = λ k some.
@@ -242,12 +165,12 @@ module _ (code_words : ℕ) (ms : List Placed) (loaded : AreLoaded code_words ms
 
     -- ---- its starts
 
-    start : (address : ℕ) → IsStartOf units address → IsStartIn image address
+    start : (address : ℕ) → IsStartOf (units code_words ms loaded) address → IsStartIn image address
     start address starts = record {
-      body = units;
-      idles = idles;
+      body = units code_words ms loaded;
+      idles = idles code_words ms loaded;
       zeros = length (drop (FIRST_BASE + length (words_of_all ms)) image.code);
-      code = read;
+      code = read code_words ms loaded live image of;
       starts = starts;
     }
 

@@ -17,6 +17,7 @@ pub mod TrimmedLemmas
 pub mod InsideLemmas
 pub mod TargetLemmas
 pub mod ClosedLemmas
+pub mod ReadLemmas
 pub mod ImageLemmas
 pub mod PrefixLemmas
 pub mod GrowthLemmas

@@ -17,7 +17,7 @@ use Rattle.cfi_graph.specs.Direct.{DirectEdge}
 use Rattle.cfi_policy.specs.Code.{LiesInModule, HasWords, IsCodeOf}
 use Rattle.cfi_series.specs.Loaded.{AreLoaded, IsLoadedImage}
 use Rattle.cfi_series.proofs.ClosedLemmas.{chain}
-use Rattle.cfi_series.proofs.ImageLemmas.{ends_all}
+use Rattle.cfi_series.proofs.ReadLemmas.{ends_all}
 use Rattle.cfi_series.proofs.JoinedLemmas.{IsChain}
 use Rattle.cfi_series.proofs.SpelledLemmas.{words_of_all}
 

@@ -1,5 +1,5 @@
 -- One module more in a series, and that a module joins in one way or is refused.
-use Rattle.std.proofs.Common.{◌≡◌, ℕ, ◌<◌, ◌≤◌, ◌++◌, List, [], ◌∷◌, length, take, get_or, Some, refl, ap, sym, subst, ◌∙◌, ⊎_elim, arith, length-append}
+use Rattle.std.proofs.Common.{◌≡◌, ◌≢◌, ℕ, ◌<◌, ◌≤◌, ◌++◌, List, [], ◌∷◌, length, take, get_or, Some, Err, refl, ap, sym, subst, ◌∙◌, ⊎_elim, arith, length-append}
 use Rattle.std.specs.List.{slice_get, flat_map}
 use Rattle.std.proofs.Math.Seq.{take-length, get_or-append_seam}
 use Rattle.std.proofs.Math.ListN.{get_or-append}
@@ -11,7 +11,10 @@ use Rattle.cfi_aux.specs.declared.modules.Module.{Module}
 use Rattle.cfi_aux.specs.declared.placed.Placed.{Placed}
 use Rattle.cfi_aux.specs.Sound.{IsSoundModule}
 use Rattle.cfi_place.specs.Names.{Names, first_in}
-use Rattle.cfi_verify.specs.Faults.{FaultStands}
+use Rattle.cfi_place.specs.declared.fault.PlaceFault.{PlaceFault}
+use Rattle.cfi_verify.specs.declared.fault.VerifyFault.{VerifyFault}
+use Rattle.cfi_verify.specs.Faults.{FaultStands, IsFirstFault}
+use Rattle.cfi_verify.proofs.UniqueLemmas.{one_fault as one_first_fault}
 use Rattle.cfi_verify.proofs.RowLemmas.{no_fault}
 use Rattle.cfi_series.specs.declared.fault.JoinFault.{JoinFault}
 use Rattle.cfi_series.specs.declared.fault.JoinFault.TheVariants.{Place, Verify, Memory}
@@ -93,3 +96,21 @@ joins_or_refused code_words before m p (Verify fault) joins refused =
     absurd (no_fault p before joins.verified.0 joins.verified.1 fault
     (subst (λ (x : Placed). FaultStands x before fault) same refused.2.stands))
 joins_or_refused code_words before m p Memory joins refused = refl
+
+-- a fault is the only one, if memory is there
+module _ (code_words : ℕ) (before : List Placed) (m : Module) where
+  pub one_fault : (a b : JoinFault) → IsJoinFault code_words before m a → IsJoinFault code_words before m b
+      → a ≢ Memory → b ≢ Memory → a ≡ b
+  one_fault (Place a) (Place b) p q some some' =
+      let both : Err a ≡ Err b = sym p.0 ∙ q.0 in
+      let same : a ≡ b = cc in
+      ap (λ (fault : PlaceFault). Place fault) same
+  one_fault (Place a) (Verify b) p q some some' = absurd (ok_not_err (sym p.0 ∙ q.1.is_placed))
+  one_fault (Verify a) (Place b) p q some some' = absurd (ok_not_err (sym q.0 ∙ p.1.is_placed))
+  one_fault (Verify a) (Verify b) p q some some' =
+      let same : p.0 ≡ q.0 = placed_once m (room_after code_words before) (names_of before) p.0 q.0 p.1 q.1 in
+      let first = subst (λ (x : Placed). IsFirstFault x before a) same p.2 in
+      ap (λ (fault : VerifyFault). Verify fault) (one_first_fault q.0 before a b first q.2)
+  one_fault Memory b p q some some' = absurd (some refl)
+  one_fault (Place a) Memory p q some some' = absurd (some' refl)
+  one_fault (Verify a) Memory p q some some' = absurd (some' refl)

@@ -1,6 +1,6 @@
 //! What holds of modules in order.
 
-ghost use Rattle.std.specs.Prelude.{◌≡◌, ℕ, List, [], ◌∷◌, length, take, All};
+ghost use Rattle.std.specs.Prelude.{◌≡◌, ◌≢◌, ℕ, List, [], ◌∷◌, length, take, All};
 ghost use Rattle.cfi_model.specs.Data.{LiesInData};
 ghost use Rattle.cfi_series.specs.Fills.{fills_of};
 ghost use Rattle.cfi_aux.specs.declared.modules.Module.{Module};
@@ -100,10 +100,13 @@ pub fn series_have_graph()
     shaped_are_apart();
 }
 
-/// A module joins those before it as one placed module, or has a fault, and never both.
+/// A module joins those before it as one placed module, or has one fault, if memory is there, and never both.
 pub fn one_answer()
     ensures one { (code_words : ℕ) (before : List Placed) (m : Module) (p q : Placed) →
         Joins code_words before m p → Joins code_words before m q → p ≡ q }
+    ensures fault { (code_words : ℕ) (before : List Placed) (m : Module) (a b : JoinFault) →
+        IsJoinFault code_words before m a → IsJoinFault code_words before m b →
+        a ≢ Memory → b ≢ Memory → a ≡ b }
     ensures never { (code_words : ℕ) (before : List Placed) (m : Module) (p : Placed) (fault : JoinFault) →
         Joins code_words before m p → IsJoinFault code_words before m fault → fault ≡ Memory }
 {}

@@ -105,11 +105,8 @@ impl JoinFault {
     }
 }
 
-/// Why a module does not join is one fault, if memory is there. It has numbers, and those of verifying tell the fault.
+/// Why a module does not join has numbers, if memory is there, and those of verifying tell the fault.
 pub fn join_faults_have_numbers()
-    ensures one { (code_words : ℕ) (before : List Placed) (m : Module) (a b : JoinFault) →
-        IsJoinFault code_words before m a → IsJoinFault code_words before m b →
-        a ≢ Memory → b ≢ Memory → a ≡ b }
     ensures some { (code_words : ℕ) (before : List Placed) (m : Module) (fault : JoinFault) →
         IsJoinFault code_words before m fault → fault ≢ Memory →
         (n : FaultNumbers) × (numbers_of fault ≡ Some n) }

@@ -1,5 +1,4 @@
 pub mod WordLemmas
 pub mod PlaceLemmas
 pub mod JoinLemmas
-pub mod ReadLemmas
 pub mod StayLemmas

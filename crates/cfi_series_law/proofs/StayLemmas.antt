@@ -16,7 +16,7 @@ use Rattle.cfi_series.specs.Loaded.{AreLoaded, IsLoadedImage}
 use Rattle.cfi_series.proofs.ClosedLemmas.{all, us, trimmed, body}
 use Rattle.cfi_series.proofs.GrowthLemmas.{loaded_some}
 use Rattle.cfi_series.proofs.SpelledLemmas.{words_of_all}
-use Rattle.cfi_series_law.proofs.ReadLemmas.{read}
+use Rattle.cfi_series.proofs.ReadLemmas.{read}
 use Rattle.cfi_series.proofs.JoinedLemmas.{HasUnits, joined, place_left, there_left, from_right}
 use Rattle.cfi_series.proofs.TrimmedLemmas.{EndsUnlinked, idle_goes_on}
 

@@ -10,23 +10,12 @@ ghost use Rattle.cfi_series.specs.declared.fault.JoinFault.{JoinFault};
 ghost use Rattle.cfi_series.specs.declared.fault.JoinFault.TheVariants.{Memory};
 ghost use Rattle.cfi_series.specs.Order.{Joins, IsJoinFault};
 
-/// A module that does not join those before it has one fault.
-pub fn one_join_fault()
-    ensures { (code_words : ℕ) (before : List Placed) (m : Module) (a b : JoinFault) →
-        IsJoinFault code_words before m a → IsJoinFault code_words before m b →
-        a ≢ Memory → b ≢ Memory → a ≡ b }
-{}
-
-/// A module joins those before it, as one placed module, or it has a fault other than a want of memory; never both.
+/// A module joins those before it, or it has a fault other than a want of memory: with `one_answer` of `cfi_series`,
+/// exactly one placed module or exactly one such fault, and never both.
 pub fn joins_or_has_a_fault()
-    ensures some { (code_words : ℕ) (before : List Placed) (m : Module) →
+    ensures { (code_words : ℕ) (before : List Placed) (m : Module) →
         ((p : Placed) × Joins code_words before m p)
         ⊎ ((fault : JoinFault) × (fault ≢ Memory) × IsJoinFault code_words before m fault) }
-    ensures one { (code_words : ℕ) (before : List Placed) (m : Module) (p q : Placed) →
-        Joins code_words before m p → Joins code_words before m q → p ≡ q }
-    ensures never { (code_words : ℕ) (before : List Placed) (m : Module) (p : Placed)
-        (fault : JoinFault) → Joins code_words before m p →
-        IsJoinFault code_words before m fault → fault ≡ Memory }
 {}
 
 /// With more modules nothing is taken back: a word of an image's code that is not 0 stands in each image of all modules,

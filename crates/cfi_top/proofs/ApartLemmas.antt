@@ -1,5 +1,5 @@
 -- A guest's log may stand in a report: adjacent picks differ in policy, and each counts one check or more.
-use Rattle.std.proofs.Common.{◌≡◌, ◌≢◌, ℕ, ◌+◌, ◌-◌, ◌<◌, ◌==◌, not, Bool, true, false, cond, Option, Some, None, List, [], ◌∷◌, ◌++◌, length, take, slice_set, get_or, refl, sym, ap, subst, ◌∙◌, arith, rules}
+use Rattle.std.proofs.Common.{◌≡◌, ℕ, ◌+◌, ◌-◌, ◌<◌, ◌==◌, not, Bool, true, false, cond, Option, Some, None, List, [], ◌∷◌, ◌++◌, length, take, slice_set, get_or, refl, sym, ap, subst, ◌∙◌, arith, rules}
 use Rattle.std.specs.Prelude.{⊤}
 use Rattle.std.specs.List.{AllByRecursion}
 use Rattle.std.proofs.Common.{tests}
@@ -16,7 +16,7 @@ use Rattle.cfi_word.specs.declared.services.TheConstants.{TOO_MANY}
 use Rattle.cfi_model.specs.declared.act.Wait.{Wait}
 use Rattle.cfi_model.specs.declared.act.Wait.TheVariants as waits
 use Rattle.cfi_model.specs.Data.{load_width, store_width, is_aligned}
-use Rattle.cfi_model.specs.Log.{last_of, is_pick_of, picks_of, picked}
+use Rattle.cfi_model.specs.Log.{last_of, is_pick_of, picks_of}
 use Rattle.cfi_model.specs.Begin.{Area, Private, TaryId, BaryId, Nothing, begin_as, begin_by, load_at, store_at, area_of, reads_table, picked_by}
 use Rattle.cfi_model.specs.Raw.{Raw, access_address}
 use Rattle.cfi_model.specs.Run.{Take, Word, Served, take_word, take_one, run_of, serve_as}
@@ -24,6 +24,7 @@ use Rattle.cfi_model.specs.Service.{Reply, Service, Ends, Puts, Quiets, Opens, U
 use Rattle.cfi_model.specs.State.{State}
 use Rattle.cfi_model.proofs.LogLemmas.{within, ends_with, set_last}
 use Rattle.cfi_report.specs.Report.{PicksDiffer, differ}
+use Rattle.cfi_report.proofs.ReachedLemmas.{apart-push}
 
 -- an entry of picks counts one or more
 abbrev pub Counts : Log → Type 0
@@ -45,12 +46,6 @@ counts_front : (front : List Log) (e : Log) → AllByRecursion Counts (front ++ 
 counts_front [] e all = tt
 counts_front (a ∷ front) e all = (all.0, counts_front front e all.1)
 
-apart_push : (front : List Log) (e x : Log) → PicksDiffer (front ++ e ∷ []) → differ e x ≡ true
-    → PicksDiffer ((front ++ e ∷ []) ++ x ∷ [])
-apart_push [] e x apart other = (other, tt)
-apart_push (a ∷ []) e x apart other = (apart.0, (other, tt))
-apart_push (a ∷ b ∷ front) e x apart other = (apart.0, apart_push (b ∷ front) e x apart.1 other)
-
 apart_again : (front : List Log) (e x : Log) → PicksDiffer (front ++ e ∷ [])
     → ((a : Log) → differ a e ≡ true → differ a x ≡ true) → PicksDiffer (front ++ x ∷ [])
 apart_again [] e x apart same = tt
@@ -69,7 +64,7 @@ push (a ∷ rest) x kept other one =
     let front : List Log = take (length log - 1) log in
     record {
       apart = subst (λ l. PicksDiffer (l ++ x ∷ [])) (sym parts)
-          (apart_push front e x (subst PicksDiffer parts kept.apart) (other e last));
+          (apart-push front e x (subst PicksDiffer parts kept.apart) (other e last));
       counts = counts_push log x kept.counts one;
     }
 

@@ -1,8 +1,5 @@
-use Rattle.cfi_series.proofs.NumberLemmas.{one_fault, has_numbers}
+use Rattle.cfi_series.proofs.NumberLemmas.{has_numbers}
 use Rattle.cfi_series.proofs.numbers.join_faults_have_numbers.Goals as goal
-
-pub returns-clause-one : goal.returns-clause-one
-returns-clause-one c = one_fault
 
 pub returns-clause-some : goal.returns-clause-some
 returns-clause-some c = has_numbers

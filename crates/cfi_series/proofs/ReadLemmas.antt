@@ -1,9 +1,9 @@
 -- How the code of an image of modules is read: as the units of all, without the idle ones at the end.
-use Rattle.std.proofs.Common.{◌≡◌, ◌≢◌, ℕ, ◌+◌, ◌-◌, ◌++◌, List, [], length, drop, replicate, get_or, Some, ap, sym, subst, ◌∙◌, ⊎_elim, arith}
+use Rattle.std.proofs.Common.{◌≡◌, ◌≢◌, ℕ, ◌+◌, ◌-◌, ◌≤◌, ◌++◌, List, [], ◌∷◌, length, drop, replicate, get_or, Some, All, ap, sym, subst, ◌∙◌, ⊎_elim, arith, length-append}
 use Rattle.std.specs.List.{flat_map, slice_get}
 use Rattle.std.proofs.lemmas.Bool.{false≢true}
 use Rattle.std.proofs.lemmas.List.Concat.{flat_map-append}
-use Rattle.std.proofs.lemmas.List.Elements.{All-get_or, recursion_from_All, All-from_recursion}
+use Rattle.std.proofs.lemmas.List.Elements.{All-head, All-tail, All-get_or, recursion_from_All, All-from_recursion}
 use Rattle.std.proofs.lemmas.Option.{slice_get-get_or, slice_get_within, get_or_from_slice_get}
 use Rattle.cfi_unit.specs.declared.unit.Unit.{Unit as CodeUnit}
 use Rattle.cfi_unit.specs.Unit.{IsUnit, words_of}
@@ -15,17 +15,33 @@ use Rattle.cfi_model.specs.Closed.{idle, IsReadAs}
 use Rattle.cfi_policy.specs.Image.{IsImage}
 use Rattle.cfi_verify.specs.Functions.{may_be_last}
 use Rattle.cfi_series.specs.Loaded.{IsLoadedImage, AreLoaded}
-use Rattle.cfi_series.proofs.JoinedLemmas.{of_module, there_left, words_joined}
+use Rattle.cfi_series.proofs.JoinedLemmas.{IsChain, of_module, there_left, words_joined}
 use Rattle.cfi_series.proofs.SpelledLemmas.{words_of_all, spelled}
 use Rattle.cfi_series.proofs.TrimmedLemmas.{EndsUnlinked}
 use Rattle.cfi_series.proofs.ClosedLemmas.{chain, all, us, trimmed, body, rest}
-use Rattle.cfi_series.proofs.ImageLemmas.{ends_all}
+
+-- ---- the end of all
+
+pub ends_all : (base slot most : ℕ) (ms : List Placed) → IsChain base slot ms → base ≤ most
+    → All (λ (m : Placed). m.base + length m.words ≤ most) ms → base + length (words_of_all ms) ≤ most
+ends_all base slot most [] follows low ends = omega (arith, low)
+ends_all base slot most (m ∷ ms) follows low ends =
+    let P : Placed → Type 0 = λ n. n.base + length n.words ≤ most in
+    let first = All-head P m ms ends in
+    omega (
+      arith,
+      length-append m.words (words_of_all ms),
+      ends_all (base + length m.words) (slot + length m.branches) most ms follows.2 (omega (arith, first, follows.0))
+          (All-tail P m ms ends),
+    )
+
+-- ---- the body
 
 module _ (code_words : ℕ) (ms : List Placed) (loaded : AreLoaded code_words ms) where
-  abbrev units : List CodeUnit
+  abbrev pub units : List CodeUnit
   units = body code_words ms loaded
 
-  abbrev idles : ℕ
+  abbrev pub idles : ℕ
   idles = (trimmed code_words ms loaded).idles
 
   -- each of the body is a unit
@@ -61,7 +77,7 @@ module _ (code_words : ℕ) (ms : List Placed) (loaded : AreLoaded code_words ms
       false≢true (ap may_be_last same ∙ ends.2))
       (trimmed code_words ms loaded).ends
 
-  -- each image, with the labels of some of the modules and the code of all, is closed
+  -- the code of each image is read as the body, the idle units and zeros
   module _ (live : List Placed) (image : Image) (of : IsLoadedImage code_words ms live image) where
     abbrev is : IsImage (DirectEdge live) ms code_words image
     is = of.1

@@ -1,0 +1,28 @@
+use Rattle.cfi_made_law.specs.Order.{object_of_file}
+use Rattle.cfi_file_law.specs.Source.{source_module}
+use Rattle.cfi_file_law.proofs.FileLemmas.{kept}
+use Rattle.cfi_file_law.proofs.AsmSourceLemmas.{source-spelled, source-bare, source-long}
+use Rattle.cfi_file_law.proofs.laws.assembled_are_modules.Goals as goal
+
+pub returns-clause-bare : goal.returns-clause-bare
+returns-clause-bare c = λ text file short is off. (
+  object_of_file is.object,
+  c.assembled_are_read.ensures text file short is,
+  source-bare text is.object is.is off,
+  λ same. cc,
+)
+
+pub returns-clause-module : goal.returns-clause-module
+returns-clause-module c = λ text file short is on few. record {
+  object = object_of_file is.object;
+  is = c.assembled_are_read.ensures text file short is;
+  whole = kept (source_module text is.object) (source-spelled text is.object is.is on few);
+}
+
+pub returns-clause-long : goal.returns-clause-long
+returns-clause-long c = λ text file short is on number first. (
+  object_of_file is.object,
+  c.assembled_are_read.ensures text file short is,
+  source-long text is.object is.is on number first,
+  λ same. cc,
+)
