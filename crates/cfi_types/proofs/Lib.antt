@@ -20,3 +20,4 @@ pub mod DivisionLemmas
 pub mod LeastLemmas
 pub mod ListLemmas
 pub mod KeepLemmas
+pub mod LeadLemmas

@@ -51,7 +51,7 @@ pub(crate) fn divided(alloc: Global, nodes: &[TypeNode]) -> Result<Vec<u32>, All
     let mut parts = Parts::new(alloc, labels(alloc, nodes)?)?;
     let mut hits = Lists::new(alloc, MAX_FIELDS as usize)?;
     for _ in 0..2 * nodes.len() {
-        let Some(part) = parts.plan.next() else {
+        let Some(part) = parts.next() else {
             break;
         };
         gather(&mut hits, &parents, parts.members.row(part), parts.parts.as_slice(), part)?;

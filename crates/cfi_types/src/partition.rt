@@ -1,6 +1,6 @@
 //! Parts of nodes, and their division by lists of nodes.
 
-ghost use Rattle.std.specs.Prelude.{◌≡◌, ℕ, ◌<◌, ◌^◌, List, length, map, slice_index, vec_len, All, IfOk, OnOk};
+ghost use Rattle.std.specs.Prelude.{◌≡◌, ℕ, ◌<◌, ◌^◌, List, length, map, slice_index, vec_len, All, IfOk, IfSome, OnOk};
 ghost use Rattle.cfi_word.specs.declared.limits.TheConstants.{MAX_FIELDS};
 ghost use Rattle.cfi_types.specs.Node.{Node};
 ghost use Rattle.cfi_types.specs.inner.Splitting.{IsLow};
@@ -21,7 +21,7 @@ pub(crate) struct Parts {
     // The nodes that have come to each part.
     pub(crate) members: Lists<u32>,
     // What is known of parts by their numbers.
-    pub(crate) plan: Plan,
+    plan: Plan,
     // How many nodes are taken out of each part, 0 between divisions.
     counts: Vec<u32>,
     // The part to which the nodes come that a division takes out of each.
@@ -152,6 +152,16 @@ impl Parts {
             counts,
             targets,
         })
+    }
+
+    // A part that has still to divide others.
+    pub(crate) fn next(&mut self) -> Option<u32>
+        requires { IsWhole self.old }
+        ensures whole { IsWhole self.new }
+        ensures same { self.new.parts ≡ self.old.parts }
+        ensures below { IfSome result (λ part. part < length self.old.parts.items) }
+    {
+        self.plan.next()
     }
 
     // Takes these nodes out of each part of which some are left, those of one part to one part.
