@@ -23,7 +23,7 @@ fn least_of(alloc: Global, parts: &[u32]) -> Result<Vec<u32>, AllocError>
     let mut firsts = Firsts::new(alloc, parts.len())?;
     let mut least = Vec::with_capacity(alloc, parts.len())?;
     for (a, part) in parts.iter().enumerate() {
-        least.push(firsts.stayed(*part, a as u32))?;
+        least.push(firsts.alone(*part, a as u32))?;
     }
     Ok(least)
 }

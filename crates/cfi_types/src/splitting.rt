@@ -22,7 +22,7 @@ pub(crate) fn split(
     let mut next = Vec::with_capacity(alloc, nodes.len())?;
     for (a, node) in nodes.iter().enumerate() {
         let key = key(alloc, classes[a], node, classes)?;
-        next.push(firsts.moved(key, a as u32)?)?;
+        next.push(firsts.signed(key, a as u32)?)?;
     }
     Ok(next)
 }

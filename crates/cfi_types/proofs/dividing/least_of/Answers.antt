@@ -6,8 +6,8 @@ use Rattle.cfi_types.proofs.dividing.least_of.Goals as goal
 pub loop-a-preserved : goal.loop-a-preserved
 loop-a-preserved c = record {
   so_far =
-      least_more (λ b. get_or c.args.parts.now b 0 ∷ []) c.loop-a.a c.stayed.result (first_of c.loop-a.firsts)
-      (first_of c.stayed.new.self) c.loop-a.least.items c.push.new.self.items c.loop-a.invariant.so_far
-      c.stayed.ensures.first c.in_ok-push.ensures.items;
-  len = c.stayed.ensures.len ∙ c.loop-a.invariant.len;
+      least_more (λ b. get_or c.args.parts.now b 0 ∷ []) c.loop-a.a c.alone.result (first_of c.loop-a.firsts)
+      (first_of c.alone.new.self) c.loop-a.least.items c.push.new.self.items c.loop-a.invariant.so_far
+      c.alone.ensures.first c.in_ok-push.ensures.items;
+  len = c.alone.ensures.len ∙ c.loop-a.invariant.len;
 }

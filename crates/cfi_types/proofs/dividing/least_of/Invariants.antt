@@ -6,5 +6,5 @@ use Rattle.cfi_types.proofs.dividing.least_of.Given as goal
 abbrev pub invariant-loop-a : goal.invariant-loop-a
 invariant-loop-a l = record {
   so_far : LeastSoFar (λ b. get_or l.parts b 0 ∷ []) l.a (first_of l.firsts) l.least.items;
-  len : vec_len l.firsts.stayed ≡ length l.parts;
+  len : vec_len l.firsts.alone ≡ length l.parts;
 }
