@@ -30,31 +30,31 @@ apart key q ks differ at =
     exact : (xs ys : List ℕ) → is_eq (slice_cmp nat_cmp xs ys) ≡ true → xs ≡ ys
     exact xs ys e = (bytes_eq-Decides xs ys).0 (sym (is_eq-slice_cmp xs ys) ∙ e)
 
-moved_at : (firsts : Firsts) (q : List ℕ) → 1 < length q
-    → first_of firsts q ≡ get_by (λ k. slice_cmp nat_cmp q k.items) firsts.moved
-moved_at firsts [] long = absurd (omega arith)
-moved_at firsts (a ∷ []) long = absurd (omega arith)
-moved_at firsts (a ∷ b ∷ q) long = refl
+signed_at : (firsts : Firsts) (q : List ℕ) → 1 < length q
+    → first_of firsts q ≡ get_by (λ k. slice_cmp nat_cmp q k.items) firsts.signed
+signed_at firsts [] long = absurd (omega arith)
+signed_at firsts (a ∷ []) long = absurd (omega arith)
+signed_at firsts (a ∷ b ∷ q) long = refl
 
 other_key : (old : Firsts) (m : BTreeMap (Vec ℕ) ℕ) (key : Vec ℕ) (w : Option ℕ)
     → UpdatesBy (λ (x y : Vec ℕ). slice_cmp nat_cmp x.items y.items) (λ k. slice_cmp nat_cmp key.items k.items)
-    old.moved m w
-    → (q : List ℕ) → q ≢ key.items → first_of (record old { moved = m }) q ≡ first_of old q
+    old.signed m w
+    → (q : List ℕ) → q ≢ key.items → first_of (record old { signed = m }) q ≡ first_of old q
 other_key old m key w h [] differ = refl
 other_key old m key w h (a ∷ []) differ = refl
 other_key old m key w h (a ∷ b ∷ q) differ =
-    keeps_others _ _ old.moved.entries m.entries h.3 (λ k. is_eq (slice_cmp nat_cmp (a ∷ b ∷ q) k.items))
+    keeps_others _ _ old.signed.entries m.entries h.3 (λ k. is_eq (slice_cmp nat_cmp (a ∷ b ∷ q) k.items))
     (λ x y. (eq_by_cmp_equiv nat_list_cmp_total).congr (a ∷ b ∷ q) x.items y.items)
     (λ k at. apart key.items (a ∷ b ∷ q) k.items differ at)
 
 -- a key that had none has the node now
-pub puts_moved : (old : Firsts) (m : BTreeMap (Vec ℕ) ℕ) (key : Vec ℕ) (node : ℕ) → 1 < length key.items
-    → get_by (λ k. slice_cmp nat_cmp key.items k.items) old.moved ≡ None
+pub puts_signed : (old : Firsts) (m : BTreeMap (Vec ℕ) ℕ) (key : Vec ℕ) (node : ℕ) → 1 < length key.items
+    → get_by (λ k. slice_cmp nat_cmp key.items k.items) old.signed ≡ None
     → UpdatesBy (λ (x y : Vec ℕ). slice_cmp nat_cmp x.items y.items) (λ k. slice_cmp nat_cmp key.items k.items)
-    old.moved m (Some node)
-    → PutsFirst (first_of old) (first_of (record old { moved = m })) key.items node node
-puts_moved old m key node long absent h = record {
-  first = sym (ap (λ (o : Option ℕ). unwrap_or o node) (moved_at old key.items long ∙ absent));
-  here = moved_at (record old { moved = m }) key.items long ∙ h.1;
+    old.signed m (Some node)
+    → PutsFirst (first_of old) (first_of (record old { signed = m })) key.items node node
+puts_signed old m key node long absent h = record {
+  first = sym (ap (λ (o : Option ℕ). unwrap_or o node) (signed_at old key.items long ∙ absent));
+  here = signed_at (record old { signed = m }) key.items long ∙ h.1;
   others = λ q differ. other_key old m key (Some node) h q differ;
 }

@@ -13,4 +13,11 @@ pub mod Agreement
 pub mod Counts
 pub mod Rows
 pub mod Whole
-pub mod PathLemmas
+pub mod Tests
+pub mod NameLemmas
+pub mod HitLemmas
+pub mod DivisionLemmas
+pub mod LeastLemmas
+pub mod ListLemmas
+pub mod KeepLemmas
+pub mod LeadLemmas

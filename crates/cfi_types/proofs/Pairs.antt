@@ -1,6 +1,6 @@
 -- Two lists, pair by pair.
-use Rattle.std.proofs.Common.{◌≡◌, ◌≢◌, ℕ, ◌+◌, ◌-◌, ◌*◌, ◌<◌, ◌≤◌, Bool, suc, List, [], ◌∷◌, length, map, get_or, All, refl, arith, inl, inr}
-use Rattle.std.specs.List.{AllZip, list_any}
+use Rattle.std.proofs.Common.{◌≡◌, ◌≢◌, ℕ, ◌+◌, ◌-◌, ◌*◌, ◌<◌, ◌≤◌, suc, List, [], ◌∷◌, length, map, get_or, All, refl, arith, inl, inr}
+use Rattle.std.specs.List.{AllZip}
 use Rattle.std.proofs.lemmas.Bool.{cases_order}
 use Rattle.std.proofs.lemmas.List.Elements.{All-head, All-tail}
 
@@ -23,18 +23,6 @@ map_from_all_zip n R f h (x ∷ xs) (y ∷ ys) a b r =
     let head : f x ≡ f y = h x y (All-head (λ k. k < n) x xs a) (All-head (λ k. k < n) y ys b) r.0 in
     let tail : map f xs ≡ map f ys =
     map_from_all_zip n R f h xs ys (All-tail (λ k. k < n) x xs a) (All-tail (λ k. k < n) y ys b) r.1 in
-    cc
-
-pub list_any_from_all_zip : (n : ℕ) (R : ℕ → ℕ → Type 0) (p : ℕ → Bool)
-    → ((x y : ℕ) → x < n → y < n → R x y → p x ≡ p y)
-    → (xs ys : List ℕ) → All (λ x. x < n) xs → All (λ y. y < n) ys → AllZip R xs ys → list_any p xs ≡ list_any p ys
-list_any_from_all_zip n R p h [] [] a b r = refl
-list_any_from_all_zip n R p h [] (y ∷ ys) a b r = absurd r
-list_any_from_all_zip n R p h (x ∷ xs) [] a b r = absurd r
-list_any_from_all_zip n R p h (x ∷ xs) (y ∷ ys) a b r =
-    let head : p x ≡ p y = h x y (All-head (λ k. k < n) x xs a) (All-head (λ k. k < n) y ys b) r.0 in
-    let tail : list_any p xs ≡ list_any p ys =
-    list_any_from_all_zip n R p h xs ys (All-tail (λ k. k < n) x xs a) (All-tail (λ k. k < n) y ys b) r.1 in
     cc
 
 pub all_zip_from_map : {B : Type 0} (n : ℕ) (R : ℕ → ℕ → Type 0) (f : ℕ → B)

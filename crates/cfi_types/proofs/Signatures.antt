@@ -1,5 +1,5 @@
 -- What equal signatures and equal keys say of two nodes.
-use Rattle.std.proofs.Common.{◌≡◌, ℕ, ◌+◌, ◌-◌, Bool, true, false, cond, List, [], ◌∷◌, ◌++◌, length, map, take, drop, get_or, refl, sym, ap, ◌∙◌, arith}
+use Rattle.std.proofs.Common.{◌≡◌, ℕ, ◌+◌, ◌-◌, List, ◌∷◌, ◌++◌, length, map, take, drop, get_or, refl, sym, ap, ◌∙◌, arith}
 use Rattle.std.specs.Prelude.{min}
 use Rattle.std.proofs.lemmas.List.{take_at, drop_at, length-append, length-take, length-drop, length-map}
 use Rattle.cfi_types.specs.Node.{Node}
@@ -71,40 +71,16 @@ signature_from_alike classes x y h =
 
 -- ---- keys
 
--- equal keys are of nodes of one class that both stayed, or both moved to one signature
-pub record IsOneKey (nodes : List Node) (classes : List ℕ) (moved : List Bool) (a b : ℕ) : Type 0 where
-  pub one_class : get_or classes a 0 ≡ get_or classes b 0
-  pub both_moved : get_or moved a false ≡ get_or moved b false
-  pub one_signature : get_or moved a false ≡ true
-      → signature classes (node_of nodes a) ≡ signature classes (node_of nodes b)
+pub class_from_key : (nodes : List Node) (classes : List ℕ) (a b : ℕ)
+    → key_of nodes classes a ≡ key_of nodes classes b → get_or classes a 0 ≡ get_or classes b 0
+class_from_key nodes classes a b e = cc
 
-tails : (s t : Bool) (k l : ℕ) (p q : List ℕ) → cond s (k ∷ p) [] ≡ cond t (l ∷ q) []
-    → (s ≡ t) × (s ≡ true → k ∷ p ≡ l ∷ q)
-tails true true k l p q e = (refl, λ _. e)
-tails true false k l p q e = absurd cc
-tails false true k l p q e = absurd cc
-tails false false k l p q e = (refl, λ f. absurd cc)
-
-pub one_key_from_key : (nodes : List Node) (classes : List ℕ) (moved : List Bool) (a b : ℕ)
-    → key_of nodes classes moved a ≡ key_of nodes classes moved b → IsOneKey nodes classes moved a b
-one_key_from_key nodes classes moved a b e =
-    let x = node_of nodes a in
-    let y = node_of nodes b in
-    let f : ℕ → ℕ = λ k. get_or classes k 0 in
-    let heads : get_or classes a 0 ≡ get_or classes b 0 = cc in
-    let rest : cond (get_or moved a false) (signature classes x) [] ≡ cond (get_or moved b false)
-    (signature classes y) [] = cc in
-    let both = tails (get_or moved a false) (get_or moved b false) x.kind y.kind (numbers_of x ++ map f (nodes_of x))
-    (numbers_of y ++ map f (nodes_of y)) rest in
-    record { one_class = heads; both_moved = both.0; one_signature = both.1 }
-
-pub key_from_one_key : (nodes : List Node) (classes : List ℕ) (moved : List Bool) (a b : ℕ)
-    → get_or classes a 0 ≡ get_or classes b 0 → get_or moved a false ≡ get_or moved b false
+pub signature_from_key : (nodes : List Node) (classes : List ℕ) (a b : ℕ)
+    → key_of nodes classes a ≡ key_of nodes classes b
     → signature classes (node_of nodes a) ≡ signature classes (node_of nodes b)
-    → key_of nodes classes moved a ≡ key_of nodes classes moved b
-key_from_one_key nodes classes moved a b class same sign =
-    let tail : cond (get_or moved a false) (signature classes (node_of nodes a)) [] ≡ cond (get_or moved b false)
-    (signature classes (node_of nodes b)) [] =
-    ap (λ (m : Bool). cond m (signature classes (node_of nodes a)) []) same
-    ∙ ap (λ (s : List ℕ). cond (get_or moved b false) s []) sign in
-    cc
+signature_from_key nodes classes a b e = cc
+
+pub key_from_parts : (nodes : List Node) (classes : List ℕ) (a b : ℕ) → get_or classes a 0 ≡ get_or classes b 0
+    → signature classes (node_of nodes a) ≡ signature classes (node_of nodes b)
+    → key_of nodes classes a ≡ key_of nodes classes b
+key_from_parts nodes classes a b class sign = cc

@@ -3,4 +3,8 @@ pub mod Joined
 pub mod Leader
 pub mod Splitting
 pub mod Refining
-pub mod Paths
+pub mod Keeping
+pub mod Parents
+pub mod Hits
+pub mod Division
+pub mod Whole

@@ -9,11 +9,11 @@ use crate::node::TypeNode;
 use std::alloc::{AllocError, Global};
 use std::collections::BTreeMap;
 
-/// The first node of each class that stayed, and of each class and signature that moved.
+/// The first node of each class alone, and of each class and signature.
 #[derive(Drop)]
 pub(crate) struct Firsts {
-    stayed: Vec<Option<u32>>,
-    moved: BTreeMap<Vec<u32>, u32>,
+    alone: Vec<Option<u32>>,
+    signed: BTreeMap<Vec<u32>, u32>,
 }
 
 // A class, and a node's signature.
@@ -41,38 +41,38 @@ impl Firsts {
     // None, of nodes in this many classes.
     pub(crate) fn new(alloc: Global, classes: usize) -> Result<Firsts, AllocError>
         ensures none { IfOk result (λ firsts. (q : List ℕ) → first_of firsts q ≡ None) }
-        ensures len { IfOk result (λ firsts. vec_len firsts.stayed ≡ classes) }
+        ensures len { IfOk result (λ firsts. vec_len firsts.alone ≡ classes) }
     {
         Ok(Firsts {
-            stayed: vec![in alloc; None; classes]?,
-            moved: BTreeMap::new(alloc),
+            alone: vec![in alloc; None; classes]?,
+            signed: BTreeMap::new(alloc),
         })
     }
 
-    // The first node of this class that stayed: `node`, where none has come.
-    pub(crate) fn stayed(&mut self, class: u32, node: u32) -> u32
-        requires { class < vec_len self.old.stayed }
+    // The first node of this class: `node`, where none has come.
+    pub(crate) fn alone(&mut self, class: u32, node: u32) -> u32
+        requires { class < vec_len self.old.alone }
         ensures first { PutsFirst (first_of self.old) (first_of self.new) (class ∷ []) node result }
-        ensures len { vec_len self.new.stayed ≡ vec_len self.old.stayed }
+        ensures len { vec_len self.new.alone ≡ vec_len self.old.alone }
     {
-        if let Some(first) = self.stayed[class as usize] {
+        if let Some(first) = self.alone[class as usize] {
             return first;
         }
-        self.stayed[class as usize] = Some(node);
+        self.alone[class as usize] = Some(node);
         node
     }
 
-    // The first node of this key that moved: `node`, where none has come.
-    pub(crate) fn moved(&mut self, key: Vec<u32>, node: u32) -> Result<u32, AllocError>
+    // The first node of this class and signature: `node`, where none has come.
+    pub(crate) fn signed(&mut self, key: Vec<u32>, node: u32) -> Result<u32, AllocError>
         requires { 1 < vec_len key }
         ensures first { IfOk result (λ first.
             PutsFirst (first_of self.old) (first_of self.new) key.items node first) }
-        ensures len { vec_len self.new.stayed ≡ vec_len self.old.stayed }
+        ensures len { vec_len self.new.alone ≡ vec_len self.old.alone }
     {
-        if let Some(first) = self.moved.get(key.as_slice()) {
+        if let Some(first) = self.signed.get(key.as_slice()) {
             return Ok(*first);
         }
-        self.moved.insert(key, node)?;
+        self.signed.insert(key, node)?;
         Ok(node)
     }
 }

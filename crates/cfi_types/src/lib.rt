@@ -7,13 +7,18 @@
 
 mod book;
 mod classes;
+mod dividing;
 mod fault;
 mod graph;
+mod hits;
 mod kind;
 mod leader;
+mod lists;
 mod node;
 mod numbering;
-mod paths;
+mod parents;
+mod partition;
+mod plan;
 mod reading;
 mod refining;
 mod splitting;

@@ -1,11 +1,11 @@
 use Rattle.std.proofs.Common.{◌*◌, ◌-◌, length}
+use Rattle.cfi_types.specs.inner.Keeping.{KeepEqual}
 use Rattle.cfi_types.proofs.Pairs.{total}
-use Rattle.cfi_types.proofs.Steps.{Refines}
 use Rattle.cfi_types.proofs.refining.leaders.Given as goal
 
-abbrev pub invariant-loop-moved : goal.invariant-loop-moved
-invariant-loop-moved l = Refines l.nodes l.classes.items l.moved.items
+abbrev pub invariant-loop-classes : goal.invariant-loop-classes
+invariant-loop-classes l = KeepEqual l.nodes l.classes.items
 
 -- least nodes only rise
-abbrev pub decreases-loop-moved : goal.decreases-loop-moved
-decreases-loop-moved l = length l.nodes * length l.nodes - total l.classes.items
+abbrev pub decreases-loop-classes : goal.decreases-loop-classes
+decreases-loop-classes l = length l.nodes * length l.nodes - total l.classes.items

@@ -1,0 +1,18 @@
+-- Classes that keep equal nodes together.
+use Rattle.std.specs.Prelude.{◌≡◌, ℕ, ◌<◌, List, [], ◌∷◌, length, slice_index}
+use Rattle.cfi_types.specs.Node.{Node}
+use Rattle.cfi_types.specs.Same.{Equal}
+use Rattle.cfi_types.specs.inner.Splitting.{IsLow, IsLeast}
+
+-- the least node of each node's part
+pub record AreNamed (parts names : List ℕ) : Type 0 where
+  pub len : length names ≡ length parts
+  pub least : (a : ℕ) → a < length parts → IsLeast (λ b. slice_index parts b ∷ []) a (slice_index names a)
+
+-- classes, named by their least nodes, that keep equal nodes together
+pub record KeepEqual (nodes : List Node) (classes : List ℕ) : Type 0 where
+  pub len : length classes ≡ length nodes
+  pub low : IsLow classes
+  pub own : (a : ℕ) → a < length nodes → slice_index classes (slice_index classes a) ≡ slice_index classes a
+  pub kept : (a b : ℕ) → a < length nodes → b < length nodes → Equal nodes a nodes b
+      → slice_index classes a ≡ slice_index classes b

@@ -1,0 +1,61 @@
+//! Parts of nodes that are divided by one another until none divides another.
+
+ghost use Rattle.std.specs.Prelude.{◌≡◌, ◌<◌, ◌^◌, length, All, IfOk};
+ghost use Rattle.cfi_types.specs.inner.Splitting.{IsClosed};
+ghost use Rattle.cfi_types.specs.inner.Keeping.{AreNamed, KeepEqual};
+
+use crate::hits::gather;
+use crate::leader::Firsts;
+use crate::lists::Lists;
+use crate::node::TypeNode;
+use crate::parents::parents_of;
+use crate::partition::Parts;
+use crate::splitting::split;
+use cfi_word::limits::MAX_FIELDS;
+use std::alloc::{AllocError, Global};
+
+// The least node of the part of each node.
+fn least_of(alloc: Global, parts: &[u32]) -> Result<Vec<u32>, AllocError>
+    requires fits { length parts.now < 2 ^ 32 }
+    requires below { All (λ k. k < length parts.now) parts.now }
+    ensures { IfOk result (λ least. AreNamed parts.now least.items) }
+{
+    let mut firsts = Firsts::new(alloc, parts.len())?;
+    let mut least = Vec::with_capacity(alloc, parts.len())?;
+    for (a, part) in parts.iter().enumerate() {
+        least.push(firsts.alone(*part, a as u32))?;
+    }
+    Ok(least)
+}
+
+// The parts of nodes of one kind, with the same numbers, that name as many nodes.
+fn labels(alloc: Global, nodes: &[TypeNode]) -> Result<Vec<u32>, AllocError>
+    requires fits { length nodes.now < 2 ^ 32 }
+    requires closed { IsClosed nodes.now }
+    ensures { IfOk result (λ classes. KeepEqual nodes.now classes.items) }
+{
+    let one = vec![in alloc; 0u32; nodes.len()]?;
+    split(alloc, nodes, one.as_slice())
+}
+
+// Classes that keep equal nodes together, and tell others apart.
+//
+// The nodes that name a node of a part at one place are taken out of their parts. Of the two parts of a part that
+// has divided others before, the smaller alone does: a node is in few of these, so that each field is met few times.
+pub(crate) fn divided(alloc: Global, nodes: &[TypeNode]) -> Result<Vec<u32>, AllocError>
+    requires fits { length nodes.now < 2 ^ 32 }
+    requires closed { IsClosed nodes.now }
+    ensures { IfOk result (λ classes. KeepEqual nodes.now classes.items) }
+{
+    let parents = parents_of(alloc, nodes)?;
+    let mut parts = Parts::new(alloc, labels(alloc, nodes)?)?;
+    let mut hits = Lists::new(alloc, MAX_FIELDS as usize)?;
+    for _ in 0..2 * nodes.len() {
+        let Some(part) = parts.next() else {
+            break;
+        };
+        gather(&mut hits, &parents, parts.members.row(part), parts.parts.as_slice(), part)?;
+        parts.divide_by(alloc, &mut hits)?;
+    }
+    least_of(alloc, parts.parts.as_slice())
+}

@@ -1,0 +1,48 @@
+//! Which nodes name each node, and where.
+
+ghost use Rattle.std.specs.Prelude.{◌<◌, ◌^◌, length, min, All, IfOk, OnOk};
+ghost use Rattle.cfi_word.specs.declared.limits.TheConstants.{MAX_FIELDS};
+ghost use Rattle.cfi_types.specs.inner.Splitting.{IsClosed};
+ghost use Rattle.cfi_types.specs.inner.Parents.{AddsNames, AreParents};
+
+use crate::lists::Lists;
+use crate::node::TypeNode;
+use cfi_word::limits::MAX_FIELDS;
+use std::alloc::{AllocError, Global};
+
+/// A node, and a place among the nodes that it names.
+#[derive(Clone, Copy)]
+pub(crate) struct Name {
+    pub(crate) node: u32,
+    pub(crate) place: u32,
+}
+
+// Adds where the node of this number names others.
+fn add_names(parents: &mut Lists<Name>, named: &[u32], number: u32) -> Result<(), AllocError>
+    requires { All (λ k. k < length parents.old) named.now }
+    ensures { OnOk result (AddsNames parents.old named.now number (min (length named.now) MAX_FIELDS) parents.new) }
+{
+    let count = named.len().min(MAX_FIELDS as usize);
+    for place in 0..count {
+        let name = Name {
+            node: number,
+            place: place as u32,
+        };
+        parents.add(named[place], name)?;
+    }
+    Ok(())
+}
+
+// Where each node is named, at the first `MAX_FIELDS` places of nodes.
+pub(crate) fn parents_of(alloc: Global, nodes: &[TypeNode]) -> Result<Lists<Name>, AllocError>
+    requires fits { length nodes.now < 2 ^ 32 }
+    requires closed { IsClosed nodes.now }
+    ensures { IfOk result (λ parents. AreParents nodes.now (length nodes.now) parents) }
+{
+    let mut parents = Lists::new(alloc, nodes.len())?;
+    for (number, node) in nodes.iter().enumerate() {
+        let (_, named) = node.parts();
+        add_names(&mut parents, named, number as u32)?;
+    }
+    Ok(parents)
+}
