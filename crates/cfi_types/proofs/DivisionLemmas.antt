@@ -1,14 +1,13 @@
 -- Nodes that are put where they come to, one node more.
-use Rattle.std.proofs.Common.{◌≡◌, ◌≢◌, ◌∙◌, ℕ, ◌+◌, ◌<◌, Bool, true, false, cond, ltb, eqb, List, [], ◌∷◌, ◌++◌, length, take, set, get_or, replicate, All, refl, sym, ap, subst, arith, inl, inr}
-use Rattle.std.specs.Prelude.{◌||◌, ◌&&◌, ◌⊎◌}
-use Rattle.std.specs.List.{list_any}
+use Rattle.std.proofs.Common.{◌≡◌, ◌∙◌, ℕ, ◌+◌, ◌<◌, true, false, cond, eqb, List, [], ◌∷◌, ◌++◌, length, take, set, get_or, replicate, All, refl, sym, ap, subst, arith, inl, inr}
+use Rattle.std.specs.Prelude.{◌||◌}
 use Rattle.std.proofs.lemmas.Bool.{cases_eq, cases_lt, eq-eqb, ne_eqb, or_left, or_right}
 use Rattle.std.proofs.lemmas.List.{length-set, length-replicate, get_or-set_same, get_or-set_other, get_or-replicate}
 use Rattle.std.proofs.lemmas.List.Elements.{All-push, All-nil}
 use Rattle.std.proofs.lemmas.List.Folds.{list_any_more}
 use Rattle.cfi_types.specs.inner.Hits.{has}
 use Rattle.cfi_types.specs.inner.Division.{AreListed, IsPut}
-use Rattle.cfi_types.proofs.Tests.{or_false}
+use Rattle.cfi_types.proofs.Choices.{or_false}
 use Rattle.cfi_types.proofs.HitLemmas.{has_push}
 
 has_more : (nodes : List ℕ) (i a : ℕ) → i < length nodes

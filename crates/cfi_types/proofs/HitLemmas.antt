@@ -1,14 +1,13 @@
 -- Which nodes name a node of a class, one name more and one member more.
-use Rattle.std.proofs.Common.{◌≡◌, ◌∙◌, ℕ, ◌+◌, ◌<◌, Bool, true, false, ltb, eqb, List, [], ◌∷◌, ◌++◌, length, take, set, get_or, refl, sym, ap, subst, arith, inl, inr}
+use Rattle.std.proofs.Common.{◌≡◌, ◌∙◌, ℕ, ◌+◌, ◌<◌, true, false, eqb, List, [], ◌∷◌, ◌++◌, length, take, set, get_or, refl, sym, ap, subst, arith, inl, inr}
 use Rattle.std.specs.Prelude.{◌||◌, ◌&&◌}
-use Rattle.std.specs.List.{list_any}
 use Rattle.std.proofs.lemmas.Bool.{cases_eq, eq-eqb, ne_eqb}
 use Rattle.std.proofs.lemmas.List.{length-set, get_or-set_same, get_or-set_other}
 use Rattle.std.proofs.lemmas.List.Folds.{list_any-append, list_any_more}
 use Rattle.cfi_types.specs.declared.parents.Name.{Name}
 use Rattle.cfi_types.specs.inner.Parents.{has_name, is_named}
 use Rattle.cfi_types.specs.inner.Hits.{has, is_hit, hits_one, AddsHits, GathersHits}
-use Rattle.cfi_types.proofs.Tests.{or_false, or_assoc, and_true, and_false}
+use Rattle.cfi_types.proofs.Choices.{or_false, or_assoc, and_true, and_false}
 use Rattle.cfi_types.proofs.NameLemmas.{make_name}
 
 pub has_push : (nodes : List ℕ) (x node : ℕ) → has (nodes ++ x ∷ []) node ≡ (has nodes node || eqb x node)

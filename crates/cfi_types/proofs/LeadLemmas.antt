@@ -1,9 +1,8 @@
 -- The nodes that are gathered for a part tell equal nodes alike.
-use Rattle.std.proofs.Common.{◌≡◌, ◌∙◌, ℕ, ◌<◌, ◌≤◌, Bool, true, false, ltb, eqb, min, List, [], length, get_or, All, refl, sym, ap, subst, arith, inl, inr}
+use Rattle.std.proofs.Common.{◌≡◌, ◌∙◌, ℕ, ◌<◌, Bool, true, false, ltb, eqb, min, List, [], length, get_or, All, refl, sym, ap, subst, arith, inl, inr}
 use Rattle.std.specs.Prelude.{◌||◌, ◌&&◌}
-use Rattle.std.specs.List.{AllZip, Any}
 use Rattle.std.proofs.lemmas.Bool.{cases_lt, and_parts, and_from, ltb-true, lt-ltb, le-ltb, eqb-true, eq-eqb}
-use Rattle.std.proofs.lemmas.List.{get_or_past, get_or_default}
+use Rattle.std.proofs.lemmas.List.{get_or_default}
 use Rattle.std.proofs.lemmas.List.Elements.{All-get_or, All-from_get_or, length_all_zip, AllZip-get_or}
 use Rattle.std.proofs.lemmas.List.Folds.{Any-from_list_any, list_any_at}
 use Rattle.cfi_word.specs.declared.limits.TheConstants.{MAX_FIELDS}
@@ -12,10 +11,10 @@ use Rattle.cfi_types.specs.Node.{Node}
 use Rattle.cfi_types.specs.Kind.{nodes_of}
 use Rattle.cfi_types.specs.Same.{node_of, Equal}
 use Rattle.cfi_types.specs.inner.Splitting.{IsClosed}
-use Rattle.cfi_types.specs.inner.Parents.{is_at, has_name, is_named, names_at, AreParents}
+use Rattle.cfi_types.specs.inner.Parents.{is_named, names_at, AreParents}
 use Rattle.cfi_types.specs.inner.Hits.{has, is_hit, hits_one, GathersHits}
 use Rattle.cfi_types.specs.inner.Division.{AreListed, AreClear, KeepTogether, TellEqual}
-use Rattle.cfi_types.proofs.Tests.{one_test}
+use Rattle.cfi_types.proofs.Choices.{one_test}
 use Rattle.cfi_types.proofs.Steps.{names_below, named_equal}
 
 -- each number of a list is one that the list has

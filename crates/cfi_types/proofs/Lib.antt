@@ -13,7 +13,7 @@ pub mod Agreement
 pub mod Counts
 pub mod Rows
 pub mod Whole
-pub mod Tests
+pub mod Choices
 pub mod NameLemmas
 pub mod HitLemmas
 pub mod DivisionLemmas

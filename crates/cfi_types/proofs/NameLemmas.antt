@@ -1,5 +1,5 @@
 -- Where nodes are named, one name more and one node more.
-use Rattle.std.proofs.Common.{◌≡◌, ◌∙◌, ℕ, ◌+◌, ◌<◌, Bool, true, false, ltb, eqb, List, [], ◌∷◌, ◌++◌, length, min, set, get_or, refl, sym, ap, subst, arith, inl, inr, replicate}
+use Rattle.std.proofs.Common.{◌≡◌, ◌∙◌, ℕ, ◌+◌, ◌<◌, true, false, ltb, eqb, List, [], ◌∷◌, ◌++◌, length, min, set, get_or, refl, sym, ap, subst, arith, inl, inr, replicate}
 use Rattle.std.specs.Prelude.{◌||◌, ◌&&◌}
 use Rattle.std.proofs.lemmas.Bool.{cases_eq, eq-eqb, ne_eqb, le-ltb}
 use Rattle.std.proofs.lemmas.List.{length-set, length-replicate, get_or-set_same, get_or-set_other, get_or-replicate}
@@ -10,7 +10,7 @@ use Rattle.cfi_types.specs.Node.{Node}
 use Rattle.cfi_types.specs.Kind.{nodes_of}
 use Rattle.cfi_types.specs.Same.{node_of}
 use Rattle.cfi_types.specs.inner.Parents.{is_at, has_name, is_named, names_at, AddsNames, AreParents}
-use Rattle.cfi_types.proofs.Tests.{or_false, and_true, and_false, or_and_or, below_more}
+use Rattle.cfi_types.proofs.Choices.{or_false, and_true, and_false, or_and_or, below_more}
 
 abbrev pub make_name : (node place : ℕ) → Name
 make_name node place = record { node = node; place = place }

@@ -54,7 +54,13 @@ pub(crate) fn divided(alloc: Global, nodes: &[TypeNode]) -> Result<Vec<u32>, All
         let Some(part) = parts.next() else {
             break;
         };
-        gather(&mut hits, &parents, parts.members.row(part), parts.parts.as_slice(), part)?;
+        gather(
+            &mut hits,
+            &parents,
+            parts.members.row(part),
+            parts.parts.as_slice(),
+            part,
+        )?;
         parts.divide_by(alloc, &mut hits)?;
     }
     least_of(alloc, parts.parts.as_slice())

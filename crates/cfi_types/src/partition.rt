@@ -1,6 +1,6 @@
 //! Parts of nodes, and their division by lists of nodes.
 
-ghost use Rattle.std.specs.Prelude.{◌≡◌, ℕ, ◌<◌, ◌^◌, List, length, map, slice_index, vec_len, All, IfOk, IfSome, OnOk};
+ghost use Rattle.std.specs.Prelude.{◌≡◌, ℕ, ◌<◌, ◌≤◌, ◌^◌, true, List, length, map, slice_index, vec_len, All, IfOk, IfSome, OnOk};
 ghost use Rattle.cfi_word.specs.declared.limits.TheConstants.{MAX_FIELDS};
 ghost use Rattle.cfi_types.specs.Node.{Node};
 ghost use Rattle.cfi_types.specs.inner.Splitting.{IsLow};
@@ -164,8 +164,20 @@ impl Parts {
         self.plan.next()
     }
 
+    // Whether there is no node, or one that is alone in its part.
+    fn are_alone(&self, nodes: &[u32]) -> bool
+        requires whole { IsWhole self.now }
+        requires nodes { All (λ a. a < length self.now.parts.items) nodes.now }
+        ensures few { result ≡ true → length nodes.now ≤ 1 }
+    {
+        if nodes.len() != 1 {
+            return nodes.is_empty();
+        }
+        self.plan.size(self.parts[nodes[0] as usize]) == 1
+    }
+
     // Takes these nodes out of each part of which some are left, those of one part to one part.
-    fn divide(&mut self, alloc: Global, nodes: &[u32]) -> Result<(), AllocError>
+    fn take_out(&mut self, alloc: Global, nodes: &[u32]) -> Result<(), AllocError>
         requires whole { IsWhole self.old }
         requires nodes { All (λ a. a < length self.old.parts.items) nodes.now }
         ensures whole { OnOk result (IsWhole self.new) }
@@ -174,12 +186,41 @@ impl Parts {
     {
         let counts = &mut self.counts;
         let touched = count(alloc, counts, self.parts.as_slice(), nodes)?;
-        aim(&mut self.plan, &mut self.counts, &mut self.targets, touched.as_slice())?;
-        put(alloc, &mut self.parts, &mut self.members, self.targets.as_slice(), nodes)
+        aim(
+            &mut self.plan,
+            &mut self.counts,
+            &mut self.targets,
+            touched.as_slice(),
+        )?;
+        put(
+            alloc,
+            &mut self.parts,
+            &mut self.members,
+            self.targets.as_slice(),
+            nodes,
+        )
+    }
+
+    // The same, at little cost where it changes nothing.
+    fn divide(&mut self, alloc: Global, nodes: &[u32]) -> Result<(), AllocError>
+        requires whole { IsWhole self.old }
+        requires nodes { All (λ a. a < length self.old.parts.items) nodes.now }
+        ensures whole { OnOk result (IsWhole self.new) }
+        ensures divided { OnOk result
+            (IsDivided self.old.parts.items nodes.now self.new.parts.items) }
+    {
+        if self.are_alone(nodes) {
+            return Ok(());
+        }
+        self.take_out(alloc, nodes)
     }
 
     // Divides by each of the lists, and leaves them empty.
-    pub(crate) fn divide_by(&mut self, alloc: Global, lists: &mut Lists<u32>) -> Result<(), AllocError>
+    pub(crate) fn divide_by(
+        &mut self,
+        alloc: Global,
+        lists: &mut Lists<u32>,
+    ) -> Result<(), AllocError>
         requires whole { IsWhole self.old }
         requires len { length lists.old ≡ MAX_FIELDS }
         requires below { All (All (λ a. a < length self.old.parts.items)) lists.old }

@@ -1,6 +1,6 @@
 //! How large parts are, and which of them have still to divide others.
 
-ghost use Rattle.std.specs.Prelude.{◌≡◌, ◌<◌, ◌^◌, length, vec_len, All, IfOk, IfSome};
+ghost use Rattle.std.specs.Prelude.{◌≡◌, ◌<◌, ◌^◌, length, slice_index, vec_len, All, IfOk, IfSome};
 
 use std::alloc::{AllocError, Global};
 
@@ -86,6 +86,14 @@ impl Plan {
         self.waits[part as usize] = true;
         self.waiting.push(part)?;
         Ok(())
+    }
+
+    // How many nodes a part has.
+    pub(crate) fn size(&self, part: u32) -> u32
+        requires { part < vec_len self.now.sizes }
+        ensures { result ≡ slice_index self.now.sizes.items part }
+    {
+        self.sizes[part as usize]
     }
 
     // A part that has waited.

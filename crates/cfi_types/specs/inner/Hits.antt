@@ -1,5 +1,5 @@
 -- Which nodes name a node of a class, place by place.
-use Rattle.std.specs.Prelude.{◌≡◌, ℕ, ◌<◌, Bool, ◌==◌, ◌&&◌, ◌||◌, List, [], length, take, slice_index, slice_index_or}
+use Rattle.std.specs.Prelude.{◌≡◌, ℕ, ◌<◌, Bool, ◌==◌, ◌&&◌, ◌||◌, List, [], length, slice_index, slice_index_or}
 use Rattle.std.specs.List.{list_any}
 use Rattle.cfi_types.specs.declared.parents.Name.{Name}
 use Rattle.cfi_types.specs.inner.Parents.{has_name, is_named}

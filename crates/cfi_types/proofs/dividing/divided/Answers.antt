@@ -1,7 +1,5 @@
-use Rattle.std.proofs.Common.{◌≡◌, ◌∙◌, ◌<◌, ◌*◌, [], replicate, length, slice_index_or, All, sym, ap, subst, arith}
-use Rattle.std.proofs.lemmas.List.{length-replicate, get_or-replicate}
-use Rattle.cfi_word.specs.declared.limits.TheConstants.{MAX_FIELDS}
-use Rattle.cfi_types.specs.inner.Division.{AreClear, KeepTogether}
+use Rattle.std.proofs.Common.{◌<◌, [], length, slice_index_or, All, sym, subst, arith}
+use Rattle.cfi_types.specs.inner.Division.{KeepTogether}
 use Rattle.cfi_types.proofs.LeadLemmas.{places_within, all_tell, all_below, gathers_of}
 use Rattle.cfi_types.proofs.LeastLemmas.{names_keep}
 use Rattle.cfi_types.proofs.KeepLemmas.{together, none_hit}

@@ -1,4 +1,3 @@
-use Rattle.std.proofs.Common.{◌≡◌, length}
 use Rattle.cfi_word.specs.declared.limits.TheConstants.{MAX_FIELDS}
 use Rattle.cfi_types.specs.inner.Division.{AreClear, KeepTogether}
 use Rattle.cfi_types.specs.inner.Whole.{IsWhole}

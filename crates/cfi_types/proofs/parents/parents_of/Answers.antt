@@ -1,4 +1,4 @@
-use Rattle.std.proofs.Common.{◌≡◌, ◌∙◌, [], ap, length, replicate}
+use Rattle.std.proofs.Common.{◌≡◌, ◌∙◌, [], ap}
 use Rattle.std.proofs.lemmas.List.{get_or_read}
 use Rattle.cfi_types.specs.Node.{make_node}
 use Rattle.cfi_types.specs.Kind.{nodes_of}

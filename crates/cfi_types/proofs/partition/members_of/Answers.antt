@@ -1,5 +1,5 @@
-use Rattle.std.proofs.Common.{◌<◌, ◌+◌, ◌≡◌, List, ℕ, get_or, length, sym, subst, arith}
-use Rattle.cfi_types.proofs.DivisionLemmas.{ListedSoFar, none_listed, one_listed, all_listed}
+use Rattle.std.proofs.Common.{◌<◌, ◌+◌, List, ℕ, get_or, length, sym, subst, arith}
+use Rattle.cfi_types.proofs.DivisionLemmas.{ListedSoFar, none_listed, one_listed}
 use Rattle.cfi_types.proofs.partition.members_of.Goals as goal
 
 pub loop-node-init : goal.loop-node-init

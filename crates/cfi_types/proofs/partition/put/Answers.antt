@@ -1,4 +1,4 @@
-use Rattle.std.proofs.Common.{◌≡◌, ◌∙◌, ◌+◌, ◌<◌, ◌++◌, ◌∷◌, [], ℕ, List, length, take, set, get_or, map, vec_len, refl, sym, ap, subst, arith, rules}
+use Rattle.std.proofs.Common.{◌≡◌, ◌∙◌, ◌+◌, ◌<◌, ◌++◌, ◌∷◌, [], ℕ, List, length, take, set, get_or, vec_len, refl, sym, ap, subst, arith, rules}
 use Rattle.std.proofs.lemmas.List.{get_or_read, get_or-map, length-map}
 use Rattle.cfi_types.specs.inner.Division.{IsPut, AreListed}
 use Rattle.cfi_types.proofs.DivisionLemmas.{none_put, put_same, put_more, listed_more}

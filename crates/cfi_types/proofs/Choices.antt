@@ -1,7 +1,7 @@
 -- Tests that are put together, and what is true of one number more.
-use Rattle.std.proofs.Common.{◌≡◌, ◌∙◌, ℕ, ◌+◌, ◌<◌, Bool, true, false, ltb, eqb, refl, sym, ap, arith, inl, inr}
-use Rattle.std.specs.Prelude.{◌||◌, ◌&&◌, ◌↔◌}
-use Rattle.std.proofs.lemmas.Bool.{cases_order, cases_Bool, lt-ltb, le-ltb, eq-eqb, ne_eqb}
+use Rattle.std.proofs.Common.{◌≡◌, ℕ, ◌+◌, Bool, true, false, ltb, eqb, refl, sym, ap, arith, inl, inr}
+use Rattle.std.specs.Prelude.{◌||◌, ◌&&◌}
+use Rattle.std.proofs.lemmas.Bool.{cases_order, lt-ltb, le-ltb, eq-eqb, ne_eqb}
 
 pub or_false : (b : Bool) → (b || false) ≡ b
 or_false true = refl
