@@ -37,6 +37,8 @@ fn find(guest: &mut Guest, image: &Image)
 /// The image is closed, and its table words are those of epoch 0 and policy 0. The guest waits for nothing, has
 /// logged no policy but 0, and has stopped or stands at a start; with `fuel` instructions behind it it stops with Fuel.
 /// `None` where it has stopped. It takes no memory.
+// Out of line: inside a larger function its loop would keep the code's address on the stack.
+#[inline(never)]
 pub fn run_fixed(guest: &mut Guest, image: &Image, fuel: u32) -> Option<u32>
     requires can { CanRunOver image.now fuel guest.old }
     requires fuel { fuel < u32.MAX }

@@ -1,6 +1,6 @@
 // Instructions on registers alone.
 
-ghost use Rattle.std.specs.Prelude.{◌≡◌, ◌+◌, ◌<◌, ◌^◌};
+ghost use Rattle.std.specs.Prelude.{◌≡◌, ◌+◌, ◌<◌, ◌^◌, ◌||◌};
 ghost use Rattle.rv_insn.specs.declared.opcode.TheConstants as opcodes;
 ghost use Rattle.rv_insn.specs.InsnOf.{row_of};
 ghost use Rattle.cfi_unit.specs.declared.unit.TheConstants.{FREE_REGISTERS};
@@ -24,6 +24,14 @@ pub fn is_own(k: u32) -> bool
     FREE_REGISTERS <= k
 }
 
+// Whether one of two registers is: one test of the larger number in place of two.
+#[inline(always)]
+fn is_one_own(a: u32, b: u32) -> bool
+    ensures { result ≡ (is_reserved a || is_reserved b) }
+{
+    is_own(a.max(b))
+}
+
 impl Guest {
     // Counts an instruction, which names a register of the instrumentation or not, and goes on.
     #[inline(always)]
@@ -45,8 +53,8 @@ impl Guest {
         requires rd { rd < 32 }
         ensures { self.new ≡ ran (next self.old) (units_of reserved) (with_reg self.old rd value) }
     {
-        self.regs.write(rd, value);
         self.go_to(self.pc.wrapping_add(4), reserved);
+        self.regs.write(rd, value);
     }
 
     #[inline(always)]
@@ -100,7 +108,7 @@ impl Guest {
             return Act::Done;
         };
         let value = op_value(op, x, y);
-        self.give(f.rd, value, is_own(f.rd) || is_own(f.rs1) || is_own(f.rs2));
+        self.give(f.rd, value, is_own(f.rd) || is_one_own(f.rs1, f.rs2));
         Act::Done
     }
 
