@@ -1,5 +1,5 @@
 -- What a unit leaves of the log's last policy and of the stop, and an access of the kept Bary word and of the count.
-use Rattle.std.proofs.Common.{◌≡◌, ◌≢◌, ℕ, ◌+◌, ◌≤◌, ◌==◌, ◌&&◌, ◌||◌, Bool, true, false, cond, List, [], ◌∷◌, ◌++◌, Option, Some, None, refl, sym, ◌∙◌, ap, subst, arith, rules}
+use Rattle.std.proofs.Common.{◌≡◌, ◌≢◌, ℕ, ◌+◌, ◌≤◌, ◌==◌, ◌||◌, Bool, true, false, cond, List, [], ◌∷◌, ◌++◌, Option, Some, None, refl, arith, rules}
 use Rattle.rv_insn.specs.declared.insn.Insn.{Insn}
 use Rattle.rv_insn.specs.declared.insn.Insn.TheVariants as insns
 use Rattle.rv_insn.specs.declared.insn.LoadKind.{LoadKind}
@@ -121,7 +121,7 @@ module _ (r : Raw) where
   store_keeps : (area : Area) (kind : StoreKind) (value : ℕ) → KeepsBary r (store_at area kind value r)
   store_keeps (Private offset) kind value =
       let on : Raw = ran (next r) 1
-          (record r { base = record r.base { memory = stored kind r.base.memory offset value } }) in
+      (record r { base = record r.base { memory = stored kind r.base.memory offset value } }) in
       either (is_aligned (store_width kind) offset) r on (stopped (stops.Align (DATA_START + offset)) r)
       (λ word e. e) (λ word e. e)
   store_keeps (TaryId address) kind value = λ word e. e

@@ -1,5 +1,5 @@
 -- A guest runs on where the history and the code grow.
-use Rattle.std.proofs.Common.{◌≡◌, ◌≢◌, ℕ, ◌+◌, ◌/◌, ◌%◌, List, [], ◌∷◌, length, slice_index, Option, Some, None, refl, sym, ◌∙◌, ap, subst, arith, inl, inr}
+use Rattle.std.proofs.Common.{◌≡◌, ◌≢◌, ℕ, ◌+◌, ◌/◌, ◌%◌, List, [], ◌∷◌, slice_index, Option, Some, None, refl, sym, ◌∙◌, ap, subst, arith, inl, inr}
 use Rattle.rv_insn.specs.InsnOf.{insn_of}
 use Rattle.cfi_unit.specs.declared.unit.Unit.{Unit as CodeUnit}
 use Rattle.cfi_word.specs.Word.{packed, epoch_in}
@@ -10,10 +10,10 @@ use Rattle.cfi_model.specs.Closed.{IsStartIn}
 use Rattle.cfi_model.specs.State.{State}
 use Rattle.cfi_model.specs.Raw.{Raw}
 use Rattle.cfi_model.specs.Run.{Take, Word, Served, take_one}
-use Rattle.cfi_model.specs.History.{History, IsEpoch, IsSeen, IsStart, IsHistory, IsTableWord, IsBaryWord, IsTaryWord, IsFair, slot_class, target_class}
-use Rattle.cfi_model.specs.Fits.{FitsTary, FitsWord, Fits, Along}
+use Rattle.cfi_model.specs.History.{History, IsEpoch, IsSeen, IsStart, IsHistory, IsBaryWord, IsTaryWord, IsFair, slot_class, target_class}
+use Rattle.cfi_model.specs.Fits.{FitsWord, Fits, Along}
 use Rattle.cfi_model.specs.Shows.{Stands}
-use Rattle.cfi_model.specs.Running.{IsHeld, IsResting, IsRunning, Extends, Keeps}
+use Rattle.cfi_model.specs.Running.{IsResting, IsRunning, Extends, Keeps}
 use Rattle.cfi_model.proofs.AdvanceLemmas.{Running, advance}
 use Rattle.cfi_model.proofs.IdLemmas.{seen_of}
 use Rattle.cfi_model.proofs.StartLemmas.{begins_on}

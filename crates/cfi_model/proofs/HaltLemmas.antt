@@ -1,5 +1,5 @@
 -- Which units stop a guest with Halt.
-use Rattle.std.proofs.Common.{◌≡◌, ◌≢◌, ℕ, ◌==◌, ◌&&◌, ℤ, Bool, true, false, cond, List, Option, Some, None, refl, sym, ◌∙◌, ap, subst, rules, arith}
+use Rattle.std.proofs.Common.{◌≡◌, ◌≢◌, ℕ, ◌==◌, ◌&&◌, Bool, true, false, cond, List, Option, Some, None, refl, sym, ◌∙◌, ap, subst, rules, arith}
 use Rattle.cfi_unit.specs.declared.log.Stop.{Stop}
 use Rattle.cfi_unit.specs.declared.log.Stop.TheVariants as stops
 use Rattle.cfi_unit.specs.declared.unit.Unit.{Unit as CodeUnit}
@@ -8,7 +8,7 @@ use Rattle.cfi_model.specs.Effect.{effect, is_in_code}
 use Rattle.cfi_model.specs.History.{History, IsEpoch, slot_class, target_class, allows_at}
 use Rattle.cfi_model.specs.Running.{HasApartClasses, IsForbidden}
 use Rattle.cfi_model.specs.Service.{Reply, Service, Ends, Puts, Quiets, Opens, Unknown, service_of, asked, served_stop}
-use Rattle.cfi_model.specs.Shows.{Stands, End, AsksUnder, IsTriedIn, IsStep}
+use Rattle.cfi_model.specs.Shows.{Stands, End, AsksUnder, IsStep}
 use Rattle.cfi_model.specs.State.{State, register, displaced}
 
 none_halts : (o : Option Stop) (target : ℕ) → o ≡ None → o ≡ Some (stops.Halt target) → ⊥

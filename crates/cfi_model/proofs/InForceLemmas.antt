@@ -1,5 +1,5 @@
 -- The history of tables, and what their words are in it.
-use Rattle.std.proofs.Common.{◌≡◌, ◌≢◌, ℕ, zero, suc, ◌+◌, ◌-◌, ◌*◌, ◌/◌, ◌<◌, ◌≤◌, nat_lt, cond, Bool, true, false, inl, inr, refl, sym, ap, subst, ◌∙◌, arith, length, slice_index, List, Option, Some, None}
+use Rattle.std.proofs.Common.{◌≡◌, ◌≢◌, ℕ, zero, suc, ◌+◌, ◌-◌, ◌/◌, ◌<◌, ◌≤◌, nat_lt, cond, Bool, true, false, inl, inr, refl, sym, ap, subst, ◌∙◌, arith, length, slice_index}
 use Rattle.std.proofs.lemmas.Bool.{cases_lt, lt-ltb, le-ltb}
 use Rattle.std.proofs.lemmas.List.{get_or_past}
 use Rattle.std.proofs.lemmas.Bool.Decides.{nat_tests}
@@ -9,11 +9,11 @@ use Rattle.cfi_word.specs.Word.{packed, epoch_in, policy_in}
 use Rattle.cfi_word.proofs.WordLemmas.{policy_in-packed, epoch_in-packed}
 use Rattle.cfi_model.specs.declared.history.Entry.{Entry}
 use Rattle.cfi_model.specs.Closed.{HasClasses, IsClosed}
-use Rattle.cfi_model.specs.History.{History, IsEpoch, IsSeen, IsHistory, IsBaryWord, IsTaryWord, target_class}
+use Rattle.cfi_model.specs.History.{IsEpoch, IsSeen, IsHistory, IsBaryWord, IsTaryWord}
 use Rattle.cfi_model.specs.InForce.{GoesOn, in_force, history_of, code_in_force, tary_index}
 use Rattle.cfi_model.specs.Running.{Extends, Keeps}
-use Rattle.cfi_model.specs.Tables.{IsTables, IsUpdate, IsRefresh, IsLoad, KeepsCode}
-use Rattle.cfi_model.specs.Words.{Tables, entry_at, epoch_in_force, policy_in_force, is_stored, newest, before, number_at, rank_at, word_at}
+use Rattle.cfi_model.specs.Tables.{IsTables, IsUpdate, KeepsCode}
+use Rattle.cfi_model.specs.Words.{Tables, entry_at, epoch_in_force, policy_in_force, is_stored, number_at, rank_at, word_at}
 use Rattle.cfi_model.proofs.TableLemmas.{number_within, packable, force_epoch, force_policy}
 
 -- an update keeps the code, and its policy is not below the one before
@@ -63,9 +63,11 @@ module _ (t : Tables) (is : IsTables t) where
       let step : IsUpdate t.code_words (entry_at t k) (entry_at t (k + 1)) = is.follow k inside in
       let rises : (entry_at t k).policy ≤ (entry_at t (k + 1)).policy = update_rises t.code_words _ _ step in
       subst (λ j. KeepsCode (entry_at t n).image (entry_at t j).image × ((entry_at t n).policy ≤ (entry_at t j).policy))
-      (sym last)
-      (keeps_on (entry_at t n).image (entry_at t k).image (entry_at t (k + 1)).image first.0
-      (update_keeps t.code_words _ _ step), omega (arith, first.1, rises))
+      (sym last) (
+        keeps_on (entry_at t n).image (entry_at t k).image (entry_at t (k + 1)).image first.0
+            (update_keeps t.code_words _ _ step),
+        omega (arith, first.1, rises),
+      )
 
   pub later_keeps : (n m : ℕ) → n ≤ m → m < length t.entries → KeepsCode (entry_at t n).image (entry_at t m).image
   later_keeps n m up within = (chain (m - n) n m (omega (arith, up)) within).0
@@ -197,7 +199,7 @@ module _ (t : Tables) (is : IsTables t) where
   none_first : (image : Image) → IsClosed t.code_words image → slice_index image.tary 0 ≡ 0
   none_first image closed = elim (cases_lt 0 (slice_index image.tary 0)) [
     | inl some ↦ (let start = closed.1.targets 0 (λ none. absurd (omega (arith, some, none))) in
-      absurd (omega (arith, start.2)))
+        absurd (omega (arith, start.2)))
     | inr none ↦ omega (arith, none)
   ]
 

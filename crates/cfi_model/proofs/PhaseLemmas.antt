@@ -1,9 +1,9 @@
 -- Which words are new in each phase.
-use Rattle.std.proofs.Common.{◌≡◌, ◌≢◌, ℕ, ◌+◌, ◌-◌, ◌*◌, ◌<◌, ◌≤◌, ◌⊎◌, nat_lt, ◌==◌, cond, Bool, true, false, inl, inr, refl, sym, ap, subst, ◌∙◌, arith, rules, Option, Some, None}
+use Rattle.std.proofs.Common.{◌≡◌, ◌≢◌, ℕ, ◌+◌, ◌*◌, ◌<◌, ◌≤◌, nat_lt, ◌==◌, cond, Bool, true, false, inl, inr, refl, sym, ap, ◌∙◌, arith, Option, Some, None}
 use Rattle.std.specs.Prelude.{⊤}
 use Rattle.std.proofs.lemmas.Bool.{cases_lt}
 use Rattle.std.proofs.lemmas.Bool.Decides.{nat_tests}
-use Rattle.cfi_word.specs.Table.{Place, Epoch, Quiet, Code, Tary, Bary, IsPlace, word_number, slots_of}
+use Rattle.cfi_word.specs.Table.{Place, Epoch, Quiet, Code, Tary, Bary, IsPlace, word_number}
 use Rattle.cfi_word.specs.Rank.{rank, IsStored, stores_of}
 use Rattle.cfi_word.proofs.RankLemmas.{rank-code, rank-tary, rank-epoch, rank-bary}
 use Rattle.cfi_model.specs.declared.history.Entry.{Entry}
@@ -11,7 +11,7 @@ use Rattle.cfi_model.specs.declared.phase.Phase.{Phase}
 use Rattle.cfi_model.specs.declared.phase.Phase.TheVariants as phases
 use Rattle.cfi_model.specs.Words.{Tables, rank_at, is_stored, word_at, word_of_entry, newest, before}
 use Rattle.cfi_model.specs.Phases.{phase_after, phase_by, phase_of, is_newest, number_in, one_more}
-use Rattle.cfi_model.specs.Tables.{IsTables, IsAsked, MayBeAsked}
+use Rattle.cfi_model.specs.Tables.{IsTables, MayBeAsked}
 
 -- the phase after so many stores, row by row
 abbrev pub IsRow : (code_words stored : ℕ) → Phase → Type 0

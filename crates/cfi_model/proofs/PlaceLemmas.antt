@@ -1,5 +1,5 @@
 -- Where within a unit a guest stands, and where it stands when it has stopped.
-use Rattle.std.proofs.Common.{◌≡◌, ◌≢◌, ℕ, ◌+◌, ◌*◌, ◌<◌, ◌==◌, ◌||◌, Bool, true, false, cond, Option, Some, None, List, refl, sym, ◌∙◌, ap, subst, arith}
+use Rattle.std.proofs.Common.{◌≡◌, ◌≢◌, ℕ, ◌+◌, ◌==◌, ◌||◌, Bool, true, false, cond, Option, Some, None, refl, sym, ◌∙◌, ap, subst, arith}
 use Rattle.std.specs.Prelude.{⊤}
 use Rattle.rv_insn.specs.declared.insn.Insn.{Insn}
 use Rattle.rv_insn.specs.declared.insn.Insn.TheVariants as insns
@@ -132,7 +132,7 @@ module _ (r : Raw) (going : r.base.stop ≡ None) where
   store_stays : (area : Area) (kind : StoreKind) (value : ℕ) → StaysPut r (store_at area kind value r)
   store_stays (Private offset) kind value =
       let on : Raw = ran (next r) 1
-          (record r { base = record r.base { memory = stored kind r.base.memory offset value } }) in
+      (record r { base = record r.base { memory = stored kind r.base.memory offset value } }) in
       either (is_aligned (store_width kind) offset) r on (stopped (stops.Align (DATA_START + offset)) r)
       (goes r on going) (λ stops. refl)
   store_stays (TaryId address) kind value = λ stops. refl

@@ -1,5 +1,5 @@
 -- A running guest, one access after the other.
-use Rattle.std.proofs.Common.{◌≡◌, ◌≢◌, ℕ, ◌+◌, List, [], ◌∷◌, ◌++◌, None, refl, sym, ◌∙◌, ap, subst, arith, ◌⊎◌, inl, inr}
+use Rattle.std.proofs.Common.{◌≡◌, ℕ, ◌+◌, List, [], ◌∷◌, ◌++◌, None, refl, sym, ◌∙◌, ap, subst, ◌⊎◌, inl, inr}
 use Rattle.rv_insn.specs.InsnOf.{insn_of}
 use Rattle.cfi_unit.specs.declared.fill.Fill.{Fill}
 use Rattle.cfi_model.specs.Begin.{HasStepBy}
@@ -13,7 +13,7 @@ use Rattle.cfi_model.specs.Running.{IsResting, IsRunning, EndsUnit}
 use Rattle.cfi_model.proofs.AdvanceLemmas.{Running, advance}
 use Rattle.cfi_model.proofs.EndLemmas.{effect_units, none_ended, one_ended}
 use Rattle.cfi_model.proofs.FixedLemmas.{opened_ready}
-use Rattle.cfi_model.proofs.LawLemmas.{Ended, Begun, At}
+use Rattle.cfi_model.proofs.LawLemmas.{Ended}
 use Rattle.cfi_model.proofs.ShownLemmas.{shows_running, shows_units}
 use Rattle.cfi_model.proofs.SnocLemmas.{no_first, run_snoc, along_snoc, unended_snoc}
 use Rattle.cfi_model.proofs.StuckLemmas.{running_has}

@@ -1,12 +1,12 @@
 -- Tables, and the words that tell what is in force.
-use Rattle.std.proofs.Common.{◌≡◌, ◌≢◌, ℕ, ◌+◌, ◌-◌, ◌*◌, ◌<◌, ◌≤◌, nat_lt, cond, Bool, true, false, refl, sym, ap, subst, ◌∙◌, arith, length}
+use Rattle.std.proofs.Common.{◌≡◌, ℕ, ◌+◌, ◌-◌, ◌<◌, ◌≤◌, cond, Bool, true, false, sym, ap, subst, arith, length}
 use Rattle.cfi_word.specs.declared.lists.Image.{Image}
 use Rattle.cfi_word.specs.declared.limits.TheConstants.{MIN_VERSIONS, MAX_VERSIONS, MAX_EPOCH}
-use Rattle.cfi_word.specs.Word.{IsPackable, epoch_in, policy_in}
+use Rattle.cfi_word.specs.Word.{IsPackable}
 use Rattle.cfi_word.specs.Table.{IsSize, Epoch}
 use Rattle.cfi_word.proofs.WordLemmas.{policy_in-packed, epoch_in-packed}
 use Rattle.cfi_model.specs.Closed.{IsClosed}
-use Rattle.cfi_model.specs.Words.{Tables, entry_at, epoch_in_force, policy_in_force, is_stored, newest, before, number_at, next_epoch, opened_tables}
+use Rattle.cfi_model.specs.Words.{Tables, entry_at, epoch_in_force, policy_in_force, is_stored, newest, before, number_at, opened_tables}
 use Rattle.cfi_model.specs.Tables.{IsTables}
 use Rattle.cfi_model.specs.World.{first_entry}
 

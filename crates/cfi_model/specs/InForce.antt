@@ -1,7 +1,6 @@
 -- The history of tables, as the law of a running guest takes it, and how tables go on.
 use Rattle.std.specs.Prelude.{◌≡◌, ℕ, ◌+◌, ◌-◌, ◌/◌, ◌≤◌, ◌<◌, nat_lt, if◌then◌else◌, List, length}
 use Rattle.cfi_word.specs.Table.{Epoch}
-use Rattle.cfi_model.specs.declared.history.Entry.{Entry}
 use Rattle.cfi_model.specs.History.{History}
 use Rattle.cfi_model.specs.Words.{Tables, entry_at, number_at}
 

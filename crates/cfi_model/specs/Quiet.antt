@@ -1,6 +1,6 @@
 -- QUIET words, quiescent points, and which updates are admitted (MCFI, Niu and Tan, PLDI 2014: a version is used again
 -- only when no check can still hold a word of the epoch that had it).
-use Rattle.std.specs.Prelude.{◌≡◌, ℕ, ◌+◌, ◌-◌, nat_le, Bool, true}
+use Rattle.std.specs.Prelude.{ℕ, ◌+◌, ◌-◌, nat_le, Bool, true}
 use Rattle.cfi_model.specs.declared.quiet.Quiet.{Quiet}
 use Rattle.cfi_model.specs.declared.quiet.Quiet.TheVariants.{Unregistered, Published}
 

@@ -1,6 +1,6 @@
 -- The law of a running guest, one access after the other: where it starts, what one access makes of it, and that it goes
 -- on where the history and the code grow.
-use Rattle.std.specs.Prelude.{◌≡◌, ◌≢◌, ℕ, ℤ, Bool, true, ◌+◌, ◌*◌, ◌<◌, ◌≤◌, ◌⊎◌, List, [], length, slice_index, Option, Some, None}
+use Rattle.std.specs.Prelude.{◌≡◌, ◌≢◌, ℕ, ℤ, Bool, true, ◌+◌, ◌≤◌, ◌⊎◌, List, [], length, slice_index, Some, None}
 use Rattle.rv_insn.specs.InsnOf.{insn_of}
 use Rattle.cfi_unit.specs.declared.fill.Fill.{Fill}
 use Rattle.cfi_unit.specs.declared.log.Stop.TheVariants as stops

@@ -1,23 +1,20 @@
 -- A seat at a later moment of the tables, when its guest has had no event.
-use Rattle.std.proofs.Common.{◌≡◌, ◌≢◌, ℕ, ◌+◌, ◌<◌, ◌≤◌, List, Option, Some, None, refl, sym, ◌∙◌, ap, subst, arith, ⊎_elim, ◌⊎◌, inl, inr}
-use Rattle.cfi_word.specs.Table.{Epoch}
+use Rattle.std.proofs.Common.{◌≡◌, ◌≢◌, ℕ, ◌+◌, ◌<◌, ◌≤◌, None, refl, arith, inl, inr}
 use Rattle.cfi_model.specs.declared.quiet.Point.{Point}
 use Rattle.cfi_model.specs.declared.quiet.Point.TheVariants.{Outside, Found, Asking}
 use Rattle.cfi_model.specs.declared.quiet.Quiet.{Quiet}
 use Rattle.cfi_model.specs.declared.quiet.Quiet.TheVariants.{Unregistered, Published}
-use Rattle.cfi_model.specs.InForce.{in_force, history_of, code_in_force, GoesOn}
-use Rattle.cfi_model.specs.History.{History}
+use Rattle.cfi_model.specs.InForce.{history_of, code_in_force, GoesOn}
 use Rattle.cfi_model.specs.Raw.{Raw}
 use Rattle.cfi_model.specs.Running.{IsGuest}
 use Rattle.cfi_model.specs.State.{State}
 use Rattle.cfi_model.specs.Tables.{IsTables}
-use Rattle.cfi_model.specs.Words.{Tables, entry_at, next_epoch, epoch_in_force, policy_in_force}
+use Rattle.cfi_model.specs.Words.{Tables, next_epoch}
 use Rattle.cfi_model.proofs.InForceLemmas.{history_is, extends, keeps, force_rises, policy_rises}
 use Rattle.cfi_model.proofs.GrowLemmas.{running_grows}
-use Rattle.cfi_model.proofs.TableLemmas.{force_epoch, force_policy}
 use Rattle.cfi_world.proofs.SeatLemmas.{AreSeated}
 use Rattle.cfi_world.specs.Seats.{Seat}
-use Rattle.cfi_world.specs.Worlds.{IsQuietSince, IsKeptSince, QuietFits, FitsPoint}
+use Rattle.cfi_world.specs.Worlds.{IsQuietSince, QuietFits, FitsPoint}
 
 module _ (t u : Tables) (is : IsTables t) (later : IsTables u) (on : GoesOn t u) where
   -- the update has come no further than the guest's quiescent point lets it
@@ -31,8 +28,12 @@ module _ (t u : Tables) (is : IsTables t) (later : IsTables u) (on : GoesOn t u)
       inl (running_grows (history_of t) (history_of u) (extends t u is later on) (code_in_force t) (code_in_force u)
       (keeps t u is later on) (history_is t is) retries s r runs)
   guest_later retries s r (inr over) =
-      inr (over.0, running_grows (history_of t) (history_of u) (extends t u is later on) (code_in_force t)
-      (code_in_force u) (keeps t u is later on) (history_is t is) retries s over.0 over.1, over.2)
+      inr (
+        over.0,
+        running_grows (history_of t) (history_of u) (extends t u is later on) (code_in_force t)
+            (code_in_force u) (keeps t u is later on) (history_is t is) retries s over.0 over.1,
+        over.2,
+      )
 
   quiet_later : (guest : ℕ) (r : Raw) (quiet : Quiet)
       → ((q : ℕ) → quiet ≡ Published q → IsQuietSince t guest r q → IsAdmittedAt guest q) → QuietFits t guest r quiet → QuietFits u guest r quiet

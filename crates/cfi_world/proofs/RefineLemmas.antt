@@ -1,8 +1,8 @@
 -- Every event refines what a guest shows, and what loads find.
-use Rattle.std.proofs.Common.{◌≡◌, ◌≢◌, ℕ, ◌+◌, ◌-◌, ◌*◌, ◌%◌, ◌<◌, ◌≤◌, ◌==◌, ◌&&◌, ◌||◌, nat_lt, nat_le, cond, Bool, true, false, List, [], ◌∷◌, ◌++◌, length, length-set, slice_get, slice_set, is_some, Option, Some, None, refl, sym, ◌∙◌, ap, subst, arith, rules, ◌⊎◌, inl, inr}
+use Rattle.std.proofs.Common.{◌≡◌, ◌≢◌, ℕ, ◌+◌, ◌-◌, ◌%◌, ◌<◌, ◌≤◌, ◌==◌, ◌||◌, nat_lt, nat_le, cond, Bool, true, false, List, length, length-set, slice_get, slice_set, is_some, Option, Some, None, refl, sym, ◌∙◌, ap, subst, arith, rules, ◌⊎◌, inl, inr}
 use Rattle.std.proofs.lemmas.Bool.{cases_lt, cases_eq, lt-ltb, le-ltb}
 use Rattle.std.proofs.lemmas.List.{get_or-set_same, get_or-set_other}
-use Rattle.std.proofs.lemmas.Option.{slice_get_within, slice_get-get_or, get_or_from_slice_get, slice_get_past}
+use Rattle.std.proofs.lemmas.Option.{slice_get_within, slice_get-get_or, slice_get_past}
 use Rattle.cfi_word.specs.declared.lists.Image.{Image}
 use Rattle.cfi_word.specs.declared.limits.TheConstants.{GUESTS, MAX_EPOCH}
 use Rattle.cfi_word.specs.Rank.{stores_of}
@@ -11,7 +11,6 @@ use Rattle.cfi_word.specs.Word.{epoch_in}
 use Rattle.cfi_model.specs.declared.history.Entry.{Entry}
 use Rattle.cfi_model.specs.declared.phase.Phase.{Phase}
 use Rattle.cfi_model.specs.declared.phase.Phase.TheVariants as phases
-use Rattle.cfi_model.specs.declared.quiet.Point.TheVariants.{Outside}
 use Rattle.cfi_model.specs.declared.quiet.Quiet.{Quiet}
 use Rattle.cfi_model.specs.declared.quiet.Quiet.TheVariants.{Unregistered, Published}
 use Rattle.cfi_model.specs.InForce.{GoesOn, history_of, code_in_force, tary_index}
@@ -27,17 +26,17 @@ use Rattle.cfi_model.specs.Words.{Tables, epoch_in_force, policy_in_force, next_
 use Rattle.cfi_model.specs.World.{World, quiet_of, point_of}
 use Rattle.cfi_model.proofs.InForceLemmas.{force_rises, policy_rises, bary_epoch, bary_epoch_is, tary_epoch, tary_epoch_is, index_within}
 use Rattle.cfi_model.proofs.TableLemmas.{force_epoch}
-use Rattle.cfi_world.specs.Laws.{IsStepped, IsRefined, IsAnothers, IsUpdates, IsBaryLoad, IsTaryLoad, IsRefusal}
-use Rattle.cfi_world.specs.Premises.{HasRoom, MayAnswer, MayTurn}
+use Rattle.cfi_world.specs.Laws.{IsRefined, IsAnothers, IsUpdates, IsBaryLoad, IsTaryLoad, IsRefusal}
+use Rattle.cfi_world.specs.Premises.{MayAnswer, MayTurn}
 use Rattle.cfi_world.specs.Seats.{Seat, seat_of, with_seat, seat_after, rested, is_asking}
-use Rattle.cfi_world.specs.Turns.{Turn, did, nothing, seated, guest_turn, begin_turn, tested_turn, refused, update_turn, answered, answer_turn, is_registered, release_turn, reply_in, turn_of}
-use Rattle.cfi_world.specs.Updates.{is_idle, begun, at_store, passed_by}
+use Rattle.cfi_world.specs.Turns.{Turn, did, nothing, seated, guest_turn, begin_turn, refused, update_turn, answered, answer_turn, release_turn, reply_in, turn_of}
+use Rattle.cfi_world.specs.Updates.{is_idle, begun, passed_by}
 use Rattle.cfi_world.specs.Worlds.{IsWorld, QuietFits}
 use Rattle.cfi_world.specs.declared.event.Event.{Event}
 use Rattle.cfi_world.specs.declared.event.Event.TheVariants as events
 use Rattle.cfi_world.specs.declared.event.Turned.TheVariants.{EpochsSpent, VersionsSpent}
 use Rattle.cfi_world.proofs.LaterLemmas.{guest_later}
-use Rattle.cfi_world.proofs.SeatLemmas.{AreSeated, HasGone, fair_word}
+use Rattle.cfi_world.proofs.SeatLemmas.{AreSeated, fair_word}
 use Rattle.cfi_world.proofs.ServiceLemmas as service
 use Rattle.cfi_world.proofs.UpdateLemmas.{begun_on, dropped_on, stored_on, tested_on, begins_on}
 use Rattle.cfi_world.proofs.WorldLemmas.{seated_in, turn_kept, testing_is, neither, not_some, asks_it}
@@ -164,7 +163,7 @@ module _ (w : World) where
 
   begin_stays : (other : ℕ) (idle spent : Bool) (new : World) → slice_get new.guests other ≡ slice_get w.guests other
       → slice_get (cond idle (cond spent (record { world = w; answer = EpochsSpent }) (did new)) (nothing w)).world.guests
-        other ≡ slice_get w.guests other
+      other ≡ slice_get w.guests other
   begin_stays other true true new same = refl
   begin_stays other true false new same = same
   begin_stays other false spent new same = refl
@@ -320,9 +319,10 @@ pub force_stays : (w : World) (is : IsWorld w) (event : Event) → MayTurn w eve
     × (policy_in_force w.tables ≤ policy_in_force (turn_of w event).world.tables)
 force_stays w is event may =
     let later = (turn_kept w is event may).tables in
-    let on = turn_on w is event in
-    (force_rises w.tables (turn_of w event).world.tables is.tables later on,
-    policy_rises w.tables (turn_of w event).world.tables is.tables later on)
+    let on = turn_on w is event in (
+      force_rises w.tables (turn_of w event).world.tables is.tables later on,
+      policy_rises w.tables (turn_of w event).world.tables is.tables later on,
+    )
 
 -- a word is of the newest entry, or of the one before
 number_cases : (t : Tables) (place : Place)
@@ -414,7 +414,7 @@ module _ (w : World) (is : IsWorld w) (guest quiet : ℕ) where
   tested_by : (k : ℕ) → k ≡ w.tables.tested → (lets : Bool)
       → admits w.tables.versions (next_epoch w.tables) (quiet_of w k) ≡ lets
       → (cond lets (did (record w { tables = passed_by w.tables.asked w.tables }))
-        (refused w k (quiet_of w k))).answer ≡ VersionsSpent guest quiet → IsRefusal w guest quiet
+      (refused w k (quiet_of w k))).answer ≡ VersionsSpent guest quiet → IsRefusal w guest quiet
   tested_by k is_tested true e answer = absurd (cc)
   tested_by k is_tested false e answer = refused_by k is_tested (quiet_of w k) refl e answer
 

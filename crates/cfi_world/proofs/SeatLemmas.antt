@@ -1,34 +1,34 @@
 -- A guest's own events leave what holds of its seat.
-use Rattle.std.proofs.Common.{◌≡◌, ◌≢◌, ℕ, zero, suc, ◌+◌, ◌-◌, ◌*◌, ◌/◌, ◌%◌, ◌<◌, ◌≤◌, ◌==◌, ◌&&◌, nat_lt, Bool, true, false, cond, is_none, List, [], length, slice_index, Option, Some, None, refl, sym, ◌∙◌, ap, subst, arith, rules, ◌⊎◌, inl, inr, if◌then◌else◌}
-use Rattle.std.proofs.lemmas.Bool.{cases_lt, cases_eq, lt-ltb, le-ltb}
+use Rattle.std.proofs.Common.{◌≡◌, ◌≢◌, ℕ, suc, ◌+◌, ◌-◌, ◌*◌, ◌/◌, ◌%◌, ◌<◌, ◌≤◌, ◌==◌, ◌&&◌, Bool, true, false, cond, is_none, List, slice_index, Option, Some, None, refl, sym, ◌∙◌, ap, subst, arith, rules, ◌⊎◌, inl, inr}
+use Rattle.std.proofs.lemmas.Bool.{cases_lt}
 use Rattle.std.proofs.lemmas.Nat.{div-add-mod'}
 use Rattle.std.proofs.Math.Nat.{mul-le-mul_right, suc-mul}
 use Rattle.rv_insn.specs.InsnOf.{insn_of}
 use Rattle.cfi_unit.specs.declared.log.Stop.TheVariants.{Fuel}
 use Rattle.cfi_unit.specs.declared.unit.Unit.{Unit as CodeUnit}
 use Rattle.cfi_unit.specs.declared.unit.Unit.TheVariants as units
-use Rattle.cfi_word.specs.Table.{Epoch, Code, Tary, Bary}
-use Rattle.cfi_word.specs.Word.{epoch_in, policy_in}
+use Rattle.cfi_word.specs.Table.{Code, Tary, Bary}
+use Rattle.cfi_word.specs.Word.{epoch_in}
 use Rattle.cfi_model.specs.declared.act.Wait.{Wait}
 use Rattle.cfi_model.specs.declared.act.Wait.TheVariants as waits
 use Rattle.cfi_model.specs.declared.quiet.Point.{Point}
 use Rattle.cfi_model.specs.declared.quiet.Point.TheVariants.{Outside, Found, Asking}
 use Rattle.cfi_model.specs.declared.quiet.Quiet.{Quiet}
 use Rattle.cfi_model.specs.declared.quiet.Quiet.TheVariants.{Unregistered, Published}
-use Rattle.cfi_model.specs.Begin.{HasStepBy, begin_of}
+use Rattle.cfi_model.specs.Begin.{begin_of}
 use Rattle.cfi_model.specs.InForce.{in_force, history_of, code_in_force, tary_index}
-use Rattle.cfi_model.specs.Fits.{Fits, FitsWord, FitsTary}
-use Rattle.cfi_model.specs.History.{History, IsEpoch, IsHistory, IsTaryWord, IsFair, allows_at}
+use Rattle.cfi_model.specs.Fits.{Fits, FitsWord}
+use Rattle.cfi_model.specs.History.{History, IsEpoch, IsFair, allows_at}
 use Rattle.cfi_model.specs.Log.{last_policy}
 use Rattle.cfi_model.specs.Raw.{Raw}
-use Rattle.cfi_model.specs.Run.{Take, Word, Served, take_one, take_word, finish_as, finish_of}
-use Rattle.cfi_model.specs.Running.{IsResting, IsRunning, IsSpent, IsGuest, EndsUnit}
+use Rattle.cfi_model.specs.Run.{Take, Word, take_one, take_word, finish_as, finish_of}
+use Rattle.cfi_model.specs.Running.{IsRunning, IsSpent, IsGuest}
 use Rattle.cfi_model.specs.Service.{Reply}
-use Rattle.cfi_model.specs.Shows.{Shows, End, IsAnswered, IsStep, end_of, reply_in}
+use Rattle.cfi_model.specs.Shows.{Shows, End, IsAnswered, end_of, reply_in}
 use Rattle.cfi_model.specs.State.{State}
 use Rattle.cfi_model.specs.Tables.{IsTables}
-use Rattle.cfi_model.specs.Words.{Tables, entry_at, next_epoch, epoch_in_force, policy_in_force, word_at}
-use Rattle.cfi_model.proofs.AfterLemmas.{effect_logs, effect_unspent, KeepsBary, begin_keeps, begin_counts}
+use Rattle.cfi_model.specs.Words.{Tables, next_epoch, epoch_in_force, policy_in_force, word_at}
+use Rattle.cfi_model.proofs.AfterLemmas.{effect_logs, effect_unspent, begin_keeps, begin_counts}
 use Rattle.cfi_model.proofs.GrowLemmas.{no_step}
 use Rattle.cfi_model.proofs.RunningLemmas.{rests_run, goes_on, running_shows, running_steps}
 use Rattle.cfi_model.proofs.TableLemmas.{force_policy}

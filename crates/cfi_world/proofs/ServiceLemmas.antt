@@ -1,13 +1,11 @@
 -- The seat after an event within a service, and after an answer.
-use Rattle.std.proofs.Common.{◌≡◌, ◌≢◌, ℕ, ◌+◌, ◌<◌, ◌≤◌, ◌==◌, ◌&&◌, nat_lt, Bool, true, false, cond, List, [], Option, Some, None, refl, sym, ◌∙◌, ap, subst, arith, rules, inl, inr}
+use Rattle.std.proofs.Common.{◌≡◌, ◌≢◌, ℕ, ◌<◌, ◌≤◌, ◌==◌, ◌&&◌, nat_lt, Bool, true, false, cond, List, Option, Some, None, refl, sym, ◌∙◌, ap, subst, arith, rules, inl, inr}
 use Rattle.std.specs.List.{All}
 use Rattle.std.proofs.lemmas.List.Elements.{All-nil}
-use Rattle.cfi_unit.specs.declared.fill.Fill.{Fill}
 use Rattle.cfi_unit.specs.declared.log.Stop.{Stop}
 use Rattle.cfi_unit.specs.declared.unit.Unit.{Unit as CodeUnit}
 use Rattle.cfi_unit.specs.declared.unit.Unit.TheVariants as units
-use Rattle.cfi_word.specs.Table.{Epoch, Code, Tary, Bary}
-use Rattle.cfi_word.specs.declared.limits.TheConstants.{MAX_OPENS, MAX_POLICY}
+use Rattle.cfi_word.specs.declared.limits.TheConstants.{MAX_OPENS}
 use Rattle.cfi_word.specs.declared.services.TheConstants.{OPEN, TOO_MANY}
 use Rattle.cfi_model.specs.declared.act.Wait.{Wait}
 use Rattle.cfi_model.specs.declared.act.Wait.TheVariants as waits
@@ -19,21 +17,20 @@ use Rattle.cfi_model.specs.Data.{LiesInData}
 use Rattle.cfi_model.specs.InForce.{in_force, history_of, code_in_force}
 use Rattle.cfi_model.specs.Fits.{Fits, FitsReply, FitsOpen}
 use Rattle.cfi_model.specs.History.{History}
-use Rattle.cfi_model.specs.Log.{opens, last_policy}
+use Rattle.cfi_model.specs.Log.{opens}
 use Rattle.cfi_model.specs.Raw.{Raw}
-use Rattle.cfi_model.specs.Run.{Take, Served, take_one, serve_as, serve_of}
-use Rattle.cfi_model.specs.Running.{IsRunning}
-use Rattle.cfi_model.specs.Service.{Reply, IsAnswer, too_many}
-use Rattle.cfi_model.specs.Shows.{Shows, MayWait, KeepsWords, reply_in}
+use Rattle.cfi_model.specs.Run.{Served, serve_as, serve_of}
+use Rattle.cfi_model.specs.Service.{Reply, too_many}
+use Rattle.cfi_model.specs.Shows.{Shows, MayWait, KeepsWords}
 use Rattle.cfi_model.specs.State.{State}
 use Rattle.cfi_model.specs.Tables.{IsTables}
-use Rattle.cfi_model.specs.Words.{Tables, entry_at, next_epoch, epoch_in_force, policy_in_force}
+use Rattle.cfi_model.specs.Words.{Tables, epoch_in_force, policy_in_force}
 use Rattle.cfi_model.proofs.InForceLemmas.{history_is, force_within}
 use Rattle.cfi_model.proofs.RunningLemmas.{running_shows}
 use Rattle.cfi_model.proofs.TableLemmas.{force_policy}
 use Rattle.cfi_world.proofs.SeatLemmas.{AreSeated, HasGone, FitsForce, going_runs, seat_moved, fetched, found_bary, found_tary, same_bary}
 use Rattle.cfi_world.specs.Seats.{Seat, rested, needs_answer, serves, seat_by, seat_after}
-use Rattle.cfi_world.specs.Worlds.{IsServing, IsQuietSince, IsKeptSince, QuietFits, IsAtMost, FoundFits, FitsPoint, IsSeat, IsRunningSeat}
+use Rattle.cfi_world.specs.Worlds.{IsServing, QuietFits, IsAtMost, FoundFits, FitsPoint}
 
 -- ---- a guest in a service
 

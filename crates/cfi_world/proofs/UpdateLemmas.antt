@@ -1,12 +1,11 @@
 -- What the updater makes of the tables keeps what holds of them.
-use Rattle.std.proofs.Common.{◌≡◌, ◌≢◌, ℕ, zero, suc, ◌+◌, ◌-◌, ◌*◌, ◌<◌, ◌≤◌, ◌==◌, nat_lt, cond, Bool, true, false, List, [], ◌∷◌, ◌++◌, length, drop, length-drop, length-append, Option, Some, None, refl, sym, ◌∙◌, ap, subst, arith, rules, ◌⊎◌, inl, inr}
+use Rattle.std.proofs.Common.{◌≡◌, ◌≢◌, ℕ, suc, ◌+◌, ◌-◌, ◌*◌, ◌<◌, ◌≤◌, ◌==◌, nat_lt, cond, Bool, true, false, List, [], ◌∷◌, ◌++◌, length, drop, length-drop, length-append, Option, Some, None, refl, sym, ◌∙◌, ap, subst, arith, ◌⊎◌, inl, inr}
 use Rattle.std.proofs.lemmas.Bool.{cases_lt, lt-ltb, le-ltb}
 use Rattle.std.proofs.lemmas.Bool.Decides.{nat_tests}
 use Rattle.std.proofs.lemmas.List.{get_or_append_left, get_or_push}
 use Rattle.cfi_word.specs.declared.lists.Image.{Image}
 use Rattle.cfi_word.specs.declared.limits.TheConstants.{GUESTS, MAX_EPOCH, MAX_POLICY}
 use Rattle.cfi_word.specs.Rank.{stores_of}
-use Rattle.cfi_word.specs.Table.{Epoch}
 use Rattle.cfi_model.specs.declared.history.Entry.{Entry}
 use Rattle.cfi_model.specs.declared.phase.Phase.{Phase}
 use Rattle.cfi_model.specs.declared.phase.Phase.TheVariants as phases
@@ -14,12 +13,11 @@ use Rattle.cfi_model.specs.Closed.{IsClosed}
 use Rattle.cfi_model.specs.InForce.{in_force, GoesOn}
 use Rattle.cfi_model.specs.Phases.{phase_after, phase_by, phase_of}
 use Rattle.cfi_model.specs.Tables.{IsTables, IsAsked, MayBeAsked, IsUpdate}
-use Rattle.cfi_model.specs.Words.{Tables, entry_at, no_entry, newest, before, next_epoch, number_at, epoch_in_force}
-use Rattle.cfi_model.proofs.InForceLemmas.{force_within}
+use Rattle.cfi_model.specs.Words.{Tables, entry_at, no_entry, newest, before, epoch_in_force}
 use Rattle.cfi_model.proofs.PhaseLemmas.{IsRow, phase_row}
 use Rattle.cfi_model.proofs.TableLemmas.{force_epoch}
 use Rattle.cfi_world.specs.Premises.{MayBegin}
-use Rattle.cfi_world.specs.Updates.{is_idle, asked_entry, begun, dropped, agreeing, next_store, at_store, passed, stored}
+use Rattle.cfi_world.specs.Updates.{is_idle, asked_entry, begun, dropped, agreeing, next_store, at_store, stored}
 
 -- ---- phases
 

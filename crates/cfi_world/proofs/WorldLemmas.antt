@@ -1,8 +1,6 @@
 -- Every event keeps what holds of a world.
-use Rattle.std.proofs.Common.{◌≡◌, ◌≢◌, ℕ, ◌+◌, ◌-◌, ◌<◌, ◌≤◌, ◌==◌, ◌&&◌, ◌||◌, nat_lt, nat_le, cond, Bool, true, false, List, [], ◌∷◌, ◌++◌, length, length-set, length-append, replicate, slice_get, slice_set, slice_index_or, is_some, Option, Some, None, refl, sym, ◌∙◌, ap, subst, arith, rules, ◌⊎◌, inl, inr}
-use Rattle.std.specs.List.{All}
-use Rattle.std.proofs.lemmas.Bool.{cases_lt, cases_eq, lt-ltb, le-ltb}
-use Rattle.std.proofs.lemmas.Bool.Decides.{nat_tests}
+use Rattle.std.proofs.Common.{◌≡◌, ◌≢◌, ℕ, ◌+◌, ◌-◌, ◌<◌, ◌≤◌, ◌==◌, ◌&&◌, ◌||◌, nat_lt, nat_le, cond, Bool, true, false, List, [], ◌∷◌, ◌++◌, length, length-set, length-append, replicate, slice_get, slice_set, slice_index_or, is_some, Option, Some, None, refl, sym, ◌∙◌, ap, subst, arith, rules, inl, inr}
+use Rattle.std.proofs.lemmas.Bool.{cases_lt, cases_eq}
 use Rattle.std.proofs.lemmas.List.{set-get_or, get_or-set_same, get_or-set_other, get_or_append_left, get_or-replicate, length-replicate}
 use Rattle.std.proofs.lemmas.Option.{slice_get_within, slice_get-get_or, get_or_from_slice_get}
 use Rattle.cfi_word.specs.declared.lists.Image.{Image}
@@ -30,7 +28,7 @@ use Rattle.cfi_model.proofs.TableLemmas.{force_epoch, opened_are}
 use Rattle.cfi_model.specs.Raw.{Raw, raw_opened}
 use Rattle.cfi_model.specs.Run.{serve_of}
 use Rattle.cfi_model.specs.Service.{Reply}
-use Rattle.cfi_model.specs.Tables.{IsTables, MayBeAsked}
+use Rattle.cfi_model.specs.Tables.{IsTables}
 use Rattle.cfi_model.specs.Words.{Tables, entry_at, next_epoch, epoch_in_force, policy_in_force}
 use Rattle.cfi_model.specs.World.{World, opened_world, quiet_of, point_of}
 use Rattle.cfi_world.specs.Laws.{MayTurns, world_after}
@@ -38,7 +36,7 @@ use Rattle.cfi_world.specs.Premises.{CanOpen, HasRoom, MayAnswer, MayTurn}
 use Rattle.cfi_world.specs.Seats.{Seat, seat_of, with_seat, seat_after, rested, is_asking}
 use Rattle.cfi_world.specs.Turns.{did, nothing, seated, guest_turn, begin_turn, tested_turn, refused, update_turn, answered, answer_turn, is_registered, release_turn, reply_in, turn_of}
 use Rattle.cfi_world.specs.Updates.{is_idle, begun, dropped, at_store, passed_by, stored}
-use Rattle.cfi_world.specs.Worlds.{IsSeat, IsRunningSeat, IsQuietSince, QuietFits, FoundFits, FitsPoint, IsWorld, pending}
+use Rattle.cfi_world.specs.Worlds.{IsQuietSince, QuietFits, FoundFits, FitsPoint, IsWorld, pending}
 use Rattle.cfi_world.specs.declared.event.Event.{Event}
 use Rattle.cfi_world.specs.declared.event.Event.TheVariants as events
 use Rattle.cfi_world.specs.declared.event.Turned.TheVariants.{EpochsSpent}
@@ -88,8 +86,8 @@ module _ (w : World) (is : IsWorld w) (u : Tables) (later : IsTables u) (on : Go
   world_later admitted room few =
       let seats : (guest : ℕ) (r : Raw) → slice_get w.guests guest ≡ Some r
       → AreSeated u later w.fuel guest (seat_of w guest r) = λ guest r e.
-          seat_later w.tables u is.tables later on w.fuel guest (seat_of w guest r) (admitted guest r e)
-          (seated_in w is guest r e) in
+      seat_later w.tables u is.tables later on w.fuel guest (seat_of w guest r) (admitted guest r e)
+      (seated_in w is guest r e) in
       record {
         tables = later;
         quiets_many = is.quiets_many;
@@ -281,9 +279,11 @@ module _ (w : World) (is : IsWorld w) where
   ]
 
   passed_kept : (entry : Entry) → LetsOn entry → (more : Bool) → nat_lt (w.tables.tested + 1) GUESTS ≡ more
-      → IsWorld (record w { tables = cond more
-        (record w.tables { tested = w.tables.tested + 1 })
-        (at_store 0 (record w.tables { entries = w.tables.entries ++ entry ∷ []; stored = 0; asked = None; tested = 0 })) })
+      → IsWorld (record w {
+        tables = cond more
+            (record w.tables { tested = w.tables.tested + 1 })
+            (at_store 0 (record w.tables { entries = w.tables.entries ++ entry ∷ []; stored = 0; asked = None; tested = 0 }));
+      })
   passed_kept entry lets true more =
       let t : Tables = w.tables in
       let less : t.tested + 1 < GUESTS = search (rules, arith) in
@@ -326,7 +326,7 @@ module _ (w : World) (is : IsWorld w) where
 
   tested_by : (lets : Bool) → admits w.tables.versions (next_epoch w.tables) (quiet_of w w.tables.tested) ≡ lets
       → IsWorld (cond lets (did (record w { tables = passed_by w.tables.asked w.tables }))
-        (refused w w.tables.tested (quiet_of w w.tables.tested))).world
+      (refused w w.tables.tested (quiet_of w w.tables.tested))).world
   tested_by true e = passed_all w.tables.asked refl e
   tested_by false e = refused_kept w.tables.tested (quiet_of w w.tables.tested)
 

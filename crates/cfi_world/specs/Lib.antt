@@ -1,4 +1,3 @@
-pub mod inner
 pub mod Seats
 pub mod Updates
 pub mod Turns

@@ -53,8 +53,8 @@ abbrev pub begin_turn : World → Option Image → Turn
 begin_turn w image =
     if is_idle (phase_of w.tables)
     then (if epoch_in_force w.tables == MAX_EPOCH
-          then record { world = w; answer = EpochsSpent }
-          else did (record w { tables = begun image w.tables; updates = w.updates + 1 }))
+    then record { world = w; answer = EpochsSpent }
+    else did (record w { tables = begun image w.tables; updates = w.updates + 1 }))
     else nothing w
 
 -- the test of a QUIET word

@@ -1,5 +1,5 @@
 -- What holds of a world at every moment.
-use Rattle.std.specs.Prelude.{◌≡◌, ◌≢◌, ℕ, ◌+◌, ◌-◌, ◌≤◌, ◌<◌, length, slice_get, Option, Some, None, ⊤}
+use Rattle.std.specs.Prelude.{◌≡◌, ◌≢◌, ℕ, ◌+◌, ◌≤◌, ◌<◌, length, slice_get, Option, Some, None, ⊤}
 use Rattle.cfi_unit.specs.declared.log.Stop.TheVariants.{Fuel}
 use Rattle.cfi_word.specs.Word.{epoch_in}
 use Rattle.cfi_word.specs.declared.limits.TheConstants.{GUESTS, MAX_OPENS}

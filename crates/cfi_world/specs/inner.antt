@@ -1,4 +1,0 @@
-pub mod Entries
-pub mod Held
-pub mod Kept
-pub mod Parts
