@@ -95,7 +95,8 @@ listed_more parts members x end listed lx le =
                   let list : get_or (set members end row) (get_or parts a 0) [] ≡ row =
                   ap (λ j. get_or (set members end row) j []) same ∙ get_or-set_same members end row [] lm in
                   ap (λ r. has r a) list ∙ has_push (get_or members end []) x a
-                  ∙ or_left (has (get_or members end []) a) (eqb x a) (ap (λ j. has (get_or members j []) a) (sym same) ∙ was)
+                  ∙ or_left (has (get_or members end []) a) (eqb x a) (ap (λ j. has (get_or members j []) a)
+                  (sym same) ∙ was)
               | inr other ↦
                   ap (λ r. has r a) (get_or-set_other members end (get_or parts a 0) row [] other) ∙ was
             ]

@@ -104,7 +104,8 @@ module _ (old mid : List (List ℕ)) (parents : List (List Name)) (members class
             (is_named parents a node place)
             ∙ ap (λ b. is_hit old place node || b)
             (sym (one_more place node
-            ∙ ap (λ b. hits_one parents (take i members) classes class place node || (b && is_named parents a node place))
+            ∙ ap (λ b. hits_one parents (take i members) classes class place node ||
+            (b && is_named parents a node place))
             here));
       }
 
@@ -119,7 +120,8 @@ module _ (old mid : List (List ℕ)) (parents : List (List Name)) (members class
             so_far.each place node within
             ∙ ap (λ b. is_hit old place node || b)
             (sym (one_more place node
-            ∙ ap (λ b. hits_one parents (take i members) classes class place node || (b && is_named parents a node place))
+            ∙ ap (λ b. hits_one parents (take i members) classes class place node ||
+            (b && is_named parents a node place))
             apart
             ∙ or_false (hits_one parents (take i members) classes class place node)));
       }

@@ -24,7 +24,8 @@ has_own xs k d lt = list_any_at (λ x. eqb x (get_or xs k d)) xs k d lt (eq-eqb 
 -- names are at one of the first MAX_FIELDS places
 pub places_within : (nodes : List Node) (parents : List (List Name)) → AreParents nodes (length nodes) parents
     → All (All (λ x. x.place < MAX_FIELDS)) parents
-places_within nodes parents are = All-from_get_or (All (λ (x : Name). x.place < MAX_FIELDS)) parents [] (λ k lt j d below.
+places_within nodes parents are = All-from_get_or (All (λ (x : Name). x.place < MAX_FIELDS)) parents []
+    (λ k lt j d below.
     let row = get_or parents k [] in
     let x = get_or (get_or parents k []) j d in
     let there : is_named parents k x.node x.place ≡ true =
@@ -75,7 +76,8 @@ module _ (nodes : List Node) (parents : List (List Name)) (parts : List ℕ) (me
       let inner = and_parts (ltb place (min (length xs) MAX_FIELDS)) (eqb (get_or parts a 0) part) outer.1 in
       let ln : node < length nodes = ltb-true node (length nodes) outer.0 in
       let early : place < length xs = omega (arith, ltb-true place (min (length xs) MAX_FIELDS) inner.0) in
-      let la : a < length nodes = All-get_or (λ k. k < length nodes) xs place 0 early (names_below nodes node closed ln) in
+      let la : a < length nodes = All-get_or (λ k. k < length nodes) xs place 0 early
+      (names_below nodes node closed ln) in
       let own : get_or parts a 0 ≡ part = eqb-true (get_or parts a 0) part inner.1 in
       let there : has row a ≡ true =
       ap (λ j. has (get_or members j []) a) (sym own) ∙ listed.listed a (omega (arith, keep.len, la)) in

@@ -68,7 +68,8 @@ split_keeps nodes one (Ok next) closed is split =
 split_keeps nodes one (Err e) closed is split = tt
 
 pub names_keep : (nodes : List Node) (slice parts : List ℕ) (r : Result (Vec ℕ Global) AllocError) → slice ≡ parts
-    → KeepTogether nodes parts → IfOk r (λ names. AreNamed slice names.items) → IfOk r (λ names. KeepEqual nodes names.items)
+    → KeepTogether nodes parts → IfOk r (λ names. AreNamed slice names.items) → IfOk r
+    (λ names. KeepEqual nodes names.items)
 names_keep nodes slice parts (Ok names) is keep named =
     named_keep nodes parts names.items keep (subst (λ (l : List ℕ). AreNamed l names.items) is named)
 names_keep nodes slice parts (Err e) is keep named = tt

@@ -43,7 +43,8 @@ module _ (old mid : List (List Name)) (named : List ℕ) (number j k : ℕ) (so_
   added_here node place =
       let here : eqb (get_or named j 0) k ≡ true = eq-eqb (get_or named j 0) k (sym is) in
       let more = below_more (λ q. eqb (get_or named q 0) k) j place in
-      let last : (eqb j place && eqb (get_or named j 0) k) ≡ eqb j place = ap (λ b. eqb j place && b) here ∙ and_true (eqb j place) in
+      let last : (eqb j place && eqb (get_or named j 0) k) ≡ eqb j place = ap (λ b. eqb j place && b) here
+      ∙ and_true (eqb j place) in
       has_name_push (get_or mid k []) (make_name number j) node place
       ∙ ap (λ b. b || ((eqb number node) && (eqb j place))) (so_far.each k node place lt)
       ∙ or_and_or (is_named old k node place) (eqb number node) (is_at named j place k) (eqb j place)
@@ -90,7 +91,8 @@ parents_more nodes i mid new xs so_far is adds = record {
   len = adds.len ∙ so_far.len;
   each = λ child node place below.
       adds.each child node place (omega (arith, so_far.len, below))
-      ∙ ap (λ b. b || ((eqb i node) && is_at xs (min (length xs) MAX_FIELDS) place child)) (so_far.each child node place below)
+      ∙ ap (λ b. b || ((eqb i node) && is_at xs (min (length xs) MAX_FIELDS) place child))
+      (so_far.each child node place below)
       ∙ ap (λ (ys : List ℕ). (ltb node i && names_at (node_of nodes node) place child)
       || ((eqb i node) && is_at ys (min (length ys) MAX_FIELDS) place child)) is
       ∙ sym (below_more (λ n. names_at (node_of nodes n) place child) i node);

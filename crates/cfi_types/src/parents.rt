@@ -20,7 +20,8 @@ pub(crate) struct Name {
 // Adds where the node of this number names others.
 fn add_names(parents: &mut Lists<Name>, named: &[u32], number: u32) -> Result<(), AllocError>
     requires { All (λ k. k < length parents.old) named.now }
-    ensures { OnOk result (AddsNames parents.old named.now number (min (length named.now) MAX_FIELDS) parents.new) }
+    ensures { OnOk result (AddsNames parents.old named.now number
+        (min (length named.now) MAX_FIELDS) parents.new) }
 {
     let count = named.len().min(MAX_FIELDS as usize);
     for place in 0..count {

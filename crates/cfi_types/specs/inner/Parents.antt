@@ -20,7 +20,8 @@ abbrev pub is_named : (parents : List (List Name)) → (child node place : ℕ) 
 is_named parents child node place = has_name (slice_index_or parents child []) node place
 
 -- the names of the node of this number are added, at the first `count` places
-pub record AddsNames (old : List (List Name)) (named : List ℕ) (number count : ℕ) (new : List (List Name)) : Type 0 where
+pub record AddsNames (old : List (List Name)) (named : List ℕ) (number count : ℕ) (new : List
+    (List Name)) : Type 0 where
   pub len : length new ≡ length old
   pub each : (child node place : ℕ) → child < length old
       → is_named new child node place

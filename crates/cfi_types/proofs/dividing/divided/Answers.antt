@@ -27,7 +27,8 @@ divide_by-requires-clause-below c =
     let members = c.next.new.self.members in
     let keep : KeepTogether c.args.nodes.now c.next.new.self.parts.items =
     subst (λ v. KeepTogether c.args.nodes.now v.items) (sym c.next.ensures.same) c.loop.invariant.kept in
-    let lt : c.in-Some.part < length c.args.nodes.now = omega (arith, c.in-Some.ensures.below, c.loop.invariant.kept.len) in
+    let lt : c.in-Some.part < length c.args.nodes.now = omega
+    (arith, c.in-Some.ensures.below, c.loop.invariant.kept.len) in
     let gathers =
     gathers_of c.loop.hits c.gather.new.hits parents c.row.result.now (slice_index_or members c.in-Some.part [])
     c.as_slice.result.now parts c.in-Some.part c.row.ensures c.as_slice.ensures.value c.in_ok-gather.ensures in
@@ -42,7 +43,8 @@ loop-preserved c =
     let members = c.next.new.self.members in
     let keep : KeepTogether c.args.nodes.now c.next.new.self.parts.items =
     subst (λ v. KeepTogether c.args.nodes.now v.items) (sym c.next.ensures.same) c.loop.invariant.kept in
-    let lt : c.in-Some.part < length c.args.nodes.now = omega (arith, c.in-Some.ensures.below, c.loop.invariant.kept.len) in
+    let lt : c.in-Some.part < length c.args.nodes.now = omega
+    (arith, c.in-Some.ensures.below, c.loop.invariant.kept.len) in
     let gathers =
     gathers_of c.loop.hits c.gather.new.hits parents c.row.result.now (slice_index_or members c.in-Some.part [])
     c.as_slice.result.now parts c.in-Some.part c.row.ensures c.as_slice.ensures.value c.in_ok-gather.ensures in
@@ -58,7 +60,8 @@ pub returns : goal.returns
 returns c =
     let kept : KeepTogether c.args.nodes.now c.loop-test.parts.parts.items =
     elim c.loop-test.branch [
-      | else-loop-test w ↦ subst (λ p. KeepTogether c.args.nodes.now p.parts.items) (sym w.parts-is) c.loop.invariant.kept
+      | else-loop-test w ↦ subst (λ p. KeepTogether c.args.nodes.now p.parts.items)
+          (sym w.parts-is) c.loop.invariant.kept
       | then-loop-test+in_default w ↦
           subst (λ p. KeepTogether c.args.nodes.now p.parts.items) (sym w.parts-is)
           (subst (λ v. KeepTogether c.args.nodes.now v.items) (sym w.next.ensures.same) c.loop.invariant.kept)

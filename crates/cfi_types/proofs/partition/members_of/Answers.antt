@@ -6,7 +6,8 @@ pub loop-node-init : goal.loop-node-init
 loop-node-init c = none_listed c.args.parts.now c.in_ok-members.members c.in_ok-members.ensures
 
 pub add-requires : goal.add-requires
-add-requires c = omega (arith, c.requires.low c.loop-node.node c.loop-node-test.true, c.loop-node-test.true, c.loop-node.invariant.len)
+add-requires c =
+    omega (arith, c.requires.low c.loop-node.node c.loop-node-test.true, c.loop-node-test.true, c.loop-node.invariant.len)
 
 pub loop-node-preserved : goal.loop-node-preserved
 loop-node-preserved c =

@@ -23,7 +23,8 @@ loop-i-preserved c =
     let x = get_or c.args.nodes.now c.loop-i.i 0 in
     let end = c.index.result.now in
     let lt : i < length nodes = c.loop-i-test.true in
-    let count : length ends ≡ length nodes = ap length c.in_ok-ends.ensures ∙ length-map nodes (λ a. get_or targets (get_or c.as_slice.result.now a 0) 0) in
+    let count : length ends ≡ length nodes = ap length c.in_ok-ends.ensures ∙ length-map nodes (λ a. get_or targets
+    (get_or c.as_slice.result.now a 0) 0) in
     let target : end ≡ get_or targets (get_or old x 0) 0 =
     get_or_read ends i end (omega (arith, count, lt)) c.index.ensures 0 ∙ ap (λ l. get_or l i 0) c.in_ok-ends.ensures
     ∙ get_or-map (λ a. get_or targets (get_or c.as_slice.result.now a 0) 0) nodes i 0 0 lt
@@ -39,7 +40,13 @@ loop-i-preserved c =
           w.members-is ∙ w.in_ok-add.ensures in
           let inside : x < length mid = omega (arith, so_far.len, below) in
           let room : end < length mid =
-          omega (arith, so_far.len, len, subst (λ k. k < vec_len c.args.parts.now) (sym target) (c.requires.targets _ 0 bound)) in
+          omega (
+            arith,
+            so_far.len,
+            len,
+            subst (λ k. k < vec_len c.args.parts.now) (sym target)
+                (c.requires.targets _ 0 bound),
+          ) in
           record {
             put = subst (λ (l : List ℕ). IsPut old targets (take (i + 1) nodes) l) (sym parts_is)
                 (put_more old mid targets nodes i x end so_far lt refl below target);
@@ -51,7 +58,8 @@ loop-i-preserved c =
           let parts_is : c.if-index-end.parts.items ≡ mid = ap (λ v. v.items) w.parts-is in
           let inside : x < length mid = omega (arith, so_far.len, below) in
           let at : get_or mid x 0 ≡ end =
-          sym (get_or_read mid x c.index-in-loop-i.result.now inside c.index-in-loop-i.ensures 0) ∙ w.if-index-end.false in
+          sym (get_or_read mid x c.index-in-loop-i.result.now inside c.index-in-loop-i.ensures 0)
+          ∙ w.if-index-end.false in
           record {
             put = subst (λ (l : List ℕ). IsPut old targets (take (i + 1) nodes) l) (sym parts_is)
                 (put_same old mid targets nodes i x end so_far lt refl below target at);

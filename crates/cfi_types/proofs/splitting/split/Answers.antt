@@ -19,6 +19,7 @@ loop-a-preserved c =
     c.in_ok-key.ensures ∙ ap (λ y. get_or classes a 0 ∷ signature classes y) here in
     least_more (key_of nodes classes) a c.in_ok-signed.field-0 (first_of c.loop-a.firsts) (first_of c.signed.new.self)
     c.loop-a.next.items c.push.new.self.items c.loop-a.invariant
-    (subst (λ (k : List ℕ). PutsFirst (first_of c.loop-a.firsts) (first_of c.signed.new.self) k a c.in_ok-signed.field-0)
+    (subst (λ (k : List ℕ). PutsFirst (first_of c.loop-a.firsts)
+    (first_of c.signed.new.self) k a c.in_ok-signed.field-0)
     key c.in_ok-signed.ensures.first)
     c.in_ok-push.ensures.items
