@@ -41,8 +41,8 @@ impl Guest {
     {
         self.pc = to;
         self.steps += 1;
-        if !reserved {
-            self.units += 1;
+        if reserved {
+            self.inner += 1;
         }
     }
 

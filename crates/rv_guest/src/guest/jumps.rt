@@ -123,7 +123,6 @@ impl Guest {
         ensures { let r = judged self.old in self.new ≡ ran self.old.base.pc 1 r }
     {
         self.steps += 1;
-        self.units += 1;
         judge(&mut self.log, self.tary);
         self.bary = None;
         self.tary = None;
@@ -139,6 +138,7 @@ impl Guest {
             opcode::ECALL => {
                 let number = self.regs.read(SERVICE);
                 self.steps += 1;
+                self.inner += 1;
                 self.pc = self.pc.wrapping_add(4);
                 self.waits = Some(Wait::Service(number));
                 Act::Service(number)
