@@ -32,10 +32,11 @@ IsWait (Some (waits.Tary at rd)) = rd < 32
 IsWait (Some (waits.Bary slot rd)) = rd < 32
 IsWait (Some (waits.Service number)) = ⊤
 
-pub record IsCounted (units steps : ℕ) (log : List Log) (tary : Option ℕ) (wait : Option Wait) : Type 0 where
-  pub units_most : units + pending wait ≤ steps
+-- `inner` counts the fetched instructions that ended no unit
+pub record IsCounted (inner steps : ℕ) (log : List Log) (tary : Option ℕ) (wait : Option Wait) : Type 0 where
+  pub inner_least : pending wait ≤ inner
   pub steps_most : steps < 2 ^ 32
-  pub picks_most : last_picks log ≤ units
+  pub picks_most : last_picks log + inner ≤ steps
   pub keeps : KeepsPolicy tary log
   pub register : IsWait wait
 

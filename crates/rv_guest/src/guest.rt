@@ -29,7 +29,8 @@ pub struct Guest {
     memory: PrivateData,
     output: Output,
     log: LogBook,
-    units: u32,
+    // How many of the fetched instructions ended no unit: the others, which are more, need no count of their own.
+    inner: u32,
     steps: u32,
     stop: Option<Stop>,
     bary: Option<u64>,
@@ -38,6 +39,7 @@ pub struct Guest {
 }
 
 impl Model for Guest {
+    ghost use Rattle.std.specs.Prelude.{◌-◌};
     ghost use Rattle.cfi_model.specs.Raw.{Raw};
     ghost use Rattle.rv_guest.specs.Guest.{IsCounted};
 
@@ -51,7 +53,7 @@ impl Model for Guest {
         memory = g.memory;
         output = g.output;
         log = g.log;
-        units = g.units;
+        units = g.steps - g.inner;
         steps = g.steps;
         stop = g.stop;
       };
@@ -64,7 +66,7 @@ impl Model for Guest {
       waits = g.waits;
     } };
 
-    ghost invariant = { λ g. IsCounted g.units g.steps g.log g.tary g.waits };
+    ghost invariant = { λ g. IsCounted g.inner g.steps g.log g.tary g.waits };
 }
 
 impl Guest {
@@ -87,7 +89,7 @@ impl Guest {
             memory,
             output: Output::new(alloc)?,
             log: LogBook::new(alloc)?,
-            units: 0,
+            inner: 0,
             steps: 0,
             stop: None,
             bary: None,

@@ -114,7 +114,6 @@ impl Guest {
         ensures { self.new ≡ stopped stop self.old }
     {
         self.steps += 1;
-        self.units += 1;
         self.stop = Some(stop);
     }
 

@@ -24,9 +24,9 @@ pub fn is_own(k: u32) -> bool
     FREE_REGISTERS <= k
 }
 
-// Whether one of two registers is: one test of the larger number in place of two.
+/// Whether one of two registers is: one test of the larger number in place of two.
 #[inline(always)]
-fn is_one_own(a: u32, b: u32) -> bool
+pub fn is_one_own(a: u32, b: u32) -> bool
     ensures { result ≡ (is_reserved a || is_reserved b) }
 {
     is_own(a.max(b))
@@ -41,8 +41,8 @@ impl Guest {
     {
         self.pc = to;
         self.steps += 1;
-        if !reserved {
-            self.units += 1;
+        if reserved {
+            self.inner += 1;
         }
     }
 

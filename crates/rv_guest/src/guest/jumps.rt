@@ -2,22 +2,21 @@
 
 ghost use Rattle.std.specs.Prelude.{◌≡◌, ◌+◌, ◌<◌, ◌≤◌, ◌^◌, ◌||◌};
 ghost use Rattle.rv_insn.specs.declared.opcode.TheConstants as opcodes;
-ghost use Rattle.rv_insn.specs.InsnOf.{row_of};
+ghost use Rattle.rv_insn.specs.InsnOf.{row_of, cond_at};
 ghost use Rattle.cfi_model.specs.Log.{last_picks};
 ghost use Rattle.cfi_unit.specs.Free.{is_reserved};
 ghost use Rattle.cfi_model.specs.Begin.{begin_by, act_by, picked_by, judged, ran, units_of};
 ghost use Rattle.rv_guest.specs.Guest.{KeepsPolicy};
 
 use crate::guest::Guest;
-use crate::guest::compute::is_own;
+use crate::guest::compute::{is_one_own, is_own};
 use cfi_model::{Act, LogBook, Wait};
 use cfi_unit::Stop;
 use cfi_word::Word;
 use cfi_word::services::SERVICE;
 use rv_alu::is_taken;
 use rv_insn::fields::{fields_of, imm_b, imm_i, imm_j};
-use rv_insn::opcode;
-use rv_insn::rows::cond_of;
+use rv_insn::{Cond, opcode};
 
 // Logs a pick under the policy of the kept Tary word, if one is kept.
 #[inline(always)]
@@ -32,6 +31,23 @@ fn judge(log: &mut LogBook, tary: Option<u64>)
     }
 }
 
+// The condition of a branch's row, where every funct3 has its own arm: no test for one past them is left.
+#[inline(always)]
+fn cond_within(funct3: u32) -> Option<Cond>
+    requires { funct3 < 8 }
+    ensures { result ≡ cond_at funct3 }
+{
+    match funct3 {
+        0 => Some(Cond::Beq),
+        1 => Some(Cond::Bne),
+        2 | 3 => None,
+        4 => Some(Cond::Blt),
+        5 => Some(Cond::Bge),
+        6 => Some(Cond::Bltu),
+        _ => Some(Cond::Bgeu),
+    }
+}
+
 impl Guest {
     #[inline(always)]
     pub(crate) fn branch(&mut self, word: u32) -> Act
@@ -42,7 +58,7 @@ impl Guest {
         let f = fields_of(word);
         let x = self.regs.read(f.rs1);
         let y = self.regs.read(f.rs2);
-        let Some(cond) = cond_of(f.funct3) else {
+        let Some(cond) = cond_within(f.funct3) else {
             return Act::Done;
         };
         let to = if is_taken(cond, x, y) {
@@ -50,7 +66,7 @@ impl Guest {
         } else {
             self.pc.wrapping_add(4)
         };
-        self.go_to(to, is_own(f.rs1) || is_own(f.rs2));
+        self.go_to(to, is_one_own(f.rs1, f.rs2));
         Act::Done
     }
 
@@ -107,7 +123,6 @@ impl Guest {
         ensures { let r = judged self.old in self.new ≡ ran self.old.base.pc 1 r }
     {
         self.steps += 1;
-        self.units += 1;
         judge(&mut self.log, self.tary);
         self.bary = None;
         self.tary = None;
@@ -123,6 +138,7 @@ impl Guest {
             opcode::ECALL => {
                 let number = self.regs.read(SERVICE);
                 self.steps += 1;
+                self.inner += 1;
                 self.pc = self.pc.wrapping_add(4);
                 self.waits = Some(Wait::Service(number));
                 Act::Service(number)

@@ -56,7 +56,7 @@ impl Guest {
     pub fn units(&self) -> u32
         ensures { result ≡ self.now.base.units }
     {
-        self.units
+        self.steps - self.inner
     }
 
     /// What was put.

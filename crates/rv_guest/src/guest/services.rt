@@ -53,7 +53,7 @@ impl Guest {
           waits = None;
         } }
     {
-        self.units += 1;
+        self.inner -= 1;
         self.bary = None;
         self.tary = None;
         self.waits = None;
