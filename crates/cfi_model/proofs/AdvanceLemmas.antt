@@ -29,7 +29,8 @@ use Rattle.cfi_model.proofs.ReadyLemmas.{falls}
 
 -- after an access: within the unit, or past it
 abbrev pub Next : History → (code : List ℕ) → (retries : ℕ) → State → CodeUnit → (old : Raw) → Take → Type 0
-Next h code retries p unit old t = Begun h p unit retries (take_one old t) ⊎ Ended h code retries (end_of old t) p (take_one old t)
+Next h code retries p unit old t =
+    Begun h p unit retries (take_one old t) ⊎ Ended h code retries (end_of old t) p (take_one old t)
 
 -- an answer fits the policy state where it fits the raw one
 fits_open : (reply : Reply) (p : State) (pc units steps : ℕ)

@@ -129,7 +129,8 @@ module _ (h g : History) (e : Extends h g) where
             | inl within ↦ (first, along_grows takes p retries (take_one r t) (inr within) along.1)
             | inr ended ↦ (
               first,
-              along_grows takes ended.new (retries + ended.more) (take_one r t) (inl (ended.ready, ended.between)) along.1,
+              along_grows takes ended.new (retries + ended.more) (take_one r t) (inl (ended.ready, ended.between))
+                  along.1,
             )
           ]
 

@@ -98,7 +98,8 @@ inside_check h code p retries slot link rs1 imm a more two v check.Pointed r is 
     inside h code p _ retries a 4 more 4 _ _ _ _ _ _ _ r is (omega arith, omega arith) tt tt two
     (λ again there. absurd (omega (arith, there)))
 inside_check h code p retries slot link rs1 imm a more two v check.AskedBary r is holds =
-    inside h code p _ retries a 5 more 5 _ _ _ _ _ _ _ r is (omega arith, omega arith) (refl, slot_within h code p link rs1 imm slot a) tt two
+    inside h code p _ retries a 5 more 5 _ _ _ _ _ _ _ r is (omega arith, omega arith)
+    (refl, slot_within h code p link rs1 imm slot a) tt two
     (λ again there. absurd (omega (arith, there)))
 inside_check h code p retries slot link rs1 imm a more two v check.FoundBary r is holds =
     inside h code p _ retries a 5 more 5 _ _ _ _ _ _ _ r is (omega arith, omega arith) tt tt two
@@ -138,12 +139,14 @@ shown_within h code p (units.Plain insn) retries r a begun = absurd begun
 shown_within h code p (units.Branch c rs1 rs2 off) retries r a begun = absurd begun
 shown_within h code p (units.Jump link off) retries r a begun = absurd begun
 shown_within h code p (units.Load kind rd rs1 imm) retries r a begun =
-    inside_masked h code p (units.Load kind rd rs1 imm) retries _ a (λ at within. (within, omega (arith, within))) tt (refl, refl)
+    inside_masked h code p (units.Load kind rd rs1 imm) retries _ a
+    (λ at within. (within, omega (arith, within))) tt (refl, refl)
     begun.x28 begun.x29 begun.x30
     begun.place r
     begun.is
 shown_within h code p (units.Store kind rs1 rs2 imm) retries r a begun =
-    inside_masked h code p (units.Store kind rs1 rs2 imm) retries _ a (λ at within. (within, omega (arith, within))) tt (refl, refl)
+    inside_masked h code p (units.Store kind rs1 rs2 imm) retries _ a
+    (λ at within. (within, omega (arith, within))) tt (refl, refl)
     begun.x28 begun.x29 begun.x30
     begun.place
     r begun.is

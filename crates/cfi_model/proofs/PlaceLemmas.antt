@@ -39,11 +39,13 @@ IsNoService unit = ⊤
 module _ (p : State) where
   masked_lies : (n address x28 x29 x30 : ℕ) (unit : CodeUnit) → size_of unit ≡ 6 → (place : masked.MaskedPlace)
       → LiesIn p.pc unit (masked.masked_raw p n address x28 x29 x30 place).base.pc
-  masked_lies n address x28 x29 x30 unit size masked.Aimed = record { place = 1; within = omega (arith, size); is = refl }
+  masked_lies n address x28 x29 x30 unit size masked.Aimed =
+      record { place = 1; within = omega (arith, size); is = refl }
   masked_lies n address x28 x29 x30 unit size masked.Shifted =
       record { place = 2; within = omega (arith, size); is = refl }
   masked_lies n address x28 x29 x30 unit size masked.Cut = record { place = 3; within = omega (arith, size); is = refl }
-  masked_lies n address x28 x29 x30 unit size masked.Based = record { place = 4; within = omega (arith, size); is = refl }
+  masked_lies n address x28 x29 x30 unit size masked.Based =
+      record { place = 4; within = omega (arith, size); is = refl }
   masked_lies n address x28 x29 x30 unit size masked.Merged =
       record { place = 5; within = omega (arith, size); is = refl }
 

@@ -9,8 +9,8 @@ abbrev pub quiet_word_of : Quiet → ℕ
 quiet_word_of Unregistered = 0
 quiet_word_of (Published epoch) = epoch + 1
 
--- an update to this epoch may go on where it finds this in a QUIET word: after the guest's quiescent point its Bary word
--- has an epoch of at least one less than was published, so all that its next try can meet have different versions
+-- an update to this epoch may go on where it finds this in a QUIET word: after the guest's quiescent point its Bary
+-- word has an epoch of at least one less than was published, so all that its next try can meet have different versions
 abbrev pub admits : (versions epoch : ℕ) → Quiet → Bool
 admits versions epoch Unregistered = true
 admits versions epoch (Published quiet) = nat_le epoch (quiet + versions - 2)

@@ -1,5 +1,5 @@
--- The law of a running guest, one access after the other: where it starts, what one access makes of it, and that it goes
--- on where the history and the code grow.
+-- The law of a running guest, one access after the other: where it starts, what one access makes of it, and that it
+-- goes on where the history and the code grow.
 use Rattle.std.specs.Prelude.{◌≡◌, ◌≢◌, ℕ, ℤ, Bool, true, ◌+◌, ◌≤◌, ◌⊎◌, List, [], length, slice_index, Some, None}
 use Rattle.rv_insn.specs.InsnOf.{insn_of}
 use Rattle.cfi_unit.specs.declared.fill.Fill.{Fill}
@@ -46,7 +46,8 @@ pub record IsSpent (last r : Raw) : Type 0 where
   pub is : r ≡ record last { base = record last.base { stop = Some stops.Fuel } }
 
 abbrev pub IsGuest : History → (code : List ℕ) → (retries : ℕ) → State → Raw → Type 0
-IsGuest h code retries s r = IsRunning h code retries s r ⊎ ((last : Raw) × IsRunning h code retries s last × IsSpent last r)
+IsGuest h code retries s r =
+    IsRunning h code retries s r ⊎ ((last : Raw) × IsRunning h code retries s last × IsSpent last r)
 
 -- an access has ended a unit, which the policy machine has run
 pub record EndsUnit (h : History) (code : List ℕ) (retries : ℕ) (s : State) (r : Raw) (t : Take) : Type 0 where
