@@ -4,3 +4,10 @@ pub mod LaterLemmas
 pub mod UpdateLemmas
 pub mod WorldLemmas
 pub mod RefineLemmas
+pub mod AgreeLemmas
+pub mod EntryLemmas
+pub mod FieldLemmas
+pub mod HeldLemmas
+pub mod StoreLemmas
+pub mod CodeLemmas
+pub mod OpenLemmas

@@ -66,6 +66,16 @@ is_storing (phases.Tary next) = true
 is_storing phases.Epoch = true
 is_storing (phases.Bary next) = true
 
+-- a phase that is neither idle nor a test
+pub stores_by : (phase : Phase) → (phase ≡ phases.Idle → ⊥) → ((guest : ℕ) → phase ≡ phases.Testing guest → ⊥)
+    → is_storing phase ≡ true
+stores_by phases.Idle none test = absurd (none refl)
+stores_by (phases.Testing guest) none test = absurd (test guest refl)
+stores_by (phases.Code index) none test = refl
+stores_by (phases.Tary index) none test = refl
+stores_by phases.Epoch none test = refl
+stores_by (phases.Bary slot) none test = refl
+
 row_storing : (c s : ℕ) (phase : Phase) → IsRow c s phase → is_storing phase ≡ true → s < stores_of c
 row_storing c s phases.Idle row is = absurd (cc)
 row_storing c s (phases.Testing guest) row is = absurd row

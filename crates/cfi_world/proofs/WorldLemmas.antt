@@ -1,5 +1,5 @@
 -- Every event keeps what holds of a world.
-use Rattle.std.proofs.Common.{◌≡◌, ◌≢◌, ℕ, ◌+◌, ◌-◌, ◌<◌, ◌≤◌, ◌==◌, ◌&&◌, ◌||◌, nat_lt, nat_le, cond, Bool, true, false, List, [], ◌∷◌, ◌++◌, length, length-set, length-append, replicate, slice_get, slice_set, slice_index_or, is_some, Option, Some, None, refl, sym, ◌∙◌, ap, subst, arith, rules, inl, inr}
+use Rattle.std.proofs.Common.{◌≡◌, ◌≢◌, ℕ, ◌+◌, ◌-◌, ◌^◌, ◌<◌, ◌≤◌, ◌==◌, ◌&&◌, ◌||◌, nat_lt, nat_le, cond, Bool, true, false, List, [], ◌∷◌, ◌++◌, length, length-set, length-append, replicate, slice_get, slice_set, slice_index_or, is_some, Option, Some, None, refl, sym, ◌∙◌, ap, subst, arith, rules, inl, inr}
 use Rattle.std.proofs.lemmas.Bool.{cases_lt, cases_eq}
 use Rattle.std.proofs.lemmas.List.{set-get_or, get_or-set_same, get_or-set_other, get_or_append_left, get_or-replicate, length-replicate}
 use Rattle.std.proofs.lemmas.Option.{slice_get_within, slice_get-get_or, get_or_from_slice_get}
@@ -94,6 +94,8 @@ module _ (w : World) (is : IsWorld w) (u : Tables) (later : IsTables u) (on : Go
         points_many = is.points_many;
         few = is.few;
         room = room;
+        room_fits = is.room_fits;
+        fuel_fits = is.fuel_fits;
         entries_few = few;
         seats = λ guest r e. (seats guest r e).seat;
         running = λ guest r e. (seats guest r e).running;
@@ -147,6 +149,8 @@ module _ (w : World) (is : IsWorld w) (guest : ℕ) (old : Raw) (here : slice_ge
     points_many = length-set w.points guest s.point ∙ is.points_many;
     few = omega (arith, length-set w.guests guest s.guest, is.few);
     room = is.room;
+    room_fits = is.room_fits;
+    fuel_fits = is.fuel_fits;
     entries_few = is.entries_few;
     seats = λ other r e. (seat_after_all other r e).seat;
     running = λ other r e. (seat_after_all other r e).running;
@@ -169,6 +173,9 @@ begins_or : (idle spent : Bool) (w new : World) → IsWorld (cond idle (cond spe
 begins_or true true w new is = is
 begins_or true false w new is = is
 begins_or false spent w new is = is
+
+not_last : (n : ℕ) → n ≢ MAX_EPOCH → (n == MAX_EPOCH) ≡ false
+not_last n left = search (rules, arith)
 
 spent_not : (n : ℕ) → n ≡ MAX_EPOCH → (n == MAX_EPOCH) ≡ false → ⊥
 spent_not n e test =
@@ -222,7 +229,7 @@ asks_it Asking e = refl
 
 module _ (w : World) (is : IsWorld w) where
   -- a guest's
-  guest_by : (guest : ℕ) (r : Raw) → slice_get w.guests guest ≡ Some r → (still : Bool)
+  pub guest_by : (guest : ℕ) (r : Raw) → slice_get w.guests guest ≡ Some r → (still : Bool)
       → is_some r.base.stop || is_asking (point_of w guest) ≡ still
       → IsWorld (cond still w (with_seat w guest (seat_after w.tables w.fuel (seat_of w guest r))))
   guest_by guest r here true e = is
@@ -232,7 +239,7 @@ module _ (w : World) (is : IsWorld w) where
       (service.seat_goes w.tables is.tables w.fuel guest (seat_of w guest r) (seated_in w is guest r here) going).seated
 
   -- the beginning of an update
-  begin_by : (image : Option Image) → HasRoom w image → (idle spent : Bool) → is_idle (phase_of w.tables) ≡ idle
+  pub begin_by : (image : Option Image) → HasRoom w image → (idle spent : Bool) → is_idle (phase_of w.tables) ≡ idle
       → (epoch_in_force w.tables == MAX_EPOCH) ≡ spent
       → IsWorld (cond idle (cond spent w (record w { tables = begun image w.tables; updates = w.updates + 1 })) w)
   begin_by image may true true idle spent = is
@@ -249,6 +256,11 @@ module _ (w : World) (is : IsWorld w) where
         next = λ asked less. absurd (omega (arith, less));
       })
       (omega (arith, may.room)) (omega (arith, is.entries_few, none))
+
+  pub begun_kept : (image : Option Image) → HasRoom w image → is_idle (phase_of w.tables) ≡ true
+      → epoch_in_force w.tables ≢ MAX_EPOCH
+      → IsWorld (record w { tables = begun image w.tables; updates = w.updates + 1 })
+  begun_kept image may idle left = begin_by image may true false idle (not_last (epoch_in_force w.tables) left)
 
   -- the test of a QUIET word: the guest that is tested lets the update go on
   pub record LetsOn (entry : Entry) : Type 0 where
@@ -310,14 +322,14 @@ module _ (w : World) (is : IsWorld w) where
       })
       is.room (omega (arith, longer, one, is.entries_few))
 
-  passed_all : (asked : Option Entry) → w.tables.asked ≡ asked
+  pub passed_all : (asked : Option Entry) → w.tables.asked ≡ asked
       → admits w.tables.versions (next_epoch w.tables) (quiet_of w w.tables.tested) ≡ true
       → IsWorld (record w { tables = passed_by asked w.tables })
   passed_all None none lets = is
   passed_all (Some entry) some lets =
       passed_kept entry (record { asked = some; admits_it = lets }) (nat_lt (w.tables.tested + 1) GUESTS) refl
 
-  refused_kept : (guest : ℕ) (quiet : Quiet) → IsWorld (refused w guest quiet).world
+  pub refused_kept : (guest : ℕ) (quiet : Quiet) → IsWorld (refused w guest quiet).world
   refused_kept guest Unregistered = is
   refused_kept guest (Published quiet) =
       world_later w is (dropped w.tables) (dropped_is w.tables is.tables) (dropped_on w.tables is.tables) w.updates
@@ -331,7 +343,7 @@ module _ (w : World) (is : IsWorld w) where
   tested_by false e = refused_kept w.tables.tested (quiet_of w w.tables.tested)
 
   -- a store
-  stored_kept : is_storing (phase_of w.tables) ≡ true → IsWorld (record w { tables = stored w.tables })
+  pub stored_kept : is_storing (phase_of w.tables) ≡ true → IsWorld (record w { tables = stored w.tables })
   stored_kept e =
       let storing = storing_is w.tables e in
       let none : pending w.tables.asked ≡ 0 = ap pending storing.asked in
@@ -359,7 +371,7 @@ module _ (w : World) (is : IsWorld w) where
   update_by (phases.Bary slot) e = stored_kept (ap is_storing e)
 
   -- an answer
-  answer_by : (guest : ℕ) (reply : Reply) → MayAnswer w reply → (r : Raw) → slice_get w.guests guest ≡ Some r
+  pub answer_by : (guest : ℕ) (reply : Reply) → MayAnswer w reply → (r : Raw) → slice_get w.guests guest ≡ Some r
       → (asking : Bool) → is_asking (point_of w guest) ≡ asking
       → IsWorld (cond asking (answered w guest reply r) w)
   answer_by guest reply may r here false e = is
@@ -373,7 +385,7 @@ module _ (w : World) (is : IsWorld w) where
       (world_seated w is guest r here new both.seated)
 
   -- a release
-  release_by : (guest : ℕ) (r : Raw) → slice_get w.guests guest ≡ Some r → (may : Bool)
+  pub release_by : (guest : ℕ) (r : Raw) → slice_get w.guests guest ≡ Some r → (may : Bool)
       → is_some r.base.stop && (is_registered (quiet_of w guest) && is_idle (phase_of w.tables)) ≡ may
       → IsWorld (cond may (record w { quiets = slice_set w.quiets guest Unregistered }) w)
   release_by guest r here false e = is
@@ -465,7 +477,7 @@ no_bary r word number entry fills is e =
     absurd (cc)
 
 module _ (code_words versions first : ℕ) (image : Image) (guests : List Raw) (room fuel : ℕ) (size : IsSize code_words)
-    (can : CanOpen code_words versions first image guests fuel) where
+    (can : CanOpen code_words versions first image guests fuel) (room_fits : room < 2 ^ 32) (fuel_fits : fuel < 2 ^ 32) where
   abbrev opened : World
   opened = opened_world code_words versions first image guests room fuel
 
@@ -531,6 +543,8 @@ module _ (code_words versions first : ℕ) (image : Image) (guests : List Raw) (
     points_many = length-replicate GUESTS Outside;
     few = can.few;
     room = omega arith;
+    room_fits = room_fits;
+    fuel_fits = fuel_fits;
     entries_few = omega arith;
     seats = λ guest r e. (opened_seat guest r e).seat;
     running = λ guest r e. (opened_seat guest r e).running;

@@ -1,5 +1,5 @@
 -- What the events of a world make of its guests, over every list of events.
-use Rattle.std.specs.Prelude.{◌≡◌, ◌≢◌, ◌⊎◌, ℕ, ◌+◌, ◌%◌, ◌≤◌, ◌<◌, List, [], ◌∷◌, slice_get, Some, None, ⊤}
+use Rattle.std.specs.Prelude.{◌≡◌, ◌≢◌, ◌⊎◌, ℕ, ◌+◌, ◌%◌, ◌^◌, ◌≤◌, ◌<◌, List, [], ◌∷◌, slice_get, Some, None, ⊤}
 use Rattle.cfi_word.specs.declared.lists.Image.{Image}
 use Rattle.cfi_word.specs.Rank.{stores_of}
 use Rattle.cfi_word.specs.Table.{IsSize, Tary, Bary, slots_of}
@@ -130,7 +130,7 @@ world_after w (event ∷ later) = world_after (turn_of w event).world later
 abbrev pub OpensAWorld : Type 0
 OpensAWorld =
     (code_words versions first : ℕ) (image : Image) (guests : List Raw) (room fuel : ℕ) → IsSize code_words →
-    CanOpen code_words versions first image guests fuel →
+    CanOpen code_words versions first image guests fuel → room < 2 ^ 32 → fuel < 2 ^ 32 →
     IsWorld (opened_world code_words versions first image guests room fuel)
 
 abbrev pub StaysAWorld : Type 0

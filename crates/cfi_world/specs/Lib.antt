@@ -1,3 +1,4 @@
+pub mod inner
 pub mod Seats
 pub mod Updates
 pub mod Turns

@@ -34,11 +34,11 @@ abbrev pub nothing : World → Turn
 nothing w = record { world = w; answer = Nothing }
 
 -- a guest had an event, and may wait for its answer now
+abbrev pub turned_by : (guest : ℕ) → Seat → Turned
+turned_by guest s = if is_asking s.point then Asks guest (argument s.guest.base) else Did
+
 abbrev pub seated : World → (guest : ℕ) → Seat → Turn
-seated w guest s = record {
-  world = with_seat w guest s;
-  answer = if is_asking s.point then Asks guest (argument s.guest.base) else Did;
-}
+seated w guest s = record { world = with_seat w guest s; answer = turned_by guest s }
 
 -- an event of a guest that has not stopped and waits for no answer
 abbrev pub guest_turn : World → (guest : ℕ) → Option Raw → Turn
@@ -65,10 +65,13 @@ refused w guest (Published quiet) = record {
   answer = VersionsSpent guest quiet;
 }
 
+abbrev pub passed_turn : World → Turn
+passed_turn w = did (record w { tables = passed_by w.tables.asked w.tables })
+
 abbrev pub tested_turn : World → (guest : ℕ) → Quiet → Turn
 tested_turn w guest quiet =
     if admits w.tables.versions (next_epoch w.tables) quiet
-    then did (record w { tables = passed_by w.tables.asked w.tables })
+    then passed_turn w
     else refused w guest quiet
 
 abbrev pub store_turn : World → Turn

@@ -1,5 +1,5 @@
 -- What holds of a world at every moment.
-use Rattle.std.specs.Prelude.{◌≡◌, ◌≢◌, ℕ, ◌+◌, ◌≤◌, ◌<◌, length, slice_get, Option, Some, None, ⊤}
+use Rattle.std.specs.Prelude.{◌≡◌, ◌≢◌, ℕ, ◌+◌, ◌^◌, ◌≤◌, ◌<◌, length, slice_get, Option, Some, None, ⊤}
 use Rattle.cfi_unit.specs.declared.log.Stop.TheVariants.{Fuel}
 use Rattle.cfi_word.specs.Word.{epoch_in}
 use Rattle.cfi_word.specs.declared.limits.TheConstants.{GUESTS, MAX_OPENS}
@@ -91,6 +91,8 @@ pub record IsWorld (w : World) : Type 0 where
   pub points_many : length w.points ≡ GUESTS
   pub few : length w.guests ≤ GUESTS
   pub room : w.updates ≤ w.room
+  pub room_fits : w.room < 2 ^ 32
+  pub fuel_fits : w.fuel < 2 ^ 32
   pub entries_few : length w.tables.entries + pending w.tables.asked ≤ w.updates + 1
   pub seats : (guest : ℕ) (r : Raw) → slice_get w.guests guest ≡ Some r → IsSeat w.tables w.fuel (seat_of w guest r)
   pub running : (guest : ℕ) (r : Raw) → slice_get w.guests guest ≡ Some r

@@ -1,0 +1,18 @@
+-- A world as it is kept.
+use Rattle.cfi_model.specs.World.{World}
+use Rattle.cfi_world.specs.Worlds.{IsWorld}
+use Rattle.cfi_world.specs.declared.world.World.TheInside.{Inside}
+
+abbrev pub whole_of : Inside → World
+whole_of a = record {
+  tables = a.tables.tables;
+  quiets = a.quiets;
+  guests = a.guests.items;
+  points = a.points;
+  fuel = a.fuel;
+  room = a.tables.room;
+  updates = a.updates;
+}
+
+abbrev pub IsKept : Inside → Type 0
+IsKept a = IsWorld (whole_of a)
