@@ -94,20 +94,20 @@ code_kept code_words n ms some all a b word there = ⊎_elim
 pub history : (code_words : ℕ) (ms : List Placed) (starts : ℕ) (h : History) (code : List ℕ) → AreLoaded code_words ms
     → IsCodeOf ms code_words code → IsHistoryOf code_words ms starts h → HasNumbers h → IsHistory h code
 history code_words ms starts h code loaded is of numbers =
-  let closed_at : (epoch : ℕ) → IsSeen h epoch → IsClosed (length code) (h.image epoch) = λ epoch known.
-      let n = of.loaded epoch in
-      subst (λ (words : ℕ). IsClosed words (h.image epoch)) (sym is.len)
-      (closed code_words (take n ms) (loaded_some code_words n ms loaded) (of.live epoch) (h.image epoch)
-      (of.images epoch known)) in
-  record {
-  size = subst IsSize (sym is.len) loaded.size;
-  versions_least = numbers.versions_least;
-  versions_most = numbers.versions_most;
-  epochs_fit = numbers.epochs;
-  policies_fit = numbers.policies;
-  classes = λ epoch known. (closed_at epoch known).1.classes;
-  closed = λ epoch known. closed_at epoch (seen_of h epoch known);
-  kept = λ epoch place known there.
-      code_kept code_words (of.loaded epoch) ms (h.image epoch).code code
-      (of.images epoch (seen_of h epoch known)).1.code is place there;
-}
+    let closed_at : (epoch : ℕ) → IsSeen h epoch → IsClosed (length code) (h.image epoch) = λ epoch known.
+    let n = of.loaded epoch in
+    subst (λ (words : ℕ). IsClosed words (h.image epoch)) (sym is.len)
+    (closed code_words (take n ms) (loaded_some code_words n ms loaded) (of.live epoch) (h.image epoch)
+    (of.images epoch known)) in
+    record {
+      size = subst IsSize (sym is.len) loaded.size;
+      versions_least = numbers.versions_least;
+      versions_most = numbers.versions_most;
+      epochs_fit = numbers.epochs;
+      policies_fit = numbers.policies;
+      classes = λ epoch known. (closed_at epoch known).1.classes;
+      closed = λ epoch known. closed_at epoch (seen_of h epoch known);
+      kept = λ epoch place known there.
+          code_kept code_words (of.loaded epoch) ms (h.image epoch).code code
+          (of.images epoch (seen_of h epoch known)).1.code is place there;
+    }
