@@ -11,3 +11,5 @@ pub mod HeldLemmas
 pub mod StoreLemmas
 pub mod CodeLemmas
 pub mod OpenLemmas
+pub mod OutcomeLemmas
+pub mod RefusalLemmas

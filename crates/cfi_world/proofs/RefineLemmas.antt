@@ -26,7 +26,7 @@ use Rattle.cfi_model.specs.Words.{Tables, epoch_in_force, policy_in_force, next_
 use Rattle.cfi_model.specs.World.{World, quiet_of, point_of}
 use Rattle.cfi_model.proofs.InForceLemmas.{force_rises, policy_rises, bary_epoch, bary_epoch_is, tary_epoch, tary_epoch_is, index_within}
 use Rattle.cfi_model.proofs.TableLemmas.{force_epoch}
-use Rattle.cfi_world.specs.Laws.{IsRefined, IsAnothers, IsUpdates, IsBaryLoad, IsTaryLoad, IsRefusal}
+use Rattle.cfi_world.specs.Laws.{IsRefined, IsAnothers, IsUpdates, IsBaryLoad, IsTaryLoad}
 use Rattle.cfi_world.specs.Premises.{MayAnswer, MayTurn}
 use Rattle.cfi_world.specs.Seats.{Seat, seat_of, with_seat, seat_after, rested, is_asking}
 use Rattle.cfi_world.specs.Turns.{Turn, did, nothing, seated, guest_turn, begin_turn, refused, update_turn, answered, answer_turn, release_turn, reply_in, turn_of}
@@ -39,7 +39,7 @@ use Rattle.cfi_world.proofs.LaterLemmas.{guest_later}
 use Rattle.cfi_world.proofs.SeatLemmas.{AreSeated, fair_word}
 use Rattle.cfi_world.proofs.ServiceLemmas as service
 use Rattle.cfi_world.proofs.UpdateLemmas.{begun_on, dropped_on, stored_on, tested_on, begins_on}
-use Rattle.cfi_world.proofs.WorldLemmas.{seated_in, turn_kept, testing_is, neither, not_some, asks_it}
+use Rattle.cfi_world.proofs.WorldLemmas.{seated_in, turn_kept, neither, not_some, asks_it}
 
 -- ---- the tables go on
 
@@ -388,46 +388,3 @@ pub picks : (w : World) (is : IsWorld w) (guest : ℕ) (r : Raw) → slice_get w
     × (epoch_in (word_at w.tables (Tary (tary_index w.tables.code_words address))) ≡ epoch_in_force w.tables)
 picks w is guest r here going kept address keeps same =
     pick_by w is guest r kept address (quiet_of w guest) (is.running guest r here).quiet going keeps same
-
--- ---- refused updates
-
-module _ (w : World) (is : IsWorld w) (guest quiet : ℕ) where
-  far_by : (epoch p versions : ℕ) → 3 ≤ versions → nat_le epoch (p + versions - 2) ≡ false → p + versions < epoch + 2
-  far_by epoch p versions some e =
-      let far : p + versions - 2 < epoch = search (rules, arith) in
-      omega (arith, far, some)
-
-  refused_by : (k : ℕ) → k ≡ w.tables.tested → (found : Quiet) → quiet_of w k ≡ found
-      → admits w.tables.versions (next_epoch w.tables) found ≡ false
-      → (refused w k found).answer ≡ VersionsSpent guest quiet → IsRefusal w guest quiet
-  refused_by k is_tested Unregistered found e answer = absurd (cc)
-  refused_by k is_tested (Published p) found e answer =
-      let same_guest : k ≡ guest = cc in
-      let same_quiet : p ≡ quiet = cc in
-      record {
-        tested = sym same_guest ∙ is_tested;
-        published = ap (quiet_of w) (sym same_guest) ∙ found ∙ ap Published same_quiet;
-        far = subst (λ n. n + w.tables.versions < next_epoch w.tables + 2) same_quiet
-            (far_by (next_epoch w.tables) p w.tables.versions is.tables.versions_least e);
-      }
-
-  tested_by : (k : ℕ) → k ≡ w.tables.tested → (lets : Bool)
-      → admits w.tables.versions (next_epoch w.tables) (quiet_of w k) ≡ lets
-      → (cond lets (did (record w { tables = passed_by w.tables.asked w.tables }))
-      (refused w k (quiet_of w k))).answer ≡ VersionsSpent guest quiet → IsRefusal w guest quiet
-  tested_by k is_tested true e answer = absurd (cc)
-  tested_by k is_tested false e answer = refused_by k is_tested (quiet_of w k) refl e answer
-
-  update_refuses : (phase : Phase) → phase_of w.tables ≡ phase
-      → (update_turn w phase).answer ≡ VersionsSpent guest quiet → IsRefusal w guest quiet
-  update_refuses phases.Idle e answer = absurd (cc)
-  update_refuses (phases.Testing k) e answer =
-      tested_by k (testing_is w is w.tables.asked w.tables.tested w.tables.code_words w.tables.stored k e)
-      (admits w.tables.versions (next_epoch w.tables) (quiet_of w k)) refl answer
-  update_refuses (phases.Code index) e answer = absurd (cc)
-  update_refuses (phases.Tary index) e answer = absurd (cc)
-  update_refuses phases.Epoch e answer = absurd (cc)
-  update_refuses (phases.Bary slot) e answer = absurd (cc)
-
-  pub refusal_fits : (turn_of w events.Update).answer ≡ VersionsSpent guest quiet → IsRefusal w guest quiet
-  refusal_fits answer = update_refuses (phase_of w.tables) refl answer

@@ -185,7 +185,7 @@ spent_not n e test =
 asked_some : {o : Option Entry} {entry : Entry} → o ≡ Some entry → o ≢ None
 asked_some e = λ none. absurd (cc)
 
-row_none : (c s : ℕ) (phase : Phase) (guest : ℕ) → IsRow c s phase → phase ≡ phases.Testing guest → ⊥
+pub row_none : (c s : ℕ) (phase : Phase) (guest : ℕ) → IsRow c s phase → phase ≡ phases.Testing guest → ⊥
 row_none c s phases.Idle guest row e = absurd (cc)
 row_none c s (phases.Testing other) guest row e = row
 row_none c s (phases.Code index) guest row e = absurd (cc)

@@ -105,17 +105,6 @@ PicksAreInForce =
     epoch_in kept % w.tables.versions ≡ epoch_in word % w.tables.versions →
     (epoch_in kept ≡ epoch_in word) × (epoch_in word ≡ epoch_in_force w.tables)
 
--- an update is refused exactly where the guest that is tested has published an epoch from which it is too far
-pub record IsRefusal (w : World) (guest quiet : ℕ) : Type 0 where
-  pub tested : guest ≡ w.tables.tested
-  pub published : quiet_of w guest ≡ Published quiet
-  pub far : quiet + w.tables.versions < next_epoch w.tables + 2
-
-abbrev pub RefusalsFit : Type 0
-RefusalsFit =
-    (w : World) → IsWorld w → (guest quiet : ℕ) →
-    (turn_of w events.Update).answer ≡ VersionsSpent guest quiet → IsRefusal w guest quiet
-
 -- each event of a list may come where it comes
 abbrev pub MayTurns : World → List Event → Type 0
 MayTurns w [] = ⊤

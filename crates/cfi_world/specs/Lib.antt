@@ -5,3 +5,4 @@ pub mod Turns
 pub mod Premises
 pub mod Worlds
 pub mod Laws
+pub mod Outcomes

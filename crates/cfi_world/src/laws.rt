@@ -1,8 +1,16 @@
 //! What holds of a world over every list of events.
 
-ghost use Rattle.cfi_world.specs.Laws.{BaryLoads, TaryLoads, PicksAreInForce, RefusalsFit};
+ghost use Rattle.std.specs.Prelude.{◌≡◌, ℕ};
+ghost use Rattle.cfi_model.specs.World.{World as Whole};
+ghost use Rattle.cfi_world.specs.Laws.{BaryLoads, TaryLoads, PicksAreInForce};
 ghost use Rattle.cfi_world.specs.Laws.{OpensAWorld, StaysAWorld, TurnsRefine, OthersStay};
 ghost use Rattle.cfi_world.specs.Laws.{OnlyUpdatesStore, ForceNeverFalls};
+ghost use Rattle.cfi_world.specs.Outcomes.{IsLeast, IsNothing, IsRefusal};
+ghost use Rattle.cfi_world.specs.Turns.{nothing, turn_of};
+ghost use Rattle.cfi_world.specs.Worlds.{IsWorld};
+ghost use Rattle.cfi_world.specs.declared.event.Event.TheVariants.{Update};
+ghost use Rattle.cfi_world.specs.declared.event.Event.{Event as Happening};
+ghost use Rattle.cfi_world.specs.declared.event.Turned.TheVariants.{Nothing, VersionsSpent};
 
 /// What holds of a world at every moment, after any list of events: of its tables, and that each guest runs.
 ///
@@ -35,7 +43,22 @@ pub fn tries_find_epochs()
     ensures picks { PicksAreInForce }
 {}
 
-/// An update is refused for the guest that is tested, whose published epoch is too far behind.
-pub fn refusals_are_due()
-    ensures { RefusalsFit }
+/// Nothing comes in seven cases alone, and the world is then as it was.
+pub fn nothing_comes_in_seven_cases()
+    ensures same { (w : Whole) (event : Happening) → IsNothing w event → turn_of w event ≡ nothing w }
+    ensures only { (w : Whole) (event : Happening) → (turn_of w event).answer ≡ Nothing →
+        IsNothing w event }
+{}
+
+/// An update is refused exactly where its test meets a guest that has published an epoch too far below.
+///
+/// It is the least such guest, and still registered.
+pub fn the_least_guest_refuses_an_update()
+    ensures spent { (w : Whole) (guest quiet : ℕ) → IsRefusal w guest quiet →
+        (turn_of w Update).answer ≡ VersionsSpent guest quiet }
+    ensures only { (w : Whole) (event : Happening) (guest quiet : ℕ) →
+        (turn_of w event).answer ≡ VersionsSpent guest quiet →
+        (event ≡ Update) × IsRefusal w guest quiet }
+    ensures least { (w : Whole) (guest quiet : ℕ) → IsWorld w → IsRefusal w guest quiet →
+        IsLeast w guest }
 {}

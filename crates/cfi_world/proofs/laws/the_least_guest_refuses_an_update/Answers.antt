@@ -1,0 +1,11 @@
+use Rattle.cfi_world.proofs.RefusalLemmas.{refusal_least, refusal_only, refusal_spent}
+use Rattle.cfi_world.proofs.laws.the_least_guest_refuses_an_update.Goals as goal
+
+pub returns-clause-spent : goal.returns-clause-spent
+returns-clause-spent c = refusal_spent
+
+pub returns-clause-only : goal.returns-clause-only
+returns-clause-only c = refusal_only
+
+pub returns-clause-least : goal.returns-clause-least
+returns-clause-least c = λ w guest quiet is refusal. refusal_least w is guest quiet refusal

@@ -1,0 +1,60 @@
+-- When each answer comes.
+use Rattle.std.specs.Prelude.{◌≡◌, ◌≢◌, ℕ, ◌+◌, ◌-◌, ◌<◌, ◌⊎◌, true, length, slice_get, Some, None}
+use Rattle.cfi_word.specs.declared.limits.TheConstants.{MAX_OPENS}
+use Rattle.cfi_word.specs.declared.services.TheConstants.{OPEN}
+use Rattle.cfi_model.specs.declared.act.Wait.TheVariants as waits
+use Rattle.cfi_model.specs.declared.phase.Phase.TheVariants as phases
+use Rattle.cfi_model.specs.declared.quiet.Point.TheVariants.{Asking, Found}
+use Rattle.cfi_model.specs.declared.quiet.Quiet.TheVariants.{Unregistered, Published}
+use Rattle.cfi_model.specs.Log.{opens}
+use Rattle.cfi_model.specs.Phases.{phase_of}
+use Rattle.cfi_model.specs.Quiet.{admits}
+use Rattle.cfi_model.specs.Raw.{Raw}
+use Rattle.cfi_model.specs.Service.{argument}
+use Rattle.cfi_model.specs.Words.{next_epoch}
+use Rattle.cfi_model.specs.World.{World, point_of, quiet_of}
+use Rattle.cfi_world.specs.declared.event.Event.{Event}
+use Rattle.cfi_world.specs.declared.event.Event.TheVariants as events
+
+-- no guest has the number
+abbrev pub IsAbsent : World → (guest : ℕ) → Type 0
+IsAbsent w guest = slice_get w.guests guest ≡ None
+
+-- a guest has it, and has stopped, or has not
+abbrev pub HasStopped : World → (guest : ℕ) → Type 0
+HasStopped w guest = (r : Raw) × (slice_get w.guests guest ≡ Some r) × (r.base.stop ≢ None)
+
+abbrev pub IsGoing : World → (guest : ℕ) → Type 0
+IsGoing w guest = (r : Raw) × (slice_get w.guests guest ≡ Some r) × (r.base.stop ≡ None)
+
+-- the events after which nothing has happened: the seven cases
+abbrev pub IsNothing : World → Event → Type 0
+IsNothing w (events.Guest guest) = IsAbsent w guest ⊎ (HasStopped w guest ⊎ (point_of w guest ≡ Asking))
+IsNothing w (events.Begin image) = phase_of w.tables ≢ phases.Idle
+IsNothing w events.Update = phase_of w.tables ≡ phases.Idle
+IsNothing w (events.Answer guest answer) = IsAbsent w guest ⊎ (point_of w guest ≢ Asking)
+IsNothing w (events.Release guest) =
+    IsAbsent w guest ⊎ (IsGoing w guest ⊎ ((quiet_of w guest ≡ Unregistered) ⊎ (phase_of w.tables ≢ phases.Idle)))
+
+-- an update is not admitted: its test meets a guest that has published an epoch too far below, and all guests of lesser
+-- numbers have passed
+pub record IsRefusal (w : World) (guest quiet : ℕ) : Type 0 where
+  pub tests : phase_of w.tables ≡ phases.Testing guest
+  pub published : quiet_of w guest ≡ Published quiet
+  pub late : quiet + w.tables.versions - 2 < next_epoch w.tables
+
+abbrev pub IsLeast : World → (guest : ℕ) → Type 0
+IsLeast w guest =
+    (other : ℕ) (r : Raw) → slice_get w.guests other ≡ Some r → other < guest →
+    admits w.tables.versions (next_epoch w.tables) (quiet_of w other) ≡ true
+
+-- a guest stores in its QUIET word, in an open that may be logged: it waits for the answer
+pub record IsOpening (w : World) (guest number : ℕ) : Type 0 where
+  pub r : Raw
+  pub there : slice_get w.guests guest ≡ Some r
+  pub going : r.base.stop ≡ None
+  pub opens_is : r.waits ≡ Some (waits.Service OPEN)
+  pub few : opens r.base.log < MAX_OPENS
+  pub epoch : ℕ
+  pub found : point_of w guest ≡ Found epoch
+  pub asks : number ≡ argument r.base
