@@ -1,5 +1,5 @@
 -- What the code of a turn makes is the turn.
-use Rattle.std.proofs.Common.{◌≡◌, ◌≢◌, ℕ, ◌+◌, ◌^◌, ◌<◌, ◌≤◌, ◌&&◌, ◌||◌, Bool, true, false, cond, not, List, length, slice_get, slice_set, slice_index_or, is_some, Option, Some, None, refl, sym, ◌∙◌, ap, subst, arith}
+use Rattle.std.proofs.Common.{◌≡◌, ℕ, ◌+◌, ◌^◌, ◌<◌, ◌≤◌, ◌&&◌, ◌||◌, Bool, true, false, cond, not, List, length, slice_get, slice_set, slice_index_or, is_some, Option, Some, None, refl, sym, ◌∙◌, ap, subst, arith}
 use Rattle.std.proofs.lemmas.Option.{slice_get-get_or}
 use Rattle.cfi_unit.specs.declared.log.Stop.{Stop}
 use Rattle.cfi_word.specs.declared.limits.TheConstants.{MAX_POLICY}

@@ -1,5 +1,5 @@
 -- Every event refines what a guest shows, and what loads find.
-use Rattle.std.proofs.Common.{◌≡◌, ◌≢◌, ℕ, ◌+◌, ◌-◌, ◌%◌, ◌<◌, ◌≤◌, ◌==◌, ◌||◌, nat_lt, nat_le, cond, Bool, true, false, List, length, length-set, slice_get, slice_set, is_some, Option, Some, None, refl, sym, ◌∙◌, ap, subst, arith, rules, ◌⊎◌, inl, inr}
+use Rattle.std.proofs.Common.{◌≡◌, ◌≢◌, ℕ, ◌+◌, ◌%◌, ◌<◌, ◌≤◌, ◌==◌, ◌||◌, nat_lt, cond, Bool, true, false, List, length, length-set, slice_get, slice_set, is_some, Option, Some, None, refl, sym, ◌∙◌, ap, subst, arith, ◌⊎◌, inl, inr}
 use Rattle.std.proofs.lemmas.Bool.{cases_lt, cases_eq, lt-ltb, le-ltb}
 use Rattle.std.proofs.lemmas.List.{get_or-set_same, get_or-set_other}
 use Rattle.std.proofs.lemmas.Option.{slice_get_within, slice_get-get_or, slice_get_past}
@@ -34,7 +34,7 @@ use Rattle.cfi_world.specs.Updates.{is_idle, begun, passed_by}
 use Rattle.cfi_world.specs.Worlds.{IsWorld, QuietFits}
 use Rattle.cfi_world.specs.declared.event.Event.{Event}
 use Rattle.cfi_world.specs.declared.event.Event.TheVariants as events
-use Rattle.cfi_world.specs.declared.event.Turned.TheVariants.{EpochsSpent, VersionsSpent}
+use Rattle.cfi_world.specs.declared.event.Turned.TheVariants.{EpochsSpent}
 use Rattle.cfi_world.proofs.LaterLemmas.{guest_later}
 use Rattle.cfi_world.proofs.SeatLemmas.{AreSeated, fair_word}
 use Rattle.cfi_world.proofs.ServiceLemmas as service

@@ -1,6 +1,5 @@
 -- Which guest refuses an update.
-use Rattle.std.proofs.Common.{◌≡◌, ◌≢◌, ℕ, ◌+◌, ◌-◌, ◌<◌, ◌≤◌, ◌==◌, ◌||◌, ◌&&◌, nat_le, cond, Bool, true, false, is_some, inl, inr, length, slice_get, [], Option, Some, None, refl, sym, ap, subst, ◌∙◌, arith}
-use Rattle.std.proofs.lemmas.Bool.{cases_lt}
+use Rattle.std.proofs.Common.{◌≡◌, ◌≢◌, ℕ, ◌+◌, ◌-◌, ◌<◌, ◌≤◌, ◌==◌, ◌||◌, ◌&&◌, nat_le, cond, Bool, true, false, is_some, slice_get, Option, Some, None, refl, sym, ap, subst, ◌∙◌, arith}
 use Rattle.std.proofs.lemmas.Bool.Decides.{nat_tests}
 use Rattle.cfi_word.specs.declared.limits.TheConstants.{MAX_EPOCH}
 use Rattle.cfi_model.specs.declared.phase.Phase.{Phase}
@@ -9,13 +8,12 @@ use Rattle.cfi_model.specs.declared.quiet.Quiet.{Quiet}
 use Rattle.cfi_model.specs.declared.quiet.Quiet.TheVariants.{Unregistered, Published}
 use Rattle.cfi_model.specs.Phases.{phase_of, phase_by, phase_after}
 use Rattle.cfi_model.specs.Quiet.{admits}
-use Rattle.cfi_model.specs.Raw.{Raw, fresh}
-use Rattle.cfi_model.specs.State.{opened}
+use Rattle.cfi_model.specs.Raw.{Raw}
 use Rattle.cfi_model.specs.Service.{Reply}
 use Rattle.cfi_model.specs.Words.{epoch_in_force, next_epoch}
 use Rattle.cfi_model.specs.World.{World, point_of, quiet_of}
 use Rattle.cfi_model.specs.declared.history.Entry.{Entry}
-use Rattle.cfi_model.proofs.PhaseLemmas.{IsRow, phase_row}
+use Rattle.cfi_model.proofs.PhaseLemmas.{phase_row}
 use Rattle.cfi_world.specs.Outcomes.{IsLeast, IsRefusal}
 use Rattle.cfi_world.specs.Seats.{Seat, is_asking, seat_after, seat_of}
 use Rattle.cfi_world.specs.Turns.{answer_turn, answered, did, guest_turn, is_registered, nothing, passed_turn, refused, release_turn, reply_in, seated, tested_turn, turn_of, update_turn}

@@ -4,7 +4,6 @@ use Rattle.cfi_word.specs.declared.lists.Image.{Image}
 use Rattle.cfi_word.specs.Rank.{stores_of}
 use Rattle.cfi_word.specs.Table.{IsSize, Tary, Bary, slots_of}
 use Rattle.cfi_word.specs.Word.{epoch_in}
-use Rattle.cfi_model.specs.declared.quiet.Quiet.TheVariants.{Published}
 use Rattle.cfi_model.specs.History.{History}
 use Rattle.cfi_model.specs.InForce.{history_of, code_in_force, tary_index}
 use Rattle.cfi_model.specs.Raw.{Raw}
@@ -13,13 +12,12 @@ use Rattle.cfi_model.specs.Shows.{End, IsStep}
 use Rattle.cfi_model.specs.State.{State}
 use Rattle.cfi_model.specs.Tables.{IsTables}
 use Rattle.cfi_model.specs.Words.{Tables, epoch_in_force, policy_in_force, next_epoch, word_at}
-use Rattle.cfi_model.specs.World.{World, opened_world, quiet_of}
+use Rattle.cfi_model.specs.World.{World, opened_world}
 use Rattle.cfi_world.specs.Premises.{CanOpen, MayTurn}
 use Rattle.cfi_world.specs.Turns.{turn_of}
 use Rattle.cfi_world.specs.Worlds.{IsWorld}
 use Rattle.cfi_world.specs.declared.event.Event.{Event}
 use Rattle.cfi_world.specs.declared.event.Event.TheVariants as events
-use Rattle.cfi_world.specs.declared.event.Turned.TheVariants.{VersionsSpent}
 
 -- the policy machine has run one unit, a check under the policy of the two words that the guest kept
 pub record IsStepped (h : History) (code : List ℕ) (retries : ℕ) (s : State) (r : Raw) (more : ℕ) (after : State)

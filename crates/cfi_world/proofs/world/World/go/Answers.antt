@@ -1,7 +1,7 @@
 use Rattle.std.proofs.Common.{◌≡◌, ◌<◌, ◌||◌, false, is_some, length, slice_get, rules, arith, sym, ap, subst, ◌∙◌}
 use Rattle.cfi_model.specs.World.{point_of}
 use Rattle.cfi_world.specs.Seats.{is_asking}
-use Rattle.cfi_world.specs.Turns.{Turn, guest_turn}
+use Rattle.cfi_world.specs.Turns.{guest_turn}
 use Rattle.cfi_world.specs.inner.Kept.{whole_of}
 use Rattle.cfi_world.specs.inner.Parts.{seat_by_parts}
 use Rattle.cfi_world.proofs.CodeLemmas.{item_is, same_item, steps_fit, logs_fit, going, gone_kept, gone_is}
