@@ -24,7 +24,8 @@ use Rattle.cfi_world.specs.Turns.{Turn, did, seated, nothing, guest_turn, turned
 use Rattle.cfi_world.specs.Worlds.{FitsPoint, IsWorld}
 use Rattle.cfi_world.specs.declared.event.Turned.{Turned}
 use Rattle.cfi_world.specs.declared.event.Turned.TheVariants.{Did}
-use Rattle.cfi_world.proofs.WorldLemmas.{guest_by, answer_by, release_by, neither, not_some, asks_it}
+use Rattle.cfi_world.proofs.WorldLemmas.{guest_by, answer_by, release_by}
+use Rattle.cfi_world.proofs.ChoiceLemmas.{neither, not_some, asks_it}
 
 -- the item at a place, read with a default of its own
 pub item_is : {X : Type 0} (xs : List X) (k : ℕ) (x : X) → k < length xs → x ≡ slice_index_or xs k x

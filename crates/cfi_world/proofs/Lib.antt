@@ -1,8 +1,16 @@
+pub mod RestLemmas
+pub mod VersionLemmas
 pub mod SeatLemmas
 pub mod ServiceLemmas
 pub mod LaterLemmas
+pub mod StoringLemmas
 pub mod UpdateLemmas
+pub mod SeatedLemmas
+pub mod ChoiceLemmas
+pub mod OpeningLemmas
 pub mod WorldLemmas
+pub mod ForceLemmas
+pub mod OthersLemmas
 pub mod RefineLemmas
 pub mod AgreeLemmas
 pub mod EntryLemmas

@@ -22,7 +22,8 @@ use Rattle.cfi_world.specs.Worlds.{IsWorld, QuietFits}
 use Rattle.cfi_world.specs.declared.event.Event.{Event}
 use Rattle.cfi_world.specs.declared.event.Event.TheVariants as events
 use Rattle.cfi_world.specs.declared.event.Turned.TheVariants.{Did, Asks, VersionsSpent, EpochsSpent}
-use Rattle.cfi_world.proofs.WorldLemmas.{testing_is, row_none}
+use Rattle.cfi_world.proofs.WorldLemmas.{testing_is}
+use Rattle.cfi_world.proofs.ChoiceLemmas.{row_none}
 
 late_test : (epoch most : ℕ) → most < epoch → nat_le epoch most ≡ false
 late_test epoch most late = grind (arith, nat_tests)

@@ -28,7 +28,8 @@ use Rattle.cfi_model.specs.Words.{Tables, epoch_in_force, policy_in_force}
 use Rattle.cfi_model.proofs.InForceLemmas.{history_is, force_within}
 use Rattle.cfi_model.proofs.RunningLemmas.{running_shows}
 use Rattle.cfi_model.proofs.TableLemmas.{force_policy}
-use Rattle.cfi_world.proofs.SeatLemmas.{AreSeated, HasGone, FitsForce, going_runs, seat_moved, fetched, found_bary, found_tary, same_bary}
+use Rattle.cfi_world.proofs.SeatLemmas.{AreSeated, HasGone, FitsForce, seat_moved, fetched, found_bary, found_tary}
+use Rattle.cfi_world.proofs.RestLemmas.{going_runs, same_bary}
 use Rattle.cfi_world.specs.Seats.{Seat, rested, needs_answer, serves, seat_by, seat_after}
 use Rattle.cfi_world.specs.Worlds.{IsServing, QuietFits, IsAtMost, FoundFits, FitsPoint}
 

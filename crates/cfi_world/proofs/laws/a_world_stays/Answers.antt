@@ -1,4 +1,5 @@
-use Rattle.cfi_world.proofs.WorldLemmas.{opened_is, stays_a_world}
+use Rattle.cfi_world.proofs.WorldLemmas.{stays_a_world}
+use Rattle.cfi_world.proofs.OpeningLemmas.{opened_is}
 use Rattle.cfi_world.proofs.laws.a_world_stays.Goals as goal
 
 pub returns-clause-opens : goal.returns-clause-opens

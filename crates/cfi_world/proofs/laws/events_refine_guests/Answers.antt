@@ -1,4 +1,6 @@
-use Rattle.cfi_world.proofs.RefineLemmas.{refines, others_stay, only_updates, force_stays}
+use Rattle.cfi_world.proofs.RefineLemmas.{refines}
+use Rattle.cfi_world.proofs.OthersLemmas.{others_stay, only_updates}
+use Rattle.cfi_world.proofs.ForceLemmas.{force_stays}
 use Rattle.cfi_world.proofs.laws.events_refine_guests.Goals as goal
 
 pub returns-clause-refines : goal.returns-clause-refines

@@ -1,4 +1,4 @@
-use Rattle.cfi_world.proofs.RefineLemmas.{bary_load, tary_load, picks}
+use Rattle.cfi_world.proofs.ForceLemmas.{bary_load, tary_load, picks}
 use Rattle.cfi_world.proofs.laws.tries_find_epochs.Goals as goal
 
 pub returns-clause-bary : goal.returns-clause-bary

@@ -6,7 +6,8 @@ use Rattle.cfi_world.specs.Premises.{HasRoom}
 use Rattle.cfi_world.specs.Updates.{is_idle}
 use Rattle.cfi_world.specs.Worlds.{IsWorld}
 use Rattle.cfi_world.specs.inner.Kept.{whole_of}
-use Rattle.cfi_world.proofs.UpdateLemmas.{idle_is, begun_is}
+use Rattle.cfi_world.proofs.UpdateLemmas.{begun_is}
+use Rattle.cfi_world.proofs.StoringLemmas.{idle_is}
 use Rattle.cfi_world.proofs.WorldLemmas.{begun_kept}
 use Rattle.cfi_world.proofs.world.World.begin.Goals as goal
 

@@ -2,7 +2,7 @@ use Rattle.std.proofs.Common.{◌≡◌, ◌^◌, ◌<◌, length, sym, ap, ◌�
 use Rattle.cfi_model.specs.World.{opened_world}
 use Rattle.cfi_world.specs.Worlds.{IsWorld}
 use Rattle.cfi_world.proofs.OpenLemmas.{quiets_for, whole_with}
-use Rattle.cfi_world.proofs.WorldLemmas.{opened_is}
+use Rattle.cfi_world.proofs.OpeningLemmas.{opened_is}
 use Rattle.cfi_world.proofs.world.World.open.Goals as goal
 
 -- what is opened is a world

@@ -2,7 +2,7 @@ use Rattle.std.proofs.Common.{◌≡◌, true, sym, ap, subst, ◌∙◌}
 use Rattle.cfi_model.specs.Phases.{phase_of}
 use Rattle.cfi_world.specs.Worlds.{IsWorld}
 use Rattle.cfi_world.specs.inner.Kept.{whole_of}
-use Rattle.cfi_world.proofs.UpdateLemmas.{is_storing, stores_by}
+use Rattle.cfi_world.proofs.StoringLemmas.{is_storing, stores_by}
 use Rattle.cfi_world.proofs.WorldLemmas.{stored_kept}
 use Rattle.cfi_world.proofs.world.World.update.Goals as goal
 
