@@ -99,7 +99,8 @@ module _ (w : World) (is : IsWorld w) (guest : ℕ) (r : Raw) (here : slice_get 
           points = slice_set w.points guest Outside;
         })
     ended_kept reply may new is_new =
-        subst (λ x. IsWorld (record w { guests = slice_set w.guests guest x; points = slice_set w.points guest Outside }))
+        subst (λ x. IsWorld
+        (record w { guests = slice_set w.guests guest x; points = slice_set w.points guest Outside }))
         (sym is_new) (answer_by w is guest reply may r here true asks)
 
     pub ended_is : (reply : Reply) (new : Raw) → new ≡ rested w.fuel (serve_of r reply)
@@ -108,14 +109,17 @@ module _ (w : World) (is : IsWorld w) (guest : ℕ) (r : Raw) (here : slice_get 
           answer = Did;
         } ≡ answer_turn w guest reply (slice_get w.guests guest)
     ended_is reply new is_new =
-        ap (λ x. did (record w { guests = slice_set w.guests guest x; points = slice_set w.points guest Outside })) is_new
-        ∙ sym (ap (λ b. cond b (did (answered w guest reply r)) (nothing w)) asks) ∙ ap (answer_turn w guest reply) (sym here)
+        ap (λ x. did
+        (record w { guests = slice_set w.guests guest x; points = slice_set w.points guest Outside })) is_new
+        ∙ sym (ap (λ b. cond b (did (answered w guest reply r)) (nothing w)) asks) ∙ ap (answer_turn w guest reply)
+        (sym here)
 
   -- the guest has stopped and is registered, and no update is under way
   module _ (stopped : is_some r.base.stop ≡ true) (registered : is_registered (quiet_of w guest) ≡ true)
       (idle : is_idle (phase_of w.tables) ≡ true) where
     may_go : is_some r.base.stop && (is_registered (quiet_of w guest) && is_idle (phase_of w.tables)) ≡ true
-    may_go = all_three (is_some r.base.stop) (is_registered (quiet_of w guest)) (is_idle (phase_of w.tables)) stopped registered idle
+    may_go = all_three (is_some r.base.stop) (is_registered (quiet_of w guest))
+        (is_idle (phase_of w.tables)) stopped registered idle
 
     pub released_kept : IsWorld (record w { quiets = slice_set w.quiets guest Unregistered })
     released_kept = release_by w is guest r here true may_go

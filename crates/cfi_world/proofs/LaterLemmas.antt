@@ -36,7 +36,8 @@ module _ (t u : Tables) (is : IsTables t) (later : IsTables u) (on : GoesOn t u)
       )
 
   quiet_later : (guest : ℕ) (r : Raw) (quiet : Quiet)
-      → ((q : ℕ) → quiet ≡ Published q → IsQuietSince t guest r q → IsAdmittedAt guest q) → QuietFits t guest r quiet → QuietFits u guest r quiet
+      → ((q : ℕ) → quiet ≡ Published q → IsQuietSince t guest r q → IsAdmittedAt guest q) → QuietFits t guest r quiet
+      → QuietFits u guest r quiet
   quiet_later guest r Unregistered admitted fits = fits
   quiet_later guest r (Published q) admitted fits =
       let now = admitted q refl fits in

@@ -21,3 +21,5 @@ pub mod CodeLemmas
 pub mod OpenLemmas
 pub mod OutcomeLemmas
 pub mod RefusalLemmas
+pub mod ExampleLemmas
+pub mod AskLemmas

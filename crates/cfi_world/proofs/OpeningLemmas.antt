@@ -43,7 +43,8 @@ no_bary r word number entry fills is e =
     absurd (cc)
 
 module _ (code_words versions first : ℕ) (image : Image) (guests : List Raw) (room fuel : ℕ) (size : IsSize code_words)
-    (can : CanOpen code_words versions first image guests fuel) (room_fits : room < 2 ^ 32) (fuel_fits : fuel < 2 ^ 32) where
+    (can : CanOpen code_words versions first image guests fuel) (room_fits : room < 2 ^ 32)
+    (fuel_fits : fuel < 2 ^ 32) where
   abbrev opened : World
   opened = opened_world code_words versions first image guests room fuel
 
@@ -51,7 +52,8 @@ module _ (code_words versions first : ℕ) (image : Image) (guests : List Raw) (
   tables = opened.tables
 
   tables_are : IsTables tables
-  tables_are = opened_are code_words versions first image size can.versions_least can.versions_most can.first_most can.closed
+  tables_are =
+      opened_are code_words versions first image size can.versions_least can.versions_most can.first_most can.closed
 
   number_none : in_force tables ≡ 0
   number_none = (let within = force_within tables tables_are in omega (arith, within))
@@ -77,7 +79,8 @@ module _ (code_words versions first : ℕ) (image : Image) (guests : List Raw) (
         starts = subst (λ n. IsStartIn (entry_at tables n).image from.entry) (back_is first) from.start;
       } in
       let runs = opened_runs (history_of tables) (code_in_force tables) guest from.entry from.fills start in
-      let none : (seat_of opened guest r).point ≡ Outside = get_or-replicate GUESTS guest Outside Outside (omega (arith, inside, can.few)) in
+      let none : (seat_of opened guest r).point ≡ Outside = get_or-replicate GUESTS guest Outside Outside
+      (omega (arith, inside, can.few)) in
       record {
         seat = record {
           steps_most = subst (λ x. x.base.steps ≤ fuel) (sym from.is) (omega arith);
@@ -105,7 +108,12 @@ module _ (code_words versions first : ℕ) (image : Image) (guests : List Raw) (
   opened_is = record {
     tables = tables_are;
     quiets_many = length-append (replicate (length guests) (Published first)) _
-        ∙ omega (arith, length-replicate (length guests) (Published first), length-replicate (GUESTS - length guests) Unregistered, can.few);
+        ∙ omega (
+          arith,
+          length-replicate (length guests) (Published first),
+          length-replicate (GUESTS - length guests) Unregistered,
+          can.few,
+        );
     points_many = length-replicate GUESTS Outside;
     few = can.few;
     room = omega arith;

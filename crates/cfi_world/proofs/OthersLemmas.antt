@@ -71,7 +71,8 @@ module _ (w : World) where
   release_stays guest other (Some r) = either_guests other w.guests _ _ _ refl refl
 
   begin_stays : (other : ℕ) (idle spent : Bool) (new : World) → slice_get new.guests other ≡ slice_get w.guests other
-      → slice_get (cond idle (cond spent (record { world = w; answer = EpochsSpent }) (did new)) (nothing w)).world.guests
+      → slice_get (cond idle (cond spent (record { world = w; answer = EpochsSpent }) (did new))
+      (nothing w)).world.guests
       other ≡ slice_get w.guests other
   begin_stays other true true new same = refl
   begin_stays other true false new same = same

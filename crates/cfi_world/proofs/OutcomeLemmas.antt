@@ -187,7 +187,8 @@ release_same w guest (inl absent) = ap (release_turn w guest) absent
 release_same w guest (inr (inl going)) =
     ap (release_turn w guest) going.1
     ∙ release_false w guest going.0
-    (and_false (is_some going.0.base.stop) (is_registered (quiet_of w guest)) (is_idle (phase_of w.tables)) (inl (going_false going.0.base.stop going.2)))
+    (and_false (is_some going.0.base.stop) (is_registered (quiet_of w guest)) (is_idle (phase_of w.tables))
+    (inl (going_false going.0.base.stop going.2)))
 release_same w guest (inr (inr e)) = release_by w guest (slice_get w.guests guest) refl e
 
 unregistered : (quiet : Quiet) → is_registered quiet ≡ false → quiet ≡ Unregistered
@@ -196,7 +197,8 @@ unregistered (Published epoch) e = absurd (cc)
 
 released_by : (w : World) (guest : ℕ) (r : Raw) → slice_get w.guests guest ≡ Some r → (a b c : Bool)
     → is_some r.base.stop ≡ a → is_registered (quiet_of w guest) ≡ b → is_idle (phase_of w.tables) ≡ c
-    → (cond (a && (b && c)) (did (record w { quiets = slice_set w.quiets guest Unregistered })) (nothing w)).answer ≡ Nothing
+    → (cond (a && (b && c)) (did (record w { quiets = slice_set w.quiets guest Unregistered }))
+    (nothing w)).answer ≡ Nothing
     → IsNothing w (events.Release guest)
 released_by w guest r there false b c x y z is = inr (inl (r, there, stop_none r.base.stop x))
 released_by w guest r there true false c x y z is = inr (inr (inl (unregistered (quiet_of w guest) y)))

@@ -68,7 +68,8 @@ module _ (w : World) (is : IsWorld w) (guest : ℕ) (r : Raw) (here : slice_get 
 
   -- an event of its own
   goes_by : (still : Bool) → is_some r.base.stop || is_asking (point_of w guest) ≡ still
-      → IsRefined w (cond still w (with_seat w guest (seat_after w.tables w.fuel (seat_of w guest r)))) guest r retries s
+      → IsRefined w
+      (cond still w (with_seat w guest (seat_after w.tables w.fuel (seat_of w guest r)))) guest r retries s
   goes_by true e = stays
   goes_by false e =
       let going = not_some r.base.stop (neither (is_some r.base.stop) (is_asking (point_of w guest)) e).0 in
@@ -109,7 +110,8 @@ module _ (w : World) (is : IsWorld w) (guest : ℕ) (r : Raw) (here : slice_get 
       let still : Bool = is_some r.base.stop || is_asking (point_of w guest) in
       world_by still (nothing w) (seated w guest (seat_after w.tables w.fuel (seat_of w guest r))) (goes_by still refl)
 
-  own_answer : (reply : Reply) → MayAnswer w reply → IsRefined w (answer_turn w guest reply (Some r)).world guest r retries s
+  own_answer : (reply : Reply) → MayAnswer w reply
+      → IsRefined w (answer_turn w guest reply (Some r)).world guest r retries s
   own_answer reply may =
       let asking : Bool = is_asking (point_of w guest) in
       world_by asking (did (answered w guest reply r)) (nothing w) (answers_by reply may asking refl)
@@ -125,7 +127,8 @@ module _ (w : World) (is : IsWorld w) (guest : ℕ) (r : Raw) (here : slice_get 
   refines events.Update may = rests_on events.Update may tt
   refines (events.Answer other answer) may = elim (cases_eq other guest) [
     | inl same ↦
-        subst (λ g. IsRefined w (answer_turn w g (reply_in answer) (slice_get w.guests g)).world guest r retries s) (sym same)
+        subst (λ g. IsRefined w (answer_turn w g (reply_in answer) (slice_get w.guests g)).world guest r retries s)
+        (sym same)
         (subst (λ o. IsRefined w (answer_turn w guest (reply_in answer) o).world guest r retries s) (sym here)
         (own_answer (reply_in answer) may))
     | inr apart ↦ rests_on (events.Answer other answer) may apart

@@ -56,11 +56,13 @@ guest_not : (w : World) (guest : ℕ) (o : Option Raw) (one other : ℕ)
     → (guest_turn w guest o).answer ≢ VersionsSpent one other
 guest_not w guest None one other = λ e. absurd (cc)
 guest_not w guest (Some r) one other =
-    held_not (is_some r.base.stop || is_asking (point_of w guest)) w guest (seat_after w.tables w.fuel (seat_of w guest r))
+    held_not (is_some r.base.stop || is_asking (point_of w guest)) w guest
+    (seat_after w.tables w.fuel (seat_of w guest r))
     one other
 
 begin_not : (a b : Bool) (w v : World) (one other : ℕ)
-    → (cond a (cond b (record { world = w; answer = EpochsSpent }) (did v)) (nothing w)).answer ≢ VersionsSpent one other
+    → (cond a (cond b (record { world = w; answer = EpochsSpent }) (did v))
+    (nothing w)).answer ≢ VersionsSpent one other
 begin_not true true w v one other = λ e. absurd (cc)
 begin_not true false w v one other = λ e. absurd (cc)
 begin_not false b w v one other = λ e. absurd (cc)

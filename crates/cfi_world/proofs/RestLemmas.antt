@@ -130,6 +130,7 @@ pub fuel_not : (s : State) → s.stop ≡ Some Fuel → s.stop ≡ None → ⊥
 fuel_not s some none = absurd (cc)
 
 -- the answer with which a service has ended
-pub came : (end : End) (reply : Reply) (s : State) (unit : CodeUnit) → unit ≡ units.Service → IsAnswered unit end reply s
+pub came : (end : End) (reply : Reply) (s : State) (unit : CodeUnit) → unit ≡ units.Service
+    → IsAnswered unit end reply s
     → end.reply ≡ Some reply
 came end reply s unit same answered = (subst (λ u. IsAnswered u end reply s) same answered).came

@@ -93,7 +93,8 @@ module _ (t : Tables) (is : IsTables t) where
             subst (λ l. last_policy l ≤ force) (shown_log h code retries s r before) low in
             let log = effect_logs step.unit (h.policy step.epoch) (allows_at h step.epoch) step.reply s force low_s
             (low_policy step.epoch step.known)
-            (λ service free. answer step.reply (came (end_of r take) step.reply s step.unit service step.answered) free) in
+            (λ service free. answer step.reply
+            (came (end_of r take) step.reply s step.unit service step.answered) free) in
             let base = e.rests.between.base in
             record {
               more = retries + e.more;
@@ -196,7 +197,8 @@ module _ (t : Tables) (is : IsTables t) where
   point_rests r new (Found epoch) fits other = absurd (other fits.0)
   point_rests r new Asking fits other = absurd (other (subst IsServing (sym fits.0) tt))
 
-  pub seat_moved : (fuel guest : ℕ) (s : Seat) (both : AreSeated fuel guest s) → s.guest.base.stop ≡ None → (take : Take)
+  pub seat_moved : (fuel guest : ℕ) (s : Seat) (both : AreSeated fuel guest s) → s.guest.base.stop ≡ None
+      → (take : Take)
       → Fits h code s.guest take → FitsForce take → (new : Raw) → new ≡ take_one s.guest take → new.base.steps ≤ fuel
       → (quiet : Quiet) → QuietFits t guest (rested fuel new) quiet
       → (point : Point) → FitsPoint t (rested fuel new) point → FoundFits quiet point
@@ -248,7 +250,8 @@ module _ (t : Tables) (is : IsTables t) where
         let word : ℕ = word_at t (Code (r.base.pc / 4)) in
         let runs = going_runs h code both.running.retries both.running.shown r both.running.runs going in
         let fits = fetch_fits both.running.retries both.running.shown r runs going idle in
-        let has = running_steps h code (history_is t is) both.running.retries both.running.shown r runs idle word fits in
+        let has =
+        running_steps h code (history_is t is) both.running.retries both.running.shown r runs idle word fits in
         let steps = begin_counts r (insn_of word) has in
         let few = both.seat.steps_left going idle in
         let other : IsServing r.waits → ⊥ = λ serving. subst IsServing idle serving in

@@ -157,7 +157,8 @@ module _ (t : Tables) (is : IsTables t) (fuel guest : ℕ) (s : Seat) (both : Ar
   -- an open that needs no answer finds too many logged
   finds_many : (number : ℕ) → needs_answer number r ≡ false → number ≡ OPEN → FitsOpen too_many r.base
   finds_many number no_need opens_it =
-      let many : nat_lt (opens r.base.log) MAX_OPENS ≡ false = last_false (number == OPEN) _ (same_number number OPEN opens_it) no_need in
+      let many : nat_lt (opens r.base.log) MAX_OPENS ≡ false = last_false (number == OPEN) _
+      (same_number number OPEN opens_it) no_need in
       record {
         answer = record {
           inside = All-nil LiesInData;
@@ -250,7 +251,8 @@ module _ (t : Tables) (is : IsTables t) (fuel guest : ℕ) (s : Seat) (both : Ar
 
   -- the answer to its open
   pub answered : s.point ≡ Asking → (reply : Reply) → reply.policy ≡ policy_in_force t → reply.cause ≢ TOO_MANY
-      → All LiesInData reply.fills → HasGone t is fuel guest s both (record s { guest = rested fuel (serve_of r reply); point = Outside })
+      → All LiesInData reply.fills
+      → HasGone t is fuel guest s both (record s { guest = rested fuel (serve_of r reply); point = Outside })
   answered is_point reply policy some inside =
       let point = subst (FitsPoint t r) is_point both.seat.point in
       let going = going_by r.base.stop r.waits (waits.Service OPEN) both.seat.stopped point.0 in

@@ -86,7 +86,8 @@ storing_is t is =
     record { asked = both.0; stored = both.1 }
 
 -- the number in force grows with the stores
-pub force_grows : (n c s s' : ℕ) → s ≤ s' → cond (nat_lt (2 * c) s) (n - 1) (n - 2) ≤ cond (nat_lt (2 * c) s') (n - 1) (n - 2)
+pub force_grows : (n c s s' : ℕ) → s ≤ s'
+    → cond (nat_lt (2 * c) s) (n - 1) (n - 2) ≤ cond (nat_lt (2 * c) s') (n - 1) (n - 2)
 force_grows n c s s' more = grind (arith, nat_tests)
 
 -- all stores were made

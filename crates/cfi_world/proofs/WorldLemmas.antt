@@ -100,13 +100,15 @@ module _ (w : World) (is : IsWorld w) where
       → IsWorld (record w {
         tables = cond more
             (record w.tables { tested = w.tables.tested + 1 })
-            (at_store 0 (record w.tables { entries = w.tables.entries ++ entry ∷ []; stored = 0; asked = None; tested = 0 }));
+            (at_store 0
+            (record w.tables { entries = w.tables.entries ++ entry ∷ []; stored = 0; asked = None; tested = 0 }));
       })
   passed_kept entry lets true more =
       let t : Tables = w.tables in
       let less : t.tested + 1 < GUESTS = search (rules, arith) in
       let u : Tables = record t { tested = t.tested + 1 } in
-      world_later w is u (tested_is t is.tables entry lets.asked less) (tested_on t is.tables entry lets.asked) w.updates
+      world_later w is u (tested_is t is.tables entry lets.asked less)
+      (tested_on t is.tables entry lets.asked) w.updates
       (λ guest r e q published since. record {
         newest = since.newest;
         next = λ asked before. let_through entry lets guest r q published since (omega (arith, before));
@@ -114,7 +116,8 @@ module _ (w : World) (is : IsWorld w) where
       is.room is.entries_few
   passed_kept entry lets false more =
       let t : Tables = w.tables in
-      let u : Tables = at_store 0 (record t { entries = t.entries ++ entry ∷ []; stored = 0; asked = None; tested = 0 }) in
+      let u : Tables = at_store 0
+      (record t { entries = t.entries ++ entry ∷ []; stored = 0; asked = None; tested = 0 }) in
       let last : GUESTS ≤ t.tested + 1 = search (rules, arith) in
       let longer = one_more t is.tables entry lets.asked in
       let one : pending t.asked ≡ 1 = ap pending lets.asked in

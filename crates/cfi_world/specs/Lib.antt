@@ -6,3 +6,4 @@ pub mod Premises
 pub mod Worlds
 pub mod Laws
 pub mod Outcomes
+pub mod Example

@@ -1,16 +1,23 @@
 //! What holds of a world over every list of events.
 
-ghost use Rattle.std.specs.Prelude.{◌≡◌, ℕ};
-ghost use Rattle.cfi_model.specs.World.{World as Whole};
+ghost use Rattle.std.specs.Prelude.{◌≡◌, ℕ, Option, Some};
+ghost use Rattle.cfi_model.specs.World.{World as Whole, opened_world};
 ghost use Rattle.cfi_world.specs.Laws.{BaryLoads, TaryLoads, PicksAreInForce};
 ghost use Rattle.cfi_world.specs.Laws.{OpensAWorld, StaysAWorld, TurnsRefine, OthersStay};
 ghost use Rattle.cfi_world.specs.Laws.{OnlyUpdatesStore, ForceNeverFalls};
-ghost use Rattle.cfi_world.specs.Outcomes.{IsLeast, IsNothing, IsRefusal};
+ghost use Rattle.cfi_model.specs.declared.phase.Phase.TheVariants.{Idle};
+ghost use Rattle.cfi_model.specs.Phases.{phase_of};
+ghost use Rattle.cfi_model.specs.Words.{epoch_in_force};
+ghost use Rattle.cfi_word.specs.declared.lists.Image.{Image};
+ghost use Rattle.cfi_world.specs.Outcomes.{IsLeast, IsNothing, IsOpening, IsRefusal};
+ghost use Rattle.cfi_word.specs.declared.limits.TheConstants.{MAX_EPOCH, MIN_CODE_WORDS, MIN_VERSIONS};
+ghost use Rattle.cfi_world.specs.Example.{loop_image, loop_guests};
+ghost use Rattle.cfi_world.specs.Premises.{CanOpen, MayTurn};
 ghost use Rattle.cfi_world.specs.Turns.{nothing, turn_of};
 ghost use Rattle.cfi_world.specs.Worlds.{IsWorld};
-ghost use Rattle.cfi_world.specs.declared.event.Event.TheVariants.{Update};
+ghost use Rattle.cfi_world.specs.declared.event.Event.TheVariants.{Begin, Guest, Update};
 ghost use Rattle.cfi_world.specs.declared.event.Event.{Event as Happening};
-ghost use Rattle.cfi_world.specs.declared.event.Turned.TheVariants.{Nothing, VersionsSpent};
+ghost use Rattle.cfi_world.specs.declared.event.Turned.TheVariants.{Asks, EpochsSpent, Nothing, VersionsSpent};
 
 /// What holds of a world at every moment, after any list of events: of its tables, and that each guest runs.
 ///
@@ -34,9 +41,9 @@ pub fn events_refine_guests()
 
 /// Of which epochs the words are that a try finds.
 ///
-/// `bary` and `tary`: a slot's word is not of a later epoch than the one in force, a target's not of an earlier one, and
-/// where two words are of different epochs the update between them was under way. `picks`: a target's word with the
-/// version of the kept word is of its epoch, which is the one in force at this moment.
+/// `bary` and `tary`: a slot's word is not of a later epoch than the one in force, a target's not of an earlier one,
+/// and where two words are of different epochs the update between them was under way. `picks`: a target's word with
+/// the version of the kept word is of its epoch, which is the one in force at this moment.
 pub fn tries_find_epochs()
     ensures bary { BaryLoads }
     ensures tary { TaryLoads }
@@ -61,4 +68,29 @@ pub fn the_least_guest_refuses_an_update()
         (event ≡ Update) × IsRefusal w guest quiet }
     ensures least { (w : Whole) (guest quiet : ℕ) → IsWorld w → IsRefusal w guest quiet →
         IsLeast w guest }
+{}
+
+/// Epochs are spent where a Begin meets the greatest epoch in force, and no update is under way.
+pub fn the_greatest_epoch_is_the_last()
+    ensures spent { (w : Whole) (image : Option Image) → phase_of w.tables ≡ Idle →
+        epoch_in_force w.tables ≡ MAX_EPOCH →
+        turn_of w (Begin image) ≡ record { world = w; answer = EpochsSpent } }
+    ensures only { (w : Whole) (image : Option Image) →
+        (turn_of w (Begin image)).answer ≡ EpochsSpent →
+        (phase_of w.tables ≡ Idle) × (epoch_in_force w.tables ≡ MAX_EPOCH) }
+{}
+
+/// A guest asks for an answer where it stores in its QUIET word, in an open that may be logged.
+pub fn an_open_asks_for_its_answer()
+    ensures asks { (w : Whole) (guest number : ℕ) → IsOpening w guest number →
+        (turn_of w (Guest guest)).answer ≡ Asks guest number }
+    ensures only { (w : Whole) (guest other number : ℕ) →
+        (turn_of w (Guest guest)).answer ≡ Asks other number →
+        (guest ≡ other) × IsOpening w guest number }
+{}
+
+/// Some world opens, with two guests of the one word `j .`, and a load may begin there.
+pub fn some_world_opens()
+    ensures opens { CanOpen MIN_CODE_WORDS MIN_VERSIONS 0 loop_image loop_guests 1 }
+    ensures begins { MayTurn (opened_world MIN_CODE_WORDS MIN_VERSIONS 0 loop_image loop_guests 1 1) (Begin (Some loop_image)) }
 {}

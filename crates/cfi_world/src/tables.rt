@@ -1,4 +1,5 @@
-//! The shared tables of a world. No table of words is kept: each word follows from the entries and the number of stores.
+//! The shared tables of a world. No table of words is kept: each word follows from the entries and the number of
+//! stores.
 
 ghost use Rattle.std.specs.Prelude.{◌≡◌, ◌<◌, ◌≤◌, IfOk};
 ghost use Rattle.cfi_word.specs.declared.limits.TheConstants.{MIN_VERSIONS, MAX_VERSIONS, MAX_EPOCH};
