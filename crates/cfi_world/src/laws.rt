@@ -1,17 +1,17 @@
 //! What holds of a world over every list of events.
 
 ghost use Rattle.std.specs.Prelude.{◌≡◌, ℕ, Option, Some};
-ghost use Rattle.cfi_model.specs.World.{World as Whole, opened_world};
+ghost use Rattle.cfi_model.specs.World.{World as Whole};
 ghost use Rattle.cfi_world.specs.Laws.{BaryLoads, TaryLoads, PicksAreInForce};
 ghost use Rattle.cfi_world.specs.Laws.{OpensAWorld, StaysAWorld, TurnsRefine, OthersStay};
-ghost use Rattle.cfi_world.specs.Laws.{OnlyUpdatesStore, ForceNeverFalls};
+ghost use Rattle.cfi_world.specs.Laws.{OnlyUpdatesStore, ForceNeverFalls, MayTurns};
 ghost use Rattle.cfi_model.specs.declared.phase.Phase.TheVariants.{Idle};
 ghost use Rattle.cfi_model.specs.Phases.{phase_of};
 ghost use Rattle.cfi_model.specs.Words.{epoch_in_force};
 ghost use Rattle.cfi_word.specs.declared.lists.Image.{Image};
 ghost use Rattle.cfi_world.specs.Outcomes.{IsLeast, IsNothing, IsOpening, IsRefusal};
 ghost use Rattle.cfi_word.specs.declared.limits.TheConstants.{MAX_EPOCH, MIN_CODE_WORDS, MIN_VERSIONS};
-ghost use Rattle.cfi_world.specs.Example.{loop_image, loop_guests};
+ghost use Rattle.cfi_world.specs.Example.{open_image, open_guests, open_world, open_events, open_answers, turned_after};
 ghost use Rattle.cfi_world.specs.Premises.{CanOpen, MayTurn};
 ghost use Rattle.cfi_world.specs.Turns.{nothing, turn_of};
 ghost use Rattle.cfi_world.specs.Worlds.{IsWorld};
@@ -89,8 +89,13 @@ pub fn an_open_asks_for_its_answer()
         (guest ≡ other) × IsOpening w guest number }
 {}
 
-/// Some world opens, with two guests of the one word `j .`, and a load may begin there.
-pub fn some_world_opens()
-    ensures opens { CanOpen MIN_CODE_WORDS MIN_VERSIONS 0 loop_image loop_guests 1 }
-    ensures begins { MayTurn (opened_world MIN_CODE_WORDS MIN_VERSIONS 0 loop_image loop_guests 1 1) (Begin (Some loop_image)) }
+/// Some world opens, a load may begin there, and in one list of events each kind of turn comes.
+///
+/// Guest 0 opens a module in vain and stops with Fuel; a refresh passes all tests and makes all stores; the next one is
+/// refused for guest 1.
+pub fn some_world_turns()
+    ensures opens { CanOpen MIN_CODE_WORDS MIN_VERSIONS 0 open_image open_guests 3 }
+    ensures begins { MayTurn open_world (Begin (Some open_image)) }
+    ensures may { MayTurns open_world open_events }
+    ensures turns { turned_after open_world open_events ≡ open_answers }
 {}
