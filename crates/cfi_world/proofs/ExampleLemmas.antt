@@ -8,7 +8,7 @@ use Rattle.cfi_word.specs.declared.ids.TheConstants.{FIELD_MAX}
 use Rattle.cfi_word.specs.declared.limits.TheConstants.{MIN_CODE_WORDS, MIN_VERSIONS}
 use Rattle.cfi_word.specs.declared.map.TheConstants.{FIRST_BASE}
 use Rattle.cfi_model.specs.Closed.{IsReadAs, IsStartOf, IsStartIn, StandsIn, StaysInside, IsClosed}
-use Rattle.cfi_model.specs.Raw.{Raw}
+use Rattle.cfi_model.specs.Raw.{Raw, raw_opened}
 use Rattle.rv_insn.specs.InsnOf as insns
 use Rattle.cfi_word.specs.Word as words
 use Rattle.cfi_word.specs.Ids as ids
@@ -103,9 +103,18 @@ closed = (
 start : IsStartIn open_image (4 * FIRST_BASE)
 start = record { body = body; idles = 0; zeros = MIN_CODE_WORDS - FIRST_BASE - 3; code = read; starts = first }
 
+placed : (number : ℕ) (r : Raw) → r ≡ raw_opened number (4 * FIRST_BASE) [] → IsOpened open_image number r
+placed number r is = record {
+  entry = 4 * FIRST_BASE;
+  fills = [];
+  inside = λ k d past. absurd (omega (arith, past));
+  is = is;
+  start = start;
+}
+
 opened : (number : ℕ) (r : Raw) → slice_get open_guests number ≡ Some r → IsOpened open_image number r
-opened zero r e = record { entry = 4 * FIRST_BASE; fills = []; inside = λ k d past. absurd (omega (arith, past)); is = cc; start = start }
-opened (suc zero) r e = record { entry = 4 * FIRST_BASE; fills = []; inside = λ k d past. absurd (omega (arith, past)); is = cc; start = start }
+opened zero r e = placed 0 r (cc)
+opened (suc zero) r e = placed 1 r (cc)
 opened (suc (suc n)) r e = absurd (cc)
 
 pub some_can : CanOpen MIN_CODE_WORDS MIN_VERSIONS 0 open_image open_guests 3
