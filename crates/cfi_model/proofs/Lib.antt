@@ -34,3 +34,5 @@ pub mod TableLemmas
 pub mod InForceLemmas
 pub mod AfterLemmas
 pub mod HaltLemmas
+pub mod KeptLemmas
+pub mod TakeLemmas

@@ -17,6 +17,7 @@ pub mod Phases
 pub mod Tables
 pub mod Quiet
 pub mod Tries
+pub mod Accesses
 pub mod World
 pub mod Running
 pub mod InForce

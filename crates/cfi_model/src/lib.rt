@@ -5,6 +5,7 @@
 //! machine (`raw_shows_policy`); some image is closed. Tested: each kind of unit, by the manual. Open: nothing.
 #![tactic(auto)]
 
+mod accesses;
 mod act;
 mod data;
 mod history;
@@ -20,6 +21,7 @@ mod step;
 mod tests;
 mod words;
 
+pub use accesses::accesses_are_taken;
 pub use act::{Act, Wait};
 pub use cfi_unit::{Answer, Fill, Log, Stop};
 pub use data::{PrivateData, load_width, store_width};
