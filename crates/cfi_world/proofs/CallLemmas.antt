@@ -167,7 +167,13 @@ call_read = record {
         (omega arith, omega arith, omega arith),
         (
           (omega arith, omega arith, omega arith),
-          (tt, ((omega arith, omega arith, omega arith), (tt, ((omega arith, refl), ((omega arith, omega arith, omega arith), tt))))),
+          (
+            tt,
+            (
+              (omega arith, omega arith, omega arith),
+              (tt, ((omega arith, refl), ((omega arith, omega arith, omega arith), tt))),
+            ),
+          ),
         ),
       ),
     ),
@@ -184,7 +190,8 @@ call_closed = (
       tary_length = refl;
       bary_length = refl;
       code_length = refl;
-      tary_most = targets_most [] 74 (omega arith) (replicate 986 0) (λ k. repeated_most 986 k FIELD_MAX 0 (omega arith));
+      tary_most =
+          targets_most [] 74 (omega arith) (replicate 986 0) (λ k. repeated_most 986 k FIELD_MAX 0 (omega arith));
       bary_most =
           one_more 1 (2 ∷ replicate 72 FIELD_MAX) (omega arith)
           (one_more 2 (replicate 72 FIELD_MAX) (omega arith) (slots_most 72));

@@ -34,8 +34,8 @@ on_then t u v one other = record {
 list_on : (list : List Event) (w : World) → IsWorld w → MayTurns w list → GoesOn w.tables (world_after w list).tables
 list_on [] w is may = self w.tables
 list_on (event ∷ later) w is may =
-    on_then w.tables (turn_of w event).world.tables (world_after (turn_of w event).world later).tables (turn_on w is event)
-    (list_on later (turn_of w event).world (stays_a_world w is (event ∷ []) (may.0, tt)) may.1)
+    on_then w.tables (turn_of w event).world.tables (world_after (turn_of w event).world later).tables
+    (turn_on w is event) (list_on later (turn_of w event).world (stays_a_world w is (event ∷ []) (may.0, tt)) may.1)
 
 -- a list in two parts
 parts_may : (one : List Event) (w : World) (other : List Event) → MayTurns w (one ++ other)
@@ -97,8 +97,8 @@ picks_hold w is before after may slot inside guest r here going keeps target sam
     let last_is = stays_a_world w is (before ++ after) may in
     let other : GoesOn mid.tables (world_after w (before ++ after)).tables =
     subst (λ v. GoesOn mid.tables v.tables) (sym (parts_after before w after)) (list_on after mid mid_is both.1) in
-    holds_at w mid (world_after w (before ++ after)) is mid_is last_is (list_on before w is both.0) other slot inside guest
-    r here going keeps target same
+    holds_at w mid (world_after w (before ++ after)) is mid_is last_is (list_on before w is both.0) other slot inside
+    guest r here going keeps target same
 
 -- a try that has to be repeated
 stored_tary : (t : Tables) (is : IsTables t) (target : ℕ)
@@ -144,7 +144,8 @@ repeats_meet w is list may slot inside target apart =
     elim (cases_lt (epoch_in (bary_in w slot)) (epoch_in (tary_in last target))) [
       | inl less ↦ less
       | inr more ↦
-          let same : epoch_in (bary_in w slot) ≡ epoch_in (tary_in last target) = omega (arith, more, least, up, most) in
+          let same : epoch_in (bary_in w slot) ≡ epoch_in (tary_in last target) =
+          omega (arith, more, least, up, most) in
           absurd (apart (ap (λ e. e % last.tables.versions) same))
     ] in (
       before,

@@ -92,7 +92,8 @@ module _ (w : World) (n m : ℕ) (is : HasBegun w n m) where
       let next : World = record w { tables = begun image w.tables; updates = w.updates + 1 } in
       let spent : Turn = record { world = w; answer = EpochsSpent } in
       either (is_idle (phase_of w.tables)) (cond (epoch_in_force w.tables == MAX_EPOCH) spent (did next)) (nothing w)
-      (1 + n) m (either (epoch_in_force w.tables == MAX_EPOCH) spent (did next) (1 + n) m as_it_was (more next refl refl))
+      (1 + n) m
+      (either (epoch_in_force w.tables == MAX_EPOCH) spent (did next) (1 + n) m as_it_was (more next refl refl))
       as_it_was
 
   zero_more : {v : World} → HasBegun v n m → HasBegun v (0 + n) m

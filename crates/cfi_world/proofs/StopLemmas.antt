@@ -58,7 +58,8 @@ module _ (w : World) (is : IsWorld w) where
     retries = retries;
     s = s;
     last = r;
-    shows = running_shows (history_of w.tables) (code_in_force w.tables) (history_is w.tables is.tables) retries s r runs;
+    shows = running_shows (history_of w.tables) (code_in_force w.tables) (history_is w.tables is.tables) retries s r
+        runs;
     is = inl refl;
     steps = λ going idle. running_steps (history_of w.tables) (code_in_force w.tables) (history_is w.tables is.tables)
         retries s r runs idle (word_at w.tables (Code (r.base.pc / 4)))
@@ -68,8 +69,8 @@ module _ (w : World) (is : IsWorld w) where
     retries = retries;
     s = s;
     last = over.0;
-    shows = running_shows (history_of w.tables) (code_in_force w.tables) (history_is w.tables is.tables) retries s over.0
-        over.1;
+    shows = running_shows (history_of w.tables) (code_in_force w.tables) (history_is w.tables is.tables) retries s
+        over.0 over.1;
     is = inr over.2;
     steps = λ going idle. absurd (never over.0 r going over.2);
   }
@@ -91,8 +92,8 @@ module _ (w : World) (is : IsWorld w) where
       let stop : refined.after.stop ≡ Some (Halt target) =
       halted_shown (history_of new.tables) (code_in_force new.tables) later_is refined.more refined.after refined.now
       refined.runs target (ap (λ x. x.base.stop) same ∙ halts) in
-      let started = going_shown (history_of w.tables) (code_in_force w.tables) (history_is w.tables is.tables) retries s r
-      runs going in
+      let started = going_shown (history_of w.tables) (code_in_force w.tables) (history_is w.tables is.tables) retries s
+      r runs going in
       elim refined.moves [
         | inl stays ↦
             let both : None ≡ Some (Halt target) = sym started ∙ sym (ap (λ x. x.stop) stays.1) ∙ stop in

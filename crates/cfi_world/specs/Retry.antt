@@ -1,5 +1,5 @@
--- A guest that calls a function through a pointer, and worlds in which its check is tried again: a refresh, or a load of
--- one function more of that type, comes between the check's two table loads.
+-- A guest that calls a function through a pointer, and worlds in which its check is tried again: a refresh, or a load
+-- of one function more of that type, comes between the check's two table loads.
 use Rattle.std.specs.Prelude.{ℕ, zero, suc, ◌-◌, ◌*◌, ◌+◌, List, [], ◌∷◌, ◌++◌, length, map, replicate, Option, Some, None}
 use Rattle.cfi_unit.specs.declared.log.Log.{Log}
 use Rattle.cfi_unit.specs.declared.log.Log.TheVariants.{Pick}
@@ -79,8 +79,8 @@ call_guests = raw_opened 0 (4 * FIRST_BASE) [] ∷ []
 abbrev pub call_world : (versions : ℕ) → World
 call_world versions = opened_world MIN_CODE_WORDS versions 0 call_image call_guests 3 100
 
--- the guest's events up to the load of its slot's word, the rest of the first try, and all that follows: the second try,
--- the function's return and two services
+-- so many events of the guest: the first eight end with the load of its slot's word, the next eight with the branch back
+-- to its second try
 abbrev pub goes : (count : ℕ) → List Event
 goes count = replicate count (Guest 0)
 

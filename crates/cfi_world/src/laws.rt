@@ -52,8 +52,8 @@ pub fn events_refine_guests()
 ///
 /// `bary` and `tary`: a slot's word is not of a later epoch than the one in force, a target's not of an earlier one,
 /// and where two words are of different epochs the update between them was under way. `picks`: a target's word with
-/// the version of the kept word is of its epoch, which is the one in force at this moment. `window`: it is in force from
-/// the load of the kept word on, and so is its policy. `repeats`: words with different versions meet an update.
+/// the version of the kept word is of its epoch, which is the one in force at this moment. `window`: it is in force
+/// from the load of the kept word on, and so is its policy. `repeats`: words with different versions meet an update.
 pub fn tries_find_epochs()
     ensures bary { BaryLoads }
     ensures tary { TaryLoads }
