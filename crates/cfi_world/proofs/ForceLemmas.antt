@@ -32,7 +32,7 @@ use Rattle.cfi_world.proofs.SeatLemmas.{fair_word}
 use Rattle.cfi_world.proofs.UpdateLemmas.{begun_on, dropped_on, stored_on, tested_on, begins_on}
 use Rattle.cfi_world.proofs.WorldLemmas.{turn_kept}
 
-self : (t : Tables) → GoesOn t t
+pub self : (t : Tables) → GoesOn t t
 self t = record {
   code_words = refl;
   versions = refl;
@@ -109,7 +109,7 @@ force_stays w is event may =
     )
 
 -- a word is of the newest entry, or of the one before
-number_cases : (t : Tables) (place : Place)
+pub number_cases : (t : Tables) (place : Place)
     → ((rank_at t.code_words place < t.stored) × (number_at t place ≡ newest t))
     ⊎ ((t.stored ≤ rank_at t.code_words place) × (number_at t place ≡ before t))
 number_cases t place = elim (cases_lt (rank_at t.code_words place) t.stored) [

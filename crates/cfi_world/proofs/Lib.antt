@@ -21,5 +21,11 @@ pub mod CodeLemmas
 pub mod OpenLemmas
 pub mod OutcomeLemmas
 pub mod RefusalLemmas
+pub mod ClassLemmas
+pub mod EventLemmas
 pub mod ExampleLemmas
 pub mod AskLemmas
+pub mod CallLemmas
+pub mod RetryLemmas
+pub mod CheckLemmas
+pub mod StopLemmas

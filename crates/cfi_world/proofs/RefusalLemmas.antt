@@ -1,5 +1,5 @@
 -- Which guest refuses an update.
-use Rattle.std.proofs.Common.{◌≡◌, ◌≢◌, ℕ, ◌+◌, ◌-◌, ◌<◌, ◌≤◌, ◌==◌, ◌||◌, ◌&&◌, nat_le, cond, Bool, true, false, is_some, slice_get, Option, Some, None, refl, sym, ap, subst, ◌∙◌, arith}
+use Rattle.std.proofs.Common.{◌≡◌, ◌≢◌, ℕ, ◌+◌, ◌-◌, ◌<◌, ◌≤◌, ◌==◌, ◌||◌, ◌&&◌, nat_le, cond, Bool, true, false, is_some, slice_get, Option, Some, None, refl, sym, ap, subst, ◌∙◌, arith, inl, inr}
 use Rattle.std.proofs.lemmas.Bool.Decides.{nat_tests}
 use Rattle.cfi_word.specs.declared.limits.TheConstants.{MAX_EPOCH}
 use Rattle.cfi_model.specs.declared.phase.Phase.{Phase}
@@ -10,10 +10,13 @@ use Rattle.cfi_model.specs.Phases.{phase_of, phase_by, phase_after}
 use Rattle.cfi_model.specs.Quiet.{admits}
 use Rattle.cfi_model.specs.Raw.{Raw}
 use Rattle.cfi_model.specs.Service.{Reply}
+use Rattle.cfi_model.specs.Tables.{MayBeAsked}
 use Rattle.cfi_model.specs.Words.{epoch_in_force, next_epoch}
 use Rattle.cfi_model.specs.World.{World, point_of, quiet_of}
 use Rattle.cfi_model.specs.declared.history.Entry.{Entry}
+use Rattle.cfi_word.specs.Table.{Epoch}
 use Rattle.cfi_model.proofs.PhaseLemmas.{phase_row}
+use Rattle.cfi_model.proofs.TableLemmas.{force_epoch}
 use Rattle.cfi_world.specs.Outcomes.{IsLeast, IsRefusal}
 use Rattle.cfi_world.specs.Seats.{Seat, is_asking, seat_after, seat_of}
 use Rattle.cfi_world.specs.Turns.{answer_turn, answered, did, guest_turn, is_registered, nothing, passed_turn, refused, release_turn, reply_in, seated, tested_turn, turn_of, update_turn}
@@ -24,6 +27,7 @@ use Rattle.cfi_world.specs.declared.event.Event.TheVariants as events
 use Rattle.cfi_world.specs.declared.event.Turned.TheVariants.{Did, Asks, VersionsSpent, EpochsSpent}
 use Rattle.cfi_world.proofs.WorldLemmas.{testing_is}
 use Rattle.cfi_world.proofs.ChoiceLemmas.{row_none}
+use Rattle.cfi_world.proofs.ForceLemmas.{number_cases}
 
 late_test : (epoch most : ℕ) → most < epoch → nat_le epoch most ≡ false
 late_test epoch most late = grind (arith, nat_tests)
@@ -151,3 +155,18 @@ module _ (w : World) (is : IsWorld w) (guest quiet : ℕ) (refusal : IsRefusal w
   pub refusal_least : IsLeast w guest
   refusal_least = λ other r there below.
       passes_by other r (quiet_of w other) below (is.running other r there).quiet
+
+  -- while the test is under way, the newest entry is in force
+  force_by : (asked : Option Entry) → asked ≢ None → MayBeAsked w.tables asked
+      → next_epoch w.tables ≡ epoch_in_force w.tables + 1
+  force_by None some may = absurd (some refl)
+  force_by (Some entry) some may =
+      let force = force_epoch w.tables is.tables in
+      elim (number_cases w.tables Epoch) [
+        | inl new ↦ omega (arith, force, new.1, is.tables.some)
+        | inr old ↦ absurd (omega (arith, old.0, may.idle))
+      ]
+
+  pub refusal_many : quiet + w.tables.versions ≤ epoch_in_force w.tables + 2
+  refusal_many =
+      let next = force_by w.tables.asked asks is.tables.asked_fits in omega (arith, refusal.late, next)

@@ -117,7 +117,7 @@ module _ (t : Tables) (is : IsTables t) where
   -- ---- what comes fits
 
   -- the code word at the guest's address
-  fetch_fits : (retries : ℕ) (s : State) (r : Raw) → IsRunning h code retries s r → r.base.stop ≡ None
+  pub fetch_fits : (retries : ℕ) (s : State) (r : Raw) → IsRunning h code retries s r → r.base.stop ≡ None
       → r.waits ≡ None → Fits h code r (Word (word_at t (Code (r.base.pc / 4))))
   fetch_fits retries s r runs going idle =
       let place : ℕ = r.base.pc / 4 in

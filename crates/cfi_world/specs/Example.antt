@@ -1,4 +1,4 @@
--- A world in which each kind of turn comes: two guests that open module 0, and then stand still.
+-- A world in which each kind of turn comes: a guest of each of two modules, of which the first opens module 0.
 use Rattle.std.specs.Prelude.{ℕ, ◌-◌, ◌*◌, ◌+◌, List, [], ◌∷◌, ◌++◌, replicate, None}
 use Rattle.cfi_word.specs.Rank.{stores_of}
 use Rattle.cfi_word.specs.Table.{slots_of}
@@ -14,51 +14,59 @@ use Rattle.cfi_world.specs.declared.event.Event.TheVariants.{Guest, Begin, Updat
 use Rattle.cfi_world.specs.declared.event.Turned.{Turned}
 use Rattle.cfi_world.specs.declared.event.Turned.TheVariants.{Did, Asks, VersionsSpent, Nothing}
 
--- `addi x17,x0,4`, `ecall`, `j .`
+-- two modules: `addi x17,x0,4`, `ecall`, `j .`, and behind it `j .` alone
 abbrev pub open_code : List ℕ
-open_code = 0x400893 ∷ 0x73 ∷ 0x6f ∷ []
+open_code = (0x400893 ∷ 0x73 ∷ 0x6f ∷ []) ++ (0x6f ∷ [])
 
 abbrev pub open_image : Image
 open_image = record {
-  code = replicate FIRST_BASE 0 ++ open_code ++ replicate (MIN_CODE_WORDS - FIRST_BASE - 3) 0;
+  code = replicate FIRST_BASE 0 ++ open_code ++ replicate (MIN_CODE_WORDS - FIRST_BASE - 4) 0;
   tary = replicate MIN_CODE_WORDS 0;
   bary = replicate (slots_of MIN_CODE_WORDS) FIELD_MAX;
 }
 
 abbrev pub open_guests : List Raw
-open_guests = raw_opened 0 (4 * FIRST_BASE) [] ∷ raw_opened 1 (4 * FIRST_BASE) [] ∷ []
+open_guests = raw_opened 0 (4 * FIRST_BASE) [] ∷ raw_opened 1 (4 * (FIRST_BASE + 3)) [] ∷ []
 
--- room for two updates, and fuel for three instructions
+-- room for three updates, and fuel for three instructions
 abbrev pub open_world : World
-open_world = opened_world MIN_CODE_WORDS MIN_VERSIONS 0 open_image open_guests 2 3
+open_world = opened_world MIN_CODE_WORDS MIN_VERSIONS 0 open_image open_guests 3 3
 
 -- the module was not loaded
 abbrev pub unloaded : Event
 unloaded = Answer 0 (record { address = 0; cause = 10; policy = 0; fills = record { now = []; ref_ptr = (0, 0) } })
 
--- guest 0 opens module 0 in vain, and its fuel stops it
+-- guest 0 opens module 0 in vain, and its fuel stops it; guest 1 has no event, and there is no guest 2
 abbrev pub guest_events : List Event
-guest_events = Guest 0 ∷ Guest 0 ∷ Guest 0 ∷ Guest 0 ∷ Guest 0 ∷ unloaded ∷ Guest 0 ∷ Guest 0 ∷ Release 0 ∷ []
+guest_events =
+    Guest 2 ∷ Guest 0 ∷ Guest 0 ∷ Guest 0 ∷ Guest 0 ∷ Guest 0 ∷ unloaded ∷ unloaded ∷ Guest 0 ∷ Guest 0 ∷ Release 1 ∷ []
 
 abbrev pub guest_answers : List Turned
-guest_answers = Did ∷ Did ∷ Did ∷ Asks 0 0 ∷ Nothing ∷ Did ∷ Did ∷ Nothing ∷ Did ∷ []
+guest_answers = Nothing ∷ Did ∷ Did ∷ Did ∷ Asks 0 0 ∷ Nothing ∷ Did ∷ Nothing ∷ Did ∷ Nothing ∷ Nothing ∷ []
 
--- a refresh tests all guests, and stores each word but those of the code
+-- a refresh tests all guests, and stores each word but those of the code; no other update begins, and no guest is
+-- released, while it is under way
 abbrev pub refresh_count : ℕ
 refresh_count = GUESTS + (stores_of MIN_CODE_WORDS - MIN_CODE_WORDS)
 
--- the next one is refused for guest 1, which has been at no quiescent point since
+abbrev pub refresh_events : List Event
+refresh_events = Begin None ∷ Begin None ∷ Release 0 ∷ replicate refresh_count Update
+
+abbrev pub refresh_answers : List Turned
+refresh_answers = Did ∷ Nothing ∷ Nothing ∷ replicate refresh_count Did
+
+-- guest 0 is released, once; the next refresh is refused for guest 1, which has been at no quiescent point since
 abbrev pub refused_events : List Event
-refused_events = Update ∷ Begin None ∷ Update ∷ Update ∷ []
+refused_events = Update ∷ Release 0 ∷ Release 0 ∷ Begin None ∷ Update ∷ Update ∷ []
 
 abbrev pub refused_answers : List Turned
-refused_answers = Nothing ∷ Did ∷ Did ∷ VersionsSpent 1 0 ∷ []
+refused_answers = Nothing ∷ Did ∷ Nothing ∷ Did ∷ Did ∷ VersionsSpent 1 0 ∷ []
 
 abbrev pub open_events : List Event
-open_events = guest_events ++ (Begin None ∷ replicate refresh_count Update) ++ refused_events
+open_events = guest_events ++ (refresh_events ++ refused_events)
 
 abbrev pub open_answers : List Turned
-open_answers = guest_answers ++ (Did ∷ replicate refresh_count Did) ++ refused_answers
+open_answers = guest_answers ++ (refresh_answers ++ refused_answers)
 
 -- what came of each event of a list
 abbrev pub turned_after : World → List Event → List Turned

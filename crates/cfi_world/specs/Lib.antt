@@ -5,5 +5,7 @@ pub mod Turns
 pub mod Premises
 pub mod Worlds
 pub mod Laws
+pub mod Checks
 pub mod Outcomes
 pub mod Example
+pub mod Retry

@@ -1,7 +1,9 @@
 //! What holds of a world over every list of events.
 
-ghost use Rattle.std.specs.Prelude.{◌≡◌, ℕ, Option, Some};
+ghost use Rattle.std.specs.Prelude.{◌≡◌, ℕ, ◌+◌, ◌≤◌, Option, Some, List, [], ◌∷◌};
 ghost use Rattle.cfi_model.specs.World.{World as Whole};
+ghost use Rattle.cfi_world.specs.Checks.{GuestsStandInUnits, HaltsAreForbidden};
+ghost use Rattle.cfi_world.specs.Checks.{PicksHoldThroughout, RepeatsMeetUpdates};
 ghost use Rattle.cfi_world.specs.Laws.{BaryLoads, TaryLoads, PicksAreInForce};
 ghost use Rattle.cfi_world.specs.Laws.{OpensAWorld, StaysAWorld, TurnsRefine, OthersStay};
 ghost use Rattle.cfi_world.specs.Laws.{OnlyUpdatesStore, ForceNeverFalls, MayTurns};
@@ -10,9 +12,12 @@ ghost use Rattle.cfi_model.specs.Phases.{phase_of};
 ghost use Rattle.cfi_model.specs.Words.{epoch_in_force};
 ghost use Rattle.cfi_word.specs.declared.lists.Image.{Image};
 ghost use Rattle.cfi_world.specs.Outcomes.{IsLeast, IsNothing, IsOpening, IsRefusal};
-ghost use Rattle.cfi_word.specs.declared.limits.TheConstants.{MAX_EPOCH, MIN_CODE_WORDS, MIN_VERSIONS};
+ghost use Rattle.cfi_word.specs.declared.limits.TheConstants.{MAX_EPOCH, MIN_CODE_WORDS, MIN_VERSIONS, MAX_VERSIONS};
 ghost use Rattle.cfi_world.specs.Example.{open_image, open_guests, open_world, open_events, open_answers, turned_after};
 ghost use Rattle.cfi_world.specs.Premises.{CanOpen, MayTurn};
+ghost use Rattle.cfi_world.specs.Retry.{call_world, call_guests, call_image, endings_after, kept_after, forces_along};
+ghost use Rattle.cfi_world.specs.Retry.{load_count, load_events, load_forces, load_phases, loads, phases_along};
+ghost use Rattle.cfi_world.specs.Retry.{picked_ending, refresh_answers, refresh_events, retry_events, tried_words};
 ghost use Rattle.cfi_world.specs.Turns.{nothing, turn_of};
 ghost use Rattle.cfi_world.specs.Worlds.{IsWorld};
 ghost use Rattle.cfi_world.specs.declared.event.Event.TheVariants.{Begin, Guest, Update};
@@ -31,23 +36,30 @@ pub fn a_world_stays()
 ///
 /// A check's unit is run under the policy of the two table words that the guest kept. `others`: only its own events and
 /// answers change a guest. `stores`: only the updater's events change the tables. `force`: the epoch and the policy in
-/// force never fall.
+/// force never fall. `halts`: a check stops a guest only for a target outside the code, or for an edge that the policy
+/// of the two kept words forbids. `units`: a guest stands between two units or inside the one that it has begun, and
+/// has a step for what it fetches.
 pub fn events_refine_guests()
     ensures refines { TurnsRefine }
     ensures others { OthersStay }
     ensures stores { OnlyUpdatesStore }
     ensures force { ForceNeverFalls }
+    ensures halts { HaltsAreForbidden }
+    ensures units { GuestsStandInUnits }
 {}
 
 /// Of which epochs the words are that a try finds.
 ///
 /// `bary` and `tary`: a slot's word is not of a later epoch than the one in force, a target's not of an earlier one,
 /// and where two words are of different epochs the update between them was under way. `picks`: a target's word with
-/// the version of the kept word is of its epoch, which is the one in force at this moment.
+/// the version of the kept word is of its epoch, which is the one in force at this moment. `window`: it is in force
+/// from the load of the kept word on, and so is its policy. `repeats`: words with different versions meet an update.
 pub fn tries_find_epochs()
     ensures bary { BaryLoads }
     ensures tary { TaryLoads }
     ensures picks { PicksAreInForce }
+    ensures window { PicksHoldThroughout }
+    ensures repeats { RepeatsMeetUpdates }
 {}
 
 /// Nothing comes in seven cases alone, and the world is then as it was.
@@ -59,7 +71,8 @@ pub fn nothing_comes_in_seven_cases()
 
 /// An update is refused exactly where its test meets a guest that has published an epoch too far below.
 ///
-/// It is the least such guest, and still registered.
+/// It is the least such guest, and still registered. `many`: since it published the epoch, at least V - 2 updates were
+/// made.
 pub fn the_least_guest_refuses_an_update()
     ensures spent { (w : Whole) (guest quiet : ℕ) → IsRefusal w guest quiet →
         (turn_of w Update).answer ≡ VersionsSpent guest quiet }
@@ -68,6 +81,8 @@ pub fn the_least_guest_refuses_an_update()
         (event ≡ Update) × IsRefusal w guest quiet }
     ensures least { (w : Whole) (guest quiet : ℕ) → IsWorld w → IsRefusal w guest quiet →
         IsLeast w guest }
+    ensures many { (w : Whole) (guest quiet : ℕ) → IsWorld w → IsRefusal w guest quiet →
+        quiet + w.tables.versions ≤ epoch_in_force w.tables + 2 }
 {}
 
 /// Epochs are spent where a Begin meets the greatest epoch in force, and no update is under way.
@@ -92,10 +107,36 @@ pub fn an_open_asks_for_its_answer()
 /// Some world opens, a load may begin there, and in one list of events each kind of turn comes.
 ///
 /// Guest 0 opens a module in vain and stops with Fuel; a refresh passes all tests and makes all stores; the next one is
-/// refused for guest 1.
+/// refused for guest 1. Each of the seven cases in which nothing happens comes too.
 pub fn some_world_turns()
     ensures opens { CanOpen MIN_CODE_WORDS MIN_VERSIONS 0 open_image open_guests 3 }
     ensures begins { MayTurn open_world (Begin (Some open_image)) }
     ensures may { MayTurns open_world open_events }
     ensures turns { turned_after open_world open_events ≡ open_answers }
+{}
+
+/// A check is tried again where an update comes between its two table loads, and then picks one policy.
+///
+/// A guest calls a function through a pointer, while a module with one more such function is loaded. `tries`: where the
+/// second try begins, the guest keeps words of two epochs. `ends`: both of its checks have picked the later policy.
+pub fn a_check_is_tried_again()
+    ensures opens { CanOpen MIN_CODE_WORDS MAX_VERSIONS 0 call_image call_guests 100 }
+    ensures may { MayTurns (call_world MAX_VERSIONS) load_events }
+    ensures tries { kept_after (call_world MAX_VERSIONS) retry_events ≡ tried_words ∷ [] }
+    ensures ends { endings_after (call_world MAX_VERSIONS) load_events ≡ picked_ending 1 ∷ [] }
+{}
+
+/// A load goes through its phases one by one, and the policy in force changes at the one store of EPOCH.
+pub fn a_load_goes_through_its_phases()
+    ensures phases { phases_along (call_world MAX_VERSIONS) (loads load_count) ≡ load_phases }
+    ensures forces { forces_along (call_world MAX_VERSIONS) (loads load_count) ≡ load_forces }
+{}
+
+/// With three versions an update to the next epoch is admitted, the one after it not before the guest's next quiescent
+/// point.
+pub fn a_refresh_waits_for_a_quiescent_point()
+    ensures opens { CanOpen MIN_CODE_WORDS MIN_VERSIONS 0 call_image call_guests 100 }
+    ensures may { MayTurns (call_world MIN_VERSIONS) refresh_events }
+    ensures turns { turned_after (call_world MIN_VERSIONS) refresh_events ≡ refresh_answers }
+    ensures ends { endings_after (call_world MIN_VERSIONS) refresh_events ≡ picked_ending 0 ∷ [] }
 {}

@@ -10,6 +10,8 @@ pub mod laws;
 mod seat;
 mod stores;
 mod tables;
+#[cfg(test)]
+mod tests;
 mod world;
 
 pub use cfi_model::{Answer, Phase};

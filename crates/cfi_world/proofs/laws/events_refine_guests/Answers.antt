@@ -1,6 +1,7 @@
 use Rattle.cfi_world.proofs.RefineLemmas.{refines}
 use Rattle.cfi_world.proofs.OthersLemmas.{others_stay, only_updates}
 use Rattle.cfi_world.proofs.ForceLemmas.{force_stays}
+use Rattle.cfi_world.proofs.StopLemmas.{halted, placed}
 use Rattle.cfi_world.proofs.laws.events_refine_guests.Goals as goal
 
 pub returns-clause-refines : goal.returns-clause-refines
@@ -15,3 +16,10 @@ returns-clause-stores c = λ w event other. only_updates w event other
 
 pub returns-clause-force : goal.returns-clause-force
 returns-clause-force c = force_stays
+
+pub returns-clause-halts : goal.returns-clause-halts
+returns-clause-halts c = λ w is event may guest r now here there going retries s runs target halts.
+    halted w is event may guest r now here there going retries s runs target halts
+
+pub returns-clause-units : goal.returns-clause-units
+returns-clause-units c = λ w is guest r here. placed w is guest r here

@@ -1,4 +1,4 @@
-use Rattle.cfi_world.proofs.RefusalLemmas.{refusal_least, refusal_only, refusal_spent}
+use Rattle.cfi_world.proofs.RefusalLemmas.{refusal_least, refusal_many, refusal_only, refusal_spent}
 use Rattle.cfi_world.proofs.laws.the_least_guest_refuses_an_update.Goals as goal
 
 pub returns-clause-spent : goal.returns-clause-spent
@@ -9,3 +9,6 @@ returns-clause-only c = refusal_only
 
 pub returns-clause-least : goal.returns-clause-least
 returns-clause-least c = λ w guest quiet is refusal. refusal_least w is guest quiet refusal
+
+pub returns-clause-many : goal.returns-clause-many
+returns-clause-many c = λ w guest quiet is refusal. refusal_many w is guest quiet refusal

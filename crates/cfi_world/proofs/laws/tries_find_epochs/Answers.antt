@@ -1,4 +1,5 @@
 use Rattle.cfi_world.proofs.ForceLemmas.{bary_load, tary_load, picks}
+use Rattle.cfi_world.proofs.CheckLemmas.{picks_hold, repeats_meet}
 use Rattle.cfi_world.proofs.laws.tries_find_epochs.Goals as goal
 
 pub returns-clause-bary : goal.returns-clause-bary
@@ -9,3 +10,9 @@ returns-clause-tary c = tary_load
 
 pub returns-clause-picks : goal.returns-clause-picks
 returns-clause-picks c = picks
+
+pub returns-clause-window : goal.returns-clause-window
+returns-clause-window c = picks_hold
+
+pub returns-clause-repeats : goal.returns-clause-repeats
+returns-clause-repeats c = repeats_meet

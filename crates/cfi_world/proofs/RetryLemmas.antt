@@ -1,0 +1,99 @@
+-- What comes of the check that is tried again.
+use Rattle.std.proofs.Common.{◌≡◌, ℕ, zero, suc, ◌+◌, ◌*◌, ◌≤◌, [], ◌∷◌, ◌++◌, replicate, slice_get, Some, refl, sym, ◌∙◌, subst, arith}
+use Rattle.rv_insn.specs.InsnOf as insns
+use Rattle.cfi_word.specs.Word as words
+use Rattle.cfi_word.specs.Ids as ids
+use Rattle.cfi_word.specs.declared.limits.TheConstants.{MAX_VERSIONS, MIN_CODE_WORDS, MIN_VERSIONS}
+use Rattle.cfi_word.specs.declared.map.TheConstants.{FIRST_BASE}
+use Rattle.cfi_model.specs.Raw.{Raw}
+use Rattle.cfi_model.specs.World.{World}
+use Rattle.cfi_world.specs.Example.{turned_after}
+use Rattle.cfi_world.specs.Laws.{MayTurns, world_after}
+use Rattle.cfi_world.specs.Premises.{CanOpen, MayBegin, MayTurn, IsOpened}
+use Rattle.cfi_world.specs.Turns.{turn_of}
+use Rattle.cfi_world.specs.declared.event.Event.TheVariants.{Begin, Guest, Update}
+use Rattle.cfi_world.proofs.CallLemmas.{call_closed, call_start, more_closed, more_keeps}
+use Rattle.cfi_world.proofs.EventLemmas.{HasBegun, turn_in, few_after, has_room, refreshes_may, may_join}
+use Rattle.cfi_world.proofs.OthersLemmas.{only_updates}
+use Rattle.cfi_world.specs.Retry.{call_guests, call_image, goes, more_image, to_bary, to_retry, call_world, endings_after, load_events, picked_ending, refresh_events, refresh_answers, kept_after, tried_words, retry_events, phases_along, forces_along, loads, load_count, load_phases, load_forces}
+
+pub load_tries : kept_after (call_world MAX_VERSIONS) retry_events ≡ tried_words ∷ []
+unfolding insns.insn_of words.epoch_in words.packed words.id_in ids.id_of words.policy_in
+load_tries = refl
+
+pub load_ends : endings_after (call_world MAX_VERSIONS) load_events ≡ picked_ending 1 ∷ []
+unfolding insns.insn_of words.epoch_in words.packed words.id_in ids.id_of words.policy_in
+load_ends = refl
+
+pub load_goes : phases_along (call_world MAX_VERSIONS) (loads load_count) ≡ load_phases
+unfolding words.epoch_in words.packed ids.id_of
+load_goes = refl
+
+pub load_rises : forces_along (call_world MAX_VERSIONS) (loads load_count) ≡ load_forces
+unfolding words.epoch_in words.packed words.policy_in ids.id_of
+load_rises = refl
+
+pub refresh_turns : turned_after (call_world MIN_VERSIONS) refresh_events ≡ refresh_answers
+unfolding insns.insn_of words.epoch_in words.packed words.id_in ids.id_of words.policy_in
+refresh_turns = refl
+
+pub refresh_ends : endings_after (call_world MIN_VERSIONS) refresh_events ≡ picked_ending 0 ∷ []
+unfolding insns.insn_of words.epoch_in words.packed words.id_in ids.id_of words.policy_in
+refresh_ends = refl
+
+opened : (number : ℕ) (r : Raw) → slice_get call_guests number ≡ Some r → IsOpened call_image number r
+opened zero r there = record {
+  entry = 4 * FIRST_BASE;
+  fills = [];
+  inside = λ k d past. absurd (omega (arith, past));
+  is = cc;
+  start = call_start;
+}
+opened (suc number) r there = absurd (cc)
+
+pub call_can : (versions : ℕ) → MIN_VERSIONS ≤ versions → versions ≤ MAX_VERSIONS
+    → CanOpen MIN_CODE_WORDS versions 0 call_image call_guests 100
+call_can versions least most = record {
+  versions_least = least;
+  versions_most = most;
+  first_most = omega arith;
+  closed = call_closed;
+  few = omega arith;
+  opened = opened;
+  fuel_least = omega arith;
+}
+
+-- a guest's events leave the tables
+tables_stay : (n : ℕ) (w : World) → (world_after w (goes n)).tables ≡ w.tables
+tables_stay zero w = refl
+tables_stay (suc n) w = tables_stay n (turn_of w (Guest 0)).world ∙ only_updates w (Guest 0) (λ none. none)
+
+has_begun : (versions : ℕ) → HasBegun (call_world versions) 0 3
+has_begun versions = record { began = omega arith; room = refl }
+
+more_may : MayBegin (call_world MAX_VERSIONS).tables (Some more_image)
+more_may = record { policy = refl; most = omega arith; closed = more_closed; keeps = more_keeps }
+
+abbrev asked : World
+asked = world_after (call_world MAX_VERSIONS) (goes to_bary)
+
+asked_begun : HasBegun asked (0 + 0) 3
+asked_begun = few_after (goes to_bary) (call_world MAX_VERSIONS) 0 3 (has_begun MAX_VERSIONS)
+
+load_may : MayTurn asked (Begin (Some more_image))
+load_may =
+    has_room asked (Some more_image) 0 3 asked_begun (omega arith)
+    (subst (λ t. MayBegin t (Some more_image)) (sym (tables_stay to_bary (call_world MAX_VERSIONS))) more_may)
+
+pub loads_may : MayTurns (call_world MAX_VERSIONS) load_events
+loads_may =
+    may_join (goes to_bary) (call_world MAX_VERSIONS) (loads load_count ++ goes (to_retry + 29))
+    (refreshes_may (goes to_bary) (call_world MAX_VERSIONS) 0 3 refl (has_begun MAX_VERSIONS) (omega arith)) (
+      load_may,
+      refreshes_may (replicate load_count Update ++ goes (to_retry + 29))
+          (turn_of asked (Begin (Some more_image))).world 1 3 refl
+          (turn_in asked 0 3 asked_begun (Begin (Some more_image))) (omega arith),
+    )
+
+pub refresh_may : MayTurns (call_world MIN_VERSIONS) refresh_events
+refresh_may = refreshes_may refresh_events (call_world MIN_VERSIONS) 0 3 refl (has_begun MIN_VERSIONS) (omega arith)
