@@ -1,16 +1,14 @@
-ghost use Rattle.std.specs.Prelude.{◌≡◌, ◌<◌, ◌+◌, ◌++◌, false, IfOk, OnOk, IfErr};
+ghost use Rattle.std.specs.Prelude.{◌≡◌, ◌<◌, ◌+◌, ◌++◌, false, IfOk, OnOk};
 ghost use Rattle.elf_read.specs.Header.{section_count};
 ghost use Rattle.elf_read.specs.Places.{joined};
 ghost use Rattle.elf_read.specs.Symbol.{symbol_count, is_left_out};
 ghost use Rattle.elf_read.specs.Relocation.{rela_count};
 ghost use Rattle.elf_read.specs.Object.{kept_binding, kept_place, kept_value, kept_symbol, symbols_of, area_of, reference_of, kept_reloc, reloc_of, relocs_of};
 ghost use Rattle.elf_read.specs.Layout.{IsLayout, IsNumbering};
-ghost use Rattle.elf_read.specs.Fault.{IsFirstFault, HasPlaces, IsSound, IsObject};
+ghost use Rattle.elf_read.specs.Fault.{IsSound, IsObject};
 
-use crate::fault::ElfFault;
 use crate::join::{join_data, join_text, record_bytes};
-use crate::layout::{Layout, layout_of};
-use crate::limits::{check_limits, number_symbols};
+use crate::layout::Layout;
 use crate::object::{Area, Binding, Name, Object, Place, Reloc, Relocs, Symbol, Symbols};
 use crate::rela::{kind_of, rela_at, rela_count, symbol_index, target_of};
 use crate::relocation::is_dropped;
@@ -266,20 +264,23 @@ fn keep_relocs(
     Ok(Relocs::from_vec(out))
 }
 
-/// What the file keeps, if it is within the limits.
-pub fn keep_object(alloc: Global, table: &SymbolTable<'_>) -> Result<Object, ElfFault>
-    requires places { HasPlaces table.now }
-    ensures ok { IfOk result (IsObject table.now) }
-    ensures fault { IfErr result (IsFirstFault table.now) }
+/// What a file keeps that is within the limits.
+pub fn kept_object(
+    alloc: Global,
+    table: &SymbolTable<'_>,
+    layout: &Layout,
+    numbers: &[usize],
+) -> Result<Object, AllocError>
+    requires sound { IsSound table.now }
+    requires layout { IsLayout table.now layout.now }
+    requires numbers { IsNumbering table.now numbers.now }
+    ensures { IfOk result (IsObject table.now) }
 {
-    let numbers = number_symbols(alloc, table)?;
-    let layout = layout_of(alloc, table)?;
-    check_limits(table, numbers[table.count()], &layout)?;
     Ok(Object {
         text: join_text(alloc, table)?,
         static_data: join_data(alloc, table)?,
-        symbols: keep_symbols(alloc, table, &layout)?,
-        relocs: keep_relocs(alloc, table, &layout, numbers.as_slice())?,
+        symbols: keep_symbols(alloc, table, layout)?,
+        relocs: keep_relocs(alloc, table, layout, numbers)?,
         types: record_bytes(alloc, table, CFI_TYPES)?,
         records: record_bytes(alloc, table, CFI_RECORDS)?,
     })

@@ -38,7 +38,7 @@ pub const ALIGN: u32 = 43;
 pub const RELAX: u32 = 51;
 
 /// One relocation of a section.
-#[derive(Clone, Copy, Debug)]
+#[derive(Clone, Copy)]
 pub struct Rela {
     /// r_offset: where its field begins in its section.
     pub offset: u32,

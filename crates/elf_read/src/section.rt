@@ -37,7 +37,7 @@ pub const CFI_TYPES: &[u8; 11] = b".cfi_types\0";
 pub const CFI_RECORDS: &[u8; 13] = b".cfi_records\0";
 
 /// The header of one section. Offsets and sizes are in bytes.
-#[derive(Clone, Copy, Debug)]
+#[derive(Clone, Copy)]
 pub struct Section {
     /// Where its name begins in the table of section names.
     pub name: u32,

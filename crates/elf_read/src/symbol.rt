@@ -23,7 +23,7 @@ pub const ABSOLUTE: u16 = 0xfff1;
 pub const COMMON: u16 = 0xfff2;
 
 /// One symbol of the table.
-#[derive(Clone, Copy, Debug)]
+#[derive(Clone, Copy)]
 pub struct Entry {
     /// Where its name begins in the table of names.
     pub name: u32,

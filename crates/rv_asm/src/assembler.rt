@@ -3,7 +3,7 @@
 ghost use Rattle.std.specs.Prelude.{◌+◌, ◌^◌, ◌<◌, length};
 ghost use Rattle.rv_asm.specs.Assembled.{object_in, IsDue};
 ghost use Rattle.rv_asm.specs.inner.Draft.{empty};
-ghost use Rattle.rv_asm.specs.inner.Passes.{with_said, with_row, with_rows, passed_in, Gives};
+ghost use Rattle.rv_asm.specs.inner.Passes.{with_said, with_row, with_rows, drafted_by, passed_in, Gives};
 
 use crate::check::{is_twice, is_unknown};
 use crate::draft::Draft;
@@ -71,17 +71,25 @@ fn draft_of(alloc: Global, file: &File, rows: &[Row]) -> Result<Draft, AsmFault>
     Ok(draft)
 }
 
+// What the second pass gives.
+fn drafted(alloc: Global, file: File, rows: &[Row]) -> Result<Object, AsmFault>
+    requires { length rows.now + 1 < 2 ^ 32 }
+    ensures { IsDue result (drafted_by file rows.now) }
+{
+    let draft = draft_of(alloc, &file, rows)?;
+    if draft.is_open() {
+        return Err(AsmFault::Syntax(rows.len() as u32 + 1));
+    }
+    Ok(draft.into_object(alloc, file)?)
+}
+
 // What the two passes over a text give.
 fn passed(alloc: Global, text: &[u8]) -> Result<Object, AsmFault>
     requires { length text.now + 1 < 2 ^ 32 }
     ensures { IsDue result (passed_in text.now) }
 {
     let (file, rows) = survey_of(alloc, text)?.into_file(alloc)?;
-    let draft = draft_of(alloc, &file, rows.as_slice())?;
-    if draft.is_open() {
-        return Err(AsmFault::Syntax(rows.len() as u32 + 1));
-    }
-    Ok(draft.into_object(alloc, file)?)
+    drafted(alloc, file, rows.as_slice())
 }
 
 /// The object that a source makes, or its first faulty line.

@@ -135,7 +135,7 @@ fn fits(kind: NodeKind, words: &[u32]) -> bool
 fn words_of(alloc: Global, fields: &[i64]) -> Result<Vec<u32>, AllocError>
     ensures { IfOk result (λ words. words.items ≡ map low_word fields.now) }
 {
-    let mut words = Vec::with_capacity(alloc, fields.len())?;
+    let mut words = Vec::new(alloc);
     for field in fields {
         words.push(low_word(*field))?;
     }

@@ -1,6 +1,6 @@
 //! The object of a source.
 
-ghost use Rattle.std.specs.Prelude.{◌≡◌, ◌<◌, ◌^◌, length, All, IfOk};
+ghost use Rattle.std.specs.Prelude.{◌≡◌, ◌<◌, ◌++◌, ◌^◌, length, All, IfOk};
 ghost use Rattle.cfi_types.specs.Spelling.{spelling as types_spelling};
 ghost use Rattle.cfi_aux.specs.Records.{CanBeWritten, spelling as records_spelling};
 ghost use Rattle.rv_asm.specs.Made.{only_if};
@@ -11,7 +11,7 @@ use crate::file::File;
 use cfi_aux::{Records, write_records};
 use cfi_types::{TypeTable, write_types};
 use cfi_values::{Bytes, Items};
-use elf_read::{Object, Relocs};
+use elf_read::{Object, Reloc, Relocs};
 use std::alloc::{AllocError, Global};
 
 // The bytes of a type table, where the source has records.
@@ -39,20 +39,46 @@ fn records_of(alloc: Global, wanted: bool, records: &Records) -> Result<Option<B
     }
 }
 
+// The bytes of a type table and of records, where the source has them.
+fn sections_of(
+    alloc: Global,
+    wanted: bool,
+    table: &TypeTable,
+    records: &Records,
+) -> Result<(Option<Bytes>, Option<Bytes>), AllocError>
+    requires nodes { length table.now < 2 ^ 32 }
+    requires fields { All (λ node. length node.fields < 2 ^ 32) table.now }
+    requires records { CanBeWritten records.now }
+    ensures types { IfOk result (λ both.
+        both.0 ≡ only_if wanted (types_spelling table.now)) }
+    ensures records { IfOk result (λ both.
+        both.1 ≡ only_if wanted (records_spelling records.now)) }
+{
+    let types = types_of(alloc, wanted, table)?;
+    Ok((types, records_of(alloc, wanted, records)?))
+}
+
+// The relocations of the text, and then those of the data.
+fn joined(text: Vec<Reloc>, after: &[Reloc]) -> Result<Vec<Reloc>, AllocError>
+    ensures { IfOk result (λ relocs. relocs.items ≡ text.items ++ after.now) }
+{
+    let mut relocs = text;
+    relocs.extend_from_slice(after)?;
+    Ok(relocs)
+}
+
 impl Draft {
     /// The object.
     pub fn into_object(self, alloc: Global, file: File) -> Result<Object, AllocError>
         ensures { IfOk result (λ object. object ≡ object_of file self) }
     {
-        let mut relocs = self.text_relocs;
-        relocs.extend_from_slice(self.data_relocs.as_slice())?;
+        let relocs = joined(self.text_relocs, self.data_relocs.as_slice())?;
         let table = TypeTable::from_vec(self.nodes);
         let records = Records {
             functions: Items::from_vec(self.functions),
             branches: Items::from_vec(self.branches),
         };
-        let types = types_of(alloc, file.records, &table)?;
-        let records = records_of(alloc, file.records, &records)?;
+        let (types, records) = sections_of(alloc, file.records, &table, &records)?;
         Ok(Object {
             text: Bytes::from_vec(self.text),
             static_data: Bytes::from_vec(self.data_bytes),

@@ -11,7 +11,7 @@ use rv_line::{Datum, Statement};
 use std::alloc::{AllocError, Global};
 
 /// Where a line of a source stands.
-#[derive(Clone, Copy, Debug, PartialEq, Eq)]
+#[derive(Clone, Copy)]
 pub struct Spot {
     /// Whether it is a line of text or of data.
     pub area: Area,

@@ -8,7 +8,7 @@ ghost use Rattle.rv_asm.specs.Reference.{reference_of};
 ghost use Rattle.rv_asm.specs.Spot.{pair_label};
 ghost use Rattle.rv_asm.specs.inner.Count.{said_of, count_of};
 ghost use Rattle.rv_asm.specs.Symbols.{definition_at};
-ghost use Rattle.rv_asm.specs.inner.Survey.{with_reference, with_statement, names_of, nothing, with_line, with_lines};
+ghost use Rattle.rv_asm.specs.inner.Survey.{with_reference, with_statement, names_of, nothing, with_kept, with_line, with_lines, with_noted};
 
 use crate::file::File;
 use crate::reference::reference_of;
@@ -151,27 +151,42 @@ impl Survey {
         }
     }
 
-    /// Takes the line of this number.
-    pub fn take(&mut self, alloc: Global, number: u32, line: Line) -> Result<(), AllocError>
-        requires { length self.old.names + count_of line < 2 ^ 32 }
-        ensures { OnOk result (self.new ≡ with_line self.old number line) }
+    // Notes what a line says of the whole.
+    fn note(&mut self, alloc: Global, number: u32, line: &Line) -> Result<(), AllocError>
+        requires { length self.old.names + count_of line.now < 2 ^ 32 }
+        ensures { OnOk result (self.new ≡ with_noted self.old number line.now) }
     {
-        add_line(alloc, &mut self.names, number, self.spot, &line)?;
+        add_line(alloc, &mut self.names, number, self.spot, line)?;
         if let Some(Statement::Node { kind, .. }) = &line.statement {
             self.kinds.push(*kind)?;
         }
         self.records |= line.records;
+        Ok(())
+    }
+
+    // Adds a line that was noted.
+    fn keep(&mut self, number: u32, line: Line) -> Result<(), AllocError>
+        ensures { OnOk result (self.new ≡ with_kept self.old number line) }
+    {
         let spot = self.spot;
         self.spot = spot.after(line.statement.as_ref());
-        let names = self.names.count();
         self.rows.push(Row {
             number,
             label: line.label,
             statement: line.statement,
             spot,
-            names,
+            names: self.names.count(),
         })?;
         Ok(())
+    }
+
+    /// Takes the line of this number.
+    pub fn take(&mut self, alloc: Global, number: u32, line: Line) -> Result<(), AllocError>
+        requires { length self.old.names + count_of line < 2 ^ 32 }
+        ensures { OnOk result (self.new ≡ with_line self.old number line) }
+    {
+        self.note(alloc, number, &line)?;
+        self.keep(number, line)
     }
 
     /// What all lines know of the whole, and the lines.

@@ -15,7 +15,7 @@ use rv_line::{High, Low, Register};
 use std::alloc::AllocError;
 
 /// One word or two.
-#[derive(Clone, Copy, Debug, PartialEq, Eq)]
+#[derive(Clone, Copy)]
 pub enum Words {
     /// One.
     One(u32),

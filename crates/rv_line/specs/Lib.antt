@@ -4,3 +4,4 @@ pub mod Operand
 pub mod Called
 pub mod Statement
 pub mod Line
+pub mod inner

@@ -1,15 +1,14 @@
 //! What the keywords of a source name.
 
 ghost use Rattle.std.specs.Prelude.{◌≡◌};
-ghost use Rattle.rv_text.specs.Names.{cond_name, load_name, store_name, imm_op_name, op_name};
 ghost use Rattle.rv_line.specs.Called.{op_called, imm_op_called, load_called, store_called, cond_called, mnemonic_called, short_called, directive_called, keyword_called, node_kind_called};
 
 use crate::statement::NodeKind;
+use crate::table::{called_in, found_in};
 use rv_insn::{Cond, ImmOp, LoadKind, Op, StoreKind};
-use rv_text::names::{cond_name, imm_op_name, load_name, op_name, store_name};
 
 /// A keyword of its own: an instruction that shares its opcode with no other, a short form or a directive.
-#[derive(Clone, Copy, Debug, PartialEq, Eq)]
+#[derive(Clone, Copy)]
 pub enum Keyword {
     /// `lui`.
     Lui,
@@ -68,20 +67,18 @@ pub fn op_called(word: &[u8]) -> Option<Op>
     ensures { result ≡ op_called word.now }
 {
     let rows = [
-        Op::Add,
-        Op::Sub,
-        Op::Sll,
-        Op::Slt,
-        Op::Sltu,
-        Op::Xor,
-        Op::Srl,
-        Op::Sra,
-        Op::Or,
-        Op::And,
+        ("add", Op::Add),
+        ("sub", Op::Sub),
+        ("sll", Op::Sll),
+        ("slt", Op::Slt),
+        ("sltu", Op::Sltu),
+        ("xor", Op::Xor),
+        ("srl", Op::Srl),
+        ("sra", Op::Sra),
+        ("or", Op::Or),
+        ("and", Op::And),
     ];
-    rows.iter()
-        .copied()
-        .find(|op| op_name(*op).as_bytes() == word)
+    found_in(word, &rows)
 }
 
 /// The operation on an immediate of this mnemonic.
@@ -89,19 +86,17 @@ pub fn imm_op_called(word: &[u8]) -> Option<ImmOp>
     ensures { result ≡ imm_op_called word.now }
 {
     let rows = [
-        ImmOp::Addi,
-        ImmOp::Slli,
-        ImmOp::Slti,
-        ImmOp::Sltiu,
-        ImmOp::Xori,
-        ImmOp::Srli,
-        ImmOp::Srai,
-        ImmOp::Ori,
-        ImmOp::Andi,
+        ("addi", ImmOp::Addi),
+        ("slli", ImmOp::Slli),
+        ("slti", ImmOp::Slti),
+        ("sltiu", ImmOp::Sltiu),
+        ("xori", ImmOp::Xori),
+        ("srli", ImmOp::Srli),
+        ("srai", ImmOp::Srai),
+        ("ori", ImmOp::Ori),
+        ("andi", ImmOp::Andi),
     ];
-    rows.iter()
-        .copied()
-        .find(|op| imm_op_name(*op).as_bytes() == word)
+    found_in(word, &rows)
 }
 
 /// The load of this mnemonic.
@@ -109,25 +104,25 @@ pub fn load_called(word: &[u8]) -> Option<LoadKind>
     ensures { result ≡ load_called word.now }
 {
     let rows = [
-        LoadKind::Lb,
-        LoadKind::Lh,
-        LoadKind::Lw,
-        LoadKind::Lbu,
-        LoadKind::Lhu,
+        ("lb", LoadKind::Lb),
+        ("lh", LoadKind::Lh),
+        ("lw", LoadKind::Lw),
+        ("lbu", LoadKind::Lbu),
+        ("lhu", LoadKind::Lhu),
     ];
-    rows.iter()
-        .copied()
-        .find(|kind| load_name(*kind).as_bytes() == word)
+    found_in(word, &rows)
 }
 
 /// The store of this mnemonic.
 pub fn store_called(word: &[u8]) -> Option<StoreKind>
     ensures { result ≡ store_called word.now }
 {
-    let rows = [StoreKind::Sb, StoreKind::Sh, StoreKind::Sw];
-    rows.iter()
-        .copied()
-        .find(|kind| store_name(*kind).as_bytes() == word)
+    let rows = [
+        ("sb", StoreKind::Sb),
+        ("sh", StoreKind::Sh),
+        ("sw", StoreKind::Sw),
+    ];
+    found_in(word, &rows)
 }
 
 /// The condition of a branch of this mnemonic.
@@ -135,16 +130,14 @@ pub fn cond_called(word: &[u8]) -> Option<Cond>
     ensures { result ≡ cond_called word.now }
 {
     let rows = [
-        Cond::Beq,
-        Cond::Bne,
-        Cond::Blt,
-        Cond::Bge,
-        Cond::Bltu,
-        Cond::Bgeu,
+        ("beq", Cond::Beq),
+        ("bne", Cond::Bne),
+        ("blt", Cond::Blt),
+        ("bge", Cond::Bge),
+        ("bltu", Cond::Bltu),
+        ("bgeu", Cond::Bgeu),
     ];
-    rows.iter()
-        .copied()
-        .find(|cond| cond_name(*cond).as_bytes() == word)
+    found_in(word, &rows)
 }
 
 // An instruction that shares its opcode with no other.
@@ -152,28 +145,16 @@ pub fn cond_called(word: &[u8]) -> Option<Cond>
 fn mnemonic_called(word: &[u8]) -> Option<Keyword>
     ensures { result ≡ mnemonic_called word.now }
 {
-    if word == b"lui".as_slice() {
-        return Some(Keyword::Lui);
-    }
-    if word == b"auipc".as_slice() {
-        return Some(Keyword::Auipc);
-    }
-    if word == b"jal".as_slice() {
-        return Some(Keyword::Jal);
-    }
-    if word == b"jalr".as_slice() {
-        return Some(Keyword::Jalr);
-    }
-    if word == b"fence".as_slice() {
-        return Some(Keyword::Fence);
-    }
-    if word == b"ecall".as_slice() {
-        return Some(Keyword::Ecall);
-    }
-    if word == b"ebreak".as_slice() {
-        return Some(Keyword::Ebreak);
-    }
-    None
+    let rows = [
+        ("lui", Keyword::Lui),
+        ("auipc", Keyword::Auipc),
+        ("jal", Keyword::Jal),
+        ("jalr", Keyword::Jalr),
+        ("fence", Keyword::Fence),
+        ("ecall", Keyword::Ecall),
+        ("ebreak", Keyword::Ebreak),
+    ];
+    called_in(word, &rows)
 }
 
 // A short form.
@@ -181,34 +162,18 @@ fn mnemonic_called(word: &[u8]) -> Option<Keyword>
 fn short_called(word: &[u8]) -> Option<Keyword>
     ensures { result ≡ short_called word.now }
 {
-    if word == b"nop".as_slice() {
-        return Some(Keyword::Nop);
-    }
-    if word == b"mv".as_slice() {
-        return Some(Keyword::Mv);
-    }
-    if word == b"li".as_slice() {
-        return Some(Keyword::Li);
-    }
-    if word == b"la".as_slice() {
-        return Some(Keyword::La);
-    }
-    if word == b"j".as_slice() {
-        return Some(Keyword::J);
-    }
-    if word == b"jr".as_slice() {
-        return Some(Keyword::Jr);
-    }
-    if word == b"ret".as_slice() {
-        return Some(Keyword::Ret);
-    }
-    if word == b"call".as_slice() {
-        return Some(Keyword::Call);
-    }
-    if word == b"tail".as_slice() {
-        return Some(Keyword::Tail);
-    }
-    None
+    let rows = [
+        ("nop", Keyword::Nop),
+        ("mv", Keyword::Mv),
+        ("li", Keyword::Li),
+        ("la", Keyword::La),
+        ("j", Keyword::J),
+        ("jr", Keyword::Jr),
+        ("ret", Keyword::Ret),
+        ("call", Keyword::Call),
+        ("tail", Keyword::Tail),
+    ];
+    called_in(word, &rows)
 }
 
 // A directive.
@@ -216,34 +181,18 @@ fn short_called(word: &[u8]) -> Option<Keyword>
 fn directive_called(word: &[u8]) -> Option<Keyword>
     ensures { result ≡ directive_called word.now }
 {
-    if word == b".text".as_slice() {
-        return Some(Keyword::Text);
-    }
-    if word == b".data".as_slice() {
-        return Some(Keyword::Data);
-    }
-    if word == b".globl".as_slice() {
-        return Some(Keyword::Globl);
-    }
-    if word == b".word".as_slice() {
-        return Some(Keyword::Word);
-    }
-    if word == b".zero".as_slice() {
-        return Some(Keyword::Zero);
-    }
-    if word == b".node".as_slice() {
-        return Some(Keyword::Node);
-    }
-    if word == b".func".as_slice() {
-        return Some(Keyword::Func);
-    }
-    if word == b".endfunc".as_slice() {
-        return Some(Keyword::EndFunc);
-    }
-    if word == b".kind".as_slice() {
-        return Some(Keyword::Kind);
-    }
-    None
+    let rows = [
+        (".text", Keyword::Text),
+        (".data", Keyword::Data),
+        (".globl", Keyword::Globl),
+        (".word", Keyword::Word),
+        (".zero", Keyword::Zero),
+        (".node", Keyword::Node),
+        (".func", Keyword::Func),
+        (".endfunc", Keyword::EndFunc),
+        (".kind", Keyword::Kind),
+    ];
+    called_in(word, &rows)
 }
 
 /// The keyword that a word is.
@@ -264,29 +213,15 @@ pub fn keyword_called(word: &[u8]) -> Option<Keyword>
 pub fn node_kind_called(word: &[u8]) -> Option<NodeKind>
     ensures { result ≡ node_kind_called word.now }
 {
-    if word == b"void".as_slice() {
-        return Some(NodeKind::Void);
-    }
-    if word == b"int".as_slice() {
-        return Some(NodeKind::Int);
-    }
-    if word == b"real".as_slice() {
-        return Some(NodeKind::Real);
-    }
-    if word == b"ptr".as_slice() {
-        return Some(NodeKind::Ptr);
-    }
-    if word == b"array".as_slice() {
-        return Some(NodeKind::Array);
-    }
-    if word == b"struct".as_slice() {
-        return Some(NodeKind::Struct);
-    }
-    if word == b"union".as_slice() {
-        return Some(NodeKind::Union);
-    }
-    if word == b"func".as_slice() {
-        return Some(NodeKind::Func);
-    }
-    None
+    let rows = [
+        ("void", NodeKind::Void),
+        ("int", NodeKind::Int),
+        ("real", NodeKind::Real),
+        ("ptr", NodeKind::Ptr),
+        ("array", NodeKind::Array),
+        ("struct", NodeKind::Struct),
+        ("union", NodeKind::Union),
+        ("func", NodeKind::Func),
+    ];
+    called_in(word, &rows)
 }

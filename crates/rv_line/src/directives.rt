@@ -9,6 +9,7 @@ use crate::number::integer_of;
 use crate::operand::word_of;
 use crate::short::bare_form;
 use crate::statement::{NodeKind, Statement};
+use crate::table::is_named;
 use cfi_text::{name_of, next_word};
 use cfi_values::Items;
 use elf_read::Name;
@@ -112,7 +113,7 @@ pub fn func_form(alloc: Global, rest: &[u8]) -> Result<Option<Statement>, AllocE
     let Some((taken, rest)) = next_word(rest) else {
         return func_by(alloc, name, node, false);
     };
-    if next_word(rest).is_some() || taken != b"taken".as_slice() {
+    if next_word(rest).is_some() || !is_named(taken, "taken") {
         return Ok(None);
     }
     func_by(alloc, name, node, true)
@@ -153,16 +154,16 @@ fn switch_form(alloc: Global, rest: &[u8]) -> Result<Option<Statement>, AllocErr
 fn kind_by(alloc: Global, kind: &[u8], rest: &[u8]) -> Result<Option<Statement>, AllocError>
     ensures { IfOk result (λ found. found ≡ kind_by kind.now (words_in rest.now)) }
 {
-    if kind == b"call".as_slice() {
+    if is_named(kind, "call") {
         return Ok(only_integer(rest).map(Statement::KindCall));
     }
-    if kind == b"tail".as_slice() {
+    if is_named(kind, "tail") {
         return Ok(only_integer(rest).map(Statement::KindTail));
     }
-    if kind == b"return".as_slice() {
+    if is_named(kind, "return") {
         return Ok(bare_form(Statement::KindReturn, rest));
     }
-    if kind == b"switch".as_slice() {
+    if is_named(kind, "switch") {
         return switch_form(alloc, rest);
     }
     Ok(None)

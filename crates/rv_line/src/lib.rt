@@ -14,6 +14,7 @@ mod operand;
 mod register;
 mod short;
 mod statement;
+mod table;
 
 pub use line::{Line, read_line};
 pub use register::Register;

@@ -6,6 +6,7 @@ ghost use Rattle.rv_line.specs.Operand.{word_in, is_byte, cut, two_in, three_in,
 use crate::number::integer_of;
 use crate::register::{Register, register_of};
 use crate::statement::{Datum, High, Low, Target};
+use crate::table::is_named;
 use cfi_text::{name_of, next_word, read_small_dec};
 use elf_read::Name;
 use std::alloc::{AllocError, Global};
@@ -83,10 +84,10 @@ pub fn three_of(text: &[u8]) -> Option<(&[u8], &[u8], &[u8])>
 fn low_by(kind: &[u8], name: Name) -> Option<Low>
     ensures { result ≡ low_by kind.now name }
 {
-    if kind == b"%lo".as_slice() {
+    if is_named(kind, "%lo") {
         return Some(Low::Lo(name));
     }
-    if kind == b"%pcrel_lo".as_slice() {
+    if is_named(kind, "%pcrel_lo") {
         return Some(Low::PcrelLo(name));
     }
     None
@@ -109,10 +110,10 @@ fn low_reference_of(alloc: Global, front: &[u8]) -> Result<Option<Low>, AllocErr
 fn high_by(kind: &[u8], name: Name) -> Option<High>
     ensures { result ≡ high_by kind.now name }
 {
-    if kind == b"%hi".as_slice() {
+    if is_named(kind, "%hi") {
         return Some(High::Hi(name));
     }
-    if kind == b"%pcrel_hi".as_slice() {
+    if is_named(kind, "%pcrel_hi") {
         return Some(High::PcrelHi(name));
     }
     None

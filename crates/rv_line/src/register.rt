@@ -3,6 +3,7 @@
 ghost use Rattle.std.specs.Prelude.{◌≡◌, ◌<◌};
 ghost use Rattle.rv_line.specs.Register.{named_register, numbered_register, lettered_register, register_in};
 
+use crate::table::called_in;
 use cfi_text::read_dec;
 use std::marker::Model;
 
@@ -47,25 +48,15 @@ impl Register {
 fn named_register(word: &[u8]) -> Option<Register>
     ensures { result ≡ named_register word.now }
 {
-    if word == b"zero".as_slice() {
-        return Some(Register::new(0));
-    }
-    if word == b"ra".as_slice() {
-        return Some(Register::new(1));
-    }
-    if word == b"sp".as_slice() {
-        return Some(Register::new(2));
-    }
-    if word == b"gp".as_slice() {
-        return Some(Register::new(3));
-    }
-    if word == b"tp".as_slice() {
-        return Some(Register::new(4));
-    }
-    if word == b"fp".as_slice() {
-        return Some(Register::new(8));
-    }
-    None
+    let rows = [
+        ("zero", Register::new(0)),
+        ("ra", Register::new(1)),
+        ("sp", Register::new(2)),
+        ("gp", Register::new(3)),
+        ("tp", Register::new(4)),
+        ("fp", Register::new(8)),
+    ];
+    called_in(word, &rows)
 }
 
 fn numbered_register(letter: u8, number: u64) -> Option<Register>

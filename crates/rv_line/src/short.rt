@@ -16,11 +16,7 @@ use std::alloc::{AllocError, Global};
 pub fn bare_form(statement: Statement, rest: &[u8]) -> Option<Statement>
     ensures { result ≡ bare_form statement rest.now }
 {
-    if next_word(rest).is_some() {
-        None
-    } else {
-        Some(statement)
-    }
+    next_word(rest).is_none().then_some(statement)
 }
 
 /// `mv rd,rs`.

@@ -67,13 +67,16 @@ abbrev pub end_of_lines : File → (lines : ℕ) → Draft → Result Object Asm
 end_of_lines file lines draft =
     if is_some draft.function then Err (Syntax (lines + 1)) else Ok (object_of file draft)
 
+-- what the second pass comes to
+abbrev pub drafted_by : File → (rows : List Row) → Result Object AsmFault
+drafted_by file rows = with_rows file empty rows >>= end_of_lines file (length rows)
+
 -- what all lines know of the whole source
 abbrev pub file_of : Survey → File
 file_of survey = record { names = in_order survey.names; kinds = survey.kinds; records = survey.records }
 
 abbrev pub passed_by : Survey → Result Object AsmFault
-passed_by survey =
-    with_rows (file_of survey) empty survey.rows >>= end_of_lines (file_of survey) (length survey.rows)
+passed_by survey = drafted_by (file_of survey) survey.rows
 
 -- what the passes over a text come to
 abbrev pub passed_in : (text : List ℕ) → Result Object AsmFault

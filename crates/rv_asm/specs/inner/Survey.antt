@@ -68,6 +68,27 @@ row_of survey number line = record {
   names = length (names_of survey.names number survey.spot line);
 }
 
+-- what the lines have said, with what a line says of the whole
+abbrev pub with_noted : Survey → (number : ℕ) → Line → Survey
+with_noted survey number line = record survey {
+  names = names_of survey.names number survey.spot line;
+  kinds = with_kind survey.kinds line.statement;
+  records = survey.records || line.records;
+}
+
+-- and with the line itself
+abbrev pub with_kept : Survey → (number : ℕ) → Line → Survey
+with_kept survey number line = record survey {
+  spot = after_line survey.spot line.statement;
+  rows = survey.rows ++ record {
+    number = number;
+    label = line.label;
+    statement = line.statement;
+    spot = survey.spot;
+    names = length survey.names;
+  } ∷ [];
+}
+
 abbrev pub with_line : Survey → (number : ℕ) → Line → Survey
 with_line survey number line = record {
   spot = after_line survey.spot line.statement;

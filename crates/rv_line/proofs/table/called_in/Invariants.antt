@@ -1,0 +1,10 @@
+use Rattle.std.proofs.Common.{◌≡◌, length}
+use Rattle.rv_line.specs.inner.Table.{called_in}
+use Rattle.rv_line.proofs.table.called_in.Given as goal
+
+-- the rows that are left say what all rows say
+abbrev pub invariant-loop-rows : goal.invariant-loop-rows
+invariant-loop-rows g l = called_in l.word l.rows ≡ called_in l.word l.fn.rows
+
+abbrev pub decreases-loop-rows : goal.decreases-loop-rows
+decreases-loop-rows g l = length l.rows
