@@ -1,0 +1,11 @@
+pub mod Prefixes
+pub mod PlaceLemmas
+pub mod TablesLemmas
+pub mod ShowLemmas
+pub mod SeenLemmas
+pub mod KeptLemmas
+pub mod StepLemmas
+pub mod OpeningLemmas
+pub mod AddressLemmas
+pub mod StoringLemmas
+pub mod KeeperLemmas

@@ -1,0 +1,208 @@
+-- What was seen stays true, and what a load adds to it.
+use Rattle.std.proofs.Common.{◌≡◌, ℕ, zero, suc, ◌+◌, ◌<◌, ◌≤◌, max, nat_lt, cond, Bool, true, false, List, [], ◌∷◌, ◌++◌, length, length-take, slice_get, take, Some, refl, sym, ap, subst, ◌∙◌, arith}
+use Rattle.std.proofs.lemmas.Bool.Decides.{nat_tests}
+use mathlib.Core.List.{IsPrefix}
+use Rattle.cfi_word.specs.Table.{Place, Epoch, Quiet, Code, Tary, Bary, IsPlace}
+use Rattle.cfi_word.specs.Word.{epoch_in}
+use Rattle.cfi_model.specs.declared.history.Access.{Access}
+use Rattle.cfi_model.specs.declared.history.Entry.{Entry}
+use Rattle.cfi_model.specs.InForce.{GoesOn}
+use Rattle.cfi_model.specs.Tables.{IsTables}
+use Rattle.cfi_model.specs.Words.{Tables, entry_word, epoch_in_force, no_entry, number_at, is_stored, word_at}
+use Rattle.cfi_model.proofs.TableLemmas.{force_epoch, number_within}
+use Rattle.cfi_model.proofs.InForceLemmas.{bary_epoch, bary_epoch_is, force_rises, tary_epoch, tary_epoch_is}
+use Rattle.cfi_tables.specs.Key.{Key}
+use Rattle.cfi_tables.specs.Loads.{IsLoad, IsWordOf, Tells, TellsEpoch, access_of}
+use Rattle.cfi_tables.specs.Rule.{HasStore, IsAccessOf, IsSeen, IsTrueOf}
+use Rattle.cfi_tables.specs.Views.{tables_of}
+use Rattle.cfi_tables.specs.declared.view.KeeperView.{KeeperView}
+use Rattle.cfi_tables.specs.declared.view.PassView.{PassView}
+use Rattle.cfi_tables.specs.declared.view.Sight.{Sight}
+use Rattle.cfi_tables.specs.declared.view.View.{View}
+use Rattle.cfi_tables.specs.declared.view.View.TheVariants.{Keeper, Pass}
+use Rattle.cfi_tables.proofs.Prefixes.{prefix_item, prefix_length, prefix_same, prefix_take, prefix_trans, take_prefix}
+
+-- a word of some entries is one of more
+pub word_stays : (k : Key) (xs ys : List Entry) (place : Place) (found : ℕ) → IsPrefix xs ys → IsWordOf k xs place found
+    → IsWordOf k ys place found
+word_stays k xs ys place found begins word = record {
+  number = word.number;
+  within = let long = prefix_length xs ys begins in omega (arith, word.within, long);
+  is = word.is ∙ sym (ap (λ e. entry_word k.versions (k.first + word.number) e place)
+      (prefix_item xs ys word.number no_entry begins word.within));
+}
+
+-- what the updater makes of the tables leaves true what was seen
+pub record IsLater (k : Key) (old new : KeeperView) : Type 0 where
+  pub tables : IsTables (tables_of k old)
+  pub next : IsTables (tables_of k new)
+  pub begins : IsPrefix old.entries new.entries
+  pub on : GoesOn (tables_of k old) (tables_of k new)
+
+module _ (k : Key) (old new : KeeperView) (later : IsLater k old new) where
+  access_stays : (access : Access) → IsAccessOf k old access → IsAccessOf k new access
+  access_stays access a = record {
+    place = a.place;
+    within = a.within;
+    stored = a.stored;
+    is = a.is;
+    word = word_stays k old.entries new.entries a.place access.found later.begins a.word;
+  }
+
+  pub seen_stays : (sight : Sight) → IsSeen k old sight → IsSeen k new sight
+  seen_stays sight seen = record {
+    begins = prefix_trans sight.entries old.entries new.entries seen.begins later.begins;
+    latest =
+        let rises = force_rises (tables_of k old) (tables_of k new) later.tables later.next later.on in
+        omega (arith, seen.latest, rises);
+    accesses = λ number access is. access_stays access (seen.accesses number access is);
+  }
+
+  pub true_stays : (view : View) → IsTrueOf k old view → IsTrueOf k new view
+  true_stays (Keeper u) truth = tt
+  true_stays (Pass p) truth = seen_stays p.sight truth
+
+-- ---- a load
+
+-- what is known of an item at the end of a list, and of the others
+pub each_snoc : {A : Type 0} (P : A → Type 0) (xs : List A) (x : A)
+    → ((number : ℕ) (item : A) → slice_get xs number ≡ Some item → P item) → P x
+    → (number : ℕ) (item : A) → slice_get (xs ++ x ∷ []) number ≡ Some item → P item
+each_snoc P [] x each last zero item is = subst P (same_some x item is) last
+  where
+    same_some : {A : Type 0} (a b : A) → Some a ≡ Some b → a ≡ b
+    same_some a b e = cc
+each_snoc P [] x each last (suc number) item is = absurd (cc)
+each_snoc P (y ∷ xs) x each last zero item is = each zero item is
+each_snoc P (y ∷ xs) x each last (suc number) item is =
+    each_snoc P xs x (λ n a e. each (suc n) a e) last number item is
+
+-- as many entries as a word tells of, where fewer were seen
+abbrev pub entries_after : (seen all : List Entry) (number : ℕ) → List Entry
+entries_after seen all number = cond (nat_lt number (length seen)) seen (take (number + 1) all)
+
+-- the greatest epoch that was seen in force, after a load
+abbrev pub latest_after : Place → (found before : ℕ) → ℕ
+latest_after Epoch found before = epoch_in found
+latest_after (Tary index) found before = before
+latest_after (Bary slot) found before = max before (epoch_in found)
+latest_after (Code index) found before = before
+latest_after (Quiet guest) found before = before
+
+abbrev pub loaded : Key → KeeperView → Place → (found : ℕ) → PassView → PassView
+loaded k u place found p = record {
+  guest = p.guest;
+  sight = record {
+    entries = entries_after p.sight.entries u.entries (number_at (tables_of k u) place);
+    latest = latest_after place found p.sight.latest;
+    accesses = p.sight.accesses ++ access_of k.code_words place found ∷ [];
+  };
+}
+
+-- what is seen then begins with what was seen, and has the word's entry
+pub record AreMore (seen all after : List Entry) (number : ℕ) : Type 0 where
+  pub grows : IsPrefix seen after
+  pub begins : IsPrefix after all
+  pub within : number < length after
+
+more_by : (seen all : List Entry) (number : ℕ) (enough : Bool) → nat_lt number (length seen) ≡ enough
+    → IsPrefix seen all → number < length all
+    → AreMore seen all (cond enough seen (take (number + 1) all)) number
+more_by seen all number true is begins within =
+    record { grows = prefix_same seen; begins = begins; within = grind (arith, nat_tests) }
+more_by seen all number false is begins within =
+    let few : length seen ≤ number + 1 = grind (arith, nat_tests) in
+    let long = length-take (number + 1) all in
+    record {
+      grows = prefix_take seen all (number + 1) begins few;
+      begins = take_prefix all (number + 1);
+      within = grind (arith, nat_tests);
+    }
+
+pub are_more : (seen all : List Entry) (number : ℕ) → IsPrefix seen all → number < length all
+    → AreMore seen all (entries_after seen all number) number
+are_more seen all number = more_by seen all number (nat_lt number (length seen)) refl
+
+pub tells_store : (place : Place) → TellsEpoch place → HasStore place
+tells_store Epoch tells = tt
+tells_store (Tary index) tells = tt
+tells_store (Bary slot) tells = tt
+tells_store (Code index) tells = tt
+tells_store (Quiet guest) tells = absurd tells
+
+module _ (k : Key) (u : KeeperView) (is : IsTables (tables_of k u)) where
+  abbrev t : Tables
+  t = tables_of k u
+
+  -- the epoch of the entry that a table word is of
+  epoch_is : (place : Place) → TellsEpoch place → epoch_in (word_at t place) ≡ k.first + number_at t place
+  epoch_is Epoch tells = force_epoch t is
+  epoch_is (Tary index) tells = tary_epoch_is t is index
+  epoch_is (Bary slot) tells = bary_epoch_is t is slot
+  epoch_is (Code index) tells = absurd tells
+  epoch_is (Quiet guest) tells = absurd tells
+
+  tells_is : (place : Place) → IsPlace k.code_words place → TellsEpoch place → (before : ℕ)
+      → before ≤ epoch_in_force t
+      → Tells place (word_at t place) before (latest_after place (word_at t place) before)
+  tells_is Epoch at tells before most = (most, refl)
+  tells_is (Tary index) at tells before most =
+      let epoch = tary_epoch t is index at in (omega (arith, most, epoch.0), refl)
+  tells_is (Bary slot) at tells before most =
+      let epoch = bary_epoch t is slot in (omega (arith, most, epoch.1), refl)
+  tells_is (Code index) at tells before most = absurd tells
+  tells_is (Quiet guest) at tells before most = absurd tells
+
+  latest_is : (place : Place) → (before : ℕ) → before ≤ epoch_in_force t
+      → latest_after place (word_at t place) before ≤ epoch_in_force t
+  latest_is Epoch before most = omega arith
+  latest_is (Tary index) before most = most
+  latest_is (Bary slot) before most = let epoch = bary_epoch t is slot in omega (arith, most, epoch.0)
+  latest_is (Code index) before most = most
+  latest_is (Quiet guest) before most = most
+
+  module _ (place : Place) (at : IsPlace k.code_words place) (tells : TellsEpoch place) (p : PassView)
+      (seen : IsSeen k u p.sight) where
+    abbrev number : ℕ
+    number = number_at t place
+
+    abbrev found : ℕ
+    found = word_at t place
+
+    more : AreMore p.sight.entries u.entries (entries_after p.sight.entries u.entries number) number
+    more = are_more p.sight.entries u.entries number seen.begins (number_within t is (is_stored t place))
+
+    word_seen : IsWordOf k (entries_after p.sight.entries u.entries number) place found
+    word_seen = record {
+      number = number;
+      within = more.within;
+      is = ap (λ e. entry_word k.versions (k.first + number) e place)
+          (prefix_item (entries_after p.sight.entries u.entries number) u.entries number no_entry more.begins
+          more.within);
+    }
+
+    pub load_is : IsLoad k place found p (loaded k u place found p)
+    unfolding word_seen
+    load_is = record {
+      guest = refl;
+      accesses = refl;
+      grows = more.grows;
+      word = word_seen;
+      epoch = epoch_is place tells;
+      tells = tells_is place at tells p.sight.latest seen.latest;
+    }
+
+    pub loaded_seen : IsSeen k u (loaded k u place found p).sight
+    loaded_seen = record {
+      begins = more.begins;
+      latest = latest_is place p.sight.latest seen.latest;
+      accesses = each_snoc (IsAccessOf k u) p.sight.accesses (access_of k.code_words place found) seen.accesses
+          (record {
+            place = place;
+            within = at;
+            stored = tells_store place tells;
+            is = refl;
+            word = word_stays k (entries_after p.sight.entries u.entries number) u.entries place found more.begins
+                word_seen;
+          });
+    }

@@ -1,0 +1,43 @@
+-- What the keeper keeps: an entry for each epoch from the first on, and for each guest number whether its pass is out.
+use Rattle.std.specs.Prelude.{◌≡◌, ℕ, ◌<◌, List, Bool, true, false, [], ◌∷◌, ◌++◌, replicate, slice_index_or, slice_set}
+use Rattle.cfi_word.specs.declared.limits.TheConstants.{GUESTS}
+use Rattle.cfi_word.specs.declared.lists.Image.{Image}
+use Rattle.cfi_model.specs.declared.history.Entry.{Entry}
+use Rattle.cfi_tables.specs.Key.{Key}
+use Rattle.cfi_tables.specs.Views.{last_of, opened_entries}
+
+pub record Keeping : Type 0 where
+  pub entries : List Entry
+  pub out : List Bool
+
+abbrev pub opened_keeping : Key → Keeping
+opened_keeping k = record { entries = opened_entries k; out = replicate GUESTS false }
+
+-- the entry of an update
+abbrev pub entry_by : (policy : ℕ) → Image → (mark : ℕ) → Entry
+entry_by policy image mark = record { policy = policy; image = image; mark = mark }
+
+-- there is one entry more
+abbrev pub grown_by : Entry → Keeping → Keeping
+grown_by entry keeping = record { entries = keeping.entries ++ entry ∷ []; out = keeping.out }
+
+-- the guest's pass is out
+abbrev pub is_out : List Bool → (guest : ℕ) → Bool
+is_out out guest = slice_index_or out guest false
+
+-- a pass goes out: its number is the least whose pass is not
+pub record IsFree (out : List Bool) (guest : ℕ) : Type 0 where
+  pub within : guest < GUESTS
+  pub free : is_out out guest ≡ false
+  pub least : (other : ℕ) → other < guest → is_out out other ≡ true
+
+abbrev pub let_out : (guest : ℕ) → Keeping → Keeping
+let_out guest keeping = record { entries = keeping.entries; out = slice_set keeping.out guest true }
+
+-- all passes are out
+abbrev pub AreAllOut : List Bool → Type 0
+AreAllOut out = (guest : ℕ) → guest < GUESTS → is_out out guest ≡ true
+
+-- the last entry has this image and the policy 0
+abbrev pub IsLike : Image → List Entry → Type 0
+IsLike image entries = (image ≡ (last_of entries).image) × ((last_of entries).policy ≡ 0)

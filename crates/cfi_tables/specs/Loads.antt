@@ -1,0 +1,70 @@
+-- What a guest's load of a table word tells its pass. Epochs are numbers; an address is in bytes.
+use Rattle.std.specs.Prelude.{◌≡◌, ℕ, ◌+◌, ◌-◌, ◌*◌, ◌/◌, ◌%◌, ◌≤◌, ◌<◌, ◌⊎◌, max, nat_le, if◌then◌else◌, [], ◌∷◌, ◌++◌, List, length, slice_index_or, ⊤}
+use mathlib.Core.List.{IsPrefix}
+use Rattle.cfi_word.specs.declared.map.TheConstants.{TARY, BARY, CODE_BYTES}
+use Rattle.cfi_word.specs.Table.{Place, slots_of, word_number}
+use Rattle.cfi_word.specs.Table as places
+use Rattle.cfi_word.specs.Word.{epoch_in}
+use Rattle.cfi_model.specs.declared.history.Access.{Access}
+use Rattle.cfi_model.specs.declared.history.Entry.{Entry}
+use Rattle.cfi_model.specs.InForce.{tary_index}
+use Rattle.cfi_model.specs.Words.{no_entry, entry_word}
+use Rattle.cfi_tables.specs.Key.{Key}
+use Rattle.cfi_tables.specs.declared.view.PassView.{PassView}
+
+-- the address of a branch slot's ID, or that of a code address
+abbrev pub IsBaryAddress : (code_words address : ℕ) → Type 0
+IsBaryAddress code_words address =
+    (BARY ≤ address) × (address < BARY + 4 * slots_of code_words) × (address % 4 ≡ 0)
+
+abbrev pub IsTaryAddress : (address : ℕ) → Type 0
+IsTaryAddress address = (TARY ≤ address) × (address < TARY + CODE_BYTES) × (address % 4 ≡ 0)
+
+abbrev pub IsTableAddress : (code_words address : ℕ) → Type 0
+IsTableAddress code_words address = IsBaryAddress code_words address ⊎ IsTaryAddress address
+
+-- the word that answers it
+abbrev pub place_at : (code_words address : ℕ) → Place
+place_at code_words address =
+    if nat_le BARY address then places.Bary ((address - BARY) / 4)
+    else places.Tary (tary_index code_words (address - TARY))
+
+-- the word at a place, of one of these entries
+abbrev pub word_of_number : Key → List Entry → (number : ℕ) → Place → ℕ
+word_of_number k entries number place =
+    entry_word k.versions (k.first + number) (slice_index_or entries number no_entry) place
+
+pub record IsWordOf (k : Key) (entries : List Entry) (place : Place) (found : ℕ) : Type 0 where
+  pub number : ℕ
+  pub within : number < length entries
+  pub is : found ≡ word_of_number k entries number place
+
+-- the place's word tells an epoch
+abbrev pub TellsEpoch : Place → Type 0
+TellsEpoch places.Epoch = ⊤
+TellsEpoch (places.Tary index) = ⊤
+TellsEpoch (places.Bary slot) = ⊤
+TellsEpoch (places.Code index) = ⊥
+TellsEpoch (places.Quiet guest) = ⊥
+
+-- what a word tells of the greatest epoch that was seen in force, and which that is then: a Tary word is of no earlier
+-- epoch, a Bary word of the one before at the earliest
+abbrev pub Tells : Place → (found before after : ℕ) → Type 0
+Tells places.Epoch found before after = (before ≤ epoch_in found) × (after ≡ epoch_in found)
+Tells (places.Tary index) found before after = (before ≤ epoch_in found) × (after ≡ before)
+Tells (places.Bary slot) found before after = (before ≤ epoch_in found + 1) × (after ≡ max before (epoch_in found))
+Tells (places.Code index) found before after = ⊤
+Tells (places.Quiet guest) found before after = ⊤
+
+-- the load of the word at a place
+abbrev pub access_of : (code_words : ℕ) → Place → (found : ℕ) → Access
+access_of code_words place found = record { word = word_number code_words place; found = found }
+
+-- what a pass knows after a load: what it found is one word more that it has loaded, and a word of what it has seen
+pub record IsLoad (k : Key) (place : Place) (found : ℕ) (old new : PassView) : Type 0 where
+  pub guest : new.guest ≡ old.guest
+  pub accesses : new.sight.accesses ≡ old.sight.accesses ++ access_of k.code_words place found ∷ []
+  pub grows : IsPrefix old.sight.entries new.sight.entries
+  pub word : IsWordOf k new.sight.entries place found
+  pub epoch : epoch_in found ≡ k.first + word.number
+  pub tells : Tells place found old.sight.latest new.sight.latest

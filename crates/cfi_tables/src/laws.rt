@@ -1,0 +1,38 @@
+//! What the rule of the tables says of their words, and that its premises can be met.
+
+ghost use Rattle.std.specs.Prelude.{◌≡◌, ℕ, List, slice_index, []};
+ghost use Rattle.atomic_table.specs.Table.{State, opening};
+ghost use Rattle.cfi_word.specs.Table.{Place, IsPlace, word_number};
+ghost use Rattle.cfi_model.specs.declared.history.Entry.{Entry};
+ghost use Rattle.cfi_model.specs.Phases.{number_in, phase_of};
+ghost use Rattle.cfi_model.specs.Tables.{IsTables, IsUpdate};
+ghost use Rattle.cfi_model.specs.Words.{word_of_entry};
+ghost use Rattle.cfi_tables.specs.Key.{Key};
+ghost use Rattle.cfi_tables.specs.Keeping.{entry_by};
+ghost use Rattle.cfi_tables.specs.Rule.{HasStore, IsKept};
+ghost use Rattle.cfi_tables.specs.Views.{idle_tables, opened_entries, opened_view, tables_of};
+ghost use Rattle.cfi_tables.specs.declared.view.View.{View};
+
+/// At every moment the words show the tables of the keeper's view.
+///
+/// `tables`: the keeper's view is tables, in some phase of an update. `words`: each word but the QUIET words is of the
+/// entry that the table of phases names.
+pub fn words_show_tables()
+    ensures tables { (k : Key) (s : State (Unit {0}) View) → (kept : IsKept k s) →
+        IsTables (tables_of k kept.keeper) }
+    ensures words { (k : Key) (s : State (Unit {0}) View) → (kept : IsKept k s) →
+        (place : Place) → IsPlace k.code_words place → HasStore place →
+        let t = tables_of k kept.keeper in
+        slice_index s.words (word_number k.code_words place)
+        ≡ word_of_entry t (number_in (phase_of t) t place) place }
+{}
+
+/// The premises of the calls can be met.
+///
+/// `opens`: where the opening is of tables, some words keep the rule. `refresh`: the entry in force may follow itself.
+pub fn some_tables_are_kept()
+    ensures opens { (k : Key) → IsTables (idle_tables k (opened_entries k)) →
+        (words : List ℕ) × IsKept k (opening words [] (opened_view k)) }
+    ensures refresh { (code_words : ℕ) (last : Entry) (mark : ℕ) →
+        IsUpdate code_words last (entry_by last.policy last.image mark) }
+{}

@@ -1,0 +1,27 @@
+//! The shared tables on atomic words: a keeper updates them, and passes load them, each in a thread of its own.
+//!
+//! Stands on `cfi_model`, `cfi_word` and the kit's `atomic_table`. Proved: at every moment the words show the tables of
+//! the keeper's view (`specs/Rule.antt`); each load answers its own step's word, one of the entries that the pass has
+//! seen, with the bounds on its epoch; an update adds one entry, in the order Tary, EPOCH, Bary. Tested: two guests
+//! load beside 100 updates. Open: QUIET words and code words, which no call stores yet.
+#![tactic(auto)]
+
+mod blank;
+mod fault;
+mod keeper;
+mod laws;
+mod rule;
+mod stamp;
+mod stores;
+mod tables;
+#[cfg(test)]
+mod tests;
+mod view;
+
+pub use blank::{Blank, Place, Words};
+pub use fault::{AdmitFault, UpdateFault};
+pub use keeper::Keeper;
+pub use laws::{some_tables_are_kept, words_show_tables};
+pub use rule::{Asks, Guests, Law, TableName};
+pub use tables::{Pass, Tables};
+pub use view::{KeeperView, PassView, Sight, Told, View};

@@ -1,0 +1,130 @@
+ghost use Rattle.std.specs.Prelude.{◌≡◌, ◌≤◌, IfOk};
+ghost use Rattle.cfi_model.specs.Closed.{IsClosed};
+ghost use Rattle.cfi_tables.specs.Keeping.{IsLike};
+
+use crate::{Blank, Keeper, Pass, TableName, Tables};
+use cfi_values::Numbers;
+use cfi_word::map::{BARY, TARY};
+use cfi_word::{FIELD_MAX, Image, Layout, Word, id};
+use std::alloc::{AllocError, Global};
+use std::marker::Brand;
+use std::test::Fail;
+use std::thread::{Threads, join};
+
+// The image of the one instruction `j .`, whose word is 0x0000006f: no address has a class, and no slot has a target.
+fn jump_image(alloc: Global, layout: &Layout) -> Result<Image, AllocError>
+    ensures { IfOk result (IsClosed layout.now) }
+{
+    let code_words = layout.code_words() as usize;
+    let tary = vec![in alloc; 0; code_words]?;
+    let bary = vec![in alloc; FIELD_MAX; layout.slots() as usize]?;
+    let mut code = vec![in alloc; 0; 16]?;
+    code.push(0x6f)?;
+    let rest = vec![in alloc; 0; code_words - 17]?;
+    code.extend_from_slice(rest.as_slice())?;
+    Ok(Image {
+        tary: Numbers::from_vec(tary),
+        bary: Numbers::from_vec(bary),
+        code: Numbers::from_vec(code),
+    })
+}
+
+// How many of so many refreshes are made.
+fn refresh<N: TableName>(
+    tables: &Tables<N>,
+    mut keeper: Keeper<N>,
+    image: &Image,
+    turns: u32,
+) -> (Keeper<N>, u32)
+    requires { IsLike image.now keeper.entries }
+{
+    let mut made = 0;
+    for _ in 0..turns {
+        if keeper.update(tables, image, 0, 7).is_ok() && made < turns {
+            made += 1;
+        }
+    }
+    (keeper, made)
+}
+
+// A guest that loads, and whether each of its tries has found the ID of a class of some epoch, with epochs in order.
+#[derive(Drop)]
+struct Reader<N: TableName> {
+    pass: Pass<N>,
+    sound: bool,
+}
+
+// Makes so many tries.
+fn load<N: TableName>(tables: &Tables<N>, mut reader: Reader<N>, turns: u32) -> Reader<N> {
+    let mut latest = 0;
+    for _ in 0..turns {
+        let bary = tables.load(&mut reader.pass, BARY);
+        let tary = tables.load(&mut reader.pass, TARY + 64);
+        let version = Word::epoch_of(tary) % 3;
+        reader.sound = reader.sound
+            && Word::id_of(bary) == id(FIELD_MAX, Word::epoch_of(bary) % 3)
+            && Word::id_of(tary) == id(0, version)
+            && latest <= Word::epoch_of(tary)
+            && Word::epoch_of(bary) <= Word::epoch_of(tary);
+        latest = Word::epoch_of(tary);
+    }
+    reader
+}
+
+// Two guests load while the keeper refreshes. How many refreshes were made, whether all was sound for both guests, and
+// how many passes go out in all.
+fn beside<N: TableName + Send + Sync, R: Threads + Sync>(
+    rt: &R,
+    blank: Blank,
+    image: Image,
+) -> (u32, bool, u32)
+    requires table { blank.table ≡ N.table }
+    requires key { blank.key ≡ N.key }
+    requires image { image ≡ N.key.image }
+{
+    let (tables, mut keeper) = Tables::<N>::open(blank);
+    let Ok(first) = keeper.admit(&tables) else {
+        return (0, false, 0);
+    };
+    let Ok(second) = keeper.admit(&tables) else {
+        return (0, false, 1);
+    };
+    let one = Reader {
+        pass: first,
+        sound: true,
+    };
+    let two = Reader {
+        pass: second,
+        sound: true,
+    };
+    let ((mut keeper, made), (one, two)) = join(
+        rt,
+        || -> (Keeper<N>, u32)
+            requires { IsLike image keeper.entries }
+        { refresh(&tables, keeper, &image, 100) },
+        || -> (Reader<N>, Reader<N>) {
+            join(
+                rt,
+                || -> Reader<N> { load(&tables, one, 100_000) },
+                || -> Reader<N> { load(&tables, two, 100_000) },
+            )
+        },
+    );
+    let mut out = 2;
+    for _ in 0..20 {
+        if let Ok(pass) = keeper.admit(&tables) {
+            out = pass.guest() + 1;
+        }
+    }
+    (made, one.sound && two.sound, out)
+}
+
+#[test]
+fn two_guests_beside_refreshes(rt: HostRuntime) -> Result<(), Fail> {
+    let layout = Layout::new(1024)?;
+    let image = jump_image(rt.alloc(), &layout)?;
+    let blank = Blank::new(rt.alloc(), layout, 3, 0, &image)?;
+    let found = beside::<Brand, HostRuntime>(&rt, blank, image);
+    assert_eq!(rt; found, (100, true, 16));
+    Ok(())
+}

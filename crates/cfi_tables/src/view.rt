@@ -1,0 +1,53 @@
+//! What seats know of the tables. No value of these types is made but `Told`: a clause reads an array as a list, of
+//! any length.
+
+use cfi_model::{Access, Entry};
+use cfi_word::{Image, Layout};
+use std::snapshot::Snapshot;
+
+/// What was seen of the tables.
+pub struct Sight {
+    /// The entries of the epochs from the first on, as far as they were seen.
+    pub entries: [Entry; 0],
+    /// The greatest epoch that was seen at an admission, in EPOCH or in a Bary word.
+    pub latest: u32,
+    /// What was loaded, from first to last.
+    pub accesses: [Access; 0],
+}
+
+/// What the keeper's seat knows: all that the tables have had.
+pub struct KeeperView {
+    /// An entry for each epoch from the first on.
+    pub entries: [Entry; 0],
+    /// How many stores of the update to the last entry were made.
+    pub stored: u32,
+}
+
+/// What a pass's seat knows.
+pub struct PassView {
+    /// The guest's number.
+    pub guest: u32,
+    /// What the pass has seen.
+    pub sight: Sight,
+}
+
+/// What a seat knows.
+pub enum View {
+    /// The seat is the keeper's, which makes the stores.
+    Keeper(KeeperView),
+    /// The seat is a pass's, which loads for a guest.
+    Pass(PassView),
+}
+
+/// What a table is told when it is made.
+#[derive(Drop)]
+pub struct Told {
+    /// Which words it has.
+    pub layout: Layout,
+    /// The number of versions.
+    pub versions: u32,
+    /// The first epoch.
+    pub first: u32,
+    /// The first image.
+    pub image: Snapshot<Image>,
+}
