@@ -1,0 +1,17 @@
+pub mod Loaded
+pub mod Bare
+pub mod Joining
+pub mod Journal
+pub mod Script
+pub mod Course
+pub mod Guests
+pub mod Replay
+pub mod Log
+pub mod Steps
+pub mod Valid
+pub mod Agree
+pub mod Growth
+pub mod Policies
+pub mod Running
+pub mod Example
+pub mod LoadExample
