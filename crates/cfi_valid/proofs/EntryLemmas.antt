@@ -7,9 +7,9 @@ use Rattle.cfi_aux.specs.declared.placed.PlacedFunction.{PlacedFunction}
 use Rattle.cfi_graph.specs.Code.{entry_of}
 use Rattle.cfi_plan.specs.declared.plan.Plan.{Plan}
 use Rattle.cfi_series.specs.Entry.{IsGlobalOf, IsFirstOf, IsEntryIn}
-use Rattle.cfi_valid.specs.Bare.{is_bare}
-use Rattle.cfi_valid.specs.Guests.{BeginsAt, GuestBegins}
-use Rattle.cfi_valid.specs.Loaded.{LoadedModule, placed_of, loaded_by}
+use Rattle.cfi_valid.specs.Bare.{is_bare_plan}
+use Rattle.cfi_valid.specs.Guests.{EntersAt, GuestBegins}
+use Rattle.cfi_valid.specs.Loaded.{LoadedModule, placed_modules, loaded_by}
 
 -- the first function of a kind has one address
 pub first_once : (P : PlacedFunction → Type 0) (m : Placed) (a b : ℕ) → IsFirstOf P m a → IsFirstOf P m b → a ≡ b
@@ -40,11 +40,11 @@ entry_once ms name a b p q = ⊎_elim
     apart)
     (cases_order p.number q.number)
 
-at_once : (bare : Bool) (loaded : List LoadedModule) (entry : List ℕ) (a b : ℕ) → BeginsAt bare loaded entry a
-    → BeginsAt bare loaded entry b → a ≡ b
+at_once : (bare : Bool) (loaded : List LoadedModule) (entry : List ℕ) (a b : ℕ) → EntersAt bare loaded entry a
+    → EntersAt bare loaded entry b → a ≡ b
 at_once true loaded entry a b p q = p ∙ sym q
-at_once false loaded entry a b p q = entry_once (placed_of (loaded_by 0 loaded)) entry a b p q
+at_once false loaded entry a b p q = entry_once (placed_modules (loaded_by 0 loaded)) entry a b p q
 
 pub begins_once : (plan : Plan) (loaded : List LoadedModule) (entry : List ℕ) (a b : ℕ)
     → GuestBegins plan loaded entry a → GuestBegins plan loaded entry b → a ≡ b
-begins_once plan loaded entry a b p q = at_once (is_bare plan) loaded entry a b p q
+begins_once plan loaded entry a b p q = at_once (is_bare_plan plan) loaded entry a b p q

@@ -17,11 +17,11 @@ use Rattle.cfi_report.specs.declared.report.GuestPart.{GuestPart}
 use Rattle.cfi_valid.specs.Bare.{bare_plan}
 use Rattle.cfi_valid.specs.Course.{Course}
 use Rattle.cfi_valid.specs.Example.{hello_module, hello_part, hello_report}
-use Rattle.cfi_valid.specs.Journal.{JournalState, IsOpening}
+use Rattle.cfi_valid.specs.Journal.{JournalState, IsOpeningState}
 use Rattle.cfi_valid.specs.Loaded.{LoadedModule, start_fills}
 use Rattle.cfi_valid.specs.Log.{IsLogged}
 use Rattle.cfi_valid.specs.Replay.{next_in, TakesFrom, IsReplayed, Replays}
-use Rattle.cfi_valid.specs.Valid.{IsPart, IsEnded, course_of, IsValid}
+use Rattle.cfi_valid.specs.Valid.{IsGuestPart, IsEnded, course_of, IsValidReport}
 use Rattle.cfi_valid.proofs.ExampleCode.{code_at, is_code_at, stands}
 use Rattle.cfi_valid.proofs.ExampleLemmas.{hello_words, sets, hello_placed, whole, fit, is_placed, verified}
 use Rattle.cfi_valid.proofs.ValidLemmas.{reports_same}
@@ -46,7 +46,7 @@ joins zero m p is there =
     (record { behind = is_placed; verified = verified }))
 joins (suc k) m p is there = absurd (cc)
 
-opening : IsOpening bare_plan (hello_module ∷ []) end
+opening : IsOpeningState bare_plan (hello_module ∷ []) end
 opening = record {
   epoch = refl;
   policy = refl;
@@ -142,7 +142,7 @@ logged = record {
   causes = λ at number cause is. absurd (cc);
 }
 
-part : IsPart course (hello_part (0x48 ∷ []))
+part : IsGuestPart course (hello_part (0x48 ∷ []))
 part = record {
   address = 4 * FIRST_BASE;
   begins = refl;
@@ -178,7 +178,7 @@ guest zero g is =
     })
 guest (suc number) g is = absurd (cc)
 
-pub valid : IsValid bare_plan (hello_module ∷ []) (hello_report (0x48 ∷ []))
+pub valid : IsValidReport bare_plan (hello_module ∷ []) (hello_report (0x48 ∷ []))
 valid = record {
   end = end;
   course = record { opening = end; opens = opening; leads = refl };
@@ -191,7 +191,7 @@ valid = record {
 }
 
 -- with a byte of output more it is not
-pub no_more : (byte : ℕ) → ¬ IsValid bare_plan (hello_module ∷ []) (hello_report (0x48 ∷ byte ∷ []))
+pub no_more : (byte : ℕ) → ¬ IsValidReport bare_plan (hello_module ∷ []) (hello_report (0x48 ∷ byte ∷ []))
 no_more byte more =
     let agree = reports_same bare_plan (hello_module ∷ []) (hello_report (0x48 ∷ [])) (hello_report (0x48 ∷ byte ∷ []))
     valid more refl in

@@ -10,7 +10,7 @@ use Rattle.cfi_plan.specs.declared.journal.JournalLine.{JournalLine}
 use Rattle.cfi_plan.specs.declared.journal.JournalLine.TheVariants.{LoadOk, LoadAgain, LoadFull, LoadPlace, LoadVerify, LoadVersions, LoadEpochs, RefreshOk, RefreshVersions, RefreshEpochs}
 use Rattle.cfi_plan.specs.declared.plan.Plan.{Plan}
 use Rattle.cfi_valid.specs.Growth.{IsLater}
-use Rattle.cfi_valid.specs.Journal.{JournalState, IsSpent, LeadsBy, LeadAlong}
+use Rattle.cfi_valid.specs.Journal.{JournalState, IsOutOfEpochs, LineLeads, EntriesLead}
 use Rattle.cfi_valid.specs.Loaded.{LoadedModule, loaded_by}
 
 -- ---- later states
@@ -51,7 +51,7 @@ module _ (plan : Plan) (modules : List Module) where
   is_same : (old new : JournalState) → new ≡ old → IsLater old new
   is_same old new same = subst (IsLater old) (sym same) (same_later old)
 
-  line_later : (old new : JournalState) (line : JournalLine) → LeadsBy plan modules old line new → IsLater old new
+  line_later : (old new : JournalState) (line : JournalLine) → LineLeads plan modules old line new → IsLater old new
   line_later old new (LoadOk number epoch policy) leads =
       let above : old.policy < policy = omega (arith, leads.0.next) in
       let higher : old.epoch ≤ epoch = omega (arith, leads.0.goes.next) in
@@ -84,7 +84,7 @@ module _ (plan : Plan) (modules : List Module) where
   line_later old new (RefreshVersions guest quiet) leads = is_same old new leads.1
   line_later old new RefreshEpochs leads = is_same old new leads.1
 
-  pub along_later : (old new : JournalState) (entries : List Entry) → LeadAlong plan modules old entries new
+  pub along_later : (old new : JournalState) (entries : List Entry) → EntriesLead plan modules old entries new
       → IsLater old new
   along_later old new [] along = is_same old new along
   along_later old new (entry ∷ entries) along =
@@ -112,7 +112,7 @@ loaded_stays old new later policy within =
 -- ---- where epochs are spent
 
 module _ (plan : Plan) (modules : List Module) where
-  spent_line : (old new : JournalState) (line : JournalLine) → LeadsBy plan modules old line new → IsSpent old
+  spent_line : (old new : JournalState) (line : JournalLine) → LineLeads plan modules old line new → IsOutOfEpochs old
       → new ≡ old
   spent_line old new (LoadOk number epoch policy) leads spent = absurd (omega (arith, leads.0.goes.left, spent))
   spent_line old new (LoadAgain number policy) leads spent = leads.1
@@ -125,8 +125,8 @@ module _ (plan : Plan) (modules : List Module) where
   spent_line old new (RefreshVersions guest quiet) leads spent = leads.1
   spent_line old new RefreshEpochs leads spent = leads.1
 
-  pub spent_stays : (old new : JournalState) (entries : List Entry) → LeadAlong plan modules old entries new
-      → IsSpent old → new ≡ old
+  pub spent_stays : (old new : JournalState) (entries : List Entry) → EntriesLead plan modules old entries new
+      → IsOutOfEpochs old → new ≡ old
   spent_stays old new [] along spent = along
   spent_stays old new (entry ∷ entries) along spent =
       let same : along.0 ≡ old = spent_line old along.0 entry.what along.1.1 spent in

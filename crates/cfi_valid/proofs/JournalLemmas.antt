@@ -10,26 +10,26 @@ use Rattle.cfi_plan.specs.declared.journal.JournalLine.TheVariants.{LoadOk, Load
 use Rattle.cfi_plan.specs.declared.plan.Plan.{Plan}
 use Rattle.cfi_series.specs.Order.{Joins}
 use Rattle.cfi_series.proofs.OrderLemmas.{joins_once}
-use Rattle.cfi_valid.specs.Journal.{JournalState, IsClean, with_loaded, IsOpening, starts_from, modules_at, Leads, LeadsBy, LeadAlong, IsJournal}
-use Rattle.cfi_valid.specs.Loaded.{LoadedModule, placed_of}
+use Rattle.cfi_valid.specs.Journal.{JournalState, IsClean, with_loaded, IsOpeningState, starts_from, modules_at, EntryLeads, LineLeads, EntriesLead, IsJournal}
+use Rattle.cfi_valid.specs.Loaded.{LoadedModule, placed_modules}
 use Rattle.cfi_valid.proofs.OrderLemmas.{order_once}
 
 module _ (plan : Plan) (modules : List Module) where
   -- ---- one line more
 
   pub along_more : (old : JournalState) (entries : List Entry) (entry : Entry) (mid new : JournalState)
-      → LeadAlong plan modules old entries mid → Leads plan modules mid entry new
-      → LeadAlong plan modules old (entries ++ entry ∷ []) new
+      → EntriesLead plan modules old entries mid → EntryLeads plan modules mid entry new
+      → EntriesLead plan modules old (entries ++ entry ∷ []) new
   along_more old [] entry mid new along leads =
-      (new, subst (λ (s : JournalState). Leads plan modules s entry new) along leads, refl)
+      (new, subst (λ (s : JournalState). EntryLeads plan modules s entry new) along leads, refl)
   along_more old (first ∷ entries) entry mid new along leads =
       (along.0, along.1, along_more along.0 entries entry mid new along.2 leads)
 
   pub along_last : (old : JournalState) (entries : List Entry) (entry : Entry) (new : JournalState)
-      → LeadAlong plan modules old (entries ++ entry ∷ []) new
-      → (mid : JournalState) × LeadAlong plan modules old entries mid × Leads plan modules mid entry new
+      → EntriesLead plan modules old (entries ++ entry ∷ []) new
+      → (mid : JournalState) × EntriesLead plan modules old entries mid × EntryLeads plan modules mid entry new
   along_last old [] entry new along =
-      (old, refl, subst (λ (s : JournalState). Leads plan modules old entry s) (sym along.2) along.1)
+      (old, refl, subst (λ (s : JournalState). EntryLeads plan modules old entry s) (sym along.2) along.1)
   along_last old (first ∷ entries) entry new along =
       let rest = along_last along.0 entries entry new along.2 in (rest.0, (along.0, along.1, rest.1), rest.2)
 
@@ -40,11 +40,11 @@ module _ (plan : Plan) (modules : List Module) where
   clean_once s number a b =
       let both : Some a.absent.unplaced ≡ Some b.absent.unplaced = sym a.absent.is ∙ b.absent.is in
       let same : a.absent.unplaced ≡ b.absent.unplaced = cc in
-      joins_once plan.code_words (placed_of s.loaded) b.absent.unplaced a.placed b.placed
-      (subst (λ (m : Module). Joins plan.code_words (placed_of s.loaded) m a.placed) same a.joins) b.joins
+      joins_once plan.code_words (placed_modules s.loaded) b.absent.unplaced a.placed b.placed
+      (subst (λ (m : Module). Joins plan.code_words (placed_modules s.loaded) m a.placed) same a.joins) b.joins
 
-  leads_by_once : (old : JournalState) (line : JournalLine) (a b : JournalState) → LeadsBy plan modules old line a
-      → LeadsBy plan modules old line b → a ≡ b
+  leads_by_once : (old : JournalState) (line : JournalLine) (a b : JournalState) → LineLeads plan modules old line a
+      → LineLeads plan modules old line b → a ≡ b
   leads_by_once old (LoadOk number epoch policy) a b p q =
       p.1 ∙ ap (λ (placed : Placed). with_loaded number epoch policy placed old)
       (clean_once old number p.0.clean q.0.clean) ∙ sym q.1
@@ -58,23 +58,23 @@ module _ (plan : Plan) (modules : List Module) where
   leads_by_once old (RefreshVersions guest quiet) a b p q = p.1 ∙ sym q.1
   leads_by_once old RefreshEpochs a b p q = p.1 ∙ sym q.1
 
-  pub leads_once : (old : JournalState) (entry : Entry) (a b : JournalState) → Leads plan modules old entry a
-      → Leads plan modules old entry b → a ≡ b
+  pub leads_once : (old : JournalState) (entry : Entry) (a b : JournalState) → EntryLeads plan modules old entry a
+      → EntryLeads plan modules old entry b → a ≡ b
   leads_once old entry a b p q = leads_by_once old entry.what a b p.1 q.1
 
   pub along_once : (old : JournalState) (entries : List Entry) (a b : JournalState)
-      → LeadAlong plan modules old entries a → LeadAlong plan modules old entries b → a ≡ b
+      → EntriesLead plan modules old entries a → EntriesLead plan modules old entries b → a ≡ b
   along_once old [] a b p q = p ∙ sym q
   along_once old (entry ∷ entries) a b p q =
       let same : p.0 ≡ q.0 = leads_once old entry p.0 q.0 p.1 q.1 in
-      along_once q.0 entries a b (subst (λ (s : JournalState). LeadAlong plan modules s entries a) same p.2) q.2
+      along_once q.0 entries a b (subst (λ (s : JournalState). EntriesLead plan modules s entries a) same p.2) q.2
 
 -- ---- one opening
 
 -- loaded modules are told by their numbers, their places and their policies
 loaded_same : (xs ys : List LoadedModule)
     → map (λ (l : LoadedModule). l.number) xs ≡ map (λ (l : LoadedModule). l.number) ys
-    → placed_of xs ≡ placed_of ys
+    → placed_modules xs ≡ placed_modules ys
     → map (λ (l : LoadedModule). l.policy) xs ≡ map (λ (l : LoadedModule). l.policy) ys
     → xs ≡ ys
 loaded_same [] [] numbers placed policies = refl
@@ -88,7 +88,7 @@ loaded_same (x ∷ xs) (y ∷ ys) numbers placed policies =
     let y_is : y ≡ record { number = y.number; placed = y.placed; policy = y.policy } = refl in
     let first : x ≡ y = cc in
     let numbers' : map (λ (l : LoadedModule). l.number) xs ≡ map (λ (l : LoadedModule). l.number) ys = cc in
-    let placed' : placed_of xs ≡ placed_of ys = cc in
+    let placed' : placed_modules xs ≡ placed_modules ys = cc in
     let policies' : map (λ (l : LoadedModule). l.policy) xs ≡ map (λ (l : LoadedModule). l.policy) ys = cc in
     let rest : xs ≡ ys = loaded_same xs ys numbers' placed' policies' in
     cc
@@ -109,12 +109,12 @@ policies_same (x ∷ xs) (y ∷ ys) same p q =
     let rest = policies_same xs ys (omega (arith, same)) (All-tail IsFirst x xs p) (All-tail IsFirst y ys q) in
     cc
 
-pub opening_once : (plan : Plan) (modules : List Module) (a b : JournalState) → IsOpening plan modules a
-    → IsOpening plan modules b → a ≡ b
+pub opening_once : (plan : Plan) (modules : List Module) (a b : JournalState) → IsOpeningState plan modules a
+    → IsOpeningState plan modules b → a ≡ b
 opening_once plan modules a b p q =
-    let placed : placed_of a.loaded ≡ placed_of b.loaded =
-    order_once plan.code_words (modules_at modules (starts_from 0 plan.modules)) (placed_of a.loaded)
-    (placed_of b.loaded) p.order q.order in
+    let placed : placed_modules a.loaded ≡ placed_modules b.loaded =
+    order_once plan.code_words (modules_at modules (starts_from 0 plan.modules)) (placed_modules a.loaded)
+    (placed_modules b.loaded) p.order q.order in
     let numbers = p.starts ∙ sym q.starts in
     let count : length a.loaded ≡ length b.loaded =
     sym (length-map a.loaded (λ (l : LoadedModule). l.placed))
@@ -133,4 +133,4 @@ pub journal_once : (plan : Plan) (modules : List Module) (journal : List Entry) 
 journal_once plan modules journal a b p q =
     let same = opening_once plan modules p.opening q.opening p.opens q.opens in
     along_once plan modules q.opening journal a b
-    (subst (λ (s : JournalState). LeadAlong plan modules s journal a) same p.leads) q.leads
+    (subst (λ (s : JournalState). EntriesLead plan modules s journal a) same p.leads) q.leads

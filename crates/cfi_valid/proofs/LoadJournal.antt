@@ -7,7 +7,7 @@ use Rattle.cfi_aux.specs.declared.placed.Placed.{Placed}
 use Rattle.cfi_flow.proofs.Members.{member_of_one}
 use Rattle.cfi_series.specs.Order.{Joins}
 use Rattle.cfi_valid.specs.Joining.{HasNoFault}
-use Rattle.cfi_valid.specs.Journal.{JournalState, IsOpening, LeadAlong}
+use Rattle.cfi_valid.specs.Journal.{JournalState, IsOpeningState, EntriesLead}
 use Rattle.cfi_valid.specs.LoadExample.{opener, plug, load_plan, load_report}
 use Rattle.cfi_valid.specs.Loaded.{LoadedModule, IsLoaded}
 use Rattle.cfi_valid.proofs.LoadPlaced.{opener_placed, plug_placed, opener_joins, plug_joins}
@@ -42,7 +42,7 @@ joins zero m p is there =
     (subst (λ (q : Placed). Joins MIN_CODE_WORDS [] opener q) placed_same opener_joins)
 joins (suc k) m p is there = absurd (cc)
 
-pub opening : IsOpening load_plan modules start
+pub opening : IsOpeningState load_plan modules start
 opening = record {
   epoch = refl;
   policy = refl;
@@ -64,7 +64,7 @@ clean = record {
   joins = plug_joins;
 }
 
-pub leads : LeadAlong load_plan modules start (load_report 1).journal end
+pub leads : EntriesLead load_plan modules start (load_report 1).journal end
 unfolding clean
 leads = (
   end,

@@ -10,8 +10,8 @@ use Rattle.cfi_unit.specs.declared.log.Log.TheVariants.{Pick, Open, Cause}
 use Rattle.cfi_valid.specs.Course.{Course}
 use Rattle.cfi_valid.specs.LoadExample.{load_plan, load_part, load_report}
 use Rattle.cfi_valid.specs.Loaded.{loaded_by}
-use Rattle.cfi_valid.specs.Log.{IsOpened, IsLogged}
-use Rattle.cfi_valid.specs.Valid.{IsPart, IsEnded, course_of, IsValid}
+use Rattle.cfi_valid.specs.Log.{HasFunctionAt, IsLogged}
+use Rattle.cfi_valid.specs.Valid.{IsGuestPart, IsEnded, course_of, IsValidReport}
 use Rattle.cfi_valid.proofs.LoadPlaced.{whole, opener_placed}
 use Rattle.cfi_word.specs.declared.map.TheConstants.{FIRST_BASE}
 use Rattle.cfi_valid.proofs.LoadJournal.{modules, first, second, loaded, start, end, opening, leads}
@@ -36,7 +36,7 @@ entry = record {
   first = λ k m below. absurd (omega (arith, below));
 }
 
-plug_open : IsOpened loaded 1 144
+plug_open : HasFunctionAt loaded 1 144
 plug_open = record {
   one = second;
   has = member_later first (second ∷ []) second (member_first second []);
@@ -54,11 +54,11 @@ plug_open = record {
 -- what an entry says of an open that succeeds
 abbrev Opens : Log → Type 0
 Opens (Pick policy count) = ⊤
-Opens (Open number address policy) = IsOpened (loaded_by policy loaded) number address
+Opens (Open number address policy) = HasFunctionAt (loaded_by policy loaded) number address
 Opens (Cause number cause) = ⊤
 
 opens_at : (at number address policy : ℕ) → slice_get log at ≡ Some (Open number address policy)
-    → IsOpened (loaded_by policy loaded) number address
+    → HasFunctionAt (loaded_by policy loaded) number address
 opens_at zero number address policy is =
     let same : Open 1 144 1 ≡ Open number address policy = cc in
     subst Opens same plug_open
@@ -78,7 +78,7 @@ logged = record {
   causes = λ at number cause is. absurd (causes_at at number cause is);
 }
 
-part : IsPart course load_part
+part : IsGuestPart course load_part
 part = record {
   address = 4 * FIRST_BASE;
   begins = entry;
@@ -114,7 +114,7 @@ guest zero g is =
     })
 guest (suc number) g is = absurd (cc)
 
-pub valid : IsValid load_plan modules (load_report 1)
+pub valid : IsValidReport load_plan modules (load_report 1)
 valid = record {
   end = end;
   course = record { opening = start; opens = opening; leads = leads };
@@ -127,7 +127,7 @@ valid = record {
 }
 
 -- the line of its journal can have no other epoch
-pub one_epoch : (epoch : ℕ) → IsValid load_plan modules (load_report epoch) → epoch ≡ 1
+pub one_epoch : (epoch : ℕ) → IsValidReport load_plan modules (load_report epoch) → epoch ≡ 1
 one_epoch epoch is =
     let opened_at = is.course.opens.epoch in
     omega (arith, is.course.leads.1.1.0.goes.next, opened_at)

@@ -13,9 +13,9 @@ use Rattle.cfi_model.specs.Log.{policy_after, last_policy}
 use Rattle.cfi_valid.specs.Course.{Course}
 use Rattle.cfi_valid.specs.Growth.{IsLater, Continues}
 use Rattle.cfi_valid.specs.Joining.{IsFull, HasFault, HasNoFault}
-use Rattle.cfi_valid.specs.Journal.{JournalState, IsSpent}
+use Rattle.cfi_valid.specs.Journal.{JournalState, IsOutOfEpochs}
 use Rattle.cfi_valid.specs.Loaded.{LoadedModule, loaded_by}
-use Rattle.cfi_valid.specs.Log.{IsInSpan, HoldsInSpan, IsOpened, HasNoFunction, is_versions, Why, NoModule, ModulesFull, NotPlaced, NotVerified, VersionsSpent, EpochsSpent, NoFunction, Unlogged, why_of, IsCaused, NeverFall, IsLogged}
+use Rattle.cfi_valid.specs.Log.{IsInSpan, HoldsInSpan, HasFunctionAt, HasNoFunction, is_versions, Why, NoModule, ModulesFull, NotPlaced, NotVerified, VersionsSpent, EpochsSpent, NoFunction, Unlogged, why_of, IsCaused, NeverFall, IsLogged}
 use Rattle.cfi_valid.proofs.GrowthLemmas.{along_later, loaded_stays, spent_stays}
 use Rattle.cfi_valid.proofs.SpanLemmas.{fall_least, fall_behind, last_behind, next_most, next_rises}
 
@@ -33,7 +33,7 @@ open_low before (entry ∷ log) never (suc at) number address policy is =
 
 -- the course that goes on
 module _ (plan : Plan) (modules : List Module) (journal more : List Entry) (end after : JournalState)
-    (later : IsLater end after) (kept : IsSpent end → after ≡ end) where
+    (later : IsLater end after) (kept : IsOutOfEpochs end → after ≡ end) where
   abbrev old : Course
   old = record { plan = plan; modules = modules; journal = journal; end = end }
 
@@ -86,17 +86,17 @@ module _ (plan : Plan) (modules : List Module) (journal more : List Entry) (end 
         let same = kept caused.1 in
         subst
         (λ (s : JournalState).
-        IsInSpan s.policy log at s.policy × IsSpent s × HasNoFault plan.code_words modules s.loaded number)
+        IsInSpan s.policy log at s.policy × IsOutOfEpochs s × HasNoFault plan.code_words modules s.loaded number)
         (sym same) caused
     caused_stays at number NoFunction caused =
         holds_stays at (λ (loaded : List LoadedModule). HasNoFunction loaded number) caused
     caused_stays at number Unlogged caused = absurd caused
 
     opens_stays : (at number address policy : ℕ) → slice_get log at ≡ Some (Open number address policy)
-        → IsOpened (loaded_by policy after.loaded) number address
+        → HasFunctionAt (loaded_by policy after.loaded) number address
     opens_stays at number address policy is =
         let low = open_low 0 log logged.rises at number address policy is in
-        subst (λ (loaded : List LoadedModule). IsOpened loaded number address)
+        subst (λ (loaded : List LoadedModule). HasFunctionAt loaded number address)
         (sym (loaded_stays end after later policy (omega (arith, low, logged.most))))
         (logged.opens at number address policy is)
 

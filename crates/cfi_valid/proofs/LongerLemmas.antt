@@ -10,7 +10,7 @@ use Rattle.cfi_model.specs.Effect.{is_in_code, asks}
 use Rattle.cfi_model.specs.Service.{Reply}
 use Rattle.cfi_model.specs.State.{State, register, displaced}
 use Rattle.cfi_valid.specs.Loaded.{LoadedModule}
-use Rattle.cfi_valid.specs.Replay.{singles, next_in, IsReplyOf, Picks, Answers, TakesFrom, IsReplayed, Replays}
+use Rattle.cfi_valid.specs.Replay.{singles, next_in, IsReplyOf, TakesPick, TakesAnswer, TakesFrom, IsReplayed, Replays}
 
 -- a log has what another has, and more behind it
 abbrev pub Longer : (old new more : List Log) → Type 0
@@ -24,8 +24,8 @@ next_stays log longer more is s entry next =
 
 module _ (code : List ℕ) (loaded : List LoadedModule) (log longer more : List Log) (is : Longer log longer more) where
   picks_stay : (s : State) (slot target pick : ℕ) (allowed inside : Bool)
-      → Picks inside loaded (next_in log s) slot target pick allowed
-      → Picks inside loaded (next_in longer s) slot target pick allowed
+      → TakesPick inside loaded (next_in log s) slot target pick allowed
+      → TakesPick inside loaded (next_in longer s) slot target pick allowed
   picks_stay s slot target pick allowed true picks = record {
     is = next_stays log longer more is s (Pick pick 1) picks.is;
     exact = picks.exact;
@@ -43,8 +43,8 @@ module _ (code : List ℕ) (loaded : List LoadedModule) (log longer more : List 
   reply_stays s reply (Some (Pick policy count)) at told = absurd told
   reply_stays s reply None at told = absurd told
 
-  answers_stay : (s : State) (reply : Reply) (asking : Bool) → Answers asking loaded s (next_in log s) reply
-      → Answers asking loaded s (next_in longer s) reply
+  answers_stay : (s : State) (reply : Reply) (asking : Bool) → TakesAnswer asking loaded s (next_in log s) reply
+      → TakesAnswer asking loaded s (next_in longer s) reply
   answers_stay s reply true told = reply_stays s reply (next_in log s) refl told
   answers_stay s reply false told = told
 

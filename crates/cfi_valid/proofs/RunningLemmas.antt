@@ -15,7 +15,7 @@ use Rattle.cfi_model.specs.Log.{opens, picked}
 use Rattle.cfi_model.specs.Service.{Reply, Service, Opens, service_of, served, served_log, reply_of, too_many, asked, argument}
 use Rattle.cfi_model.specs.State.{State, register, displaced, after}
 use Rattle.cfi_valid.specs.Loaded.{LoadedModule, fills_between}
-use Rattle.cfi_valid.specs.Replay.{singles, next_in, given_by, IsReplyOf, Picks, Answers, TakesFrom, IsReplayed, Replays}
+use Rattle.cfi_valid.specs.Replay.{singles, next_in, given_by, IsReplyOf, TakesPick, TakesAnswer, TakesFrom, IsReplayed, Replays}
 use Rattle.cfi_valid.specs.Running.{HasReplayed, FitsService, IsGiven, RunsUnit}
 use Rattle.cfi_valid.proofs.AnswerLemmas.{opens_as, refused_same, other_same, other_log, opens_is, opens_of}
 use Rattle.cfi_valid.proofs.LongerLemmas.{Longer, replay_stays}
@@ -74,11 +74,11 @@ module _ (code : List ℕ) (loaded : List LoadedModule) (old new : State) (p : R
       ap (λ (s : State). s.log) is ∙ ap (λ (b : Bool). cond b (picked p.pick old.log) old.log) inside in
       let longer : Longer old.log new.log (Pick p.pick 1 ∷ []) = ap singles log ∙ singles_picked p.pick old.log in
       let given = subst (λ (u : CodeUnit). IsGiven loaded u old p.pick p.allowed p.reply) unit p.given in
-      let picks : Picks true loaded (next_in new.log old) slot target p.pick p.allowed = record {
+      let picks : TakesPick true loaded (next_in new.log old) slot target p.pick p.allowed = record {
         is = next_at old new (Pick p.pick 1) longer;
         exact = given inside;
       } in
-      let takes = subst (λ (b : Bool). Picks b loaded (next_in new.log old) slot target p.pick p.allowed)
+      let takes = subst (λ (b : Bool). TakesPick b loaded (next_in new.log old) slot target p.pick p.allowed)
       (sym inside) picks in
       last_as p.reply
       (subst (λ (u : CodeUnit). TakesFrom loaded (next_in new.log old) u old p.pick p.allowed p.reply) (sym unit) takes)
@@ -89,8 +89,8 @@ module _ (code : List ℕ) (loaded : List LoadedModule) (old new : State) (p : R
       let is = p.is ∙ ap (λ (u : CodeUnit). effect u p.pick (λ slot target. p.allowed) p.reply old) unit in
       let log : new.log ≡ old.log =
       ap (λ (s : State). s.log) is ∙ ap (λ (b : Bool). cond b (picked p.pick old.log) old.log) inside in
-      let picks : Picks false loaded (next_in new.log old) slot target p.pick p.allowed = tt in
-      let takes = subst (λ (b : Bool). Picks b loaded (next_in new.log old) slot target p.pick p.allowed)
+      let picks : TakesPick false loaded (next_in new.log old) slot target p.pick p.allowed = tt in
+      let takes = subst (λ (b : Bool). TakesPick b loaded (next_in new.log old) slot target p.pick p.allowed)
       (sym inside) picks in
       last_as p.reply
       (subst (λ (u : CodeUnit). TakesFrom loaded (next_in new.log old) u old p.pick p.allowed p.reply) (sym unit) takes)
@@ -111,10 +111,10 @@ module _ (code : List ℕ) (loaded : List LoadedModule) (old new : State) (p : R
 
     -- what it takes, by whether it asks
     service_as : (asking : Bool) → asks old ≡ asking → (reply : Reply)
-        → Answers asking loaded old (next_in new.log old) reply → new ≡ as_service reply → (more : List Log)
+        → TakesAnswer asking loaded old (next_in new.log old) reply → new ≡ as_service reply → (more : List Log)
         → Longer old.log new.log more → IsLast code loaded old new
     service_as asking is reply answers same more longer =
-        let takes = subst (λ (b : Bool). Answers b loaded old (next_in new.log old) reply) (sym is) answers in
+        let takes = subst (λ (b : Bool). TakesAnswer b loaded old (next_in new.log old) reply) (sym is) answers in
         let whole = same ∙ ap (λ (u : CodeUnit). effect u p.pick (λ slot target. p.allowed) reply old) (sym unit) in
         last_as reply
         (subst (λ (u : CodeUnit). TakesFrom loaded (next_in new.log old) u old p.pick p.allowed reply) (sym unit)

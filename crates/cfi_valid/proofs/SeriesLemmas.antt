@@ -15,8 +15,8 @@ use Rattle.cfi_plan.specs.declared.plan.Plan.{Plan}
 use Rattle.cfi_series.specs.Order.{AreInOrder}
 use Rattle.cfi_series.specs.Series.{IsSeries}
 use Rattle.cfi_series.proofs.OrderLemmas.{order_more}
-use Rattle.cfi_valid.specs.Journal.{JournalState, modules_at, IsOpening, LeadsBy, LeadAlong, IsJournal}
-use Rattle.cfi_valid.specs.Loaded.{LoadedModule, placed_of}
+use Rattle.cfi_valid.specs.Journal.{JournalState, modules_at, IsOpeningState, LineLeads, EntriesLead, IsJournal}
+use Rattle.cfi_valid.specs.Loaded.{LoadedModule, placed_modules}
 use Rattle.cfi_word.specs.Table.{IsSize}
 
 abbrev numbers_of : List LoadedModule → List ℕ
@@ -25,21 +25,21 @@ numbers_of loaded = map (λ (l : LoadedModule). l.number) loaded
 module _ (plan : Plan) (modules : List Module) where
   -- the loaded modules stand in their order
   abbrev Stand : List LoadedModule → Type 0
-  Stand loaded = AreInOrder plan.code_words (modules_at modules (numbers_of loaded)) (placed_of loaded)
+  Stand loaded = AreInOrder plan.code_words (modules_at modules (numbers_of loaded)) (placed_modules loaded)
 
-  opening_stands : (s : JournalState) → IsOpening plan modules s → Stand s.loaded
+  opening_stands : (s : JournalState) → IsOpeningState plan modules s → Stand s.loaded
   opening_stands s opens =
-      subst (λ (numbers : List ℕ). AreInOrder plan.code_words (modules_at modules numbers) (placed_of s.loaded))
+      subst (λ (numbers : List ℕ). AreInOrder plan.code_words (modules_at modules numbers) (placed_modules s.loaded))
       (sym opens.starts) opens.order
 
-  line_stands : (old new : JournalState) (line : JournalLine) → LeadsBy plan modules old line new → Stand old.loaded
+  line_stands : (old new : JournalState) (line : JournalLine) → LineLeads plan modules old line new → Stand old.loaded
       → Stand new.loaded
   line_stands old new (LoadOk number epoch policy) leads order =
       let clean = leads.0.clean in
       let m : Module = clean.absent.unplaced in
       let one : LoadedModule = record { number = number; placed = clean.placed; policy = policy } in
       let all : List LoadedModule = old.loaded ++ one ∷ [] in
-      let more = order_more plan.code_words (modules_at modules (numbers_of old.loaded)) (placed_of old.loaded) m
+      let more = order_more plan.code_words (modules_at modules (numbers_of old.loaded)) (placed_modules old.loaded) m
       clean.placed order clean.joins in
       let last : filter_map (slice_get modules) (number ∷ []) ≡ m ∷ [] =
       ap (λ (o : Option Module). cons_option o []) clean.absent.is in
@@ -47,10 +47,10 @@ module _ (plan : Plan) (modules : List Module) where
       ap (modules_at modules) (map-append (λ (l : LoadedModule). l.number) old.loaded (one ∷ []))
       ∙ filter_map-append (slice_get modules) (numbers_of old.loaded) (number ∷ [])
       ∙ ap (λ (ms : List Module). modules_at modules (numbers_of old.loaded) ++ ms) last in
-      let places : placed_of all ≡ placed_of old.loaded ++ clean.placed ∷ [] =
+      let places : placed_modules all ≡ placed_modules old.loaded ++ clean.placed ∷ [] =
       map-append (λ (l : LoadedModule). l.placed) old.loaded (one ∷ []) in
       let stand : Stand all =
-      subst (λ (ms : List Module). AreInOrder plan.code_words ms (placed_of all)) (sym units)
+      subst (λ (ms : List Module). AreInOrder plan.code_words ms (placed_modules all)) (sym units)
       (subst
       (λ (ps : List Placed). AreInOrder plan.code_words (modules_at modules (numbers_of old.loaded) ++ m ∷ []) ps)
       (sym places) more) in
@@ -74,7 +74,7 @@ module _ (plan : Plan) (modules : List Module) where
   line_stands old new RefreshEpochs leads order =
       subst (λ (s : JournalState). Stand s.loaded) (sym leads.1) order
 
-  along_stands : (old new : JournalState) (entries : List Entry) → LeadAlong plan modules old entries new
+  along_stands : (old new : JournalState) (entries : List Entry) → EntriesLead plan modules old entries new
       → Stand old.loaded → Stand new.loaded
   along_stands old new [] along order = subst (λ (s : JournalState). Stand s.loaded) (sym along) order
   along_stands old new (entry ∷ entries) along order =
@@ -99,7 +99,7 @@ module _ (modules : List Module) (sound : All IsSoundModule modules) where
 
 pub journal_series : (plan : Plan) (modules : List Module) (journal : List Entry) (end : JournalState)
     → IsSize plan.code_words → All IsSoundModule modules → IsJournal plan modules journal end
-    → IsSeries plan.code_words (placed_of end.loaded)
+    → IsSeries plan.code_words (placed_modules end.loaded)
 journal_series plan modules journal end size sound is = record {
   size = size;
   modules = modules_at modules (numbers_of end.loaded);

@@ -16,9 +16,9 @@ use Rattle.cfi_valid.specs.Agree.{HasSameEnd, EndsAlike, AgreeIn}
 use Rattle.cfi_valid.specs.Course.{Course}
 use Rattle.cfi_valid.specs.Guests.{GuestBegins}
 use Rattle.cfi_valid.specs.Journal.{JournalState, IsJournal}
-use Rattle.cfi_valid.specs.Loaded.{LoadedModule, placed_of, start_fills, line_of}
+use Rattle.cfi_valid.specs.Loaded.{LoadedModule, placed_modules, start_fills, module_line_of}
 use Rattle.cfi_valid.specs.Replay.{Replays, shown_stop}
-use Rattle.cfi_valid.specs.Valid.{IsPart, IsEnded, course_of, IsValid}
+use Rattle.cfi_valid.specs.Valid.{IsGuestPart, IsEnded, course_of, IsValidReport}
 use Rattle.cfi_valid.proofs.CodeLemmas.{code_once}
 use Rattle.cfi_valid.proofs.EntryLemmas.{begins_once}
 use Rattle.cfi_valid.proofs.JournalLemmas.{journal_once}
@@ -56,7 +56,7 @@ module _ (loaded : List LoadedModule) (fills : List Fill) (s : State) where
       (subst (λ (x : List Log). Replays code' loaded x units (opened number address fills) s) l
       (subst (λ (x : List ℕ). Replays x loaded log units (opened number address fills) s) c replay)))
 
-module _ (c : Course) (a b : GuestPart) (p : IsPart c a) (q : IsPart c b) (number : a.number ≡ b.number)
+module _ (c : Course) (a b : GuestPart) (p : IsGuestPart c a) (q : IsGuestPart c b) (number : a.number ≡ b.number)
     (entry : a.entry ≡ b.entry) (log : a.log ≡ b.log) where
   abbrev start : State
   start = opened b.number q.address (start_fills c.end.loaded)
@@ -65,7 +65,7 @@ module _ (c : Course) (a b : GuestPart) (p : IsPart c a) (q : IsPart c b) (numbe
   replay : Replays q.code c.end.loaded b.log a.units start p.last
   replay =
       let loaded = c.end.loaded in
-      let code = code_once (placed_of loaded) c.plan.code_words p.code q.code p.is_code q.is_code in
+      let code = code_once (placed_modules loaded) c.plan.code_words p.code q.code p.is_code q.is_code in
       let address = begins_once c.plan loaded b.entry p.address q.address
       (subst (λ (name : List ℕ). GuestBegins c.plan loaded name p.address) entry p.begins) q.begins in
       replay_as loaded (start_fills loaded) p.last p.code q.code a.log b.log a.number b.number p.address q.address
@@ -117,7 +117,7 @@ ended_alike c number a b p q log =
 
 -- ---- reports
 
-module _ (plan : Plan) (modules : List Module) (a b : Report) (p : IsValid plan modules a) (q : IsValid plan modules b)
+module _ (plan : Plan) (modules : List Module) (a b : Report) (p : IsValidReport plan modules a) (q : IsValidReport plan modules b)
     (journal : a.journal ≡ b.journal) where
   end_same : p.end ≡ q.end
   end_same =
@@ -139,6 +139,6 @@ module _ (plan : Plan) (modules : List Module) (a b : Report) (p : IsValid plan 
   reports_same = record {
     epoch = p.epoch ∙ ap (λ (s : JournalState). s.epoch) end_same ∙ sym q.epoch;
     policy = p.policy ∙ ap (λ (s : JournalState). s.policy) end_same ∙ sym q.policy;
-    lines = p.lines ∙ ap (λ (s : JournalState). map (line_of plan.modules) s.loaded) end_same ∙ sym q.lines;
+    lines = p.lines ∙ ap (λ (s : JournalState). map (module_line_of plan.modules) s.loaded) end_same ∙ sym q.lines;
     guests = guests_same;
   }

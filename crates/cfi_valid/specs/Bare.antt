@@ -25,5 +25,5 @@ abbrev pub has_no_file : PlanModule → Bool
 has_no_file one = length one.file == 0
 
 -- the plan stands for a bare file
-abbrev pub is_bare : Plan → Bool
-is_bare plan = list_any has_no_file plan.modules
+abbrev pub is_bare_plan : Plan → Bool
+is_bare_plan plan = list_any has_no_file plan.modules

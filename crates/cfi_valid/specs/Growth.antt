@@ -5,7 +5,7 @@ use Rattle.cfi_plan.specs.declared.journal.Entry.{Entry}
 use Rattle.cfi_model.specs.Log.{policy_after, last_policy}
 use Rattle.cfi_unit.specs.declared.log.Log.{Log}
 use Rattle.cfi_valid.specs.Course.{Course}
-use Rattle.cfi_valid.specs.Journal.{JournalState, LeadAlong}
+use Rattle.cfi_valid.specs.Journal.{JournalState, EntriesLead}
 use Rattle.cfi_valid.specs.Loaded.{LoadedModule, loaded_by}
 use Rattle.cfi_valid.specs.Log.{IsInSpan, IsLogged}
 
@@ -23,7 +23,7 @@ pub record Continues (old new : Course) : Type 0 where
   pub modules : new.modules ≡ old.modules
   pub more : List Entry
   pub journal : new.journal ≡ old.journal ++ more
-  pub leads : LeadAlong old.plan old.modules old.end more new.end
+  pub leads : EntriesLead old.plan old.modules old.end more new.end
 
 -- each policy finds loaded what it found loaded when it was in force
 abbrev pub LoadedStays : Type 0

@@ -8,7 +8,7 @@ use Rattle.cfi_series.specs.declared.numbers.FaultNumbers.{FaultNumbers}
 use Rattle.cfi_series.specs.Numbers.{numbers_of}
 use Rattle.cfi_series.specs.Order.{Joins, IsJoinFault}
 use Rattle.cfi_valid.specs.declared.limits.TheConstants.{MAX_LOADED}
-use Rattle.cfi_valid.specs.Loaded.{LoadedModule, placed_of, IsLoaded}
+use Rattle.cfi_valid.specs.Loaded.{LoadedModule, placed_modules, IsLoaded}
 
 -- a module of the plan is not loaded, and no further one may be
 pub record IsFull (modules : List Module) (loaded : List LoadedModule) (number : ℕ) : Type 0 where
@@ -17,7 +17,7 @@ pub record IsFull (modules : List Module) (loaded : List LoadedModule) (number :
   pub full : MAX_LOADED ≤ length loaded
 
 -- it is not loaded, and there is room
-pub record IsAbsent (modules : List Module) (loaded : List LoadedModule) (number : ℕ) : Type 0 where
+pub record IsUnloaded (modules : List Module) (loaded : List LoadedModule) (number : ℕ) : Type 0 where
   pub unplaced : Module
   pub is : slice_get modules number ≡ Some unplaced
   pub absent : ¬ IsLoaded loaded number
@@ -26,14 +26,14 @@ pub record IsAbsent (modules : List Module) (loaded : List LoadedModule) (number
 -- and it has a fault behind those that are loaded, which is told by these numbers
 pub record HasFault (code_words : ℕ) (modules : List Module) (loaded : List LoadedModule) (number : ℕ)
     (numbers : FaultNumbers) : Type 0 where
-  pub absent : IsAbsent modules loaded number
+  pub absent : IsUnloaded modules loaded number
   pub fault : JoinFault
-  pub stands : IsJoinFault code_words (placed_of loaded) absent.unplaced fault
+  pub stands : IsJoinFault code_words (placed_modules loaded) absent.unplaced fault
   pub told : numbers_of fault ≡ Some numbers
 
 -- or has none, and is placed so
 pub record HasNoFault (code_words : ℕ) (modules : List Module) (loaded : List LoadedModule) (number : ℕ)
     : Type 0 where
-  pub absent : IsAbsent modules loaded number
+  pub absent : IsUnloaded modules loaded number
   pub placed : Placed
-  pub joins : Joins code_words (placed_of loaded) absent.unplaced placed
+  pub joins : Joins code_words (placed_modules loaded) absent.unplaced placed

@@ -13,7 +13,7 @@ use Rattle.cfi_plan.specs.declared.plan.PlanModule.{PlanModule}
 use Rattle.cfi_series.specs.declared.numbers.FaultNumbers.TheVariants.{Place, Verify}
 use Rattle.cfi_series.specs.Order.{AreInOrder}
 use Rattle.cfi_valid.specs.Joining.{IsFull, HasFault, HasNoFault}
-use Rattle.cfi_valid.specs.Loaded.{LoadedModule, placed_of, IsLoaded}
+use Rattle.cfi_valid.specs.Loaded.{LoadedModule, placed_modules, IsLoaded}
 use Rattle.cfi_word.specs.declared.limits.TheConstants.{MAX_EPOCH}
 
 -- the epoch and the policy in force, and the modules that are loaded, in load order
@@ -35,12 +35,12 @@ abbrev pub modules_at : List Module → (numbers : List ℕ) → List Module
 modules_at modules numbers = filter_map (slice_get modules) numbers
 
 -- the first epoch, policy 0, and the start modules in plan order, each without a fault behind those before it
-pub record IsOpening (plan : Plan) (modules : List Module) (s : JournalState) : Type 0 where
+pub record IsOpeningState (plan : Plan) (modules : List Module) (s : JournalState) : Type 0 where
   pub epoch : s.epoch ≡ plan.first
   pub policy : s.policy ≡ 0
   pub starts : map (λ (l : LoadedModule). l.number) s.loaded ≡ starts_from 0 plan.modules
   pub policies : All (λ (l : LoadedModule). l.policy ≡ 0) s.loaded
-  pub order : AreInOrder plan.code_words (modules_at modules (starts_from 0 plan.modules)) (placed_of s.loaded)
+  pub order : AreInOrder plan.code_words (modules_at modules (starts_from 0 plan.modules)) (placed_modules s.loaded)
 
 -- ---- who may ask
 
@@ -63,13 +63,13 @@ pub record IsAgain (s : JournalState) (number policy : ℕ) : Type 0 where
   pub force : policy ≡ s.policy
 
 -- an update goes to the next epoch
-pub record GoesOn (s : JournalState) (epoch : ℕ) : Type 0 where
+pub record HasNextEpoch (s : JournalState) (epoch : ℕ) : Type 0 where
   pub left : s.epoch < MAX_EPOCH
   pub next : epoch ≡ s.epoch + 1
 
 -- there is none
-abbrev pub IsSpent : JournalState → Type 0
-IsSpent s = s.epoch ≡ MAX_EPOCH
+abbrev pub IsOutOfEpochs : JournalState → Type 0
+IsOutOfEpochs s = s.epoch ≡ MAX_EPOCH
 
 -- a guest has published an epoch that is too far below it
 pub record IsTooOld (plan : Plan) (s : JournalState) (guest quiet : ℕ) : Type 0 where
@@ -84,9 +84,9 @@ abbrev pub IsClean : Plan → List Module → JournalState → (number : ℕ) �
 IsClean plan modules s number = HasNoFault plan.code_words modules s.loaded number
 
 -- it is loaded, with the next epoch and the next policy
-pub record IsLoad (plan : Plan) (modules : List Module) (s : JournalState) (number epoch policy : ℕ) : Type 0 where
+pub record IsLoadLine (plan : Plan) (modules : List Module) (s : JournalState) (number epoch policy : ℕ) : Type 0 where
   pub clean : IsClean plan modules s number
-  pub goes : GoesOn s epoch
+  pub goes : HasNextEpoch s epoch
   pub next : policy ≡ s.policy + 1
 
 -- the state with the module more
@@ -98,35 +98,35 @@ with_loaded number epoch policy placed s = record {
 }
 
 -- a line leads from one state to another: a case a row
-abbrev pub LeadsBy : Plan → List Module → (old : JournalState) → JournalLine → (new : JournalState) → Type 0
-LeadsBy plan modules old (LoadOk number epoch policy) new =
-    (load : IsLoad plan modules old number epoch policy)
+abbrev pub LineLeads : Plan → List Module → (old : JournalState) → JournalLine → (new : JournalState) → Type 0
+LineLeads plan modules old (LoadOk number epoch policy) new =
+    (load : IsLoadLine plan modules old number epoch policy)
     × (new ≡ with_loaded number epoch policy load.clean.placed old)
-LeadsBy plan modules old (LoadAgain number policy) new = IsAgain old number policy × (new ≡ old)
-LeadsBy plan modules old (LoadFull number) new = IsFull modules old.loaded number × (new ≡ old)
-LeadsBy plan modules old (LoadPlace number fault) new =
+LineLeads plan modules old (LoadAgain number policy) new = IsAgain old number policy × (new ≡ old)
+LineLeads plan modules old (LoadFull number) new = IsFull modules old.loaded number × (new ≡ old)
+LineLeads plan modules old (LoadPlace number fault) new =
     HasFault plan.code_words modules old.loaded number (Place fault) × (new ≡ old)
-LeadsBy plan modules old (LoadVerify number fault place) new =
+LineLeads plan modules old (LoadVerify number fault place) new =
     HasFault plan.code_words modules old.loaded number (Verify fault place) × (new ≡ old)
-LeadsBy plan modules old (LoadVersions number guest quiet) new =
+LineLeads plan modules old (LoadVersions number guest quiet) new =
     IsClean plan modules old number × IsTooOld plan old guest quiet × (new ≡ old)
-LeadsBy plan modules old (LoadEpochs number) new = IsClean plan modules old number × IsSpent old × (new ≡ old)
-LeadsBy plan modules old (RefreshOk epoch) new = GoesOn old epoch × (new ≡ record old { epoch = epoch })
-LeadsBy plan modules old (RefreshVersions guest quiet) new = IsTooOld plan old guest quiet × (new ≡ old)
-LeadsBy plan modules old RefreshEpochs new = IsSpent old × (new ≡ old)
+LineLeads plan modules old (LoadEpochs number) new = IsClean plan modules old number × IsOutOfEpochs old × (new ≡ old)
+LineLeads plan modules old (RefreshOk epoch) new = HasNextEpoch old epoch × (new ≡ record old { epoch = epoch })
+LineLeads plan modules old (RefreshVersions guest quiet) new = IsTooOld plan old guest quiet × (new ≡ old)
+LineLeads plan modules old RefreshEpochs new = IsOutOfEpochs old × (new ≡ old)
 
 -- an entry does: who asked may ask
-abbrev pub Leads : Plan → List Module → (old : JournalState) → Entry → (new : JournalState) → Type 0
-Leads plan modules old entry new = MayAsk plan entry.who entry.what × LeadsBy plan modules old entry.what new
+abbrev pub EntryLeads : Plan → List Module → (old : JournalState) → Entry → (new : JournalState) → Type 0
+EntryLeads plan modules old entry new = MayAsk plan entry.who entry.what × LineLeads plan modules old entry.what new
 
 -- entries do, one after the other
-abbrev pub LeadAlong : Plan → List Module → (old : JournalState) → List Entry → (new : JournalState) → Type 0
-LeadAlong plan modules old [] new = new ≡ old
-LeadAlong plan modules old (entry ∷ entries) new =
-    (mid : JournalState) × Leads plan modules old entry mid × LeadAlong plan modules mid entries new
+abbrev pub EntriesLead : Plan → List Module → (old : JournalState) → List Entry → (new : JournalState) → Type 0
+EntriesLead plan modules old [] new = new ≡ old
+EntriesLead plan modules old (entry ∷ entries) new =
+    (mid : JournalState) × EntryLeads plan modules old entry mid × EntriesLead plan modules mid entries new
 
 -- the journal leads from the opening of the plan to this state
 pub record IsJournal (plan : Plan) (modules : List Module) (journal : List Entry) (end : JournalState) : Type 0 where
   pub opening : JournalState
-  pub opens : IsOpening plan modules opening
-  pub leads : LeadAlong plan modules opening journal end
+  pub opens : IsOpeningState plan modules opening
+  pub leads : EntriesLead plan modules opening journal end

@@ -89,8 +89,8 @@ load_plan = record {
   script = [];
 }
 
-abbrev pub module_line : (number : ℕ) → (name : List ℕ) → (base slot policy : ℕ) → ModuleLine
-module_line number name base slot policy = record {
+abbrev pub line_at : (number : ℕ) → (name : List ℕ) → (base slot policy : ℕ) → ModuleLine
+line_at number name base slot policy = record {
   number = number;
   name = name;
   base = base;
@@ -115,7 +115,7 @@ abbrev pub load_report : (epoch : ℕ) → Report
 load_report epoch = record {
   epoch = 1;
   policy = 1;
-  modules = module_line 0 (codes "main") FIRST_BASE 0 0 ∷ module_line 1 (codes "plug") 36 1 1 ∷ [];
+  modules = line_at 0 (codes "main") FIRST_BASE 0 0 ∷ line_at 1 (codes "plug") 36 1 1 ∷ [];
   journal = record { who = Guest 0; what = LoadOk 1 epoch 1 } ∷ [];
   guests = load_part ∷ [];
 }

@@ -16,8 +16,8 @@ pub record LoadedModule : Type 0 where
   pub policy : ℕ
 
 -- what placing made of them, in the order in which they were loaded
-abbrev pub placed_of : List LoadedModule → List Placed
-placed_of loaded = map (λ (l : LoadedModule). l.placed) loaded
+abbrev pub placed_modules : List LoadedModule → List Placed
+placed_modules loaded = map (λ (l : LoadedModule). l.placed) loaded
 
 -- those that a policy finds loaded: they came with it or before it
 abbrev pub loaded_by : (policy : ℕ) → List LoadedModule → List LoadedModule
@@ -30,7 +30,7 @@ live_at policy loaded = loaded_by policy loaded
 
 -- a policy: a chain of direct edges of the modules that are live under it leads from the slot to the address
 abbrev pub AllowedAt : List LoadedModule → (policy slot address : ℕ) → Type 0
-AllowedAt loaded policy slot address = Allowed (placed_of (live_at policy loaded)) slot address
+AllowedAt loaded policy slot address = Allowed (placed_modules (live_at policy loaded)) slot address
 
 -- the module of the number is loaded
 abbrev pub IsLoaded : List LoadedModule → (number : ℕ) → Type 0
@@ -39,21 +39,21 @@ IsLoaded loaded number = (l : LoadedModule) × Contains loaded l × (l.number �
 -- the data that came with the policies above one and up to another, in load order
 abbrev pub fills_between : (above upto : ℕ) → List LoadedModule → List Fill
 fills_between above upto loaded =
-    fills_of (placed_of (filter (λ (l : LoadedModule). nat_lt above l.policy && nat_le l.policy upto) loaded))
+    fills_of (placed_modules (filter (λ (l : LoadedModule). nat_lt above l.policy && nat_le l.policy upto) loaded))
 
 -- the data that a guest has at its start
 abbrev pub start_fills : List LoadedModule → List Fill
-start_fills loaded = fills_of (placed_of (loaded_by 0 loaded))
+start_fills loaded = fills_of (placed_modules (loaded_by 0 loaded))
 
 -- the name of a number
-abbrev pub name_of : List PlanModule → (number : ℕ) → List ℕ
-name_of named number = option_map_or (λ (one : PlanModule). one.name) (slice_get named number) []
+abbrev pub planned_name : List PlanModule → (number : ℕ) → List ℕ
+planned_name named number = option_map_or (λ (one : PlanModule). one.name) (slice_get named number) []
 
 -- what a report says of a loaded module
-abbrev pub line_of : List PlanModule → LoadedModule → ModuleLine
-line_of named l = record {
+abbrev pub module_line_of : List PlanModule → LoadedModule → ModuleLine
+module_line_of named l = record {
   number = l.number;
-  name = name_of named l.number;
+  name = planned_name named l.number;
   base = l.placed.base;
   slot = l.placed.slot_base;
   data_base = l.placed.data_base;

@@ -14,7 +14,7 @@ use Rattle.cfi_model.specs.Log.{policy_after, last_policy}
 use Rattle.cfi_valid.specs.declared.causes.TheConstants as causes
 use Rattle.cfi_valid.specs.Course.{Course}
 use Rattle.cfi_valid.specs.Joining.{IsFull, HasFault, HasNoFault}
-use Rattle.cfi_valid.specs.Journal.{IsSpent}
+use Rattle.cfi_valid.specs.Journal.{IsOutOfEpochs}
 use Rattle.cfi_valid.specs.Loaded.{LoadedModule, loaded_by}
 use Rattle.cfi_word.specs.declared.services.TheConstants as services
 
@@ -40,7 +40,7 @@ HoldsInSpan c log at P =
 -- ---- a module that is loaded
 
 -- a module of this number is loaded, and the address is that of its first Global function
-pub record IsOpened (loaded : List LoadedModule) (number address : ℕ) : Type 0 where
+pub record HasFunctionAt (loaded : List LoadedModule) (number address : ℕ) : Type 0 where
   pub one : LoadedModule
   pub has : Contains loaded one
   pub is : one.number ≡ number
@@ -104,7 +104,7 @@ IsCaused c guest log at number NotVerified = HoldsInSpan c log at (λ loaded.
 IsCaused c guest log at number VersionsSpent =
     count_by (is_too_old number) log ≤ count_by (is_versions guest number) c.journal
 IsCaused c guest log at number EpochsSpent =
-    IsInSpan c.end.policy log at c.end.policy × IsSpent c.end
+    IsInSpan c.end.policy log at c.end.policy × IsOutOfEpochs c.end
     × HasNoFault c.plan.code_words c.modules c.end.loaded number
 IsCaused c guest log at number NoFunction = HoldsInSpan c log at (λ loaded. HasNoFunction loaded number)
 IsCaused c guest log at number Unlogged = ⊥
@@ -122,7 +122,7 @@ pub record FitsCauses (c : Course) (Caused : (at number cause : ℕ) → Type 0)
   pub rises : NeverFall 0 log
   pub most : last_policy log ≤ c.end.policy
   pub opens : (at number address policy : ℕ) → slice_get log at ≡ Some (Open number address policy)
-      → IsOpened (loaded_by policy c.end.loaded) number address
+      → HasFunctionAt (loaded_by policy c.end.loaded) number address
   pub causes : (at number cause : ℕ) → slice_get log at ≡ Some (Cause number cause) → Caused at number cause
 
 -- a guest's log fits the run

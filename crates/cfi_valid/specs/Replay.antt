@@ -56,22 +56,22 @@ pub record IsPicked (loaded : List LoadedModule) (next : Option Log) (slot targe
   pub exact : (allowed ≡ true) ↔ AllowedAt loaded pick slot target
 
 -- a check whose target is none of the code picks nothing
-abbrev pub Picks : (inside : Bool) → List LoadedModule → Option Log → (slot target pick : ℕ) → (allowed : Bool)
+abbrev pub TakesPick : (inside : Bool) → List LoadedModule → Option Log → (slot target pick : ℕ) → (allowed : Bool)
     → Type 0
-Picks true loaded next slot target pick allowed = IsPicked loaded next slot target pick allowed
-Picks false loaded next slot target pick allowed = ⊤
+TakesPick true loaded next slot target pick allowed = IsPicked loaded next slot target pick allowed
+TakesPick false loaded next slot target pick allowed = ⊤
 
 -- an open that can be logged has the next answer of the log, each other has found too many
-abbrev pub Answers : (asked : Bool) → List LoadedModule → State → Option Log → Reply → Type 0
-Answers true loaded s next reply = IsReplyOf loaded s next reply
-Answers false loaded s next reply = reply ≡ too_many
+abbrev pub TakesAnswer : (asked : Bool) → List LoadedModule → State → Option Log → Reply → Type 0
+TakesAnswer true loaded s next reply = IsReplyOf loaded s next reply
+TakesAnswer false loaded s next reply = reply ≡ too_many
 
 -- what a unit takes from the log
 abbrev pub TakesFrom : List LoadedModule → Option Log → CodeUnit → State → (pick : ℕ) → (allowed : Bool) → Reply
     → Type 0
 TakesFrom loaded next (units.Check link rs1 imm slot) s pick allowed reply =
-    let target = displaced (register s rs1) imm in Picks (is_in_code target) loaded next slot target pick allowed
-TakesFrom loaded next units.Service s pick allowed reply = Answers (asks s) loaded s next reply
+    let target = displaced (register s rs1) imm in TakesPick (is_in_code target) loaded next slot target pick allowed
+TakesFrom loaded next units.Service s pick allowed reply = TakesAnswer (asks s) loaded s next reply
 TakesFrom loaded next unit s pick allowed reply = ⊤
 
 -- a guest that has not stopped runs a unit of the code
