@@ -13,6 +13,7 @@ pub mod SinglesLemmas
 pub mod LongerLemmas
 pub mod AnswerLemmas
 pub mod RunningLemmas
+pub mod LawLemmas
 pub mod ExampleCode
 pub mod ExampleLemmas
 pub mod ExampleReplay

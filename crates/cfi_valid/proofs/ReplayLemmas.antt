@@ -55,7 +55,8 @@ outside_same false false pick other allowed let_through link target s outside = 
 module _ (loaded : List LoadedModule) (next : Option Log) (s : State) where
   picks_once : (slot : ℕ) (link : Bool) (target : ℕ) (inside : Bool) → is_in_code target ≡ inside
       → (pick other : ℕ) (allowed let_through : Bool)
-      → TakesPick inside loaded next slot target pick allowed → TakesPick inside loaded next slot target other let_through
+      → TakesPick inside loaded next slot target pick allowed
+      → TakesPick inside loaded next slot target other let_through
       → checked pick allowed link target s ≡ checked other let_through link target s
   picks_once slot link target true is pick other allowed let_through p q =
       let both : Some (Pick pick 1) ≡ Some (Pick other 1) = sym p.is ∙ q.is in
@@ -75,7 +76,8 @@ module _ (loaded : List LoadedModule) (next : Option Log) (s : State) where
   reply_once (Some (Pick policy count)) a b p q = absurd p
   reply_once None a b p q = absurd p
 
-  answer_once : (asked : Bool) (a b : Reply) → TakesAnswer asked loaded s next a → TakesAnswer asked loaded s next b → a ≡ b
+  answer_once : (asked : Bool) (a b : Reply) → TakesAnswer asked loaded s next a
+      → TakesAnswer asked loaded s next b → a ≡ b
   answer_once true a b p q = reply_once next a b p q
   answer_once false a b p q = p ∙ sym q
 

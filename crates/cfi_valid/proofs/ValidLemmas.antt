@@ -117,8 +117,8 @@ ended_alike c number a b p q log =
 
 -- ---- reports
 
-module _ (plan : Plan) (modules : List Module) (a b : Report) (p : IsValidReport plan modules a) (q : IsValidReport plan modules b)
-    (journal : a.journal ≡ b.journal) where
+module _ (plan : Plan) (modules : List Module) (a b : Report) (p : IsValidReport plan modules a)
+    (q : IsValidReport plan modules b) (journal : a.journal ≡ b.journal) where
   end_same : p.end ≡ q.end
   end_same =
       journal_once plan modules b.journal p.end q.end

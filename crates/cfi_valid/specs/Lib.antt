@@ -13,5 +13,6 @@ pub mod Agree
 pub mod Growth
 pub mod Policies
 pub mod Running
+pub mod FromLaw
 pub mod Example
 pub mod LoadExample

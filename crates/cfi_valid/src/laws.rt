@@ -9,6 +9,7 @@ ghost use Rattle.cfi_report.specs.declared.report.Report.{Report};
 ghost use Rattle.cfi_valid.specs.Agree.{AgreeIn};
 ghost use Rattle.cfi_valid.specs.Bare.{bare_plan};
 ghost use Rattle.cfi_valid.specs.Example.{hello_module, hello_report};
+ghost use Rattle.cfi_valid.specs.FromLaw.{StepsAreUnits};
 ghost use Rattle.cfi_valid.specs.Growth.{IsLater, LoadedStays, LogStays, SettledLies};
 ghost use Rattle.cfi_valid.specs.Journal.{JournalState, EntryLeads, EntriesLead, IsJournal};
 ghost use Rattle.cfi_series.specs.Series.{IsSeries};
@@ -66,6 +67,12 @@ pub fn settled_policies_close_spans()
 /// A replay goes on one unit at a time, over what the guest has logged so far.
 pub fn replays_go_on()
     ensures { ReplayGoesOn }
+{}
+
+/// A step that the law of a running guest gives is a unit of a replay, where each epoch's image is that of the modules
+/// that its policy finds loaded, and each answer brings the data that is due.
+pub fn steps_are_units()
+    ensures { StepsAreUnits }
 {}
 
 /// What a check compares is what the policy of an image allows, whatever slot and address it has.
