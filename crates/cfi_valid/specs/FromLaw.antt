@@ -1,0 +1,31 @@
+-- What the law of a running guest gives is a unit of a replay: what an image's classes let through is what the policy of
+-- its epoch's number allows.
+use Rattle.std.specs.Prelude.{◌≡◌, ℕ, List, length, Option, Some, None, ⊤}
+use Rattle.cfi_model.specs.History.{History, IsEpoch, IsHistory}
+use Rattle.cfi_model.specs.Service.{Reply}
+use Rattle.cfi_model.specs.Shows.{End, IsReady, IsStep}
+use Rattle.cfi_model.specs.State.{State}
+use Rattle.cfi_series.specs.Loaded.{AreLoaded, IsLoadedImage}
+use Rattle.cfi_valid.specs.Loaded.{LoadedModule, placed_modules, loaded_by, live_at, fills_between}
+use Rattle.cfi_valid.specs.Replay.{given_by}
+use Rattle.cfi_valid.specs.Running.{RunsUnit}
+
+-- each epoch's image has the code of the modules that its policy finds loaded, and the labels of those that are live
+pub record HasPolicies (code_words : ℕ) (loaded : List LoadedModule) (h : History) : Type 0 where
+  pub modules : (epoch : ℕ) → IsEpoch h epoch
+      → AreLoaded code_words (placed_modules (loaded_by (h.policy epoch) loaded))
+  pub images : (epoch : ℕ) → IsEpoch h epoch
+      → IsLoadedImage code_words (placed_modules (loaded_by (h.policy epoch) loaded))
+      (placed_modules (live_at (h.policy epoch) loaded)) (h.image epoch)
+
+-- the answer to an open that succeeds brings the data that the guest lacks
+abbrev pub BringsDue : List LoadedModule → State → Option Reply → Type 0
+BringsDue loaded s None = ⊤
+BringsDue loaded s (Some reply) = reply.cause ≡ 0 → reply.fills ≡ fills_between (given_by s.log) reply.policy loaded
+
+-- a step of the law is a unit of a replay
+abbrev pub StepsAreUnits : Type 0
+StepsAreUnits =
+    (h : History) (code : List ℕ) (loaded : List LoadedModule) (end : End) (old new : State) → IsHistory h code →
+    HasPolicies (length code) loaded h → IsReady h old → IsStep h code end old new → BringsDue loaded old end.reply →
+    RunsUnit code loaded old new

@@ -1,0 +1,16 @@
+-- Where the guests of a plan begin, by the names of their entries.
+use Rattle.std.specs.Prelude.{◌≡◌, ℕ, ◌*◌, Bool, true, false, List}
+use Rattle.cfi_plan.specs.declared.plan.Plan.{Plan}
+use Rattle.cfi_series.specs.Entry.{IsEntryIn}
+use Rattle.cfi_valid.specs.Bare.{is_bare_plan}
+use Rattle.cfi_valid.specs.Loaded.{LoadedModule, placed_modules, loaded_by}
+use Rattle.cfi_word.specs.declared.map.TheConstants.{FIRST_BASE}
+
+-- the guest of a bare file begins at its first word, each other at the Global function of the entry's name in the
+-- first start module that has one
+abbrev pub EntersAt : (bare : Bool) → List LoadedModule → (entry : List ℕ) → (address : ℕ) → Type 0
+EntersAt true loaded entry address = address ≡ 4 * FIRST_BASE
+EntersAt false loaded entry address = IsEntryIn (placed_modules (loaded_by 0 loaded)) entry address
+
+abbrev pub GuestBegins : Plan → List LoadedModule → (entry : List ℕ) → (address : ℕ) → Type 0
+GuestBegins plan loaded entry address = EntersAt (is_bare_plan plan) loaded entry address

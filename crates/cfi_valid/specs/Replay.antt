@@ -1,0 +1,97 @@
+-- The replay of a guest: the policy machine over exactly the picks and opens of its log.
+use Rattle.std.specs.Prelude.{◌≡◌, ◌↔◌, ℕ, zero, suc, Bool, true, false, List, [], ◌∷◌, length, replicate, flat_map, slice_get, Option, Some, None, ⊤}
+use Rattle.std.specs.List.{fold}
+use Rattle.cfi_unit.specs.declared.log.Log.{Log}
+use Rattle.cfi_unit.specs.declared.log.Log.TheVariants.{Pick, Open, Cause}
+use Rattle.cfi_unit.specs.declared.log.Stop.{Stop}
+use Rattle.cfi_unit.specs.declared.log.Stop.TheVariants as stops
+use Rattle.cfi_unit.specs.declared.unit.Unit.{Unit as CodeUnit}
+use Rattle.cfi_unit.specs.declared.unit.Unit.TheVariants as units
+use Rattle.cfi_model.specs.Effect.{effect, is_in_code, asks}
+use Rattle.cfi_model.specs.Service.{Reply, reply_of, too_many}
+use Rattle.cfi_model.specs.Shows.{Stands}
+use Rattle.cfi_model.specs.State.{State, register, displaced}
+use Rattle.cfi_valid.specs.Loaded.{LoadedModule, AllowedAt, fills_between}
+
+-- ---- the log, one by one
+
+-- what an entry stands for: so many picks, or one open
+abbrev pub singles_of : Log → List Log
+singles_of (Pick policy count) = replicate count (Pick policy 1)
+singles_of (Open number address policy) = Open number address policy ∷ []
+singles_of (Cause number cause) = Cause number cause ∷ []
+
+abbrev pub singles : List Log → List Log
+singles log = flat_map singles_of log
+
+-- what a guest that is to log all of this logs next
+abbrev pub next_in : (log : List Log) → State → Option Log
+next_in log s = slice_get (singles log) (length (singles s.log))
+
+-- ---- the answers of opens
+
+-- the policy up to which a guest has been given data: that of the last open that succeeded, and 0 at its start
+abbrev pub given_after : (given : ℕ) → Log → ℕ
+given_after given (Pick policy count) = given
+given_after given (Open number address policy) = policy
+given_after given (Cause number cause) = given
+
+abbrev pub given_by : List Log → ℕ
+given_by log = fold given_after 0 log
+
+-- the answer that an entry tells: a success brings the data that the guest lacks
+abbrev pub IsReplyOf : List LoadedModule → State → Option Log → Reply → Type 0
+IsReplyOf loaded s (Some (Open number address policy)) reply =
+    reply ≡ reply_of address 0 policy (fills_between (given_by s.log) policy loaded)
+IsReplyOf loaded s (Some (Cause number cause)) reply = reply ≡ reply_of 0 cause 0 []
+IsReplyOf loaded s (Some (Pick policy count)) reply = ⊥
+IsReplyOf loaded s None reply = ⊥
+
+-- ---- one unit
+
+-- a check picks the next policy of the log, and is let through exactly where that policy allows it
+pub record IsPicked (loaded : List LoadedModule) (next : Option Log) (slot target pick : ℕ) (allowed : Bool)
+    : Type 0 where
+  pub is : next ≡ Some (Pick pick 1)
+  pub exact : (allowed ≡ true) ↔ AllowedAt loaded pick slot target
+
+-- a check whose target is none of the code picks nothing
+abbrev pub TakesPick : (inside : Bool) → List LoadedModule → Option Log → (slot target pick : ℕ) → (allowed : Bool)
+    → Type 0
+TakesPick true loaded next slot target pick allowed = IsPicked loaded next slot target pick allowed
+TakesPick false loaded next slot target pick allowed = ⊤
+
+-- an open that can be logged has the next answer of the log, each other has found too many
+abbrev pub TakesAnswer : (asked : Bool) → List LoadedModule → State → Option Log → Reply → Type 0
+TakesAnswer true loaded s next reply = IsReplyOf loaded s next reply
+TakesAnswer false loaded s next reply = reply ≡ too_many
+
+-- what a unit takes from the log
+abbrev pub TakesFrom : List LoadedModule → Option Log → CodeUnit → State → (pick : ℕ) → (allowed : Bool) → Reply
+    → Type 0
+TakesFrom loaded next (units.Check link rs1 imm slot) s pick allowed reply =
+    let target = displaced (register s rs1) imm in TakesPick (is_in_code target) loaded next slot target pick allowed
+TakesFrom loaded next units.Service s pick allowed reply = TakesAnswer (asks s) loaded s next reply
+TakesFrom loaded next unit s pick allowed reply = ⊤
+
+-- a guest that has not stopped runs a unit of the code
+pub record IsReplayed (code : List ℕ) (loaded : List LoadedModule) (log : List Log) (old new : State) : Type 0 where
+  pub going : old.stop ≡ None
+  pub unit : CodeUnit
+  pub stands : Stands code old.pc unit
+  pub pick : ℕ
+  pub allowed : Bool
+  pub reply : Reply
+  pub takes : TakesFrom loaded (next_in log old) unit old pick allowed reply
+  pub is : new ≡ effect unit pick (λ slot target. allowed) reply old
+
+-- and so many units
+abbrev pub Replays : (code : List ℕ) → List LoadedModule → (log : List Log) → (count : ℕ) → (old new : State) → Type 0
+Replays code loaded log zero old new = new ≡ old
+Replays code loaded log (suc count) old new =
+    (mid : State) × Replays code loaded log count old mid × IsReplayed code loaded log mid new
+
+-- a stop by the fuel, and none, is shown as none
+abbrev pub shown_stop : Option Stop → Option Stop
+shown_stop (Some stops.Fuel) = None
+shown_stop stop = stop
