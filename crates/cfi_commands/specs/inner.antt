@@ -1,2 +1,3 @@
 -- What private clauses of this crate cite.
 pub mod Order
+pub mod Words

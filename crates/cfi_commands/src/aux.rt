@@ -1,6 +1,7 @@
 ghost use Rattle.std.specs.Prelude.{◌≡◌, ◌++◌, OnOk, string_bytes};
 ghost use Rattle.cfi_commands.specs.Aux.{types_text, aux_text};
 
+use crate::words::{Numbers, put_words};
 use cfi_aux::AuxFault;
 use cfi_types::TypeFault;
 use std::alloc::AllocError;
@@ -10,8 +11,8 @@ fn put_types(text: &mut String, fault: TypeFault) -> Result<(), AllocError>
     ensures { OnOk result (string_bytes text.new ≡ string_bytes text.old ++ types_text fault) }
 {
     match fault {
-        TypeFault::BadNode(node) => write!(text, "BadNode {node}"),
-        TypeFault::BadIndex(node) => write!(text, "BadIndex {node}"),
+        TypeFault::BadNode(node) => put_words(text, "BadNode", Numbers::One(node)),
+        TypeFault::BadIndex(node) => put_words(text, "BadIndex", Numbers::One(node)),
         TypeFault::Short => text.push_str("Short"),
         TypeFault::Memory => text.push_str("Memory"),
     }

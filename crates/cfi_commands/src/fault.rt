@@ -8,7 +8,7 @@ use cfi_link::LinkFault;
 use std::alloc::{AllocError, AllocFailed};
 
 /// Why a command makes nothing of its files: the first fault.
-#[derive(Debug, Drop)]
+#[derive(Drop)]
 pub enum CommandFault {
     /// The file of this number, from 0, is refused.
     File(usize, Refusal),

@@ -33,6 +33,7 @@ mod reading;
 mod refusal;
 mod verified;
 mod verify;
+mod words;
 
 pub use assembling::assembled;
 pub use fault::CommandFault;

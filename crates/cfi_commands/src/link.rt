@@ -1,7 +1,8 @@
 ghost use Rattle.std.specs.Prelude.{◌≡◌, ◌++◌, OnOk, string_bytes};
 ghost use Rattle.cfi_commands.specs.Link.{link_text};
 
-use crate::elf::limit_text;
+use crate::elf::limit_words;
+use crate::words::{Numbers, put_words};
 use cfi_link::LinkFault;
 use std::alloc::AllocError;
 
@@ -11,16 +12,17 @@ pub fn put_link(text: &mut String, fault: &LinkFault) -> Result<(), AllocError>
 {
     match fault {
         LinkFault::NoText => text.push_str("NoText"),
-        LinkFault::NotUnit(number, offset) => write!(text, "NotUnit {number} {offset}"),
-        LinkFault::TooMany(limit) => {
-            text.push_str("TooMany ")?;
-            text.push_str(limit_text(*limit))
+        LinkFault::NotUnit(number, offset) => {
+            put_words(text, "NotUnit", Numbers::Two(*number, *offset))
         }
+        LinkFault::TooMany(limit) => text.push_str(limit_words(*limit)),
         LinkFault::Twice(name) => {
             text.push_str("Twice ")?;
             text.push_str(name.as_str())
         }
-        LinkFault::BadReloc(number, reloc) => write!(text, "BadReloc {number} {reloc}"),
+        LinkFault::BadReloc(number, reloc) => {
+            put_words(text, "BadReloc", Numbers::Two(*number, *reloc))
+        }
         LinkFault::Memory => text.push_str("Memory"),
     }
 }

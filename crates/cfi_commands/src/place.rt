@@ -1,6 +1,7 @@
 ghost use Rattle.std.specs.Prelude.{◌≡◌, ◌++◌, OnOk, string_bytes};
 ghost use Rattle.cfi_commands.specs.Place.{reloc_text, place_text};
 
+use crate::words::{Numbers, put_words};
 use cfi_place::PlaceFault;
 use rv_reloc::RelocFault;
 use std::alloc::AllocError;
@@ -28,7 +29,8 @@ pub fn put_place(text: &mut String, fault: &PlaceFault) -> Result<(), AllocError
         PlaceFault::CodeFull => text.push_str("CodeFull"),
         PlaceFault::DataFull => text.push_str("DataFull"),
         PlaceFault::Reloc(reloc, fault) => {
-            write!(text, "Reloc {reloc} ")?;
+            put_words(text, "Reloc", Numbers::One(*reloc))?;
+            text.push_str(" ")?;
             text.push_str(reloc_text(*fault))
         }
         PlaceFault::Memory => text.push_str("Memory"),

@@ -22,7 +22,7 @@ use rv_asm::AsmFault;
 use std::alloc::AllocError;
 
 /// Why a file is refused: a layer, and its first fault.
-#[derive(Debug, Drop)]
+#[derive(Drop)]
 pub enum Refusal {
     /// As a bare file.
     Bare(BareFault),

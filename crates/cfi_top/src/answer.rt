@@ -10,7 +10,7 @@ use cfi_values::{Bytes, Text};
 use std::alloc::{AllocError, Global};
 
 /// What a command comes to, whatever the shelf and the sink do with it.
-#[derive(Debug, Drop)]
+#[derive(Drop)]
 pub enum Answer {
     /// The bare file was run, and this is said of its guest.
     Ran(GuestPart),
@@ -27,7 +27,7 @@ pub enum Answer {
 }
 
 /// What is to be delivered: a text to the sink with the status that it makes, or a file to the shelf.
-#[derive(Debug, Drop)]
+#[derive(Drop)]
 pub enum Output {
     /// A text, and the status where it was written whole.
     Print(u8, Bytes),

@@ -11,7 +11,7 @@ use cfi_word::limits::MAX_INPUTS;
 use std::alloc::{AllocError, Global};
 
 /// A command of the program, with its operands, which are names of files.
-#[derive(Debug, Drop)]
+#[derive(Drop)]
 pub enum Command {
     /// Assembles a source.
     Asm {

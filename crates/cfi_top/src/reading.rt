@@ -7,7 +7,7 @@ use cfi_values::{Bytes, Items, Text};
 use std::alloc::{AllocError, Global};
 
 /// Why a file is not read.
-#[derive(Clone, Copy, Debug, PartialEq, Eq)]
+#[derive(Clone, Copy)]
 pub enum Cause {
     /// The shelf failed.
     Failed,
@@ -18,7 +18,7 @@ pub enum Cause {
 }
 
 /// A file that is not read.
-#[derive(Debug, Drop)]
+#[derive(Drop)]
 pub struct Unread {
     /// The file's name.
     pub name: Text,
