@@ -30,10 +30,10 @@ use Rattle.cfi_word.specs.declared.map.TheConstants.{FIRST_BASE}
 
 -- ---- the journal
 
-abbrev one : LoadedModule
+abbrev pub one : LoadedModule
 one = record { number = 0; placed = hello_placed; policy = 0 }
 
-abbrev end : JournalState
+abbrev pub end : JournalState
 end = record { epoch = 0; policy = 0; loaded = one ∷ [] }
 
 joins : (k : ℕ) (m : Module) (p : Placed) → slice_get (hello_module ∷ []) k ≡ Some m
@@ -46,7 +46,7 @@ joins zero m p is there =
     (record { behind = is_placed; verified = verified }))
 joins (suc k) m p is there = absurd (cc)
 
-opening : IsOpeningState bare_plan (hello_module ∷ []) end
+pub opening : IsOpeningState bare_plan (hello_module ∷ []) end
 opening = record {
   epoch = refl;
   policy = refl;
@@ -57,10 +57,10 @@ opening = record {
 
 -- ---- the code
 
-abbrev code : List ℕ
+abbrev pub code : List ℕ
 code = code_at MAX_CODE_WORDS hello_words
 
-is_code : IsCodeOf (hello_placed ∷ []) MAX_CODE_WORDS code
+pub is_code : IsCodeOf (hello_placed ∷ []) MAX_CODE_WORDS code
 is_code = is_code_at MAX_CODE_WORDS (hello_placed ∷ []) hello_words refl
     (loaded_alone hello_placed hello_words whole (omega arith) verified)
 
@@ -69,7 +69,7 @@ is_code = is_code_at MAX_CODE_WORDS (hello_placed ∷ []) hello_words refl
 abbrev runs : CodeUnit → State → State
 runs u s = effect u 0 (λ slot target. true) too_many s
 
-abbrev s0 : State
+abbrev pub s0 : State
 s0 = opened 0 (4 * FIRST_BASE) (start_fills (one ∷ []))
 
 abbrev s1 : State

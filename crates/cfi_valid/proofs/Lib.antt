@@ -7,6 +7,8 @@ pub mod ValidLemmas
 pub mod GrowthLemmas
 pub mod SpanLemmas
 pub mod LogGrowth
+pub mod EntryGrowth
+pub mod PickGrowth
 pub mod PolicyLemmas
 pub mod SeriesLemmas
 pub mod SinglesLemmas

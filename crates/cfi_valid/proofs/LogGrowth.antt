@@ -20,7 +20,7 @@ use Rattle.cfi_valid.proofs.GrowthLemmas.{along_later, loaded_stays, spent_stays
 use Rattle.cfi_valid.proofs.SpanLemmas.{fall_least, fall_behind, last_behind, next_most, next_rises}
 
 -- what is open has a policy that is not above the last one
-open_low : (before : ℕ) (log : List Log) → NeverFall before log → (at number address policy : ℕ)
+pub open_low : (before : ℕ) (log : List Log) → NeverFall before log → (at number address policy : ℕ)
     → slice_get log at ≡ Some (Open number address policy) → policy ≤ fold policy_after before log
 open_low before [] never at number address policy is = absurd (cc)
 open_low before (entry ∷ log) never zero number address policy is =
@@ -34,14 +34,14 @@ open_low before (entry ∷ log) never (suc at) number address policy is =
 -- the course that goes on
 module _ (plan : Plan) (modules : List Module) (journal more : List Entry) (end after : JournalState)
     (later : IsLater end after) (kept : IsOutOfEpochs end → after ≡ end) where
-  abbrev old : Course
+  abbrev pub old : Course
   old = record { plan = plan; modules = modules; journal = journal; end = end }
 
-  abbrev new : Course
+  abbrev pub new : Course
   new = record { plan = plan; modules = modules; journal = journal ++ more; end = after }
 
   module _ (guest : ℕ) (log : List Log) (logged : IsLogged old guest log) where
-    span_low : (at policy : ℕ) → IsInSpan end.policy log at policy → policy ≤ end.policy
+    pub span_low : (at policy : ℕ) → IsInSpan end.policy log at policy → policy ≤ end.policy
     span_low at policy span =
         let never = fall_behind (at + 1) 0 log logged.rises in
         let last : fold policy_after (last_policy (take (at + 1) log)) (drop (at + 1) log) ≡ last_policy log =
@@ -92,7 +92,7 @@ module _ (plan : Plan) (modules : List Module) (journal more : List Entry) (end 
         holds_stays at (λ (loaded : List LoadedModule). HasNoFunction loaded number) caused
     caused_stays at number Unlogged caused = absurd caused
 
-    opens_stays : (at number address policy : ℕ) → slice_get log at ≡ Some (Open number address policy)
+    pub opens_stays : (at number address policy : ℕ) → slice_get log at ≡ Some (Open number address policy)
         → HasFunctionAt (loaded_by policy after.loaded) number address
     opens_stays at number address policy is =
         let low = open_low 0 log logged.rises at number address policy is in

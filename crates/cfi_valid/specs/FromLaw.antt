@@ -1,5 +1,5 @@
--- What the law of a running guest gives is a unit of a replay: what an image's classes let through is what the policy of
--- its epoch's number allows.
+-- What the law of a running guest gives is a unit of a replay: what an image's classes let through is what the policy
+-- of its epoch's number allows.
 use Rattle.std.specs.Prelude.{◌≡◌, ℕ, List, length, Option, Some, None, ⊤}
 use Rattle.cfi_model.specs.History.{History, IsEpoch, IsHistory}
 use Rattle.cfi_model.specs.Service.{Reply}

@@ -1,13 +1,14 @@
 -- How a journal goes on, and what stays true of a guest meanwhile.
-use Rattle.std.specs.Prelude.{◌≡◌, ℕ, ◌+◌, ◌≤◌, ◌<◌, List, ◌++◌, take, drop}
+use Rattle.std.specs.Prelude.{◌≡◌, ℕ, ◌+◌, ◌≤◌, ◌<◌, List, [], ◌∷◌, ◌++◌, length, take, drop}
 use Rattle.std.specs.List.{AllByRecursion}
 use Rattle.cfi_plan.specs.declared.journal.Entry.{Entry}
-use Rattle.cfi_model.specs.Log.{policy_after, last_policy}
+use Rattle.cfi_model.specs.Log.{picked, policy_after, last_policy}
 use Rattle.cfi_unit.specs.declared.log.Log.{Log}
+use Rattle.cfi_unit.specs.declared.log.Log.TheVariants.{Pick, Open, Cause}
 use Rattle.cfi_valid.specs.Course.{Course}
 use Rattle.cfi_valid.specs.Journal.{JournalState, EntriesLead}
 use Rattle.cfi_valid.specs.Loaded.{LoadedModule, loaded_by}
-use Rattle.cfi_valid.specs.Log.{IsInSpan, IsLogged}
+use Rattle.cfi_valid.specs.Log.{HasFunctionAt, IsInSpan, IsCaused, why_of, IsLogged}
 
 -- a state has the modules of an earlier one, and behind them those that came with later policies
 pub record IsLater (old new : JournalState) : Type 0 where
@@ -42,3 +43,24 @@ SettledLies = (force : ℕ) (log : List Log) (at policy settled : ℕ) → last_
     policy ≤ settled → settled ≤ force →
     AllByRecursion (λ (entry : Log). settled ≤ policy_after settled entry) (drop (at + 1) log) →
     IsInSpan force log at policy
+
+-- ---- one entry more
+
+-- an entry that a guest logs while the journal goes on from one course to another: its policy is not below the one that
+-- was in force, and not above the one that is; what it says holds now
+abbrev pub FitsEntry : (old new : Course) → (guest : ℕ) → List Log → Log → Type 0
+FitsEntry old new guest log (Pick policy count) = (old.end.policy ≤ policy) × (policy ≤ new.end.policy)
+FitsEntry old new guest log (Open number address policy) =
+    (old.end.policy ≤ policy) × (policy ≤ new.end.policy) × HasFunctionAt (loaded_by policy new.end.loaded) number address
+FitsEntry old new guest log (Cause number cause) =
+    IsCaused new guest (log ++ Cause number cause ∷ []) (length log) number (why_of cause)
+
+-- the log with it fits
+abbrev pub LogGrows : Type 0
+LogGrows = (old new : Course) → Continues old new → (guest : ℕ) (log : List Log) → IsLogged old guest log →
+    (entry : Log) → FitsEntry old new guest log entry → IsLogged new guest (log ++ entry ∷ [])
+
+-- and so does one with a pick more, which may be one with the last
+abbrev pub PicksGrow : Type 0
+PicksGrow = (old new : Course) → Continues old new → (guest : ℕ) (log : List Log) → IsLogged old guest log →
+    (policy : ℕ) → old.end.policy ≤ policy → policy ≤ new.end.policy → IsLogged new guest (picked policy log)

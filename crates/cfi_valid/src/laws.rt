@@ -10,7 +10,7 @@ ghost use Rattle.cfi_valid.specs.Agree.{AgreeIn};
 ghost use Rattle.cfi_valid.specs.Bare.{bare_plan};
 ghost use Rattle.cfi_valid.specs.Example.{hello_module, hello_report};
 ghost use Rattle.cfi_valid.specs.FromLaw.{StepsAreUnits};
-ghost use Rattle.cfi_valid.specs.Growth.{IsLater, LoadedStays, LogStays, SettledLies};
+ghost use Rattle.cfi_valid.specs.Growth.{IsLater, LoadedStays, LogStays, SettledLies, LogGrows, PicksGrow};
 ghost use Rattle.cfi_valid.specs.Journal.{JournalState, EntryLeads, EntriesLead, IsJournal};
 ghost use Rattle.cfi_series.specs.Series.{IsSeries};
 ghost use Rattle.cfi_valid.specs.Loaded.{placed_modules};
@@ -56,6 +56,12 @@ pub fn what_was_logged_stays()
         EntriesLead plan modules old journal new → IsLater old new }
     ensures loaded { LoadedStays }
     ensures log { LogStays }
+{}
+
+/// A log with one entry more fits where the entry does: its policy closes the spans of those before it.
+pub fn logs_grow()
+    ensures entry { LogGrows }
+    ensures pick { PicksGrow }
 {}
 
 /// A policy that was settled when an open was answered closes the span of its entry: what lies in it then lies in the

@@ -1,0 +1,146 @@
+-- What each event of a schedule makes of its stage. An event is one whose turn is not `Nothing`.
+use Rattle.std.specs.Prelude.{◌≡◌, ◌≢◌, ◌⊎◌, ℕ, ◌≤◌, ◌<◌, List, [], ◌∷◌, ◌++◌, length, slice_get, Option, Some, None}
+use Rattle.cfi_aux.specs.declared.modules.Module.{Module}
+use Rattle.cfi_graph.specs.Direct.{DirectEdge}
+use Rattle.cfi_model.specs.declared.phase.Phase.{Phase}
+use Rattle.cfi_model.specs.declared.phase.Phase.TheVariants as phases
+use Rattle.cfi_model.specs.Phases.{phase_of}
+use Rattle.cfi_model.specs.Raw.{Raw}
+use Rattle.cfi_model.specs.Service.{Reply, reply_of}
+use Rattle.cfi_model.specs.State.{State}
+use Rattle.cfi_model.specs.World.{World}
+use Rattle.cfi_plan.specs.declared.journal.JournalLine.{JournalLine}
+use Rattle.cfi_plan.specs.declared.journal.JournalLine.TheVariants as lines
+use Rattle.cfi_plan.specs.declared.plan.Plan.{Plan}
+use Rattle.cfi_policy.specs.Image.{IsImage}
+use Rattle.cfi_sim.specs.declared.limits.TheConstants.{NOT_LOADED}
+use Rattle.cfi_sim.specs.Stage.{Stage, Aim, Loading, Refreshing, with_line, dropped, made_by, after_event}
+use Rattle.cfi_valid.specs.Joining.{HasNoFault}
+use Rattle.cfi_valid.specs.Journal.{JournalState, LineLeads}
+use Rattle.cfi_valid.specs.Loaded.{LoadedModule, placed_modules, fills_between}
+use Rattle.cfi_valid.specs.Log.{HasFunctionAt, HasNoFunction}
+use Rattle.cfi_valid.specs.Replay.{given_by}
+use Rattle.cfi_word.specs.declared.lists.Image.{Image}
+use Rattle.cfi_word.specs.declared.services.TheConstants.{NO_MODULE, NO_FUNCTION}
+use Rattle.cfi_world.specs.declared.event.Event.TheVariants as events
+use Rattle.cfi_world.specs.declared.event.Turned.{Turned}
+use Rattle.cfi_world.specs.declared.event.Turned.TheVariants.{Did, Asks, VersionsSpent, EpochsSpent}
+use Rattle.cfi_world.specs.Turns.{turn_of, answer_turn}
+
+-- ---- opens
+
+abbrev pub IsIdle : World → Type 0
+IsIdle world = phase_of world.tables ≡ phases.Idle
+
+-- the module is loaded, with a function to be opened, and no update is under way
+pub record IsOpen (loaded : List LoadedModule) (world : World) (number address : ℕ) : Type 0 where
+  pub opened : HasFunctionAt loaded number address
+  pub idle : IsIdle world
+
+-- what an open finds
+pub data Found : Type 0 where
+  Unknown : Found
+  Functionless : Found
+  Opened : (address : ℕ) → Found
+  Unloaded : Found
+
+-- a case a cause, in the order in which they are tried
+abbrev pub IsFound : Plan → World → List LoadedModule → (number : ℕ) → Found → Type 0
+IsFound plan world loaded number Unknown = length plan.modules ≤ number
+IsFound plan world loaded number Functionless = (number < length plan.modules) × HasNoFunction loaded number
+IsFound plan world loaded number (Opened address) = IsOpen loaded world number address
+IsFound plan world loaded number Unloaded =
+    (number < length plan.modules) × ¬ HasNoFunction loaded number
+    × ((address : ℕ) → ¬ IsOpen loaded world number address)
+
+-- the answer: a success brings the data that the guest lacks
+abbrev pub reply_by : JournalState → State → Found → Reply
+reply_by state s Unknown = reply_of 0 NO_MODULE state.policy []
+reply_by state s Functionless = reply_of 0 NO_FUNCTION state.policy []
+reply_by state s (Opened address) =
+    reply_of address 0 state.policy (fills_between (given_by s.log) state.policy state.loaded)
+reply_by state s Unloaded = reply_of 0 NOT_LOADED state.policy []
+
+-- the open of a guest is answered at once
+pub record IsAnswered (plan : Plan) (state : JournalState) (old new : World) (guest number : ℕ) : Type 0 where
+  pub r : Raw
+  pub there : slice_get old.guests guest ≡ Some r
+  pub found : Found
+  pub is_found : IsFound plan old state.loaded number found
+  pub is : new ≡ (answer_turn old guest (reply_by state r.base found) (Some r)).world
+
+-- ---- an event of a guest
+
+abbrev pub GuestTurns : Plan → JournalState → (mid new : World) → (guest : ℕ) → Turned → Type 0
+GuestTurns plan state mid new guest Did = new ≡ mid
+GuestTurns plan state mid new guest (Asks asking number) = IsAnswered plan state mid new guest number
+GuestTurns plan state mid new guest answer = ⊥
+
+pub record IsGuestEvent (plan : Plan) (guest : ℕ) (old new : Stage) : Type 0 where
+  pub world : World
+  pub turns : (let turn = turn_of old.world (events.Guest guest) in
+      GuestTurns plan old.state turn.world world guest turn.answer)
+  pub is : new ≡ after_event world old
+
+-- ---- an event of the updater
+
+-- what it means for the journal, by the phase before it
+abbrev pub noted : Phase → Turned → Stage → Stage
+noted phase (VersionsSpent guest quiet) s = dropped s.aim guest quiet s
+noted phases.Epoch answer s = made_by s.aim s
+noted phase answer s = s
+
+pub record IsUpdateEvent (old new : Stage) : Type 0 where
+  pub busy : phase_of old.world.tables ≢ phases.Idle
+  pub is : (let turn = turn_of old.world events.Update in
+      new ≡ noted (phase_of old.world.tables) turn.answer (after_event turn.world old))
+
+-- ---- an update that begins
+
+-- it does, or no epoch is left
+abbrev pub Begins : Aim → JournalLine → (old new : Stage) → Option Image → Turned → World → Type 0
+Begins aim spent old new image Did world = new ≡ record (after_event world old) { aim = Some aim }
+Begins aim spent old new image EpochsSpent world = new ≡ with_line spent (after_event world old)
+Begins aim spent old new image answer world = ⊥
+
+abbrev pub IsBeginning : Aim → (spent : JournalLine) → Option Image → (old new : Stage) → Type 0
+IsBeginning aim spent image old new =
+    let turn = turn_of old.world (events.Begin image) in Begins aim spent old new image turn.answer turn.world
+
+abbrev pub IsRefreshEvent : (old new : Stage) → Type 0
+IsRefreshEvent old new = IsBeginning Refreshing lines.RefreshEpochs None old new
+
+-- ---- a load
+
+-- lines of a load that is told at once, without an event
+abbrev pub IsTold : JournalLine → (number : ℕ) → Type 0
+IsTold (lines.LoadAgain asked policy) number = asked ≡ number
+IsTold (lines.LoadFull asked) number = asked ≡ number
+IsTold (lines.LoadPlace asked fault) number = asked ≡ number
+IsTold (lines.LoadVerify asked fault place) number = asked ≡ number
+IsTold line number = ⊥
+
+-- the journal has such a line more, which is legal
+pub record IsToldLoad (plan : Plan) (modules : List Module) (number : ℕ) (old new : Stage) : Type 0 where
+  pub line : JournalLine
+  pub told : IsTold line number
+  pub legal : LineLeads plan modules old.state line old.state
+  pub is : new ≡ with_line line old
+
+-- or the module has no fault, and an update to the image of all begins
+pub record IsBegunLoad (plan : Plan) (modules : List Module) (number : ℕ) (old new : Stage) : Type 0 where
+  pub clean : HasNoFault plan.code_words modules old.state.loaded number
+  pub image : Image
+  pub of_all : (let all = placed_modules old.state.loaded ++ clean.placed ∷ [] in
+      IsImage (DirectEdge all) all plan.code_words image)
+  pub begins : IsBeginning (Loading number clean.placed) (lines.LoadEpochs number) (Some image) old new
+
+abbrev pub IsLoadEvent : Plan → List Module → (number : ℕ) → (old new : Stage) → Type 0
+IsLoadEvent plan modules number old new =
+    IsToldLoad plan modules number old new ⊎ IsBegunLoad plan modules number old new
+
+-- ---- a release
+
+pub record IsReleaseEvent (guest : ℕ) (old new : Stage) : Type 0 where
+  pub happens : (turn_of old.world (events.Release guest)).answer ≡ Did
+  pub is : new ≡ after_event (turn_of old.world (events.Release guest)).world old

@@ -1,0 +1,20 @@
+//! Schedules of a simulation, read line by line, and the text of what a simulation has come to.
+//!
+//! Stands on `cfi_plan` and `cfi_report`, `cfi_model`, which has the phases of an update, `cfi_text`, `cfi_word`,
+//! `cfi_place`, `cfi_verify` and `thiserror`, and for what a valid simulation is on `cfi_world` and `cfi_valid`;
+//! nothing calls it yet. Proved: a line of a schedule is read exactly, with the guests and modules that it names; a
+//! simulation is written as its one text. Only tested: nothing. Open: the simulation itself.
+#![tactic(auto)]
+
+mod fault;
+pub mod laws;
+mod limits;
+mod line;
+mod report;
+mod writer;
+
+pub use fault::{OpenFault, SimFault};
+pub use limits::{MAX_EVENTS, MAX_UPDATES, NOT_LOADED};
+pub use line::{Line, read_line};
+pub use report::SimReport;
+pub use writer::write_sim;
