@@ -2,21 +2,21 @@
 use Rattle.std.proofs.Common.{◌≡◌, ℕ, List, [], ◌∷◌, inl, inr, arith, subst}
 use Rattle.cfi_io.specs.Files.{Puts}
 use Rattle.cfi_io.specs.Told.{WhereKeptTold}
-use Rattle.cfi_top.specs.declared.command.Command.{Command}
-use Rattle.cfi_top.specs.declared.command.Command.TheVariants as commands
+use Rattle.cfi_outside.specs.declared.command.Command.{Command}
+use Rattle.cfi_outside.specs.declared.command.Command.TheVariants as commands
 use Rattle.cfi_top.specs.declared.answer.Answer.{Answer}
 use Rattle.cfi_top.specs.declared.answer.Answer.TheVariants as answers
-use Rattle.cfi_top.specs.declared.answer.TheConstants.{DONE}
+use Rattle.cfi_outside.specs.declared.output.TheConstants.{DONE}
 use Rattle.cfi_top.specs.Answer.{output_of}
-use Rattle.cfi_top.specs.Command.{IsCommand, IsCommandLine, more_of}
-use Rattle.cfi_top.specs.Outside.{Holds, IsWrittenWhole}
+use Rattle.cfi_outside.specs.Command.{IsCommand, IsCommandLine, more_of}
+use Rattle.cfi_outside.specs.Outside.{Holds, IsWrittenWhole}
 use Rattle.cfi_io.specs.Seen.{ShelfView, SinkView}
-use Rattle.cfi_top.specs.Plans.{named_files}
-use Rattle.cfi_top.specs.Reading.{AreRead}
+use Rattle.cfi_outside.specs.Plans.{named_files}
+use Rattle.cfi_outside.specs.Reading.{AreRead}
 use Rattle.cfi_top.specs.Outcome.{IsMade, IsAllRead, IsWorked}
 use Rattle.cfi_top.specs.Top.{Ends, HasRun, HasListed, HasAssembled, HasInstrumented, HasLinked, HasVerified, HasGraphed}
-use Rattle.cfi_top.proofs.CommandLemmas.{one_command}
-use Rattle.cfi_top.proofs.ReadingLemmas.{one_file, unread_least}
+use Rattle.cfi_outside.proofs.CommandLemmas.{one_command}
+use Rattle.cfi_outside.proofs.ReadingLemmas.{one_file, unread_least}
 
 -- a command was done: its inputs had these bytes, and what it makes of them was delivered whole
 pub record HasDone (command : Command) (shelf shelf' : ShelfView) (sink sink' : SinkView) : Type 0 where

@@ -1,6 +1,3 @@
-pub mod CommandLemmas
-pub mod OutsideLemmas
-pub mod ReadingLemmas
 pub mod UnreadLemmas
 pub mod LinkLemmas
 pub mod PlansLemmas
@@ -8,10 +5,4 @@ pub mod OutcomeLemmas
 pub mod DoneLemmas
 pub mod TopLemmas
 pub mod FilesLemmas
-pub mod PartLemmas
-pub mod MomentLemmas
-pub mod ApartLemmas
-pub mod ReportLemmas
-pub mod RunLemmas
 pub mod ValidLemmas
-pub mod EntryImageLemmas

@@ -1,19 +1,19 @@
 -- What the outcome of a command says.
 use Rattle.std.proofs.Common.{◌≡◌, ◌≤◌, ℕ, ◌⊎◌, List, [], ◌∷◌, Some, inl, inr, sym, ap, subst, ◌∙◌}
-use Rattle.cfi_top.specs.declared.command.Command.{Command}
-use Rattle.cfi_top.specs.declared.command.Command.TheVariants as commands
+use Rattle.cfi_outside.specs.declared.command.Command.{Command}
+use Rattle.cfi_outside.specs.declared.command.Command.TheVariants as commands
 use Rattle.cfi_top.specs.declared.answer.Answer.{Answer}
 use Rattle.cfi_top.specs.declared.answer.Answer.TheVariants as answers
-use Rattle.cfi_top.specs.declared.reading.Unread.{Unread}
-use Rattle.cfi_top.specs.Command.{inputs_of, more_of, saved_name}
-use Rattle.cfi_top.specs.declared.answer.Output.{Output}
+use Rattle.cfi_outside.specs.declared.reading.Unread.{Unread}
+use Rattle.cfi_outside.specs.Command.{inputs_of, more_of, saved_name}
+use Rattle.cfi_outside.specs.declared.output.Output.{Output}
 use Rattle.cfi_top.specs.Answer.{output_of}
-use Rattle.cfi_top.specs.Outside.{IsStarved, IsDelivered, KeepsLast}
+use Rattle.cfi_outside.specs.Outside.{IsStarved, IsDelivered, KeepsLast}
 use Rattle.cfi_io.specs.Seen.{ShelfView, SinkView}
 use Rattle.cfi_top.specs.Outcome.{IsMade, IsAllRead, IsWorked, GoesOn, IsOutcome, IsAnswer}
-use Rattle.cfi_top.specs.Reading.{AreRead}
+use Rattle.cfi_outside.specs.Reading.{AreRead}
 use Rattle.cfi_top.specs.Top.{Ends}
-use Rattle.cfi_top.proofs.OutsideLemmas.{IsLater, delivered_since}
+use Rattle.cfi_outside.proofs.OutsideLemmas.{IsLater, delivered_since}
 use Rattle.cfi_top.proofs.UnreadLemmas.{first_later, read_since, stops_since}
 
 -- what stood while the shelf was read stands later too

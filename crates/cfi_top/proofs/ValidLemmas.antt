@@ -7,11 +7,11 @@ use Rattle.cfi_bare.proofs.AcceptedLemmas.{accepted}
 use Rattle.cfi_bare.proofs.RefusalLemmas.{not_both}
 use Rattle.cfi_commands.specs.declared.refusal.Refusal.{Refusal}
 use Rattle.cfi_commands.specs.declared.refusal.Refusal.TheVariants.{Bare, Elf, Aux, Instr, Asm, Link, Plan, Place, Verify}
-use Rattle.cfi_top.specs.declared.command.Command.TheVariants.{Run}
+use Rattle.cfi_outside.specs.declared.command.Command.TheVariants.{Run}
 use Rattle.cfi_top.specs.Outcome.{Refuses}
-use Rattle.cfi_top.specs.Reading.{IsShort}
+use Rattle.cfi_outside.specs.Reading.{IsShort}
 use Rattle.cfi_top.specs.Top.{IsValid}
-use Rattle.cfi_top.proofs.CommandLemmas.{all_of_one}
+use Rattle.cfi_outside.proofs.CommandLemmas.{all_of_one}
 
 -- the bytes of the word `j .`
 abbrev bytes : List ℕ

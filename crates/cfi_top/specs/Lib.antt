@@ -1,12 +1,5 @@
-pub mod Text
-pub mod inner
-pub mod Moments
-pub mod Run
 pub mod Answer
 pub mod Plans
-pub mod Command
 pub mod Refused
-pub mod Outside
-pub mod Reading
 pub mod Outcome
 pub mod Top

@@ -16,17 +16,18 @@ use Rattle.cfi_commands.specs.Instrumenting.{IsInstrumentedFile, IsInstrumentFau
 use Rattle.cfi_commands.specs.Linking.{IsLinkedFile, IsLinkingFault}
 use Rattle.cfi_commands.specs.Listing.{IsObjectListing, IsObjectFault}
 use Rattle.cfi_commands.specs.Modules.{IsFirstBadFile}
-use Rattle.cfi_top.specs.declared.command.Command.{Command}
-use Rattle.cfi_top.specs.declared.command.Command.TheVariants as commands
+use Rattle.cfi_outside.specs.declared.command.Command.{Command}
+use Rattle.cfi_outside.specs.declared.command.Command.TheVariants as commands
 use Rattle.cfi_top.specs.declared.answer.Answer.{Answer}
 use Rattle.cfi_top.specs.declared.answer.Answer.TheVariants as answers
 use Rattle.cfi_word.specs.declared.limits.TheConstants.{FUEL}
-use Rattle.cfi_top.specs.Command.{IsCommand, IsCommandLine, inputs_of, more_of}
+use Rattle.cfi_outside.specs.Command.{IsCommand, IsCommandLine, inputs_of, more_of}
 use Rattle.cfi_io.specs.Seen.{ShelfView}
-use Rattle.cfi_top.specs.Plans.{IsSaid, files_of}
-use Rattle.cfi_top.specs.Reading.{AreRead, StopsAt}
-use Rattle.cfi_top.specs.declared.reading.Unread.{Unread}
-use Rattle.cfi_top.specs.Run.{IsRun}
+use Rattle.cfi_outside.specs.Plans.{files_of}
+use Rattle.cfi_top.specs.Plans.{IsSaid}
+use Rattle.cfi_outside.specs.Reading.{AreRead, StopsAt}
+use Rattle.cfi_outside.specs.declared.reading.Unread.{Unread}
+use Rattle.cfi_run.specs.Run.{IsRun}
 
 -- the bytes are accepted as these words, whose run is what the part says
 pub record Justifies (bytes : List ℕ) (part : GuestPart) : Type 0 where

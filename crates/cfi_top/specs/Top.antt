@@ -10,17 +10,18 @@ use Rattle.cfi_commands.specs.Assembling.{IsAssembled}
 use Rattle.cfi_commands.specs.Instrumenting.{IsInstrumentedFile}
 use Rattle.cfi_commands.specs.Linking.{IsLinkedFile}
 use Rattle.cfi_commands.specs.Listing.{IsObjectListing}
-use Rattle.cfi_top.specs.declared.command.Command.{Command}
+use Rattle.cfi_outside.specs.declared.command.Command.{Command}
 use Rattle.cfi_top.specs.declared.answer.Answer.{Answer}
-use Rattle.cfi_top.specs.Answer.{refused_line, unread_line, unread_status, output_of}
-use Rattle.cfi_top.specs.Command.{IsCommand, inputs_of, more_of, saved_name}
-use Rattle.cfi_top.specs.Outside.{Holds, HasFailedToSave, IsStarved, IsDelivered}
+use Rattle.cfi_outside.specs.Output.{unread_line, unread_status}
+use Rattle.cfi_top.specs.Answer.{refused_line, output_of}
+use Rattle.cfi_outside.specs.Command.{IsCommand, inputs_of, more_of, saved_name}
+use Rattle.cfi_outside.specs.Outside.{Holds, HasFailedToSave, IsStarved, IsDelivered}
 use Rattle.cfi_io.specs.Seen.{ShelfView, SinkView}
-use Rattle.cfi_top.specs.Plans.{named_files}
-use Rattle.cfi_top.specs.Reading.{AreRead, IsShort}
-use Rattle.cfi_top.specs.declared.reading.Unread.{Unread}
+use Rattle.cfi_outside.specs.Plans.{named_files}
+use Rattle.cfi_outside.specs.Reading.{AreRead, IsShort}
+use Rattle.cfi_outside.specs.declared.reading.Unread.{Unread}
 use Rattle.cfi_top.specs.Outcome.{Justifies, IsVerifiedPlan, IsGraphOfPlan, Refuses, IsUnrefused, IsAllRead, IsFirstUnread, IsAnswer}
-use Rattle.cfi_top.specs.Text.{bare_text}
+use Rattle.cfi_run.specs.Text.{bare_text}
 
 -- no memory was left, or an answer was delivered
 abbrev pub Ends : (words : List (List ℕ)) → (shelf shelf' : ShelfView) → (sink sink' : SinkView) → (status : ℕ) → Type 0

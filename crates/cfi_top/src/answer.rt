@@ -1,11 +1,13 @@
 ghost use Rattle.std.specs.Prelude.{◌≡◌, IfOk, string_bytes};
-ghost use Rattle.cfi_top.specs.declared.answer.Output.TheVariants as outputs;
-ghost use Rattle.cfi_top.specs.Answer.{output_of, refused_line, unread_line, unread_status};
+ghost use Rattle.cfi_outside.specs.declared.output.Output.TheVariants as outputs;
+ghost use Rattle.cfi_outside.specs.declared.output.TheConstants.{DONE, REFUSED};
+ghost use Rattle.cfi_run.specs.Text.{bare_text};
+ghost use Rattle.cfi_top.specs.Answer.{output_of, refused_line};
 
-use crate::reading::{Cause, Unread};
-use crate::text::bare_text;
 use cfi_commands::{Refusal, put_refusal};
+use cfi_outside::{DONE, Output, REFUSED, Unread, line_of, unread_output, usage_output};
 use cfi_report::GuestPart;
+use cfi_run::bare_text;
 use cfi_values::{Bytes, Text};
 use std::alloc::{AllocError, Global};
 
@@ -26,36 +28,6 @@ pub enum Answer {
     Refused(Text, Refusal),
 }
 
-/// What is to be delivered: a text to the sink with the status that it makes, or a file to the shelf.
-#[derive(Drop)]
-pub enum Output {
-    /// A text, and the status where it was written whole.
-    Print(u8, Bytes),
-    /// The name of a file, and its bytes.
-    Save(Text, Bytes),
-}
-
-/// The command's bytes were written whole.
-pub const DONE: u8 = 0;
-
-/// The words are no command.
-pub const USAGE: u8 = 1;
-
-/// The shelf failed.
-pub const READ_FAULT: u8 = 2;
-
-/// A file is not there, or too long.
-pub const NO_FILE: u8 = 3;
-
-/// The sink failed, or the shelf where a file was saved.
-pub const WRITE_FAULT: u8 = 4;
-
-/// A file was refused.
-pub const REFUSED: u8 = 5;
-
-/// No memory is left.
-pub const MEMORY: u8 = 6;
-
 // The line of a refusal of the file of this name.
 fn refused_line(alloc: Global, name: &str, refusal: &Refusal) -> Result<String, AllocError>
     ensures { IfOk result (λ line. string_bytes line ≡ refused_line name.now refusal.now) }
@@ -66,33 +38,20 @@ fn refused_line(alloc: Global, name: &str, refusal: &Refusal) -> Result<String, 
     Ok(line)
 }
 
-// The line of a file of this name that was not read.
-fn unread_line(alloc: Global, name: &str, cause: Cause) -> Result<String, AllocError>
-    ensures { IfOk result (λ line. string_bytes line ≡ unread_line name.now cause) }
+// What is to be delivered where a bare file was run.
+fn ran_output(alloc: Global, part: GuestPart) -> Result<Output, AllocError>
+    ensures { IfOk result (λ output. output ≡ outputs.Print DONE (bare_text part)) }
 {
-    match cause {
-        Cause::Failed => format!(in alloc; "failed read {name}\n"),
-        Cause::Absent => format!(in alloc; "absent {name}\n"),
-        Cause::TooLong => format!(in alloc; "toolong {name}\n"),
-    }
+    let text = bare_text(alloc, part)?;
+    Ok(Output::Print(DONE, Bytes::from_vec(text)))
 }
 
-// The status where a file was not read.
-fn unread_status(cause: Cause) -> u8
-    ensures { result ≡ unread_status cause }
+// What is to be delivered where a file was refused.
+fn refused_output(alloc: Global, name: &str, refusal: &Refusal) -> Result<Output, AllocError>
+    ensures { IfOk result (λ output.
+        output ≡ outputs.Print REFUSED (refused_line name.now refusal.now)) }
 {
-    match cause {
-        Cause::Failed => READ_FAULT,
-        Cause::Absent => NO_FILE,
-        Cause::TooLong => NO_FILE,
-    }
-}
-
-// A line for the sink.
-fn line_of(status: u8, line: String) -> Output
-    ensures { result ≡ outputs.Print status (string_bytes line) }
-{
-    Output::Print(status, Bytes::from_vec(line.into_bytes()))
+    Ok(line_of(REFUSED, refused_line(alloc, name, refusal)?))
 }
 
 /// What is to be delivered of an answer.
@@ -100,22 +59,11 @@ pub fn output_of(alloc: Global, answer: Answer) -> Result<Output, AllocError>
     ensures { IfOk result (λ output. output ≡ output_of answer) }
 {
     match answer {
-        Answer::Ran(part) => {
-            let text = bare_text(alloc, part)?;
-            Ok(Output::Print(DONE, Bytes::from_vec(text)))
-        }
+        Answer::Ran(part) => ran_output(alloc, part),
         Answer::Print(text) => Ok(Output::Print(DONE, text)),
         Answer::Save(name, bytes) => Ok(Output::Save(name, bytes)),
-        Answer::Usage => {
-            let line = "usage: cfi asm|list|instrument|link|verify|graph|sim|run|gen\n";
-            Ok(line_of(USAGE, line.to_string(alloc)?))
-        }
-        Answer::Unread(unread) => {
-            let line = unread_line(alloc, unread.name.as_str(), unread.cause)?;
-            Ok(line_of(unread_status(unread.cause), line))
-        }
-        Answer::Refused(name, refusal) => {
-            Ok(line_of(REFUSED, refused_line(alloc, name.as_str(), &refusal)?))
-        }
+        Answer::Usage => usage_output(alloc),
+        Answer::Unread(unread) => unread_output(alloc, &unread),
+        Answer::Refused(name, refusal) => refused_output(alloc, name.as_str(), &refusal),
     }
 }

@@ -2,10 +2,10 @@
 
 ghost use Rattle.std.specs.Prelude.{◌≡◌, ◌≤◌, ◌∷◌, [], length, All, IfOk};
 ghost use Rattle.cfi_word.specs.declared.limits.TheConstants.{MAX_FILE_BYTES};
-ghost use Rattle.cfi_top.specs.declared.command.Command.TheVariants as commands;
+ghost use Rattle.cfi_outside.specs.declared.command.Command.TheVariants as commands;
 ghost use Rattle.cfi_top.specs.Outcome.{IsWorked};
-ghost use Rattle.cfi_top.specs.Plans.{named_files};
-ghost use Rattle.cfi_top.specs.Reading.{IsShort};
+ghost use Rattle.cfi_outside.specs.Plans.{named_files};
+ghost use Rattle.cfi_outside.specs.Reading.{IsShort};
 
 use crate::answer::Answer;
 use crate::refused::{module_refused, plan_refused};

@@ -1,18 +1,17 @@
 ghost use Rattle.std.specs.Prelude.{◌≡◌, ◌≤◌, IfOk, IfSome, ◌⊎◌, ℕ, List};
 ghost use Rattle.cfi_io.specs.Count.{Rose};
 ghost use Rattle.cfi_io.specs.Told.{WhereKeptTold};
-ghost use Rattle.cfi_top.specs.declared.command.Command.TheVariants as commands;
-ghost use Rattle.cfi_top.specs.declared.answer.TheConstants.{DONE, USAGE, READ_FAULT, NO_FILE, WRITE_FAULT, REFUSED, MEMORY};
+ghost use Rattle.cfi_outside.specs.declared.command.Command.TheVariants as commands;
+ghost use Rattle.cfi_outside.specs.declared.output.TheConstants.{DONE, USAGE, READ_FAULT, NO_FILE, WRITE_FAULT, REFUSED, MEMORY};
 ghost use Rattle.cfi_args.specs.Words.{texts};
-ghost use Rattle.cfi_top.specs.Command.{IsCommand, IsCommandLine};
+ghost use Rattle.cfi_outside.specs.Command.{IsCommand, IsCommandLine};
 ghost use Rattle.cfi_top.specs.Outcome.{IsAnswer};
 ghost use Rattle.cfi_top.specs.Top.{Ends, HasRun, HasListed, HasAssembled, HasInstrumented, HasLinked, HasVerified, HasGraphed, IsRefused, IsStopped, IsSavedBy, IsUnsaved, Saves, IsValid, IsSteady};
 
-use crate::answer::{Answer, MEMORY, output_of};
-use crate::command::command_of;
-use crate::deliver::deliver;
+use crate::answer::{Answer, output_of};
 use crate::work::outcome_of;
 use cfi_io::{Gate, Shelf, Sink};
+use cfi_outside::{MEMORY, command_of, deliver};
 use std::alloc::{AllocError, Global};
 
 /// How the program ended.

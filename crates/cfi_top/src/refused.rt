@@ -5,8 +5,8 @@ ghost use Rattle.cfi_plan.specs.declared.fault.PlanFault.TheVariants.{Memory};
 ghost use Rattle.cfi_top.specs.Refused.{IsAmong, IsRefusalOf, IsModuleRefused, plan_refused};
 
 use crate::answer::Answer;
-use crate::names::text_of;
 use cfi_commands::{CommandFault, Refusal};
+use cfi_outside::text_of;
 use cfi_plan::{PlanFault, PlanModule};
 use cfi_values::Text;
 use std::alloc::{AllocError, Global};

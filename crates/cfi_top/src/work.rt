@@ -1,20 +1,18 @@
 ghost use Rattle.std.specs.Prelude.{◌≡◌, ◌≤◌, ◌∷◌, [], length, All, IfOk};
 ghost use Rattle.cfi_word.specs.declared.limits.TheConstants.{MAX_FILE_BYTES, MAX_INPUTS};
-ghost use Rattle.cfi_top.specs.declared.command.Command.TheVariants as commands;
-ghost use Rattle.cfi_top.specs.Command.{HasInputs, inputs_of, more_of};
-ghost use Rattle.cfi_top.specs.Reading.{IsShort};
+ghost use Rattle.cfi_outside.specs.declared.command.Command.TheVariants as commands;
+ghost use Rattle.cfi_outside.specs.Command.{HasInputs, inputs_of, more_of};
+ghost use Rattle.cfi_outside.specs.Reading.{IsShort};
 ghost use Rattle.cfi_top.specs.Outcome.{GoesOn, IsWorked, IsOutcome};
 
 use crate::answer::Answer;
-use crate::command::Command;
-use crate::names::text_of;
 use crate::plans::{graph, verify};
-use crate::reading::{only, read_files};
 use crate::refused::refused;
-use crate::run::run_bare;
 use cfi_bare::accept;
 use cfi_commands::{CommandFault, Refusal, assembled, instrumented, linked, listing_of};
 use cfi_io::{Gate, Shelf};
+use cfi_outside::{Command, only, read_files, text_of};
+use cfi_run::run_bare;
 use cfi_values::{Bytes, Text};
 use cfi_word::limits::FUEL;
 use std::alloc::{AllocError, Global};

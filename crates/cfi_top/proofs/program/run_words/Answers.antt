@@ -1,4 +1,4 @@
-use Rattle.cfi_top.proofs.OutsideLemmas.{IsLater}
+use Rattle.cfi_outside.proofs.OutsideLemmas.{IsLater}
 use Rattle.cfi_top.proofs.OutcomeLemmas.{ends_of}
 use Rattle.cfi_top.proofs.program.run_words.Goals as goal
 

@@ -1,9 +1,9 @@
 use Rattle.std.proofs.Common.{◌≡◌, ◌∙◌, Ok, subst}
 use Rattle.std.proofs.lemmas.Result.{IfOk-weaker}
-use Rattle.cfi_top.specs.Command.{inputs_of}
+use Rattle.cfi_outside.specs.Command.{inputs_of}
 use Rattle.cfi_top.specs.Outcome.{GoesOn}
-use Rattle.cfi_top.specs.Reading.{AreRead, IsFound}
-use Rattle.cfi_top.proofs.OutsideLemmas.{IsLater}
+use Rattle.cfi_outside.specs.Reading.{AreRead, IsFound}
+use Rattle.cfi_outside.proofs.OutsideLemmas.{IsLater}
 use Rattle.cfi_top.proofs.OutcomeLemmas.{outcome_is}
 use Rattle.cfi_top.proofs.work.outcome_of.Goals as goal
 

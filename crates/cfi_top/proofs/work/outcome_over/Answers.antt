@@ -1,8 +1,8 @@
 use Rattle.std.proofs.Common.{◌≡◌, ◌∙◌, Ok, subst}
 use Rattle.std.proofs.lemmas.Result.{IfOk-weaker}
-use Rattle.cfi_top.specs.Command.{more_of}
+use Rattle.cfi_outside.specs.Command.{more_of}
 use Rattle.cfi_top.specs.Outcome.{IsWorked}
-use Rattle.cfi_top.specs.Reading.{AreRead, IsFound}
+use Rattle.cfi_outside.specs.Reading.{AreRead, IsFound}
 use Rattle.cfi_top.proofs.OutcomeLemmas.{worked_is}
 use Rattle.cfi_top.proofs.work.outcome_over.Goals as goal
 

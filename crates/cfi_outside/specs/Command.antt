@@ -1,0 +1,72 @@
+-- The commands of the program, and the words that are one. A word is its bytes.
+use Rattle.std.specs.Prelude.{◌≡◌, ℕ, ◌≤◌, List, [], ◌∷◌, length, codes, All, Option, Some, None, ⊤}
+use Rattle.cfi_args.specs.Words.{IsOperand}
+use Rattle.cfi_outside.specs.declared.command.Command.{Command}
+use Rattle.cfi_outside.specs.declared.command.Command.TheVariants as commands
+use Rattle.cfi_word.specs.declared.limits.TheConstants.{MAX_INPUTS}
+use Rattle.cfi_outside.specs.Plans.{named_files}
+
+-- the word that names a command, and the words after it
+abbrev pub command_word : Command → List ℕ
+command_word (commands.Asm input output) = codes "asm"
+command_word (commands.List input) = codes "list"
+command_word (commands.Instrument input output) = codes "instrument"
+command_word (commands.Link output inputs) = codes "link"
+command_word (commands.Verify plan) = codes "verify"
+command_word (commands.Graph plan) = codes "graph"
+command_word (commands.Run input) = codes "run"
+
+abbrev pub operands_of : Command → List (List ℕ)
+operands_of (commands.Asm input output) = input ∷ output ∷ []
+operands_of (commands.List input) = input ∷ []
+operands_of (commands.Instrument input output) = input ∷ output ∷ []
+operands_of (commands.Link output inputs) = output ∷ inputs
+operands_of (commands.Verify plan) = plan ∷ []
+operands_of (commands.Graph plan) = plan ∷ []
+operands_of (commands.Run input) = input ∷ []
+
+-- a command that takes any number of inputs has one at least, and not too many
+abbrev pub HasInputs : Command → Type 0
+HasInputs (commands.Link output inputs) = (1 ≤ length inputs) × (length inputs ≤ MAX_INPUTS)
+HasInputs command = ⊤
+
+-- the words are this command
+pub record IsCommand (words : List (List ℕ)) (command : Command) : Type 0 where
+  pub spelled : words ≡ command_word command ∷ operands_of command
+  pub operands : All IsOperand (operands_of command)
+  pub number : HasInputs command
+
+-- the words are a command
+abbrev pub IsCommandLine : List (List ℕ) → Type 0
+IsCommandLine words = (command : Command) × IsCommand words command
+
+-- what the words are read as: a command, or none
+abbrev pub IsReading : List (List ℕ) → Option Command → Type 0
+IsReading words None = ¬ IsCommandLine words
+IsReading words (Some command) = IsCommand words command
+
+-- the files that a command reads first, in order
+abbrev pub inputs_of : Command → List (List ℕ)
+inputs_of (commands.Asm input output) = input ∷ []
+inputs_of (commands.List input) = input ∷ []
+inputs_of (commands.Instrument input output) = input ∷ []
+inputs_of (commands.Link output inputs) = inputs
+inputs_of (commands.Verify plan) = plan ∷ []
+inputs_of (commands.Graph plan) = plan ∷ []
+inputs_of (commands.Run input) = input ∷ []
+
+-- the files that it reads after them, in order: those that its inputs, of these bytes, name
+abbrev pub more_of : Command → (files : List (List ℕ)) → List (List ℕ)
+more_of (commands.Verify plan) (bytes ∷ []) = named_files bytes
+more_of (commands.Graph plan) (bytes ∷ []) = named_files bytes
+more_of command files = []
+
+-- the file that a command saves, where it saves one
+abbrev pub saved_name : Command → Option (List ℕ)
+saved_name (commands.Asm input output) = Some output
+saved_name (commands.List input) = None
+saved_name (commands.Instrument input output) = Some output
+saved_name (commands.Link output inputs) = Some output
+saved_name (commands.Verify plan) = None
+saved_name (commands.Graph plan) = None
+saved_name (commands.Run input) = None

@@ -1,0 +1,5 @@
+pub mod Plans
+pub mod Command
+pub mod Output
+pub mod Outside
+pub mod Reading

@@ -1,0 +1,70 @@
+//! Names of files.
+
+ghost use Rattle.std.specs.Prelude.{◌≡◌, ◌≤◌, ◌∷◌, [], length, map, IfOk};
+ghost use Rattle.cfi_word.specs.declared.limits.TheConstants.{MAX_FILE_BYTES};
+ghost use Rattle.cfi_outside.specs.Plans.{named_files};
+
+use cfi_plan::{PlanFault, PlanModule, read_plan};
+use cfi_values::Text;
+use std::alloc::{AllocError, Global};
+
+/// The name of a file.
+pub fn text_of(alloc: Global, name: &str) -> Result<Text, AllocError>
+    ensures { IfOk result (λ text. text ≡ name.now) }
+{
+    Ok(Text::from_string(name.to_string(alloc)?))
+}
+
+/// A list of one name.
+pub fn one_name(alloc: Global, name: &Text) -> Result<Vec<Text>, AllocError>
+    ensures { IfOk result (λ names. names.items ≡ name.now ∷ []) }
+{
+    let mut names = Vec::new(alloc);
+    names.push(text_of(alloc, name.as_str())?)?;
+    Ok(names)
+}
+
+/// A copy of names.
+pub fn copies_of(alloc: Global, names: &[Text]) -> Result<Vec<Text>, AllocError>
+    ensures { IfOk result (λ copies. copies.items ≡ names.now) }
+{
+    let mut copies = Vec::new(alloc);
+    for name in names {
+        copies.push(text_of(alloc, name.as_str())?)?;
+    }
+    Ok(copies)
+}
+
+/// The names that words are.
+pub fn names_of(alloc: Global, words: &[&str]) -> Result<Vec<Text>, AllocError>
+    ensures { IfOk result (λ names. names.items ≡ map (λ word. word.now) words.now) }
+{
+    let mut names = Vec::new(alloc);
+    for word in words {
+        names.push(text_of(alloc, word)?)?;
+    }
+    Ok(names)
+}
+
+// The files of modules, in order.
+fn files_of(alloc: Global, modules: &[PlanModule]) -> Result<Vec<Text>, AllocError>
+    ensures { IfOk result (λ names. names.items ≡ map (λ one. one.file) modules.now) }
+{
+    let mut names = Vec::new(alloc);
+    for one in modules {
+        names.push(text_of(alloc, one.file.as_str())?)?;
+    }
+    Ok(names)
+}
+
+/// The files that the plan of these bytes names, in order: none where they are no plan.
+pub fn named_files(alloc: Global, bytes: &[u8]) -> Result<Vec<Text>, AllocError>
+    requires short { length bytes.now ≤ MAX_FILE_BYTES }
+    ensures { IfOk result (λ names. names.items ≡ named_files bytes.now) }
+{
+    match read_plan(alloc, bytes) {
+        Ok(plan) => files_of(alloc, plan.modules.as_slice()),
+        Err(PlanFault::Memory) => Err(AllocError),
+        Err(_) => Ok(Vec::new(alloc)),
+    }
+}

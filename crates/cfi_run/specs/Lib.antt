@@ -1,0 +1,4 @@
+pub mod Text
+pub mod inner
+pub mod Moments
+pub mod Run
