@@ -194,7 +194,8 @@ module _ (plan : Plan) (modules : List Module) (journal more : List Entry) (end 
 
   grows : IsLogged new guest all
   grows =
-      let whole : last_policy all ≡ policy_after (last_policy log) entry = fold-append policy_after 0 log (entry ∷ []) in
+      let whole : last_policy all ≡ policy_after (last_policy log) entry =
+      fold-append policy_after 0 log (entry ∷ []) in
       record {
         rises = never_more 0 log entry logged.rises (entry_rises entry fits);
         most = subst (λ (n : ℕ). n ≤ after.policy) (sym whole) (entry_most entry fits);

@@ -51,7 +51,8 @@ SettledLies = (force : ℕ) (log : List Log) (at policy settled : ℕ) → last_
 abbrev pub FitsEntry : (old new : Course) → (guest : ℕ) → List Log → Log → Type 0
 FitsEntry old new guest log (Pick policy count) = (old.end.policy ≤ policy) × (policy ≤ new.end.policy)
 FitsEntry old new guest log (Open number address policy) =
-    (old.end.policy ≤ policy) × (policy ≤ new.end.policy) × HasFunctionAt (loaded_by policy new.end.loaded) number address
+    (old.end.policy ≤ policy) × (policy ≤ new.end.policy)
+    × HasFunctionAt (loaded_by policy new.end.loaded) number address
 FitsEntry old new guest log (Cause number cause) =
     IsCaused new guest (log ++ Cause number cause ∷ []) (length log) number (why_of cause)
 
