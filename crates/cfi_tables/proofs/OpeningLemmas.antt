@@ -1,25 +1,33 @@
 -- The words of an opening show its tables.
-use Rattle.std.proofs.Common.{◌≡◌, ℕ, zero, suc, ◌+◌, ◌*◌, List, [], ◌∷◌, ◌++◌, length, length-append, map, replicate, slice_index, refl, sym, ap, subst, ◌∙◌, arith}
-use Rattle.std.proofs.lemmas.List.{get_or-map, get_or-append-add, get_or_append_left, length-map}
+use Rattle.std.proofs.Common.{◌≡◌, ℕ, zero, suc, ◌+◌, ◌*◌, ◌<◌, List, [], ◌∷◌, ◌++◌, length, length-append, map, replicate, slice_index, false, inl, refl, sym, ap, subst, ◌∙◌, arith}
+use Rattle.std.proofs.lemmas.List.{get_or-map, get_or-append-add, get_or-replicate, get_or_append_left, length-map, length-replicate}
 use lib.ListN.{get_elem?}
 use mathlib.Core.Option.{some, some-injective, some-ne-none}
 use Rattle.atomic_table.specs.Table.{opening}
 use Rattle.cfi_word.specs.declared.lists.Image.{Image}
-use Rattle.cfi_word.specs.Table.{Place, Epoch, Quiet, Code, Tary, Bary, IsPlace, word_count, word_number}
+use Rattle.cfi_word.specs.declared.limits.TheConstants.{GUESTS}
+use Rattle.cfi_word.specs.Table.{Place, Epoch, Quiet, Code, Tary, Bary, IsPlace, word_count, word_number, quiet_word}
 use Rattle.cfi_model.specs.Closed.{HasClasses}
 use Rattle.cfi_model.specs.declared.history.Entry.{Entry}
 use Rattle.cfi_model.specs.Tables.{IsTables}
 use Rattle.cfi_model.specs.Words.{Tables, entry_word, newest}
 use Rattle.cfi_model.specs.World.{first_entry}
 use Rattle.cfi_tables.specs.Key.{Key}
-use Rattle.cfi_tables.specs.Rule.{HasStore, IsKept, IsTrueOf, ShowTables}
-use Rattle.cfi_tables.specs.Views.{idle_tables, idle_view, opened_entries, opened_view, tables_of}
+use Rattle.cfi_tables.specs.Keeping.{opened_keeping}
+use Rattle.cfi_tables.specs.Rule.{HasStore, IsKept, IsTrueOf, ShowQuiets, ShowTables}
+use Rattle.cfi_tables.specs.Views.{idle_tables, idle_view, opened_view, tables_of}
 use Rattle.cfi_tables.specs.inner.Opening.{opened_words}
 use Rattle.cfi_tables.specs.inner.Stamps.{Stamp, word_by}
 use Rattle.cfi_tables.specs.declared.view.KeeperView.{KeeperView}
+use Rattle.cfi_tables.specs.declared.view.PassView.{PassView}
 use Rattle.cfi_tables.specs.declared.view.View.{View}
+use Rattle.cfi_tables.specs.declared.view.View.TheVariants.{Pass}
+use Rattle.cfi_tables.proofs.KeptLemmas.{pass_is_no_keeper}
 use Rattle.cfi_tables.proofs.PlaceLemmas.{rank_most}
 use Rattle.cfi_tables.proofs.ShowLemmas.{word_new}
+
+suc_is : (n : ℕ) → 1 + n ≡ suc n
+suc_is n = omega arith
 
 module _ (stamp : Stamp) (image : Image) (c : ℕ) (classes : HasClasses c image) where
   abbrev words : List ℕ
@@ -50,8 +58,7 @@ module _ (stamp : Stamp) (image : Image) (c : ℕ) (classes : HasClasses c image
       → slice_index (image.code ++ (stamped image.tary ++ stamped image.bary)) n
       ≡ slice_index (stamped image.tary ++ stamped image.bary) i
   past_code i n e =
-      ap (slice_index (image.code ++ (stamped image.tary ++ stamped image.bary)))
-      (omega (arith, e, classes.code_length))
+      ap (slice_index (image.code ++ (stamped image.tary ++ stamped image.bary))) (omega (arith, e, classes.code_length))
       ∙ get_or-append-add image.code (stamped image.tary ++ stamped image.bary) i 0
 
   past_tary : (i n : ℕ) → n ≡ c + i
@@ -84,10 +91,18 @@ module _ (stamp : Stamp) (image : Image) (c : ℕ) (classes : HasClasses c image
       ∙ (past_tary slot (c + slot) refl
       ∙ get_or-map (word_by stamp) image.bary slot 0 0 (omega (arith, at, classes.bary_length))))
 
+  -- no guest is registered
+  pub quiet_is : (guest : ℕ) → guest < GUESTS → slice_index words (quiet_word guest) ≡ 0
+  quiet_is guest few =
+      get_or_append_left (word_by stamp 0 ∷ replicate GUESTS 0)
+      (image.code ++ (stamped image.tary ++ stamped image.bary)) 0 (quiet_word guest) (omega (arith, few))
+      ∙ (ap (slice_index (word_by stamp 0 ∷ replicate GUESTS 0)) (suc_is guest)
+      ∙ get_or-replicate GUESTS guest 0 0 few)
+
 -- a table with these words keeps the rule
-module _ (k : Key) (is : IsTables (idle_tables k (opened_entries k))) where
+module _ (k : Key) (is : IsTables (idle_tables k (opened_keeping k))) where
   abbrev u : KeeperView
-  u = idle_view k (opened_entries k)
+  u = idle_view k (opened_keeping k)
 
   classes : HasClasses k.code_words k.image
   classes = (is.closed 0 (omega arith)).1.classes
@@ -103,9 +118,20 @@ module _ (k : Key) (is : IsTables (idle_tables k (opened_entries k))) where
       word_is stamp k.image k.code_words classes place at has
       ∙ (ap (λ e. entry_word k.versions e (first_entry k.image) place) first ∙ sym (word_new t place most))
 
+  quiets : ShowQuiets k (opened_words stamp k.image) u
+  quiets = record {
+    out_many = length-replicate GUESTS false;
+    away = λ guest few free. quiet_is stamp k.image k.code_words classes guest few;
+    tells = λ guest few. inl (quiet_is stamp k.image k.code_words classes guest few);
+  }
+
   at_first : (seat : ℕ) (view : View) → get_elem? (opened_view k ∷ []) seat ≡ some view → IsTrueOf k u view
   at_first zero view at = subst (IsTrueOf k u) (some-injective _ _ at) tt
   at_first (suc seat) view at = absurd (some-ne-none view (sym at))
+
+  no_pass : (seat : ℕ) (p : PassView) → get_elem? (opened_view k ∷ []) seat ≡ some (Pass p) → ⊥
+  no_pass zero p at = pass_is_no_keeper p u (sym (some-injective _ _ at))
+  no_pass (suc seat) p at = some-ne-none (Pass p) (sym at)
 
   pub opening_kept : (opening_words : List ℕ) → opening_words ≡ opened_words stamp k.image
       → IsKept k (opening opening_words [] (opened_view k))
@@ -115,5 +141,10 @@ module _ (k : Key) (is : IsTables (idle_tables k (opened_entries k))) where
     tables = is;
     many = ap length e ∙ words_many stamp k.image k.code_words classes;
     shows = subst (λ l. ShowTables k l u) (sym e) shows;
+    quiets = subst (λ l. ShowQuiets k l u) (sym e) quiets;
+    held = tt;
     seats = at_first;
+    published = λ seat p at. absurd (no_pass seat p at);
+    apart = λ seat p at. tt;
+    alone = λ one other p q a b same. absurd (no_pass one p a);
   }

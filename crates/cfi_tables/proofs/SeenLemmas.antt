@@ -1,25 +1,29 @@
 -- What was seen stays true, and what a load adds to it.
-use Rattle.std.proofs.Common.{◌≡◌, ℕ, zero, suc, ◌+◌, ◌<◌, ◌≤◌, max, nat_lt, cond, Bool, true, false, List, [], ◌∷◌, ◌++◌, length, length-take, slice_get, take, Some, refl, sym, ap, subst, ◌∙◌, arith}
+use Rattle.std.proofs.Common.{◌≡◌, ℕ, zero, suc, ◌+◌, ◌<◌, ◌≤◌, max, nat_lt, cond, Bool, true, false, List, [], ◌∷◌, ◌++◌, length, length-take, slice_get, take, Option, Some, None, refl, sym, ap, subst, ◌∙◌, arith}
 use Rattle.std.proofs.lemmas.Bool.Decides.{nat_tests}
 use mathlib.Core.List.{IsPrefix}
 use Rattle.cfi_word.specs.Table.{Place, Epoch, Quiet, Code, Tary, Bary, IsPlace}
 use Rattle.cfi_word.specs.Word.{epoch_in}
 use Rattle.cfi_model.specs.declared.history.Access.{Access}
 use Rattle.cfi_model.specs.declared.history.Entry.{Entry}
+use Rattle.cfi_model.specs.declared.history.Refusal.{Refusal}
 use Rattle.cfi_model.specs.InForce.{GoesOn}
 use Rattle.cfi_model.specs.Tables.{IsTables}
 use Rattle.cfi_model.specs.Words.{Tables, entry_word, epoch_in_force, no_entry, number_at, is_stored, word_at}
 use Rattle.cfi_model.proofs.TableLemmas.{force_epoch, number_within}
 use Rattle.cfi_model.proofs.InForceLemmas.{bary_epoch, bary_epoch_is, force_rises, tary_epoch, tary_epoch_is}
 use Rattle.cfi_tables.specs.Key.{Key}
-use Rattle.cfi_tables.specs.Loads.{IsLoad, IsWordOf, Tells, TellsEpoch, access_of}
-use Rattle.cfi_tables.specs.Rule.{HasStore, IsAccessOf, IsSeen, IsTrueOf}
+use Rattle.cfi_model.specs.History.{IsFair}
+use Rattle.cfi_tables.specs.Fair.{history_at, kept_of}
+use Rattle.cfi_tables.specs.Loads.{IsFairAt, IsLoad, IsWordOf, Tells, TellsEpoch, access_of}
+use Rattle.cfi_tables.specs.Rule.{AgreesWith, HasStore, IsAccessOf, IsKeptBy, IsRegistered, IsSeen}
 use Rattle.cfi_tables.specs.Views.{tables_of}
 use Rattle.cfi_tables.specs.declared.view.KeeperView.{KeeperView}
 use Rattle.cfi_tables.specs.declared.view.PassView.{PassView}
 use Rattle.cfi_tables.specs.declared.view.Sight.{Sight}
-use Rattle.cfi_tables.specs.declared.view.View.{View}
-use Rattle.cfi_tables.specs.declared.view.View.TheVariants.{Keeper, Pass}
+use Rattle.cfi_tables.specs.inner.Steps.{published}
+use Rattle.atomic_table.proofs.Lists.{one_turn}
+use Rattle.cfi_tables.proofs.FairLemmas.{fair_at, fair_snoc, kept_at, kept_snoc}
 use Rattle.cfi_tables.proofs.Prefixes.{prefix_item, prefix_length, prefix_same, prefix_take, prefix_trans, take_prefix}
 
 -- a word of some entries is one of more
@@ -37,41 +41,48 @@ pub record IsLater (k : Key) (old new : KeeperView) : Type 0 where
   pub tables : IsTables (tables_of k old)
   pub next : IsTables (tables_of k new)
   pub begins : IsPrefix old.entries new.entries
+  pub refused : IsPrefix old.refusals new.refusals
   pub on : GoesOn (tables_of k old) (tables_of k new)
 
+pub agrees_on : (k : Key) (old new : List Entry) (before after : List Refusal) → IsPrefix old new
+    → IsPrefix before after → (sight : Sight) → AgreesWith k old before sight → AgreesWith k new after sight
+agrees_on k old new before after begins refused sight a = record {
+  begins = prefix_trans sight.entries old new a.begins begins;
+  refused = prefix_trans sight.refusals before after a.refused refused;
+  accesses = λ number access is. access_on access (a.accesses number access is);
+  fair = a.fair;
+}
+  where
+    access_on : (access : Access) → IsAccessOf k old access → IsAccessOf k new access
+    access_on access b = record {
+      place = b.place;
+      within = b.within;
+      stored = b.stored;
+      is = b.is;
+      word = word_stays k old new b.place access.found begins b.word;
+    }
+
 module _ (k : Key) (old new : KeeperView) (later : IsLater k old new) where
-  access_stays : (access : Access) → IsAccessOf k old access → IsAccessOf k new access
-  access_stays access a = record {
-    place = a.place;
-    within = a.within;
-    stored = a.stored;
-    is = a.is;
-    word = word_stays k old.entries new.entries a.place access.found later.begins a.word;
-  }
+  pub rises : epoch_in_force (tables_of k old) ≤ epoch_in_force (tables_of k new)
+  rises = force_rises (tables_of k old) (tables_of k new) later.tables later.next later.on
 
   pub seen_stays : (sight : Sight) → IsSeen k old sight → IsSeen k new sight
   seen_stays sight seen = record {
-    begins = prefix_trans sight.entries old.entries new.entries seen.begins later.begins;
-    latest =
-        let rises = force_rises (tables_of k old) (tables_of k new) later.tables later.next later.on in
-        omega (arith, seen.latest, rises);
-    accesses = λ number access is. access_stays access (seen.accesses number access is);
+    agrees = agrees_on k old.entries new.entries old.refusals new.refusals later.begins later.refused sight seen.agrees;
+    least = seen.least;
+    latest = omega (arith, seen.latest, rises);
   }
 
-  pub true_stays : (view : View) → IsTrueOf k old view → IsTrueOf k new view
-  true_stays (Keeper u) truth = tt
-  true_stays (Pass p) truth = seen_stays p.sight truth
-
 -- ---- a load
+
+same_some : {A : Type 0} (a b : A) → Some a ≡ Some b → a ≡ b
+same_some a b e = cc
 
 -- what is known of an item at the end of a list, and of the others
 pub each_snoc : {A : Type 0} (P : A → Type 0) (xs : List A) (x : A)
     → ((number : ℕ) (item : A) → slice_get xs number ≡ Some item → P item) → P x
     → (number : ℕ) (item : A) → slice_get (xs ++ x ∷ []) number ≡ Some item → P item
 each_snoc P [] x each last zero item is = subst P (same_some x item is) last
-  where
-    same_some : {A : Type 0} (a b : A) → Some a ≡ Some b → a ≡ b
-    same_some a b e = cc
 each_snoc P [] x each last (suc number) item is = absurd (cc)
 each_snoc P (y ∷ xs) x each last zero item is = each zero item is
 each_snoc P (y ∷ xs) x each last (suc number) item is =
@@ -92,7 +103,9 @@ latest_after (Quiet guest) found before = before
 abbrev pub loaded : Key → KeeperView → Place → (found : ℕ) → PassView → PassView
 loaded k u place found p = record {
   guest = p.guest;
+  quiet = p.quiet;
   sight = record {
+    refusals = p.sight.refusals;
     entries = entries_after p.sight.entries u.entries (number_at (tables_of k u) place);
     latest = latest_after place found p.sight.latest;
     accesses = p.sight.accesses ++ access_of k.code_words place found ∷ [];
@@ -161,16 +174,28 @@ module _ (k : Key) (u : KeeperView) (is : IsTables (tables_of k u)) where
   latest_is (Code index) before most = most
   latest_is (Quiet guest) before most = most
 
+  -- what a load tells is not less than was known
+  latest_least : (place : Place) → (before : ℕ) → before ≤ epoch_in_force t
+      → before ≤ latest_after place (word_at t place) before
+  latest_least Epoch before most = most
+  latest_least (Tary index) before most = omega arith
+  latest_least (Bary slot) before most = omega arith
+  latest_least (Code index) before most = omega arith
+  latest_least (Quiet guest) before most = omega arith
+
   module _ (place : Place) (at : IsPlace k.code_words place) (tells : TellsEpoch place) (p : PassView)
-      (seen : IsSeen k u p.sight) where
+      (r : IsRegistered k u p) where
     abbrev number : ℕ
     number = number_at t place
 
     abbrev found : ℕ
     found = word_at t place
 
+    abbrev after : PassView
+    after = loaded k u place found p
+
     more : AreMore p.sight.entries u.entries (entries_after p.sight.entries u.entries number) number
-    more = are_more p.sight.entries u.entries number seen.begins (number_within t is (is_stored t place))
+    more = are_more p.sight.entries u.entries number r.seen.agrees.begins (number_within t is (is_stored t place))
 
     word_seen : IsWordOf k (entries_after p.sight.entries u.entries number) place found
     word_seen = record {
@@ -181,28 +206,102 @@ module _ (k : Key) (u : KeeperView) (is : IsTables (tables_of k u)) where
           more.within);
     }
 
-    pub load_is : IsLoad k place found p (loaded k u place found p)
+    -- a Tary word is of no earlier epoch than the kept Bary word, and too few epochs lie between for a version to come
+    -- again
+    fair_by : (index : ℕ) → index < k.code_words → (kept : Option ℕ) → ((word : ℕ) → kept ≡ Some word → IsKeptBy p word)
+        → IsFair (history_at k) kept (word_at t (Tary index))
+    fair_by index inside None keeps = tt
+    fair_by index inside (Some word) keeps =
+        let kept = keeps word refl in
+        let epoch = tary_epoch t is index inside in
+        λ same. one_turn (epoch_in word) (epoch_in (word_at t (Tary index))) k.versions
+        (omega (arith, kept.most, r.seen.latest, epoch.0)) (omega (arith, kept.least, r.newest, epoch.1)) same
+
+    fair_is : (other : Place) → other ≡ place → IsFairAt k (kept_of k p.sight.accesses) other (word_at t other)
+    fair_is Epoch e = tt
+    fair_is (Tary index) e =
+        fair_by index (subst (IsPlace k.code_words) (sym e) at) (kept_of k p.sight.accesses) r.kept
+    fair_is (Bary slot) e = tt
+    fair_is (Code index) e = tt
+    fair_is (Quiet guest) e = tt
+
+    pub load_is : IsLoad k place found p after
     unfolding word_seen
     load_is = record {
       guest = refl;
+      quiet = refl;
+      refusals = refl;
       accesses = refl;
       grows = more.grows;
       word = word_seen;
       epoch = epoch_is place tells;
-      tells = tells_is place at tells p.sight.latest seen.latest;
+      tells = tells_is place at tells p.sight.latest r.seen.latest;
+      fair = fair_is place refl;
     }
 
-    pub loaded_seen : IsSeen k u (loaded k u place found p).sight
-    loaded_seen = record {
-      begins = more.begins;
-      latest = latest_is place p.sight.latest seen.latest;
-      accesses = each_snoc (IsAccessOf k u) p.sight.accesses (access_of k.code_words place found) seen.accesses
-          (record {
-            place = place;
-            within = at;
-            stored = tells_store place tells;
-            is = refl;
-            word = word_stays k (entries_after p.sight.entries u.entries number) u.entries place found more.begins
-                word_seen;
-          });
-    }
+    -- the Bary word that is kept then
+    keeps_is : (other : Place) → (word : ℕ)
+        → kept_at other (kept_of k p.sight.accesses) (word_at t other) ≡ Some word
+        → IsKeptBy (loaded k u other (word_at t other) p) word
+    keeps_is Epoch word e = absurd (cc)
+    keeps_is (Tary index) word e = let kept = r.kept word e in record { least = kept.least; most = kept.most }
+    keeps_is (Bary slot) word e =
+        let same : word_at t (Bary slot) ≡ word = same_some (word_at t (Bary slot)) word e in
+        let epoch = bary_epoch t is slot in
+        subst (IsKeptBy (loaded k u (Bary slot) (word_at t (Bary slot)) p)) same (record {
+          least = omega (arith, r.published, r.seen.latest, epoch.1);
+          most = omega arith;
+        })
+    keeps_is (Code index) word e = let kept = r.kept word e in record { least = kept.least; most = kept.most }
+    keeps_is (Quiet guest) word e = let kept = r.kept word e in record { least = kept.least; most = kept.most }
+
+    pub loaded_registered : IsRegistered k u after
+    loaded_registered =
+        let grows = latest_least place p.sight.latest r.seen.latest in
+        record {
+          seen = record {
+            agrees = record {
+              begins = more.begins;
+              refused = r.seen.agrees.refused;
+              accesses = each_snoc (IsAccessOf k u.entries) p.sight.accesses (access_of k.code_words place found)
+                  r.seen.agrees.accesses
+                  (record {
+                    place = place;
+                    within = at;
+                    stored = tells_store place tells;
+                    is = refl;
+                    word = word_stays k (entries_after p.sight.entries u.entries number) u.entries place found
+                        more.begins word_seen;
+                  });
+              fair = fair_snoc (history_at k) k.code_words None p.sight.accesses (access_of k.code_words place found) r.seen.agrees.fair
+                  (fair_at k (kept_of k p.sight.accesses) place found at (fair_is place refl));
+            };
+            least = omega (arith, grows, r.seen.least);
+            latest = latest_is place p.sight.latest r.seen.latest;
+          };
+          within = r.within;
+          out = r.out;
+          published = omega (arith, grows, r.published);
+          kept = λ word e. keeps_is place word
+              (sym (kept_snoc k p.sight.accesses place found at tells) ∙ e);
+          newest = r.newest;
+          next = r.next;
+        }
+
+-- ---- a quiescent point
+
+-- with no Bary word kept, the latest epoch that was seen may be published
+pub published_registered : (k : Key) (u : KeeperView) (p : PassView) → IsRegistered k u p
+    → kept_of k p.sight.accesses ≡ None → IsRegistered k u (published p)
+published_registered k u p r bare = record {
+  seen = r.seen;
+  within = r.within;
+  out = r.out;
+  published = omega arith;
+  kept = λ word e. absurd (no_word word (sym bare ∙ e));
+  newest = omega (arith, r.newest, r.published);
+  next = λ tested. omega (arith, r.next tested, r.published);
+}
+  where
+    no_word : (word : ℕ) → None ≡ Some word → ⊥
+    no_word word e = absurd (cc)

@@ -1,19 +1,21 @@
 -- The tables of a keeper's view while an update goes on.
-use Rattle.std.proofs.Common.{◌≡◌, ℕ, ◌+◌, ◌-◌, ◌*◌, ◌<◌, ◌≤◌, nat_lt, cond, inl, inr, ◌⊎◌, [], ◌∷◌, length, length-append, refl, sym, ap, subst, ◌∙◌, arith}
+use Rattle.std.proofs.Common.{◌≡◌, ℕ, ◌+◌, ◌-◌, ◌*◌, ◌<◌, ◌≤◌, nat_lt, cond, inl, inr, ◌⊎◌, [], ◌∷◌, length, length-append, Some, None, refl, sym, ap, subst, ◌∙◌, arith}
 use mathlib.Core.List.{IsPrefix}
 use Rattle.std.proofs.lemmas.Bool.{cases_lt, lt-ltb}
 use Rattle.std.proofs.lemmas.Bool.Decides.{nat_tests}
 use Rattle.std.proofs.lemmas.List.{get_or_append_left, get_or_push}
-use Rattle.cfi_word.specs.declared.limits.TheConstants.{MAX_EPOCH, MAX_POLICY}
+use Rattle.cfi_word.specs.declared.limits.TheConstants.{GUESTS, MAX_EPOCH, MAX_POLICY}
 use Rattle.cfi_word.specs.Rank.{stores_of}
 use Rattle.cfi_model.specs.declared.history.Entry.{Entry}
+use Rattle.cfi_model.specs.declared.history.Refusal.{Refusal}
 use Rattle.cfi_model.specs.Closed.{IsClosed}
 use Rattle.cfi_model.specs.InForce.{GoesOn, in_force}
-use Rattle.cfi_model.specs.Tables.{IsTables, IsUpdate}
+use Rattle.cfi_model.specs.Tables.{IsTables, IsUpdate, MayBeAsked}
 use Rattle.cfi_model.specs.Words.{Tables, entry_at, no_entry, newest, before, next_epoch}
 use Rattle.cfi_tables.specs.Key.{Key}
-use Rattle.cfi_tables.specs.Views.{tables_of, last_of}
-use Rattle.cfi_tables.specs.inner.Steps.{grown, stored_to}
+use Rattle.cfi_tables.specs.Keeping.{last_of}
+use Rattle.cfi_tables.specs.Views.{tables_of}
+use Rattle.cfi_tables.specs.inner.Steps.{grown, refused, stored_to}
 use Rattle.cfi_tables.specs.declared.view.KeeperView.{KeeperView}
 use Rattle.cfi_tables.proofs.Prefixes.{prefix_item, prefix_length}
 
@@ -47,9 +49,9 @@ module _ (k : Key) (u : KeeperView) (is : IsTables (tables_of k u)) where
 
   -- ---- more stores of the same update
 
-  pub stored_is : (rank : ℕ) → u.stored ≤ rank → rank < stores_of k.code_words
+  pub stored_is : (rank : ℕ) → u.stored ≤ rank → rank < stores_of k.code_words → u.asked ≡ None
       → IsTables (tables_of k (stored_to rank u))
-  stored_is rank least most = record {
+  stored_is rank least most none = record {
     size = is.size;
     versions_least = is.versions_least;
     versions_most = is.versions_most;
@@ -60,11 +62,45 @@ module _ (k : Key) (u : KeeperView) (is : IsTables (tables_of k u)) where
     follow = is.follow;
     stored_most = omega arith;
     under_way = λ less. is.under_way (omega arith);
-    asked_fits = tt;
+    asked_fits = subst (MayBeAsked (tables_of k (stored_to rank u))) (sym none) tt;
   }
 
   pub stored_force : (rank : ℕ) → u.stored ≤ rank → in_force t ≤ in_force (tables_of k (stored_to rank u))
   stored_force rank least = force_grows (length u.entries) k.code_words u.stored (rank + 1) (omega arith)
+
+  -- ---- an update is asked for, or no more
+
+  pub dropped_is : (refusal : Refusal) → IsTables (tables_of k (refused refusal u))
+  dropped_is refusal = record {
+    size = is.size;
+    versions_least = is.versions_least;
+    versions_most = is.versions_most;
+    some = is.some;
+    epochs_fit = is.epochs_fit;
+    policies_fit = is.policies_fit;
+    closed = is.closed;
+    follow = is.follow;
+    stored_most = is.stored_most;
+    under_way = is.under_way;
+    asked_fits = tt;
+  }
+
+  pub asked_is : (entry : Entry) (tested : ℕ) → u.stored ≡ stores_of k.code_words → tested < GUESTS
+      → IsUpdate k.code_words (last_of u.entries) entry → next_epoch t ≤ MAX_EPOCH
+      → IsTables (tables_of k (record u { asked = Some entry; tested = tested }))
+  asked_is entry tested idle few follows fits = record {
+    size = is.size;
+    versions_least = is.versions_least;
+    versions_most = is.versions_most;
+    some = is.some;
+    epochs_fit = is.epochs_fit;
+    policies_fit = is.policies_fit;
+    closed = is.closed;
+    follow = is.follow;
+    stored_most = is.stored_most;
+    under_way = is.under_way;
+    asked_fits = record { follows = follows; idle = idle; guest = few; fits = fits };
+  }
 
   -- ---- one entry more
 

@@ -1,25 +1,40 @@
--- What the keeper keeps: an entry for each epoch from the first on, and for each guest number whether its pass is out.
-use Rattle.std.specs.Prelude.{◌≡◌, ℕ, ◌<◌, List, Bool, true, false, [], ◌∷◌, ◌++◌, replicate, slice_index_or, slice_set}
+-- What the keeper keeps: an entry for each epoch from the first on, the updates that were not admitted, and for each
+-- guest number whether its pass is out.
+use Rattle.std.specs.Prelude.{◌≡◌, ℕ, ◌-◌, ◌<◌, List, Bool, true, false, [], ◌∷◌, ◌++◌, length, replicate, slice_index_or, slice_set}
 use Rattle.cfi_word.specs.declared.limits.TheConstants.{GUESTS}
 use Rattle.cfi_word.specs.declared.lists.Image.{Image}
 use Rattle.cfi_model.specs.declared.history.Entry.{Entry}
+use Rattle.cfi_model.specs.declared.history.Refusal.{Refusal}
+use Rattle.cfi_model.specs.Words.{no_entry}
+use Rattle.cfi_model.specs.World.{first_entry}
 use Rattle.cfi_tables.specs.Key.{Key}
-use Rattle.cfi_tables.specs.Views.{last_of, opened_entries}
 
 pub record Keeping : Type 0 where
   pub entries : List Entry
+  pub refusals : List Refusal
   pub out : List Bool
 
+-- the opening has one entry, and no pass is out
+abbrev pub opened_entries : Key → List Entry
+opened_entries k = first_entry k.image ∷ []
+
 abbrev pub opened_keeping : Key → Keeping
-opened_keeping k = record { entries = opened_entries k; out = replicate GUESTS false }
+opened_keeping k = record { entries = opened_entries k; refusals = []; out = replicate GUESTS false }
+
+-- the last entry
+abbrev pub last_of : List Entry → Entry
+last_of entries = slice_index_or entries (length entries - 1) no_entry
 
 -- the entry of an update
 abbrev pub entry_by : (policy : ℕ) → Image → (mark : ℕ) → Entry
 entry_by policy image mark = record { policy = policy; image = image; mark = mark }
 
--- there is one entry more
+-- there is one entry more, or one refusal
 abbrev pub grown_by : Entry → Keeping → Keeping
-grown_by entry keeping = record { entries = keeping.entries ++ entry ∷ []; out = keeping.out }
+grown_by entry keeping = record keeping { entries = keeping.entries ++ entry ∷ [] }
+
+abbrev pub refused_by : Refusal → Keeping → Keeping
+refused_by refusal keeping = record keeping { refusals = keeping.refusals ++ refusal ∷ [] }
 
 -- the guest's pass is out
 abbrev pub is_out : List Bool → (guest : ℕ) → Bool
@@ -31,8 +46,12 @@ pub record IsFree (out : List Bool) (guest : ℕ) : Type 0 where
   pub free : is_out out guest ≡ false
   pub least : (other : ℕ) → other < guest → is_out out other ≡ true
 
+-- a pass goes out, or comes back
 abbrev pub let_out : (guest : ℕ) → Keeping → Keeping
-let_out guest keeping = record { entries = keeping.entries; out = slice_set keeping.out guest true }
+let_out guest keeping = record keeping { out = slice_set keeping.out guest true }
+
+abbrev pub let_in : (guest : ℕ) → Keeping → Keeping
+let_in guest keeping = record keeping { out = slice_set keeping.out guest false }
 
 -- all passes are out
 abbrev pub AreAllOut : List Bool → Type 0

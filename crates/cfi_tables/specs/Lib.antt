@@ -1,6 +1,8 @@
 pub mod Key
-pub mod Views
 pub mod Keeping
+pub mod Views
+pub mod Fair
 pub mod Loads
 pub mod Rule
+pub mod Faults
 pub mod inner

@@ -1,5 +1,5 @@
 -- What a guest's load of a table word tells its pass. Epochs are numbers; an address is in bytes.
-use Rattle.std.specs.Prelude.{◌≡◌, ℕ, ◌+◌, ◌-◌, ◌*◌, ◌/◌, ◌%◌, ◌≤◌, ◌<◌, ◌⊎◌, max, nat_le, if◌then◌else◌, [], ◌∷◌, ◌++◌, List, length, slice_index_or, ⊤}
+use Rattle.std.specs.Prelude.{◌≡◌, ℕ, ◌+◌, ◌-◌, ◌*◌, ◌/◌, ◌%◌, ◌≤◌, ◌<◌, ◌⊎◌, max, nat_le, if◌then◌else◌, [], ◌∷◌, ◌++◌, List, length, slice_index_or, Option, ⊤}
 use mathlib.Core.List.{IsPrefix}
 use Rattle.cfi_word.specs.declared.map.TheConstants.{TARY, BARY, CODE_BYTES}
 use Rattle.cfi_word.specs.Table.{Place, slots_of, word_number}
@@ -9,6 +9,8 @@ use Rattle.cfi_model.specs.declared.history.Access.{Access}
 use Rattle.cfi_model.specs.declared.history.Entry.{Entry}
 use Rattle.cfi_model.specs.InForce.{tary_index}
 use Rattle.cfi_model.specs.Words.{no_entry, entry_word}
+use Rattle.cfi_model.specs.History.{IsFair}
+use Rattle.cfi_tables.specs.Fair.{history_at, kept_of}
 use Rattle.cfi_tables.specs.Key.{Key}
 use Rattle.cfi_tables.specs.declared.view.PassView.{PassView}
 
@@ -60,11 +62,29 @@ Tells (places.Quiet guest) found before after = ⊤
 abbrev pub access_of : (code_words : ℕ) → Place → (found : ℕ) → Access
 access_of code_words place found = record { word = word_number code_words place; found = found }
 
+-- a Tary word is fair to the Bary word that is kept
+abbrev pub IsFairAt : Key → (kept : Option ℕ) → Place → (found : ℕ) → Type 0
+IsFairAt k kept places.Epoch found = ⊤
+IsFairAt k kept (places.Tary index) found = IsFair (history_at k) kept found
+IsFairAt k kept (places.Bary slot) found = ⊤
+IsFairAt k kept (places.Code index) found = ⊤
+IsFairAt k kept (places.Quiet guest) found = ⊤
+
 -- what a pass knows after a load: what it found is one word more that it has loaded, and a word of what it has seen
 pub record IsLoad (k : Key) (place : Place) (found : ℕ) (old new : PassView) : Type 0 where
   pub guest : new.guest ≡ old.guest
+  pub quiet : new.quiet ≡ old.quiet
+  pub refusals : new.sight.refusals ≡ old.sight.refusals
   pub accesses : new.sight.accesses ≡ old.sight.accesses ++ access_of k.code_words place found ∷ []
   pub grows : IsPrefix old.sight.entries new.sight.entries
   pub word : IsWordOf k new.sight.entries place found
   pub epoch : epoch_in found ≡ k.first + word.number
   pub tells : Tells place found old.sight.latest new.sight.latest
+  pub fair : IsFairAt k (kept_of k old.sight.accesses) place found
+
+-- what a pass knows after a quiescent point: a load of EPOCH, and a store of the epoch found in the guest's QUIET word
+pub record IsQuiet (k : Key) (epoch : ℕ) (old new : PassView) : Type 0 where
+  pub found : ℕ
+  pub epoch_is : epoch ≡ epoch_in found
+  pub quiet : new.quiet ≡ epoch
+  pub load : IsLoad k places.Epoch found old (record new { quiet = old.quiet })

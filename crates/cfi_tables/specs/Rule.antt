@@ -1,21 +1,28 @@
 -- The rule of the tables, at every moment: the words are those of the keeper's view, and what each seat knows is true.
-use Rattle.std.specs.Prelude.{◌≡◌, ℕ, ◌≤◌, List, length, slice_get, slice_index, Some, ⊤}
+use Rattle.std.specs.Prelude.{◌≡◌, ◌≢◌, ◌⊎◌, ℕ, ◌+◌, ◌≤◌, ◌<◌, true, false, List, length, slice_get, slice_index, Option, Some, None, ⊤}
 use mathlib.Core.List.{IsPrefix}
 use mathlib.Core.Option.{some}
 use lib.ListN.{get_elem?}
 use Rattle.atomic_table.specs.Table.{State}
-use Rattle.cfi_word.specs.Table.{Place, IsPlace, word_count, word_number}
+use Rattle.cfi_word.specs.declared.limits.TheConstants.{GUESTS}
+use Rattle.cfi_word.specs.Table.{Place, IsPlace, quiet_word, word_count, word_number}
 use Rattle.cfi_word.specs.Table as places
+use Rattle.cfi_word.specs.Word.{epoch_in}
 use Rattle.cfi_model.specs.declared.history.Access.{Access}
+use Rattle.cfi_model.specs.declared.history.Entry.{Entry}
+use Rattle.cfi_model.specs.declared.history.Refusal.{Refusal}
 use Rattle.cfi_model.specs.Tables.{IsTables}
-use Rattle.cfi_model.specs.Words.{epoch_in_force, word_at}
+use Rattle.cfi_model.specs.Words.{epoch_in_force, next_epoch, word_at}
+use Rattle.cfi_tables.specs.Fair.{AreFair, history_at, kept_of}
 use Rattle.cfi_tables.specs.Key.{Key}
+use Rattle.cfi_tables.specs.Keeping.{is_out}
 use Rattle.cfi_tables.specs.Views.{tables_of}
 use Rattle.cfi_tables.specs.Loads.{IsWordOf, access_of}
 use Rattle.cfi_tables.specs.declared.view.KeeperView.{KeeperView}
+use Rattle.cfi_tables.specs.declared.view.PassView.{PassView}
 use Rattle.cfi_tables.specs.declared.view.Sight.{Sight}
 use Rattle.cfi_tables.specs.declared.view.View.{View}
-use Rattle.cfi_tables.specs.declared.view.View.TheVariants.{Keeper, Pass}
+use Rattle.cfi_tables.specs.declared.view.View.TheVariants.{Keeper, Pass, Spent}
 
 -- the place's word is one that updates store
 abbrev pub HasStore : Place → Type 0
@@ -26,23 +33,65 @@ HasStore (places.Bary slot) = ⊤
 HasStore (places.Quiet guest) = ⊥
 
 -- a word that was loaded is one of these entries
-pub record IsAccessOf (k : Key) (u : KeeperView) (access : Access) : Type 0 where
+pub record IsAccessOf (k : Key) (entries : List Entry) (access : Access) : Type 0 where
   pub place : Place
   pub within : IsPlace k.code_words place
   pub stored : HasStore place
   pub is : access ≡ access_of k.code_words place access.found
-  pub word : IsWordOf k u.entries place access.found
+  pub word : IsWordOf k entries place access.found
 
--- what was seen is true: the entries are a beginning of all, and the latest epoch is not above the one in force
-pub record IsSeen (k : Key) (u : KeeperView) (sight : Sight) : Type 0 where
-  pub begins : IsPrefix sight.entries u.entries
-  pub latest : sight.latest ≤ epoch_in_force (tables_of k u)
+-- what was seen is a beginning of all that was, and what was loaded is of it
+pub record AgreesWith (k : Key) (entries : List Entry) (refusals : List Refusal) (sight : Sight) : Type 0 where
+  pub begins : IsPrefix sight.entries entries
+  pub refused : IsPrefix sight.refusals refusals
   pub accesses : (number : ℕ) (access : Access) → slice_get sight.accesses number ≡ Some access
-      → IsAccessOf k u access
+      → IsAccessOf k entries access
+  pub fair : AreFair (history_at k) k.code_words None sight.accesses
+
+-- and the latest epoch is one, which is not above the one in force
+pub record IsSeen (k : Key) (u : KeeperView) (sight : Sight) : Type 0 where
+  pub agrees : AgreesWith k u.entries u.refusals sight
+  pub least : k.first ≤ sight.latest
+  pub latest : sight.latest ≤ epoch_in_force (tables_of k u)
+
+-- a Bary word that a guest keeps is of the epoch before that which it has published, at the earliest
+pub record IsKeptBy (p : PassView) (word : ℕ) : Type 0 where
+  pub least : p.quiet ≤ epoch_in word + 1
+  pub most : epoch_in word ≤ p.sight.latest
+
+-- a pass that is out: its guest has published an epoch since which no update has come too far, neither the newest one,
+-- nor the next one, where it has passed the guest's test
+pub record IsRegistered (k : Key) (u : KeeperView) (p : PassView) : Type 0 where
+  pub seen : IsSeen k u p.sight
+  pub within : p.guest < GUESTS
+  pub out : is_out u.out p.guest ≡ true
+  pub published : p.quiet ≤ p.sight.latest
+  pub kept : (word : ℕ) → kept_of k p.sight.accesses ≡ Some word → IsKeptBy p word
+  pub newest : next_epoch (tables_of k u) + 1 ≤ p.quiet + k.versions
+  pub next : p.guest < u.tested → next_epoch (tables_of k u) + 2 ≤ p.quiet + k.versions
 
 abbrev pub IsTrueOf : Key → KeeperView → View → Type 0
 IsTrueOf k u (Keeper view) = ⊤
-IsTrueOf k u (Pass p) = IsSeen k u p.sight
+IsTrueOf k u (Pass p) = IsRegistered k u p
+IsTrueOf k u Spent = ⊤
+
+-- the guest's QUIET word tells the epoch that it has published
+abbrev pub IsPublished : (words : List ℕ) → PassView → Type 0
+IsPublished words p = slice_index words (quiet_word p.guest) ≡ p.quiet + 1
+
+-- the pass that the keeper holds is out too
+pub record IsHeld (k : Key) (words : List ℕ) (u : KeeperView) (p : PassView) : Type 0 where
+  pub registered : IsRegistered k u p
+  pub published : IsPublished words p
+
+abbrev pub HeldFits : Key → (words : List ℕ) → KeeperView → Option PassView → Type 0
+HeldFits k words u None = ⊤
+HeldFits k words u (Some p) = IsHeld k words u p
+
+-- the keeper holds no pass of the guest
+abbrev pub IsElse : Option PassView → (guest : ℕ) → Type 0
+IsElse None guest = ⊤
+IsElse (Some p) guest = p.guest ≢ guest
 
 -- each word but the QUIET words is that of the tables
 abbrev pub ShowTables : Key → (words : List ℕ) → KeeperView → Type 0
@@ -50,10 +99,26 @@ ShowTables k words u =
     (place : Place) → IsPlace k.code_words place → HasStore place
     → slice_index words (word_number k.code_words place) ≡ word_at (tables_of k u) place
 
+-- the QUIET word of a guest is 0, or tells an epoch that is or was in force
+abbrev pub TellsForce : Key → KeeperView → (word : ℕ) → Type 0
+TellsForce k u word = (word ≡ 0) ⊎ ((k.first < word) × (word ≤ epoch_in_force (tables_of k u) + 1))
+
+-- that of a guest whose pass is not out is 0
+pub record ShowQuiets (k : Key) (words : List ℕ) (u : KeeperView) : Type 0 where
+  pub out_many : length u.out ≡ GUESTS
+  pub away : (guest : ℕ) → guest < GUESTS → is_out u.out guest ≡ false → slice_index words (quiet_word guest) ≡ 0
+  pub tells : (guest : ℕ) → guest < GUESTS → TellsForce k u (slice_index words (quiet_word guest))
+
 pub record IsKept (k : Key) (s : State (Unit {0}) View) : Type 0 where
   pub keeper : KeeperView
   pub first : get_elem? s.views 0 ≡ some (Keeper keeper)
   pub tables : IsTables (tables_of k keeper)
   pub many : length s.words ≡ word_count k.code_words
   pub shows : ShowTables k s.words keeper
+  pub quiets : ShowQuiets k s.words keeper
+  pub held : HeldFits k s.words keeper keeper.held
   pub seats : (seat : ℕ) (view : View) → get_elem? s.views seat ≡ some view → IsTrueOf k keeper view
+  pub published : (seat : ℕ) (p : PassView) → get_elem? s.views seat ≡ some (Pass p) → IsPublished s.words p
+  pub apart : (seat : ℕ) (p : PassView) → get_elem? s.views seat ≡ some (Pass p) → IsElse keeper.held p.guest
+  pub alone : (one other : ℕ) (p q : PassView) → get_elem? s.views one ≡ some (Pass p)
+      → get_elem? s.views other ≡ some (Pass q) → p.guest ≡ q.guest → one ≡ other

@@ -1,15 +1,15 @@
 -- What a seat's view tells: the keeper's view is the tables as they are.
-use Rattle.std.specs.Prelude.{◌-◌, List, [], ◌∷◌, length, slice_index_or, None}
+use Rattle.std.specs.Prelude.{ℕ, ◌+◌, ◌-◌, List, [], length, Option, Some, None}
 use Rattle.cfi_word.specs.Rank.{stores_of}
-use Rattle.cfi_model.specs.declared.history.Entry.{Entry}
-use Rattle.cfi_model.specs.Words.{Tables, no_entry}
-use Rattle.cfi_model.specs.World.{first_entry}
+use Rattle.cfi_model.specs.declared.history.Access.{Access}
+use Rattle.cfi_model.specs.Words.{Tables}
 use Rattle.cfi_tables.specs.Key.{Key}
+use Rattle.cfi_tables.specs.Keeping.{Keeping, opened_keeping}
 use Rattle.cfi_tables.specs.declared.view.KeeperView.{KeeperView}
 use Rattle.cfi_tables.specs.declared.view.PassView.{PassView}
 use Rattle.cfi_tables.specs.declared.view.Sight.{Sight}
 use Rattle.cfi_tables.specs.declared.view.View.{View}
-use Rattle.cfi_tables.specs.declared.view.View.TheVariants.{Keeper, Pass}
+use Rattle.cfi_tables.specs.declared.view.View.TheVariants.{Keeper, Pass, Spent}
 
 -- the tables of the keeper's view
 abbrev pub tables_of : Key → KeeperView → Tables
@@ -19,38 +19,77 @@ tables_of k u = record {
   first = k.first;
   entries = u.entries;
   stored = u.stored;
-  asked = None;
-  tested = 0;
+  asked = u.asked;
+  tested = u.tested;
 }
 
--- a keeper's view while no update is under way
-abbrev pub idle_view : Key → List Entry → KeeperView
-idle_view k entries = record { entries = entries; stored = stores_of k.code_words }
+-- a keeper's view after so many stores, while no update is asked for
+abbrev pub view_at : Keeping → (stored : ℕ) → KeeperView
+view_at keeping stored = record {
+  entries = keeping.entries;
+  stored = stored;
+  asked = None;
+  tested = 0;
+  refusals = keeping.refusals;
+  out = keeping.out;
+  held = None;
+}
 
-abbrev pub idle_tables : Key → List Entry → Tables
-idle_tables k entries = tables_of k (idle_view k entries)
+-- while no update is under way
+abbrev pub idle_view : Key → Keeping → KeeperView
+idle_view k keeping = view_at keeping (stores_of k.code_words)
+
+abbrev pub idle_tables : Key → Keeping → Tables
+idle_tables k keeping = tables_of k (idle_view k keeping)
 
 -- that of the opening
-abbrev pub opened_entries : Key → List Entry
-opened_entries k = first_entry k.image ∷ []
-
 abbrev pub opened_view : Key → View
-opened_view k = Keeper (idle_view k (opened_entries k))
+opened_view k = Keeper (idle_view k (opened_keeping k))
 
--- nothing was seen
-abbrev pub no_sight : Sight
-no_sight = record { entries = []; latest = 0; accesses = [] }
+-- what the keeper keeps, of its view
+abbrev pub keeping_of : KeeperView → Keeping
+keeping_of u = record { entries = u.entries; refusals = u.refusals; out = u.out }
+
+-- all that the keeper has seen, for a pass with these accesses; the last epoch is in force while no update is under way
+abbrev pub sight_of : Key → Keeping → List Access → Sight
+sight_of k keeping accesses = record {
+  entries = keeping.entries;
+  refusals = keeping.refusals;
+  latest = k.first + (length keeping.entries - 1);
+  accesses = accesses;
+}
+
+-- a pass that is admitted has seen what the keeper has seen, and its guest has published the epoch in force
+abbrev pub admitted : Key → Keeping → (guest : ℕ) → PassView
+admitted k keeping guest = record {
+  guest = guest;
+  quiet = k.first + (length keeping.entries - 1);
+  sight = sight_of k keeping [];
+}
+
+-- a pass after a note
+abbrev pub noted : Key → Keeping → PassView → PassView
+noted k keeping p = record p { sight = sight_of k keeping p.sight.accesses }
 
 -- the keeper's view, where the seat is the keeper's
+abbrev pub no_view : KeeperView
+no_view = view_at (record { entries = []; refusals = []; out = [] }) 0
+
 abbrev pub keeper_of : View → KeeperView
 keeper_of (Keeper u) = u
-keeper_of (Pass p) = record { entries = []; stored = 0 }
+keeper_of (Pass p) = no_view
+keeper_of Spent = no_view
 
 -- the pass's view, where the seat is a pass's
-abbrev pub pass_of : View → PassView
-pass_of (Keeper u) = record { guest = 0; sight = no_sight }
-pass_of (Pass p) = p
+abbrev pub no_pass : PassView
+no_pass = record { guest = 0; quiet = 0; sight = record { entries = []; refusals = []; latest = 0; accesses = [] } }
 
--- the last entry
-abbrev pub last_of : List Entry → Entry
-last_of entries = slice_index_or entries (length entries - 1) no_entry
+abbrev pub pass_of : View → PassView
+pass_of (Keeper u) = no_pass
+pass_of (Pass p) = p
+pass_of Spent = no_pass
+
+-- the pass that the keeper holds
+abbrev pub held_by : Option PassView → PassView
+held_by None = no_pass
+held_by (Some p) = p

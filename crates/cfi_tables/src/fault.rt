@@ -16,4 +16,12 @@ pub enum UpdateFault {
     /// The epoch in force is `MAX_EPOCH`.
     #[error("no epoch is left")]
     EpochsSpent,
+    /// The QUIET word of a guest tells an epoch that is too far behind.
+    #[error("guest {guest} has published epoch {quiet}, and no version is left")]
+    VersionsSpent {
+        /// The guest.
+        guest: u32,
+        /// The epoch that it has published.
+        quiet: u32,
+    },
 }

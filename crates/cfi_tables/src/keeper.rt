@@ -1,20 +1,22 @@
-//! The keeper, which updates the tables and admits passes.
+//! The keeper, which updates the tables, and admits passes and takes them back.
 
-ghost use Rattle.std.specs.Prelude.{◌≡◌, ◌+◌, length, IfOk, IfErr, IfSome, IfNone, OnOk, OnErr, Err};
+ghost use Rattle.std.specs.Prelude.{◌≡◌, ◌+◌, ◌-◌, length, IfOk, IfErr, IfSome, IfNone, OnOk, OnErr, Err};
 ghost use Rattle.cfi_word.specs.declared.limits.TheConstants.{MAX_EPOCH};
 ghost use Rattle.cfi_model.specs.Tables.{IsUpdate};
-ghost use Rattle.cfi_tables.specs.Keeping.{AreAllOut, IsFree, entry_by, grown_by, let_out, opened_keeping};
-ghost use Rattle.cfi_tables.specs.Views.{idle_view, keeper_of, last_of};
-ghost use Rattle.cfi_tables.specs.inner.Steps.{admitted};
-ghost use Rattle.cfi_tables.specs.inner.Stores.{IsAt};
+ghost use Rattle.cfi_tables.specs.Faults.{FaultIs, epoch_after};
+ghost use Rattle.cfi_tables.specs.Keeping.{AreAllOut, IsFree, entry_by, grown_by, last_of, let_in, let_out, opened_keeping};
+ghost use Rattle.cfi_tables.specs.Rule.{AgreesWith};
+ghost use Rattle.cfi_tables.specs.Views.{admitted, noted};
 ghost use Rattle.cfi_tables.specs.declared.fault.AdmitFault.TheVariants.{NoSeat};
 ghost use Rattle.cfi_tables.specs.declared.fault.UpdateFault.TheVariants.{EpochsSpent};
 
+use crate::admission::{Asked, test_all};
 use crate::blank::{Blank, Place};
 use crate::fault::{AdmitFault, UpdateFault};
-use crate::rule::{Admit, Guests, TableName};
+use crate::holding::{clear, register, tell};
+use crate::rule::TableName;
 use crate::stamp::Stamp;
-use crate::stores::{Asked, store_all};
+use crate::stores::store_all;
 use crate::tables::{Pass, Tables};
 use cfi_word::limits::{GUESTS, MAX_EPOCH};
 use cfi_word::{Image, Layout};
@@ -27,23 +29,30 @@ pub struct Keeper<N: TableName> {
     layout: Layout,
     versions: u32,
     epoch: u32,
+    policy: u32,
     // For each guest number, whether its pass is out.
     out: [bool; GUESTS as usize],
     of: PhantomData<N>,
 }
 
-// Clauses see the entries and which passes are out.
+// Clauses see what it keeps.
 impl<N: TableName> Model for Keeper<N> {
     ghost use Rattle.cfi_tables.specs.Keeping.{Keeping};
-    ghost use Rattle.cfi_tables.specs.inner.Keepers.{IsKeeper, keeping_by};
+    ghost use Rattle.cfi_tables.specs.inner.Keepers.{IsKeeper};
+    ghost use Rattle.cfi_tables.specs.inner.Stores.{keeping_at};
 
     ghost Value = { Keeping };
 
-    ghost view = { λ keeper. keeping_by keeper.seat.me keeper.out };
+    ghost view = { λ keeper. keeping_at keeper.seat.me };
 
     ghost invariant = { λ keeper. let seat = keeper.seat in
-        IsKeeper N.table N.key seat.table_id seat.id seat.me
-        keeper.layout keeper.versions keeper.epoch keeper.out };
+        IsKeeper N.table N.key seat.table_id seat.id seat.me (record {
+          layout = keeper.layout;
+          versions = keeper.versions;
+          epoch = keeper.epoch;
+          policy = keeper.policy;
+          out = keeper.out;
+        }) };
 }
 
 impl<N: TableName> Tables<N> {
@@ -70,6 +79,7 @@ impl<N: TableName> Tables<N> {
             layout,
             versions,
             epoch: first,
+            policy: 0,
             out: [false; GUESTS as usize],
             of: PhantomData,
         };
@@ -90,27 +100,20 @@ fn free_guest(out: &[bool; GUESTS as usize]) -> Option<u32>
     None
 }
 
-// The pass of the guest that G names.
-fn pass_of<N: TableName, G: Guests>(tables: &Tables<N>, seat: &mut Place, guest: u32) -> Pass<N>
-    requires guest { guest ≡ G.guest }
-    requires seat { IsAt N.table seat.old.table_id seat.old.id seat.old.me
-        (idle_view N.key (keeper_of seat.old.me.0).entries) }
-    ensures pass { result ≡ admitted N.key guest (keeper_of seat.old.me.0).entries }
-    ensures seat { IsAt N.table seat.new.table_id seat.new.id seat.new.me
-        (idle_view N.key (keeper_of seat.old.me.0).entries) }
-{
-    let seat = tables.words.shared.split_seat::<Admit<N, G>>(seat);
-    Pass {
-        seat,
-        guest,
-        of: PhantomData,
-    }
+/// What is in force.
+#[derive(Clone, Copy, Debug, PartialEq, Eq)]
+pub struct Seen {
+    /// The epoch.
+    pub epoch: u32,
+    /// The policy number.
+    pub policy: u32,
 }
 
 impl<N: TableName> Keeper<N> {
-    /// The pass of the guest of the least number whose pass is not out. It has seen what the keeper has seen.
+    /// The pass of the guest of the least number whose pass is not out. It has seen what the keeper has seen, and its
+    /// guest's QUIET word tells the epoch in force.
     pub fn admit(&mut self, tables: &Tables<N>) -> Result<Pass<N>, AdmitFault>
-        ensures ok { IfOk result (λ pass. pass ≡ admitted N.key pass.guest self.old.entries) }
+        ensures ok { IfOk result (λ pass. pass ≡ admitted N.key self.old pass.guest) }
         ensures free { IfOk result (λ pass. IsFree self.old.out pass.guest) }
         ensures out { IfOk result (λ pass. self.new ≡ let_out pass.guest self.old) }
         ensures fault { IfErr result (λ fault. AreAllOut self.old.out) }
@@ -120,15 +123,16 @@ impl<N: TableName> Keeper<N> {
         let Some(guest) = free_guest(&self.out) else {
             return Err(AdmitFault::NoSeat);
         };
-        let pass = pass_of::<N, Brand>(tables, &mut self.seat, guest);
+        let pass = register(tables, &mut self.seat, guest, self.epoch + 1);
         self.out[guest as usize] = true;
         Ok(pass)
     }
 
-    /// Puts an image in force, with its policy, and answers the new epoch.
+    /// Puts an image in force, with its policy, and answers the new epoch. The mark goes into the history, or with an
+    /// update that is not admitted into the refusals.
     ///
     /// The policy is the one in force, with the image in force, or the next one, with an image that keeps the code.
-    /// Until then the code of each image is the one in force.
+    /// Until code words are stored, the code of each image is the one in force.
     pub fn update(
         &mut self,
         tables: &Tables<N>,
@@ -139,26 +143,54 @@ impl<N: TableName> Keeper<N> {
         requires follows { IsUpdate N.key.code_words (last_of self.old.entries)
             (entry_by policy image.now mark) }
         requires code { image.now.code ≡ (last_of self.old.entries).image.code }
-        ensures ok { IfOk result (λ epoch. epoch ≡ N.key.first + length self.old.entries) }
+        ensures ok { IfOk result (λ epoch. epoch ≡ epoch_after N.key self.old) }
         ensures new { OnOk result (self.new ≡ grown_by (entry_by policy image.now mark) self.old) }
-        ensures fault { IfErr result (λ fault.
-            N.key.first + length self.old.entries ≡ MAX_EPOCH + 1) }
-        ensures spent { N.key.first + length self.old.entries ≡ MAX_EPOCH + 1 →
-            result ≡ Err EpochsSpent }
-        ensures same { OnErr result (self.new ≡ self.old) }
+        ensures fault { IfErr result (FaultIs N.key mark self.old self.new) }
+        ensures spent { epoch_after N.key self.old ≡ MAX_EPOCH + 1 → result ≡ Err EpochsSpent }
     {
         if self.epoch == MAX_EPOCH {
             return Err(UpdateFault::EpochsSpent);
         }
         let epoch = self.epoch + 1;
-        let stamp = Stamp::new(epoch, policy, self.versions);
         let asked = Asked {
             policy,
             image,
             mark,
         };
-        store_all::<N, Brand>(tables, &mut self.seat, &stamp, &asked);
+        let spent = test_all::<N, Brand>(tables, &mut self.seat, epoch, self.versions, &asked);
+        if let Some((guest, quiet)) = spent {
+            return Err(UpdateFault::VersionsSpent { guest, quiet });
+        }
+        let stamp = Stamp::new(epoch, policy, self.versions);
+        store_all(tables, &mut self.seat, &stamp, image);
         self.epoch = epoch;
+        self.policy = policy;
         Ok(epoch)
+    }
+
+    /// Tells a pass all that the keeper has seen. Its accesses stay.
+    pub fn note(&mut self, tables: &Tables<N>, pass: &mut Pass<N>)
+        ensures pass { pass.new ≡ noted N.key self.old pass.old }
+        ensures agrees { AgreesWith N.key self.old.entries self.old.refusals pass.old.sight }
+        ensures same { self.new ≡ self.old }
+    {
+        tell(tables, &mut self.seat, pass);
+    }
+
+    /// Takes a pass back, whose guest is registered no more, and answers what is in force. What the pass has seen is
+    /// part of the history, and what it has loaded are words of it.
+    pub fn release(&mut self, tables: &Tables<N>, pass: Pass<N>) -> Seen
+        ensures agrees { AgreesWith N.key self.old.entries self.old.refusals pass.sight }
+        ensures out { self.new ≡ let_in pass.guest self.old }
+        ensures epoch { result.epoch + 1 ≡ epoch_after N.key self.old }
+        ensures policy { result.policy ≡ (last_of self.old.entries).policy }
+    {
+        let guest = pass.guest();
+        clear(tables, &mut self.seat, pass);
+        self.out[guest as usize] = false;
+        Seen {
+            epoch: self.epoch,
+            policy: self.policy,
+        }
     }
 }

@@ -8,9 +8,9 @@ ghost use Rattle.cfi_model.specs.Phases.{number_in, phase_of};
 ghost use Rattle.cfi_model.specs.Tables.{IsTables, IsUpdate};
 ghost use Rattle.cfi_model.specs.Words.{word_of_entry};
 ghost use Rattle.cfi_tables.specs.Key.{Key};
-ghost use Rattle.cfi_tables.specs.Keeping.{entry_by};
+ghost use Rattle.cfi_tables.specs.Keeping.{entry_by, opened_keeping};
 ghost use Rattle.cfi_tables.specs.Rule.{HasStore, IsKept};
-ghost use Rattle.cfi_tables.specs.Views.{idle_tables, opened_entries, opened_view, tables_of};
+ghost use Rattle.cfi_tables.specs.Views.{idle_tables, opened_view, tables_of};
 ghost use Rattle.cfi_tables.specs.declared.view.View.{View};
 
 /// At every moment the words show the tables of the keeper's view.
@@ -31,7 +31,7 @@ pub fn words_show_tables()
 ///
 /// `opens`: where the opening is of tables, some words keep the rule. `refresh`: the entry in force may follow itself.
 pub fn some_tables_are_kept()
-    ensures opens { (k : Key) → IsTables (idle_tables k (opened_entries k)) →
+    ensures opens { (k : Key) → IsTables (idle_tables k (opened_keeping k)) →
         (words : List ℕ) × IsKept k (opening words [] (opened_view k)) }
     ensures refresh { (code_words : ℕ) (last : Entry) (mark : ℕ) →
         IsUpdate code_words last (entry_by last.policy last.image mark) }

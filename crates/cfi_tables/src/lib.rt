@@ -2,12 +2,16 @@
 //!
 //! Stands on `cfi_model`, `cfi_word` and the kit's `atomic_table`. Proved: at every moment the words show the tables of
 //! the keeper's view (`specs/Rule.antt`); each load answers its own step's word, one of the entries that the pass has
-//! seen, with the bounds on its epoch; an update adds one entry, in the order Tary, EPOCH, Bary. Tested: two guests
-//! load beside 100 updates. Open: QUIET words and code words, which no call stores yet.
+//! seen, with the bounds on its epoch, and in each try equal versions are equal epochs; an update adds one entry, in the
+//! order Tary, EPOCH, Bary, or is refused by a QUIET word that it has loaded, and stores nothing; what a pass has seen is
+//! a beginning of what the keeper has. Tested: two guests load beside 100 updates, and a guest without quiescent points
+//! hinders an update. Open: code words, which no call stores or fetches yet.
 #![tactic(auto)]
 
+mod admission;
 mod blank;
 mod fault;
+mod holding;
 mod keeper;
 mod laws;
 mod rule;
@@ -20,8 +24,8 @@ mod view;
 
 pub use blank::{Blank, Place, Words};
 pub use fault::{AdmitFault, UpdateFault};
-pub use keeper::Keeper;
+pub use keeper::{Keeper, Seen};
 pub use laws::{some_tables_are_kept, words_show_tables};
-pub use rule::{Asks, Guests, Law, TableName};
+pub use rule::{Asks, Law, TableName};
 pub use tables::{Pass, Tables};
 pub use view::{KeeperView, PassView, Sight, Told, View};

@@ -1,7 +1,7 @@
 //! The rule of the tables, their names, and the kinds of step.
 
 use crate::view::{Told, View};
-use atomic_table::{Play, Split, TableRule};
+use atomic_table::{Join, Play, Split, TableRule};
 use std::marker::{Brand, PhantomData};
 
 /// Names one table: values with one name belong together. Each call of a function over names picks one.
@@ -48,18 +48,18 @@ impl TableRule<(), View, Told> for Law {
     ghost first = { λ told. opened_view (key_of told) };
 }
 
-// The first store of an update.
-pub(crate) struct Begin<N, A> {
+// A test of a QUIET word.
+pub(crate) struct Test<N, A> {
     of: PhantomData<(N, A)>,
 }
 
-impl<N: TableName, A: Asks> Play<(), View> for Begin<N, A> {
-    ghost use Rattle.cfi_tables.specs.inner.Steps.{Begins};
+impl<N: TableName, A: Asks> Play<(), View> for Test<N, A> {
+    ghost use Rattle.cfi_tables.specs.inner.Steps.{Tests};
 
-    ghost then = { Begins N.key A.entry };
+    ghost then = { Tests N.key A.entry };
 }
 
-// A further store of an update.
+// A store of an update.
 pub(crate) struct Store<N> {
     of: PhantomData<N>,
 }
@@ -70,7 +70,7 @@ impl<N: TableName> Play<(), View> for Store<N> {
     ghost then = { Stores N.key };
 }
 
-// A guest's load of a word.
+// A guest's load of a word that tells an epoch.
 pub(crate) struct Load<N> {
     of: PhantomData<N>,
 }
@@ -81,26 +81,78 @@ impl<N: TableName> Play<(), View> for Load<N> {
     ghost then = { Loads N.key };
 }
 
-// The seat of a guest, by its number.
-pub(crate) struct Admit<N, G> {
-    of: PhantomData<(N, G)>,
+// A guest's store of its QUIET word.
+pub(crate) struct Publish;
+
+impl Play<(), View> for Publish {
+    ghost use Rattle.cfi_tables.specs.inner.Steps.{Publishes};
+
+    ghost then = { Publishes };
 }
 
-/// The guest that an admission is for. Each admission picks its own.
-pub trait Guests {
-    ghost use Rattle.std.specs.Prelude.{ℕ};
-
-    ghost guest: { ℕ };
+// The store by which a guest is registered.
+pub(crate) struct Register<N> {
+    of: PhantomData<N>,
 }
 
-impl Guests for Brand {
-    ghost guest = { 0 };
+impl<N: TableName> Play<(), View> for Register<N> {
+    ghost use Rattle.cfi_tables.specs.inner.Steps.{Registers};
+
+    ghost then = { Registers N.key };
 }
 
-impl<N: TableName, G: Guests> Split<View> for Admit<N, G> {
-    ghost use Rattle.cfi_tables.specs.inner.Steps.{admitted_view};
+// The load of EPOCH by which a pass is told what the keeper has seen.
+pub(crate) struct Tell<N> {
+    of: PhantomData<N>,
+}
+
+impl<N: TableName> Play<(), View> for Tell<N> {
+    ghost use Rattle.cfi_tables.specs.inner.Steps.{Tells};
+
+    ghost then = { Tells N.key };
+}
+
+// The store by which a guest is registered no more.
+pub(crate) struct Clear<N> {
+    of: PhantomData<N>,
+}
+
+impl<N: TableName> Play<(), View> for Clear<N> {
+    ghost use Rattle.cfi_tables.specs.inner.Steps.{Clears};
+
+    ghost then = { Clears N.key };
+}
+
+// The pass that the keeper holds gets a seat.
+pub(crate) struct Leave;
+
+impl Split<View> for Leave {
+    ghost use Rattle.cfi_tables.specs.inner.Steps.{left_view, seat_view};
+
+    ghost left = { left_view };
+
+    ghost right = { seat_view };
+}
+
+// A seat for no one.
+pub(crate) struct Vacate;
+
+impl Split<View> for Vacate {
+    ghost use Rattle.cfi_tables.specs.declared.view.View.TheVariants.{Spent};
 
     ghost left = { λ view. view };
 
-    ghost right = { admitted_view N.key G.guest };
+    ghost right = { λ view. Spent };
+}
+
+// A pass gives up its seat, and the keeper holds it.
+pub(crate) struct Return;
+
+impl Join<View> for Return {
+    ghost use Rattle.cfi_tables.specs.declared.view.View.TheVariants.{Spent};
+    ghost use Rattle.cfi_tables.specs.inner.Steps.{returned_view};
+
+    ghost both = { returned_view };
+
+    ghost spent = { Spent };
 }

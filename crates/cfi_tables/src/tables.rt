@@ -3,12 +3,12 @@
 ghost use Rattle.std.specs.Prelude.{◌≡◌};
 ghost use Rattle.cfi_word.specs.Table.{IsSize, word_count, word_number};
 ghost use Rattle.cfi_tables.specs.Key.{key_of};
-ghost use Rattle.cfi_tables.specs.Loads.{IsLoad, IsTableAddress, place_at};
+ghost use Rattle.cfi_tables.specs.Loads.{IsLoad, IsQuiet, IsTableAddress, place_at};
 
 use crate::blank::{Place, Words};
-use crate::rule::{Load, TableName};
-use cfi_word::Layout;
+use crate::rule::{Load, Publish, TableName};
 use cfi_word::map::{BARY, TARY};
+use cfi_word::{EPOCH, Layout, Word};
 use std::marker::{Model, PhantomData};
 
 /// The words of the tables, which all threads share.
@@ -68,6 +68,22 @@ impl<N: TableName> Tables<N> {
         self.words
             .shared
             .load::<Load<N>>(&mut pass.seat, word as usize)
+    }
+
+    /// A quiescent point: loads EPOCH, publishes the epoch found in the guest's QUIET word, and answers it.
+    pub fn quiet(&self, pass: &mut Pass<N>) -> u32
+        ensures { IsQuiet N.key result pass.old pass.new }
+    {
+        let found = self
+            .words
+            .shared
+            .load::<Load<N>>(&mut pass.seat, EPOCH as usize);
+        let epoch = Word::epoch_of(found);
+        let number = self.layout.quiet(pass.guest);
+        self.words
+            .shared
+            .store::<Publish>(&mut pass.seat, number as usize, u64::from(epoch) + 1);
+        epoch
     }
 }
 

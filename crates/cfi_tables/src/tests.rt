@@ -2,7 +2,7 @@ ghost use Rattle.std.specs.Prelude.{◌≡◌, ◌≤◌, IfOk};
 ghost use Rattle.cfi_model.specs.Closed.{IsClosed};
 ghost use Rattle.cfi_tables.specs.Keeping.{IsLike};
 
-use crate::{Blank, Keeper, Pass, TableName, Tables};
+use crate::{Blank, Keeper, Pass, Seen, TableName, Tables, UpdateFault};
 use cfi_values::Numbers;
 use cfi_word::map::{BARY, TARY};
 use cfi_word::{FIELD_MAX, Image, Layout, Word, id};
@@ -54,15 +54,15 @@ struct Reader<N: TableName> {
     sound: bool,
 }
 
-// Makes so many tries.
+// Makes so many tries, under 16,384 versions.
 fn load<N: TableName>(tables: &Tables<N>, mut reader: Reader<N>, turns: u32) -> Reader<N> {
     let mut latest = 0;
     for _ in 0..turns {
         let bary = tables.load(&mut reader.pass, BARY);
         let tary = tables.load(&mut reader.pass, TARY + 64);
-        let version = Word::epoch_of(tary) % 3;
+        let version = Word::epoch_of(tary) % 16384;
         reader.sound = reader.sound
-            && Word::id_of(bary) == id(FIELD_MAX, Word::epoch_of(bary) % 3)
+            && Word::id_of(bary) == id(FIELD_MAX, Word::epoch_of(bary) % 16384)
             && Word::id_of(tary) == id(0, version)
             && latest <= Word::epoch_of(tary)
             && Word::epoch_of(bary) <= Word::epoch_of(tary);
@@ -110,21 +110,63 @@ fn beside<N: TableName + Send + Sync, R: Threads + Sync>(
             )
         },
     );
-    let mut out = 2;
+    let sound = one.sound && two.sound;
+    let _ = keeper.release(&tables, one.pass);
+    let mut out = 1;
     for _ in 0..20 {
-        if let Ok(pass) = keeper.admit(&tables) {
-            out = pass.guest() + 1;
+        if keeper.admit(&tables).is_ok() && out < 20 {
+            out += 1;
         }
     }
-    (made, one.sound && two.sound, out)
+    (made, sound, out)
+}
+
+// A guest that never passes a quiescent point hinders the update at its bound, while another goes on: what each of
+// three updates answers, what is in force then, and the number that the next pass has.
+fn hindered<N: TableName>(
+    blank: Blank,
+    image: &Image,
+) -> Option<([Result<u32, UpdateFault>; 3], Seen, u32)>
+    requires table { blank.table ≡ N.table }
+    requires key { blank.key ≡ N.key }
+    requires image { image.now ≡ N.key.image }
+{
+    let (tables, mut keeper) = Tables::<N>::open(blank);
+    let mut one = keeper.admit(&tables).ok()?;
+    let mut two = keeper.admit(&tables).ok()?;
+    let first = keeper.update(&tables, image, 0, 7);
+    let _ = tables.quiet(&mut one);
+    let second = keeper.update(&tables, image, 0, 7);
+    let _ = tables.quiet(&mut two);
+    let third = keeper.update(&tables, image, 0, 7);
+    keeper.note(&tables, &mut two);
+    let seen = keeper.release(&tables, one);
+    let again = keeper.admit(&tables).ok()?;
+    Some(([first, second, third], seen, again.guest()))
 }
 
 #[test]
 fn two_guests_beside_refreshes(rt: HostRuntime) -> Result<(), Fail> {
     let layout = Layout::new(1024)?;
     let image = jump_image(rt.alloc(), &layout)?;
-    let blank = Blank::new(rt.alloc(), layout, 3, 0, &image)?;
+    let blank = Blank::new(rt.alloc(), layout, 16384, 0, &image)?;
     let found = beside::<Brand, HostRuntime>(&rt, blank, image);
     assert_eq!(rt; found, (100, true, 16));
+    Ok(())
+}
+
+#[test]
+fn a_guest_without_quiescent_points(rt: HostRuntime) -> Result<(), Fail> {
+    // Under three versions an update to epoch 2 asks each guest for a quiescent point since epoch 1.
+    let layout = Layout::new(1024)?;
+    let image = jump_image(rt.alloc(), &layout)?;
+    let blank = Blank::new(rt.alloc(), layout, 3, 0, &image)?;
+    let found = hindered::<Brand>(blank, &image);
+    let spent = UpdateFault::VersionsSpent { guest: 1, quiet: 0 };
+    let seen = Seen {
+        epoch: 2,
+        policy: 0,
+    };
+    assert_eq!(rt; found, Some(([Ok(1), Err(spent), Ok(2)], seen, 0)));
     Ok(())
 }

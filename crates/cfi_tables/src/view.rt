@@ -1,7 +1,7 @@
 //! What seats know of the tables. No value of these types is made but `Told`: a clause reads an array as a list, of
 //! any length.
 
-use cfi_model::{Access, Entry};
+use cfi_model::{Access, Entry, Refusal};
 use cfi_word::{Image, Layout};
 use std::snapshot::Snapshot;
 
@@ -9,10 +9,22 @@ use std::snapshot::Snapshot;
 pub struct Sight {
     /// The entries of the epochs from the first on, as far as they were seen.
     pub entries: [Entry; 0],
-    /// The greatest epoch that was seen at an admission, in EPOCH or in a Bary word.
+    /// The updates that were not admitted, as far as they were seen.
+    pub refusals: [Refusal; 0],
+    /// The greatest epoch that was seen at an admission, by a note, in EPOCH or in a Bary word.
     pub latest: u32,
     /// What was loaded, from first to last.
     pub accesses: [Access; 0],
+}
+
+/// What a pass's seat knows.
+pub struct PassView {
+    /// The guest's number.
+    pub guest: u32,
+    /// The epoch that the guest's QUIET word tells.
+    pub quiet: u32,
+    /// What the pass has seen.
+    pub sight: Sight,
 }
 
 /// What the keeper's seat knows: all that the tables have had.
@@ -21,14 +33,16 @@ pub struct KeeperView {
     pub entries: [Entry; 0],
     /// How many stores of the update to the last entry were made.
     pub stored: u32,
-}
-
-/// What a pass's seat knows.
-pub struct PassView {
-    /// The guest's number.
-    pub guest: u32,
-    /// What the pass has seen.
-    pub sight: Sight,
+    /// The update whose test is under way.
+    pub asked: Option<Entry>,
+    /// How many QUIET words its test has passed.
+    pub tested: u32,
+    /// The updates that were not admitted.
+    pub refusals: [Refusal; 0],
+    /// For each guest number, whether its pass is out.
+    pub out: [bool; 0],
+    /// A pass that is out and has no seat of its own.
+    pub held: Option<PassView>,
 }
 
 /// What a seat knows.
@@ -37,6 +51,8 @@ pub enum View {
     Keeper(KeeperView),
     /// The seat is a pass's, which loads for a guest.
     Pass(PassView),
+    /// The seat is used no more.
+    Spent,
 }
 
 /// What a table is told when it is made.

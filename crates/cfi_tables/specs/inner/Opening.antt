@@ -5,7 +5,8 @@ use Rattle.cfi_word.specs.declared.lists.Image.{Image}
 use Rattle.cfi_word.specs.Table.{word_count}
 use Rattle.cfi_model.specs.Tables.{IsTables}
 use Rattle.cfi_tables.specs.Key.{Named, key_of}
-use Rattle.cfi_tables.specs.Views.{idle_tables, opened_entries, opened_view}
+use Rattle.cfi_tables.specs.Keeping.{opened_keeping}
+use Rattle.cfi_tables.specs.Views.{idle_tables, opened_view}
 use Rattle.cfi_tables.specs.inner.Stamps.{Stamp, word_by}
 use Rattle.cfi_tables.specs.declared.blank.Blank.TheInside.{Inside}
 
@@ -28,4 +29,4 @@ pub record IsBlank (a : Inside) : Type 0 where
   pub layout : a.layout ≡ (key_of a.words.shared.key).code_words
   pub versions : a.versions ≡ (key_of a.words.shared.key).versions
   pub first : a.first ≡ (key_of a.words.shared.key).first
-  pub tables : IsTables (idle_tables (key_of a.words.shared.key) (opened_entries (key_of a.words.shared.key)))
+  pub tables : IsTables (idle_tables (key_of a.words.shared.key) (opened_keeping (key_of a.words.shared.key)))

@@ -1,48 +1,132 @@
 -- What each kind of step tells its seat.
-use Rattle.std.specs.Prelude.{◌≡◌, ℕ, ◌+◌, ◌-◌, List, [], ◌∷◌, ◌++◌, length}
+use Rattle.std.specs.Prelude.{◌≡◌, ◌≢◌, ℕ, zero, suc, ◌+◌, ◌-◌, nat_lt, if◌then◌else◌, Bool, true, false, [], ◌∷◌, ◌++◌, slice_set, Some, None}
 use Rattle.atomic_table.specs.Table.{Me, Step}
+use Rattle.cfi_word.specs.declared.limits.TheConstants.{GUESTS}
 use Rattle.cfi_word.specs.Rank.{rank}
 use Rattle.cfi_word.specs.Table.{Place, IsPlace, word_number}
 use Rattle.cfi_model.specs.declared.history.Entry.{Entry}
+use Rattle.cfi_model.specs.declared.history.Refusal.{Refusal}
+use Rattle.cfi_model.specs.declared.quiet.Quiet.{Quiet}
+use Rattle.cfi_model.specs.declared.quiet.Quiet.TheVariants.{Unregistered, Published}
+use Rattle.cfi_model.specs.Quiet.{admits}
+use Rattle.cfi_model.specs.Words.{next_epoch}
 use Rattle.cfi_tables.specs.Key.{Key}
+use Rattle.cfi_tables.specs.Keeping.{is_out}
 use Rattle.cfi_tables.specs.Loads.{IsLoad, TellsEpoch}
-use Rattle.cfi_tables.specs.Views.{keeper_of, pass_of}
+use Rattle.cfi_tables.specs.Rule.{AgreesWith, TellsForce}
+use Rattle.cfi_tables.specs.Views.{admitted, held_by, keeper_of, keeping_of, noted, pass_of, tables_of}
 use Rattle.cfi_tables.specs.declared.view.KeeperView.{KeeperView}
 use Rattle.cfi_tables.specs.declared.view.PassView.{PassView}
 use Rattle.cfi_tables.specs.declared.view.View.{View}
-use Rattle.cfi_tables.specs.declared.view.View.TheVariants.{Keeper, Pass}
+use Rattle.cfi_tables.specs.declared.view.View.TheVariants.{Keeper, Pass, Spent}
 
 -- a seat without slots
 abbrev pub Seated : Type 0
 Seated = Me (Unit {0}) View
 
--- the keeper's view with one entry more, of which no word is stored
-abbrev pub grown : Entry → KeeperView → KeeperView
-grown entry u = record { entries = u.entries ++ entry ∷ []; stored = 0 }
+-- ---- the keeper's stores
 
--- and after the store of a word
 abbrev pub stored_to : (rank : ℕ) → KeeperView → KeeperView
-stored_to rank u = record { entries = u.entries; stored = rank + 1 }
+stored_to rank u = record u { stored = rank + 1 }
 
 abbrev pub Stores : Key → Step (Unit {0}) → Seated → (found : ℕ) → Seated → Type 0
 Stores k s old found new = new ≡ (Keeper (stored_to (rank k.code_words s.word) (keeper_of old.0)), old.1)
 
-abbrev pub Begins : Key → Entry → Step (Unit {0}) → Seated → (found : ℕ) → Seated → Type 0
-Begins k entry s old found new =
-    new ≡ (Keeper (stored_to (rank k.code_words s.word) (grown entry (keeper_of old.0))), old.1)
+-- ---- the keeper's test of a QUIET word
 
--- a pass's load of the word at a place
+-- what a QUIET word tells
+abbrev pub quiet_in : (word : ℕ) → Quiet
+quiet_in zero = Unregistered
+quiet_in (suc epoch) = Published epoch
+
+-- the word admits the next update
+abbrev pub is_passed : Key → KeeperView → (word : ℕ) → Bool
+is_passed k u word = admits k.versions (next_epoch (tables_of k u)) (quiet_in word)
+
+-- the update with one entry more, of which no word is stored
+abbrev pub grown : Entry → KeeperView → KeeperView
+grown entry u = record u { entries = u.entries ++ entry ∷ []; stored = 0; asked = None; tested = 0 }
+
+-- the test goes on, or has passed all words
+abbrev pub passed : Entry → KeeperView → KeeperView
+passed entry u =
+    if nat_lt (u.tested + 1) GUESTS then record u { asked = Some entry; tested = u.tested + 1 } else grown entry u
+
+-- or it ends
+abbrev pub refusal_of : Key → (mark : ℕ) → KeeperView → (word : ℕ) → Refusal
+refusal_of k mark u word =
+    record { guest = u.tested; quiet = word - 1; epoch = next_epoch (tables_of k u); mark = mark }
+
+abbrev pub refused : Refusal → KeeperView → KeeperView
+refused refusal u = record u { asked = None; tested = 0; refusals = u.refusals ++ refusal ∷ [] }
+
+abbrev pub tested_by : Key → Entry → (word : ℕ) → KeeperView → KeeperView
+tested_by k entry word u =
+    if is_passed k u word then passed entry u else refused (refusal_of k entry.mark u word) u
+
+-- a word that is not 0 is that of a pass that is out, and tells an epoch that is or was in force
+pub record Tests (k : Key) (entry : Entry) (s : Step (Unit {0})) (old : Seated) (found : ℕ) (new : Seated) : Type 0 where
+  pub is : new ≡ (Keeper (tested_by k entry found (keeper_of old.0)), old.1)
+  pub out : found ≢ 0 → is_out (keeper_of old.0).out (keeper_of old.0).tested ≡ true
+  pub tells : TellsForce k (keeper_of old.0) found
+
+-- ---- a pass's loads and stores
+
 pub record Loads (k : Key) (s : Step (Unit {0})) (old : Seated) (found : ℕ) (new : Seated) : Type 0 where
   pub same : new ≡ (Pass (pass_of new.0), old.1)
   pub load : (place : Place) → IsPlace k.code_words place → TellsEpoch place
       → word_number k.code_words place ≡ s.word → IsLoad k place found (pass_of old.0) (pass_of new.0)
 
--- a pass that is admitted has seen what the keeper has seen
-abbrev pub admitted : Key → (guest : ℕ) → List Entry → PassView
-admitted k guest entries = record {
-  guest = guest;
-  sight = record { entries = entries; latest = k.first + (length entries - 1); accesses = [] };
-}
+-- the guest publishes the latest epoch that it has seen
+abbrev pub published : PassView → PassView
+published p = record p { quiet = p.sight.latest }
 
-abbrev pub admitted_view : Key → (guest : ℕ) → View → View
-admitted_view k guest view = Pass (admitted k guest (keeper_of view).entries)
+abbrev pub Publishes : Step (Unit {0}) → Seated → (found : ℕ) → Seated → Type 0
+Publishes s old found new = new ≡ (Pass (published (pass_of old.0)), old.1)
+
+-- ---- the keeper's steps for a pass that it holds
+
+-- a guest is registered, by a store of its QUIET word
+abbrev pub registered : Key → (guest : ℕ) → KeeperView → KeeperView
+registered k guest u =
+    record u { out = slice_set u.out guest true; held = Some (admitted k (keeping_of u) guest) }
+
+abbrev pub Registers : Key → Step (Unit {0}) → Seated → (found : ℕ) → Seated → Type 0
+Registers k s old found new = new ≡ (Keeper (registered k (s.word - 1) (keeper_of old.0)), old.1)
+
+-- the pass that is held is told all that the keeper has seen, and what it has seen agrees with it
+abbrev pub told : Key → KeeperView → KeeperView
+told k u = record u { held = Some (noted k (keeping_of u) (held_by u.held)) }
+
+pub record Tells (k : Key) (s : Step (Unit {0})) (old : Seated) (found : ℕ) (new : Seated) : Type 0 where
+  pub is : new ≡ (Keeper (told k (keeper_of old.0)), old.1)
+  pub agrees : AgreesWith k (keeper_of old.0).entries (keeper_of old.0).refusals (held_by (keeper_of old.0).held).sight
+
+-- its guest is registered no more, by a store of 0 in its QUIET word
+abbrev pub cleared : KeeperView → KeeperView
+cleared u = record u { out = slice_set u.out (held_by u.held).guest false; held = None }
+
+pub record Clears (k : Key) (s : Step (Unit {0})) (old : Seated) (found : ℕ) (new : Seated) : Type 0 where
+  pub is : new ≡ (Keeper (cleared (keeper_of old.0)), old.1)
+  pub agrees : AgreesWith k (keeper_of old.0).entries (keeper_of old.0).refusals (held_by (keeper_of old.0).held).sight
+
+-- ---- seats that come and go
+
+-- the pass that is held gets a seat
+abbrev pub left_view : View → View
+left_view (Keeper u) = Keeper (record u { held = None })
+left_view (Pass p) = Pass p
+left_view Spent = Spent
+
+abbrev pub seat_view : View → View
+seat_view (Keeper u) = Pass (held_by u.held)
+seat_view (Pass p) = Spent
+seat_view Spent = Spent
+
+-- a pass gives up its seat, and is held
+abbrev pub returned_view : View → View → View
+returned_view (Keeper u) (Pass p) = Keeper (record u { held = Some p })
+returned_view (Keeper u) (Keeper v) = Keeper u
+returned_view (Keeper u) Spent = Keeper u
+returned_view (Pass p) other = Pass p
+returned_view Spent other = Spent

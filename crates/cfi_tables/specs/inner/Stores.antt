@@ -1,26 +1,53 @@
--- The stores of an update, as far as they have come.
-use Rattle.std.specs.Prelude.{◌≡◌, ℕ, ◌+◌, ◌-◌, ◌≤◌, List, [], length}
+-- The steps of an update, as far as they have come.
+use Rattle.std.specs.Prelude.{◌≡◌, ℕ, zero, suc, ◌+◌, ◌-◌, ◌≤◌, ◌<◌, nat_lt, if◌then◌else◌, List, [], length, Some}
 use Rattle.atomic_table.specs.Seated.{TableId}
-use Rattle.cfi_word.specs.declared.limits.TheConstants.{MAX_EPOCH}
+use Rattle.cfi_word.specs.declared.limits.TheConstants.{GUESTS, MAX_EPOCH}
+use Rattle.cfi_word.specs.Table.{Place, IsPlace}
 use Rattle.cfi_model.specs.declared.history.Entry.{Entry}
-use Rattle.cfi_model.specs.Tables.{IsUpdate}
-use Rattle.cfi_model.specs.Words.{next_epoch}
+use Rattle.cfi_model.specs.Tables.{IsTables, IsUpdate}
+use Rattle.cfi_model.specs.Words.{before, newest, next_epoch, rank_at, word_of_entry}
 use Rattle.cfi_tables.specs.Key.{Key}
-use Rattle.cfi_tables.specs.Views.{idle_tables, last_of}
+use Rattle.cfi_tables.specs.Keeping.{Keeping, grown_by, last_of}
+use Rattle.cfi_tables.specs.Rule.{HasStore}
+use Rattle.cfi_tables.specs.Views.{idle_tables, idle_view, keeper_of, keeping_of, tables_of, view_at}
 use Rattle.cfi_tables.specs.inner.Stamps.{Stamp}
 use Rattle.cfi_tables.specs.inner.Steps.{Seated}
 use Rattle.cfi_tables.specs.declared.view.KeeperView.{KeeperView}
 use Rattle.cfi_tables.specs.declared.view.View.TheVariants.{Keeper}
-
--- a keeper's view: these entries, and so many stores of the update to the last one
-abbrev pub view_at : List Entry → (stored : ℕ) → KeeperView
-view_at entries stored = record { entries = entries; stored = stored }
 
 -- the keeper's seat is at the table, and has this view
 pub record IsAt (table at : TableId) (id : ℕ) (me : Seated) (u : KeeperView) : Type 0 where
   pub table_is : at ≡ table
   pub id_is : id ≡ 0
   pub me_is : me ≡ (Keeper u, [])
+
+-- what the keeper keeps, of its seat
+abbrev pub keeping_at : Seated → Keeping
+keeping_at me = keeping_of (keeper_of me.0)
+
+-- an update to the entry may be asked for: its epoch is one
+pub record IsReady (k : Key) (keeping : Keeping) (entry : Entry) : Type 0 where
+  pub tables : IsTables (idle_tables k keeping)
+  pub follows : IsUpdate k.code_words (last_of keeping.entries) entry
+  pub fits : next_epoch (idle_tables k keeping) ≤ MAX_EPOCH
+
+-- the view where so many QUIET words have passed the test of the update to the entry, and where all have
+abbrev pub asked_at : Key → Keeping → Entry → (tested : ℕ) → KeeperView
+asked_at k keeping entry zero = idle_view k keeping
+asked_at k keeping entry (suc more) = record (idle_view k keeping) { asked = Some entry; tested = suc more }
+
+abbrev pub testing : Key → Keeping → Entry → (tested : ℕ) → KeeperView
+testing k keeping entry tested =
+    if nat_lt tested GUESTS then asked_at k keeping entry tested else view_at (grown_by entry keeping) 0
+
+-- the stores of ranks below this were made, but for words that are the same in the newest entry and in the one before
+pub record Reaches (k : Key) (u : KeeperView) (rank : ℕ) : Type 0 where
+  pub same : u ≡ view_at (keeping_of u) u.stored
+  pub least : u.stored ≤ rank
+  pub skipped : (other : Place) → IsPlace k.code_words other → HasStore other
+      → u.stored ≤ rank_at k.code_words other → rank_at k.code_words other < rank
+      → word_of_entry (tables_of k u) (newest (tables_of k u)) other
+      ≡ word_of_entry (tables_of k u) (before (tables_of k u)) other
 
 -- what the table words of the last entry have in common
 abbrev pub stamp_of : Key → List Entry → Stamp
@@ -29,10 +56,3 @@ stamp_of k entries = record {
   policy = (last_of entries).policy;
   versions = k.versions;
 }
-
--- an update to the entry may begin: its epoch is one, and its code is the one in force
-pub record IsReady (k : Key) (entries : List Entry) (entry : Entry) : Type 0 where
-  pub follows : IsUpdate k.code_words (last_of entries) entry
-  pub some : 1 ≤ length entries
-  pub fits : next_epoch (idle_tables k entries) ≤ MAX_EPOCH
-  pub code : entry.image.code ≡ (last_of entries).image.code

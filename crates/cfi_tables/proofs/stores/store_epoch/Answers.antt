@@ -12,18 +12,20 @@ store-requires g c =
     let r = c.requires in (
       r.seat.table_is ∙ sym t.name,
       omega (arith, t.many),
-      next_allowed k (keeper_of c.args.seat.now.me.0).entries Epoch tt tt (2 * k.code_words) refl _ _ _ _ _ _ t.key
+      next_allowed k (keeper_of c.args.seat.now.me.0) Epoch tt tt (2 * k.code_words) refl r.reaches _ _ _ _ _ _ t.key
           r.seat.id_is r.seat.me_is refl (c.word-value.ensures ∙ ap (λ s. word_by s 0) r.stamp),
     )
 
-pub returns : goal.returns
-returns g c =
+pub returns-clause-reaches : goal.returns-clause-reaches
+returns-clause-reaches g c =
     let k = g.N.TableName.key in
     let r = c.requires in
-    let s = c.store.ensures in
-    record {
-      table_is = s.0 ∙ r.seat.table_is;
-      id_is = s.1 ∙ r.seat.id_is;
-      me_is = next_view k (keeper_of c.args.seat.now.me.0).entries Epoch tt tt (2 * k.code_words) refl
-          (2 * k.code_words + 1) refl 0 _ _ r.seat.me_is refl s.2;
-    }
+    (next_view k (keeper_of c.args.seat.now.me.0) Epoch tt tt (2 * k.code_words) refl r.reaches (2 * k.code_words + 1)
+    refl 0 _ _ r.seat.me_is refl c.store.ensures.2).reaches
+
+pub returns-clause-stored : goal.returns-clause-stored
+returns-clause-stored g c =
+    let k = g.N.TableName.key in
+    let r = c.requires in
+    (next_view k (keeper_of c.args.seat.now.me.0) Epoch tt tt (2 * k.code_words) refl r.reaches (2 * k.code_words + 1)
+    refl 0 _ _ r.seat.me_is refl c.store.ensures.2).stored

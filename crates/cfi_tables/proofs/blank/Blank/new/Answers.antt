@@ -4,7 +4,8 @@ use Rattle.cfi_word.specs.declared.lists.Image.{Image}
 use Rattle.cfi_tables.specs.Key.{key_by}
 use Rattle.cfi_tables.specs.inner.Opening.{opened_words}
 use Rattle.cfi_model.specs.Tables.{IsTables}
-use Rattle.cfi_tables.specs.Views.{idle_tables, opened_entries}
+use Rattle.cfi_tables.specs.Keeping.{opened_keeping}
+use Rattle.cfi_tables.specs.Views.{idle_tables}
 use Rattle.cfi_model.proofs.TableLemmas.{opened_are}
 use Rattle.cfi_tables.proofs.OpeningLemmas.{opening_kept}
 use Rattle.cfi_tables.proofs.blank.Blank.new.Goals as goal
@@ -18,7 +19,7 @@ of_words-requires c =
     let is = opened_are a.layout a.versions a.first a.image.now size c.requires.least c.requires.most c.requires.first
     c.requires.closed in
     let key = λ (image : Image). key_by a.layout a.versions a.first image in
-    let tables = subst (λ image. IsTables (idle_tables (key image) (opened_entries (key image)))) (sym same) is in
+    let tables = subst (λ image. IsTables (idle_tables (key image) (opened_keeping (key image)))) (sym same) is in
     let words = c.as_slice.ensures.value ∙ (c.in_ok-words.ensures
     ∙ (ap (λ s. opened_words s a.image.now) c.new-stamp.ensures
     ∙ ap (λ i. opened_words (record { epoch = a.first; policy = 0; versions = a.versions }) i) (sym same))) in

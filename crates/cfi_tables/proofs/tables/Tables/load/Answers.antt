@@ -6,7 +6,7 @@ use Rattle.cfi_tables.specs.inner.Steps.{Seated}
 use Rattle.cfi_tables.specs.declared.view.View.TheVariants.{Pass}
 use Rattle.cfi_tables.proofs.AddressLemmas.{is_answered}
 use Rattle.cfi_tables.proofs.PlaceLemmas.{place_within}
-use Rattle.cfi_tables.proofs.StepLemmas.{load_allowed}
+use Rattle.cfi_tables.proofs.PassLemmas.{load_allowed}
 use Rattle.cfi_tables.proofs.tables.Tables.load.Goals as goal
 
 -- the word of the address's place may be loaded
@@ -36,6 +36,7 @@ invariant_of-pass g c =
       table_is = c.load.ensures.0 ∙ i.table_is;
       me_is = c.load.ensures.2.same ∙ ap (λ (z : Seated). (Pass (pass_of c.load.new.seat.me.0), z.1)) i.me_is;
       guest_is = i.guest_is ∙ sym load.guest;
+      within = i.within;
     }
 
 pub returns : goal.returns

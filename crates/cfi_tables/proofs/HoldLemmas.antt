@@ -1,0 +1,292 @@
+-- The steps by which the keeper holds a pass, and lets go of it.
+use Rattle.std.proofs.Common.{◌≡◌, ◌≢◌, inl, inr, ℕ, ◌+◌, ◌-◌, ◌<◌, Bool, true, false, List, [], length, length-set, slice_index, slice_set, Option, Some, None, refl, sym, ap, subst, ◌∙◌, arith}
+use Rattle.std.proofs.lemmas.List.{get_or-set_other, get_or-set_same, set-get_or}
+use mathlib.Core.Logic.{dite}
+use mathlib.Core.Option.{none}
+use native.Mathlib.Decide.{ℕ_discrete}
+use Rattle.atomic_table.specs.Table.{Allows, step}
+use Rattle.cfi_word.specs.declared.limits.TheConstants.{GUESTS}
+use Rattle.cfi_word.specs.Rank.{stores_of}
+use Rattle.cfi_word.specs.Table.{quiet_word, word_count}
+use Rattle.cfi_model.specs.declared.history.Access.{Access}
+use Rattle.cfi_model.specs.Tables.{IsTables}
+use Rattle.cfi_model.specs.Words.{epoch_in_force}
+use Rattle.cfi_model.proofs.TableLemmas.{force_epoch}
+use Rattle.cfi_tables.specs.Key.{Key}
+use Rattle.cfi_tables.specs.Keeping.{is_out}
+use Rattle.cfi_tables.specs.Rule.{AgreesWith, HeldFits, IsElse, IsHeld, IsKept, IsRegistered, IsSeen, ShowQuiets, ShowTables, TellsForce}
+use Rattle.cfi_tables.specs.Views.{admitted, held_by, keeper_of, keeping_of, noted, sight_of, tables_of}
+use Rattle.cfi_tables.specs.inner.Steps.{Clears, Registers, Seated, Tells, cleared, registered, told}
+use Rattle.cfi_tables.specs.declared.view.KeeperView.{KeeperView}
+use Rattle.cfi_tables.specs.declared.view.PassView.{PassView}
+use Rattle.cfi_tables.specs.declared.view.View.TheVariants.{Keeper}
+use Rattle.cfi_tables.proofs.Prefixes.{prefix_same}
+use Rattle.cfi_tables.proofs.TablesLemmas.{force_newest}
+use Rattle.cfi_tables.proofs.KeptLemmas.{IsNext}
+use Rattle.cfi_tables.proofs.StepLemmas.{keeper_moves}
+use Rattle.cfi_tables.proofs.PassLemmas.{quiet_else, quiet_here, quiet_shows}
+
+-- ---- which passes are out
+
+no_both : (b : Bool) → b ≡ false → b ≡ true → ⊥
+no_both b e f = absurd (cc)
+
+out_here : (out : List Bool) (guest : ℕ) (b : Bool) → guest < length out → is_out (slice_set out guest b) guest ≡ b
+out_here out guest b inside = get_or-set_same out guest b false inside
+
+out_else : (out : List Bool) (guest other : ℕ) (b : Bool) → other ≢ guest
+    → is_out (slice_set out guest b) other ≡ is_out out other
+out_else out guest other b apart = get_or-set_other out guest other b false apart
+
+-- what is known of a pass does not lie in who is out, nor in which pass is held
+pub registered_same : (k : Key) (u : KeeperView) (out : List Bool) (held : Option PassView) (p : PassView)
+    → IsRegistered k u p → is_out out p.guest ≡ true → IsRegistered k (record u { out = out; held = held }) p
+registered_same k u out held p r is = record {
+  seen = record { agrees = r.seen.agrees; least = r.seen.least; latest = r.seen.latest };
+  within = r.within;
+  out = is;
+  published = r.published;
+  kept = r.kept;
+  newest = r.newest;
+  next = r.next;
+}
+
+-- while no update is under way the last epoch is in force
+force_is : (k : Key) (u : KeeperView) → IsTables (tables_of k u) → u.stored ≡ stores_of k.code_words
+    → epoch_in_force (tables_of k u) ≡ k.first + (length u.entries - 1)
+force_is k u is idle = force_epoch (tables_of k u) is ∙ ap (λ n. k.first + n) (force_newest (tables_of k u) idle)
+
+-- a pass of these accesses that has seen all
+all_seen : (k : Key) (u : KeeperView) → IsTables (tables_of k u) → u.stored ≡ stores_of k.code_words
+    → (accesses : List Access) (p : PassView) → p.sight.accesses ≡ accesses → IsSeen k u p.sight
+    → IsSeen k u (sight_of k (keeping_of u) accesses)
+all_seen k u is idle accesses p same seen = subst (λ l. IsSeen k u (sight_of k (keeping_of u) l)) same (record {
+  agrees = record {
+    begins = prefix_same u.entries;
+    refused = prefix_same u.refusals;
+    accesses = seen.agrees.accesses;
+    fair = seen.agrees.fair;
+  };
+  least = omega arith;
+  latest = omega (arith, force_is k u is idle);
+})
+
+-- the QUIET words after a store of one, where one more or one fewer is out
+quiets_set : (k : Key) (words : List ℕ) (u : KeeperView) (guest word : ℕ) (b : Bool) (held : Option PassView)
+    → guest < GUESTS → length words ≡ word_count k.code_words → ShowQuiets k words u → (b ≡ false → word ≡ 0)
+    → TellsForce k u word
+    → ShowQuiets k (slice_set words (quiet_word guest) word) (record u { out = slice_set u.out guest b; held = held })
+quiets_set k words u guest word b held few many quiets zeroth tells = record {
+  out_many = length-set u.out guest b ∙ quiets.out_many;
+  away = λ other inside free. dite (ℕ_discrete other guest)
+      (λ same. ap (λ g. slice_index (slice_set words (quiet_word guest) word) (quiet_word g)) same
+      ∙ (quiet_here k words u guest word few many
+      ∙ zeroth (sym (out_here u.out guest b (omega (arith, few, quiets.out_many)))
+      ∙ (ap (is_out (slice_set u.out guest b)) (sym same) ∙ free))))
+      (λ apart. quiet_else k words u guest word few many other apart
+      ∙ quiets.away other inside (sym (out_else u.out guest other b apart) ∙ free));
+  tells = λ other inside. dite (ℕ_discrete other guest)
+      (λ same. subst (TellsForce k u)
+      (sym (ap (λ g. slice_index (slice_set words (quiet_word guest) word) (quiet_word g)) same
+      ∙ quiet_here k words u guest word few many)) tells)
+      (λ apart. subst (TellsForce k u) (sym (quiet_else k words u guest word few many other apart))
+      (quiets.tells other inside));
+}
+
+module _ (k : Key) (words : List ℕ) (u : KeeperView) (is : IsTables (tables_of k u))
+    (many : length words ≡ word_count k.code_words) (shows : ShowTables k words u) (quiets : ShowQuiets k words u)
+    (idle : u.stored ≡ stores_of k.code_words) where
+  -- ---- a guest is registered
+
+  module _ (untested : u.tested ≡ 0) (guest word : ℕ) (few : guest < GUESTS) (free : is_out u.out guest ≡ false)
+      (word_is : word ≡ k.first + length u.entries) where
+    abbrev pass : PassView
+    pass = admitted k (keeping_of u) guest
+
+    abbrev after : List ℕ
+    after = slice_set words (quiet_word guest) word
+
+    pass_registered : IsRegistered k (registered k guest u) pass
+    pass_registered = record {
+      seen = record {
+        agrees = record {
+          begins = prefix_same u.entries;
+          refused = prefix_same u.refusals;
+          accesses = λ number access at. absurd (cc);
+          fair = tt;
+        };
+        least = omega arith;
+        latest = omega (arith, force_is k u is idle);
+      };
+      within = few;
+      out = out_here u.out guest true (omega (arith, few, quiets.out_many));
+      published = omega arith;
+      kept = λ found e. absurd (cc);
+      newest = omega (arith, is.some, is.versions_least);
+      next = λ tested. absurd (omega (arith, tested, untested));
+    }
+
+    others_apart : (p : PassView) → IsRegistered k u p → p.guest ≢ guest
+    others_apart p r same = no_both (is_out u.out guest) free (ap (is_out u.out) (sym same) ∙ r.out)
+
+    pub register_next : IsNext k words u after (registered k guest u)
+    register_next = record {
+      tables = is;
+      many = length-set words (quiet_word guest) word ∙ many;
+      shows = quiet_shows k words u guest word few many shows;
+      quiets = quiets_set k words u guest word true (Some pass) few many quiets (λ e. absurd (cc)) (inr (
+        omega (arith, word_is, is.some),
+        omega (arith, word_is, is.some, force_is k u is idle),
+      ));
+      held = record {
+        registered = pass_registered;
+        published = quiet_here k words u guest word few many ∙ omega (arith, word_is, is.some);
+      };
+      each = λ p o. (let apart = others_apart p o.registered in record {
+        registered = registered_same k u (slice_set u.out guest true) (Some pass) p o.registered
+            (out_else u.out guest p.guest true apart ∙ o.registered.out);
+        published = quiet_else k words u guest word few many p.guest apart ∙ o.published;
+        apart = λ e. apart (sym e);
+      });
+    }
+
+  -- ---- the pass that is held
+
+  module _ (p : PassView) (held : IsHeld k words u p) (is_held : u.held ≡ Some p) where
+    apart_of : (guest : ℕ) → IsElse u.held guest → p.guest ≢ guest
+    apart_of guest else = subst (λ h. IsElse h guest) is_held else
+
+    -- it is told all
+    told_registered : IsRegistered k (record u { held = Some (noted k (keeping_of u) p) }) (noted k (keeping_of u) p)
+    told_registered =
+        let r = held.registered in
+        let force = force_is k u is idle in
+        let seen = all_seen k u is idle p.sight.accesses p refl r.seen in
+        record {
+          seen = record { agrees = seen.agrees; least = seen.least; latest = seen.latest };
+          within = r.within;
+          out = r.out;
+          published = omega (arith, r.published, r.seen.latest, force);
+          kept = λ word e. (let kept = r.kept word e in
+              record { least = kept.least; most = omega (arith, kept.most, r.seen.latest, force) });
+          newest = r.newest;
+          next = r.next;
+        }
+
+    pub tell_next : IsNext k words u words (record u { held = Some (noted k (keeping_of u) p) })
+    tell_next = record {
+      tables = is;
+      many = many;
+      shows = shows;
+      quiets = record { out_many = quiets.out_many; away = quiets.away; tells = quiets.tells };
+      held = record { registered = told_registered; published = held.published };
+      each = λ q o. record {
+        registered = registered_same k u u.out (Some (noted k (keeping_of u) p)) q o.registered o.registered.out;
+        published = o.published;
+        apart = apart_of q.guest o.apart;
+      };
+    }
+
+    -- it is let go
+    pub clear_next : IsNext k words u (slice_set words (quiet_word p.guest) 0)
+        (record u { out = slice_set u.out p.guest false; held = None })
+    clear_next =
+        let few = held.registered.within in
+        record {
+          tables = is;
+          many = length-set words (quiet_word p.guest) 0 ∙ many;
+          shows = quiet_shows k words u p.guest 0 few many shows;
+          quiets = quiets_set k words u p.guest 0 false None few many quiets (λ e. refl) (inl refl);
+          held = tt;
+          each = λ q o. (let apart : q.guest ≢ p.guest = λ e. apart_of q.guest o.apart (sym e) in record {
+            registered = registered_same k u (slice_set u.out p.guest false) None q o.registered
+                (out_else u.out p.guest q.guest false apart ∙ o.registered.out);
+            published = quiet_else k words u p.guest 0 few many q.guest apart ∙ o.published;
+            apart = tt;
+          });
+        }
+
+-- ---- the steps at the keeper's seat
+
+back : (guest : ℕ) → quiet_word guest - 1 ≡ guest
+back guest = omega arith
+
+pub register_allowed : (k key : Key) (slots id i word guest : ℕ) (me : Seated) (u : KeeperView) → key ≡ k → id ≡ 0
+    → me ≡ (Keeper u, []) → u.stored ≡ stores_of k.code_words → u.tested ≡ 0 → guest < GUESTS
+    → is_out u.out guest ≡ false → i ≡ quiet_word guest → word ≡ k.first + length u.entries
+    → Allows (IsKept key) slots id me i (λ _. word) (λ _. Registers k (step slots i word 0 none) me word)
+register_allowed k key slots id i word guest me u same zeroth is idle untested few free word_at word_is =
+    subst (λ j. Allows (IsKept key) slots id me j (λ _. word) (λ _. Registers k (step slots j word 0 none) me word))
+    (sym word_at)
+    (keeper_moves k key slots id (quiet_word guest) (λ _. word) me u
+    (λ _. Registers k (step slots (quiet_word guest) word 0 none) me word) same zeroth is
+    (λ s r e. (
+      registered k guest u,
+      subst (λ v. IsNext k s.words v (slice_set s.words (quiet_word guest) word) (registered k guest u)) (sym e)
+          (register_next k s.words u (subst (λ v. IsTables (tables_of k v)) e r.tables) r.many
+          (subst (ShowTables k s.words) e r.shows) (subst (ShowQuiets k s.words) e r.quiets) idle untested guest word
+          few free word_is),
+      ap (λ g. (Keeper (registered k g u), [])) (sym (back guest))
+          ∙ sym (ap (λ (z : Seated). (Keeper (registered k (quiet_word guest - 1) (keeper_of z.0)), z.1)) is),
+    )))
+
+-- a fact of the pass that the keeper holds
+held_at : (k : Key) (words : List ℕ) (u v : KeeperView) (p : PassView) → v ≡ u → u.held ≡ Some p
+    → HeldFits k words v v.held → IsHeld k words u p
+held_at k words u v p same is fits =
+    subst (HeldFits k words u) is (subst (λ z. HeldFits k words z z.held) same fits)
+
+pub tell_allowed : (k key : Key) (slots id : ℕ) (me : Seated) (u : KeeperView) (p : PassView) → key ≡ k → id ≡ 0
+    → me ≡ (Keeper u, []) → u.stored ≡ stores_of k.code_words → u.held ≡ Some p
+    → Allows (IsKept key) slots id me 0 (λ n. n) (Tells k (step slots 0 0 0 none) me)
+tell_allowed k key slots id me u p same zeroth is idle is_held =
+    keeper_moves k key slots id 0 (λ n. n) me u (Tells k (step slots 0 0 0 none) me) same zeroth is
+    (λ s r e.
+    (let held = held_at k s.words u r.keeper p e is_held r.held in
+    let next = tell_next k s.words u (subst (λ v. IsTables (tables_of k v)) e r.tables) r.many
+    (subst (ShowTables k s.words) e r.shows) (subst (ShowQuiets k s.words) e r.quiets) idle p held is_held in (
+      told k u,
+      subst (λ v. IsNext k s.words v (slice_set s.words 0 (slice_index s.words 0)) (told k u)) (sym e)
+          (subst (λ words. IsNext k s.words u words (told k u)) (sym (set-get_or s.words 0 0))
+          (subst (λ h. IsNext k s.words u s.words (record u { held = Some (noted k (keeping_of u) (held_by h)) }))
+          (sym is_held) next)),
+      record {
+        is = sym (ap (λ (z : Seated). (Keeper (told k (keeper_of z.0)), z.1)) is);
+        agrees = subst (λ (z : Seated). AgreesWith k (keeper_of z.0).entries (keeper_of z.0).refusals
+            (held_by (keeper_of z.0).held).sight) (sym is)
+            (subst (λ h. AgreesWith k u.entries u.refusals (held_by h).sight) (sym is_held)
+            held.registered.seen.agrees);
+      },
+    )))
+
+pub clear_allowed : (k key : Key) (slots id i : ℕ) (me : Seated) (u : KeeperView) (p : PassView) → key ≡ k → id ≡ 0
+    → me ≡ (Keeper u, []) → u.stored ≡ stores_of k.code_words → u.held ≡ Some p → i ≡ quiet_word p.guest
+    → Allows (IsKept key) slots id me i (λ _. 0) (λ _. Clears k (step slots i 0 0 none) me 0)
+clear_allowed k key slots id i me u p same zeroth is idle is_held word_at =
+    subst (λ j. Allows (IsKept key) slots id me j (λ _. 0) (λ _. Clears k (step slots j 0 0 none) me 0)) (sym word_at)
+    (keeper_moves k key slots id (quiet_word p.guest) (λ _. 0) me u
+    (λ _. Clears k (step slots (quiet_word p.guest) 0 0 none) me 0) same zeroth is
+    (λ s r e.
+    (let held = held_at k s.words u r.keeper p e is_held r.held in
+    let next = clear_next k s.words u (subst (λ v. IsTables (tables_of k v)) e r.tables) r.many
+    (subst (ShowTables k s.words) e r.shows) (subst (ShowQuiets k s.words) e r.quiets) idle p held is_held in (
+      cleared u,
+      subst (λ v. IsNext k s.words v (slice_set s.words (quiet_word p.guest) 0) (cleared u)) (sym e)
+          (subst (λ h. IsNext k s.words u (slice_set s.words (quiet_word p.guest) 0)
+          (record u { out = slice_set u.out (held_by h).guest false; held = None })) (sym is_held) next),
+      record {
+        is = sym (ap (λ (z : Seated). (Keeper (cleared (keeper_of z.0)), z.1)) is);
+        agrees = subst (λ (z : Seated). AgreesWith k (keeper_of z.0).entries (keeper_of z.0).refusals
+            (held_by (keeper_of z.0).held).sight) (sym is)
+            (subst (λ h. AgreesWith k u.entries u.refusals (held_by h).sight) (sym is_held)
+            held.registered.seen.agrees);
+      },
+    ))))
+
+-- the views after these steps
+pub registered_view : (k : Key) (i guest : ℕ) (me new : Seated) (u : KeeperView) → me ≡ (Keeper u, [])
+    → i ≡ quiet_word guest → new ≡ (Keeper (registered k (i - 1) (keeper_of me.0)), me.1)
+    → new ≡ (Keeper (registered k guest u), [])
+registered_view k i guest me new u is word_at goes =
+    goes ∙ (ap (λ (z : Seated). (Keeper (registered k (i - 1) (keeper_of z.0)), z.1)) is
+    ∙ ap (λ g. (Keeper (registered k g u), [])) (ap (λ n. n - 1) word_at ∙ back guest))
