@@ -4,7 +4,8 @@ use Rattle.std.proofs.lemmas.Bool.Decides.{nat_tests}
 use Rattle.cfi_word.specs.Table.{Place, Epoch, Quiet, Code, Tary, Bary, IsPlace, IsTary, word_number}
 use Rattle.cfi_model.specs.declared.history.Access.{Access}
 use Rattle.cfi_model.specs.History.{History, IsFair}
-use Rattle.cfi_tables.specs.Fair.{AreFair, history_at, kept_after, kept_by, kept_of}
+use Rattle.cfi_model.specs.Accesses.{AreFair, kept_after, kept_by}
+use Rattle.cfi_tables.specs.Fair.{history_at, kept_of}
 use Rattle.cfi_tables.specs.Key.{Key}
 use Rattle.cfi_tables.specs.Loads.{IsFairAt, TellsEpoch, access_of}
 

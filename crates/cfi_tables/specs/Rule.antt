@@ -13,7 +13,8 @@ use Rattle.cfi_model.specs.declared.history.Entry.{Entry}
 use Rattle.cfi_model.specs.declared.history.Refusal.{Refusal}
 use Rattle.cfi_model.specs.Tables.{IsTables}
 use Rattle.cfi_model.specs.Words.{epoch_in_force, next_epoch, word_at}
-use Rattle.cfi_tables.specs.Fair.{AreFair, history_at, kept_of}
+use Rattle.cfi_model.specs.Accesses.{AreFair}
+use Rattle.cfi_tables.specs.Fair.{history_at, kept_of}
 use Rattle.cfi_tables.specs.Key.{Key}
 use Rattle.cfi_tables.specs.Keeping.{is_out}
 use Rattle.cfi_tables.specs.Views.{tables_of}
