@@ -1,4 +1,4 @@
--- The loads of a pass, which are fair: where a Tary word has the version of the Bary word that is kept, it has its epoch.
+-- The loads of a pass are fair: a Tary word with the version of the Bary word that is kept has its epoch.
 use Rattle.std.specs.Prelude.{ℕ, Option, None, List}
 use Rattle.cfi_model.specs.declared.history.Access.{Access}
 use Rattle.cfi_model.specs.Accesses.{kept_after}
