@@ -1,5 +1,5 @@
 -- The file that puts one `H` is a module at its place, which verifies.
-use Rattle.std.proofs.Common.{◌≡◌, ℕ, zero, suc, pos, false, List, [], ◌∷◌, length, inl, refl, ap, subst, arith}
+use Rattle.std.proofs.Common.{◌≡◌, ℕ, pos, false, List, [], ◌∷◌, length, inl, refl, ap, arith}
 use Rattle.std.specs.Prelude.{codes}
 use Rattle.std.specs.List.{Contains, AllByRecursion}
 use Rattle.rv_insn.specs.declared.insn.Insn.TheVariants.{OpImm}
@@ -23,6 +23,7 @@ use Rattle.cfi_verify.specs.Faults.{IsVerified}
 use Rattle.cfi_bare.specs.Module.{bare_types, IsPlacedFile}
 use Rattle.cfi_bare.specs.Runnable.{IsWhole}
 use Rattle.cfi_valid.specs.Example.{hello_bytes}
+use Rattle.cfi_valid.proofs.EachLemmas.{each_none, each_one, each_of}
 use Rattle.cfi_word.specs.declared.map.TheConstants.{FIRST_BASE, DATA_START}
 
 -- ---- its words, its units and its function
@@ -137,23 +138,6 @@ is_placed = record {
 
 abbrev spots : List Spot
 spots = spots_of 0 units
-
--- no item of no list, the one of a list of one, and each of a list
-pub each_none : {T : Type 0} (P : ℕ → T → Type 0) → Each [] P
-each_none P = λ k x is. absurd (cc)
-
-pub each_one : {T : Type 0} (x : T) (P : ℕ → T → Type 0) → P 0 x → Each (x ∷ []) P
-each_one {T} x P here zero y is =
-    let same : x ≡ y = cc in
-    subst (λ (z : T). P 0 z) same here
-each_one x P here (suc k) y is = absurd (cc)
-
-pub each_of : {T : Type 0} (Q : T → Type 0) (xs : List T) → AllByRecursion Q xs → Each xs (λ k x. Q x)
-each_of Q [] all k y is = absurd (cc)
-each_of Q (x ∷ xs) all zero y is =
-    let same : x ≡ y = cc in
-    subst Q same all.0
-each_of Q (x ∷ xs) all (suc k) y is = each_of Q xs all.1 k y is
 
 abbrev last : Spot
 last = record { at = 6; unit = stands_still }

@@ -16,6 +16,7 @@ pub mod LongerLemmas
 pub mod AnswerLemmas
 pub mod RunningLemmas
 pub mod LawLemmas
+pub mod EachLemmas
 pub mod ExampleCode
 pub mod ExampleLemmas
 pub mod ExampleReplay
@@ -24,3 +25,13 @@ pub mod LoadPolicy
 pub mod LoadJournal
 pub mod LoadReplay
 pub mod LoadLemmas
+pub mod TablePlaced
+pub mod TablePlaces
+pub mod LibVerified
+pub mod MainVerified
+pub mod TablePolicy
+pub mod TableJournal
+pub mod TableStates
+pub mod TableReplay
+pub mod TableEnd
+pub mod TableLemmas

@@ -30,7 +30,8 @@ use Rattle.cfi_verify.specs.Functions.{FitsBehind, may_be_last, IsLastIn, EndsWe
 use Rattle.cfi_verify.specs.Target.{MayLead, LeadsWell}
 use Rattle.cfi_verify.specs.Faults.{IsVerified}
 use Rattle.cfi_valid.specs.LoadExample.{opener_bytes, opener, plug_bytes, plug}
-use Rattle.cfi_valid.proofs.ExampleLemmas.{sets, stands_still, each_one, each_of}
+use Rattle.cfi_valid.proofs.EachLemmas.{each_one, each_of}
+use Rattle.cfi_valid.proofs.ExampleLemmas.{sets, stands_still}
 use Rattle.cfi_word.specs.declared.limits.TheConstants.{MIN_CODE_WORDS}
 use Rattle.cfi_word.specs.declared.map.TheConstants.{FIRST_BASE, DATA_START}
 

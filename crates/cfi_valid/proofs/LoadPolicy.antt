@@ -21,7 +21,7 @@ each_same : {X : Type 0} (R : X → X → Type 0) → ((x : X) → R x x) → (x
 each_same R same [] = tt
 each_same R same (x ∷ xs) = (same x, each_same R same xs)
 
-type_same : (depth : ℕ) (xs : List Node) (a : ℕ) → Same depth xs a xs a
+pub type_same : (depth : ℕ) (xs : List Node) (a : ℕ) → Same depth xs a xs a
 type_same zero xs a = tt
 type_same (suc depth) xs a =
     (refl, refl, each_same (λ c d. Same depth xs c xs d) (type_same depth xs) (nodes_of (node_of xs a)))

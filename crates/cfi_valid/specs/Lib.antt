@@ -16,3 +16,4 @@ pub mod Running
 pub mod FromLaw
 pub mod Example
 pub mod LoadExample
+pub mod TableExample

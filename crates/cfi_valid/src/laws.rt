@@ -18,6 +18,7 @@ ghost use Rattle.cfi_word.specs.Table.{IsSize};
 ghost use Rattle.cfi_valid.specs.LoadExample.{opener, plug, load_plan, load_report};
 ghost use Rattle.cfi_valid.specs.Policies.{ImagesArePolicies};
 ghost use Rattle.cfi_valid.specs.Running.{ReplayGoesOn};
+ghost use Rattle.cfi_valid.specs.TableExample.{lib_module, main_module, plug_module, table_plan, table_report};
 ghost use Rattle.cfi_valid.specs.Valid.{IsValidReport};
 
 /// A journal leads to one state.
@@ -101,4 +102,13 @@ pub fn more_output_is_not_valid()
 pub fn some_report_of_a_load_is_valid()
     ensures valid { IsValidReport load_plan (opener ∷ plug ∷ []) (load_report 1) }
     ensures epoch { (epoch : ℕ) → IsValidReport load_plan (opener ∷ plug ∷ []) (load_report epoch) → epoch ≡ 1 }
+{}
+
+/// The report of a run of three modules, with tables in data, relocations, cases, tail calls and a load, is valid, and
+/// with one byte of output more it is not.
+pub fn some_report_with_tables_is_valid()
+    ensures valid { IsValidReport table_plan (lib_module ∷ main_module ∷ plug_module ∷ [])
+        (table_report (10 ∷ 66 ∷ 67 ∷ [])) }
+    ensures more { (byte : ℕ) → ¬ IsValidReport table_plan (lib_module ∷ main_module ∷ plug_module ∷ [])
+        (table_report (10 ∷ 66 ∷ 67 ∷ byte ∷ [])) }
 {}

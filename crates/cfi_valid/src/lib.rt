@@ -5,8 +5,9 @@
 //! machine, `cfi_plan` and `cfi_report` for what a plan and a report say, and `cfi_bare` for the module of the
 //! example; nothing calls it yet. Proved, as laws: a journal leads to one state; valid reports of one journal agree
 //! in all that a guest's log tells; what was logged stays true while the journal goes on; a replay goes on unit by
-//! unit; the classes of an image are its policy; the report of a bare file is valid, and with a byte of output more
-//! it is not. Only tested: nothing. Open: a call that decides whether a report is valid.
+//! unit; the classes of an image are its policy; the reports of a bare file, of a load, and of three modules with
+//! tables in their data are valid, and with a byte of output more the first and the last are not. Only tested:
+//! nothing. Open: a call that decides whether a report is valid.
 #![tactic(auto)]
 
 mod causes;
