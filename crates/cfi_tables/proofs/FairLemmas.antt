@@ -1,4 +1,5 @@
 -- Fair loads, one more at the end.
+use Rattle.cfi_tables.specs.Rule.{HasStore}
 use Rattle.std.proofs.Common.{◌≡◌, ℕ, ◌<◌, Option, Some, None, List, [], ◌∷◌, ◌++◌, refl, ◌∙◌, arith}
 use Rattle.std.proofs.lemmas.Bool.Decides.{nat_tests}
 use Rattle.cfi_word.specs.Table.{Place, Epoch, Quiet, Code, Tary, Bary, IsPlace, IsTary, word_number}
@@ -7,7 +8,7 @@ use Rattle.cfi_model.specs.History.{History, IsFair}
 use Rattle.cfi_model.specs.Accesses.{AreFair, kept_after, kept_by}
 use Rattle.cfi_tables.specs.Fair.{history_at, kept_of}
 use Rattle.cfi_tables.specs.Key.{Key}
-use Rattle.cfi_tables.specs.Loads.{IsFairAt, TellsEpoch, access_of}
+use Rattle.cfi_tables.specs.Loads.{IsFairAt, access_of}
 
 -- the Bary word that is kept after the load of a place
 abbrev pub kept_at : Place → (kept : Option ℕ) → (found : ℕ) → Option ℕ
@@ -23,13 +24,16 @@ after_tary kept c index found inside = grind (arith, nat_tests)
 after_bary : (kept : Option ℕ) (c slot found : ℕ) → kept_by c kept (access_of c (Bary slot) found) ≡ Some found
 after_bary kept c slot found = grind (arith, nat_tests)
 
-after_load : (c : ℕ) (kept : Option ℕ) (place : Place) (found : ℕ) → IsPlace c place → TellsEpoch place
+after_code : (kept : Option ℕ) (c index found : ℕ) → index < c → kept_by c kept (access_of c (Code index) found) ≡ kept
+after_code kept c index found inside = grind (arith, nat_tests)
+
+after_load : (c : ℕ) (kept : Option ℕ) (place : Place) (found : ℕ) → IsPlace c place → HasStore place
     → kept_by c kept (access_of c place found) ≡ kept_at place kept found
-after_load c kept Epoch found at tells = refl
-after_load c kept (Tary index) found at tells = after_tary kept c index found at
-after_load c kept (Bary slot) found at tells = after_bary kept c slot found
-after_load c kept (Code index) found at tells = absurd tells
-after_load c kept (Quiet guest) found at tells = absurd tells
+after_load c kept Epoch found at has = refl
+after_load c kept (Tary index) found at has = after_tary kept c index found at
+after_load c kept (Bary slot) found at has = after_bary kept c slot found
+after_load c kept (Code index) found at has = after_code kept c index found at
+after_load c kept (Quiet guest) found at has = absurd has
 
 after_snoc : (c : ℕ) (kept : Option ℕ) (accesses : List Access) (access : Access)
     → kept_after c kept (accesses ++ access ∷ []) ≡ kept_by c (kept_after c kept accesses) access
@@ -37,11 +41,11 @@ after_snoc c kept [] access = refl
 after_snoc c kept (first ∷ later) access = after_snoc c (kept_by c kept first) later access
 
 pub kept_snoc : (k : Key) (accesses : List Access) (place : Place) (found : ℕ) → IsPlace k.code_words place
-    → TellsEpoch place
+    → HasStore place
     → kept_of k (accesses ++ access_of k.code_words place found ∷ []) ≡ kept_at place (kept_of k accesses) found
-kept_snoc k accesses place found at tells =
+kept_snoc k accesses place found at has =
     after_snoc k.code_words None accesses (access_of k.code_words place found)
-    ∙ after_load k.code_words (kept_of k accesses) place found at tells
+    ∙ after_load k.code_words (kept_of k accesses) place found at has
 
 -- a place's word is fair where it is one of a Tary word
 pub fair_at : (k : Key) (kept : Option ℕ) (place : Place) (found : ℕ) → IsPlace k.code_words place

@@ -1,5 +1,6 @@
 -- The steps by which the keeper holds a pass, and lets go of it.
-use Rattle.std.proofs.Common.{◌≡◌, ◌≢◌, inl, inr, ℕ, ◌+◌, ◌-◌, ◌<◌, Bool, true, false, List, [], length, length-set, slice_index, slice_set, Option, Some, None, refl, sym, ap, subst, ◌∙◌, arith}
+use Rattle.std.proofs.lemmas.Bool.{lt-ltb}
+use Rattle.std.proofs.Common.{◌≡◌, ◌≢◌, inl, inr, ℕ, ◌+◌, ◌-◌, ◌<◌, Bool, true, false, List, [], length, length-set, slice_index, slice_set, Option, Some, None, refl, sym, ap, subst, ◌∙◌, arith, cond}
 use Rattle.std.proofs.lemmas.List.{get_or-set_other, get_or-set_same, set-get_or}
 use mathlib.Core.Logic.{dite}
 use mathlib.Core.Option.{none}
@@ -7,14 +8,14 @@ use native.Mathlib.Decide.{ℕ_discrete}
 use Rattle.atomic_table.specs.Table.{Allows, step}
 use Rattle.cfi_word.specs.declared.limits.TheConstants.{GUESTS}
 use Rattle.cfi_word.specs.Rank.{stores_of}
-use Rattle.cfi_word.specs.Table.{quiet_word, word_count}
+use Rattle.cfi_word.specs.Table.{quiet_word, word_count, Code}
 use Rattle.cfi_model.specs.declared.history.Access.{Access}
 use Rattle.cfi_model.specs.Tables.{IsTables}
-use Rattle.cfi_model.specs.Words.{epoch_in_force}
+use Rattle.cfi_model.specs.Words.{epoch_in_force, number_at}
 use Rattle.cfi_model.proofs.TableLemmas.{force_epoch}
 use Rattle.cfi_tables.specs.Key.{Key}
 use Rattle.cfi_tables.specs.Keeping.{is_out}
-use Rattle.cfi_tables.specs.Rule.{AgreesWith, HeldFits, IsElse, IsHeld, IsKept, IsRegistered, IsSeen, ShowQuiets, ShowTables, TellsForce}
+use Rattle.cfi_tables.specs.Rule.{AgreesWith, HeldFits, IsElse, IsHeld, IsKept, IsRegistered, IsSeen, ShowQuiets, ShowTables, TellsForce, CodeFits}
 use Rattle.cfi_tables.specs.Views.{admitted, held_by, keeper_of, keeping_of, noted, sight_of, tables_of}
 use Rattle.cfi_tables.specs.inner.Steps.{Clears, Registers, Seated, Tells, cleared, registered, told}
 use Rattle.cfi_tables.specs.declared.view.KeeperView.{KeeperView}
@@ -24,7 +25,7 @@ use Rattle.cfi_tables.proofs.Prefixes.{prefix_same}
 use Rattle.cfi_tables.proofs.TablesLemmas.{force_newest}
 use Rattle.cfi_tables.proofs.KeptLemmas.{IsNext}
 use Rattle.cfi_tables.proofs.StepLemmas.{keeper_moves}
-use Rattle.cfi_tables.proofs.PassLemmas.{quiet_else, quiet_here, quiet_shows}
+use Rattle.cfi_tables.proofs.PassLemmas.{quiet_else, quiet_here, quiet_shows, quiet_code}
 
 -- ---- which passes are out
 
@@ -42,7 +43,7 @@ out_else out guest other b apart = get_or-set_other out guest other b false apar
 pub registered_same : (k : Key) (u : KeeperView) (out : List Bool) (held : Option PassView) (p : PassView)
     → IsRegistered k u p → is_out out p.guest ≡ true → IsRegistered k (record u { out = out; held = held }) p
 registered_same k u out held p r is = record {
-  seen = record { agrees = r.seen.agrees; least = r.seen.least; latest = r.seen.latest };
+  seen = record { agrees = r.seen.agrees; least = r.seen.least; latest = r.seen.latest; code = r.seen.code };
   within = r.within;
   out = is;
   published = r.published;
@@ -55,6 +56,12 @@ registered_same k u out held p r is = record {
 force_is : (k : Key) (u : KeeperView) → IsTables (tables_of k u) → u.stored ≡ stores_of k.code_words
     → epoch_in_force (tables_of k u) ≡ k.first + (length u.entries - 1)
 force_is k u is idle = force_epoch (tables_of k u) is ∙ ap (λ n. k.first + n) (force_newest (tables_of k u) idle)
+
+-- and all code words are its own
+code_newest : (k : Key) (u : KeeperView) (index : ℕ) → index < k.code_words → u.stored ≡ stores_of k.code_words
+    → number_at (tables_of k u) (Code index) ≡ length u.entries - 1
+code_newest k u index inside idle =
+    ap (λ b. cond b (length u.entries - 1) (length u.entries - 2)) (lt-ltb _ _ (omega (arith, inside, idle)))
 
 -- a pass of these accesses that has seen all
 all_seen : (k : Key) (u : KeeperView) → IsTables (tables_of k u) → u.stored ≡ stores_of k.code_words
@@ -69,6 +76,7 @@ all_seen k u is idle accesses p same seen = subst (λ l. IsSeen k u (sight_of k 
   };
   least = omega arith;
   latest = omega (arith, force_is k u is idle);
+  code = λ index inside. omega (arith, code_newest k u index inside idle);
 })
 
 -- the QUIET words after a store of one, where one more or one fewer is out
@@ -95,7 +103,7 @@ quiets_set k words u guest word b held few many quiets zeroth tells = record {
 
 module _ (k : Key) (words : List ℕ) (u : KeeperView) (is : IsTables (tables_of k u))
     (many : length words ≡ word_count k.code_words) (shows : ShowTables k words u) (quiets : ShowQuiets k words u)
-    (idle : u.stored ≡ stores_of k.code_words) where
+    (code : CodeFits k words) (idle : u.stored ≡ stores_of k.code_words) where
   -- ---- a guest is registered
 
   module _ (untested : u.tested ≡ 0) (guest word : ℕ) (few : guest < GUESTS) (free : is_out u.out guest ≡ false)
@@ -117,6 +125,7 @@ module _ (k : Key) (words : List ℕ) (u : KeeperView) (is : IsTables (tables_of
         };
         least = omega arith;
         latest = omega (arith, force_is k u is idle);
+        code = λ index inside. omega (arith, code_newest k u index inside idle);
       };
       within = few;
       out = out_here u.out guest true (omega (arith, few, quiets.out_many));
@@ -134,6 +143,7 @@ module _ (k : Key) (words : List ℕ) (u : KeeperView) (is : IsTables (tables_of
       tables = is;
       many = length-set words (quiet_word guest) word ∙ many;
       shows = quiet_shows k words u guest word few many shows;
+      code = quiet_code k words u guest word few many code;
       quiets = quiets_set k words u guest word true (Some pass) few many quiets (λ e. absurd (cc)) (inr (
         omega (arith, word_is, is.some),
         omega (arith, word_is, is.some, force_is k u is idle),
@@ -163,7 +173,7 @@ module _ (k : Key) (words : List ℕ) (u : KeeperView) (is : IsTables (tables_of
         let force = force_is k u is idle in
         let seen = all_seen k u is idle p.sight.accesses p refl r.seen in
         record {
-          seen = record { agrees = seen.agrees; least = seen.least; latest = seen.latest };
+          seen = record { agrees = seen.agrees; least = seen.least; latest = seen.latest; code = seen.code };
           within = r.within;
           out = r.out;
           published = omega (arith, r.published, r.seen.latest, force);
@@ -178,6 +188,7 @@ module _ (k : Key) (words : List ℕ) (u : KeeperView) (is : IsTables (tables_of
       tables = is;
       many = many;
       shows = shows;
+      code = code;
       quiets = record { out_many = quiets.out_many; away = quiets.away; tells = quiets.tells };
       held = record { registered = told_registered; published = held.published };
       each = λ q o. record {
@@ -196,6 +207,7 @@ module _ (k : Key) (words : List ℕ) (u : KeeperView) (is : IsTables (tables_of
           tables = is;
           many = length-set words (quiet_word p.guest) 0 ∙ many;
           shows = quiet_shows k words u p.guest 0 few many shows;
+          code = quiet_code k words u p.guest 0 few many code;
           quiets = quiets_set k words u p.guest 0 false None few many quiets (λ e. refl) (inl refl);
           held = tt;
           each = λ q o. (let apart : q.guest ≢ p.guest = λ e. apart_of q.guest o.apart (sym e) in record {
@@ -208,7 +220,7 @@ module _ (k : Key) (words : List ℕ) (u : KeeperView) (is : IsTables (tables_of
 
 -- ---- the steps at the keeper's seat
 
-back : (guest : ℕ) → quiet_word guest - 1 ≡ guest
+pub back : (guest : ℕ) → quiet_word guest - 1 ≡ guest
 back guest = omega arith
 
 pub register_allowed : (k key : Key) (slots id i word guest : ℕ) (me : Seated) (u : KeeperView) → key ≡ k → id ≡ 0
@@ -224,7 +236,8 @@ register_allowed k key slots id i word guest me u same zeroth is idle untested f
       registered k guest u,
       subst (λ v. IsNext k s.words v (slice_set s.words (quiet_word guest) word) (registered k guest u)) (sym e)
           (register_next k s.words u (subst (λ v. IsTables (tables_of k v)) e r.tables) r.many
-          (subst (ShowTables k s.words) e r.shows) (subst (ShowQuiets k s.words) e r.quiets) idle untested guest word
+          (subst (ShowTables k s.words) e r.shows) (subst (ShowQuiets k s.words) e r.quiets) r.code idle untested guest
+          word
           few free word_is),
       ap (λ g. (Keeper (registered k g u), [])) (sym (back guest))
           ∙ sym (ap (λ (z : Seated). (Keeper (registered k (quiet_word guest - 1) (keeper_of z.0)), z.1)) is),
@@ -244,7 +257,7 @@ tell_allowed k key slots id me u p same zeroth is idle is_held =
     (λ s r e.
     (let held = held_at k s.words u r.keeper p e is_held r.held in
     let next = tell_next k s.words u (subst (λ v. IsTables (tables_of k v)) e r.tables) r.many
-    (subst (ShowTables k s.words) e r.shows) (subst (ShowQuiets k s.words) e r.quiets) idle p held is_held in (
+    (subst (ShowTables k s.words) e r.shows) (subst (ShowQuiets k s.words) e r.quiets) r.code idle p held is_held in (
       told k u,
       subst (λ v. IsNext k s.words v (slice_set s.words 0 (slice_index s.words 0)) (told k u)) (sym e)
           (subst (λ words. IsNext k s.words u words (told k u)) (sym (set-get_or s.words 0 0))
@@ -269,7 +282,7 @@ clear_allowed k key slots id i me u p same zeroth is idle is_held word_at =
     (λ s r e.
     (let held = held_at k s.words u r.keeper p e is_held r.held in
     let next = clear_next k s.words u (subst (λ v. IsTables (tables_of k v)) e r.tables) r.many
-    (subst (ShowTables k s.words) e r.shows) (subst (ShowQuiets k s.words) e r.quiets) idle p held is_held in (
+    (subst (ShowTables k s.words) e r.shows) (subst (ShowQuiets k s.words) e r.quiets) r.code idle p held is_held in (
       cleared u,
       subst (λ v. IsNext k s.words v (slice_set s.words (quiet_word p.guest) 0) (cleared u)) (sym e)
           (subst (λ h. IsNext k s.words u (slice_set s.words (quiet_word p.guest) 0)
@@ -282,11 +295,3 @@ clear_allowed k key slots id i me u p same zeroth is idle is_held word_at =
             held.registered.seen.agrees);
       },
     ))))
-
--- the views after these steps
-pub registered_view : (k : Key) (i guest : ℕ) (me new : Seated) (u : KeeperView) → me ≡ (Keeper u, [])
-    → i ≡ quiet_word guest → new ≡ (Keeper (registered k (i - 1) (keeper_of me.0)), me.1)
-    → new ≡ (Keeper (registered k guest u), [])
-registered_view k i guest me new u is word_at goes =
-    goes ∙ (ap (λ (z : Seated). (Keeper (registered k (i - 1) (keeper_of z.0)), z.1)) is
-    ∙ ap (λ g. (Keeper (registered k g u), [])) (ap (λ n. n - 1) word_at ∙ back guest))

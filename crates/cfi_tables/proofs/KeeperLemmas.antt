@@ -44,7 +44,8 @@ module _ (table : TableId) (k : Key) (at : TableId) (id : ℕ) (me : Seated) (a 
   abbrev all : Keeping
   all = grown_by entry (keeping_at me)
 
-  pub keeper_grows : (passed : Seated) → passed ≡ (Keeper (view_at all 0), []) → (at' : TableId) (id' : ℕ) (me' : Seated)
+  pub keeper_grows : (passed : Seated) → passed ≡ (Keeper (view_at all 0), [])
+      → (at' : TableId) (id' : ℕ) (me' : Seated)
       → IsAt table at' id' me' (idle_view k (keeping_at passed))
       → IsKeeper table k at' id' me' (record a { epoch = a.epoch + 1; policy = entry.policy })
   keeper_grows passed passed_is at' id' me' seat =

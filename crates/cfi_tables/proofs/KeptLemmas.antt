@@ -7,7 +7,7 @@ use Rattle.atomic_table.proofs.Lists.{at_longer, at_set, set_else}
 use Rattle.cfi_word.specs.Table.{quiet_word, word_count}
 use Rattle.cfi_model.specs.Tables.{IsTables}
 use Rattle.cfi_tables.specs.Key.{Key}
-use Rattle.cfi_tables.specs.Rule.{HeldFits, IsElse, IsKept, IsPublished, IsRegistered, IsTrueOf, ShowQuiets, ShowTables}
+use Rattle.cfi_tables.specs.Rule.{HeldFits, IsElse, IsKept, IsPublished, IsRegistered, IsTrueOf, ShowQuiets, ShowTables, CodeFits}
 use Rattle.cfi_tables.specs.Views.{keeper_of, tables_of}
 use Rattle.cfi_tables.specs.declared.view.KeeperView.{KeeperView}
 use Rattle.cfi_tables.specs.declared.view.PassView.{PassView}
@@ -74,6 +74,7 @@ pub record IsNext (k : Key) (before : List ℕ) (old : KeeperView) (words : List
   pub many : length words ≡ word_count k.code_words
   pub shows : ShowTables k words new
   pub quiets : ShowQuiets k words new
+  pub code : CodeFits k words
   pub held : HeldFits k words new new.held
   pub each : (p : PassView) → IsOut k before old p → IsOut k words new p
 
@@ -88,15 +89,16 @@ AllOut k s r words new =
 
 unfoldable pub keeper_changes : (k : Key) (s : Shared) (r : IsKept k s) (words : List ℕ) (new : KeeperView)
     → IsTables (tables_of k new) → length words ≡ word_count k.code_words → ShowTables k words new
-    → ShowQuiets k words new → HeldFits k words new new.held → AllOut k s r words new
+    → ShowQuiets k words new → CodeFits k words → HeldFits k words new new.held → AllOut k s r words new
     → IsKept k (with s words (slice_set s.views 0 (Keeper new)))
-keeper_changes k s r words new tables many shows quiets held each = record {
+keeper_changes k s r words new tables many shows quiets code held each = record {
   keeper = new;
   first = set_there s.views 0 (Keeper r.keeper) (Keeper new) r.first;
   tables = tables;
   many = many;
   shows = shows;
   quiets = quiets;
+  code = code;
   held = held;
   seats = true_at;
   published = λ seat p at. (out_at seat p (was seat p at)).published;
@@ -130,17 +132,20 @@ keeper_changes k s r words new tables many shows quiets held each = record {
 pub keeper_goes : (k : Key) (s : Shared) (r : IsKept k s) (words : List ℕ) (new : KeeperView)
     → IsNext k s.words r.keeper words new → IsKept k (with s words (slice_set s.views 0 (Keeper new)))
 keeper_goes k s r words new next =
-    keeper_changes k s r words new next.tables next.many next.shows next.quiets next.held (λ seat p at. next.each p)
+    keeper_changes k s r words new next.tables next.many next.shows next.quiets next.code next.held
+    (λ seat p at. next.each p)
 
 -- ---- a pass's seat
 
 -- its view changes, and of the words its own QUIET word at most
-pub record IsMove (k : Key) (s : Shared) (r : IsKept k s) (p : PassView) (words : List ℕ) (new : PassView) : Type 0 where
+pub record IsMove (k : Key) (s : Shared) (r : IsKept k s) (p : PassView) (words : List ℕ) (new : PassView)
+    : Type 0 where
   pub guest : new.guest ≡ p.guest
   pub registered : IsRegistered k r.keeper new
   pub many : length words ≡ word_count k.code_words
   pub shows : ShowTables k words r.keeper
   pub quiets : ShowQuiets k words r.keeper
+  pub code : CodeFits k words
   pub published : IsPublished words new
   pub others : (guest : ℕ) → guest < 16 → guest ≢ p.guest
       → slice_index words (quiet_word guest) ≡ slice_index s.words (quiet_word guest)
@@ -156,6 +161,7 @@ pass_goes k s r seat p words new at move = record {
   many = move.many;
   shows = move.shows;
   quiets = move.quiets;
+  code = move.code;
   held = held_by r.keeper.held r.held (r.apart seat p at);
   seats = λ other view there. ⊎_elim
       (λ (here : (other ≡ seat) × (Pass new ≡ view)). subst (IsTrueOf k r.keeper) here.1 move.registered)
@@ -208,6 +214,7 @@ spends k s r seat apart = record {
   many = r.many;
   shows = r.shows;
   quiets = r.quiets;
+  code = r.code;
   held = r.held;
   seats = λ other view there. ⊎_elim
       (λ (here : (other ≡ seat) × (Spent ≡ view)). subst (IsTrueOf k r.keeper) here.1 tt)
@@ -231,6 +238,7 @@ spent_comes k s r = record {
   many = r.many;
   shows = r.shows;
   quiets = r.quiets;
+  code = r.code;
   held = r.held;
   seats = λ seat view at. ⊎_elim (λ (old : get_elem? s.views seat ≡ some view). r.seats seat view old)
       (λ (last : (seat ≡ length s.views) × (Spent ≡ view)). subst (IsTrueOf k r.keeper) last.1 tt)
@@ -257,6 +265,7 @@ pass_comes k s r new out else = record {
   many = r.many;
   shows = r.shows;
   quiets = r.quiets;
+  code = r.code;
   held = r.held;
   seats = λ seat view at. ⊎_elim (λ (old : get_elem? s.views seat ≡ some view). r.seats seat view old)
       (λ (last : (seat ≡ length s.views) × (Pass new ≡ view)). subst (IsTrueOf k r.keeper) last.1 out.registered)

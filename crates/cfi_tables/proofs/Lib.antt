@@ -4,6 +4,7 @@ pub mod TablesLemmas
 pub mod ShowLemmas
 pub mod FairLemmas
 pub mod SeenLemmas
+pub mod LoadLemmas
 pub mod KeptLemmas
 pub mod OpeningLemmas
 pub mod AddressLemmas
@@ -16,3 +17,4 @@ pub mod StoringLemmas
 pub mod ViewLemmas
 pub mod AdmissionLemmas
 pub mod KeeperLemmas
+pub mod CodeLemmas

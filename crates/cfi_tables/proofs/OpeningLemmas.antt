@@ -1,5 +1,5 @@
 -- The words of an opening show its tables.
-use Rattle.std.proofs.Common.{◌≡◌, ℕ, zero, suc, ◌+◌, ◌*◌, ◌<◌, List, [], ◌∷◌, ◌++◌, length, length-append, map, replicate, slice_index, false, inl, refl, sym, ap, subst, ◌∙◌, arith}
+use Rattle.std.proofs.Common.{◌≡◌, ℕ, zero, suc, ◌+◌, ◌*◌, ◌<◌, List, [], ◌∷◌, ◌++◌, length, length-append, map, replicate, slice_index, false, inl, refl, sym, ap, subst, ◌∙◌, arith, ◌^◌}
 use Rattle.std.proofs.lemmas.List.{get_or-map, get_or-append-add, get_or-replicate, get_or_append_left, length-map, length-replicate}
 use lib.ListN.{get_elem?}
 use mathlib.Core.Option.{some, some-injective, some-ne-none}
@@ -14,7 +14,7 @@ use Rattle.cfi_model.specs.Words.{Tables, entry_word, newest}
 use Rattle.cfi_model.specs.World.{first_entry}
 use Rattle.cfi_tables.specs.Key.{Key}
 use Rattle.cfi_tables.specs.Keeping.{opened_keeping}
-use Rattle.cfi_tables.specs.Rule.{HasStore, IsKept, IsTrueOf, ShowQuiets, ShowTables}
+use Rattle.cfi_tables.specs.Rule.{HasStore, IsKept, IsTrueOf, ShowQuiets, ShowTables, CodeFits}
 use Rattle.cfi_tables.specs.Views.{idle_tables, idle_view, opened_view, tables_of}
 use Rattle.cfi_tables.specs.inner.Opening.{opened_words}
 use Rattle.cfi_tables.specs.inner.Stamps.{Stamp, word_by}
@@ -58,7 +58,8 @@ module _ (stamp : Stamp) (image : Image) (c : ℕ) (classes : HasClasses c image
       → slice_index (image.code ++ (stamped image.tary ++ stamped image.bary)) n
       ≡ slice_index (stamped image.tary ++ stamped image.bary) i
   past_code i n e =
-      ap (slice_index (image.code ++ (stamped image.tary ++ stamped image.bary))) (omega (arith, e, classes.code_length))
+      ap (slice_index (image.code ++ (stamped image.tary ++ stamped image.bary)))
+      (omega (arith, e, classes.code_length))
       ∙ get_or-append-add image.code (stamped image.tary ++ stamped image.bary) i 0
 
   past_tary : (i n : ℕ) → n ≡ c + i
@@ -100,7 +101,8 @@ module _ (stamp : Stamp) (image : Image) (c : ℕ) (classes : HasClasses c image
       ∙ get_or-replicate GUESTS guest 0 0 few)
 
 -- a table with these words keeps the rule
-module _ (k : Key) (is : IsTables (idle_tables k (opened_keeping k))) where
+module _ (k : Key) (is : IsTables (idle_tables k (opened_keeping k)))
+    (small : (index : ℕ) → slice_index k.image.code index < 2 ^ 32) where
   abbrev u : KeeperView
   u = idle_view k (opened_keeping k)
 
@@ -125,6 +127,10 @@ module _ (k : Key) (is : IsTables (idle_tables k (opened_keeping k))) where
     tells = λ guest few. inl (quiet_is stamp k.image k.code_words classes guest few);
   }
 
+  code : CodeFits k (opened_words stamp k.image)
+  code index inside =
+      subst (λ n. n < 2 ^ 32) (sym (word_is stamp k.image k.code_words classes (Code index) inside tt)) (small index)
+
   at_first : (seat : ℕ) (view : View) → get_elem? (opened_view k ∷ []) seat ≡ some view → IsTrueOf k u view
   at_first zero view at = subst (IsTrueOf k u) (some-injective _ _ at) tt
   at_first (suc seat) view at = absurd (some-ne-none view (sym at))
@@ -142,6 +148,7 @@ module _ (k : Key) (is : IsTables (idle_tables k (opened_keeping k))) where
     many = ap length e ∙ words_many stamp k.image k.code_words classes;
     shows = subst (λ l. ShowTables k l u) (sym e) shows;
     quiets = subst (λ l. ShowQuiets k l u) (sym e) quiets;
+    code = subst (CodeFits k) (sym e) code;
     held = tt;
     seats = at_first;
     published = λ seat p at. absurd (no_pass seat p at);

@@ -1,12 +1,12 @@
 -- A pass's loads and its store keep the rule.
-use Rattle.std.proofs.Common.{◌≡◌, ◌≢◌, inr, ℕ, ◌+◌, ◌<◌, Bool, true, false, List, [], length, length-set, slice_index, slice_set, None, refl, sym, ap, subst, ◌∙◌, arith}
+use Rattle.std.proofs.Common.{◌≡◌, ◌≢◌, inr, ℕ, ◌+◌, ◌<◌, Bool, true, false, List, [], length, length-set, slice_index, slice_set, None, refl, sym, ap, subst, ◌∙◌, arith, ◌^◌}
 use Rattle.std.proofs.lemmas.List.{get_or-set_other, get_or-set_same}
 use mathlib.Core.Logic.{dite}
 use mathlib.Core.Option.{none}
 use native.Mathlib.Decide.{ℕ_discrete}
 use Rattle.atomic_table.specs.Table.{Allows, keeps, step}
 use Rattle.cfi_word.specs.declared.limits.TheConstants.{GUESTS}
-use Rattle.cfi_word.specs.Table.{Place, Quiet, IsPlace, quiet_word, word_count, word_number}
+use Rattle.cfi_word.specs.Table.{Place, Quiet, IsPlace, quiet_word, word_count, word_number, code_word}
 use Rattle.cfi_word.specs.Table as places
 use Rattle.cfi_word.specs.Word.{epoch_in}
 use Rattle.cfi_model.specs.Words.{word_at}
@@ -14,7 +14,7 @@ use Rattle.cfi_tables.specs.Fair.{kept_of}
 use Rattle.cfi_tables.specs.Key.{Key}
 use Rattle.cfi_tables.specs.Keeping.{is_out}
 use Rattle.cfi_tables.specs.Loads.{IsLoad, IsQuiet, TellsEpoch}
-use Rattle.cfi_tables.specs.Rule.{IsKept, ShowQuiets, ShowTables, TellsForce}
+use Rattle.cfi_tables.specs.Rule.{IsKept, ShowQuiets, ShowTables, TellsForce, CodeFits}
 use Rattle.cfi_tables.specs.Views.{pass_of, tables_of}
 use Rattle.cfi_tables.specs.inner.Steps.{Loads, Publishes, Seated, published}
 use Rattle.cfi_tables.specs.declared.view.KeeperView.{KeeperView}
@@ -22,7 +22,7 @@ use Rattle.cfi_tables.specs.declared.view.PassView.{PassView}
 use Rattle.cfi_tables.specs.declared.view.View.TheVariants.{Pass}
 use Rattle.cfi_tables.proofs.FairLemmas.{kept_snoc}
 use Rattle.cfi_tables.proofs.PlaceLemmas.{place_within, quiet_apart, same_place}
-use Rattle.cfi_tables.proofs.SeenLemmas.{load_is, loaded, loaded_registered, published_registered, tells_store}
+use Rattle.cfi_tables.proofs.LoadLemmas.{load_is, loaded, loaded_registered, published_registered, tells_store}
 use Rattle.cfi_tables.proofs.KeptLemmas.{pass_goes, with}
 use Rattle.cfi_tables.proofs.StepLemmas.{words_stay}
 
@@ -48,6 +48,7 @@ load_moves k slots id i p place at tells word_is s r _ there _ =
             many = r.many;
             shows = r.shows;
             quiets = r.quiets;
+            code = r.code;
             published = r.published id p there;
             others = λ guest few apart. refl;
           })),
@@ -91,6 +92,12 @@ module _ (k : Key) (words : List ℕ) (u : KeeperView) (guest word : ℕ) (few :
       (quiet_apart k.code_words guest place at has few)
       ∙ shows place at has
 
+  pub quiet_code : CodeFits k words → CodeFits k after
+  quiet_code code index inside =
+      subst (λ n. n < 2 ^ 32)
+      (sym (get_or-set_other words (quiet_word guest) (code_word index) word 0 (λ e. omega (arith, e, few))))
+      (code index inside)
+
   -- and the other QUIET words
   pub quiet_quiets : is_out u.out guest ≡ true → TellsForce k u word → ShowQuiets k words u → ShowQuiets k after u
   quiet_quiets out tells quiets = record {
@@ -108,7 +115,8 @@ module _ (k : Key) (words : List ℕ) (u : KeeperView) (guest word : ℕ) (few :
 
 publish_moves : (k : Key) (slots id i word : ℕ) (p : PassView) → i ≡ quiet_word p.guest
     → kept_of k p.sight.accesses ≡ None → word ≡ p.sight.latest + 1
-    → Allows (IsKept k) slots id (Pass p, []) i (λ _. word) (λ _. Publishes (step slots i word 0 none) (Pass p, []) word)
+    → Allows (IsKept k) slots id (Pass p, []) i (λ _. word)
+    (λ _. Publishes (step slots i word 0 none) (Pass p, []) word)
 publish_moves k slots id i word p word_is bare new s r _ there _ =
     let u : KeeperView = r.keeper in
     let registered = r.seats id (Pass p) there in
@@ -123,14 +131,15 @@ publish_moves k slots id i word p word_is bare new s r _ there _ =
       many = length-set s.words (quiet_word p.guest) word ∙ r.many;
       shows = quiet_shows k s.words u p.guest word few r.many r.shows;
       quiets = quiet_quiets k s.words u p.guest word few r.many registered.out tells r.quiets;
+      code = quiet_code k s.words u p.guest word few r.many r.code;
       published = quiet_here k s.words u p.guest word few r.many ∙ new;
       others = λ guest inside apart. quiet_else k s.words u p.guest word few r.many guest apart;
     }) in (
       Pass (published p),
       keeps,
       tt,
-      subst (λ j. IsKept k (with s (slice_set s.words j word) (slice_set s.views id (Pass (published p))))) (sym word_is)
-          goes,
+      subst (λ j. IsKept k (with s (slice_set s.words j word) (slice_set s.views id (Pass (published p)))))
+          (sym word_is) goes,
       refl,
     )
 

@@ -28,7 +28,7 @@ leave_at k u p is_held s r at =
     (λ guest else. subst (λ h. IsElse h guest) (ap (λ z. z.held) e ∙ is_held) else) in
     let new : KeeperView = record v { held = None } in
     let kept = keeper_changes k s r s.words new r.tables r.many r.shows
-    (record { out_many = r.quiets.out_many; away = r.quiets.away; tells = r.quiets.tells }) tt
+    (record { out_many = r.quiets.out_many; away = r.quiets.away; tells = r.quiets.tells }) r.code tt
     (λ seat q there o. record {
       registered = registered_same k v v.out None q o.registered o.registered.out;
       published = o.published;
@@ -85,7 +85,7 @@ return_at k u other p free s r at apart there =
     let was : (seat : ℕ) (q : PassView) → get_elem? (slice_set s.views other Spent) seat ≡ some (Pass q)
     → get_elem? s.views seat ≡ some (Pass q) = λ seat q z. old_pass s.views other seat Spent q spent_is_no_pass z in
     let kept = keeper_changes k spent left s.words new r.tables r.many r.shows
-    (record { out_many = r.quiets.out_many; away = r.quiets.away; tells = r.quiets.tells })
+    (record { out_many = r.quiets.out_many; away = r.quiets.away; tells = r.quiets.tells }) r.code
     (record {
       registered = registered_same k v v.out (Some p) p registered registered.out;
       published = r.published other p here;
@@ -95,9 +95,10 @@ return_at k u other p free s r at apart there =
       published = o.published;
       apart = λ same. not_spent seat q at_seat (r.alone seat other q p (was seat q at_seat) here (sym same));
     }) in
-    subst (λ views. IsKept k (with s s.words views)) (set_swap s.views other 0 Spent (Keeper (record u { held = Some p })) apart)
-    (subst (λ z. IsKept k (with s s.words (slice_set (slice_set s.views other Spent) 0 (Keeper (record z { held = Some p })))))
-    e kept)
+    subst (λ views. IsKept k (with s s.words views))
+    (set_swap s.views other 0 Spent (Keeper (record u { held = Some p })) apart)
+    (subst (λ z. IsKept k
+    (with s s.words (slice_set (slice_set s.views other Spent) 0 (Keeper (record z { held = Some p }))))) e kept)
   where
     spent_is_no_pass : (q : PassView) → Spent ≢ Pass q
     spent_is_no_pass q e = absurd (cc)

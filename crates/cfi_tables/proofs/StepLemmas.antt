@@ -1,16 +1,18 @@
 -- The keeper's stores, tests and loads keep the rule.
-use Rattle.std.proofs.Common.{◌≡◌, inl, inr, ℕ, ◌+◌, ◌<◌, ◌≤◌, true, List, [], length, length-set, slice_index, slice_set, None, refl, sym, ap, subst, ◌∙◌, arith}
-use Rattle.std.proofs.lemmas.List.{get_or-set_other, set-get_or}
+use native.Mathlib.Decide.{ℕ_discrete}
+use mathlib.Core.Logic.{dite}
+use Rattle.std.proofs.Common.{◌≡◌, inl, inr, ℕ, ◌+◌, ◌<◌, ◌≤◌, true, List, [], length, length-set, slice_index, slice_set, None, refl, sym, ap, subst, ◌∙◌, arith, ◌^◌}
+use Rattle.std.proofs.lemmas.List.{get_or-set_other, set-get_or, get_or-set_same}
 use mathlib.Core.Option.{none}
 use Rattle.atomic_table.specs.Table.{Allows, keeps, step}
 use Rattle.cfi_word.specs.declared.limits.TheConstants.{GUESTS}
 use Rattle.cfi_word.specs.Rank.{rank}
-use Rattle.cfi_word.specs.Table.{Place, IsPlace, quiet_word, word_count, word_number}
+use Rattle.cfi_word.specs.Table.{Place, IsPlace, quiet_word, word_count, word_number, Code, code_word}
 use Rattle.cfi_model.specs.Tables.{IsTables}
 use Rattle.cfi_model.specs.Words.{newest, next_epoch, rank_at, word_of_entry}
 use Rattle.cfi_tables.specs.Key.{Key}
 use Rattle.cfi_tables.specs.Keeping.{is_out}
-use Rattle.cfi_tables.specs.Rule.{HasStore, HeldFits, IsElse, IsKept, IsPublished, IsRegistered, ShowQuiets, ShowTables, TellsForce}
+use Rattle.cfi_tables.specs.Rule.{HasStore, HeldFits, IsElse, IsKept, IsPublished, IsRegistered, ShowQuiets, ShowTables, TellsForce, CodeFits}
 use Rattle.cfi_tables.specs.Views.{keeper_of, tables_of}
 use Rattle.cfi_tables.specs.inner.Steps.{Seated, Stores, stored_to}
 use Rattle.cfi_tables.specs.declared.view.KeeperView.{KeeperView}
@@ -18,8 +20,8 @@ use Rattle.cfi_tables.specs.declared.view.PassView.{PassView}
 use Rattle.cfi_tables.specs.declared.view.View.{View}
 use Rattle.cfi_tables.specs.declared.view.View.TheVariants.{Keeper}
 use Rattle.cfi_tables.proofs.Prefixes.{prefix_same}
-use Rattle.cfi_tables.proofs.PlaceLemmas.{quiet_apart, rank_is, rank_most}
-use Rattle.cfi_tables.proofs.TablesLemmas.{goes_on, stored_force, stored_is}
+use Rattle.cfi_tables.proofs.PlaceLemmas.{quiet_apart, rank_is, rank_most, same_place, place_within}
+use Rattle.cfi_tables.proofs.TablesLemmas.{goes_on, stored_force, stored_is, stored_numbers}
 use Rattle.cfi_tables.proofs.ShowLemmas.{AreSkipped, store_shows}
 use Rattle.cfi_tables.proofs.SeenLemmas.{IsLater, rises, seen_stays}
 use Rattle.cfi_tables.proofs.KeptLemmas.{IsNext, IsOut, Shared, keeper_goes, the_keeper, with}
@@ -72,15 +74,35 @@ module _ (k : Key) (old new : KeeperView) (later : IsLater k old new) where
 
 -- ---- stores
 
+-- a word that is stored for the code has 32 bits
+abbrev pub FitsCode : Place → (word : ℕ) → Type 0
+FitsCode place word = (index : ℕ) → place ≡ Code index → word < 2 ^ 32
+
+code_set : (k : Key) (words : List ℕ) (place : Place) (word : ℕ) → IsPlace k.code_words place
+    → length words ≡ word_count k.code_words → CodeFits k words → FitsCode place word
+    → CodeFits k (slice_set words (word_number k.code_words place) word)
+code_set k words place word at many code small index inside =
+    dite (ℕ_discrete (code_word index) (word_number k.code_words place))
+    (λ e.
+    subst (λ n. n < 2 ^ 32)
+    (sym (ap (slice_index (slice_set words (word_number k.code_words place) word)) e
+    ∙ get_or-set_same words (word_number k.code_words place) word 0
+    (omega (arith, many, place_within k.code_words place at))))
+    (small index (same_place k.code_words place (Code index) at inside (sym e))))
+    (λ apart.
+    subst (λ n. n < 2 ^ 32)
+    (sym (get_or-set_other words (word_number k.code_words place) (code_word index) word 0 apart)) (code index inside))
+
 -- a store of the newest entry's word at a place leads on
 pub store_next : (k : Key) (words : List ℕ) (u : KeeperView) → IsTables (tables_of k u)
     → length words ≡ word_count k.code_words → ShowTables k words u → ShowQuiets k words u
     → u.asked ≡ None → u.held ≡ None
     → (place : Place) → IsPlace k.code_words place → HasStore place → u.stored ≤ rank_at k.code_words place
     → AreSkipped k u place → (word : ℕ) → word ≡ word_of_entry (tables_of k u) (newest (tables_of k u)) place
+    → CodeFits k words → FitsCode place word
     → IsNext k words u (slice_set words (word_number k.code_words place) word)
     (stored_to (rank_at k.code_words place) u)
-store_next k words u is many shows quiets idle free place at has least skipped word new =
+store_next k words u is many shows quiets idle free place at has least skipped word new code small =
     let c : ℕ = k.code_words in
     let n : ℕ = rank_at c place in
     let after : List ℕ = slice_set words (word_number c place) word in
@@ -91,8 +113,10 @@ store_next k words u is many shows quiets idle free place at has least skipped w
       begins = prefix_same u.entries;
       refused = prefix_same u.refusals;
       on = goes_on k u (stored_to n u) (prefix_same u.entries) (stored_force k u is n least);
+      code = λ index inside. stored_numbers k u is n least (Code index);
     } in
-    let same : (guest : ℕ) → guest < GUESTS → slice_index after (quiet_word guest) ≡ slice_index words (quiet_word guest) =
+    let same : (guest : ℕ) → guest < GUESTS
+    → slice_index after (quiet_word guest) ≡ slice_index words (quiet_word guest) =
     (λ guest few. get_or-set_other words (word_number c place) (quiet_word guest) word 0
     (λ e. quiet_apart c guest place at has few (sym e))) in
     record {
@@ -100,6 +124,7 @@ store_next k words u is many shows quiets idle free place at has least skipped w
       many = length-set words (word_number c place) word ∙ many;
       shows = store_shows k u place at has least skipped words word many shows new;
       quiets = quiets_stay k u (stored_to n u) later words after refl same quiets;
+      code = code_set k words place word at many code small;
       held = subst (HeldFits k after (stored_to n u)) (sym free) tt;
       each = out_stays k u (stored_to n u) later words after refl free same
           (λ p r published. record { newest = r.newest; next = r.next });
@@ -132,9 +157,9 @@ pub store_allowed : (k key : Key) (slots id i word : ℕ) (me : Seated) (u : Kee
     → me ≡ (Keeper u, []) → u.asked ≡ None → u.held ≡ None
     → (place : Place) → IsPlace k.code_words place → HasStore place → i ≡ word_number k.code_words place
     → u.stored ≤ rank_at k.code_words place → AreSkipped k u place
-    → word ≡ word_of_entry (tables_of k u) (newest (tables_of k u)) place
+    → word ≡ word_of_entry (tables_of k u) (newest (tables_of k u)) place → FitsCode place word
     → Allows (IsKept key) slots id me i (λ _. word) (λ _. Stores k (step slots i word 0 none) me word)
-store_allowed k key slots id i word me u same zeroth is idle free place at has word_is least skipped new =
+store_allowed k key slots id i word me u same zeroth is idle free place at has word_is least skipped new small =
     keeper_moves k key slots id i (λ _. word) me u (λ _. Stores k (step slots i word 0 none) me word) same zeroth is
     (λ s r e. (
       stored_to (rank_at k.code_words place) u,
@@ -143,7 +168,7 @@ store_allowed k key slots id i word me u same zeroth is idle free place at has w
           (sym word_is)
           (store_next k s.words u (subst (λ v. IsTables (tables_of k v)) e r.tables) r.many
           (subst (ShowTables k s.words) e r.shows) (subst (ShowQuiets k s.words) e r.quiets) idle free place at has
-          least skipped word new)),
+          least skipped word new r.code small)),
       ap (λ v. (Keeper v, [])) (stored_view k place at has i word_is u)
           ∙ sym (ap (λ (z : Seated). (Keeper (stored_to (rank k.code_words i) (keeper_of z.0)), z.1)) is),
     ))

@@ -16,7 +16,7 @@ use Rattle.cfi_tables.specs.inner.Stores.{Reaches, keeping_at}
 use Rattle.cfi_tables.specs.declared.view.KeeperView.{KeeperView}
 use Rattle.cfi_tables.specs.declared.view.View.TheVariants.{Keeper}
 use Rattle.cfi_tables.proofs.PlaceLemmas.{rank_is}
-use Rattle.cfi_tables.proofs.StepLemmas.{store_allowed}
+use Rattle.cfi_tables.proofs.StepLemmas.{store_allowed, FitsCode}
 
 -- the view after a store
 pub record HasGone (k : Key) (u : KeeperView) (new : Seated) (after : ℕ) : Type 0 where
@@ -30,12 +30,13 @@ module _ (k : Key) (u : KeeperView) (place : Place) (at : IsPlace k.code_words p
   -- the word that comes next may be stored
   pub next_allowed : (key : Key) (slots id i word : ℕ) (me : Seated) → key ≡ k → id ≡ 0
       → me ≡ (Keeper u, []) → i ≡ word_number k.code_words place
-      → word ≡ word_of_entry (tables_of k u) (newest (tables_of k u)) place
+      → word ≡ word_of_entry (tables_of k u) (newest (tables_of k u)) place → FitsCode place word
       → Allows (IsKept key) slots id me i (λ _. word) (λ _. Stores k (step slots i word 0 none) me word)
-  next_allowed key slots id i word me same zeroth is word_is new =
+  next_allowed key slots id i word me same zeroth is word_is new small =
       store_allowed k key slots id i word me u same zeroth is (ap (λ v. v.asked) reached.same)
       (ap (λ v. v.held) reached.same) place at has word_is (omega (arith, next, reached.least))
       (λ other inside stored least early. reached.skipped other inside stored least (omega (arith, next, early))) new
+      small
 
   pub next_view : (after : ℕ) → after ≡ n + 1 → (i : ℕ) (me new : Seated)
       → me ≡ (Keeper u, []) → i ≡ word_number k.code_words place

@@ -1,5 +1,6 @@
 -- The tables of a keeper's view while an update goes on.
-use Rattle.std.proofs.Common.{◌≡◌, ℕ, ◌+◌, ◌-◌, ◌*◌, ◌<◌, ◌≤◌, nat_lt, cond, inl, inr, ◌⊎◌, [], ◌∷◌, length, length-append, Some, None, refl, sym, ap, subst, ◌∙◌, arith}
+use Rattle.cfi_word.specs.Table.{Place}
+use Rattle.std.proofs.Common.{◌≡◌, ℕ, ◌+◌, ◌-◌, ◌*◌, ◌<◌, ◌≤◌, nat_lt, cond, inl, inr, ◌⊎◌, [], ◌∷◌, length, length-append, Some, None, refl, sym, ap, subst, ◌∙◌, arith, Bool, true, false}
 use mathlib.Core.List.{IsPrefix}
 use Rattle.std.proofs.lemmas.Bool.{cases_lt, lt-ltb}
 use Rattle.std.proofs.lemmas.Bool.Decides.{nat_tests}
@@ -11,7 +12,7 @@ use Rattle.cfi_model.specs.declared.history.Refusal.{Refusal}
 use Rattle.cfi_model.specs.Closed.{IsClosed}
 use Rattle.cfi_model.specs.InForce.{GoesOn, in_force}
 use Rattle.cfi_model.specs.Tables.{IsTables, IsUpdate, MayBeAsked}
-use Rattle.cfi_model.specs.Words.{Tables, entry_at, no_entry, newest, before, next_epoch}
+use Rattle.cfi_model.specs.Words.{Tables, entry_at, no_entry, newest, before, next_epoch, number_at, rank_at}
 use Rattle.cfi_tables.specs.Key.{Key}
 use Rattle.cfi_tables.specs.Keeping.{last_of}
 use Rattle.cfi_tables.specs.Views.{tables_of}
@@ -26,6 +27,14 @@ force_grows n c s s' more = grind (arith, nat_tests)
 
 force_least : (n c s : ℕ) → n - 2 ≤ cond (nat_lt (2 * c) s) (n - 1) (n - 2)
 force_least n c s = grind (arith, nat_tests)
+
+-- so does the number of each word
+number_grows : (n r s s' : ℕ) → s ≤ s' → cond (nat_lt r s) (n - 1) (n - 2) ≤ cond (nat_lt r s') (n - 1) (n - 2)
+number_grows n r s s' more = grind (arith, nat_tests)
+
+number_most : (n r s : ℕ) (b : Bool) → cond (nat_lt r s) (n - 1) (n - 2) ≤ cond b (n + 1 - 1) (n + 1 - 2)
+number_most n r s true = grind (arith, nat_tests)
+number_most n r s false = grind (arith, nat_tests)
 
 -- all stores were made
 pub force_newest : (t : Tables) → t.stored ≡ stores_of t.code_words → in_force t ≡ newest t
@@ -67,6 +76,19 @@ module _ (k : Key) (u : KeeperView) (is : IsTables (tables_of k u)) where
 
   pub stored_force : (rank : ℕ) → u.stored ≤ rank → in_force t ≤ in_force (tables_of k (stored_to rank u))
   stored_force rank least = force_grows (length u.entries) k.code_words u.stored (rank + 1) (omega arith)
+
+  pub stored_numbers : (rank : ℕ) → u.stored ≤ rank → (place : Place)
+      → number_at t place ≤ number_at (tables_of k (stored_to rank u)) place
+  stored_numbers rank least place =
+      number_grows (length u.entries) (rank_at k.code_words place) u.stored (rank + 1) (omega arith)
+
+  pub grown_numbers : (entry : Entry) (place : Place)
+      → number_at t place ≤ number_at (tables_of k (grown entry u)) place
+  grown_numbers entry place =
+      let some = number_most (length u.entries) (rank_at k.code_words place) u.stored
+      (nat_lt (rank_at k.code_words place) 0) in
+      subst (λ n. number_at t place ≤ cond (nat_lt (rank_at k.code_words place) 0) (n - 1) (n - 2))
+      (sym (length-append u.entries (entry ∷ []))) some
 
   -- ---- an update is asked for, or no more
 

@@ -7,21 +7,21 @@ use mathlib.Core.Option.{none}
 use Rattle.atomic_table.specs.Table.{Allows, step}
 use Rattle.cfi_word.specs.declared.limits.TheConstants.{GUESTS, MAX_EPOCH}
 use Rattle.cfi_word.specs.Rank.{stores_of}
-use Rattle.cfi_word.specs.Table.{quiet_word, word_count}
+use Rattle.cfi_word.specs.Table.{quiet_word, word_count, Code}
 use Rattle.cfi_model.specs.declared.history.Entry.{Entry}
 use Rattle.cfi_model.specs.declared.history.Refusal.{Refusal}
 use Rattle.cfi_model.specs.Tables.{IsTables, IsUpdate}
 use Rattle.cfi_model.specs.Words.{next_epoch}
 use Rattle.cfi_tables.specs.Key.{Key}
 use Rattle.cfi_tables.specs.Keeping.{is_out, last_of}
-use Rattle.cfi_tables.specs.Rule.{HeldFits, IsKept, IsPublished, IsRegistered, ShowQuiets, ShowTables, TellsForce}
+use Rattle.cfi_tables.specs.Rule.{HeldFits, IsKept, IsPublished, IsRegistered, ShowQuiets, ShowTables, TellsForce, CodeFits}
 use Rattle.cfi_tables.specs.Views.{keeper_of, tables_of}
 use Rattle.cfi_tables.specs.inner.Steps.{Seated, Tests, grown, is_passed, passed, refusal_of, refused, tested_by}
 use Rattle.cfi_tables.specs.declared.view.KeeperView.{KeeperView}
 use Rattle.cfi_tables.specs.declared.view.PassView.{PassView}
 use Rattle.cfi_tables.specs.declared.view.View.TheVariants.{Keeper}
 use Rattle.cfi_tables.proofs.Prefixes.{prefix_more, prefix_same}
-use Rattle.cfi_tables.proofs.TablesLemmas.{asked_is, dropped_is, goes_on, grown_force, grown_is}
+use Rattle.cfi_tables.proofs.TablesLemmas.{asked_is, dropped_is, goes_on, grown_force, grown_is, grown_numbers}
 use Rattle.cfi_tables.proofs.ShowLemmas.{grown_shows}
 use Rattle.cfi_tables.proofs.SeenLemmas.{IsLater}
 use Rattle.cfi_tables.proofs.KeptLemmas.{IsNext, Shared}
@@ -41,6 +41,7 @@ pass_bound k u (suc epoch) quiet e ok three =
 
 module _ (k : Key) (words : List ℕ) (u : KeeperView) (is : IsTables (tables_of k u))
     (many : length words ≡ word_count k.code_words) (shows : ShowTables k words u) (quiets : ShowQuiets k words u)
+    (code : CodeFits k words)
     (idle : u.stored ≡ stores_of k.code_words) (free : u.held ≡ None) (few : u.tested < GUESTS)
     (entry : Entry) (follows : IsUpdate k.code_words (last_of u.entries) entry)
     (fits : next_epoch (tables_of k u) ≤ MAX_EPOCH) where
@@ -74,12 +75,14 @@ module _ (k : Key) (words : List ℕ) (u : KeeperView) (is : IsTables (tables_of
         begins = prefix_same u.entries;
         refused = prefix_same u.refusals;
         on = goes_on k u new (prefix_same u.entries) (omega arith);
+        code = λ index inside. omega arith;
       } in
       record {
         tables = next;
         many = many;
         shows = shows;
         quiets = quiets_stay k u new later words words refl same_words quiets;
+        code = code;
         held = subst (HeldFits k words new) (sym free) tt;
         each = out_stays k u new later words words refl free same_words (λ p r published. record {
           newest = r.newest;
@@ -100,12 +103,14 @@ module _ (k : Key) (words : List ℕ) (u : KeeperView) (is : IsTables (tables_of
         begins = begins;
         refused = prefix_same u.refusals;
         on = goes_on k u new begins (grown_force k u is entry idle follows fits);
+        code = λ index inside. grown_numbers k u is entry (Code index);
       } in
       record {
         tables = next;
         many = many;
         shows = grown_shows k u entry words idle is.some shows;
         quiets = quiets_stay k u new later words words refl same_words quiets;
+        code = code;
         held = subst (HeldFits k words new) (sym free) tt;
         each = out_stays k u new later words words refl free same_words (λ p r published. record {
           newest = omega (arith, long, next_bound ok p r published (omega (arith, r.within, last)));
@@ -132,12 +137,14 @@ module _ (k : Key) (words : List ℕ) (u : KeeperView) (is : IsTables (tables_of
         begins = prefix_same u.entries;
         refused = prefix_more u.refusals (refusal ∷ []);
         on = goes_on k u new (prefix_same u.entries) (omega arith);
+        code = λ index inside. omega arith;
       } in
       record {
         tables = next;
         many = many;
         shows = shows;
         quiets = quiets_stay k u new later words words refl same_words quiets;
+        code = code;
         held = subst (HeldFits k words new) (sym free) tt;
         each = out_stays k u new later words words refl free same_words (λ p r published. record {
           newest = r.newest;
@@ -180,14 +187,14 @@ test_allowed k key slots id i me u entry same zeroth is idle free few follows fi
         let quiets = subst (ShowQuiets k s.words) e r.quiets in
         let found : ℕ = slice_index s.words (quiet_word u.tested) in
         let new : KeeperView = tested_by k entry found u in
-        let next = test_next k s.words u tables r.many shows quiets idle free few entry follows fits in (
+        let next = test_next k s.words u tables r.many shows quiets r.code idle free few entry follows fits in (
           new,
           subst (λ v. IsNext k s.words v (slice_set s.words (quiet_word u.tested) found) new) (sym e)
               (subst (λ words. IsNext k s.words u words new) (sym (set-get_or s.words (quiet_word u.tested) 0)) next),
           record {
             is = sym (ap (λ (z : Seated). (Keeper (tested_by k entry found (keeper_of z.0)), z.1)) is);
             out = subst (λ (z : Seated). found ≢ 0 → is_out (keeper_of z.0).out (keeper_of z.0).tested ≡ true) (sym is)
-                (found_out k s.words u tables r.many shows quiets idle free few entry follows fits);
+                (found_out k s.words u tables r.many shows quiets r.code idle free few entry follows fits);
             tells = subst (λ (z : Seated). TellsForce k (keeper_of z.0) found) (sym is) (quiets.tells u.tested few);
           },
         )

@@ -1,13 +1,22 @@
 -- The views after the steps for a pass that the keeper holds.
-use Rattle.std.proofs.Common.{◌≡◌, [], slice_set, false, Some, None, ap, subst, ◌∙◌}
+use Rattle.std.proofs.Common.{◌-◌, ℕ, ◌≡◌, [], slice_set, false, Some, None, ap, subst, ◌∙◌}
 use Rattle.cfi_tables.specs.Key.{Key}
 use Rattle.cfi_tables.specs.Rule.{AgreesWith}
 use Rattle.cfi_tables.specs.Views.{held_by, keeper_of, keeping_of, noted, pass_of}
-use Rattle.cfi_tables.specs.inner.Steps.{Seated, cleared, left_view, published, returned_view, seat_view, told}
+use Rattle.cfi_word.specs.Table.{quiet_word}
+use Rattle.cfi_tables.proofs.HoldLemmas.{back}
+use Rattle.cfi_tables.specs.inner.Steps.{Seated, cleared, registered, left_view, published, returned_view, seat_view, told}
 use Rattle.cfi_tables.specs.declared.view.KeeperView.{KeeperView}
 use Rattle.cfi_tables.specs.declared.view.PassView.{PassView}
 use Rattle.cfi_tables.specs.declared.view.View.{View}
 use Rattle.cfi_tables.specs.declared.view.View.TheVariants.{Keeper, Pass}
+
+pub registered_view : (k : Key) (i guest : ℕ) (me new : Seated) (u : KeeperView) → me ≡ (Keeper u, [])
+    → i ≡ quiet_word guest → new ≡ (Keeper (registered k (i - 1) (keeper_of me.0)), me.1)
+    → new ≡ (Keeper (registered k guest u), [])
+registered_view k i guest me new u is word_at goes =
+    goes ∙ (ap (λ (z : Seated). (Keeper (registered k (i - 1) (keeper_of z.0)), z.1)) is
+    ∙ ap (λ g. (Keeper (registered k g u), [])) (ap (λ n. n - 1) word_at ∙ back guest))
 
 pub returned_to : (me new : Seated) (gone : View) (u : KeeperView) (p : PassView) → me ≡ (Keeper u, [])
     → gone ≡ Pass p → new ≡ (returned_view me.0 gone, me.1) → new ≡ (Keeper (record u { held = Some p }), [])

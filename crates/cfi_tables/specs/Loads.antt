@@ -1,5 +1,5 @@
 -- What a guest's load of a table word tells its pass. Epochs are numbers; an address is in bytes.
-use Rattle.std.specs.Prelude.{◌≡◌, ℕ, ◌+◌, ◌-◌, ◌*◌, ◌/◌, ◌%◌, ◌≤◌, ◌<◌, ◌⊎◌, max, nat_le, if◌then◌else◌, [], ◌∷◌, ◌++◌, List, length, slice_index_or, Option, ⊤}
+use Rattle.std.specs.Prelude.{◌≡◌, ℕ, ◌+◌, ◌-◌, ◌*◌, ◌/◌, ◌%◌, ◌≤◌, ◌<◌, ◌⊎◌, max, nat_le, if◌then◌else◌, [], ◌∷◌, ◌++◌, List, length, slice_index_or, Option, ⊤, slice_index, ◌≢◌}
 use mathlib.Core.List.{IsPrefix}
 use Rattle.cfi_word.specs.declared.map.TheConstants.{TARY, BARY, CODE_BYTES}
 use Rattle.cfi_word.specs.Table.{Place, slots_of, word_number}
@@ -88,3 +88,14 @@ pub record IsQuiet (k : Key) (epoch : ℕ) (old new : PassView) : Type 0 where
   pub epoch_is : epoch ≡ epoch_in found
   pub quiet : new.quiet ≡ epoch
   pub load : IsLoad k places.Epoch found old (record new { quiet = old.quiet })
+
+-- what a pass knows after the fetch of a code word: that of an entry which it has seen, if not 0, is what it found
+pub record IsFetch (k : Key) (index found : ℕ) (old new : PassView) : Type 0 where
+  pub is : new ≡ record old {
+    sight = record old.sight {
+      accesses = old.sight.accesses ++ access_of k.code_words (places.Code index) found ∷ [];
+    };
+  }
+  pub code : (number : ℕ) → number < length old.sight.entries
+      → slice_index (slice_index_or old.sight.entries number no_entry).image.code index ≢ 0
+      → found ≡ slice_index (slice_index_or old.sight.entries number no_entry).image.code index

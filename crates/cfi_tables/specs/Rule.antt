@@ -1,19 +1,19 @@
 -- The rule of the tables, at every moment: the words are those of the keeper's view, and what each seat knows is true.
-use Rattle.std.specs.Prelude.{◌≡◌, ◌≢◌, ◌⊎◌, ℕ, ◌+◌, ◌≤◌, ◌<◌, true, false, List, length, slice_get, slice_index, Option, Some, None, ⊤}
+use Rattle.std.specs.Prelude.{◌≡◌, ◌≢◌, ◌⊎◌, ℕ, ◌+◌, ◌≤◌, ◌<◌, true, false, List, length, slice_get, slice_index, Option, Some, None, ⊤, ◌^◌}
 use mathlib.Core.List.{IsPrefix}
 use mathlib.Core.Option.{some}
 use lib.ListN.{get_elem?}
 use Rattle.atomic_table.specs.Table.{State}
 use Rattle.cfi_word.specs.declared.limits.TheConstants.{GUESTS}
-use Rattle.cfi_word.specs.Table.{Place, IsPlace, quiet_word, word_count, word_number}
+use Rattle.cfi_word.specs.Table.{Place, IsPlace, quiet_word, word_count, word_number, code_word}
 use Rattle.cfi_word.specs.Table as places
 use Rattle.cfi_word.specs.Word.{epoch_in}
 use Rattle.cfi_model.specs.declared.history.Access.{Access}
 use Rattle.cfi_model.specs.declared.history.Entry.{Entry}
 use Rattle.cfi_model.specs.declared.history.Refusal.{Refusal}
 use Rattle.cfi_model.specs.Tables.{IsTables}
-use Rattle.cfi_model.specs.Words.{epoch_in_force, next_epoch, word_at}
 use Rattle.cfi_model.specs.Accesses.{AreFair}
+use Rattle.cfi_model.specs.Words.{epoch_in_force, next_epoch, word_at, number_at}
 use Rattle.cfi_tables.specs.Fair.{history_at, kept_of}
 use Rattle.cfi_tables.specs.Key.{Key}
 use Rattle.cfi_tables.specs.Keeping.{is_out}
@@ -49,11 +49,13 @@ pub record AgreesWith (k : Key) (entries : List Entry) (refusals : List Refusal)
       → IsAccessOf k entries access
   pub fair : AreFair (history_at k) k.code_words None sight.accesses
 
--- and the latest epoch is one, which is not above the one in force
+-- and the latest epoch is one, which is not above the one in force; all code of the entries that were seen is stored
 pub record IsSeen (k : Key) (u : KeeperView) (sight : Sight) : Type 0 where
   pub agrees : AgreesWith k u.entries u.refusals sight
   pub least : k.first ≤ sight.latest
   pub latest : sight.latest ≤ epoch_in_force (tables_of k u)
+  pub code : (index : ℕ) → index < k.code_words
+      → length sight.entries ≤ number_at (tables_of k u) (places.Code index) + 1
 
 -- a Bary word that a guest keeps is of the epoch before that which it has published, at the earliest
 pub record IsKeptBy (p : PassView) (word : ℕ) : Type 0 where
@@ -110,6 +112,10 @@ pub record ShowQuiets (k : Key) (words : List ℕ) (u : KeeperView) : Type 0 whe
   pub away : (guest : ℕ) → guest < GUESTS → is_out u.out guest ≡ false → slice_index words (quiet_word guest) ≡ 0
   pub tells : (guest : ℕ) → guest < GUESTS → TellsForce k u (slice_index words (quiet_word guest))
 
+-- a code word has 32 bits
+abbrev pub CodeFits : Key → (words : List ℕ) → Type 0
+CodeFits k words = (index : ℕ) → index < k.code_words → slice_index words (code_word index) < 2 ^ 32
+
 pub record IsKept (k : Key) (s : State (Unit {0}) View) : Type 0 where
   pub keeper : KeeperView
   pub first : get_elem? s.views 0 ≡ some (Keeper keeper)
@@ -117,6 +123,7 @@ pub record IsKept (k : Key) (s : State (Unit {0}) View) : Type 0 where
   pub many : length s.words ≡ word_count k.code_words
   pub shows : ShowTables k s.words keeper
   pub quiets : ShowQuiets k s.words keeper
+  pub code : CodeFits k s.words
   pub held : HeldFits k s.words keeper keeper.held
   pub seats : (seat : ℕ) (view : View) → get_elem? s.views seat ≡ some view → IsTrueOf k keeper view
   pub published : (seat : ℕ) (p : PassView) → get_elem? s.views seat ≡ some (Pass p) → IsPublished s.words p

@@ -1,6 +1,6 @@
 //! A table that has no name yet.
 
-ghost use Rattle.std.specs.Prelude.{◌≡◌, ◌≤◌, ◌++◌, All, IfOk, OnOk, map};
+ghost use Rattle.std.specs.Prelude.{◌≡◌, ◌≤◌, ◌++◌, All, IfOk, OnOk, map, ℕ, ◌<◌, ◌^◌, slice_index};
 ghost use Rattle.cfi_word.specs.Ids.{IsField};
 ghost use Rattle.cfi_word.specs.declared.limits.TheConstants.{MIN_VERSIONS, MAX_VERSIONS, MAX_EPOCH};
 ghost use Rattle.cfi_model.specs.Closed.{IsClosed};
@@ -54,23 +54,35 @@ fn opened_words(
     image: &Image,
 ) -> Result<Vec<u64>, AllocError>
     requires { IsClosed layout.now image.now }
-    ensures { IfOk result (λ words. words.items ≡ opened_words stamp.now image.now) }
+    ensures words { IfOk result (λ words. words.items ≡ opened_words stamp.now image.now) }
+    ensures small { IfOk result (λ words. (index : ℕ) →
+        slice_index image.now.code index < 2 ^ 32) }
 {
     let mut words = Vec::new(alloc);
     words.push(stamp.word(0))?;
     words.extend_from_slice(&[0u64; GUESTS as usize])?;
-    for instruction in image.code.as_slice() {
-        words.push(u64::from(*instruction))?;
-    }
+    push_code(&mut words, image.code.as_slice())?;
     push_words(&mut words, stamp, image.tary.as_slice())?;
     push_words(&mut words, stamp, image.bary.as_slice())?;
     Ok(words)
 }
 
+// The code words, each of 32 bits.
+fn push_code(words: &mut Vec<u64>, code: &[u32]) -> Result<(), AllocError>
+    ensures words { OnOk result (words.new.items ≡ words.old.items ++ code.now) }
+    ensures small { OnOk result ((index : ℕ) → slice_index code.now index < 2 ^ 32) }
+{
+    for instruction in code {
+        words.push(u64::from(*instruction))?;
+    }
+    Ok(())
+}
+
 // The table words of these classes.
 fn push_words(words: &mut Vec<u64>, stamp: &Stamp, classes: &[u32]) -> Result<(), AllocError>
     requires { All IsField classes.now }
-    ensures { OnOk result (words.new.items ≡ words.old.items ++ map (word_by stamp.now) classes.now) }
+    ensures { OnOk result (
+        words.new.items ≡ words.old.items ++ map (word_by stamp.now) classes.now) }
 {
     for class in classes {
         words.push(stamp.word(*class))?;

@@ -12,6 +12,7 @@ ghost use Rattle.cfi_tables.specs.declared.fault.UpdateFault.TheVariants.{Epochs
 
 use crate::admission::{Asked, test_all};
 use crate::blank::{Blank, Place};
+use crate::code::put_code;
 use crate::fault::{AdmitFault, UpdateFault};
 use crate::holding::{clear, register, tell};
 use crate::rule::TableName;
@@ -132,7 +133,6 @@ impl<N: TableName> Keeper<N> {
     /// update that is not admitted into the refusals.
     ///
     /// The policy is the one in force, with the image in force, or the next one, with an image that keeps the code.
-    /// Until code words are stored, the code of each image is the one in force.
     pub fn update(
         &mut self,
         tables: &Tables<N>,
@@ -142,7 +142,6 @@ impl<N: TableName> Keeper<N> {
     ) -> Result<u32, UpdateFault>
         requires follows { IsUpdate N.key.code_words (last_of self.old.entries)
             (entry_by policy image.now mark) }
-        requires code { image.now.code ≡ (last_of self.old.entries).image.code }
         ensures ok { IfOk result (λ epoch. epoch ≡ epoch_after N.key self.old) }
         ensures new { OnOk result (self.new ≡ grown_by (entry_by policy image.now mark) self.old) }
         ensures fault { IfErr result (FaultIs N.key mark self.old self.new) }
@@ -162,6 +161,8 @@ impl<N: TableName> Keeper<N> {
             return Err(UpdateFault::VersionsSpent { guest, quiet });
         }
         let stamp = Stamp::new(epoch, policy, self.versions);
+        let is_same = policy == self.policy;
+        put_code(tables, &mut self.seat, image.code.as_slice(), is_same);
         store_all(tables, &mut self.seat, &stamp, image);
         self.epoch = epoch;
         self.policy = policy;

@@ -1,6 +1,6 @@
 //! What the rule of the tables says of their words, and that its premises can be met.
 
-ghost use Rattle.std.specs.Prelude.{◌≡◌, ℕ, List, slice_index, []};
+ghost use Rattle.std.specs.Prelude.{◌≡◌, ◌<◌, ◌^◌, ℕ, List, slice_index, []};
 ghost use Rattle.atomic_table.specs.Table.{State, opening};
 ghost use Rattle.cfi_word.specs.Table.{Place, IsPlace, word_number};
 ghost use Rattle.cfi_model.specs.declared.history.Entry.{Entry};
@@ -29,9 +29,11 @@ pub fn words_show_tables()
 
 /// The premises of the calls can be met.
 ///
-/// `opens`: where the opening is of tables, some words keep the rule. `refresh`: the entry in force may follow itself.
+/// `opens`: where the opening is of tables, and its code of 32 bits a word, some words keep the rule. `refresh`: the
+/// entry in force may follow itself.
 pub fn some_tables_are_kept()
     ensures opens { (k : Key) → IsTables (idle_tables k (opened_keeping k)) →
+        ((index : ℕ) → slice_index k.image.code index < 2 ^ 32) →
         (words : List ℕ) × IsKept k (opening words [] (opened_view k)) }
     ensures refresh { (code_words : ℕ) (last : Entry) (mark : ℕ) →
         IsUpdate code_words last (entry_by last.policy last.image mark) }

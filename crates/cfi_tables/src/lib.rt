@@ -1,15 +1,16 @@
 //! The shared tables on atomic words: a keeper updates them, and passes load them, each in a thread of its own.
 //!
 //! Stands on `cfi_model`, `cfi_word` and the kit's `atomic_table`. Proved: at every moment the words show the tables of
-//! the keeper's view (`specs/Rule.antt`); each load answers its own step's word, one of the entries that the pass has
-//! seen, with the bounds on its epoch, and in each try equal versions are equal epochs; an update adds one entry, in the
-//! order Tary, EPOCH, Bary, or is refused by a QUIET word that it has loaded, and stores nothing; what a pass has seen is
-//! a beginning of what the keeper has. Tested: two guests load beside 100 updates, and a guest without quiescent points
-//! hinders an update. Open: code words, which no call stores or fetches yet.
+//! the keeper's view (`specs/Rule.antt`); each load and fetch answers its own step's word, one of the history, with the
+//! bounds on its epoch, and in each try equal versions are equal epochs; an update adds one entry, in the order code,
+//! Tary, EPOCH, Bary, or is refused by a QUIET word that it has loaded, and stores nothing; what a pass has seen is a
+//! beginning of what the keeper has. Tested: two guests load and fetch beside 100 updates, and a guest without
+//! quiescent points hinders an update. Open: nothing.
 #![tactic(auto)]
 
 mod admission;
 mod blank;
+mod code;
 mod fault;
 mod holding;
 mod keeper;

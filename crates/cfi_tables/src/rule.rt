@@ -81,6 +81,28 @@ impl<N: TableName> Play<(), View> for Load<N> {
     ghost then = { Loads N.key };
 }
 
+// A guest's fetch of a code word.
+pub(crate) struct Fetch<N> {
+    of: PhantomData<N>,
+}
+
+impl<N: TableName> Play<(), View> for Fetch<N> {
+    ghost use Rattle.cfi_tables.specs.inner.Steps.{Fetches};
+
+    ghost then = { Fetches N.key };
+}
+
+// The keeper's load of a code word.
+pub(crate) struct Look<N> {
+    of: PhantomData<N>,
+}
+
+impl<N: TableName> Play<(), View> for Look<N> {
+    ghost use Rattle.cfi_tables.specs.inner.Steps.{Looks};
+
+    ghost then = { Looks N.key };
+}
+
 // A guest's store of its QUIET word.
 pub(crate) struct Publish;
 

@@ -18,7 +18,8 @@ pub fn store_all<N: TableName>(tables: &Tables<N>, seat: &mut Place, stamp: &Sta
     requires stamp { stamp.now ≡ stamp_of N.key (keeping_at seat.old.me).entries }
     requires image { image.now ≡ (last_of (keeping_at seat.old.me).entries).image }
     requires fit { HasClasses N.key.code_words image.now }
-    requires seat { IsAt N.table seat.old.table_id seat.old.id seat.old.me (keeper_of seat.old.me.0) }
+    requires seat { IsAt N.table seat.old.table_id seat.old.id seat.old.me
+        (keeper_of seat.old.me.0) }
     requires reaches { Reaches N.key (keeper_of seat.old.me.0) N.key.code_words }
     ensures { IsAt N.table seat.new.table_id seat.new.id seat.new.me
         (idle_view N.key (keeping_at seat.old.me)) }
@@ -33,9 +34,11 @@ fn store_tary<N: TableName>(tables: &Tables<N>, seat: &mut Place, stamp: &Stamp,
     requires stamp { stamp.now ≡ stamp_of N.key (keeping_at seat.old.me).entries }
     requires classes { classes.now ≡ (last_of (keeping_at seat.old.me).entries).image.tary }
     requires fit { HasClasses N.key.code_words (last_of (keeping_at seat.old.me).entries).image }
-    requires seat { IsAt N.table seat.old.table_id seat.old.id seat.old.me (keeper_of seat.old.me.0) }
+    requires seat { IsAt N.table seat.old.table_id seat.old.id seat.old.me
+        (keeper_of seat.old.me.0) }
     requires reaches { Reaches N.key (keeper_of seat.old.me.0) N.key.code_words }
-    ensures seat { IsAt N.table seat.new.table_id seat.new.id seat.new.me (keeper_of seat.new.me.0) }
+    ensures seat { IsAt N.table seat.new.table_id seat.new.id seat.new.me
+        (keeper_of seat.new.me.0) }
     ensures reaches { Reaches N.key (keeper_of seat.new.me.0) (2 * N.key.code_words) }
     ensures same { keeping_at seat.new.me ≡ keeping_at seat.old.me }
 {
@@ -52,9 +55,11 @@ fn store_tary<N: TableName>(tables: &Tables<N>, seat: &mut Place, stamp: &Stamp,
 // EPOCH, by which the policy of the last entry is in force.
 fn store_epoch<N: TableName>(tables: &Tables<N>, seat: &mut Place, stamp: &Stamp)
     requires stamp { stamp.now ≡ stamp_of N.key (keeping_at seat.old.me).entries }
-    requires seat { IsAt N.table seat.old.table_id seat.old.id seat.old.me (keeper_of seat.old.me.0) }
+    requires seat { IsAt N.table seat.old.table_id seat.old.id seat.old.me
+        (keeper_of seat.old.me.0) }
     requires reaches { Reaches N.key (keeper_of seat.old.me.0) (2 * N.key.code_words) }
-    ensures seat { IsAt N.table seat.new.table_id seat.new.id seat.new.me (keeper_of seat.new.me.0) }
+    ensures seat { IsAt N.table seat.new.table_id seat.new.id seat.new.me
+        (keeper_of seat.new.me.0) }
     ensures reaches { Reaches N.key (keeper_of seat.new.me.0) (2 * N.key.code_words + 1) }
     ensures stored { (keeper_of seat.new.me.0).stored ≡ 2 * N.key.code_words + 1 }
     ensures same { keeping_at seat.new.me ≡ keeping_at seat.old.me }
@@ -71,10 +76,12 @@ fn store_bary<N: TableName>(tables: &Tables<N>, seat: &mut Place, stamp: &Stamp,
     requires stamp { stamp.now ≡ stamp_of N.key (keeping_at seat.old.me).entries }
     requires classes { classes.now ≡ (last_of (keeping_at seat.old.me).entries).image.bary }
     requires fit { HasClasses N.key.code_words (last_of (keeping_at seat.old.me).entries).image }
-    requires seat { IsAt N.table seat.old.table_id seat.old.id seat.old.me (keeper_of seat.old.me.0) }
+    requires seat { IsAt N.table seat.old.table_id seat.old.id seat.old.me
+        (keeper_of seat.old.me.0) }
     requires reaches { Reaches N.key (keeper_of seat.old.me.0) (2 * N.key.code_words + 1) }
     requires stored { (keeper_of seat.old.me.0).stored ≡ 2 * N.key.code_words + 1 }
-    ensures seat { IsAt N.table seat.new.table_id seat.new.id seat.new.me (keeper_of seat.new.me.0) }
+    ensures seat { IsAt N.table seat.new.table_id seat.new.id seat.new.me
+        (keeper_of seat.new.me.0) }
     ensures reaches { Reaches N.key (keeper_of seat.new.me.0) (stores_of N.key.code_words) }
     ensures stored { (keeper_of seat.new.me.0).stored ≡ stores_of N.key.code_words }
     ensures same { keeping_at seat.new.me ≡ keeping_at seat.old.me }

@@ -1,12 +1,12 @@
 //! The tables under a name, and the passes that load them.
 
-ghost use Rattle.std.specs.Prelude.{◌≡◌};
+ghost use Rattle.std.specs.Prelude.{◌≡◌, ◌<◌};
 ghost use Rattle.cfi_word.specs.Table.{IsSize, word_count, word_number};
 ghost use Rattle.cfi_tables.specs.Key.{key_of};
-ghost use Rattle.cfi_tables.specs.Loads.{IsLoad, IsQuiet, IsTableAddress, place_at};
+ghost use Rattle.cfi_tables.specs.Loads.{IsFetch, IsLoad, IsQuiet, IsTableAddress, place_at};
 
 use crate::blank::{Place, Words};
-use crate::rule::{Load, Publish, TableName};
+use crate::rule::{Fetch, Load, Publish, TableName};
 use cfi_word::map::{BARY, TARY};
 use cfi_word::{EPOCH, Layout, Word};
 use std::marker::{Model, PhantomData};
@@ -68,6 +68,20 @@ impl<N: TableName> Tables<N> {
         self.words
             .shared
             .load::<Load<N>>(&mut pass.seat, word as usize)
+    }
+
+    /// Fetches the code word of this number, which is below the layout's number of code words.
+    #[inline(always)]
+    pub fn fetch(&self, pass: &mut Pass<N>, word: u32) -> u32
+        requires { word < N.key.code_words }
+        ensures { IsFetch N.key word result pass.old pass.new }
+    {
+        let number = self.layout.code(word);
+        let found = self
+            .words
+            .shared
+            .load::<Fetch<N>>(&mut pass.seat, number as usize);
+        found as u32
     }
 
     /// A quiescent point: loads EPOCH, publishes the epoch found in the guest's QUIET word, and answers it.

@@ -60,8 +60,10 @@ fn load<N: TableName>(tables: &Tables<N>, mut reader: Reader<N>, turns: u32) -> 
     for _ in 0..turns {
         let bary = tables.load(&mut reader.pass, BARY);
         let tary = tables.load(&mut reader.pass, TARY + 64);
+        let instruction = tables.fetch(&mut reader.pass, 16);
         let version = Word::epoch_of(tary) % 16384;
         reader.sound = reader.sound
+            && instruction == 0x6f
             && Word::id_of(bary) == id(FIELD_MAX, Word::epoch_of(bary) % 16384)
             && Word::id_of(tary) == id(0, version)
             && latest <= Word::epoch_of(tary)

@@ -1,19 +1,19 @@
 -- What each kind of step tells its seat.
-use Rattle.std.specs.Prelude.{◌≡◌, ◌≢◌, ℕ, zero, suc, ◌+◌, ◌-◌, nat_lt, if◌then◌else◌, Bool, true, false, [], ◌∷◌, ◌++◌, slice_set, Some, None}
+use Rattle.std.specs.Prelude.{◌≡◌, ◌≢◌, ℕ, zero, suc, ◌+◌, ◌-◌, nat_lt, if◌then◌else◌, Bool, true, false, [], ◌∷◌, ◌++◌, slice_set, Some, None, ◌^◌, ◌<◌}
 use Rattle.atomic_table.specs.Table.{Me, Step}
 use Rattle.cfi_word.specs.declared.limits.TheConstants.{GUESTS}
 use Rattle.cfi_word.specs.Rank.{rank}
-use Rattle.cfi_word.specs.Table.{Place, IsPlace, word_number}
+use Rattle.cfi_word.specs.Table.{Place, IsPlace, word_number, code_word}
 use Rattle.cfi_model.specs.declared.history.Entry.{Entry}
 use Rattle.cfi_model.specs.declared.history.Refusal.{Refusal}
 use Rattle.cfi_model.specs.declared.quiet.Quiet.{Quiet}
 use Rattle.cfi_model.specs.declared.quiet.Quiet.TheVariants.{Unregistered, Published}
 use Rattle.cfi_model.specs.Quiet.{admits}
-use Rattle.cfi_model.specs.Words.{next_epoch}
+use Rattle.cfi_model.specs.Words.{next_epoch, word_at}
 use Rattle.cfi_tables.specs.Key.{Key}
 use Rattle.cfi_tables.specs.Keeping.{is_out}
-use Rattle.cfi_tables.specs.Loads.{IsLoad, TellsEpoch}
-use Rattle.cfi_tables.specs.Rule.{AgreesWith, TellsForce}
+use Rattle.cfi_tables.specs.Loads.{IsLoad, TellsEpoch, IsFetch}
+use Rattle.cfi_tables.specs.Rule.{AgreesWith, TellsForce, HasStore}
 use Rattle.cfi_tables.specs.Views.{admitted, held_by, keeper_of, keeping_of, noted, pass_of, tables_of}
 use Rattle.cfi_tables.specs.declared.view.KeeperView.{KeeperView}
 use Rattle.cfi_tables.specs.declared.view.PassView.{PassView}
@@ -31,6 +31,12 @@ stored_to rank u = record u { stored = rank + 1 }
 
 abbrev pub Stores : Key → Step (Unit {0}) → Seated → (found : ℕ) → Seated → Type 0
 Stores k s old found new = new ≡ (Keeper (stored_to (rank k.code_words s.word) (keeper_of old.0)), old.1)
+
+-- the keeper's load of a word that updates store
+pub record Looks (k : Key) (s : Step (Unit {0})) (old : Seated) (found : ℕ) (new : Seated) : Type 0 where
+  pub same : new ≡ old
+  pub is : (place : Place) → IsPlace k.code_words place → HasStore place → word_number k.code_words place ≡ s.word
+      → found ≡ word_at (tables_of k (keeper_of old.0)) place
 
 -- ---- the keeper's test of a QUIET word
 
@@ -65,7 +71,8 @@ tested_by k entry word u =
     if is_passed k u word then passed entry u else refused (refusal_of k entry.mark u word) u
 
 -- a word that is not 0 is that of a pass that is out, and tells an epoch that is or was in force
-pub record Tests (k : Key) (entry : Entry) (s : Step (Unit {0})) (old : Seated) (found : ℕ) (new : Seated) : Type 0 where
+pub record Tests (k : Key) (entry : Entry) (s : Step (Unit {0})) (old : Seated) (found : ℕ) (new : Seated)
+    : Type 0 where
   pub is : new ≡ (Keeper (tested_by k entry found (keeper_of old.0)), old.1)
   pub out : found ≢ 0 → is_out (keeper_of old.0).out (keeper_of old.0).tested ≡ true
   pub tells : TellsForce k (keeper_of old.0) found
@@ -76,6 +83,12 @@ pub record Loads (k : Key) (s : Step (Unit {0})) (old : Seated) (found : ℕ) (n
   pub same : new ≡ (Pass (pass_of new.0), old.1)
   pub load : (place : Place) → IsPlace k.code_words place → TellsEpoch place
       → word_number k.code_words place ≡ s.word → IsLoad k place found (pass_of old.0) (pass_of new.0)
+
+pub record Fetches (k : Key) (s : Step (Unit {0})) (old : Seated) (found : ℕ) (new : Seated) : Type 0 where
+  pub same : new ≡ (Pass (pass_of new.0), old.1)
+  pub small : found < 2 ^ 32
+  pub fetch : (index : ℕ) → index < k.code_words → code_word index ≡ s.word
+      → IsFetch k index found (pass_of old.0) (pass_of new.0)
 
 -- the guest publishes the latest epoch that it has seen
 abbrev pub published : PassView → PassView

@@ -1,9 +1,10 @@
-use Rattle.std.proofs.Common.{Some, sym, ap, ◌∙◌, refl, arith}
+use Rattle.std.proofs.Common.{◌≡◌, Some, sym, ap, ◌∙◌, refl, arith}
 use Rattle.cfi_tables.specs.Views.{idle_view, noted, pass_of}
 use Rattle.cfi_tables.specs.inner.Steps.{Seated}
 use Rattle.cfi_tables.specs.inner.Stores.{keeping_at}
 use Rattle.cfi_tables.specs.declared.view.KeeperView.{KeeperView}
 use Rattle.cfi_tables.specs.declared.view.PassView.{PassView}
+use Rattle.cfi_tables.specs.declared.view.View.TheVariants.{Pass}
 use Rattle.cfi_tables.proofs.HoldLemmas.{tell_allowed}
 use Rattle.cfi_tables.proofs.SeatLemmas.{leave_splits, return_joins, vacate_splits}
 use Rattle.cfi_tables.proofs.ViewLemmas.{returned_to, told_to}
@@ -43,7 +44,8 @@ load-requires g c =
     let j = c.join_seat.ensures in
     let u : KeeperView = idle_view k (keeping_at c.args.seat.now.me) in
     let p : PassView = pass_of c.pass.inside.seat.me.0 in
-    let gone = ap (λ s. s.me.0) c.replace-place.ensures.value ∙ ap (λ (z : Seated). z.0) c.pass.invariant.me_is in
+    let gone : c.replace-place.result.me.0 ≡ Pass p =
+    ap (λ s. s.me.0) c.replace-place.ensures.value ∙ ap (λ (z : Seated). z.0) c.pass.invariant.me_is in
     let held = returned_to _ _ _ u p (v.2 ∙ r.seat.me_is) gone j.2 in (
       j.0 ∙ (v.0 ∙ (r.seat.table_is ∙ sym t.name)),
       omega (arith, t.many),
@@ -61,7 +63,8 @@ split_seat-requires g c =
     let l = c.load.ensures in
     let u : KeeperView = idle_view k (keeping_at c.args.seat.now.me) in
     let p : PassView = pass_of c.pass.inside.seat.me.0 in
-    let gone = ap (λ s. s.me.0) c.replace-place.ensures.value ∙ ap (λ (z : Seated). z.0) c.pass.invariant.me_is in
+    let gone : c.replace-place.result.me.0 ≡ Pass p =
+    ap (λ s. s.me.0) c.replace-place.ensures.value ∙ ap (λ (z : Seated). z.0) c.pass.invariant.me_is in
     let held = returned_to _ _ _ u p (v.2 ∙ r.seat.me_is) gone j.2 in
     let told = told_to _ u p held k _ l.2.is in
     let q : PassView = noted k (keeping_at c.args.seat.now.me) p in (

@@ -26,8 +26,8 @@ store-requires g c =
     ∙ ap (λ e. word_by (stamp_of k e.entries) (slice_index (last_of e.entries).image.bary n)) (sym i.3))) in (
       i.0.table_is ∙ sym t.name,
       omega (arith, t.many, number, below),
-      next_allowed k u (Bary n) below tt (2 * k.code_words + 1 + n) refl i.1 _ _ _ _ _ _ t.key i.0.id_is i.0.me_is number
-          value,
+      next_allowed k u (Bary n) below tt (2 * k.code_words + 1 + n) refl i.1 _ _ _ _ _ _ t.key i.0.id_is i.0.me_is
+          number value (λ index e. absurd (cc)),
     )
 
 pub loop-slot-preserved : goal.loop-slot-preserved

@@ -13,7 +13,8 @@ store-requires g c =
       r.seat.table_is ∙ sym t.name,
       omega (arith, t.many),
       next_allowed k (keeper_of c.args.seat.now.me.0) Epoch tt tt (2 * k.code_words) refl r.reaches _ _ _ _ _ _ t.key
-          r.seat.id_is r.seat.me_is refl (c.word-value.ensures ∙ ap (λ s. word_by s 0) r.stamp),
+          r.seat.id_is r.seat.me_is refl (c.word-value.ensures ∙ ap (λ s. word_by s 0) r.stamp)
+          (λ index e. absurd (cc)),
     )
 
 pub returns-clause-reaches : goal.returns-clause-reaches

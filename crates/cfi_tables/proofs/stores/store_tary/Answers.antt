@@ -26,7 +26,8 @@ store-requires g c =
     ∙ ap (λ e. word_by (stamp_of k e.entries) (slice_index (last_of e.entries).image.tary n)) (sym i.2))) in (
       i.0.table_is ∙ sym t.name,
       omega (arith, t.many, number, below),
-      next_allowed k u (Tary n) below tt (k.code_words + n) refl i.1 _ _ _ _ _ _ t.key i.0.id_is i.0.me_is number value,
+      next_allowed k u (Tary n) below tt (k.code_words + n) refl i.1 _ _ _ _ _ _ t.key i.0.id_is i.0.me_is number
+          value (λ index e. absurd (cc)),
     )
 
 pub loop-index-preserved : goal.loop-index-preserved

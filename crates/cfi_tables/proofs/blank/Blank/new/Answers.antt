@@ -1,4 +1,4 @@
-use Rattle.std.proofs.Common.{rules, ◌≡◌, ◌∙◌, sym, ap, subst}
+use Rattle.std.proofs.Common.{rules, ◌≡◌, ◌<◌, ◌^◌, ◌∙◌, ℕ, slice_index, sym, ap, subst}
 use Rattle.cfi_word.specs.Table.{IsSize}
 use Rattle.cfi_word.specs.declared.lists.Image.{Image}
 use Rattle.cfi_tables.specs.Key.{key_by}
@@ -20,7 +20,9 @@ of_words-requires c =
     c.requires.closed in
     let key = λ (image : Image). key_by a.layout a.versions a.first image in
     let tables = subst (λ image. IsTables (idle_tables (key image) (opened_keeping (key image)))) (sym same) is in
-    let words = c.as_slice.ensures.value ∙ (c.in_ok-words.ensures
+    let small = subst (λ (image : Image). (index : ℕ) → slice_index image.code index < 2 ^ 32) (sym same)
+    c.in_ok-words.ensures.small in
+    let words = c.as_slice.ensures.value ∙ (c.in_ok-words.ensures.words
     ∙ (ap (λ s. opened_words s a.image.now) c.new-stamp.ensures
     ∙ ap (λ i. opened_words (record { epoch = a.first; policy = 0; versions = a.versions }) i) (sym same))) in
-    opening_kept (key c.of.result.value) tables c.as_slice.result.now words
+    opening_kept (key c.of.result.value) tables small c.as_slice.result.now words

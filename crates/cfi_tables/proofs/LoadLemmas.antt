@@ -1,0 +1,277 @@
+-- What a load adds to what was seen, and what a quiescent point makes of it.
+use Rattle.std.proofs.Common.{◌≡◌, ℕ, zero, suc, ◌+◌, ◌<◌, ◌≤◌, max, nat_lt, cond, Bool, true, false, List, [], ◌∷◌, ◌++◌, length, length-take, slice_get, take, Option, Some, None, refl, sym, ap, subst, ◌∙◌, arith}
+use Rattle.std.proofs.lemmas.Bool.Decides.{nat_tests}
+use mathlib.Core.List.{IsPrefix}
+use Rattle.cfi_word.specs.Table.{Place, Epoch, Quiet, Code, Tary, Bary, IsPlace}
+use Rattle.cfi_word.specs.Word.{epoch_in}
+use Rattle.cfi_model.specs.declared.history.Entry.{Entry}
+use Rattle.cfi_model.specs.Tables.{IsTables}
+use Rattle.cfi_model.specs.Words.{Tables, entry_word, epoch_in_force, no_entry, number_at, is_stored, word_at, rank_at}
+use Rattle.cfi_model.proofs.TableLemmas.{force_epoch, number_within}
+use Rattle.cfi_model.proofs.InForceLemmas.{bary_epoch, bary_epoch_is, tary_epoch, tary_epoch_is, number_falls}
+use Rattle.cfi_tables.specs.Key.{Key}
+use Rattle.cfi_model.specs.History.{IsFair}
+use Rattle.cfi_tables.specs.Fair.{history_at, kept_of}
+use Rattle.cfi_tables.specs.Loads.{IsFairAt, IsLoad, IsWordOf, Tells, TellsEpoch, access_of}
+use Rattle.cfi_tables.specs.Rule.{HasStore, IsAccessOf, IsKeptBy, IsRegistered}
+use Rattle.cfi_tables.specs.Views.{tables_of}
+use Rattle.cfi_tables.specs.declared.view.KeeperView.{KeeperView}
+use Rattle.cfi_tables.specs.declared.view.PassView.{PassView}
+use Rattle.cfi_tables.specs.inner.Steps.{published}
+use Rattle.atomic_table.proofs.Lists.{one_turn}
+use Rattle.cfi_tables.proofs.FairLemmas.{fair_at, fair_snoc, kept_at, kept_snoc}
+use Rattle.cfi_tables.proofs.Prefixes.{prefix_item, prefix_same, prefix_take, take_prefix}
+use Rattle.cfi_tables.proofs.SeenLemmas.{word_stays}
+
+-- ---- a load
+
+same_some : {A : Type 0} (a b : A) → Some a ≡ Some b → a ≡ b
+same_some a b e = cc
+
+-- what is known of an item at the end of a list, and of the others
+pub each_snoc : {A : Type 0} (P : A → Type 0) (xs : List A) (x : A)
+    → ((number : ℕ) (item : A) → slice_get xs number ≡ Some item → P item) → P x
+    → (number : ℕ) (item : A) → slice_get (xs ++ x ∷ []) number ≡ Some item → P item
+each_snoc P [] x each last zero item is = subst P (same_some x item is) last
+each_snoc P [] x each last (suc number) item is = absurd (cc)
+each_snoc P (y ∷ xs) x each last zero item is = each zero item is
+each_snoc P (y ∷ xs) x each last (suc number) item is =
+    each_snoc P xs x (λ n a e. each (suc n) a e) last number item is
+
+-- as many entries as a word tells of, where fewer were seen
+abbrev pub entries_after : (seen all : List Entry) (number : ℕ) → List Entry
+entries_after seen all number = cond (nat_lt number (length seen)) seen (take (number + 1) all)
+
+-- the greatest epoch that was seen in force, after a load
+abbrev pub latest_after : Place → (found before : ℕ) → ℕ
+latest_after Epoch found before = epoch_in found
+latest_after (Tary index) found before = before
+latest_after (Bary slot) found before = max before (epoch_in found)
+latest_after (Code index) found before = before
+latest_after (Quiet guest) found before = before
+
+abbrev pub loaded : Key → KeeperView → Place → (found : ℕ) → PassView → PassView
+loaded k u place found p = record {
+  guest = p.guest;
+  quiet = p.quiet;
+  sight = record {
+    refusals = p.sight.refusals;
+    entries = entries_after p.sight.entries u.entries (number_at (tables_of k u) place);
+    latest = latest_after place found p.sight.latest;
+    accesses = p.sight.accesses ++ access_of k.code_words place found ∷ [];
+  };
+}
+
+-- what is seen then begins with what was seen, and has the word's entry
+pub record AreMore (seen all after : List Entry) (number : ℕ) : Type 0 where
+  pub grows : IsPrefix seen after
+  pub begins : IsPrefix after all
+  pub within : number < length after
+
+more_by : (seen all : List Entry) (number : ℕ) (enough : Bool) → nat_lt number (length seen) ≡ enough
+    → IsPrefix seen all → number < length all
+    → AreMore seen all (cond enough seen (take (number + 1) all)) number
+more_by seen all number true is begins within =
+    record { grows = prefix_same seen; begins = begins; within = grind (arith, nat_tests) }
+more_by seen all number false is begins within =
+    let few : length seen ≤ number + 1 = grind (arith, nat_tests) in
+    let long = length-take (number + 1) all in
+    record {
+      grows = prefix_take seen all (number + 1) begins few;
+      begins = take_prefix all (number + 1);
+      within = grind (arith, nat_tests);
+    }
+
+pub are_more : (seen all : List Entry) (number : ℕ) → IsPrefix seen all → number < length all
+    → AreMore seen all (entries_after seen all number) number
+are_more seen all number = more_by seen all number (nat_lt number (length seen)) refl
+
+-- no more entries are seen then than were, or than the word tells of
+most_by : (seen all : List Entry) (number most : ℕ) (enough : Bool) → length seen ≤ most → number + 1 ≤ most
+    → length (cond enough seen (take (number + 1) all)) ≤ most
+most_by seen all number most true few less = few
+most_by seen all number most false few less =
+    let long = length-take (number + 1) all in grind (arith, nat_tests)
+
+-- a code word is stored before each word that tells an epoch
+code_first : (c index : ℕ) (place : Place) → index < c → TellsEpoch place → rank_at c (Code index) ≤ rank_at c place
+code_first c index Epoch inside tells = omega arith
+code_first c index (Tary other) inside tells = omega arith
+code_first c index (Bary slot) inside tells = omega arith
+code_first c index (Code other) inside tells = absurd tells
+code_first c index (Quiet guest) inside tells = absurd tells
+
+pub tells_store : (place : Place) → TellsEpoch place → HasStore place
+tells_store Epoch tells = tt
+tells_store (Tary index) tells = tt
+tells_store (Bary slot) tells = tt
+tells_store (Code index) tells = tt
+tells_store (Quiet guest) tells = absurd tells
+
+module _ (k : Key) (u : KeeperView) (is : IsTables (tables_of k u)) where
+  abbrev t : Tables
+  t = tables_of k u
+
+  -- the epoch of the entry that a table word is of
+  epoch_is : (place : Place) → TellsEpoch place → epoch_in (word_at t place) ≡ k.first + number_at t place
+  epoch_is Epoch tells = force_epoch t is
+  epoch_is (Tary index) tells = tary_epoch_is t is index
+  epoch_is (Bary slot) tells = bary_epoch_is t is slot
+  epoch_is (Code index) tells = absurd tells
+  epoch_is (Quiet guest) tells = absurd tells
+
+  tells_is : (place : Place) → IsPlace k.code_words place → TellsEpoch place → (before : ℕ)
+      → before ≤ epoch_in_force t
+      → Tells place (word_at t place) before (latest_after place (word_at t place) before)
+  tells_is Epoch at tells before most = (most, refl)
+  tells_is (Tary index) at tells before most =
+      let epoch = tary_epoch t is index at in (omega (arith, most, epoch.0), refl)
+  tells_is (Bary slot) at tells before most =
+      let epoch = bary_epoch t is slot in (omega (arith, most, epoch.1), refl)
+  tells_is (Code index) at tells before most = absurd tells
+  tells_is (Quiet guest) at tells before most = absurd tells
+
+  latest_is : (place : Place) → (before : ℕ) → before ≤ epoch_in_force t
+      → latest_after place (word_at t place) before ≤ epoch_in_force t
+  latest_is Epoch before most = omega arith
+  latest_is (Tary index) before most = most
+  latest_is (Bary slot) before most = let epoch = bary_epoch t is slot in omega (arith, most, epoch.0)
+  latest_is (Code index) before most = most
+  latest_is (Quiet guest) before most = most
+
+  -- what a load tells is not less than was known
+  latest_least : (place : Place) → (before : ℕ) → before ≤ epoch_in_force t
+      → before ≤ latest_after place (word_at t place) before
+  latest_least Epoch before most = most
+  latest_least (Tary index) before most = omega arith
+  latest_least (Bary slot) before most = omega arith
+  latest_least (Code index) before most = omega arith
+  latest_least (Quiet guest) before most = omega arith
+
+  module _ (place : Place) (at : IsPlace k.code_words place) (tells : TellsEpoch place) (p : PassView)
+      (r : IsRegistered k u p) where
+    abbrev number : ℕ
+    number = number_at t place
+
+    abbrev found : ℕ
+    found = word_at t place
+
+    abbrev after : PassView
+    after = loaded k u place found p
+
+    more : AreMore p.sight.entries u.entries (entries_after p.sight.entries u.entries number) number
+    more = are_more p.sight.entries u.entries number r.seen.agrees.begins (number_within t is (is_stored t place))
+
+    word_seen : IsWordOf k (entries_after p.sight.entries u.entries number) place found
+    word_seen = record {
+      number = number;
+      within = more.within;
+      is = ap (λ e. entry_word k.versions (k.first + number) e place)
+          (prefix_item (entries_after p.sight.entries u.entries number) u.entries number no_entry more.begins
+          more.within);
+    }
+
+    -- a Tary word is of no earlier epoch than the kept Bary word, and too few epochs lie between for a version to come
+    -- again
+    fair_by : (index : ℕ) → index < k.code_words → (kept : Option ℕ) → ((word : ℕ) → kept ≡ Some word → IsKeptBy p word)
+        → IsFair (history_at k) kept (word_at t (Tary index))
+    fair_by index inside None keeps = tt
+    fair_by index inside (Some word) keeps =
+        let kept = keeps word refl in
+        let epoch = tary_epoch t is index inside in
+        λ same. one_turn (epoch_in word) (epoch_in (word_at t (Tary index))) k.versions
+        (omega (arith, kept.most, r.seen.latest, epoch.0)) (omega (arith, kept.least, r.newest, epoch.1)) same
+
+    fair_is : (other : Place) → other ≡ place → IsFairAt k (kept_of k p.sight.accesses) other (word_at t other)
+    fair_is Epoch e = tt
+    fair_is (Tary index) e =
+        fair_by index (subst (IsPlace k.code_words) (sym e) at) (kept_of k p.sight.accesses) r.kept
+    fair_is (Bary slot) e = tt
+    fair_is (Code index) e = tt
+    fair_is (Quiet guest) e = tt
+
+    pub load_is : IsLoad k place found p after
+    unfolding word_seen
+    load_is = record {
+      guest = refl;
+      quiet = refl;
+      refusals = refl;
+      accesses = refl;
+      grows = more.grows;
+      word = word_seen;
+      epoch = epoch_is place tells;
+      tells = tells_is place at tells p.sight.latest r.seen.latest;
+      fair = fair_is place refl;
+    }
+
+    -- the Bary word that is kept then
+    keeps_is : (other : Place) → (word : ℕ)
+        → kept_at other (kept_of k p.sight.accesses) (word_at t other) ≡ Some word
+        → IsKeptBy (loaded k u other (word_at t other) p) word
+    keeps_is Epoch word e = absurd (cc)
+    keeps_is (Tary index) word e = let kept = r.kept word e in record { least = kept.least; most = kept.most }
+    keeps_is (Bary slot) word e =
+        let same : word_at t (Bary slot) ≡ word = same_some (word_at t (Bary slot)) word e in
+        let epoch = bary_epoch t is slot in
+        subst (IsKeptBy (loaded k u (Bary slot) (word_at t (Bary slot)) p)) same (record {
+          least = omega (arith, r.published, r.seen.latest, epoch.1);
+          most = omega arith;
+        })
+    keeps_is (Code index) word e = let kept = r.kept word e in record { least = kept.least; most = kept.most }
+    keeps_is (Quiet guest) word e = let kept = r.kept word e in record { least = kept.least; most = kept.most }
+
+    pub loaded_registered : IsRegistered k u after
+    loaded_registered =
+        let grows = latest_least place p.sight.latest r.seen.latest in
+        record {
+          seen = record {
+            agrees = record {
+              begins = more.begins;
+              refused = r.seen.agrees.refused;
+              accesses = each_snoc (IsAccessOf k u.entries) p.sight.accesses (access_of k.code_words place found)
+                  r.seen.agrees.accesses
+                  (record {
+                    place = place;
+                    within = at;
+                    stored = tells_store place tells;
+                    is = refl;
+                    word = word_stays k (entries_after p.sight.entries u.entries number) u.entries place found
+                        more.begins word_seen;
+                  });
+              fair = fair_snoc (history_at k) k.code_words None p.sight.accesses
+                  (access_of k.code_words place found) r.seen.agrees.fair
+                  (fair_at k (kept_of k p.sight.accesses) place found at (fair_is place refl));
+            };
+            least = omega (arith, grows, r.seen.least);
+            latest = latest_is place p.sight.latest r.seen.latest;
+            code = λ index inside.
+                (let falls = number_falls t place (Code index) (code_first k.code_words index place inside tells) in
+                most_by p.sight.entries u.entries number (number_at t (Code index) + 1)
+                (nat_lt number (length p.sight.entries)) (r.seen.code index inside) (omega (arith, falls)));
+          };
+          within = r.within;
+          out = r.out;
+          published = omega (arith, grows, r.published);
+          kept = λ word e. keeps_is place word
+              (sym (kept_snoc k p.sight.accesses place found at (tells_store place tells)) ∙ e);
+          newest = r.newest;
+          next = r.next;
+        }
+
+-- ---- a quiescent point
+
+-- with no Bary word kept, the latest epoch that was seen may be published
+pub published_registered : (k : Key) (u : KeeperView) (p : PassView) → IsRegistered k u p
+    → kept_of k p.sight.accesses ≡ None → IsRegistered k u (published p)
+published_registered k u p r bare = record {
+  seen = r.seen;
+  within = r.within;
+  out = r.out;
+  published = omega arith;
+  kept = λ word e. absurd (no_word word (sym bare ∙ e));
+  newest = omega (arith, r.newest, r.published);
+  next = λ tested. omega (arith, r.next tested, r.published);
+}
+  where
+    no_word : (word : ℕ) → None ≡ Some word → ⊥
+    no_word word e = absurd (cc)
