@@ -5,3 +5,4 @@ pub mod Events
 pub mod Schedule
 pub mod Valid
 pub mod Example
+pub mod Reach
