@@ -6,3 +6,4 @@ pub mod Schedule
 pub mod Valid
 pub mod Example
 pub mod Reach
+pub mod Agrees

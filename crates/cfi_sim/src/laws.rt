@@ -1,6 +1,7 @@
 //! That there is a valid simulation, and that schedules go event by event and keep their journals legal.
 
 ghost use Rattle.std.specs.Prelude.{[], ◌∷◌};
+ghost use Rattle.cfi_sim.specs.Agrees.{AgreeingTell};
 ghost use Rattle.cfi_sim.specs.Example.{still};
 ghost use Rattle.cfi_sim.specs.Reach.{SchedulesReach, SchedulesJournal};
 ghost use Rattle.cfi_sim.specs.Valid.{IsValidSim};
@@ -21,4 +22,10 @@ pub fn schedules_reach()
 /// schedule is one that a run may have.
 pub fn schedules_keep_journals()
     ensures { SchedulesJournal }
+{}
+
+/// A world whose epoch in force, versions and guests are those of the journal tells of epochs and versions what the
+/// journal does.
+pub fn agreeing_worlds_tell()
+    ensures { AgreeingTell }
 {}
