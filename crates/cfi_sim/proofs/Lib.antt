@@ -1,1 +1,4 @@
 pub mod ExampleLemmas
+pub mod ReachLemmas
+pub mod LegalLemmas
+pub mod TellLemmas

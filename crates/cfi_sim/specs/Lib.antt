@@ -5,3 +5,5 @@ pub mod Events
 pub mod Schedule
 pub mod Valid
 pub mod Example
+pub mod Reach
+pub mod Agrees

@@ -1,7 +1,9 @@
-//! That there is a valid simulation.
+//! That there is a valid simulation, and that schedules go event by event and keep their journals legal.
 
 ghost use Rattle.std.specs.Prelude.{[], ◌∷◌};
+ghost use Rattle.cfi_sim.specs.Agrees.{AgreeingTell};
 ghost use Rattle.cfi_sim.specs.Example.{still};
+ghost use Rattle.cfi_sim.specs.Reach.{SchedulesReach, SchedulesJournal};
 ghost use Rattle.cfi_sim.specs.Valid.{IsValidSim};
 ghost use Rattle.cfi_valid.specs.Bare.{bare_plan};
 ghost use Rattle.cfi_valid.specs.Example.{hello_module};
@@ -9,4 +11,21 @@ ghost use Rattle.cfi_valid.specs.Example.{hello_module};
 /// What a schedule without a line makes of a bare file is a valid simulation: the guest stands at its entry.
 pub fn some_simulation_is_valid()
     ensures { IsValidSim bare_plan (hello_module ∷ []) [] still }
+{}
+
+/// What a schedule makes comes of events, one after the other.
+pub fn schedules_reach()
+    ensures { SchedulesReach }
+{}
+
+/// Where the world tells at each stage that is reached of epochs and versions what the journal does, the journal of a
+/// schedule is one that a run may have.
+pub fn schedules_keep_journals()
+    ensures { SchedulesJournal }
+{}
+
+/// A world whose epoch in force, versions and guests are those of the journal tells of epochs and versions what the
+/// journal does.
+pub fn agreeing_worlds_tell()
+    ensures { AgreeingTell }
 {}

@@ -1,0 +1,5 @@
+use Rattle.cfi_sim.proofs.TellLemmas.{tell}
+use Rattle.cfi_sim.proofs.laws.agreeing_worlds_tell.Goals as goal
+
+pub returns : goal.returns
+returns c = tell
