@@ -16,5 +16,6 @@ pub mod SeatLemmas
 pub mod StoringLemmas
 pub mod ViewLemmas
 pub mod AdmissionLemmas
+pub mod JumpLemmas
 pub mod KeeperLemmas
 pub mod CodeLemmas

@@ -1,6 +1,7 @@
-ghost use Rattle.std.specs.Prelude.{◌≡◌, ◌≤◌, IfOk};
+ghost use Rattle.std.specs.Prelude.{◌≡◌, ◌≤◌, ◌-◌, ◌⊎◌, ◌∷◌, ◌++◌, [], replicate, IfOk};
 ghost use Rattle.cfi_model.specs.Closed.{IsClosed};
-ghost use Rattle.cfi_tables.specs.Keeping.{IsLike};
+ghost use Rattle.cfi_model.specs.Tables.{IsLoad, KeepsCode};
+ghost use Rattle.cfi_tables.specs.Keeping.{IsLike, entry_by, last_of};
 
 use crate::{Blank, Keeper, Pass, Seen, TableName, Tables, UpdateFault};
 use cfi_values::Numbers;
@@ -11,16 +12,21 @@ use std::marker::Brand;
 use std::test::Fail;
 use std::thread::{Threads, join};
 
-// The image of the one instruction `j .`, whose word is 0x0000006f: no address has a class, and no slot has a target.
-fn jump_image(alloc: Global, layout: &Layout) -> Result<Image, AllocError>
-    ensures { IfOk result (IsClosed layout.now) }
+// The image of the instruction `j .`, whose word is 0x0000006f, and of this word behind it, which is another or 0: no
+// address has a class, and no slot has a target.
+fn jump_image(alloc: Global, layout: &Layout, next: u32) -> Result<Image, AllocError>
+    requires next { (next ≡ 0) ⊎ (next ≡ 111) }
+    ensures closed { IfOk result (IsClosed layout.now) }
+    ensures code { IfOk result (λ image.
+        image.code ≡ (replicate 16 0 ++ 111 ∷ next ∷ []) ++ replicate (layout.now - 18) 0) }
 {
     let code_words = layout.code_words() as usize;
     let tary = vec![in alloc; 0; code_words]?;
     let bary = vec![in alloc; FIELD_MAX; layout.slots() as usize]?;
     let mut code = vec![in alloc; 0; 16]?;
     code.push(0x6f)?;
-    let rest = vec![in alloc; 0; code_words - 17]?;
+    code.push(next)?;
+    let rest = vec![in alloc; 0; code_words - 18]?;
     code.extend_from_slice(rest.as_slice())?;
     Ok(Image {
         tary: Numbers::from_vec(tary),
@@ -123,6 +129,57 @@ fn beside<N: TableName + Send + Sync, R: Threads + Sync>(
     (made, sound, out)
 }
 
+// An update with the next policy, and whether it is made.
+fn widen<N: TableName>(
+    tables: &Tables<N>,
+    mut keeper: Keeper<N>,
+    image: &Image,
+) -> (Keeper<N>, bool)
+    requires { IsLoad N.key.code_words (last_of keeper.entries) (entry_by 1 image.now 7) }
+{
+    let made = keeper.update(tables, image, 1, 7).is_ok();
+    (keeper, made)
+}
+
+// Makes so many fetches of the second instruction: it is sound that it is there after some, and then in all.
+fn fetch<N: TableName>(tables: &Tables<N>, mut reader: Reader<N>, turns: u32) -> Reader<N> {
+    let mut latest = 0;
+    for _ in 0..turns {
+        let found = tables.fetch(&mut reader.pass, 17);
+        reader.sound = reader.sound && (found == 0x6f || found == latest);
+        latest = found;
+    }
+    reader
+}
+
+// A guest fetches while an update adds an instruction. Whether it was added, whether all was sound, and what the guest
+// fetches then.
+fn added<N: TableName + Send + Sync, R: Threads + Sync>(
+    rt: &R,
+    blank: Blank,
+    image: Image,
+) -> (bool, bool, u32)
+    requires table { blank.table ≡ N.table }
+    requires key { blank.key ≡ N.key }
+    requires closed { IsClosed N.key.code_words image }
+    requires keeps { KeepsCode N.key.image image }
+{
+    let (tables, mut keeper) = Tables::<N>::open(blank);
+    let Ok(pass) = keeper.admit(&tables) else {
+        return (false, false, 0);
+    };
+    let reader = Reader { pass, sound: true };
+    let ((_, made), mut reader) = join(
+        rt,
+        || -> (Keeper<N>, bool)
+            requires { IsLoad N.key.code_words (last_of keeper.entries) (entry_by 1 image 7) }
+        { widen(&tables, keeper, &image) },
+        || -> Reader<N> { fetch(&tables, reader, 100_000) },
+    );
+    let found = tables.fetch(&mut reader.pass, 17);
+    (made, reader.sound, found)
+}
+
 // A guest that never passes a quiescent point hinders the update at its bound, while another goes on: what each of
 // three updates answers, what is in force then, and the number that the next pass has.
 fn hindered<N: TableName>(
@@ -150,7 +207,7 @@ fn hindered<N: TableName>(
 #[test]
 fn two_guests_beside_refreshes(rt: HostRuntime) -> Result<(), Fail> {
     let layout = Layout::new(1024)?;
-    let image = jump_image(rt.alloc(), &layout)?;
+    let image = jump_image(rt.alloc(), &layout, 0)?;
     let blank = Blank::new(rt.alloc(), layout, 16384, 0, &image)?;
     let found = beside::<Brand, HostRuntime>(&rt, blank, image);
     assert_eq!(rt; found, (100, true, 16));
@@ -158,10 +215,21 @@ fn two_guests_beside_refreshes(rt: HostRuntime) -> Result<(), Fail> {
 }
 
 #[test]
+fn a_guest_beside_an_update(rt: HostRuntime) -> Result<(), Fail> {
+    let layout = Layout::new(1024)?;
+    let image = jump_image(rt.alloc(), &layout, 0)?;
+    let longer = jump_image(rt.alloc(), &layout, 0x6f)?;
+    let blank = Blank::new(rt.alloc(), layout, 16384, 0, &image)?;
+    let found = added::<Brand, HostRuntime>(&rt, blank, longer);
+    assert_eq!(rt; found, (true, true, 0x6f));
+    Ok(())
+}
+
+#[test]
 fn a_guest_without_quiescent_points(rt: HostRuntime) -> Result<(), Fail> {
     // Under three versions an update to epoch 2 asks each guest for a quiescent point since epoch 1.
     let layout = Layout::new(1024)?;
-    let image = jump_image(rt.alloc(), &layout)?;
+    let image = jump_image(rt.alloc(), &layout, 0)?;
     let blank = Blank::new(rt.alloc(), layout, 3, 0, &image)?;
     let found = hindered::<Brand>(blank, &image);
     let spent = UpdateFault::VersionsSpent { guest: 1, quiet: 0 };

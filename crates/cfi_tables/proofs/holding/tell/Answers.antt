@@ -46,7 +46,7 @@ load-requires g c =
     let p : PassView = pass_of c.pass.inside.seat.me.0 in
     let gone : c.replace-place.result.me.0 ≡ Pass p =
     ap (λ s. s.me.0) c.replace-place.ensures.value ∙ ap (λ (z : Seated). z.0) c.pass.invariant.me_is in
-    let held = returned_to _ _ _ u p (v.2 ∙ r.seat.me_is) gone j.2 in (
+    let held = returned_to _ _ _ u p (◌∙◌ {A = Seated} v.2 r.seat.me_is) gone j.2 in (
       j.0 ∙ (v.0 ∙ (r.seat.table_is ∙ sym t.name)),
       omega (arith, t.many),
       tell_allowed k _ _ _ _ (record u { held = Some p }) p t.key (j.1 ∙ (v.1 ∙ r.seat.id_is)) held refl refl,
@@ -65,7 +65,7 @@ split_seat-requires g c =
     let p : PassView = pass_of c.pass.inside.seat.me.0 in
     let gone : c.replace-place.result.me.0 ≡ Pass p =
     ap (λ s. s.me.0) c.replace-place.ensures.value ∙ ap (λ (z : Seated). z.0) c.pass.invariant.me_is in
-    let held = returned_to _ _ _ u p (v.2 ∙ r.seat.me_is) gone j.2 in
+    let held = returned_to _ _ _ u p (◌∙◌ {A = Seated} v.2 r.seat.me_is) gone j.2 in
     let told = told_to _ u p held k _ l.2.is in
     let q : PassView = noted k (keeping_at c.args.seat.now.me) p in (
       l.0 ∙ (j.0 ∙ (v.0 ∙ (r.seat.table_is ∙ sym t.name))),
