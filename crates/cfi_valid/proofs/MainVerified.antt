@@ -167,7 +167,7 @@ plus60_ends = (
 )
 
 plug_targets : AllByRecursion
-  (λ (s : Spot). MayLead plug_placed (lib_placed ∷ main_placed ∷ []) plug_spots s.at s.unit) plug_spots
+    (λ (s : Spot). MayLead plug_placed (lib_placed ∷ main_placed ∷ []) plug_spots s.at s.unit) plug_spots
 plug_targets = (
   tt,
   (

@@ -19,7 +19,7 @@ r20 = (
   r19,
   unit (Load Lw 5 5 (pos 0)) 0 too_many s19 refl
       (stands MAX_CODE_WORDS words 300 59 (Load Lw 5 5 (pos 0)) refl refl
-        (omega arith, omega arith, omega arith) refl) tt,
+      (omega arith, omega arith, omega arith) refl) tt,
 )
 
 r21 : Replays code loaded log 21 s0 s21
@@ -28,7 +28,7 @@ r21 = (
   r20,
   unit (Check false 5 (pos 0) 3) 0 too_many s20 refl
       (stands MAX_CODE_WORDS words 324 65 (Check false 5 (pos 0) 3) refl refl
-        (omega arith, omega arith, omega arith) refl) (picks 3 440 0 s20 refl case_allowed),
+      (omega arith, omega arith, omega arith) refl) (picks 3 440 0 s20 refl case_allowed),
 )
 
 r22 : Replays code loaded log 22 s0 s22
@@ -37,7 +37,7 @@ r22 = (
   r21,
   unit (Plain (OpImm Addi 10 0 (pos 66))) 0 too_many s21 refl
       (stands MAX_CODE_WORDS words 440 94 (Plain (OpImm Addi 10 0 (pos 66))) refl refl
-        (omega arith, omega arith, omega arith) refl) tt,
+      (omega arith, omega arith, omega arith) refl) tt,
 )
 
 r23 : Replays code loaded log 23 s0 s23
@@ -46,7 +46,7 @@ r23 = (
   r22,
   unit (Check false 1 (pos 0) 5) 0 too_many s22 refl
       (stands MAX_CODE_WORDS words 444 95 (Check false 1 (pos 0) 5) refl refl
-        (omega arith, omega arith, omega arith) refl) (picks 5 524 0 s22 refl choose_allowed),
+      (omega arith, omega arith, omega arith) refl) (picks 5 524 0 s22 refl choose_allowed),
 )
 
 r24 : Replays code loaded log 24 s0 s24
@@ -55,7 +55,7 @@ r24 = (
   r23,
   unit (Plain (OpImm Addi 17 0 (pos 2))) 0 too_many s23 refl
       (stands MAX_CODE_WORDS words 524 115 (Plain (OpImm Addi 17 0 (pos 2))) refl refl
-        (omega arith, omega arith, omega arith) refl) tt,
+      (omega arith, omega arith, omega arith) refl) tt,
 )
 
 r25 : Replays code loaded log 25 s0 s25
@@ -72,7 +72,7 @@ r26 = (
   r25,
   unit (Plain (OpImm Addi 17 0 (pos 4))) 0 too_many s25 refl
       (stands MAX_CODE_WORDS words 532 117 (Plain (OpImm Addi 17 0 (pos 4))) refl refl
-        (omega arith, omega arith, omega arith) refl) tt,
+      (omega arith, omega arith, omega arith) refl) tt,
 )
 
 r27 : Replays code loaded log 27 s0 s27
@@ -81,7 +81,7 @@ r27 = (
   r26,
   unit (Plain (OpImm Addi 10 0 (pos 2))) 0 too_many s26 refl
       (stands MAX_CODE_WORDS words 536 118 (Plain (OpImm Addi 10 0 (pos 2))) refl refl
-        (omega arith, omega arith, omega arith) refl) tt,
+      (omega arith, omega arith, omega arith) refl) tt,
 )
 
 r28 : Replays code loaded log 28 s0 s28
@@ -98,7 +98,7 @@ r29 = (
   r28,
   unit (Plain (OpImm Addi 5 10 (pos 0))) 0 too_many s28 refl
       (stands MAX_CODE_WORDS words 544 120 (Plain (OpImm Addi 5 10 (pos 0))) refl refl
-        (omega arith, omega arith, omega arith) refl) tt,
+      (omega arith, omega arith, omega arith) refl) tt,
 )
 
 r30 : Replays code loaded log 30 s0 s30
@@ -107,7 +107,7 @@ r30 = (
   r29,
   unit (Plain (OpImm Addi 10 0 (pos 7))) 0 too_many s29 refl
       (stands MAX_CODE_WORDS words 548 121 (Plain (OpImm Addi 10 0 (pos 7))) refl refl
-        (omega arith, omega arith, omega arith) refl) tt,
+      (omega arith, omega arith, omega arith) refl) tt,
 )
 
 r31 : Replays code loaded log 31 s0 s31
@@ -116,7 +116,7 @@ r31 = (
   r30,
   unit (Check true 5 (pos 0) 6) 1 too_many s30 refl
       (stands MAX_CODE_WORDS words 552 122 (Check true 5 (pos 0) 6) refl refl
-        (omega arith, omega arith, omega arith) refl) (picks 6 632 1 s30 refl call_allowed),
+      (omega arith, omega arith, omega arith) refl) (picks 6 632 1 s30 refl call_allowed),
 )
 
 r32 : Replays code loaded log 32 s0 s32
@@ -125,7 +125,7 @@ r32 = (
   r31,
   unit (Plain (OpImm Addi 10 10 (pos 60))) 0 too_many s31 refl
       (stands MAX_CODE_WORDS words 632 142 (Plain (OpImm Addi 10 10 (pos 60))) refl refl
-        (omega arith, omega arith, omega arith) refl) tt,
+      (omega arith, omega arith, omega arith) refl) tt,
 )
 
 r33 : Replays code loaded log 33 s0 s33
@@ -134,7 +134,7 @@ r33 = (
   r32,
   unit (Check false 1 (pos 0) 7) 1 too_many s32 refl
       (stands MAX_CODE_WORDS words 636 143 (Check false 1 (pos 0) 7) refl refl
-        (omega arith, omega arith, omega arith) refl) (picks 7 608 1 s32 refl plus_allowed),
+      (omega arith, omega arith, omega arith) refl) (picks 7 608 1 s32 refl plus_allowed),
 )
 
 r34 : Replays code loaded log 34 s0 s34
@@ -143,7 +143,7 @@ r34 = (
   r33,
   unit (Plain (OpImm Addi 17 0 (pos 2))) 0 too_many s33 refl
       (stands MAX_CODE_WORDS words 608 136 (Plain (OpImm Addi 17 0 (pos 2))) refl refl
-        (omega arith, omega arith, omega arith) refl) tt,
+      (omega arith, omega arith, omega arith) refl) tt,
 )
 
 r35 : Replays code loaded log 35 s0 s35
@@ -160,7 +160,7 @@ r36 = (
   r35,
   unit (Plain (OpImm Addi 10 0 (pos 0))) 0 too_many s35 refl
       (stands MAX_CODE_WORDS words 616 138 (Plain (OpImm Addi 10 0 (pos 0))) refl refl
-        (omega arith, omega arith, omega arith) refl) tt,
+      (omega arith, omega arith, omega arith) refl) tt,
 )
 
 r37 : Replays code loaded log 37 s0 s37
@@ -169,7 +169,7 @@ r37 = (
   r36,
   unit (Plain (OpImm Addi 17 0 (pos 1))) 0 too_many s36 refl
       (stands MAX_CODE_WORDS words 620 139 (Plain (OpImm Addi 17 0 (pos 1))) refl refl
-        (omega arith, omega arith, omega arith) refl) tt,
+      (omega arith, omega arith, omega arith) refl) tt,
 )
 
 pub r38 : Replays code loaded log 38 s0 s38

@@ -145,7 +145,7 @@ all_loaded =
       next = λ k m n is there. follows k m n is (ap (slice_get all) (sym (add-one k)) ∙ there);
       ends = All-cons P lib_placed (main_placed ∷ plug_placed ∷ []) (omega arith)
           (All-cons P main_placed (plug_placed ∷ []) (omega arith)
-            (All-cons P plug_placed [] (omega arith) (All-nil P)));
+          (All-cons P plug_placed [] (omega arith) (All-nil P)));
       verified = verify;
     }
 

@@ -75,7 +75,7 @@ lib_read = (
                                         (
                                           record { fits = (omega arith, omega arith, omega arith); spelled = refl },
                                           λ unit begins.
-                                            omega (arith, BeginsAt-within lib_words 109 unit begins, size_pos unit),
+                                              omega (arith, BeginsAt-within lib_words 109 unit begins, size_pos unit),
                                         ),
                                       ),
                                     ),
@@ -184,7 +184,7 @@ main_read = (
                                       (
                                         record { fits = (omega arith, refl); spelled = refl },
                                         λ unit begins.
-                                          omega (arith, BeginsAt-within main_words 33 unit begins, size_pos unit),
+                                            omega (arith, BeginsAt-within main_words 33 unit begins, size_pos unit),
                                       ),
                                     ),
                                   ),

@@ -42,7 +42,7 @@ r1 = (
   refl,
   unit (Plain (OpImm Addi 10 0 (pos 0))) 0 too_many s0 refl
       (stands MAX_CODE_WORDS words 500 109 (Plain (OpImm Addi 10 0 (pos 0))) refl refl
-        (omega arith, omega arith, omega arith) refl) tt,
+      (omega arith, omega arith, omega arith) refl) tt,
 )
 
 r2 : Replays code loaded log 2 s0 s2
@@ -67,7 +67,7 @@ r4 = (
   r3,
   unit (Plain (OpImm Addi 5 5 (negsuc 183))) 0 too_many s3 refl
       (stands MAX_CODE_WORDS words 188 31 (Plain (OpImm Addi 5 5 (negsuc 183))) refl refl
-        (omega arith, omega arith, omega arith) refl) tt,
+      (omega arith, omega arith, omega arith) refl) tt,
 )
 
 r5 : Replays code loaded log 5 s0 s5
@@ -76,7 +76,7 @@ r5 = (
   r4,
   unit (Plain (OpImm Slli 6 10 (pos 2))) 0 too_many s4 refl
       (stands MAX_CODE_WORDS words 192 32 (Plain (OpImm Slli 6 10 (pos 2))) refl refl
-        (omega arith, omega arith, omega arith) refl) tt,
+      (omega arith, omega arith, omega arith) refl) tt,
 )
 
 r6 : Replays code loaded log 6 s0 s6
@@ -85,7 +85,7 @@ r6 = (
   r5,
   unit (Plain (Op Add 5 5 6)) 0 too_many s5 refl
       (stands MAX_CODE_WORDS words 196 33 (Plain (Op Add 5 5 6)) refl refl
-        (omega arith, omega arith, omega arith) refl) tt,
+      (omega arith, omega arith, omega arith) refl) tt,
 )
 
 r7 : Replays code loaded log 7 s0 s7
@@ -94,7 +94,7 @@ r7 = (
   r6,
   unit (Load Lw 5 5 (pos 0)) 0 too_many s6 refl
       (stands MAX_CODE_WORDS words 200 34 (Load Lw 5 5 (pos 0)) refl refl
-        (omega arith, omega arith, omega arith) refl) tt,
+      (omega arith, omega arith, omega arith) refl) tt,
 )
 
 r8 : Replays code loaded log 8 s0 s8
@@ -103,7 +103,7 @@ r8 = (
   r7,
   unit (Plain (OpImm Addi 10 0 (pos 5))) 0 too_many s7 refl
       (stands MAX_CODE_WORDS words 224 40 (Plain (OpImm Addi 10 0 (pos 5))) refl refl
-        (omega arith, omega arith, omega arith) refl) tt,
+      (omega arith, omega arith, omega arith) refl) tt,
 )
 
 r9 : Replays code loaded log 9 s0 s9
@@ -112,7 +112,7 @@ r9 = (
   r8,
   unit (Check false 5 (pos 0) 2) 0 too_many s8 refl
       (stands MAX_CODE_WORDS words 228 41 (Check false 5 (pos 0) 2) refl refl
-        (omega arith, omega arith, omega arith) refl) (picks 2 64 0 s8 refl tail_allowed),
+      (omega arith, omega arith, omega arith) refl) (picks 2 64 0 s8 refl tail_allowed),
 )
 
 r10 : Replays code loaded log 10 s0 s10
@@ -121,7 +121,7 @@ r10 = (
   r9,
   unit (Plain (Op Add 10 10 10)) 0 too_many s9 refl
       (stands MAX_CODE_WORDS words 64 0 (Plain (Op Add 10 10 10)) refl refl
-        (omega arith, omega arith, omega arith) refl) tt,
+      (omega arith, omega arith, omega arith) refl) tt,
 )
 
 r11 : Replays code loaded log 11 s0 s11
@@ -130,7 +130,7 @@ r11 = (
   r10,
   unit (Check false 1 (pos 0) 0) 0 too_many s10 refl
       (stands MAX_CODE_WORDS words 68 1 (Check false 1 (pos 0) 0) refl refl
-        (omega arith, omega arith, omega arith) refl) (picks 0 508 0 s10 refl twice_allowed),
+      (omega arith, omega arith, omega arith) refl) (picks 0 508 0 s10 refl twice_allowed),
 )
 
 r12 : Replays code loaded log 12 s0 s12
@@ -139,7 +139,7 @@ r12 = (
   r11,
   unit (Plain (OpImm Addi 17 0 (pos 2))) 0 too_many s11 refl
       (stands MAX_CODE_WORDS words 508 111 (Plain (OpImm Addi 17 0 (pos 2))) refl refl
-        (omega arith, omega arith, omega arith) refl) tt,
+      (omega arith, omega arith, omega arith) refl) tt,
 )
 
 r13 : Replays code loaded log 13 s0 s13
@@ -156,7 +156,7 @@ r14 = (
   r13,
   unit (Plain (OpImm Addi 10 0 (pos 1))) 0 too_many s13 refl
       (stands MAX_CODE_WORDS words 516 113 (Plain (OpImm Addi 10 0 (pos 1))) refl refl
-        (omega arith, omega arith, omega arith) refl) tt,
+      (omega arith, omega arith, omega arith) refl) tt,
 )
 
 r15 : Replays code loaded log 15 s0 s15
@@ -181,7 +181,7 @@ r17 = (
   r16,
   unit (Plain (OpImm Addi 5 5 (negsuc 275))) 0 too_many s16 refl
       (stands MAX_CODE_WORDS words 288 56 (Plain (OpImm Addi 5 5 (negsuc 275))) refl refl
-        (omega arith, omega arith, omega arith) refl) tt,
+      (omega arith, omega arith, omega arith) refl) tt,
 )
 
 r18 : Replays code loaded log 18 s0 s18
@@ -190,7 +190,7 @@ r18 = (
   r17,
   unit (Plain (OpImm Slli 6 10 (pos 2))) 0 too_many s17 refl
       (stands MAX_CODE_WORDS words 292 57 (Plain (OpImm Slli 6 10 (pos 2))) refl refl
-        (omega arith, omega arith, omega arith) refl) tt,
+      (omega arith, omega arith, omega arith) refl) tt,
 )
 
 pub r19 : Replays code loaded log 19 s0 s19
@@ -199,5 +199,5 @@ r19 = (
   r18,
   unit (Plain (Op Add 5 5 6)) 0 too_many s18 refl
       (stands MAX_CODE_WORDS words 296 58 (Plain (Op Add 5 5 6)) refl refl
-        (omega arith, omega arith, omega arith) refl) tt,
+      (omega arith, omega arith, omega arith) refl) tt,
 )
