@@ -1,5 +1,5 @@
 -- A keeper after an update.
-use Rattle.std.proofs.Common.{◌≡◌, ◌≢◌, ℕ, ◌+◌, ◌<◌, [], ◌∷◌, length, length-append, refl, sym, ap, subst, ◌∙◌, arith}
+use Rattle.std.proofs.Common.{◌≡◌, ◌≢◌, ℕ, ◌+◌, ◌<◌, List, [], ◌∷◌, length, length-append, refl, sym, ap, subst, ◌∙◌, arith}
 use Rattle.atomic_table.specs.Seated.{TableId}
 use Rattle.cfi_word.specs.declared.limits.TheConstants.{MAX_EPOCH}
 use Rattle.cfi_model.specs.declared.history.Entry.{Entry}
@@ -32,17 +32,17 @@ idle_are k keeping stored is = record {
 }
 
 -- the tables with one entry more
-pub grown_are : (k : Key) (keeping : Keeping) (entry : Entry) → IsTables (idle_tables k keeping)
+pub grown_are : (k : Key) (keeping : Keeping) (entry : Entry) (quiets : List ℕ) → IsTables (idle_tables k keeping)
     → IsUpdate k.code_words (last_of keeping.entries) entry → k.first + length keeping.entries < MAX_EPOCH + 1
-    → IsTables (idle_tables k (grown_by entry keeping))
-grown_are k keeping entry is follows left =
-    idle_are k (grown_by entry keeping) 0 (grown_is k (idle_view k keeping) is entry refl follows (omega (arith, left)))
+    → IsTables (idle_tables k (grown_by entry quiets keeping))
+grown_are k keeping entry quiets is follows left =
+    idle_are k (grown_by entry quiets keeping) 0 (grown_is k (idle_view k keeping) is entry refl follows (omega (arith, left)))
 
 module _ (table : TableId) (k : Key) (at : TableId) (id : ℕ) (me : Seated) (a : Beside)
     (is : IsKeeper table k at id me a) (left : a.epoch ≢ MAX_EPOCH) (entry : Entry)
-    (follows : IsUpdate k.code_words (last_of (keeping_at me).entries) entry) where
+    (follows : IsUpdate k.code_words (last_of (keeping_at me).entries) entry) (quiets : List ℕ) where
   abbrev all : Keeping
-  all = grown_by entry (keeping_at me)
+  all = grown_by entry quiets (keeping_at me)
 
   pub keeper_grows : (passed : Seated) → passed ≡ (Keeper (view_at all 0), [])
       → (at' : TableId) (id' : ℕ) (me' : Seated)
@@ -58,10 +58,10 @@ module _ (table : TableId) (k : Key) (at : TableId) (id : ℕ) (me : Seated) (a 
         versions_is = is.versions_is;
         epoch_is = subst (λ (z : Keeping). a.epoch + 1 + 1 ≡ k.first + length z.entries) same
             (omega (arith, is.epoch_is, long));
-        policy_is = sym (ap (λ e. e.policy) (last_is k (keeping_at me) entry is.tables.some))
+        policy_is = sym (ap (λ e. e.policy) (last_is k (keeping_at me) entry quiets is.tables.some))
             ∙ ap (λ (z : Keeping). (last_of z.entries).policy) same;
         tables = subst (λ z. IsTables (idle_tables k z)) same
-            (grown_are k (keeping_at me) entry is.tables follows
+            (grown_are k (keeping_at me) entry quiets is.tables follows
             (omega (arith, is.epoch_is, left, is.tables.epochs_fit)));
         out_is = is.out_is ∙ ap (λ (z : Keeping). z.out) same;
         out_many = subst (λ (z : Keeping). length z.out ≡ 16) same is.out_many;

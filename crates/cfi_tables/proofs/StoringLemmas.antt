@@ -1,5 +1,5 @@
 -- The stores of an update, one after the other.
-use Rattle.std.proofs.Common.{◌≡◌, ℕ, ◌+◌, ◌-◌, ◌<◌, ◌≤◌, [], ◌∷◌, length, length-append, slice_index, slice_index_or, refl, sym, ap, subst, ◌∙◌, arith}
+use Rattle.std.proofs.Common.{List, ◌≡◌, ℕ, ◌+◌, ◌-◌, ◌<◌, ◌≤◌, [], ◌∷◌, length, length-append, slice_index, slice_index_or, refl, sym, ap, subst, ◌∙◌, arith}
 use Rattle.std.proofs.lemmas.List.{get_or_push, get_or_append_left}
 use mathlib.Core.Option.{none}
 use Rattle.atomic_table.specs.Table.{Allows, step}
@@ -63,9 +63,9 @@ module _ (k : Key) (u : KeeperView) (place : Place) (at : IsPlace k.code_words p
 
 -- ---- from the test to the stores
 
-module _ (k : Key) (keeping : Keeping) (entry : Entry) (some : 1 ≤ length keeping.entries) where
+module _ (k : Key) (keeping : Keeping) (entry : Entry) (quiets : List ℕ) (some : 1 ≤ length keeping.entries) where
   abbrev grown : Keeping
-  grown = grown_by entry keeping
+  grown = grown_by entry quiets keeping
 
   pub longer : length grown.entries ≡ length keeping.entries + 1
   longer = length-append keeping.entries (entry ∷ [])

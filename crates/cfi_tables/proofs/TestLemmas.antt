@@ -16,7 +16,7 @@ use Rattle.cfi_tables.specs.Key.{Key}
 use Rattle.cfi_tables.specs.Keeping.{is_out, last_of}
 use Rattle.cfi_tables.specs.Rule.{HeldFits, IsKept, IsPublished, IsRegistered, ShowQuiets, ShowTables, TellsForce, CodeFits}
 use Rattle.cfi_tables.specs.Views.{keeper_of, tables_of}
-use Rattle.cfi_tables.specs.inner.Steps.{Seated, Tests, grown, is_passed, passed, refusal_of, refused, tested_by}
+use Rattle.cfi_tables.specs.inner.Steps.{Seated, Tests, grown, is_passed, loaded, passed, refusal_of, refused, tested_by}
 use Rattle.cfi_tables.specs.declared.view.KeeperView.{KeeperView}
 use Rattle.cfi_tables.specs.declared.view.PassView.{PassView}
 use Rattle.cfi_tables.specs.declared.view.View.TheVariants.{Keeper}
@@ -48,6 +48,10 @@ module _ (k : Key) (words : List ℕ) (u : KeeperView) (is : IsTables (tables_of
   abbrev found : ℕ
   found = slice_index words (quiet_word u.tested)
 
+  -- the view that has loaded it
+  abbrev with_found : KeeperView
+  with_found = loaded found u
+
   same_words : (guest : ℕ) → guest < GUESTS
       → slice_index words (quiet_word guest) ≡ slice_index words (quiet_word guest)
   same_words guest inside = refl
@@ -65,9 +69,9 @@ module _ (k : Key) (words : List ℕ) (u : KeeperView) (is : IsTables (tables_of
 
   -- the test goes on
   on_next : is_passed k u found ≡ true → u.tested + 1 < GUESTS
-      → IsNext k words u words (record u { asked = Some entry; tested = u.tested + 1 })
+      → IsNext k words u words (record with_found { asked = Some entry; tested = u.tested + 1 })
   on_next ok more =
-      let new : KeeperView = record u { asked = Some entry; tested = u.tested + 1 } in
+      let new : KeeperView = record with_found { asked = Some entry; tested = u.tested + 1 } in
       let next = asked_is k u is entry (u.tested + 1) idle more follows fits in
       let later : IsLater k u new = record {
         tables = is;
@@ -91,9 +95,9 @@ module _ (k : Key) (words : List ℕ) (u : KeeperView) (is : IsTables (tables_of
       }
 
   -- all words have passed, and there is one entry more
-  last_next : is_passed k u found ≡ true → GUESTS ≤ u.tested + 1 → IsNext k words u words (grown entry u)
+  last_next : is_passed k u found ≡ true → GUESTS ≤ u.tested + 1 → IsNext k words u words (grown entry with_found)
   last_next ok last =
-      let new : KeeperView = grown entry u in
+      let new : KeeperView = grown entry with_found in
       let next = grown_is k u is entry idle follows fits in
       let begins = prefix_more u.entries (entry ∷ []) in
       let long = length-append u.entries (entry ∷ []) in
@@ -118,18 +122,19 @@ module _ (k : Key) (words : List ℕ) (u : KeeperView) (is : IsTables (tables_of
         });
       }
 
-  passed_next : is_passed k u found ≡ true → IsNext k words u words (passed entry u)
+  passed_next : is_passed k u found ≡ true → IsNext k words u words (passed entry with_found)
   passed_next ok = by (nat_lt (u.tested + 1) GUESTS) refl
     where
       by : (more : Bool) → nat_lt (u.tested + 1) GUESTS ≡ more
-          → IsNext k words u words (cond more (record u { asked = Some entry; tested = u.tested + 1 }) (grown entry u))
+          → IsNext k words u words (cond more (record with_found { asked = Some entry; tested = u.tested + 1 })
+          (grown entry with_found))
       by true e = on_next ok (grind (arith, nat_tests))
       by false e = last_next ok (grind (arith, nat_tests))
 
   -- the update is not admitted
-  refused_next : (refusal : Refusal) → IsNext k words u words (refused refusal u)
+  refused_next : (refusal : Refusal) → IsNext k words u words (refused refusal with_found)
   refused_next refusal =
-      let new : KeeperView = refused refusal u in
+      let new : KeeperView = refused refusal with_found in
       let next = dropped_is k u is refusal in
       let later : IsLater k u new = record {
         tables = is;
@@ -156,7 +161,8 @@ module _ (k : Key) (words : List ℕ) (u : KeeperView) (is : IsTables (tables_of
   test_next = by (is_passed k u found) refl
     where
       by : (ok : Bool) → is_passed k u found ≡ ok
-          → IsNext k words u words (cond ok (passed entry u) (refused (refusal_of k entry.mark u found) u))
+          → IsNext k words u words (cond ok (passed entry with_found)
+          (refused (refusal_of k entry.mark u found) with_found))
       by true e = passed_next e
       by false e = refused_next (refusal_of k entry.mark u found)
 

@@ -1,5 +1,5 @@
--- What the keeper keeps: an entry for each epoch from the first on, the updates that were not admitted, and for each
--- guest number whether its pass is out.
+-- What the keeper keeps: an entry for each epoch from the first on, the updates that were not admitted, for each guest
+-- number whether its pass is out, and the QUIET words that the last update has loaded.
 use Rattle.std.specs.Prelude.{◌≡◌, ℕ, ◌-◌, ◌<◌, List, Bool, true, false, [], ◌∷◌, ◌++◌, length, replicate, slice_index_or, slice_set}
 use Rattle.cfi_word.specs.declared.limits.TheConstants.{GUESTS}
 use Rattle.cfi_word.specs.declared.lists.Image.{Image}
@@ -13,13 +13,19 @@ pub record Keeping : Type 0 where
   pub entries : List Entry
   pub refusals : List Refusal
   pub out : List Bool
+  pub quiets : List ℕ
 
 -- the opening has one entry, and no pass is out
 abbrev pub opened_entries : Key → List Entry
 opened_entries k = first_entry k.image ∷ []
 
 abbrev pub opened_keeping : Key → Keeping
-opened_keeping k = record { entries = opened_entries k; refusals = []; out = replicate GUESTS false }
+opened_keeping k = record {
+  entries = opened_entries k;
+  refusals = [];
+  out = replicate GUESTS false;
+  quiets = [];
+}
 
 -- the last entry
 abbrev pub last_of : List Entry → Entry
@@ -29,12 +35,12 @@ last_of entries = slice_index_or entries (length entries - 1) no_entry
 abbrev pub entry_by : (policy : ℕ) → Image → (mark : ℕ) → Entry
 entry_by policy image mark = record { policy = policy; image = image; mark = mark }
 
--- there is one entry more, or one refusal
-abbrev pub grown_by : Entry → Keeping → Keeping
-grown_by entry keeping = record keeping { entries = keeping.entries ++ entry ∷ [] }
+-- an update that has loaded these QUIET words adds one entry, or one refusal
+abbrev pub grown_by : Entry → (quiets : List ℕ) → Keeping → Keeping
+grown_by entry quiets keeping = record keeping { entries = keeping.entries ++ entry ∷ []; quiets = quiets }
 
-abbrev pub refused_by : Refusal → Keeping → Keeping
-refused_by refusal keeping = record keeping { refusals = keeping.refusals ++ refusal ∷ [] }
+abbrev pub refused_by : Refusal → (quiets : List ℕ) → Keeping → Keeping
+refused_by refusal quiets keeping = record keeping { refusals = keeping.refusals ++ refusal ∷ []; quiets = quiets }
 
 -- the guest's pass is out
 abbrev pub is_out : List Bool → (guest : ℕ) → Bool

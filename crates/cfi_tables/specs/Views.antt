@@ -32,6 +32,7 @@ view_at keeping stored = record {
   tested = 0;
   refusals = keeping.refusals;
   out = keeping.out;
+  quiets = keeping.quiets;
   held = None;
 }
 
@@ -48,7 +49,7 @@ opened_view k = Keeper (idle_view k (opened_keeping k))
 
 -- what the keeper keeps, of its view
 abbrev pub keeping_of : KeeperView → Keeping
-keeping_of u = record { entries = u.entries; refusals = u.refusals; out = u.out }
+keeping_of u = record { entries = u.entries; refusals = u.refusals; out = u.out; quiets = u.quiets }
 
 -- all that the keeper has seen, for a pass with these accesses; the last epoch is in force while no update is under way
 abbrev pub sight_of : Key → Keeping → List Access → Sight
@@ -73,7 +74,7 @@ noted k keeping p = record p { sight = sight_of k keeping p.sight.accesses }
 
 -- the keeper's view, where the seat is the keeper's
 abbrev pub no_view : KeeperView
-no_view = view_at (record { entries = []; refusals = []; out = [] }) 0
+no_view = view_at (record { entries = []; refusals = []; out = []; quiets = [] }) 0
 
 abbrev pub keeper_of : View → KeeperView
 keeper_of (Keeper u) = u

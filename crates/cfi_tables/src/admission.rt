@@ -3,10 +3,9 @@
 ghost use Rattle.std.specs.Prelude.{◌≡◌, ◌≤◌, IfSome, IfNone};
 ghost use Rattle.cfi_model.specs.Quiet.{admits};
 ghost use Rattle.cfi_word.specs.declared.limits.TheConstants.{MIN_VERSIONS, MAX_VERSIONS, MAX_EPOCH};
-ghost use Rattle.cfi_tables.specs.Faults.{IsFarBehind, epoch_after};
+ghost use Rattle.cfi_tables.specs.Faults.{AllAdmit, IsFarBehind, IsFirstBehind, epoch_after, quiet_in};
 ghost use Rattle.cfi_tables.specs.Keeping.{entry_by, grown_by, refused_by};
 ghost use Rattle.cfi_tables.specs.Views.{idle_view, view_at};
-ghost use Rattle.cfi_tables.specs.inner.Steps.{quiet_in};
 ghost use Rattle.cfi_tables.specs.inner.Stores.{IsAt, IsReady, keeping_at};
 
 use crate::blank::Place;
@@ -41,12 +40,16 @@ pub fn test_all<N: TableName, A: Asks>(
     requires seat { IsAt N.table seat.old.table_id seat.old.id seat.old.me
         (idle_view N.key (keeping_at seat.old.me)) }
     ensures passed { IfNone result (IsAt N.table seat.new.table_id seat.new.id seat.new.me
-        (view_at (grown_by A.entry (keeping_at seat.old.me)) 0)) }
+        (view_at (grown_by A.entry (keeping_at seat.new.me).quiets (keeping_at seat.old.me)) 0)) }
+    ensures admitted { IfNone result
+        (AllAdmit N.key (keeping_at seat.old.me) (keeping_at seat.new.me).quiets) }
     ensures refused { IfSome result (λ spent.
         IsAt N.table seat.new.table_id seat.new.id seat.new.me
         (idle_view N.key (refused_by
         (record { guest = spent.0; quiet = spent.1; epoch = epoch; mark = asked.now.mark })
-        (keeping_at seat.old.me)))) }
+        (keeping_at seat.new.me).quiets (keeping_at seat.old.me)))) }
+    ensures first { IfSome result (λ spent.
+        IsFirstBehind N.key (keeping_at seat.old.me) (keeping_at seat.new.me).quiets spent.0 spent.1) }
     ensures behind { IfSome result (λ spent.
         IsFarBehind N.key (keeping_at seat.old.me) spent.0 spent.1) }
 {

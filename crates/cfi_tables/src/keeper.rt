@@ -3,7 +3,7 @@
 ghost use Rattle.std.specs.Prelude.{◌≡◌, ◌+◌, ◌-◌, length, IfOk, IfErr, IfSome, IfNone, OnOk, OnErr, Err};
 ghost use Rattle.cfi_word.specs.declared.limits.TheConstants.{MAX_EPOCH};
 ghost use Rattle.cfi_model.specs.Tables.{IsUpdate};
-ghost use Rattle.cfi_tables.specs.Faults.{FaultIs, epoch_after};
+ghost use Rattle.cfi_tables.specs.Faults.{AllAdmit, FaultIs, epoch_after};
 ghost use Rattle.cfi_tables.specs.Keeping.{AreAllOut, IsFree, entry_by, grown_by, last_of, let_in, let_out, opened_keeping};
 ghost use Rattle.cfi_tables.specs.Rule.{AgreesWith};
 ghost use Rattle.cfi_tables.specs.Views.{admitted, noted};
@@ -130,7 +130,8 @@ impl<N: TableName> Keeper<N> {
     }
 
     /// Puts an image in force, with its policy, and answers the new epoch. The mark goes into the history, or with an
-    /// update that is not admitted into the refusals.
+    /// update that is not admitted into the refusals. It is admitted exactly where the QUIET word of each guest is, as
+    /// this call loads them from the least guest on.
     ///
     /// The policy is the one in force, with the image in force, or the next one, with an image that keeps the code.
     pub fn update(
@@ -143,7 +144,9 @@ impl<N: TableName> Keeper<N> {
         requires follows { IsUpdate N.key.code_words (last_of self.old.entries)
             (entry_by policy image.now mark) }
         ensures ok { IfOk result (λ epoch. epoch ≡ epoch_after N.key self.old) }
-        ensures new { OnOk result (self.new ≡ grown_by (entry_by policy image.now mark) self.old) }
+        ensures new { OnOk result (self.new
+            ≡ grown_by (entry_by policy image.now mark) self.new.quiets self.old) }
+        ensures admitted { OnOk result (AllAdmit N.key self.old self.new.quiets) }
         ensures fault { IfErr result (FaultIs N.key mark self.old self.new) }
         ensures spent { epoch_after N.key self.old ≡ MAX_EPOCH + 1 → result ≡ Err EpochsSpent }
     {

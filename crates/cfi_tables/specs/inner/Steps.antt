@@ -1,15 +1,14 @@
 -- What each kind of step tells its seat.
-use Rattle.std.specs.Prelude.{◌≡◌, ◌≢◌, ℕ, zero, suc, ◌+◌, ◌-◌, nat_lt, if◌then◌else◌, Bool, true, false, [], ◌∷◌, ◌++◌, slice_set, Some, None, ◌^◌, ◌<◌}
+use Rattle.std.specs.Prelude.{◌≡◌, ◌≢◌, ℕ, zero, suc, ◌+◌, ◌-◌, nat_lt, if◌then◌else◌, Bool, true, false, List, [], ◌∷◌, ◌++◌, slice_set, Some, None, ◌^◌, ◌<◌}
 use Rattle.atomic_table.specs.Table.{Me, Step}
 use Rattle.cfi_word.specs.declared.limits.TheConstants.{GUESTS}
 use Rattle.cfi_word.specs.Rank.{rank}
 use Rattle.cfi_word.specs.Table.{Place, IsPlace, word_number, code_word}
 use Rattle.cfi_model.specs.declared.history.Entry.{Entry}
 use Rattle.cfi_model.specs.declared.history.Refusal.{Refusal}
-use Rattle.cfi_model.specs.declared.quiet.Quiet.{Quiet}
-use Rattle.cfi_model.specs.declared.quiet.Quiet.TheVariants.{Unregistered, Published}
 use Rattle.cfi_model.specs.Quiet.{admits}
 use Rattle.cfi_model.specs.Words.{next_epoch, word_at}
+use Rattle.cfi_tables.specs.Faults.{quiet_in}
 use Rattle.cfi_tables.specs.Key.{Key}
 use Rattle.cfi_tables.specs.Keeping.{is_out}
 use Rattle.cfi_tables.specs.Loads.{IsLoad, TellsEpoch, IsFetch}
@@ -40,10 +39,13 @@ pub record Looks (k : Key) (s : Step (Unit {0})) (old : Seated) (found : ℕ) (n
 
 -- ---- the keeper's test of a QUIET word
 
--- what a QUIET word tells
-abbrev pub quiet_in : (word : ℕ) → Quiet
-quiet_in zero = Unregistered
-quiet_in (suc epoch) = Published epoch
+-- the words that it has loaded, and this one: the first one begins a new list
+abbrev pub loaded_before : (tested : ℕ) → (quiets : List ℕ) → List ℕ
+loaded_before zero quiets = []
+loaded_before (suc less) quiets = quiets
+
+abbrev pub loaded : (word : ℕ) → KeeperView → KeeperView
+loaded word u = record u { quiets = loaded_before u.tested u.quiets ++ word ∷ [] }
 
 -- the word admits the next update
 abbrev pub is_passed : Key → KeeperView → (word : ℕ) → Bool
@@ -68,7 +70,8 @@ refused refusal u = record u { asked = None; tested = 0; refusals = u.refusals +
 
 abbrev pub tested_by : Key → Entry → (word : ℕ) → KeeperView → KeeperView
 tested_by k entry word u =
-    if is_passed k u word then passed entry u else refused (refusal_of k entry.mark u word) u
+    if is_passed k u word then passed entry (loaded word u)
+    else refused (refusal_of k entry.mark u word) (loaded word u)
 
 -- a word that is not 0 is that of a pass that is out, and tells an epoch that is or was in force
 pub record Tests (k : Key) (entry : Entry) (s : Step (Unit {0})) (old : Seated) (found : ℕ) (new : Seated)

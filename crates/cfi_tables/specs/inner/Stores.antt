@@ -6,12 +6,13 @@ use Rattle.cfi_word.specs.Table.{Place, IsPlace}
 use Rattle.cfi_model.specs.declared.history.Entry.{Entry}
 use Rattle.cfi_model.specs.Tables.{IsTables, IsUpdate}
 use Rattle.cfi_model.specs.Words.{before, newest, next_epoch, rank_at, word_of_entry}
+use Rattle.cfi_tables.specs.Faults.{AdmitBelow}
 use Rattle.cfi_tables.specs.Key.{Key}
 use Rattle.cfi_tables.specs.Keeping.{Keeping, grown_by, last_of}
 use Rattle.cfi_tables.specs.Rule.{HasStore}
 use Rattle.cfi_tables.specs.Views.{idle_tables, idle_view, keeper_of, keeping_of, tables_of, view_at}
 use Rattle.cfi_tables.specs.inner.Stamps.{Stamp}
-use Rattle.cfi_tables.specs.inner.Steps.{Seated}
+use Rattle.cfi_tables.specs.inner.Steps.{Seated, loaded_before}
 use Rattle.cfi_tables.specs.declared.view.KeeperView.{KeeperView}
 use Rattle.cfi_tables.specs.declared.view.View.TheVariants.{Keeper}
 
@@ -38,7 +39,18 @@ asked_at k keeping entry (suc more) = record (idle_view k keeping) { asked = Som
 
 abbrev pub testing : Key → Keeping → Entry → (tested : ℕ) → KeeperView
 testing k keeping entry tested =
-    if nat_lt tested GUESTS then asked_at k keeping entry tested else view_at (grown_by entry keeping) 0
+    if nat_lt tested GUESTS then asked_at k keeping entry tested else view_at (grown_by entry keeping.quiets keeping) 0
+
+-- the QUIET words that the test has loaded, one of each guest that it has passed
+pub record HavePassed (k : Key) (keeping : Keeping) (quiets : List ℕ) (tested : ℕ) : Type 0 where
+  pub many : length (loaded_before tested quiets) ≡ tested
+  pub admit : AdmitBelow k keeping (loaded_before tested quiets) tested
+
+-- the test of the update to the entry, where the keeper has kept this before, and has loaded these QUIET words
+pub record IsTesting (table : TableId) (k : Key) (keeping : Keeping) (entry : Entry) (at : TableId) (id : ℕ)
+    (me : Seated) (tested : ℕ) : Type 0 where
+  pub seat : IsAt table at id me (testing k (record keeping { quiets = (keeping_at me).quiets }) entry tested)
+  pub passed : HavePassed k keeping (keeping_at me).quiets tested
 
 -- the stores of ranks below this were made, but for words that are the same in the newest entry and in the one before
 pub record Reaches (k : Key) (u : KeeperView) (rank : ℕ) : Type 0 where
