@@ -16,6 +16,5 @@ pub mod SeatLemmas
 pub mod StoringLemmas
 pub mod ViewLemmas
 pub mod AdmissionLemmas
-pub mod JumpLemmas
 pub mod KeeperLemmas
 pub mod CodeLemmas

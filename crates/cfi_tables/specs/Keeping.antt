@@ -62,7 +62,3 @@ let_in guest keeping = record keeping { out = slice_set keeping.out guest false 
 -- all passes are out
 abbrev pub AreAllOut : List Bool → Type 0
 AreAllOut out = (guest : ℕ) → guest < GUESTS → is_out out guest ≡ true
-
--- the last entry has this image and the policy 0
-abbrev pub IsLike : Image → List Entry → Type 0
-IsLike image entries = (image ≡ (last_of entries).image) × ((last_of entries).policy ≡ 0)

@@ -4,8 +4,8 @@
 //! the keeper's view (`specs/Rule.antt`); each load and fetch answers its own step's word, one of the history, with the
 //! bounds on its epoch, and in each try equal versions are equal epochs; an update adds one entry, in the order code,
 //! Tary, EPOCH, Bary, or is refused by a QUIET word that it has loaded, and stores nothing; what a pass has seen is a
-//! beginning of what the keeper has. Tested: two guests load and fetch beside 100 updates, a guest fetches
-//! beside an update that adds code, and one without quiescent points hinders an update. Open: nothing.
+//! beginning of what the keeper has. Tested in `cfi_threads`: two guests load and fetch beside 100 updates, a guest
+//! fetches beside an update that adds code, and one without quiescent points hinders an update. Open: nothing.
 #![tactic(auto)]
 
 mod admission;
@@ -19,8 +19,6 @@ mod rule;
 mod stamp;
 mod stores;
 mod tables;
-#[cfg(test)]
-mod tests;
 mod view;
 
 pub use blank::{Blank, Place, Words};

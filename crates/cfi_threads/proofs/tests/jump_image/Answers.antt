@@ -1,8 +1,8 @@
 use Rattle.std.proofs.Common.{rules, ◌≡◌, ℕ, replicate, sym, subst}
 use Rattle.cfi_word.specs.Table.{IsSize, slots_of}
 use Rattle.cfi_model.specs.Closed.{IsClosed}
-use Rattle.cfi_tables.proofs.JumpLemmas.{jumps, jumps_closed}
-use Rattle.cfi_tables.proofs.tests.jump_image.Goals as goal
+use Rattle.cfi_threads.proofs.JumpLemmas.{jumps, jumps_closed}
+use Rattle.cfi_threads.proofs.tests.jump_image.Goals as goal
 
 pub returns-clause-closed : goal.returns-clause-closed
 returns-clause-closed c =

@@ -1,4 +1,4 @@
-use Rattle.cfi_tables.proofs.tests.two_guests_beside_refreshes.Given as goal
+use Rattle.cfi_threads.proofs.tests.two_guests_beside_refreshes.Given as goal
 
 -- the name is that of the table that was just made
 abbrev pub ghosts-beside : goal.ghosts-beside

@@ -1,9 +1,10 @@
 ghost use Rattle.std.specs.Prelude.{◌≡◌, ◌≤◌, ◌-◌, ◌⊎◌, ◌∷◌, ◌++◌, [], replicate, IfOk};
 ghost use Rattle.cfi_model.specs.Closed.{IsClosed};
 ghost use Rattle.cfi_model.specs.Tables.{IsLoad, KeepsCode};
-ghost use Rattle.cfi_tables.specs.Keeping.{IsLike, entry_by, last_of};
+ghost use Rattle.cfi_tables.specs.Keeping.{entry_by, last_of};
+ghost use Rattle.cfi_threads.specs.Like.{IsLike};
 
-use crate::{Blank, Keeper, Pass, Seen, TableName, Tables, UpdateFault};
+use cfi_tables::{Blank, Keeper, Pass, Seen, TableName, Tables, UpdateFault};
 use cfi_values::Numbers;
 use cfi_word::map::{BARY, TARY};
 use cfi_word::{FIELD_MAX, Image, Layout, Word, id};

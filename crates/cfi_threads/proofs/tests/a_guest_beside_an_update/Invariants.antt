@@ -1,4 +1,4 @@
-use Rattle.cfi_tables.proofs.tests.a_guest_beside_an_update.Given as goal
+use Rattle.cfi_threads.proofs.tests.a_guest_beside_an_update.Given as goal
 
 -- the name is that of the table that was just made
 abbrev pub ghosts-added : goal.ghosts-added

@@ -1,4 +1,4 @@
-use Rattle.cfi_tables.proofs.tests.a_guest_without_quiescent_points.Given as goal
+use Rattle.cfi_threads.proofs.tests.a_guest_without_quiescent_points.Given as goal
 
 -- the name is that of the table that was just made
 abbrev pub ghosts-hindered : goal.ghosts-hindered
