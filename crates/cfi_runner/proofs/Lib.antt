@@ -3,3 +3,8 @@ pub mod ActLemmas
 pub mod WordLemmas
 pub mod WayLemmas
 pub mod PauseLemmas
+pub mod TakenLemmas
+pub mod UnitLemmas
+pub mod HandLemmas
+pub mod CallLemmas
+pub mod OpenedLemmas

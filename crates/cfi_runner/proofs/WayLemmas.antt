@@ -135,7 +135,7 @@ module _ (k : Key) (fuel : ℕ) (p : PassView) (old : Raw) (can : CanRun k fuel 
       none_some : (word : ℕ) → None ≡ Some word → ⊥
       none_some word e = absurd (cc)
 
-  between : IsBetween 0 old.base old
+  pub between : IsBetween 0 old.base old
   between =
       let same : old.base.steps ≡ old.base.steps + 0 = omega arith in
       record {
@@ -144,7 +144,7 @@ module _ (k : Key) (fuel : ℕ) (p : PassView) (old : Raw) (can : CanRun k fuel 
         fresh = λ going. (refl, can.fresh.0, can.fresh.1);
       }
 
-  ready_in : (later : Sight) → SeesMore k p.sight later → IsReady (history_seen k later) old.base
+  pub ready_in : (later : Sight) → SeesMore k p.sight later → IsReady (history_seen k later) old.base
   ready_in later more = record {
     zero_is = can.ready.zero_is;
     start = λ going. start_later k p.sight later can.sight more old.base.pc (can.ready.start going);

@@ -6,6 +6,7 @@
 //! next one asks for, and two calls are one run. Tested: with a thread of updates beside it. Open: nothing.
 #![tactic(auto)]
 
+pub mod laws;
 mod pause;
 mod run;
 
