@@ -5,8 +5,10 @@ use mathlib.Core.List.{IsPrefix}
 use Rattle.cfi_word.specs.Table.{Place, Epoch, Quiet, Code, Tary, Bary, IsPlace}
 use Rattle.cfi_word.specs.Word.{epoch_in}
 use Rattle.cfi_model.specs.declared.history.Entry.{Entry}
-use Rattle.cfi_model.specs.Tables.{IsTables}
-use Rattle.cfi_model.specs.Words.{Tables, entry_word, epoch_in_force, no_entry, number_at, is_stored, word_at, rank_at}
+use Rattle.cfi_word.specs.declared.limits.TheConstants.{MAX_POLICY}
+use Rattle.cfi_model.specs.Closed.{IsClosed}
+use Rattle.cfi_model.specs.Tables.{IsTables, IsUpdate}
+use Rattle.cfi_model.specs.Words.{Tables, entry_at, entry_word, epoch_in_force, no_entry, number_at, is_stored, word_at, rank_at}
 use Rattle.cfi_model.proofs.TableLemmas.{force_epoch, number_within}
 use Rattle.cfi_model.proofs.InForceLemmas.{bary_epoch, bary_epoch_is, tary_epoch, tary_epoch_is, number_falls}
 use Rattle.cfi_tables.specs.Key.{Key}
@@ -14,13 +16,13 @@ use Rattle.cfi_model.specs.History.{IsFair}
 use Rattle.cfi_tables.specs.Fair.{history_at, kept_of}
 use Rattle.cfi_tables.specs.Loads.{IsFairAt, IsLoad, IsWordOf, Tells, TellsEpoch, access_of}
 use Rattle.cfi_tables.specs.Rule.{HasStore, IsAccessOf, IsKeptBy, IsRegistered}
-use Rattle.cfi_tables.specs.Views.{tables_of}
+use Rattle.cfi_tables.specs.Views.{tables_of, tables_with}
 use Rattle.cfi_tables.specs.declared.view.KeeperView.{KeeperView}
 use Rattle.cfi_tables.specs.declared.view.PassView.{PassView}
 use Rattle.cfi_tables.specs.inner.Steps.{published}
 use Rattle.atomic_table.proofs.Lists.{one_turn}
 use Rattle.cfi_tables.proofs.FairLemmas.{fair_at, fair_snoc, kept_at, kept_snoc}
-use Rattle.cfi_tables.proofs.Prefixes.{prefix_item, prefix_same, prefix_take, take_prefix}
+use Rattle.cfi_tables.proofs.Prefixes.{prefix_item, prefix_length, prefix_same, prefix_take, take_prefix}
 use Rattle.cfi_tables.proofs.SeenLemmas.{word_stays}
 
 -- ---- a load
@@ -112,6 +114,35 @@ module _ (k : Key) (u : KeeperView) (is : IsTables (tables_of k u)) where
   abbrev t : Tables
   t = tables_of k u
 
+  -- the first entries are entries of tables
+  begins_tables : (entries : List Entry) → IsPrefix entries u.entries → 1 ≤ length entries
+      → IsTables (tables_with k entries)
+  begins_tables entries begins some =
+      let long = prefix_length entries u.entries begins in
+      let same : (number : ℕ) → number < length entries → entry_at t number ≡ entry_at (tables_with k entries) number =
+      (λ number within. prefix_item entries u.entries number no_entry begins within) in
+      record {
+        size = is.size;
+        versions_least = is.versions_least;
+        versions_most = is.versions_most;
+        some = some;
+        epochs_fit = omega (arith, is.epochs_fit, long);
+        policies_fit = λ number within.
+            subst (λ e. e.policy ≤ MAX_POLICY) (same number within)
+            (is.policies_fit number (omega (arith, within, long)));
+        closed = λ number within.
+            subst (λ e. IsClosed k.code_words e.image) (same number within)
+            (is.closed number (omega (arith, within, long)));
+        follow = λ number within.
+            subst (λ e. IsUpdate k.code_words e (entry_at (tables_with k entries) (number + 1)))
+            (same number (omega (arith, within)))
+            (subst (λ e. IsUpdate k.code_words (entry_at t number) e) (same (number + 1) within)
+            (is.follow number (omega (arith, within, long))));
+        stored_most = omega arith;
+        under_way = λ less. absurd (omega (arith, less));
+        asked_fits = tt;
+      }
+
   -- the epoch of the entry that a table word is of
   epoch_is : (place : Place) → TellsEpoch place → epoch_in (word_at t place) ≡ k.first + number_at t place
   epoch_is Epoch tells = force_epoch t is
@@ -198,6 +229,8 @@ module _ (k : Key) (u : KeeperView) (is : IsTables (tables_of k u)) where
       refusals = refl;
       accesses = refl;
       grows = more.grows;
+      tables = begins_tables (entries_after p.sight.entries u.entries number) more.begins
+          (omega (arith, more.within));
       word = word_seen;
       epoch = epoch_is place tells;
       tells = tells_is place at tells p.sight.latest r.seen.latest;

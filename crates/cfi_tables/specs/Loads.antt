@@ -10,8 +10,10 @@ use Rattle.cfi_model.specs.declared.history.Entry.{Entry}
 use Rattle.cfi_model.specs.InForce.{tary_index}
 use Rattle.cfi_model.specs.Words.{no_entry, entry_word}
 use Rattle.cfi_model.specs.History.{IsFair}
+use Rattle.cfi_model.specs.Tables.{IsTables}
 use Rattle.cfi_tables.specs.Fair.{history_at, kept_of}
 use Rattle.cfi_tables.specs.Key.{Key}
+use Rattle.cfi_tables.specs.Views.{tables_with}
 use Rattle.cfi_tables.specs.declared.view.PassView.{PassView}
 
 -- the address of a branch slot's ID, or that of a code address
@@ -70,13 +72,15 @@ IsFairAt k kept (places.Bary slot) found = ⊤
 IsFairAt k kept (places.Code index) found = ⊤
 IsFairAt k kept (places.Quiet guest) found = ⊤
 
--- what a pass knows after a load: what it found is one word more that it has loaded, and a word of what it has seen
+-- what a pass knows after a load: what it found is one word more that it has loaded, and a word of what it has seen,
+-- which are entries of tables
 pub record IsLoad (k : Key) (place : Place) (found : ℕ) (old new : PassView) : Type 0 where
   pub guest : new.guest ≡ old.guest
   pub quiet : new.quiet ≡ old.quiet
   pub refusals : new.sight.refusals ≡ old.sight.refusals
   pub accesses : new.sight.accesses ≡ old.sight.accesses ++ access_of k.code_words place found ∷ []
   pub grows : IsPrefix old.sight.entries new.sight.entries
+  pub tables : IsTables (tables_with k new.sight.entries)
   pub word : IsWordOf k new.sight.entries place found
   pub epoch : epoch_in found ≡ k.first + word.number
   pub tells : Tells place found old.sight.latest new.sight.latest

@@ -2,6 +2,7 @@
 use Rattle.std.specs.Prelude.{ℕ, ◌+◌, ◌-◌, List, [], length, Option, Some, None}
 use Rattle.cfi_word.specs.Rank.{stores_of}
 use Rattle.cfi_model.specs.declared.history.Access.{Access}
+use Rattle.cfi_model.specs.declared.history.Entry.{Entry}
 use Rattle.cfi_model.specs.Words.{Tables}
 use Rattle.cfi_tables.specs.Key.{Key}
 use Rattle.cfi_tables.specs.Keeping.{Keeping, opened_keeping}
@@ -42,6 +43,10 @@ idle_view k keeping = view_at keeping (stores_of k.code_words)
 
 abbrev pub idle_tables : Key → Keeping → Tables
 idle_tables k keeping = tables_of k (idle_view k keeping)
+
+-- the tables of these entries, all of whose words are stored
+abbrev pub tables_with : Key → List Entry → Tables
+tables_with k entries = idle_tables k (record { entries = entries; refusals = []; out = []; quiets = [] })
 
 -- that of the opening
 abbrev pub opened_view : Key → View

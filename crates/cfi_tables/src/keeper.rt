@@ -2,11 +2,11 @@
 
 ghost use Rattle.std.specs.Prelude.{◌≡◌, ◌+◌, ◌-◌, length, IfOk, IfErr, IfSome, IfNone, OnOk, OnErr, Err};
 ghost use Rattle.cfi_word.specs.declared.limits.TheConstants.{MAX_EPOCH};
-ghost use Rattle.cfi_model.specs.Tables.{IsUpdate};
+ghost use Rattle.cfi_model.specs.Tables.{IsTables, IsUpdate};
 ghost use Rattle.cfi_tables.specs.Faults.{AllAdmit, FaultIs, epoch_after};
 ghost use Rattle.cfi_tables.specs.Keeping.{AreAllOut, IsFree, entry_by, grown_by, last_of, let_in, let_out, opened_keeping};
 ghost use Rattle.cfi_tables.specs.Rule.{AgreesWith};
-ghost use Rattle.cfi_tables.specs.Views.{admitted, noted};
+ghost use Rattle.cfi_tables.specs.Views.{admitted, noted, tables_with};
 ghost use Rattle.cfi_tables.specs.declared.fault.AdmitFault.TheVariants.{NoSeat};
 ghost use Rattle.cfi_tables.specs.declared.fault.UpdateFault.TheVariants.{EpochsSpent};
 
@@ -117,6 +117,7 @@ impl<N: TableName> Keeper<N> {
         ensures ok { IfOk result (λ pass. pass ≡ admitted N.key self.old pass.guest) }
         ensures free { IfOk result (λ pass. IsFree self.old.out pass.guest) }
         ensures out { IfOk result (λ pass. self.new ≡ let_out pass.guest self.old) }
+        ensures tables { IsTables (tables_with N.key self.old.entries) }
         ensures fault { IfErr result (λ fault. AreAllOut self.old.out) }
         ensures all { AreAllOut self.old.out → result ≡ Err NoSeat }
         ensures same { OnErr result (self.new ≡ self.old) }
@@ -176,6 +177,7 @@ impl<N: TableName> Keeper<N> {
     pub fn note(&mut self, tables: &Tables<N>, pass: &mut Pass<N>)
         ensures pass { pass.new ≡ noted N.key self.old pass.old }
         ensures agrees { AgreesWith N.key self.old.entries self.old.refusals pass.old.sight }
+        ensures tables { IsTables (tables_with N.key self.old.entries) }
         ensures same { self.new ≡ self.old }
     {
         tell(tables, &mut self.seat, pass);

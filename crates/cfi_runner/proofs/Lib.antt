@@ -1,0 +1,10 @@
+pub mod SeenLemmas
+pub mod ActLemmas
+pub mod WordLemmas
+pub mod WayLemmas
+pub mod PauseLemmas
+pub mod TakenLemmas
+pub mod UnitLemmas
+pub mod HandLemmas
+pub mod CallLemmas
+pub mod OpenedLemmas
