@@ -2,3 +2,4 @@ pub mod Seen
 pub mod Run
 pub mod Shown
 pub mod Laws
+pub mod inner

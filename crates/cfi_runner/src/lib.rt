@@ -9,6 +9,8 @@
 pub mod laws;
 mod pause;
 mod run;
+#[cfg(test)]
+mod tests;
 
 pub use pause::Pause;
 pub use run::run_until;

@@ -1,0 +1,11 @@
+-- The entries of the image over which the tests run.
+use Rattle.std.specs.Prelude.{◌≡◌, ℕ, ◌⊎◌}
+use Rattle.cfi_word.specs.declared.lists.Image.{Image}
+use Rattle.cfi_model.specs.Closed.{IsStartIn}
+
+-- its load, its call and its return
+abbrev pub IsEntry : (entry : ℕ) → Type 0
+IsEntry entry = (entry ≡ 64) ⊎ ((entry ≡ 88) ⊎ (entry ≡ 172))
+
+abbrev pub StartAll : Image → Type 0
+StartAll image = (entry : ℕ) → IsEntry entry → IsStartIn image entry
