@@ -61,7 +61,7 @@ pub(crate) fn divided(alloc: Global, nodes: &[TypeNode]) -> Result<Vec<u32>, All
             parts.parts.as_slice(),
             part,
         )?;
-        parts.divide_by(alloc, &mut hits)?;
+        parts.divide_by(&mut hits)?;
     }
     least_of(alloc, parts.parts.as_slice())
 }
