@@ -25,6 +25,11 @@ pub record IsSplit (nodes : List Node) (classes next : List ℕ) : Type 0 where
   pub len : length next ≡ length nodes
   pub least : (a : ℕ) → a < length nodes → IsLeast (key_of nodes classes) a (slice_index next a)
 
+-- each node has the signature of the one that its class is named by
+abbrev pub IsStill : (nodes : List Node) → (classes : List ℕ) → Type 0
+IsStill nodes classes = (a : ℕ) → a < length nodes
+    → signature classes (node_of nodes (slice_index classes a)) ≡ signature classes (node_of nodes a)
+
 -- nodes whose list names no node outside it
 abbrev pub IsClosed : List Node → Type 0
 IsClosed nodes = AllByRecursion (NamesBelow (length nodes)) nodes
