@@ -1,8 +1,7 @@
 -- One step of the refinement keeps what holds of classes, and only finer classes are not settled yet.
-use Rattle.std.proofs.Common.{◌≡◌, ◌≢◌, ℕ, zero, suc, ◌*◌, ◌<◌, ◌≤◌, List, [], length, map, get_or, replicate, All, sym, ap, subst, ◌∙◌, arith, inl, inr}
+use Rattle.std.proofs.Common.{◌≡◌, ◌≢◌, ℕ, zero, suc, ◌*◌, ◌<◌, ◌≤◌, List, [], length, map, get_or, All, sym, ap, subst, ◌∙◌, arith, inl, inr}
 use Rattle.std.specs.List.{AllZip}
 use Rattle.std.proofs.lemmas.Bool.{cases_order}
-use Rattle.std.proofs.lemmas.List.{length-replicate, get_or-replicate}
 use Rattle.std.proofs.lemmas.List.Elements.{All-from_recursion, All-get_or}
 use Rattle.cfi_types.specs.Node.{Node, make_node}
 use Rattle.cfi_types.specs.Kind.{nodes_of}
@@ -154,21 +153,6 @@ module _ (nodes : List Node) (classes : List ℕ) (closed : IsClosed nodes) (kee
   still_by next split same a la =
       signature_from_key nodes classes (get_or classes a 0) a
       (subst (λ (l : List ℕ). key_of nodes classes (get_or l a 0) ≡ key_of nodes classes a) same (split.least a la).alike)
-
--- one class of all nodes
-pub one_class : (nodes : List Node) → KeepEqual nodes (replicate (length nodes) 0)
-one_class nodes = record {
-  len = length-replicate {A = ℕ} (length nodes) 0;
-  low = λ a lt. omega
-      (arith, get_or-replicate {A = ℕ} (length nodes) a 0 0 (omega (arith, length-replicate {A = ℕ} (length nodes) 0)));
-  own = λ a lt.
-      let here : get_or (replicate (length nodes) 0) a 0 ≡ 0 = get_or-replicate {A = ℕ} (length nodes) a 0 0 lt in
-      let first : get_or (replicate (length nodes) 0) 0 0 ≡ 0 =
-      get_or-replicate {A = ℕ} (length nodes) 0 0 0 (omega arith) in
-      ap (λ k. get_or (replicate (length nodes) 0) k 0) here ∙ first ∙ sym here;
-  kept = λ a b la lb h.
-      get_or-replicate {A = ℕ} (length nodes) a 0 0 la ∙ sym (get_or-replicate {A = ℕ} (length nodes) b 0 0 lb);
-}
 
 -- what is said of slices, said of the lists in them
 pub split_of : (nodes : List Node) (cs classes next : List ℕ) → cs ≡ classes → IsSplit nodes cs next

@@ -1,8 +1,14 @@
 -- Classes that keep equal nodes together.
-use Rattle.std.specs.Prelude.{◌≡◌, ℕ, ◌<◌, List, [], ◌∷◌, length, slice_index}
+use Rattle.std.specs.Prelude.{◌≡◌, ℕ, ◌<◌, min, List, [], ◌∷◌, length, slice_index}
+use Rattle.cfi_word.specs.declared.limits.TheConstants.{MAX_FIELDS}
 use Rattle.cfi_types.specs.Node.{Node}
+use Rattle.cfi_types.specs.Kind.{numbers_of, nodes_of}
 use Rattle.cfi_types.specs.Same.{Equal}
 use Rattle.cfi_types.specs.inner.Splitting.{IsLow, IsLeast}
+
+-- what is known of a node without those that it names: its kind, how many it names, and its numbers
+abbrev pub label_of : Node → List ℕ
+label_of x = x.kind ∷ min (length (nodes_of x)) MAX_FIELDS ∷ numbers_of x
 
 -- the least node of each node's part
 pub record AreNamed (parts names : List ℕ) : Type 0 where

@@ -1,5 +1,5 @@
-use Rattle.std.proofs.Common.{◌≡◌, ◌≢◌, ◌*◌, ◌∙◌, ℕ, List, length, sym, subst}
-use Rattle.cfi_types.specs.inner.Splitting.{IsSplit, IsStill}
+use Rattle.std.proofs.Common.{◌≢◌, ◌*◌, ℕ, List, length, subst}
+use Rattle.cfi_types.specs.inner.Splitting.{IsStill}
 use Rattle.cfi_types.proofs.Pairs.{total, less_left}
 use Rattle.cfi_types.proofs.Steps.{leaders, still_by, rises, bounded, parts_keep, split_of}
 use Rattle.cfi_types.proofs.refining.leaders.Goals as goal
