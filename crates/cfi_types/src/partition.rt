@@ -1,6 +1,6 @@
 //! Parts of nodes, and their division by lists of nodes.
 
-ghost use Rattle.std.specs.Prelude.{◌≡◌, ℕ, ◌<◌, ◌≤◌, ◌^◌, true, List, length, map, slice_index, vec_len, All, IfOk, IfSome, OnOk};
+ghost use Rattle.std.specs.Prelude.{◌≡◌, ℕ, ◌<◌, ◌^◌, List, length, map, slice_index, vec_len, All, IfOk, IfSome, OnOk};
 ghost use Rattle.cfi_word.specs.declared.limits.TheConstants.{MAX_FIELDS};
 ghost use Rattle.cfi_types.specs.Node.{Node};
 ghost use Rattle.cfi_types.specs.inner.Splitting.{IsLow};
@@ -170,16 +170,17 @@ impl Parts {
         self.plan.next()
     }
 
-    // Whether there is no node, or one that is alone in its part.
+    // Whether each of the nodes is alone in its part, so that none can be taken out.
     fn are_alone(&self, nodes: &[u32]) -> bool
         requires whole { IsWhole self.now }
         requires nodes { All (λ a. a < length self.now.parts.items) nodes.now }
-        ensures few { result ≡ true → length nodes.now ≤ 1 }
     {
-        if nodes.len() != 1 {
-            return nodes.is_empty();
+        for node in nodes {
+            if self.plan.size(self.parts[*node as usize]) != 1 {
+                return false;
+            }
         }
-        self.plan.size(self.parts[nodes[0] as usize]) == 1
+        true
     }
 
     // Takes these nodes out of each part of which some are left, those of one part to one part.

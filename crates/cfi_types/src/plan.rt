@@ -96,14 +96,11 @@ impl Plan {
         self.sizes[part as usize]
     }
 
-    // A part that has waited; none where each node is alone in its part, since then none divides another.
+    // A part that has waited.
     pub(crate) fn next(&mut self) -> Option<u32>
         ensures below { IfSome result (λ part. part < vec_len self.old.sizes) }
         ensures len { vec_len self.new.sizes ≡ vec_len self.old.sizes }
     {
-        if self.free.is_empty() {
-            return None;
-        }
         let part = self.waiting.pop()?;
         self.waits[part as usize] = false;
         Some(part)
