@@ -10,7 +10,7 @@ use Rattle.cfi_types.specs.Node.{Node}
 use Rattle.cfi_types.specs.Kind.{numbers_of, nodes_of}
 use Rattle.cfi_types.specs.Same.{node_of, Same, Equal}
 use Rattle.cfi_types.specs.inner.Leader.{PutsFirst}
-use Rattle.cfi_types.specs.inner.Splitting.{IsLeast}
+use Rattle.cfi_types.specs.inner.Splitting.{IsFirstOfKey}
 use Rattle.cfi_types.specs.inner.Keeping.{label_of, AreNamed, KeepEqual}
 use Rattle.cfi_types.specs.inner.Division.{KeepTogether}
 use Rattle.cfi_types.proofs.Firsts.{AreFirsts, least_found, more_firsts}
@@ -20,25 +20,25 @@ use Rattle.cfi_types.proofs.Steps.{least_alike}
 pub record LeastSoFar (key : ℕ → List ℕ) (i : ℕ) (found : List ℕ → Option ℕ) (next : List ℕ) : Type 0 where
   pub len : length next ≡ i
   pub firsts : AreFirsts key i found
-  pub least : (a : ℕ) → a < i → IsLeast key a (get_or next a 0)
+  pub least : (a : ℕ) → a < i → IsFirstOfKey key a (get_or next a 0)
 
 pub least_more : (key : ℕ → List ℕ) (i m : ℕ) (found found' : List ℕ → Option ℕ) (next next' : List ℕ)
     → LeastSoFar key i found next → PutsFirst found found' (key i) i m → next' ≡ next ++ m ∷ []
     → LeastSoFar key (i + 1) found' next'
 least_more key i m found found' next next' so_far puts pushed =
-    let least : IsLeast key i m = least_found key i found found' m so_far.firsts puts in
+    let least : IsFirstOfKey key i m = least_found key i found found' m so_far.firsts puts in
     record {
       len = rw pushed (omega (arith, length_push next m, so_far.len));
       firsts = more_firsts key i found found' m so_far.firsts puts;
-      least = λ a below. subst (λ (l : List ℕ). IsLeast key a (get_or l a 0)) (sym pushed)
+      least = λ a below. subst (λ (l : List ℕ). IsFirstOfKey key a (get_or l a 0)) (sym pushed)
           (elim (cases_lt a i) [
-            | inl less ↦ subst (IsLeast key a)
+            | inl less ↦ subst (IsFirstOfKey key a)
                 (sym (get_or_append_left next (m ∷ []) 0 a (omega (arith, so_far.len, less)))) (so_far.least a less)
             | inr more ↦
                 let at : a ≡ i = omega (arith, more, below) in
                 let value : get_or (next ++ m ∷ []) a 0 ≡ m = get_or_push next m 0 a (so_far.len ∙ sym at) in
-                subst (λ k. IsLeast key k (get_or (next ++ m ∷ []) a 0)) (sym at)
-                (subst (IsLeast key i) (sym value) least)
+                subst (λ k. IsFirstOfKey key k (get_or (next ++ m ∷ []) a 0)) (sym at)
+                (subst (IsFirstOfKey key i) (sym value) least)
           ]);
     }
 
@@ -46,7 +46,7 @@ least_more key i m found found' next next' so_far puts pushed =
 
 -- least nodes of keys that equal nodes share keep equal nodes together
 pub least_keep : (nodes : List Node) (key : ℕ → List ℕ) (least : List ℕ) → length least ≡ length nodes
-    → ((a : ℕ) → a < length nodes → IsLeast key a (get_or least a 0))
+    → ((a : ℕ) → a < length nodes → IsFirstOfKey key a (get_or least a 0))
     → ((a b : ℕ) → a < length nodes → b < length nodes → Equal nodes a nodes b → key a ≡ key b)
     → KeepEqual nodes least
 least_keep nodes key least len is share = record {

@@ -7,7 +7,7 @@ use Rattle.cfi_types.specs.Node.{Node, make_node}
 use Rattle.cfi_types.specs.Kind.{nodes_of}
 use Rattle.cfi_types.specs.Spelling.{NamesBelow}
 use Rattle.cfi_types.specs.Same.{node_of, Same, Equal}
-use Rattle.cfi_types.specs.inner.Splitting.{signature, key_of, IsLeast, IsSplit, IsClosed, IsLow, IsStill}
+use Rattle.cfi_types.specs.inner.Splitting.{signature, key_of, IsFirstOfKey, IsSplit, IsClosed, IsLow, IsStill}
 use Rattle.cfi_types.specs.inner.Refining.{AreLeaders}
 use Rattle.cfi_types.specs.inner.Keeping.{KeepEqual}
 use Rattle.cfi_types.proofs.Pairs.{all_zip_at_each, map_from_all_zip, all_zip_from_map, total, total_lt_total, total_le_square}
@@ -63,7 +63,7 @@ stable_same nodes classes closed stable (suc n) a b la lb e =
 -- ---- parts
 
 -- nodes of one key have one least node
-pub least_alike : (key : ℕ → List ℕ) (a b m n : ℕ) → IsLeast key a m → IsLeast key b n → key a ≡ key b → m ≡ n
+pub least_alike : (key : ℕ → List ℕ) (a b m n : ℕ) → IsFirstOfKey key a m → IsFirstOfKey key b n → key a ≡ key b → m ≡ n
 least_alike key a b m n p q e =
     elim (cases_order m n) [
       | inl same ↦ same
@@ -73,7 +73,7 @@ least_alike key a b m n p q e =
       ]
     ]
 
-least_key : (key : ℕ → List ℕ) (a b m n : ℕ) → IsLeast key a m → IsLeast key b n → m ≡ n → key a ≡ key b
+least_key : (key : ℕ → List ℕ) (a b m n : ℕ) → IsFirstOfKey key a m → IsFirstOfKey key b n → m ≡ n → key a ≡ key b
 least_key key a b m n p q e = sym p.alike ∙ ap key e ∙ q.alike
 
 module _ (nodes : List Node) (classes next : List ℕ) (closed : IsClosed nodes) (before : KeepEqual nodes classes)
