@@ -7,7 +7,7 @@ use Rattle.cfi_items.specs.Words.{Words, count_of}
 use Rattle.cfi_instr.specs.declared.hops.Hop.{Hop}
 use Rattle.cfi_instr.specs.Sizes.{is_long, size_at, words_before, offsets_of}
 use Rattle.cfi_instr.specs.Reach.{is_near, word_reaches, IsEnough, IsWithin}
-use Rattle.cfi_instr.specs.inner.Hops.{is_over, after_growth, StaysOrLoses, IsHop, HasLeft, Stands, AreReady}
+use Rattle.cfi_instr.specs.inner.Hops.{is_over, after_growth, StaysOrLoses, IsHop, HasLeft, IsMeasured, AreReady}
 use Rattle.cfi_instr.proofs.SizeLemmas.{place-part, place-more, offset-read}
 use Rattle.cfi_instr.proofs.ReachLemmas.{near-is, word-shrinks}
 
@@ -96,7 +96,7 @@ module _ (t : Words) (symbols : List Symbol) (old new : List Bool) (within : IsW
           }
     ]
 
-    pub after-stands : Stands t symbols (offsets_of t new) (after_growth hop x)
+    pub after-stands : IsMeasured t symbols (offsets_of t new) (after_growth hop x)
     after-stands = elim (cases_Bool (is_over hop x)) [
       | inl over ↦
           rw over
@@ -107,17 +107,17 @@ module _ (t : Words) (symbols : List Symbol) (old new : List Bool) (within : IsW
       | inr not_over ↦ rw not_over (record { hop_is = is; left = left-kept })
     ]
 
-    pub stands-next : (next : Hop) → StaysOrLoses x hop next → Stands t symbols (offsets_of t new) next
+    pub stands-next : (next : Hop) → StaysOrLoses x hop next → IsMeasured t symbols (offsets_of t new) next
     stands-next next how =
         ⊎_elim
-        (λ (stays : next ≡ hop). subst (λ (h : Hop). Stands t symbols (offsets_of t new) h) (sym stays)
+        (λ (stays : next ≡ hop). subst (λ (h : Hop). IsMeasured t symbols (offsets_of t new) h) (sym stays)
         (record { hop_is = is; left = left-kept }))
-        (λ (loses : next ≡ after_growth hop x). subst (λ (h : Hop). Stands t symbols (offsets_of t new) h) (sym loses)
+        (λ (loses : next ≡ after_growth hop x). subst (λ (h : Hop). IsMeasured t symbols (offsets_of t new) h) (sym loses)
         after-stands)
         how
 
 -- where nothing is left, the branch does not reach its target
-pub out-far : (t : Words) (symbols : List Symbol) (offsets : List ℕ) (hop : Hop) → Stands t symbols offsets hop
+pub out-far : (t : Words) (symbols : List Symbol) (offsets : List ℕ) (hop : Hop) → IsMeasured t symbols offsets hop
     → hop.left ≡ 0 → word_reaches t symbols offsets hop.at ≡ false
 out-far t symbols offsets hop stands none =
     stands.hop_is.leads offsets
@@ -139,8 +139,8 @@ pub ready-next : (t : Words) (symbols : List Symbol) (hops next : List Hop) (lon
     → ((k : ℕ) (d : Hop) → k < length hops → StaysOrLoses hop.at (get_or hops k d) (get_or next k d))
     → AreReady t symbols next new
 ready-next t symbols hops next long new number hop ready inside here none short new_is same each =
-    let stands : Stands t symbols (offsets_of t long) hop =
-    subst (λ (h : Hop). Stands t symbols (offsets_of t long) h) (sym here) (ready.each number hop inside) in
+    let stands : IsMeasured t symbols (offsets_of t long) hop =
+    subst (λ (h : Hop). IsMeasured t symbols (offsets_of t long) h) (sym here) (ready.each number hop inside) in
     let at_inside : hop.at < length long = omega (arith, ready.size, stands.hop_is.inside) in
     let grown : IsWithin long new =
     subst (λ (xs : List Bool). IsWithin long xs) (sym new_is) (set-within long hop.at at_inside) in
@@ -170,10 +170,10 @@ both-ok (Err e) p q f = tt
 
 -- the branches as they are read
 pub ready-first : (t : Words) (symbols : List Symbol) (hops : List Hop) (long : List Bool) (offsets : List ℕ)
-    → length long ≡ count_of t → offsets ≡ offsets_of t long → All (Stands t symbols offsets) hops
+    → length long ≡ count_of t → offsets ≡ offsets_of t long → All (IsMeasured t symbols offsets) hops
     → ((other : List Bool) → IsEnough t symbols other → IsWithin long other) → AreReady t symbols hops long
 ready-first t symbols hops long offsets size placed each within = record {
   size = size;
-  each = subst (λ (xs : List ℕ). All (Stands t symbols xs) hops) placed each;
+  each = subst (λ (xs : List ℕ). All (IsMeasured t symbols xs) hops) placed each;
   within = within;
 }

@@ -5,7 +5,7 @@ ghost use Rattle.cfi_items.specs.Words.{count_of, insn_at};
 ghost use Rattle.cfi_items.specs.Items.{is_inner};
 ghost use Rattle.cfi_instr.specs.Sizes.{AreSmall};
 ghost use Rattle.cfi_instr.specs.Reach.{target_of};
-ghost use Rattle.cfi_instr.specs.inner.Hops.{is_over, after_growth, IsHop, HasLeft, Stands};
+ghost use Rattle.cfi_instr.specs.inner.Hops.{is_over, after_growth, IsHop, HasLeft, IsMeasured};
 
 use crate::sizes::{REACH_BACK, REACH_ON, offset_at};
 use cfi_items::{Aim, Source};
@@ -145,7 +145,7 @@ pub fn hops_of(
     requires count { 4 * count_of source.now < 2 ^ 32 }
     requires small { AreSmall offsets.now }
     requires size { length offsets.now ≡ count_of source.now + 1 }
-    ensures { IfOk result (λ hops. All (Stands source.now symbols.now offsets.now) hops.items) }
+    ensures { IfOk result (λ hops. All (IsMeasured source.now symbols.now offsets.now) hops.items) }
 {
     let mut hops = Vec::new(alloc);
     for w in 0..source.count() {

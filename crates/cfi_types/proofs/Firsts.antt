@@ -5,7 +5,7 @@ use Rattle.std.specs.Str.{bytes_eq}
 use Rattle.std.proofs.lemmas.Bool.{cases_Bool, cases_lt, false≢true}
 use Rattle.std.proofs.lemmas.Slice.Eq.{bytes_eq-Decides}
 use Rattle.cfi_types.specs.inner.Leader.{PutsFirst}
-use Rattle.cfi_types.specs.inner.Splitting.{IsLeast}
+use Rattle.cfi_types.specs.inner.Splitting.{IsFirstOfKey}
 
 -- o is the first node below i that has the key q, if one has
 abbrev pub IsFirstBelow : (key : ℕ → List ℕ) → (i : ℕ) → (q : List ℕ) → Option ℕ → Type 0
@@ -24,14 +24,14 @@ same_or_not p q =
     ]
 
 least_by : (key : ℕ → List ℕ) (i m : ℕ) (o : Option ℕ) → IsFirstBelow key i (key i) o → m ≡ unwrap_or o i
-    → IsLeast key i m
-least_by key i m None h e = subst (IsLeast key i) (sym e) (record { within = omega arith; alike = refl; least = h })
+    → IsFirstOfKey key i m
+least_by key i m None h e = subst (IsFirstOfKey key i) (sym e) (record { within = omega arith; alike = refl; least = h })
 least_by key i m (Some n) h e =
-    subst (IsLeast key i) (sym e) (record { within = omega (arith, h.0); alike = h.1; least = h.2 })
+    subst (IsFirstOfKey key i) (sym e) (record { within = omega (arith, h.0); alike = h.1; least = h.2 })
 
 -- what is found for node i is the least node of its key
 pub least_found : (key : ℕ → List ℕ) (i : ℕ) (f g : List ℕ → Option ℕ) (m : ℕ) → AreFirsts key i f
-    → PutsFirst f g (key i) i m → IsLeast key i m
+    → PutsFirst f g (key i) i m → IsFirstOfKey key i m
 least_found key i f g m firsts puts = least_by key i m (f (key i)) (firsts.each (key i)) puts.first
 
 stays_first : (key : ℕ → List ℕ) (i : ℕ) (q : List ℕ) (o : Option ℕ) → q ≢ key i → IsFirstBelow key i q o
@@ -43,7 +43,7 @@ stays_first key i q None differ h = λ l below.
     ]
 stays_first key i q (Some m) differ h = (omega (arith, h.0), h.1, h.2)
 
-comes_first : (key : ℕ → List ℕ) (i m : ℕ) → IsLeast key i m → IsFirstBelow key (i + 1) (key i) (Some m)
+comes_first : (key : ℕ → List ℕ) (i m : ℕ) → IsFirstOfKey key i m → IsFirstBelow key (i + 1) (key i) (Some m)
 comes_first key i m least = (omega (arith, least.within), least.alike, λ l lt. least.least l lt)
 
 pub more_firsts : (key : ℕ → List ℕ) (i : ℕ) (f g : List ℕ → Option ℕ) (m : ℕ) → AreFirsts key i f

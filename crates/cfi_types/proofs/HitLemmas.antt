@@ -5,7 +5,7 @@ use Rattle.std.proofs.lemmas.Bool.{cases_eq, eq-eqb, ne_eqb}
 use Rattle.std.proofs.lemmas.List.{length-set, get_or-set_same, get_or-set_other}
 use Rattle.std.proofs.lemmas.List.Folds.{list_any-append, list_any_more}
 use Rattle.cfi_types.specs.declared.parents.Name.{Name}
-use Rattle.cfi_types.specs.inner.Parents.{has_name, is_named}
+use Rattle.cfi_types.specs.inner.Parents.{has_name, lists_name}
 use Rattle.cfi_types.specs.inner.Hits.{has, is_hit, hits_one, AddsHits, GathersHits}
 use Rattle.cfi_types.proofs.Choices.{or_false, or_assoc, and_true, and_false}
 use Rattle.cfi_types.proofs.NameLemmas.{make_name}
@@ -84,11 +84,11 @@ module _ (old mid : List (List ℕ)) (parents : List (List Name)) (members class
     (is : a ≡ get_or members i 0) where
   one_more : (place node : ℕ) → hits_one parents (take (i + 1) members) classes class place node
       ≡ (hits_one parents (take i members) classes class place node
-      || ((eqb (get_or classes a 0) class) && is_named parents a node place))
+      || ((eqb (get_or classes a 0) class) && lists_name parents a node place))
   one_more place node =
-      list_any_more (λ (k : ℕ). (eqb (get_or classes k 0) class) && is_named parents k node place) members i 0 lt
+      list_any_more (λ (k : ℕ). (eqb (get_or classes k 0) class) && lists_name parents k node place) members i 0 lt
       ∙ ap (λ (k : ℕ). hits_one parents (take i members) classes class place node
-      || ((eqb (get_or classes k 0) class) && is_named parents k node place)) (sym is)
+      || ((eqb (get_or classes k 0) class) && lists_name parents k node place)) (sym is)
 
   -- a member that is in the class
   pub gathered_more : (new : List (List ℕ)) → get_or classes a 0 ≡ class → AddsHits mid (get_or parents a []) new
@@ -99,13 +99,13 @@ module _ (old mid : List (List ℕ)) (parents : List (List Name)) (members class
         len = adds.len ∙ so_far.len;
         each = λ place node within.
             adds.each place node (omega (arith, so_far.len, within))
-            ∙ ap (λ b. b || is_named parents a node place) (so_far.each place node within)
+            ∙ ap (λ b. b || lists_name parents a node place) (so_far.each place node within)
             ∙ or_assoc (is_hit old place node) (hits_one parents (take i members) classes class place node)
-            (is_named parents a node place)
+            (lists_name parents a node place)
             ∙ ap (λ b. is_hit old place node || b)
             (sym (one_more place node
             ∙ ap (λ b. hits_one parents (take i members) classes class place node ||
-            (b && is_named parents a node place))
+            (b && lists_name parents a node place))
             here));
       }
 
@@ -121,7 +121,7 @@ module _ (old mid : List (List ℕ)) (parents : List (List Name)) (members class
             ∙ ap (λ b. is_hit old place node || b)
             (sym (one_more place node
             ∙ ap (λ b. hits_one parents (take i members) classes class place node ||
-            (b && is_named parents a node place))
+            (b && lists_name parents a node place))
             apart
             ∙ or_false (hits_one parents (take i members) classes class place node)));
       }

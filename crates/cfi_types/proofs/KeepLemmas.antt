@@ -1,14 +1,14 @@
 -- Divisions by lists that tell equal nodes alike keep equal nodes together.
-use Rattle.std.proofs.Common.{◌≡◌, ◌∙◌, ℕ, ◌+◌, ◌≤◌, true, false, cond, eqb, List, [], ◌∷◌, length, get_or, replicate, refl, sym, ap, arith, inl, inr}
-use Rattle.std.proofs.lemmas.Bool.{cases_eq, eq-eqb, ne_eqb, cond-true, cond-false}
+use Rattle.std.proofs.Common.{◌≡◌, ◌∙◌, ℕ, ◌+◌, ◌<◌, Bool, true, false, cond, List, [], length, get_or, replicate, All, refl, sym, ap, arith}
+use Rattle.std.specs.List.{range_with_len}
 use Rattle.std.proofs.lemmas.List.{length-replicate, get_or-replicate}
+use Rattle.std.proofs.lemmas.List.FromFn.{get_or-range_with_len}
 use Rattle.cfi_word.specs.declared.limits.TheConstants.{MAX_FIELDS}
 use Rattle.cfi_types.specs.Node.{Node}
 use Rattle.cfi_types.specs.inner.Hits.{has}
 use Rattle.cfi_types.specs.inner.Division.{AreClear, KeepTogether, TellEqual}
 use Rattle.cfi_types.specs.inner.Keeping.{KeepEqual}
 use Rattle.cfi_types.specs.inner.Whole.{IsDivided}
-use Rattle.cfi_types.proofs.Choices.{or_false}
 
 pub divided_keeps : (nodes : List Node) (old list new : List ℕ) → KeepTogether nodes old → TellEqual nodes list
     → IsDivided old list new → KeepTogether nodes new
@@ -39,27 +39,22 @@ none_hit hits is = record {
   none = λ k lt. ap (λ (l : List (List ℕ)). get_or l k []) is ∙ get_or-replicate MAX_FIELDS k [] [] lt;
 }
 
--- ---- a division by a node at most that leaves all as it is
+-- ---- a division that leaves all as it is
 
-pub few_stay : (old nodes : List ℕ) → length nodes ≤ 1 → IsDivided old nodes old
-few_stay old [] few = record { targets = []; put = record { len = refl; each = λ a la. refl } }
-few_stay old (x ∷ []) few =
-    let k = get_or old x 0 in
-    let own : get_or (replicate (k + 1) k) k 0 ≡ k = get_or-replicate (k + 1) k k 0 (omega arith) in
-    record {
-      targets = replicate (k + 1) k;
-      put = record {
-        len = refl;
-        each = λ a la. elim (cases_eq a x) [
-          | inl same ↦
-              let here : has (x ∷ []) a ≡ true = or_false (eqb x a) ∙ eq-eqb x a (sym same) in
-              let at : get_or old a 0 ≡ k = ap (λ b. get_or old b 0) same in
-              sym (cond-true (has (x ∷ []) a) (get_or (replicate (k + 1) k) (get_or old a 0) 0) (get_or old a 0) here
-              ∙ ap (λ j. get_or (replicate (k + 1) k) j 0) at ∙ own ∙ sym at)
-          | inr differ ↦
-              let none : has (x ∷ []) a ≡ false = or_false (eqb x a) ∙ ne_eqb x a (λ e. differ (sym e)) in
-              sym (cond-false (has (x ∷ []) a) (get_or (replicate (k + 1) k) (get_or old a 0) 0) (get_or old a 0) none)
-        ];
-      };
-    }
-few_stay old (x ∷ y ∷ nodes) few = absurd (omega arith)
+one_choice : (test : Bool) (k : ℕ) → cond test k k ≡ k
+one_choice true k = refl
+one_choice false k = refl
+
+pub all_stay : (old nodes : List ℕ) → All (λ k. k < length old) old → IsDivided old nodes old
+all_stay old nodes below = record {
+  targets = range_with_len 0 (length old);
+  put = record {
+    len = refl;
+    each = λ a la.
+        let k = get_or old a 0 in
+        let from : get_or (range_with_len 0 (length old)) k 0 ≡ 0 + k =
+        get_or-range_with_len 0 (length old) k 0 (below a 0 la) in
+        let own : get_or (range_with_len 0 (length old)) k 0 ≡ k = omega (arith, from) in
+        sym (ap (λ t. cond (has nodes a) t k) own ∙ one_choice (has nodes a) k);
+  };
+}

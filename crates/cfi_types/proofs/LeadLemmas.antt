@@ -11,7 +11,7 @@ use Rattle.cfi_types.specs.Node.{Node}
 use Rattle.cfi_types.specs.Kind.{nodes_of}
 use Rattle.cfi_types.specs.Same.{node_of, Equal}
 use Rattle.cfi_types.specs.inner.Splitting.{IsClosed}
-use Rattle.cfi_types.specs.inner.Parents.{is_named, names_at, AreParents}
+use Rattle.cfi_types.specs.inner.Parents.{lists_name, names_at, AreParents}
 use Rattle.cfi_types.specs.inner.Hits.{has, is_hit, hits_one, GathersHits}
 use Rattle.cfi_types.specs.inner.Division.{AreListed, AreClear, KeepTogether, TellEqual}
 use Rattle.cfi_types.proofs.Choices.{one_test}
@@ -28,7 +28,7 @@ places_within nodes parents are = All-from_get_or (All (λ (x : Name). x.place <
     (λ k lt j d below.
     let row = get_or parents k [] in
     let x = get_or (get_or parents k []) j d in
-    let there : is_named parents k x.node x.place ≡ true =
+    let there : lists_name parents k x.node x.place ≡ true =
     list_any_at (λ (y : Name). (eqb y.node x.node) && (eqb y.place x.place)) row j d below
     (and_from (eqb x.node x.node) (eqb x.place x.place) (eq-eqb x.node x.node refl) (eq-eqb x.place x.place refl)) in
     let named = sym (are.each k x.node x.place (omega (arith, are.len, lt))) ∙ there in
@@ -52,9 +52,9 @@ module _ (nodes : List Node) (parents : List (List Name)) (parts : List ℕ) (me
   ahead place node h =
       let row = get_or members part [] in
       let xs = nodes_of (node_of nodes node) in
-      let found = Any-from_list_any (λ a. (eqb (get_or parts a 0) part) && is_named parents a node place) row h in
+      let found = Any-from_list_any (λ a. (eqb (get_or parts a 0) part) && lists_name parents a node place) row h in
       let x = found.1 in
-      let tests = and_parts (eqb (get_or parts x 0) part) (is_named parents x node place) found.4 in
+      let tests = and_parts (eqb (get_or parts x 0) part) (lists_name parents x node place) found.4 in
       let below : x < length parts =
       subst (λ y. y < length parts) found.3 (listed.below part (omega (arith, keep.len, lt)) found.0 x found.2) in
       let named = sym (are.each x node place (omega (arith, keep.len, below))) ∙ tests.1 in
@@ -84,11 +84,11 @@ module _ (nodes : List Node) (parents : List (List Name)) (parts : List ℕ) (me
       let found = Any-from_list_any (λ y. eqb y a) row there in
       let is : get_or row found.0 0 ≡ a =
       get_or_default row found.0 0 found.1 found.2 ∙ found.3 ∙ eqb-true found.1 a found.4 in
-      let named : is_named parents a node place ≡ true =
+      let named : lists_name parents a node place ≡ true =
       are.each a node place la
       ∙ and_from _ _ outer.0 (and_from _ _ inner.0 (eq-eqb (get_or xs place 0) a refl)) in
-      list_any_at (λ y. (eqb (get_or parts y 0) part) && is_named parents y node place) row found.0 0 found.2
-      (ap (λ y. (eqb (get_or parts y 0) part) && is_named parents y node place) is
+      list_any_at (λ y. (eqb (get_or parts y 0) part) && lists_name parents y node place) row found.0 0 found.2
+      (ap (λ y. (eqb (get_or parts y 0) part) && lists_name parents y node place) is
       ∙ and_from _ _ inner.1 named)
 
   leads_alike : (place a b : ℕ) → a < length nodes → b < length nodes → Equal nodes a nodes b

@@ -1,71 +1,83 @@
 -- The least nodes of keys, one node more, and classes that are named by them.
-use Rattle.std.proofs.Common.{◌≡◌, ◌∙◌, ℕ, ◌+◌, ◌<◌, List, [], ◌∷◌, ◌++◌, length, get_or, replicate, Vec, Global, Result, Ok, Err, sym, ap, subst, arith, inl, inr}
+use Rattle.std.proofs.Common.{◌≡◌, ◌∙◌, ℕ, ◌+◌, ◌<◌, List, [], ◌∷◌, ◌++◌, length, get_or, min, Vec, Global, Result, Ok, Err, sym, ap, subst, arith, inl, inr}
 use Rattle.std.specs.Prelude.{Option, IfOk}
 use Rattle.std.specs.declared.alloc.AllocError.{AllocError}
 use Rattle.std.proofs.lemmas.Bool.{cases_lt}
+use Rattle.std.proofs.lemmas.List.Elements.{length_all_zip}
 use Rattle.std.proofs.lemmas.List.{length_push, get_or_push, get_or_append_left}
+use Rattle.cfi_word.specs.declared.limits.TheConstants.{MAX_FIELDS}
 use Rattle.cfi_types.specs.Node.{Node}
+use Rattle.cfi_types.specs.Kind.{numbers_of, nodes_of}
+use Rattle.cfi_types.specs.Same.{node_of, Same, Equal}
 use Rattle.cfi_types.specs.inner.Leader.{PutsFirst}
-use Rattle.cfi_types.specs.inner.Splitting.{IsLeast, IsSplit, IsClosed}
-use Rattle.cfi_types.specs.inner.Keeping.{AreNamed, KeepEqual}
+use Rattle.cfi_types.specs.inner.Splitting.{IsFirstOfKey}
+use Rattle.cfi_types.specs.inner.Keeping.{label_of, AreNamed, KeepEqual}
 use Rattle.cfi_types.specs.inner.Division.{KeepTogether}
 use Rattle.cfi_types.proofs.Firsts.{AreFirsts, least_found, more_firsts}
-use Rattle.cfi_types.proofs.Steps.{least_alike, one_class, parts_keep, split_of}
+use Rattle.cfi_types.proofs.Steps.{least_alike}
 
 -- the least nodes of the keys of the first i nodes
 pub record LeastSoFar (key : ℕ → List ℕ) (i : ℕ) (found : List ℕ → Option ℕ) (next : List ℕ) : Type 0 where
   pub len : length next ≡ i
   pub firsts : AreFirsts key i found
-  pub least : (a : ℕ) → a < i → IsLeast key a (get_or next a 0)
+  pub least : (a : ℕ) → a < i → IsFirstOfKey key a (get_or next a 0)
 
 pub least_more : (key : ℕ → List ℕ) (i m : ℕ) (found found' : List ℕ → Option ℕ) (next next' : List ℕ)
     → LeastSoFar key i found next → PutsFirst found found' (key i) i m → next' ≡ next ++ m ∷ []
     → LeastSoFar key (i + 1) found' next'
 least_more key i m found found' next next' so_far puts pushed =
-    let least : IsLeast key i m = least_found key i found found' m so_far.firsts puts in
+    let least : IsFirstOfKey key i m = least_found key i found found' m so_far.firsts puts in
     record {
       len = rw pushed (omega (arith, length_push next m, so_far.len));
       firsts = more_firsts key i found found' m so_far.firsts puts;
-      least = λ a below. subst (λ (l : List ℕ). IsLeast key a (get_or l a 0)) (sym pushed)
+      least = λ a below. subst (λ (l : List ℕ). IsFirstOfKey key a (get_or l a 0)) (sym pushed)
           (elim (cases_lt a i) [
-            | inl less ↦ subst (IsLeast key a)
+            | inl less ↦ subst (IsFirstOfKey key a)
                 (sym (get_or_append_left next (m ∷ []) 0 a (omega (arith, so_far.len, less)))) (so_far.least a less)
             | inr more ↦
                 let at : a ≡ i = omega (arith, more, below) in
                 let value : get_or (next ++ m ∷ []) a 0 ≡ m = get_or_push next m 0 a (so_far.len ∙ sym at) in
-                subst (λ k. IsLeast key k (get_or (next ++ m ∷ []) a 0)) (sym at)
-                (subst (IsLeast key i) (sym value) least)
+                subst (λ k. IsFirstOfKey key k (get_or (next ++ m ∷ []) a 0)) (sym at)
+                (subst (IsFirstOfKey key i) (sym value) least)
           ]);
     }
 
 -- ---- names
 
-pub named_keep : (nodes : List Node) (parts least : List ℕ) → KeepTogether nodes parts → AreNamed parts least
+-- least nodes of keys that equal nodes share keep equal nodes together
+pub least_keep : (nodes : List Node) (key : ℕ → List ℕ) (least : List ℕ) → length least ≡ length nodes
+    → ((a : ℕ) → a < length nodes → IsFirstOfKey key a (get_or least a 0))
+    → ((a b : ℕ) → a < length nodes → b < length nodes → Equal nodes a nodes b → key a ≡ key b)
+    → KeepEqual nodes least
+least_keep nodes key least len is share = record {
+  len = len;
+  low = λ a lt. (is a (omega (arith, lt, len))).within;
+  own = λ a la.
+      let m = get_or least a 0 in
+      let lm : m < length nodes = omega (arith, (is a la).within, la) in
+      least_alike key m a (get_or least m 0) m (is m lm) (is a la) (is a la).alike;
+  kept = λ a b la lb h.
+      least_alike key a b (get_or least a 0) (get_or least b 0) (is a la) (is b lb) (share a b la lb h);
+}
+
+-- equal nodes have one label
+pub one_label : (nodes : List Node) (a b : ℕ) → Equal nodes a nodes b
+    → label_of (node_of nodes a) ≡ label_of (node_of nodes b)
+one_label nodes a b h =
+    let x = node_of nodes a in
+    let y = node_of nodes b in
+    let len : length (nodes_of x) ≡ length (nodes_of y) =
+    length_all_zip (λ c d. Same 0 nodes c nodes d) (nodes_of x) (nodes_of y) (h 1).2 in
+    ap (λ k. k ∷ min (length (nodes_of x)) MAX_FIELDS ∷ numbers_of x) (h 1).0
+    ∙ ap (λ n. y.kind ∷ min n MAX_FIELDS ∷ numbers_of x) len
+    ∙ ap (λ ns. y.kind ∷ min (length (nodes_of y)) MAX_FIELDS ∷ ns) (h 1).1
+
+named_keep : (nodes : List Node) (parts least : List ℕ) → KeepTogether nodes parts → AreNamed parts least
     → KeepEqual nodes least
 named_keep nodes parts least keep named =
-    let key : ℕ → List ℕ = λ b. get_or parts b 0 ∷ [] in
-    let is : (a : ℕ) → a < length nodes → IsLeast (λ b. get_or parts b 0 ∷ []) a (get_or least a 0) = λ a la.
-    named.least a (omega (arith, la, keep.len)) in
-    record {
-      len = named.len ∙ keep.len;
-      low = λ a lt. (named.least a (omega (arith, lt, named.len))).within;
-      own = λ a la.
-          let m = get_or least a 0 in
-          let lm : m < length nodes = omega (arith, (is a la).within, la) in
-          least_alike key m a (get_or least m 0) m (is m lm) (is a la) (is a la).alike;
-      kept = λ a b la lb h.
-          least_alike key a b (get_or least a 0) (get_or least b 0) (is a la) (is b lb)
-          (ap (λ k. k ∷ []) (keep.kept a b la lb h));
-    }
-
--- what splits one class of all nodes keeps equal nodes together
-pub split_keeps : (nodes : List Node) (one : List ℕ) (r : Result (Vec ℕ Global) AllocError) → IsClosed nodes
-    → one ≡ replicate (length nodes) 0 → IfOk r (λ next. IsSplit nodes one next.items)
-    → IfOk r (λ next. KeepEqual nodes next.items)
-split_keeps nodes one (Ok next) closed is split =
-    parts_keep nodes (replicate (length nodes) 0) next.items closed (one_class nodes)
-    (split_of nodes one (replicate (length nodes) 0) next.items is split)
-split_keeps nodes one (Err e) closed is split = tt
+    least_keep nodes (λ b. get_or parts b 0 ∷ []) least (named.len ∙ keep.len)
+    (λ a la. named.least a (omega (arith, la, keep.len)))
+    (λ a b la lb h. ap (λ k. k ∷ []) (keep.kept a b la lb h))
 
 pub names_keep : (nodes : List Node) (slice parts : List ℕ) (r : Result (Vec ℕ Global) AllocError) → slice ≡ parts
     → KeepTogether nodes parts → IfOk r (λ names. AreNamed slice names.items) → IfOk r

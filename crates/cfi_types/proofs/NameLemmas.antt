@@ -9,7 +9,7 @@ use Rattle.cfi_types.specs.declared.parents.Name.{Name}
 use Rattle.cfi_types.specs.Node.{Node}
 use Rattle.cfi_types.specs.Kind.{nodes_of}
 use Rattle.cfi_types.specs.Same.{node_of}
-use Rattle.cfi_types.specs.inner.Parents.{is_at, has_name, is_named, names_at, AddsNames, AreParents}
+use Rattle.cfi_types.specs.inner.Parents.{is_at, has_name, lists_name, names_at, AddsNames, AreParents}
 use Rattle.cfi_types.proofs.Choices.{or_false, and_true, and_false, or_and_or, below_more}
 
 abbrev pub make_name : (node place : ℕ) → Name
@@ -27,8 +27,8 @@ no_names old named number = record {
   len = refl;
   each = λ child node place lt.
       let none : ltb place 0 ≡ false = le-ltb place 0 (omega arith) in
-      rw none (sym (ap (λ b. is_named old child node place || b) (and_false (eqb number node))
-      ∙ or_false (is_named old child node place)));
+      rw none (sym (ap (λ b. lists_name old child node place || b) (and_false (eqb number node))
+      ∙ or_false (lists_name old child node place)));
 }
 
 -- one name more
@@ -38,7 +38,7 @@ module _ (old mid : List (List Name)) (named : List ℕ) (number j k : ℕ) (so_
   row = get_or mid k [] ++ make_name number j ∷ []
 
   added_here : (node place : ℕ) → has_name row node place
-      ≡ (is_named old k node place || ((eqb number node) && is_at named (j + 1) place k))
+      ≡ (lists_name old k node place || ((eqb number node) && is_at named (j + 1) place k))
   unfolding row
   added_here node place =
       let here : eqb (get_or named j 0) k ≡ true = eq-eqb (get_or named j 0) k (sym is) in
@@ -47,12 +47,12 @@ module _ (old mid : List (List Name)) (named : List ℕ) (number j k : ℕ) (so_
       ∙ and_true (eqb j place) in
       has_name_push (get_or mid k []) (make_name number j) node place
       ∙ ap (λ b. b || ((eqb number node) && (eqb j place))) (so_far.each k node place lt)
-      ∙ or_and_or (is_named old k node place) (eqb number node) (is_at named j place k) (eqb j place)
-      ∙ ap (λ b. is_named old k node place || ((eqb number node) && (is_at named j place k || b))) (sym last)
-      ∙ ap (λ b. is_named old k node place || ((eqb number node) && b)) (sym more)
+      ∙ or_and_or (lists_name old k node place) (eqb number node) (is_at named j place k) (eqb j place)
+      ∙ ap (λ b. lists_name old k node place || ((eqb number node) && (is_at named j place k || b))) (sym last)
+      ∙ ap (λ b. lists_name old k node place || ((eqb number node) && b)) (sym more)
 
-  added_there : (child node place : ℕ) → child < length old → (child ≡ k → ⊥) → is_named mid child node place
-      ≡ (is_named old child node place || ((eqb number node) && is_at named (j + 1) place child))
+  added_there : (child node place : ℕ) → child < length old → (child ≡ k → ⊥) → lists_name mid child node place
+      ≡ (lists_name old child node place || ((eqb number node) && is_at named (j + 1) place child))
   added_there child node place below differ =
       let apart : eqb (get_or named j 0) child ≡ false =
       ne_eqb (get_or named j 0) child (λ e. differ (sym (is ∙ e))) in
@@ -62,7 +62,7 @@ module _ (old mid : List (List Name)) (named : List ℕ) (number j k : ℕ) (so_
       let same : is_at named (j + 1) place child ≡ is_at named j place child =
       more ∙ ap (λ b. is_at named j place child || b) last ∙ or_false (is_at named j place child) in
       so_far.each child node place below
-      ∙ ap (λ b. is_named old child node place || ((eqb number node) && b)) (sym same)
+      ∙ ap (λ b. lists_name old child node place || ((eqb number node) && b)) (sym same)
 
   pub names_more : AddsNames old named number (j + 1) (set mid k (get_or mid k [] ++ make_name number j ∷ []))
   unfolding row
@@ -72,8 +72,8 @@ module _ (old mid : List (List Name)) (named : List ℕ) (number j k : ℕ) (so_
         len = length-set mid k row ∙ so_far.len;
         each = λ child node place below. elim (cases_eq child k) [
           | inl same ↦
-              subst (λ c. is_named (set mid k row) c node place
-              ≡ (is_named old c node place || ((eqb number node) && is_at named (j + 1) place c))) (sym same)
+              subst (λ c. lists_name (set mid k row) c node place
+              ≡ (lists_name old c node place || ((eqb number node) && is_at named (j + 1) place c))) (sym same)
               (ap (λ r. has_name r node place) (get_or-set_same mid k row [] within) ∙ added_here node place)
           | inr differ ↦
               ap (λ r. has_name r node place) (get_or-set_other mid k child row [] differ)
@@ -104,6 +104,6 @@ no_parents nodes parents none = record {
   len = ap length none ∙ length-replicate (length nodes) [];
   each = λ child node place below.
       let not_yet : ltb node 0 ≡ false = le-ltb node 0 (omega arith) in
-      rw not_yet (ap (λ (r : List (List Name)). is_named r child node place) none
+      rw not_yet (ap (λ (r : List (List Name)). lists_name r child node place) none
       ∙ ap (λ (l : List Name). has_name l node place) (get_or-replicate (length nodes) child [] [] below));
 }

@@ -1,14 +1,13 @@
 -- One step of the refinement keeps what holds of classes, and only finer classes are not settled yet.
-use Rattle.std.proofs.Common.{◌≡◌, ◌≢◌, ℕ, zero, suc, ◌*◌, ◌<◌, ◌≤◌, List, [], length, map, get_or, replicate, All, sym, ap, subst, ◌∙◌, arith, inl, inr}
+use Rattle.std.proofs.Common.{◌≡◌, ◌≢◌, ℕ, zero, suc, ◌*◌, ◌<◌, ◌≤◌, List, [], length, map, get_or, All, sym, ap, subst, ◌∙◌, arith, inl, inr}
 use Rattle.std.specs.List.{AllZip}
 use Rattle.std.proofs.lemmas.Bool.{cases_order}
-use Rattle.std.proofs.lemmas.List.{length-replicate, get_or-replicate}
 use Rattle.std.proofs.lemmas.List.Elements.{All-from_recursion, All-get_or}
 use Rattle.cfi_types.specs.Node.{Node, make_node}
 use Rattle.cfi_types.specs.Kind.{nodes_of}
 use Rattle.cfi_types.specs.Spelling.{NamesBelow}
 use Rattle.cfi_types.specs.Same.{node_of, Same, Equal}
-use Rattle.cfi_types.specs.inner.Splitting.{signature, key_of, IsLeast, IsSplit, IsClosed, IsLow}
+use Rattle.cfi_types.specs.inner.Splitting.{signature, key_of, IsFirstOfKey, IsSplit, IsClosed, IsLow, IsStill}
 use Rattle.cfi_types.specs.inner.Refining.{AreLeaders}
 use Rattle.cfi_types.specs.inner.Keeping.{KeepEqual}
 use Rattle.cfi_types.proofs.Pairs.{all_zip_at_each, map_from_all_zip, all_zip_from_map, total, total_lt_total, total_le_square}
@@ -64,7 +63,7 @@ stable_same nodes classes closed stable (suc n) a b la lb e =
 -- ---- parts
 
 -- nodes of one key have one least node
-pub least_alike : (key : ℕ → List ℕ) (a b m n : ℕ) → IsLeast key a m → IsLeast key b n → key a ≡ key b → m ≡ n
+pub least_alike : (key : ℕ → List ℕ) (a b m n : ℕ) → IsFirstOfKey key a m → IsFirstOfKey key b n → key a ≡ key b → m ≡ n
 least_alike key a b m n p q e =
     elim (cases_order m n) [
       | inl same ↦ same
@@ -74,7 +73,7 @@ least_alike key a b m n p q e =
       ]
     ]
 
-least_key : (key : ℕ → List ℕ) (a b m n : ℕ) → IsLeast key a m → IsLeast key b n → m ≡ n → key a ≡ key b
+least_key : (key : ℕ → List ℕ) (a b m n : ℕ) → IsFirstOfKey key a m → IsFirstOfKey key b n → m ≡ n → key a ≡ key b
 least_key key a b m n p q e = sym p.alike ∙ ap key e ∙ q.alike
 
 module _ (nodes : List Node) (classes next : List ℕ) (closed : IsClosed nodes) (before : KeepEqual nodes classes)
@@ -130,39 +129,30 @@ module _ (nodes : List Node) (classes next : List ℕ) (closed : IsClosed nodes)
   pub parts_keep : KeepEqual nodes next
   parts_keep = record { len = split.len; low = next_low; own = own_part; kept = equal_parts }
 
-  -- ---- standing still
+-- ---- standing still
 
-  pub leaders : next ≡ classes → AreLeaders nodes next
+module _ (nodes : List Node) (classes : List ℕ) (closed : IsClosed nodes) (keep : KeepEqual nodes classes) where
+  -- classes that no step changes are those of equal nodes
+  pub leaders : IsStill nodes classes → AreLeaders nodes classes
   leaders still = record {
-    len = split.len;
-    low = next_low;
-    leader = own_part;
+    len = keep.len;
+    low = keep.low;
+    leader = keep.own;
     equal = λ a b la lb. (
-      (λ e n. stable_same nodes next closed stable n a b la lb e),
-      (λ h. equal_parts a b la lb h),
+      (λ e n. stable_same nodes classes closed stable n a b la lb e),
+      (λ h. keep.kept a b la lb h),
     );
   }
     where
-      stable : (x y : ℕ) → x < length nodes → y < length nodes → get_or next x 0 ≡ get_or next y 0
-          → signature next (node_of nodes x) ≡ signature next (node_of nodes y)
-      stable x y lx ly e =
-          subst (λ c. signature c (node_of nodes x) ≡ signature c (node_of nodes y)) (sym still)
-          (signature_from_key nodes classes x y (one_key x y lx ly e))
+      stable : (x y : ℕ) → x < length nodes → y < length nodes → get_or classes x 0 ≡ get_or classes y 0
+          → signature classes (node_of nodes x) ≡ signature classes (node_of nodes y)
+      stable x y lx ly e = sym (still x lx) ∙ ap (λ k. signature classes (node_of nodes k)) e ∙ still y ly
 
--- one class of all nodes
-pub one_class : (nodes : List Node) → KeepEqual nodes (replicate (length nodes) 0)
-one_class nodes = record {
-  len = length-replicate {A = ℕ} (length nodes) 0;
-  low = λ a lt. omega
-      (arith, get_or-replicate {A = ℕ} (length nodes) a 0 0 (omega (arith, length-replicate {A = ℕ} (length nodes) 0)));
-  own = λ a lt.
-      let here : get_or (replicate (length nodes) 0) a 0 ≡ 0 = get_or-replicate {A = ℕ} (length nodes) a 0 0 lt in
-      let first : get_or (replicate (length nodes) 0) 0 0 ≡ 0 =
-      get_or-replicate {A = ℕ} (length nodes) 0 0 0 (omega arith) in
-      ap (λ k. get_or (replicate (length nodes) 0) k 0) here ∙ first ∙ sym here;
-  kept = λ a b la lb h.
-      get_or-replicate {A = ℕ} (length nodes) a 0 0 la ∙ sym (get_or-replicate {A = ℕ} (length nodes) b 0 0 lb);
-}
+  -- a step that changes nothing shows it
+  pub still_by : (next : List ℕ) → IsSplit nodes classes next → next ≡ classes → IsStill nodes classes
+  still_by next split same a la =
+      signature_from_key nodes classes (get_or classes a 0) a
+      (subst (λ (l : List ℕ). key_of nodes classes (get_or l a 0) ≡ key_of nodes classes a) same (split.least a la).alike)
 
 -- what is said of slices, said of the lists in them
 pub split_of : (nodes : List Node) (cs classes next : List ℕ) → cs ≡ classes → IsSplit nodes cs next

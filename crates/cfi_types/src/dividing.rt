@@ -2,7 +2,7 @@
 
 ghost use Rattle.std.specs.Prelude.{◌≡◌, ◌<◌, ◌^◌, length, All, IfOk};
 ghost use Rattle.cfi_types.specs.inner.Splitting.{IsClosed};
-ghost use Rattle.cfi_types.specs.inner.Keeping.{AreNamed, KeepEqual};
+ghost use Rattle.cfi_types.specs.inner.Keeping.{label_of, AreNamed, KeepEqual};
 
 use crate::hits::gather;
 use crate::leader::Firsts;
@@ -10,7 +10,6 @@ use crate::lists::Lists;
 use crate::node::TypeNode;
 use crate::parents::parents_of;
 use crate::partition::Parts;
-use crate::splitting::split;
 use cfi_word::limits::MAX_FIELDS;
 use std::alloc::{AllocError, Global};
 
@@ -28,14 +27,30 @@ fn least_of(alloc: Global, parts: &[u32]) -> Result<Vec<u32>, AllocError>
     Ok(least)
 }
 
+// What is known of a node without those that it names.
+fn label_of(alloc: Global, node: &TypeNode) -> Result<Vec<u32>, AllocError>
+    ensures { IfOk result (λ label. label.items ≡ label_of node.now) }
+{
+    let (numbers, named) = node.parts();
+    let mut label = Vec::new(alloc);
+    label.push(node.kind())?;
+    label.push(named.len().min(MAX_FIELDS as usize) as u32)?;
+    label.extend_from_slice(numbers)?;
+    Ok(label)
+}
+
 // The parts of nodes of one kind, with the same numbers, that name as many nodes.
 fn labels(alloc: Global, nodes: &[TypeNode]) -> Result<Vec<u32>, AllocError>
     requires fits { length nodes.now < 2 ^ 32 }
-    requires closed { IsClosed nodes.now }
     ensures { IfOk result (λ classes. KeepEqual nodes.now classes.items) }
 {
-    let one = vec![in alloc; 0u32; nodes.len()]?;
-    split(alloc, nodes, one.as_slice())
+    let mut firsts = Firsts::new(alloc, 0)?;
+    let mut classes = Vec::with_capacity(alloc, nodes.len())?;
+    for (a, node) in nodes.iter().enumerate() {
+        let label = label_of(alloc, node)?;
+        classes.push(firsts.signed(label, a as u32)?)?;
+    }
+    Ok(classes)
 }
 
 // Classes that keep equal nodes together, and tell others apart.
@@ -61,7 +76,7 @@ pub(crate) fn divided(alloc: Global, nodes: &[TypeNode]) -> Result<Vec<u32>, All
             parts.parts.as_slice(),
             part,
         )?;
-        parts.divide_by(alloc, &mut hits)?;
+        parts.divide_by(&mut hits)?;
     }
     least_of(alloc, parts.parts.as_slice())
 }

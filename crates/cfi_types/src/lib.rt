@@ -22,6 +22,7 @@ mod plan;
 mod reading;
 mod refining;
 mod splitting;
+mod still;
 mod table;
 mod writing;
 

@@ -31,6 +31,17 @@ impl<T: Drop> Lists<T> {
         Ok(Lists { rows })
     }
 
+    // Empty lists, each with room for so many items.
+    pub(crate) fn with_room(alloc: Global, room: &[u32]) -> Result<Lists<T>, AllocError>
+        ensures { IfOk result (λ lists. lists ≡ replicate (length room.now) []) }
+    {
+        let mut rows = Vec::with_capacity(alloc, room.len())?;
+        for number in 0..room.len() {
+            rows.push(Vec::with_capacity(alloc, room[number] as usize)?)?;
+        }
+        Ok(Lists { rows })
+    }
+
     // Adds an item at the end of a list.
     pub(crate) fn add(&mut self, number: u32, item: T) -> Result<(), AllocError>
         requires { number < length self.old }

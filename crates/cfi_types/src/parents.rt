@@ -1,6 +1,6 @@
 //! Which nodes name each node, and where.
 
-ghost use Rattle.std.specs.Prelude.{◌<◌, ◌^◌, length, min, All, IfOk, OnOk};
+ghost use Rattle.std.specs.Prelude.{◌≡◌, ◌<◌, ◌^◌, length, min, vec_len, All, IfOk, OnOk};
 ghost use Rattle.cfi_word.specs.declared.limits.TheConstants.{MAX_FIELDS};
 ghost use Rattle.cfi_types.specs.inner.Splitting.{IsClosed};
 ghost use Rattle.cfi_types.specs.inner.Parents.{AddsNames, AreParents};
@@ -34,13 +34,37 @@ fn add_names(parents: &mut Lists<Name>, named: &[u32], number: u32) -> Result<()
     Ok(())
 }
 
+// Counts each of the nodes once more.
+fn count_each(counts: &mut Vec<u32>, named: &[u32])
+    requires { All (λ k. k < vec_len counts.old) named.now }
+    ensures { vec_len counts.new ≡ vec_len counts.old }
+{
+    for k in named {
+        counts[*k as usize] = counts[*k as usize].saturating_add(1);
+    }
+}
+
+// How often nodes name each node.
+fn counts_of(alloc: Global, nodes: &[TypeNode]) -> Result<Vec<u32>, AllocError>
+    requires closed { IsClosed nodes.now }
+    ensures { IfOk result (λ counts. vec_len counts ≡ length nodes.now) }
+{
+    let mut counts = vec![in alloc; 0u32; nodes.len()]?;
+    for node in nodes {
+        let (_, named) = node.parts();
+        count_each(&mut counts, named);
+    }
+    Ok(counts)
+}
+
 // Where each node is named, at the first `MAX_FIELDS` places of nodes.
 pub(crate) fn parents_of(alloc: Global, nodes: &[TypeNode]) -> Result<Lists<Name>, AllocError>
     requires fits { length nodes.now < 2 ^ 32 }
     requires closed { IsClosed nodes.now }
     ensures { IfOk result (λ parents. AreParents nodes.now (length nodes.now) parents) }
 {
-    let mut parents = Lists::new(alloc, nodes.len())?;
+    let counts = counts_of(alloc, nodes)?;
+    let mut parents = Lists::with_room(alloc, counts.as_slice())?;
     for (number, node) in nodes.iter().enumerate() {
         let (_, named) = node.parts();
         add_names(&mut parents, named, number as u32)?;

@@ -1,6 +1,6 @@
 //! Parts of nodes, and their division by lists of nodes.
 
-ghost use Rattle.std.specs.Prelude.{◌≡◌, ℕ, ◌<◌, ◌≤◌, ◌^◌, true, List, length, map, slice_index, vec_len, All, IfOk, IfSome, OnOk};
+ghost use Rattle.std.specs.Prelude.{◌≡◌, ℕ, ◌<◌, ◌^◌, List, length, map, slice_index, vec_len, All, IfOk, IfSome, OnOk};
 ghost use Rattle.cfi_word.specs.declared.limits.TheConstants.{MAX_FIELDS};
 ghost use Rattle.cfi_types.specs.Node.{Node};
 ghost use Rattle.cfi_types.specs.inner.Splitting.{IsLow};
@@ -26,21 +26,25 @@ pub(crate) struct Parts {
     counts: Vec<u32>,
     // The part to which the nodes come that a division takes out of each.
     targets: Vec<u32>,
+    // The parts of which a division takes nodes, kept for their memory.
+    touched: Vec<u32>,
+    // The parts to which its nodes come, kept for their memory.
+    ends: Vec<u32>,
 }
 
-// Counts the nodes by their parts. Answers the parts that have some.
+// Counts the nodes by their parts. `touched` becomes the parts that have some.
 fn count(
-    alloc: Global,
     counts: &mut Vec<u32>,
+    touched: &mut Vec<u32>,
     parts: &[u32],
     nodes: &[u32],
-) -> Result<Vec<u32>, AllocError>
+) -> Result<(), AllocError>
     requires nodes { All (λ a. a < length parts.now) nodes.now }
     requires parts { All (λ k. k < vec_len counts.old) parts.now }
-    ensures below { IfOk result (λ touched. All (λ k. k < vec_len counts.old) touched.items) }
+    ensures below { OnOk result (All (λ k. k < vec_len counts.old) touched.new.items) }
     ensures len { vec_len counts.new ≡ vec_len counts.old }
 {
-    let mut touched = Vec::new(alloc);
+    touched.clear();
     for node in nodes {
         let part = parts[*node as usize];
         let before = counts[part as usize];
@@ -49,7 +53,7 @@ fn count(
         }
         counts[part as usize] = before.saturating_add(1);
     }
-    Ok(touched)
+    Ok(())
 }
 
 // Finds out to which part the nodes come that are counted in each part.
@@ -75,28 +79,28 @@ fn aim(
     Ok(())
 }
 
-// The part to which each of the nodes comes.
-fn ends_of(
-    alloc: Global,
+// `ends` becomes the part to which each of the nodes comes.
+fn find_ends(
+    ends: &mut Vec<u32>,
     parts: &[u32],
     targets: &[u32],
     nodes: &[u32],
-) -> Result<Vec<u32>, AllocError>
+) -> Result<(), AllocError>
     requires nodes { All (λ a. a < length parts.now) nodes.now }
     requires parts { All (λ k. k < length targets.now) parts.now }
-    ensures { IfOk result (λ ends. ends.items ≡
+    ensures { OnOk result (ends.new.items ≡
         map (λ a. slice_index targets.now (slice_index parts.now a)) nodes.now) }
 {
-    let mut ends = Vec::with_capacity(alloc, nodes.len())?;
+    ends.clear();
     for node in nodes {
         ends.push(targets[parts[*node as usize] as usize])?;
     }
-    Ok(ends)
+    Ok(())
 }
 
 // Puts the nodes where they come to.
 fn put(
-    alloc: Global,
+    ends: &mut Vec<u32>,
     parts: &mut Vec<u32>,
     members: &mut Lists<u32>,
     targets: &[u32],
@@ -109,7 +113,7 @@ fn put(
     ensures put { OnOk result (IsPut parts.old.items targets.now nodes.now parts.new.items) }
     ensures listed { OnOk result (AreListed parts.new.items members.new) }
 {
-    let ends = ends_of(alloc, parts.as_slice(), targets, nodes)?;
+    find_ends(ends, parts.as_slice(), targets, nodes)?;
     for i in 0..nodes.len() {
         let (node, end) = (nodes[i], ends[i]);
         if parts[node as usize] != end {
@@ -151,6 +155,8 @@ impl Parts {
             plan,
             counts,
             targets,
+            touched: Vec::new(alloc),
+            ends: Vec::new(alloc),
         })
     }
 
@@ -164,36 +170,41 @@ impl Parts {
         self.plan.next()
     }
 
-    // Whether there is no node, or one that is alone in its part.
+    // Whether each of the nodes is alone in its part, so that none can be taken out.
     fn are_alone(&self, nodes: &[u32]) -> bool
         requires whole { IsWhole self.now }
         requires nodes { All (λ a. a < length self.now.parts.items) nodes.now }
-        ensures few { result ≡ true → length nodes.now ≤ 1 }
     {
-        if nodes.len() != 1 {
-            return nodes.is_empty();
+        for node in nodes {
+            if self.plan.size(self.parts[*node as usize]) != 1 {
+                return false;
+            }
         }
-        self.plan.size(self.parts[nodes[0] as usize]) == 1
+        true
     }
 
     // Takes these nodes out of each part of which some are left, those of one part to one part.
-    fn take_out(&mut self, alloc: Global, nodes: &[u32]) -> Result<(), AllocError>
+    fn take_out(&mut self, nodes: &[u32]) -> Result<(), AllocError>
         requires whole { IsWhole self.old }
         requires nodes { All (λ a. a < length self.old.parts.items) nodes.now }
         ensures whole { OnOk result (IsWhole self.new) }
         ensures divided { OnOk result
             (IsDivided self.old.parts.items nodes.now self.new.parts.items) }
     {
-        let counts = &mut self.counts;
-        let touched = count(alloc, counts, self.parts.as_slice(), nodes)?;
+        count(
+            &mut self.counts,
+            &mut self.touched,
+            self.parts.as_slice(),
+            nodes,
+        )?;
         aim(
             &mut self.plan,
             &mut self.counts,
             &mut self.targets,
-            touched.as_slice(),
+            self.touched.as_slice(),
         )?;
         put(
-            alloc,
+            &mut self.ends,
             &mut self.parts,
             &mut self.members,
             self.targets.as_slice(),
@@ -202,7 +213,7 @@ impl Parts {
     }
 
     // The same, at little cost where it changes nothing.
-    fn divide(&mut self, alloc: Global, nodes: &[u32]) -> Result<(), AllocError>
+    fn divide(&mut self, nodes: &[u32]) -> Result<(), AllocError>
         requires whole { IsWhole self.old }
         requires nodes { All (λ a. a < length self.old.parts.items) nodes.now }
         ensures whole { OnOk result (IsWhole self.new) }
@@ -212,15 +223,11 @@ impl Parts {
         if self.are_alone(nodes) {
             return Ok(());
         }
-        self.take_out(alloc, nodes)
+        self.take_out(nodes)
     }
 
     // Divides by each of the lists, and leaves them empty.
-    pub(crate) fn divide_by(
-        &mut self,
-        alloc: Global,
-        lists: &mut Lists<u32>,
-    ) -> Result<(), AllocError>
+    pub(crate) fn divide_by(&mut self, lists: &mut Lists<u32>) -> Result<(), AllocError>
         requires whole { IsWhole self.old }
         requires len { length lists.old ≡ MAX_FIELDS }
         requires below { All (All (λ a. a < length self.old.parts.items)) lists.old }
@@ -230,7 +237,7 @@ impl Parts {
             All (TellEqual nodes) lists.old → OnOk result (KeepTogether nodes self.new.parts.items) }
     {
         for place in 0..MAX_FIELDS {
-            self.divide(alloc, lists.row(place))?;
+            self.divide(lists.row(place))?;
             lists.clear(place);
         }
         Ok(())

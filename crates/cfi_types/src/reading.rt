@@ -48,7 +48,7 @@ fn fields_from(
 ) -> Result<(Vec<u32>, &[u8]), TypeFault>
     ensures { ReadingGives (λ x. (x.0.items, x.1.now)) result (fields_at number kind 0 count bytes.now) }
 {
-    let mut fields = Vec::new(alloc);
+    let mut fields = Vec::with_capacity(alloc, count as usize)?;
     let mut rest = bytes;
     for place in 0..count {
         let (word, after) = word_from(rest)?;
@@ -81,7 +81,7 @@ fn table_nodes(alloc: Global, count: u32, bytes: &[u8]) -> Result<(Vec<TypeNode>
     ensures read { ReadingGives (λ x. (x.0.items, x.1.now)) result (nodes_at 0 count bytes.now) }
     ensures counted { IfOk result (λ x. length x.0.items ≡ count) }
 {
-    let mut nodes = Vec::new(alloc);
+    let mut nodes = Vec::with_capacity(alloc, count as usize)?;
     let mut rest = bytes;
     for number in 0..count {
         let (node, after) = node_from(alloc, number, rest)?;

@@ -4,7 +4,7 @@ ghost use Rattle.std.specs.Prelude.{◌≡◌, ℕ, ◌+◌, ◌*◌, ◌<◌, �
 ghost use Rattle.cfi_aux.specs.Format.{is_func};
 ghost use Rattle.elf_read.specs.Lists.{Each, IsFirstBreak, own_number};
 ghost use Rattle.cfi_verify.specs.Functions.{IsIdle, FunctionFits, FitsBehind, IsIdleBehind, may_be_last, EndsWell};
-ghost use Rattle.cfi_verify.specs.inner.Places.{AreRising, AreInRange, IsWithin, IsFirstUnfit};
+ghost use Rattle.cfi_verify.specs.inner.Places.{AreRising, AreInRange, FollowsWithin, IsFirstUnfit};
 
 use crate::search::{begins_at, number_at};
 use cfi_aux::{Placed, PlacedFunction};
@@ -46,7 +46,7 @@ fn is_idle(spots: &[Spot], from: u32, to: u32) -> bool
 
 // Whether a function has words, which come after the word `before` and end at or before the word `length`.
 fn is_within(before: u32, length: usize, function: &PlacedFunction) -> bool
-    ensures { IsTrue result ↔ IsWithin before length function.now }
+    ensures { IsTrue result ↔ FollowsWithin before length function.now }
 {
     let end = u64::from(function.first) + u64::from(function.count);
     function.count != 0 && before <= function.first && end <= length as u64

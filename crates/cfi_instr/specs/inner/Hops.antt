@@ -35,12 +35,12 @@ pub record HasLeft (offsets : List ℕ) (hop : Hop) : Type 0 where
   pub back : hop.to < hop.at → slice_index offsets hop.to + REACH_BACK < slice_index offsets hop.at + 4 * hop.left
 
 -- a branch of the text, with what is left where the units have these offsets
-pub record Stands (t : Words) (symbols : List Symbol) (offsets : List ℕ) (hop : Hop) : Type 0 where
+pub record IsMeasured (t : Words) (symbols : List Symbol) (offsets : List ℕ) (hop : Hop) : Type 0 where
   pub hop_is : IsHop t symbols hop
   pub left : HasLeft offsets hop
 
 -- the branches of a text, and a set that is within each one that is enough
 pub record AreReady (t : Words) (symbols : List Symbol) (hops : List Hop) (long : List Bool) : Type 0 where
   pub size : length long ≡ count_of t
-  pub each : All (Stands t symbols (offsets_of t long)) hops
+  pub each : All (IsMeasured t symbols (offsets_of t long)) hops
   pub within : (other : List Bool) → IsEnough t symbols other → IsWithin long other

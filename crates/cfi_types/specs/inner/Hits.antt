@@ -2,7 +2,7 @@
 use Rattle.std.specs.Prelude.{◌≡◌, ℕ, ◌<◌, Bool, ◌==◌, ◌&&◌, ◌||◌, List, [], length, slice_index, slice_index_or}
 use Rattle.std.specs.List.{list_any}
 use Rattle.cfi_types.specs.declared.parents.Name.{Name}
-use Rattle.cfi_types.specs.inner.Parents.{has_name, is_named}
+use Rattle.cfi_types.specs.inner.Parents.{has_name, lists_name}
 
 -- whether a list has the node
 abbrev pub has : List ℕ → (node : ℕ) → Bool
@@ -21,7 +21,7 @@ pub record AddsHits (old : List (List ℕ)) (names : List Name) (new : List (Lis
 -- whether the node names at this place one of the members that are in the class
 abbrev pub hits_one : (parents : List (List Name)) → (members classes : List ℕ) → (class place node : ℕ) → Bool
 hits_one parents members classes class place node =
-    list_any (λ a. (slice_index classes a == class) && is_named parents a node place) members
+    list_any (λ a. (slice_index classes a == class) && lists_name parents a node place) members
 
 -- the nodes that name such a member are added, each to the list of the place
 pub record GathersHits (old : List (List ℕ)) (parents : List (List Name)) (members classes : List ℕ) (class : ℕ)

@@ -16,16 +16,16 @@ abbrev pub has_name : List Name → (node place : ℕ) → Bool
 has_name names node place = list_any (λ x. (x.node == node) && (x.place == place)) names
 
 -- the same of the child's list
-abbrev pub is_named : (parents : List (List Name)) → (child node place : ℕ) → Bool
-is_named parents child node place = has_name (slice_index_or parents child []) node place
+abbrev pub lists_name : (parents : List (List Name)) → (child node place : ℕ) → Bool
+lists_name parents child node place = has_name (slice_index_or parents child []) node place
 
 -- the names of the node of this number are added, at the first `count` places
 pub record AddsNames (old : List (List Name)) (named : List ℕ) (number count : ℕ) (new : List
     (List Name)) : Type 0 where
   pub len : length new ≡ length old
   pub each : (child node place : ℕ) → child < length old
-      → is_named new child node place
-      ≡ (is_named old child node place || ((number == node) && is_at named count place child))
+      → lists_name new child node place
+      ≡ (lists_name old child node place || ((number == node) && is_at named count place child))
 
 -- whether a node names the child at this place, one of the first MAX_FIELDS
 abbrev pub names_at : Node → (place child : ℕ) → Bool
@@ -35,4 +35,4 @@ names_at x place child = is_at (nodes_of x) (min (length (nodes_of x)) MAX_FIELD
 pub record AreParents (nodes : List Node) (count : ℕ) (parents : List (List Name)) : Type 0 where
   pub len : length parents ≡ length nodes
   pub each : (child node place : ℕ) → child < length nodes
-      → is_named parents child node place ≡ (nat_lt node count && names_at (node_of nodes node) place child)
+      → lists_name parents child node place ≡ (nat_lt node count && names_at (node_of nodes node) place child)

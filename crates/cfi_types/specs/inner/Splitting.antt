@@ -15,7 +15,7 @@ abbrev pub key_of : (nodes : List Node) → (classes : List ℕ) → (a : ℕ) �
 key_of nodes classes a = slice_index classes a ∷ signature classes (node_of nodes a)
 
 -- m is the least node that is known by the key of node a
-pub record IsLeast (key : ℕ → List ℕ) (a m : ℕ) : Type 0 where
+pub record IsFirstOfKey (key : ℕ → List ℕ) (a m : ℕ) : Type 0 where
   pub within : m ≤ a
   pub alike : key m ≡ key a
   pub least : (l : ℕ) → l < m → key l ≢ key a
@@ -23,7 +23,12 @@ pub record IsLeast (key : ℕ → List ℕ) (a m : ℕ) : Type 0 where
 -- the least node of each node's part
 pub record IsSplit (nodes : List Node) (classes next : List ℕ) : Type 0 where
   pub len : length next ≡ length nodes
-  pub least : (a : ℕ) → a < length nodes → IsLeast (key_of nodes classes) a (slice_index next a)
+  pub least : (a : ℕ) → a < length nodes → IsFirstOfKey (key_of nodes classes) a (slice_index next a)
+
+-- each node has the signature of the one that its class is named by
+abbrev pub IsStill : (nodes : List Node) → (classes : List ℕ) → Type 0
+IsStill nodes classes = (a : ℕ) → a < length nodes
+    → signature classes (node_of nodes (slice_index classes a)) ≡ signature classes (node_of nodes a)
 
 -- nodes whose list names no node outside it
 abbrev pub IsClosed : List Node → Type 0

@@ -45,7 +45,7 @@ abbrev pub AreInRange : List PlacedFunction → Type 0
 AreInRange functions = All (λ f. end_of f < 2 ^ 32) functions
 
 -- a function has words, after the word `before` and within so many
-pub record IsWithin (before count : ℕ) (f : PlacedFunction) : Type 0 where
+pub record FollowsWithin (before count : ℕ) (f : PlacedFunction) : Type 0 where
   pub some : 0 < f.count
   pub order : before ≤ f.first
   pub within : end_of f ≤ count

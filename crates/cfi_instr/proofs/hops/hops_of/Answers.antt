@@ -1,13 +1,13 @@
 use Rattle.std.proofs.Common.{◌∙◌, All, List, Vec, Global, sym, ap, subst}
 use Rattle.std.proofs.lemmas.List.Elements.{All-push}
 use Rattle.cfi_instr.specs.declared.hops.Hop.{Hop}
-use Rattle.cfi_instr.specs.inner.Hops.{Stands}
+use Rattle.cfi_instr.specs.inner.Hops.{IsMeasured}
 use Rattle.cfi_instr.proofs.hops.hops_of.Goals as goal
 use Rattle.cfi_instr.proofs.hops.hops_of.Goals.{in-Some+in_ok-push, in_default}
 
 pub loop-w-preserved : goal.loop-w-preserved
 loop-w-preserved c =
-    let P = Stands c.args.source.now c.args.symbols.now c.args.offsets.now in
+    let P = IsMeasured c.args.source.now c.args.symbols.now c.args.offsets.now in
     let items = λ (hops : Vec Hop Global). hops.items in
     elim c.match-hop_at.branch [
       | in-Some+in_ok-push v ↦

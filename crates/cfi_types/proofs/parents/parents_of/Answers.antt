@@ -1,4 +1,4 @@
-use Rattle.std.proofs.Common.{◌≡◌, ◌∙◌, [], ap}
+use Rattle.std.proofs.Common.{◌≡◌, ◌∙◌, [], length, replicate, ap, rules}
 use Rattle.std.proofs.lemmas.List.{get_or_read}
 use Rattle.cfi_types.specs.Node.{make_node}
 use Rattle.cfi_types.specs.Kind.{nodes_of}
@@ -7,7 +7,10 @@ use Rattle.cfi_types.proofs.NameLemmas.{no_parents, parents_more}
 use Rattle.cfi_types.proofs.parents.parents_of.Goals as goal
 
 pub loop-number-init : goal.loop-number-init
-loop-number-init c = no_parents c.args.nodes.now c.in_ok-parents.parents c.in_ok-parents.ensures
+loop-number-init c =
+    let len : length c.as_slice.result.now ≡ length c.args.nodes.now = search rules in
+    no_parents c.args.nodes.now c.in_ok-parents.parents
+    (c.in_ok-parents.ensures ∙ ap (λ n. replicate n []) len)
 
 pub loop-number-preserved : goal.loop-number-preserved
 loop-number-preserved c =

@@ -19,14 +19,14 @@ loop-i-preserved c =
     let i = c.loop-i.i in
     let mid = c.loop-i.parts.items in
     let members = c.loop-i.members in
-    let ends = c.in_ok-ends.ends.items in
+    let ends = c.find_ends.new.ends.items in
     let x = get_or c.args.nodes.now c.loop-i.i 0 in
     let end = c.index.result.now in
     let lt : i < length nodes = c.loop-i-test.true in
-    let count : length ends ≡ length nodes = ap length c.in_ok-ends.ensures ∙ length-map nodes (λ a. get_or targets
+    let count : length ends ≡ length nodes = ap length c.in_ok-find_ends.ensures ∙ length-map nodes (λ a. get_or targets
     (get_or c.as_slice.result.now a 0) 0) in
     let target : end ≡ get_or targets (get_or old x 0) 0 =
-    get_or_read ends i end (omega (arith, count, lt)) c.index.ensures 0 ∙ ap (λ l. get_or l i 0) c.in_ok-ends.ensures
+    get_or_read ends i end (omega (arith, count, lt)) c.index.ensures 0 ∙ ap (λ l. get_or l i 0) c.in_ok-find_ends.ensures
     ∙ get_or-map (λ a. get_or targets (get_or c.as_slice.result.now a 0) 0) nodes i 0 0 lt
     ∙ ap (λ l. get_or targets (get_or l x 0) 0) c.as_slice.ensures.value in
     let len : vec_len c.args.parts.now ≡ length old = search rules in

@@ -6,7 +6,7 @@ use Rattle.cfi_types.proofs.reading.fields_from.Goals as goal
 
 pub returns-in_err-word : goal.returns-in_err-word
 returns-in_err-word c =
-    let p = err_from_is_err_and c.from_residual.result c.from_residual.ensures.1 in
+    let p = err_from_is_err_and c.from_residual-in_err-word.result c.from_residual-in_err-word.ensures.1 in
     rw (p.1, p.2)
     (fields_end c.in_err-word.field-0.0 c.args.number c.args.kind c.args.count c.loop-place.place
     c.loop-place.fields.items c.loop-place.rest.now

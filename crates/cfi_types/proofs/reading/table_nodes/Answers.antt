@@ -7,7 +7,7 @@ use Rattle.cfi_types.proofs.reading.table_nodes.Goals as goal
 
 pub returns-in_err-node-clause-read : goal.returns-in_err-node-clause-read
 returns-in_err-node-clause-read c =
-    let p = err_from_is_err_and c.from_residual.result c.from_residual.ensures.1 in
+    let p = err_from_is_err_and c.from_residual-in_err-node.result c.from_residual-in_err-node.ensures.1 in
     rw (p.1, p.2)
     (nodes_end c.in_err-node.field-0.0 c.args.count c.loop-number.number c.loop-number.nodes.items
     c.loop-number.rest.now (nodes_at 0 c.args.count c.args.bytes.now) c.loop-number-test.true c.in_err-node.ensures
