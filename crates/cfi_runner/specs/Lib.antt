@@ -2,4 +2,3 @@ pub mod Seen
 pub mod Run
 pub mod Shown
 pub mod Laws
-pub mod inner

@@ -3,14 +3,13 @@
 //! Stands on `cfi_tables`, `cfi_model` and `rv_guest`. Proved: `run_until` leaves the guest where the raw machine leaves
 //! it over the words that this call has loaded, and answers exactly where it asks for a service or has stopped; over the
 //! history that its pass has seen it shows the policy machine; what a call that ends in a service hands on is what the
-//! next one asks for, and two calls are one run. Tested: with a thread of updates beside it. Open: nothing.
+//! next one asks for, and two calls are one run. Tested in `cfi_threads`: with a thread of updates beside it. Open:
+//! nothing.
 #![tactic(auto)]
 
 pub mod laws;
 mod pause;
 mod run;
-#[cfg(test)]
-mod tests;
 
 pub use pause::Pause;
 pub use run::run_until;

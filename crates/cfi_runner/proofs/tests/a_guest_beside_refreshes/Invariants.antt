@@ -1,5 +1,0 @@
-use Rattle.cfi_runner.proofs.tests.a_guest_beside_refreshes.Given as goal
-
--- the name is that of the table that was just made
-abbrev pub ghosts-beside : goal.ghosts-beside
-ghosts-beside g a = record { table = a.blank.table; key = a.blank.key }

@@ -1,5 +1,0 @@
-use Rattle.cfi_runner.specs.Seen.{SeesMore}
-use Rattle.cfi_runner.proofs.tests.await_update.Given as goal
-
-abbrev pub invariant-loop : goal.invariant-loop
-invariant-loop g l = SeesMore g.N.TableName.key l.fn.pass.sight l.pass.sight

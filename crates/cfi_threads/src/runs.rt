@@ -1,0 +1,302 @@
+//! Guests beside a keeper, over one table.
+
+ghost use Rattle.std.specs.Prelude.{◌≡◌, IfOk, OnOk};
+ghost use Rattle.cfi_model.specs.Closed.{IsClosed, IsStartIn};
+ghost use Rattle.cfi_model.specs.History.{IsStart};
+ghost use Rattle.cfi_runner.specs.Seen.{IsSight, SeesMore, history_seen};
+ghost use Rattle.cfi_threads.specs.Like.{IsLike};
+ghost use Rattle.cfi_threads.specs.Starts.{IsEntry, StartAll};
+
+use crate::refreshes::refresh;
+use cfi_runner::{Pause, run_until};
+use cfi_tables::{Blank, Keeper, Pass, TableName, Tables};
+use cfi_values::Numbers;
+use cfi_word::services::{EXIT, QUIET};
+use cfi_word::{FIELD_MAX, Image, Layout};
+use rv_guest::{Guest, Log, Stop};
+use std::alloc::{AllocError, Global};
+use std::marker::Brand;
+use std::test::Fail;
+use std::thread::{Threads, join};
+
+// A masked `lw x6,0(x10)`; `lui x5,0`, `addi x5,x5,172`, a checked `jalr x1,0(x5)` at slot 0, a quiet, an exit and
+// `j .`; then, at address 172, a checked `jalr x0,0(x1)` at slot 1. By the tables of the RISC-V Unprivileged ISA
+// 20191213.
+const CALL: [u32; 41] = [
+    0x00050f93, 0x00cf9f93, 0x00cfdf93, 0x40000f37, 0x01efefb3, 0x000fa303, 0x000002b7, 0x0ac28293,
+    0x00028f93, 0x012fdf13, 0x020f1463, 0x20000e37, 0x000e2e83, 0x10000f37, 0x01ff0f33, 0x000f2f03,
+    0x01ee8a63, 0x01df4f33, 0x010f1f13, 0xfe0f10e3, 0x00100073, 0x000f80e7, 0x00300893, 0x00000073,
+    0x00100893, 0x00000073, 0x0000006f, 0x00008f93, 0x012fdf13, 0x020f1463, 0x20000e37, 0x004e2e83,
+    0x10000f37, 0x01ff0f33, 0x000f2f03, 0x01ee8a63, 0x01df4f33, 0x010f1f13, 0xfe0f10e3, 0x00100073,
+    0x000f8067,
+];
+
+// Where its load, its call and its return begin.
+const LOAD: u32 = 64;
+
+const MAIN: u32 = 88;
+
+const RETURN: u32 = 172;
+
+// The image of these words: the call may go to address 172, and the return to the address after the call.
+fn call_image(alloc: Global, layout: &Layout) -> Result<Image, AllocError>
+    ensures { IfOk result (λ image. IsClosed layout.now image × StartAll image) }
+{
+    let code_words = layout.code_words() as usize;
+    let mut tary = vec![in alloc; 0; code_words]?;
+    tary[38] = 2;
+    tary[43] = 1;
+    let mut bary = vec![in alloc; FIELD_MAX; layout.slots() as usize]?;
+    bary[0] = 1;
+    bary[1] = 2;
+    let mut code = vec![in alloc; 0; 16]?;
+    code.extend_from_slice(&CALL)?;
+    let rest = vec![in alloc; 0; code_words - 57]?;
+    code.extend_from_slice(rest.as_slice())?;
+    Ok(Image {
+        tary: Numbers::from_vec(tary),
+        bary: Numbers::from_vec(bary),
+        code: Numbers::from_vec(code),
+    })
+}
+
+// Runs a guest until it has stopped; quiets and the exit are served.
+fn drive<N: TableName>(
+    alloc: Global,
+    tables: &Tables<N>,
+    pass: &mut Pass<N>,
+    number: u32,
+    entry: u32,
+    fuel: u32,
+) -> Result<(Guest, Pause), AllocError>
+    requires sight { IsSight N.key pass.old.sight }
+    requires start { IsStart (history_seen N.key pass.old.sight) entry }
+    ensures sees { OnOk result (SeesMore N.key pass.old.sight pass.new.sight) }
+{
+    let mut guest = Guest::open(alloc, number, entry, &[])?;
+    let first = run_until(&mut guest, tables, pass, fuel);
+    match first {
+        Pause::Service(QUIET) => {
+            let _ = tables.quiet(pass);
+            guest.proceed();
+            let second = run_until(&mut guest, tables, pass, fuel);
+            match second {
+                Pause::Service(EXIT) => guest.exit(),
+                _ => {}
+            }
+            Ok((guest, second))
+        }
+        _ => Ok((guest, first)),
+    }
+}
+
+// Whether the guest has called and returned, passed a quiescent point and exited, under policy 0, and how many of its
+// tries it has repeated. Without a repeated one it fetches 26 instructions.
+fn repeats(guest: &Guest) -> Option<u32> {
+    let picks = Log::Pick {
+        policy: 0,
+        count: 2,
+    };
+    let more = guest.steps().checked_sub(26)?;
+    let all = guest.stop() == Some(Stop::Exit(0))
+        && guest.units() == 8
+        && guest.log() == [picks].as_slice()
+        && more % 9 == 0;
+    if all { Some(more / 9) } else { None }
+}
+
+// A guest's pass, whether all its guests ended well, and whether one of them has repeated a try.
+#[derive(Drop)]
+struct Reader<N: TableName> {
+    pass: Pass<N>,
+    sound: bool,
+    repeated: bool,
+}
+
+// Runs one guest after the other, until one has repeated a try, or so many have run.
+fn run_guests<N: TableName>(
+    alloc: Global,
+    tables: &Tables<N>,
+    mut reader: Reader<N>,
+    guests: u32,
+) -> Result<Reader<N>, AllocError>
+    requires sight { IsSight N.key reader.pass.sight }
+    requires start { IsStart (history_seen N.key reader.pass.sight) 88 }
+{
+    for _ in 0..guests {
+        let (guest, _) = drive(alloc, tables, &mut reader.pass, 0, MAIN, 1_000_000_000)?;
+        match repeats(&guest) {
+            Some(0) => {}
+            Some(_) => {
+                reader.repeated = true;
+                return Ok(reader);
+            }
+            None => reader.sound = false,
+        }
+    }
+    Ok(reader)
+}
+
+// Waits until an update is in force, for so many turns at most.
+fn await_update<N: TableName>(tables: &Tables<N>, pass: &mut Pass<N>, turns: u32)
+    requires { IsSight N.key pass.old.sight }
+    ensures { SeesMore N.key pass.old.sight pass.new.sight }
+{
+    for _ in 0..turns {
+        if tables.quiet(pass) > 0 {
+            return;
+        }
+    }
+}
+
+// Guests run while the keeper refreshes, and from the first refresh on where they are to wait for it. How many refreshes
+// were made, whether all guests ended well, and whether a try was repeated.
+fn beside<N: TableName + Send + Sync, R: Threads + Sync>(
+    rt: &R,
+    alloc: Global,
+    blank: Blank,
+    image: Image,
+    turns: u32,
+    waits: u32,
+    guests: u32,
+) -> Result<(u32, bool, bool), AllocError>
+    requires table { blank.table ≡ N.table }
+    requires key { blank.key ≡ N.key }
+    requires image { image ≡ N.key.image }
+    requires start { IsStartIn N.key.image 88 }
+{
+    let (tables, mut keeper) = Tables::<N>::open(blank);
+    let Ok(pass) = keeper.admit(&tables) else {
+        return Ok((0, false, false));
+    };
+    let reader = Reader {
+        pass,
+        sound: true,
+        repeated: false,
+    };
+    let ((_, made), reader) = join(
+        rt,
+        || -> (Keeper<N>, u32)
+            requires { IsLike image keeper.entries }
+        { refresh(&tables, keeper, &image, turns) },
+        || -> Result<Reader<N>, AllocError>
+            requires sight { IsSight N.key reader.pass.sight }
+            requires start { IsStart (history_seen N.key reader.pass.sight) 88 }
+        { wait_and_run(alloc, &tables, reader, waits, guests) },
+    );
+    let reader = reader?;
+    Ok((made, reader.sound, reader.repeated))
+}
+
+// Waits for an update, for so many turns at most, and then runs guests.
+fn wait_and_run<N: TableName>(
+    alloc: Global,
+    tables: &Tables<N>,
+    mut reader: Reader<N>,
+    waits: u32,
+    guests: u32,
+) -> Result<Reader<N>, AllocError>
+    requires sight { IsSight N.key reader.pass.sight }
+    requires start { IsStart (history_seen N.key reader.pass.sight) 88 }
+{
+    await_update(tables, &mut reader.pass, waits);
+    run_guests(alloc, tables, reader, guests)
+}
+
+// How a guest of this number pauses that begins at this entry with so much fuel, and how many units and steps it has.
+fn pause_at<N: TableName>(
+    alloc: Global,
+    blank: Blank,
+    number: u32,
+    entry: u32,
+    fuel: u32,
+) -> Result<Option<(Pause, u32, u32)>, AllocError>
+    requires table { blank.table ≡ N.table }
+    requires key { blank.key ≡ N.key }
+    requires start { IsStartIn N.key.image entry }
+{
+    let (tables, mut keeper) = Tables::<N>::open(blank);
+    let Ok(mut pass) = keeper.admit(&tables) else {
+        return Ok(None);
+    };
+    let (guest, pause) = drive(alloc, &tables, &mut pass, number, entry, fuel)?;
+    Ok(Some((pause, guest.units(), guest.steps())))
+}
+
+// The same over tables of the image.
+fn paused(
+    alloc: Global,
+    number: u32,
+    entry: u32,
+    fuel: u32,
+) -> Result<Option<(Pause, u32, u32)>, Fail>
+    requires { IsEntry entry }
+{
+    let layout = Layout::new(1024)?;
+    let image = call_image(alloc, &layout)?;
+    let blank = Blank::new(alloc, layout, 3, 0, &image)?;
+    let found = pause_at::<Brand>(alloc, blank, number, entry, fuel)?;
+    Ok(found)
+}
+
+#[test]
+fn a_guest_beside_refreshes(rt: HostRuntime) -> Result<(), Fail> {
+    let layout = Layout::new(1024)?;
+    let image = call_image(rt.alloc(), &layout)?;
+    let blank = Blank::new(rt.alloc(), layout, 16384, 0, &image)?;
+    let found = beside::<Brand, HostRuntime>(&rt, rt.alloc(), blank, image, 20, 0, 20)?;
+    assert_eq!(rt; (found.0, found.1), (20, true));
+    Ok(())
+}
+
+#[test]
+fn a_try_beside_refreshes_is_repeated(rt: HostRuntime) -> Result<(), Fail> {
+    let layout = Layout::new(1024)?;
+    let image = call_image(rt.alloc(), &layout)?;
+    let blank = Blank::new(rt.alloc(), layout, 16384, 0, &image)?;
+    let found = beside::<Brand, HostRuntime>(
+        &rt,
+        rt.alloc(),
+        blank,
+        image,
+        15_000,
+        100_000_000,
+        1_000,
+    )?;
+    assert_eq!(rt; found, (15_000, true, true));
+    Ok(())
+}
+
+#[test]
+fn each_pause(rt: HostRuntime) -> Result<(), Fail> {
+    // A load at 0x40000002, one past its fuel and one with it, a return to address 0, and an exit.
+    let found = paused(rt.alloc(), 2, LOAD, 100)?;
+    assert_eq!(rt; found, Some((Pause::Align(0x40000002), 1, 6)));
+    let found = paused(rt.alloc(), 0, LOAD, 5)?;
+    assert_eq!(rt; found, Some((Pause::Fuel, 0, 5)));
+    let found = paused(rt.alloc(), 0, LOAD, 6)?;
+    assert_eq!(rt; found, Some((Pause::Fuel, 1, 6)));
+    let found = paused(rt.alloc(), 0, RETURN, 100)?;
+    assert_eq!(rt; found, Some((Pause::Halt(0), 1, 13)));
+    let found = paused(rt.alloc(), 0, MAIN, 100)?;
+    assert_eq!(rt; found, Some((Pause::Service(EXIT), 8, 26)));
+    Ok(())
+}
+
+#[test]
+fn each_fuel(rt: HostRuntime) -> Result<(), Fail> {
+    // The units behind the guest by its steps: the load ends with step 6, the call's check with 18, the return's with 28.
+    for fuel in 1..=30 {
+        let units = match fuel {
+            0..=5 => 0,
+            6 => 1,
+            7 => 2,
+            8..=17 => 3,
+            18..=27 => 4,
+            _ => fuel - 23,
+        };
+        let found = paused(rt.alloc(), 0, LOAD, fuel)?;
+        assert_eq!(rt; found, Some((Pause::Fuel, units, fuel)), "{fuel}");
+    }
+    Ok(())
+}

@@ -1,0 +1,228 @@
+//! A keeper and passes beside each other, over one table.
+
+ghost use Rattle.std.specs.Prelude.{◌≡◌, ◌≤◌, ◌-◌, ◌⊎◌, ◌∷◌, ◌++◌, [], replicate, IfOk};
+ghost use Rattle.cfi_model.specs.Closed.{IsClosed};
+ghost use Rattle.cfi_model.specs.Tables.{IsLoad, KeepsCode};
+ghost use Rattle.cfi_tables.specs.Keeping.{entry_by, last_of};
+ghost use Rattle.cfi_threads.specs.Like.{IsLike};
+
+use crate::refreshes::refresh;
+use cfi_tables::{Blank, Keeper, Pass, Seen, TableName, Tables, UpdateFault};
+use cfi_values::Numbers;
+use cfi_word::map::{BARY, TARY};
+use cfi_word::{FIELD_MAX, Image, Layout, Word, id};
+use std::alloc::{AllocError, Global};
+use std::marker::Brand;
+use std::test::Fail;
+use std::thread::{Threads, join};
+
+// The image of the instruction `j .`, whose word is 0x0000006f, and of this word behind it, which is another or 0: no
+// address has a class, and no slot has a target.
+fn jump_image(alloc: Global, layout: &Layout, next: u32) -> Result<Image, AllocError>
+    requires next { (next ≡ 0) ⊎ (next ≡ 111) }
+    ensures closed { IfOk result (IsClosed layout.now) }
+    ensures code { IfOk result (λ image.
+        image.code ≡ (replicate 16 0 ++ 111 ∷ next ∷ []) ++ replicate (layout.now - 18) 0) }
+{
+    let code_words = layout.code_words() as usize;
+    let tary = vec![in alloc; 0; code_words]?;
+    let bary = vec![in alloc; FIELD_MAX; layout.slots() as usize]?;
+    let mut code = vec![in alloc; 0; 16]?;
+    code.push(0x6f)?;
+    code.push(next)?;
+    let rest = vec![in alloc; 0; code_words - 18]?;
+    code.extend_from_slice(rest.as_slice())?;
+    Ok(Image {
+        tary: Numbers::from_vec(tary),
+        bary: Numbers::from_vec(bary),
+        code: Numbers::from_vec(code),
+    })
+}
+
+// A guest that loads, and whether each of its tries has found the ID of a class of some epoch, with epochs in order.
+#[derive(Drop)]
+struct Reader<N: TableName> {
+    pass: Pass<N>,
+    sound: bool,
+}
+
+// Makes so many tries, under 16,384 versions.
+fn load<N: TableName>(tables: &Tables<N>, mut reader: Reader<N>, turns: u32) -> Reader<N> {
+    let mut latest = 0;
+    for _ in 0..turns {
+        let bary = tables.load(&mut reader.pass, BARY);
+        let tary = tables.load(&mut reader.pass, TARY + 64);
+        let instruction = tables.fetch(&mut reader.pass, 16);
+        let version = Word::epoch_of(tary) % 16384;
+        reader.sound = reader.sound
+            && instruction == 0x6f
+            && Word::id_of(bary) == id(FIELD_MAX, Word::epoch_of(bary) % 16384)
+            && Word::id_of(tary) == id(0, version)
+            && latest <= Word::epoch_of(tary)
+            && Word::epoch_of(bary) <= Word::epoch_of(tary);
+        latest = Word::epoch_of(tary);
+    }
+    reader
+}
+
+// Two guests load while the keeper refreshes. How many refreshes were made, whether all was sound for both guests, and
+// how many passes go out in all.
+fn beside<N: TableName + Send + Sync, R: Threads + Sync>(
+    rt: &R,
+    blank: Blank,
+    image: Image,
+) -> (u32, bool, u32)
+    requires table { blank.table ≡ N.table }
+    requires key { blank.key ≡ N.key }
+    requires image { image ≡ N.key.image }
+{
+    let (tables, mut keeper) = Tables::<N>::open(blank);
+    let Ok(first) = keeper.admit(&tables) else {
+        return (0, false, 0);
+    };
+    let Ok(second) = keeper.admit(&tables) else {
+        return (0, false, 1);
+    };
+    let one = Reader {
+        pass: first,
+        sound: true,
+    };
+    let two = Reader {
+        pass: second,
+        sound: true,
+    };
+    let ((mut keeper, made), (one, two)) = join(
+        rt,
+        || -> (Keeper<N>, u32)
+            requires { IsLike image keeper.entries }
+        { refresh(&tables, keeper, &image, 100) },
+        || -> (Reader<N>, Reader<N>) {
+            join(
+                rt,
+                || -> Reader<N> { load(&tables, one, 100_000) },
+                || -> Reader<N> { load(&tables, two, 100_000) },
+            )
+        },
+    );
+    let sound = one.sound && two.sound;
+    let _ = keeper.release(&tables, one.pass);
+    let mut out = 1;
+    for _ in 0..20 {
+        if keeper.admit(&tables).is_ok() && out < 20 {
+            out += 1;
+        }
+    }
+    (made, sound, out)
+}
+
+// An update with the next policy, and whether it is made.
+fn widen<N: TableName>(
+    tables: &Tables<N>,
+    mut keeper: Keeper<N>,
+    image: &Image,
+) -> (Keeper<N>, bool)
+    requires { IsLoad N.key.code_words (last_of keeper.entries) (entry_by 1 image.now 7) }
+{
+    let made = keeper.update(tables, image, 1, 7).is_ok();
+    (keeper, made)
+}
+
+// Makes so many fetches of the second instruction: it is sound that it is there after some, and then in all.
+fn fetch<N: TableName>(tables: &Tables<N>, mut reader: Reader<N>, turns: u32) -> Reader<N> {
+    let mut latest = 0;
+    for _ in 0..turns {
+        let found = tables.fetch(&mut reader.pass, 17);
+        reader.sound = reader.sound && (found == 0x6f || found == latest);
+        latest = found;
+    }
+    reader
+}
+
+// A guest fetches while an update adds an instruction. Whether it was added, whether all was sound, and what the guest
+// fetches then.
+fn added<N: TableName + Send + Sync, R: Threads + Sync>(
+    rt: &R,
+    blank: Blank,
+    image: Image,
+) -> (bool, bool, u32)
+    requires table { blank.table ≡ N.table }
+    requires key { blank.key ≡ N.key }
+    requires closed { IsClosed N.key.code_words image }
+    requires keeps { KeepsCode N.key.image image }
+{
+    let (tables, mut keeper) = Tables::<N>::open(blank);
+    let Ok(pass) = keeper.admit(&tables) else {
+        return (false, false, 0);
+    };
+    let reader = Reader { pass, sound: true };
+    let ((_, made), mut reader) = join(
+        rt,
+        || -> (Keeper<N>, bool)
+            requires { IsLoad N.key.code_words (last_of keeper.entries) (entry_by 1 image 7) }
+        { widen(&tables, keeper, &image) },
+        || -> Reader<N> { fetch(&tables, reader, 100_000) },
+    );
+    let found = tables.fetch(&mut reader.pass, 17);
+    (made, reader.sound, found)
+}
+
+// A guest that never passes a quiescent point hinders the update at its bound, while another goes on: what each of
+// three updates answers, what is in force then, and the number that the next pass has.
+fn hindered<N: TableName>(
+    blank: Blank,
+    image: &Image,
+) -> Option<([Result<u32, UpdateFault>; 3], Seen, u32)>
+    requires table { blank.table ≡ N.table }
+    requires key { blank.key ≡ N.key }
+    requires image { image.now ≡ N.key.image }
+{
+    let (tables, mut keeper) = Tables::<N>::open(blank);
+    let mut one = keeper.admit(&tables).ok()?;
+    let mut two = keeper.admit(&tables).ok()?;
+    let first = keeper.update(&tables, image, 0, 7);
+    let _ = tables.quiet(&mut one);
+    let second = keeper.update(&tables, image, 0, 7);
+    let _ = tables.quiet(&mut two);
+    let third = keeper.update(&tables, image, 0, 7);
+    keeper.note(&tables, &mut two);
+    let seen = keeper.release(&tables, one);
+    let again = keeper.admit(&tables).ok()?;
+    Some(([first, second, third], seen, again.guest()))
+}
+
+#[test]
+fn two_guests_beside_refreshes(rt: HostRuntime) -> Result<(), Fail> {
+    let layout = Layout::new(1024)?;
+    let image = jump_image(rt.alloc(), &layout, 0)?;
+    let blank = Blank::new(rt.alloc(), layout, 16384, 0, &image)?;
+    let found = beside::<Brand, HostRuntime>(&rt, blank, image);
+    assert_eq!(rt; found, (100, true, 16));
+    Ok(())
+}
+
+#[test]
+fn a_guest_beside_an_update(rt: HostRuntime) -> Result<(), Fail> {
+    let layout = Layout::new(1024)?;
+    let image = jump_image(rt.alloc(), &layout, 0)?;
+    let longer = jump_image(rt.alloc(), &layout, 0x6f)?;
+    let blank = Blank::new(rt.alloc(), layout, 16384, 0, &image)?;
+    let found = added::<Brand, HostRuntime>(&rt, blank, longer);
+    assert_eq!(rt; found, (true, true, 0x6f));
+    Ok(())
+}
+
+#[test]
+fn a_guest_without_quiescent_points(rt: HostRuntime) -> Result<(), Fail> {
+    // Under three versions an update to epoch 2 asks each guest for a quiescent point since epoch 1.
+    let layout = Layout::new(1024)?;
+    let image = jump_image(rt.alloc(), &layout, 0)?;
+    let blank = Blank::new(rt.alloc(), layout, 3, 0, &image)?;
+    let found = hindered::<Brand>(blank, &image);
+    let spent = UpdateFault::VersionsSpent { guest: 1, quiet: 0 };
+    let seen = Seen {
+        epoch: 2,
+        policy: 0,
+    };
+    assert_eq!(rt; found, Some(([Ok(1), Err(spent), Ok(2)], seen, 0)));
+    Ok(())
+}
