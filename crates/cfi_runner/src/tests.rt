@@ -3,7 +3,7 @@ ghost use Rattle.cfi_model.specs.Closed.{IsClosed, IsStartIn};
 ghost use Rattle.cfi_model.specs.History.{IsStart};
 ghost use Rattle.cfi_tables.specs.Keeping.{IsLike};
 ghost use Rattle.cfi_runner.specs.Seen.{IsSight, SeesMore, history_seen};
-ghost use Rattle.cfi_runner.specs.inner.Starts.{IsEntry, StartAll};
+ghost use Rattle.cfi_runner.specs.inner.Starts.{StartsAt, StartAll};
 
 use crate::{Pause, run_until};
 use cfi_tables::{Blank, Keeper, Pass, TableName, Tables};
@@ -245,7 +245,7 @@ fn paused(
     entry: u32,
     fuel: u32,
 ) -> Result<Option<(Pause, u32, u32)>, Fail>
-    requires { IsEntry entry }
+    requires { StartsAt entry }
 {
     let layout = Layout::new(1024)?;
     let image = call_image(alloc, &layout)?;
