@@ -19,7 +19,7 @@ use Rattle.cfi_tables.specs.Key.{Key}
 use Rattle.cfi_tables.specs.declared.view.PassView.{PassView}
 use Rattle.cfi_tables.specs.declared.view.Sight.{Sight}
 use Rattle.cfi_runner.specs.Laws.{MayServe}
-use Rattle.cfi_runner.specs.Run.{CanRun, HasRun, words_of}
+use Rattle.cfi_runner.specs.Run.{CanRunOn, HasRunOn, words_found}
 use Rattle.cfi_runner.specs.Seen.{SeesMore, history_seen, code_seen, policy_seen}
 use Rattle.cfi_runner.specs.declared.pause.Pause.{Pause}
 use Rattle.cfi_runner.specs.declared.pause.Pause.TheVariants as pauses
@@ -64,8 +64,8 @@ same_reply : (reply other : Reply) → Some reply ≡ Some other → other ≡ r
 same_reply reply other e = cc
 
 -- the guest can run on
-module _ (k : Key) (fuel : ℕ) (p q next : PassView) (old new : Raw) (number : ℕ) (can : CanRun k fuel p old)
-    (run : HasRun k fuel p q old new (pauses.Service number)) (more : SeesMore k q.sight next.sight) (reply : Reply)
+module _ (k : Key) (fuel : ℕ) (p q next : PassView) (old new : Raw) (number : ℕ) (can : CanRunOn k fuel p old)
+    (run : HasRunOn k fuel p q old new (pauses.Service number)) (more : SeesMore k q.sight next.sight) (reply : Reply)
     (may : MayServe k next.sight number reply new) where
   abbrev h : History
   h = history_seen k next.sight
@@ -79,10 +79,10 @@ module _ (k : Key) (fuel : ℕ) (p q next : PassView) (old new : Raw) (number : 
   wait : new.waits ≡ Some (waits.Service number)
   wait = ap (λ r. r.waits) run.pauses.0 ∙ run.pauses.1
 
-  there : new ≡ run_of old (words_of run.taken.accesses)
+  there : new ≡ run_of old (words_found run.taken.accesses)
   there = run.pauses.0 ∙ run.taken.is
 
-  along_seen : Along h code old (words_of run.taken.accesses)
+  along_seen : Along h code old (words_found run.taken.accesses)
   along_seen = run.taken.along next.sight more
 
   fits : Fits h code new (Served reply)
@@ -91,7 +91,7 @@ module _ (k : Key) (fuel : ℕ) (p q next : PassView) (old new : Raw) (number : 
   ended : (s : State) × (n : ℕ) × (Running h code s n new) × Ended h code n (end_of new (Served reply)) s (serve_of new reply)
   ended =
       let known = seen_history k next.sight more.is in
-      let now = reached h code known (words_of run.taken.accesses) old.base 0 old
+      let now = reached h code known (words_found run.taken.accesses) old.base 0 old
       (inl (ready_in k fuel p old can next.sight sees, between k fuel p old can)) along_seen in
       let running : Running h code now.new now.settled new =
       subst (Running h code now.new now.settled) (sym there) now.running in
@@ -117,7 +117,7 @@ module _ (k : Key) (fuel : ℕ) (p q next : PassView) (old new : Raw) (number : 
       let is = same_reply reply step.reply came in
       subst (λ x. x.policy ≤ policy_seen k next.sight) (sym is) (may.known (sym (ap (λ x. x.cause) is) ∙ free)))))
 
-  pub hands_on : (serve_of new reply).base.stop ≡ None → CanRun k fuel next (serve_of new reply)
+  pub hands_on : (serve_of new reply).base.stop ≡ None → CanRunOn k fuel next (serve_of new reply)
   hands_on going =
       let e = ended.3 in
       let base = e.between.base in
@@ -139,29 +139,29 @@ module _ (k : Key) (fuel : ℕ) (p q next : PassView) (old new : Raw) (number : 
 
 -- two runs are one
 module _ (k : Key) (fuel : ℕ) (p q next end : PassView) (old mid new : Raw) (number : ℕ) (pause : Pause)
-    (run : HasRun k fuel p q old mid (pauses.Service number)) (more : SeesMore k q.sight next.sight) (reply : Reply)
-    (may : MayServe k next.sight number reply mid) (then : HasRun k fuel next end (serve_of mid reply) new pause) where
+    (run : HasRunOn k fuel p q old mid (pauses.Service number)) (more : SeesMore k q.sight next.sight) (reply : Reply)
+    (may : MayServe k next.sight number reply mid) (then : HasRunOn k fuel next end (serve_of mid reply) new pause) where
   abbrev takes : List Take
-  takes = words_of run.taken.accesses ++ Served reply ∷ words_of then.taken.accesses
+  takes = words_found run.taken.accesses ++ Served reply ∷ words_found then.taken.accesses
 
-  mid_is : mid ≡ run_of old (words_of run.taken.accesses)
+  mid_is : mid ≡ run_of old (words_found run.taken.accesses)
   mid_is = run.pauses.0 ∙ run.taken.is
 
   pub joined : then.last ≡ run_of old takes
   joined =
       then.taken.is
-      ∙ (ap (λ r. run_of (serve_of r reply) (words_of then.taken.accesses)) mid_is
-      ∙ sym (run_append (words_of run.taken.accesses) (Served reply ∷ words_of then.taken.accesses) old))
+      ∙ (ap (λ r. run_of (serve_of r reply) (words_found then.taken.accesses)) mid_is
+      ∙ sym (run_append (words_found run.taken.accesses) (Served reply ∷ words_found then.taken.accesses) old))
 
   pub along_joined : (later : Sight) → SeesMore k end.sight later
       → Along (history_seen k later) (code_seen k later) old takes
   along_joined later sees =
       let wait = ap (λ r. r.waits) run.pauses.0 ∙ run.pauses.1 in
       let on = sees_trans k next.sight end.sight later then.keeps.sees sees in
-      along_append (history_seen k later) (code_seen k later) (words_of run.taken.accesses)
-      (Served reply ∷ words_of then.taken.accesses) old
+      along_append (history_seen k later) (code_seen k later) (words_found run.taken.accesses)
+      (Served reply ∷ words_found then.taken.accesses) old
       (run.taken.along later (sees_trans k q.sight next.sight later more on))
-      (subst (λ r. Along (history_seen k later) (code_seen k later) r (Served reply ∷ words_of then.taken.accesses))
+      (subst (λ r. Along (history_seen k later) (code_seen k later) r (Served reply ∷ words_found then.taken.accesses))
       mid_is (
         fits_served (history_seen k later) (code_seen k later) number reply mid wait may.fits,
         then.taken.along later sees,

@@ -25,8 +25,8 @@ use Rattle.cfi_tables.specs.Views.{admitted, noted, sight_of, tables_with}
 use Rattle.cfi_tables.specs.declared.view.PassView.{PassView}
 use Rattle.cfi_tables.specs.declared.view.Sight.{Sight}
 use Rattle.cfi_tables.proofs.Prefixes.{prefix_length}
-use Rattle.cfi_runner.specs.Laws.{IsServed}
-use Rattle.cfi_runner.specs.Run.{CanRun}
+use Rattle.cfi_runner.specs.Laws.{IsServedRun}
+use Rattle.cfi_runner.specs.Run.{CanRunOn}
 use Rattle.cfi_runner.specs.Seen.{history_seen, IsSight, SeesMore}
 use Rattle.cfi_runner.proofs.CallLemmas.{call_image, call_closed, call_starts}
 use Rattle.cfi_runner.proofs.PauseLemmas.{asks}
@@ -78,7 +78,7 @@ quiet_sees k epoch p q quiet was =
 -- ---- a guest that is opened
 
 pub opened_can : (k : Key) (p : PassView) (fuel number entry : ℕ) (fills : List Fill) → IsSight k p.sight
-    → IsStart (history_seen k p.sight) entry → CanRun k fuel p (raw_opened number entry fills)
+    → IsStart (history_seen k p.sight) entry → CanRunOn k fuel p (raw_opened number entry fills)
 opened_can k p fuel number entry fills sight starts = record {
   sight = sight;
   going = refl;
@@ -110,7 +110,7 @@ size = record { multiple = refl; least = omega arith; most = omega arith }
 tables : IsTables (tables_with key (first_entry (call_image 1024) ∷ []))
 tables = opened_are 1024 3 0 (call_image 1024) size (omega arith) (omega arith) (omega arith) (call_closed 1024 size)
 
-can : (fuel : ℕ) → CanRun key fuel pass guest
+can : (fuel : ℕ) → CanRunOn key fuel pass guest
 can fuel = opened_can key pass fuel 0 156 [] (all_sight key keeping [] tables)
     (all_start key keeping [] tables 156 (call_starts 1024 5 (omega arith)))
 
@@ -139,7 +139,7 @@ ecall = refl
 called : begin_of guest word ≡ begin_as insns.Ecall guest
 called = ap (λ o. begin_by o guest) ecall
 
-pub some_served : (fuel : ℕ) → 1 ≤ fuel → (k : Key) × IsServed k fuel
+pub some_served : (fuel : ℕ) → 1 ≤ fuel → (k : Key) × IsServedRun k fuel
 some_served fuel least =
     let under = starts key fuel pass guest (can fuel) in
     let begun = begins key fuel pass guest (can fuel) pass guest under fetched word fetch in (

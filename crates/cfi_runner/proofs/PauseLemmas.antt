@@ -9,16 +9,16 @@ use Rattle.cfi_tables.specs.Key.{Key}
 use Rattle.cfi_tables.specs.declared.view.PassView.{PassView}
 use Rattle.rv_guest.specs.Guest.{spent, is_spent}
 use Rattle.cfi_runner.specs.Seen.{policy_seen}
-use Rattle.cfi_runner.specs.Run.{CanRun, HasRun, PausesAt}
+use Rattle.cfi_runner.specs.Run.{CanRunOn, HasRunOn, PausesAt}
 use Rattle.cfi_runner.specs.declared.pause.Pause.{Pause}
 use Rattle.cfi_runner.specs.declared.pause.Pause.TheVariants as pauses
 use Rattle.cfi_runner.proofs.ActLemmas.{Tells}
 use Rattle.cfi_runner.proofs.WayLemmas.{IsOnWay, IsUnderWay, HasBegun, low}
 
-module _ (k : Key) (fuel : ℕ) (p : PassView) (old : Raw) (can : CanRun k fuel p old) where
+module _ (k : Key) (fuel : ℕ) (p : PassView) (old : Raw) (can : CanRunOn k fuel p old) where
   has_run : (q : PassView) (last : Raw) → IsOnWay k p old q last → (pause : Pause) (new : Raw)
       → PausesAt pause fuel last new → new.base.steps ≤ fuel → new.base.log ≡ last.base.log
-      → HasRun k fuel p q old new pause
+      → HasRunOn k fuel p q old new pause
   has_run q last way pause new pauses within log = record {
     last = last;
     taken = way.taken;
@@ -34,7 +34,7 @@ module _ (k : Key) (fuel : ℕ) (p : PassView) (old : Raw) (can : CanRun k fuel 
     within = omega (arith, begun.steps, below)
 
     pub asks : (number : ℕ) → act_of now word ≡ acts.Service number
-        → HasRun k fuel p new old (begin_of now word) (pauses.Service number)
+        → HasRunOn k fuel p new old (begin_of now word) (pauses.Service number)
     asks number is =
         let tells : Tells (acts.Service number) (begin_of now word) =
         subst (λ a. Tells a (begin_of now word)) is begun.tells in
@@ -42,7 +42,7 @@ module _ (k : Key) (fuel : ℕ) (p : PassView) (old : Raw) (can : CanRun k fuel 
         (refl, tells.0, tells.1) within refl
 
     pub halts : (target : ℕ) → act_of now word ≡ acts.Halt target
-        → HasRun k fuel p new old (begin_of now word) (pauses.Halt target)
+        → HasRunOn k fuel p new old (begin_of now word) (pauses.Halt target)
     halts target is =
         let tells : Tells (acts.Halt target) (begin_of now word) =
         subst (λ a. Tells a (begin_of now word)) is begun.tells in
@@ -50,7 +50,7 @@ module _ (k : Key) (fuel : ℕ) (p : PassView) (old : Raw) (can : CanRun k fuel 
         (refl, tells.0, tells.1) within refl
 
     pub aligns : (address : ℕ) → act_of now word ≡ acts.Align address
-        → HasRun k fuel p new old (begin_of now word) (pauses.Align address)
+        → HasRunOn k fuel p new old (begin_of now word) (pauses.Align address)
     aligns address is =
         let tells : Tells (acts.Align address) (begin_of now word) =
         subst (λ a. Tells a (begin_of now word)) is begun.tells in
@@ -65,7 +65,7 @@ module _ (k : Key) (fuel : ℕ) (p : PassView) (old : Raw) (can : CanRun k fuel 
 
   -- the fuel is spent
   pub spends : (q : PassView) (now : Raw) → IsUnderWay k p old q now → now.base.steps ≡ fuel
-      → HasRun k fuel p q old (spent fuel now) pauses.Fuel
+      → HasRunOn k fuel p q old (spent fuel now) pauses.Fuel
   spends q now u steps =
       let same : (now.base.steps == fuel) ≡ true = search (rules, arith) in
       let is : is_spent fuel now ≡ true = ap (λ o. is_none o && (now.base.steps == fuel)) u.going ∙ same in

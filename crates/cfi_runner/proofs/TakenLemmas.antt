@@ -9,7 +9,7 @@ use Rattle.cfi_model.specs.Raw.{Raw}
 use Rattle.cfi_model.specs.Run.{Take, Word, take_one, run_of}
 use Rattle.cfi_model.specs.Service.{Reply}
 use Rattle.cfi_model.proofs.KeptLemmas.{not_epoch}
-use Rattle.cfi_runner.specs.Run.{AsksFor, AreAsked, words_of}
+use Rattle.cfi_runner.specs.Run.{AsksFor, AreAsked, words_found}
 
 -- no guest asks for EPOCH
 first_code : (c : ℕ) (wait : Option Wait) (r : Raw) (word : ℕ) → AsksFor c wait r word → FIRST_CODE ≤ word
@@ -46,12 +46,12 @@ module _ (r : Raw) (replies : List Reply) (access : Access) (high : FIRST_CODE �
 
 -- all of them
 pub record AreTaken (r : Raw) (replies : List Reply) (accesses : List Access) (last : Raw) : Type 0 where
-  pub takes : takes_of r replies accesses ≡ words_of accesses ++ ended_by last.waits last replies
+  pub takes : takes_of r replies accesses ≡ words_found accesses ++ ended_by last.waits last replies
   pub left : left_of r replies accesses ≡ left_by last.waits last replies
 
 some_taken : (c : ℕ) (later : List Access) (access : Access) (r : Raw) (replies : List Reply)
     → AreAsked c r (access ∷ later)
-    → AreTaken r replies (access ∷ later) (run_of r (words_of (access ∷ later)))
+    → AreTaken r replies (access ∷ later) (run_of r (words_found (access ∷ later)))
 some_taken c [] access r replies asked =
     let high = first_code c r.waits r access.word asked.0 in
     record {
@@ -76,7 +76,7 @@ some_taken c (b ∷ rest) access r replies asked =
     }
 
 pub all_taken : (c : ℕ) (accesses : List Access) (r : Raw) (replies : List Reply) → r.waits ≡ None
-    → AreAsked c r accesses → AreTaken r replies accesses (run_of r (words_of accesses))
+    → AreAsked c r accesses → AreTaken r replies accesses (run_of r (words_found accesses))
 all_taken c [] r replies idle asked = record {
   takes = sym (ap (λ w. ended_by w r replies) idle);
   left = sym (ap (λ w. left_by w r replies) idle);

@@ -14,7 +14,7 @@ use Rattle.cfi_model.specs.Service.{Reply, Service, Ends, Puts, Quiets, Opens, U
 use Rattle.cfi_model.specs.Shows.{End, IsStep, MayWait, Runs, Shows, Stands}
 use Rattle.cfi_model.specs.State.{State}
 use Rattle.cfi_model.proofs.HaltLemmas.{only_checks_halt}
-use Rattle.cfi_runner.specs.Shown.{IsAsking, IsLast, IsMisaligned, IsPausedIn}
+use Rattle.cfi_runner.specs.Shown.{AsksIn, IsLast, IsMisaligned, IsPausedIn}
 use Rattle.cfi_runner.specs.Run.{PausesAt}
 use Rattle.cfi_runner.specs.declared.pause.Pause.{Pause}
 use Rattle.cfi_runner.specs.declared.pause.Pause.TheVariants as pauses
@@ -104,7 +104,7 @@ only_accesses_align h code end old new step address aligns =
 -- ---- a service
 
 asks_by : (code : List ℕ) (s : State) (number : ℕ) (unit : CodeUnit) → Stands code s.pc unit → (code_words : ℕ)
-    → MayWait code_words unit s (Some (waits.Service number)) → IsAsking code s number
+    → MayWait code_words unit s (Some (waits.Service number)) → AsksIn code s number
 asks_by code s number (units.Plain insn) stands c may = absurd may
 asks_by code s number (units.Load kind rd rs1 imm) stands c may = absurd may
 asks_by code s number (units.Store kind rs1 rs2 imm) stands c may = absurd may
@@ -114,7 +114,7 @@ asks_by code s number (units.Check link rs1 imm slot) stands c may = absurd may
 asks_by code s number units.Service stands c may = record { stands = stands; is = may }
 
 asks_in : (h : History) (code : List ℕ) (retries : ℕ) (s : State) (r : Raw) → Shows h code retries s r
-    → (number : ℕ) → r.waits ≡ Some (waits.Service number) → IsAsking code s number
+    → (number : ℕ) → r.waits ≡ Some (waits.Service number) → AsksIn code s number
 asks_in h code retries s r (inl between) number wait =
     let both : None ≡ Some (waits.Service number) = sym between.idle ∙ wait in
     absurd (cc)

@@ -41,7 +41,7 @@ use Rattle.cfi_tables.proofs.Prefixes.{prefix_length}
 use Rattle.cfi_tables.specs.Views.{tables_with}
 use Rattle.rv_guest.specs.Guest.{MayLoad}
 use Rattle.cfi_runner.specs.Seen.{history_seen, code_seen, policy_seen, IsSight, SeesMore}
-use Rattle.cfi_runner.specs.Run.{AsksFor, CanRun, HasTaken, Keeps, words_of}
+use Rattle.cfi_runner.specs.Run.{AsksFor, CanRunOn, HasTaken, KeepsSeat, words_found}
 use Rattle.cfi_runner.proofs.ActLemmas.{Tells, WaitsAt, act_tells}
 use Rattle.cfi_runner.proofs.SeenLemmas.{sees_same, sees_trans, seen_history, code_many, policy_most, policy_later, bary_seen, tary_seen, tary_rises, code_later, start_later, word_later}
 use Rattle.cfi_runner.proofs.WordLemmas.{words_snoc, run_word, asked_append, no_replies, runs_low, shown_log}
@@ -105,7 +105,7 @@ fair_kept h (Some word) kept found keeps fair = subst (λ o. IsFair h o found) (
 -- a guest on its way: it has taken the words of its pass, as far as this has come
 pub record IsOnWay (k : Key) (p : PassView) (old : Raw) (q : PassView) (now : Raw) : Type 0 where
   pub taken : HasTaken k p q old now
-  pub keeps : Keeps k p q
+  pub keeps : KeepsSeat k p q
   pub kept : KeepsLast now (kept_of k q.sight.accesses)
 
 -- and waits for nothing
@@ -114,7 +114,7 @@ pub record IsUnderWay (k : Key) (p : PassView) (old : Raw) (q : PassView) (now :
   pub idle : now.waits ≡ None
   pub going : now.base.stop ≡ None
 
-module _ (k : Key) (fuel : ℕ) (p : PassView) (old : Raw) (can : CanRun k fuel p old) where
+module _ (k : Key) (fuel : ℕ) (p : PassView) (old : Raw) (can : CanRunOn k fuel p old) where
   pub starts : IsUnderWay k p old p old
   starts = record {
     way = record {
@@ -152,12 +152,12 @@ module _ (k : Key) (fuel : ℕ) (p : PassView) (old : Raw) (can : CanRun k fuel 
 
   -- what was taken shows the policy machine, over whatever the pass has seen later
   pub shown_in : (later : Sight) → SeesMore k p.sight later → (accesses : List Access)
-      → Along (history_seen k later) (code_seen k later) old (words_of accesses)
+      → Along (history_seen k later) (code_seen k later) old (words_found accesses)
       → (settled : ℕ) × (state : State) × IsShown (history_seen k later) (code_seen k later) 0 old.base old
-      (words_of accesses) settled state
+      (words_found accesses) settled state
   shown_in later more accesses along =
       raw_shows (history_seen k later) (code_seen k later) (seen_history k later more.is) old.base (ready_in later more)
-      0 old between (words_of accesses) along
+      0 old between (words_found accesses) along
 
   module _ (q : PassView) (now : Raw) (way : IsOnWay k p old q now) where
     abbrev h : History
@@ -172,10 +172,10 @@ module _ (k : Key) (fuel : ℕ) (p : PassView) (old : Raw) (can : CanRun k fuel 
     is_sight : IsSight k q.sight
     is_sight = way.keeps.sees.is
 
-    pub along_now : Along h code old (words_of taken.accesses)
+    pub along_now : Along h code old (words_found taken.accesses)
     along_now = taken.along q.sight (sees_same k q.sight is_sight)
 
-    pub shown : (settled : ℕ) × (state : State) × IsShown h code 0 old.base old (words_of taken.accesses) settled state
+    pub shown : (settled : ℕ) × (state : State) × IsShown h code 0 old.base old (words_found taken.accesses) settled state
     shown = shown_in q.sight way.keeps.sees taken.accesses along_now
 
     -- the guest has logged no policy above the latest one
@@ -183,7 +183,7 @@ module _ (k : Key) (fuel : ℕ) (p : PassView) (old : Raw) (can : CanRun k fuel 
     low =
         let s = shown.2 in
         let there = runs_low h code (policy_seen k q.sight) (policy_most k q.sight is_sight)
-        (ends_along old (words_of taken.accesses)) old.base shown.1 (no_replies taken.accesses old) s.runs
+        (ends_along old (words_found taken.accesses)) old.base shown.1 (no_replies taken.accesses old) s.runs
         (let up = policy_later k p.sight q.sight can.sight way.keeps.sees in omega (arith, can.logged, up)) in
         subst (λ l. last_policy l ≤ policy_seen k q.sight)
         (sym (ap (λ r. r.base.log) taken.is ∙ shown_log h code shown.0 shown.1 _ s.shows)) there
@@ -191,7 +191,7 @@ module _ (k : Key) (fuel : ℕ) (p : PassView) (old : Raw) (can : CanRun k fuel 
     pub needs : MayNeed k.code_words now.waits
     needs =
         subst (λ r. MayNeed k.code_words r.waits) (sym taken.is)
-        (subst (λ n. MayNeed n (run_of old (words_of taken.accesses)).waits) (code_many k q.sight is_sight)
+        (subst (λ n. MayNeed n (run_of old (words_found taken.accesses)).waits) (code_many k q.sight is_sight)
         (shown_needs h code shown.0 shown.1 _ shown.2.shows))
 
     -- one access more: it is asked for, and fits whatever history the pass sees later
@@ -202,7 +202,7 @@ module _ (k : Key) (fuel : ℕ) (p : PassView) (old : Raw) (can : CanRun k fuel 
         → Fits (history_seen k later) (code_seen k later) now (Word access.found))
         → HasTaken k p new old (take_one now (Word access.found))
     takes_more new access appended more asks fits =
-        let there = run_of old (words_of taken.accesses) in record {
+        let there = run_of old (words_found taken.accesses) in record {
           accesses = taken.accesses ++ access ∷ [];
           appended = appended
               ∙ (ap (λ l. l ++ access ∷ []) taken.appended
@@ -212,7 +212,7 @@ module _ (k : Key) (fuel : ℕ) (p : PassView) (old : Raw) (can : CanRun k fuel 
           is = ap (λ r. take_one r (Word access.found)) taken.is ∙ sym (run_word taken.accesses access old);
           along = λ later sees.
               subst (Along (history_seen k later) (code_seen k later) old) (sym (words_snoc taken.accesses access))
-              (along_snoc (history_seen k later) (code_seen k later) (words_of taken.accesses) (Word access.found) old
+              (along_snoc (history_seen k later) (code_seen k later) (words_found taken.accesses) (Word access.found) old
               (taken.along later (sees_trans k q.sight new.sight later more sees))
               (subst (λ r. Fits (history_seen k later) (code_seen k later) r (Word access.found)) taken.is
               (fits later sees)));
@@ -235,7 +235,7 @@ module _ (k : Key) (fuel : ℕ) (p : PassView) (old : Raw) (can : CanRun k fuel 
         let word : ℕ = slice_index (code q now u.way) here in
         subst (HasStepBy (insn_of word)) (sym taken.is)
         (raw_has_steps (h q now u.way) (code q now u.way) (seen_history k q.sight u.way.keeps.sees.is) old.base
-        (ready_in q.sight u.way.keeps.sees) 0 old between (words_of taken.accesses) (along_now q now u.way)
+        (ready_in q.sight u.way.keeps.sees) 0 old between (words_found taken.accesses) (along_now q now u.way)
         (subst (λ r. r.waits ≡ None) taken.is u.idle) word
         (subst (λ r. Fits (h q now u.way) (code q now u.way) r (Word word)) taken.is fits_code))
 
@@ -341,7 +341,7 @@ module _ (k : Key) (fuel : ℕ) (p : PassView) (old : Raw) (can : CanRun k fuel 
     }
 
     on_keeps : (new : PassView) (place : places.Place) (found : ℕ) → IsLoad k place found q new
-        → SeesMore k q.sight new.sight → Keeps k p new
+        → SeesMore k q.sight new.sight → KeepsSeat k p new
     on_keeps new place found load sees = record {
       guest = load.guest ∙ way.keeps.guest;
       quiet = load.quiet ∙ way.keeps.quiet;

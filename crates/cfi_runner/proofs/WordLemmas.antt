@@ -14,20 +14,20 @@ use Rattle.cfi_model.specs.Shows.{End, IsAnswered, Runs, Shows, ends_along, ends
 use Rattle.cfi_model.specs.State.{State}
 use Rattle.cfi_model.proofs.AfterLemmas.{effect_logs}
 use Rattle.cfi_model.proofs.SnocLemmas.{run_snoc}
-use Rattle.cfi_runner.specs.Run.{AreAsked, words_of}
+use Rattle.cfi_runner.specs.Run.{AreAsked, words_found}
 
 -- one access more at the end
 pub words_snoc : (accesses : List Access) (access : Access)
-    → words_of (accesses ++ access ∷ []) ≡ words_of accesses ++ Word access.found ∷ []
+    → words_found (accesses ++ access ∷ []) ≡ words_found accesses ++ Word access.found ∷ []
 words_snoc accesses access = map-append (λ (a : Access). Word a.found) accesses (access ∷ [])
 
 pub run_word : (accesses : List Access) (access : Access) (r : Raw)
-    → run_of r (words_of (accesses ++ access ∷ [])) ≡ take_one (run_of r (words_of accesses)) (Word access.found)
+    → run_of r (words_found (accesses ++ access ∷ [])) ≡ take_one (run_of r (words_found accesses)) (Word access.found)
 run_word accesses access r =
-    ap (run_of r) (words_snoc accesses access) ∙ run_snoc (words_of accesses) (Word access.found) r
+    ap (run_of r) (words_snoc accesses access) ∙ run_snoc (words_found accesses) (Word access.found) r
 
 pub asked_append : (c : ℕ) (accesses later : List Access) (r : Raw) → AreAsked c r accesses
-    → AreAsked c (run_of r (words_of accesses)) later → AreAsked c r (accesses ++ later)
+    → AreAsked c (run_of r (words_found accesses)) later → AreAsked c r (accesses ++ later)
 asked_append c [] later r asked more = more
 asked_append c (access ∷ accesses) later r asked more =
     (asked.0, asked_append c accesses later (take_one r (Word access.found)) asked.1 more)
@@ -48,7 +48,7 @@ all_append : (a b : List End) → AllByRecursion HasNoReply a → AllByRecursion
 all_append [] b p q = q
 all_append (x ∷ a) b p q = (p.0, all_append a b p.1 q)
 
-pub no_replies : (accesses : List Access) (r : Raw) → AllByRecursion HasNoReply (ends_along r (words_of accesses))
+pub no_replies : (accesses : List Access) (r : Raw) → AllByRecursion HasNoReply (ends_along r (words_found accesses))
 no_replies [] r = tt
 no_replies (access ∷ accesses) r =
     all_append (ends_before r (Word access.found)) _

@@ -21,7 +21,7 @@ use Rattle.cfi_tables.specs.Views.{noted, sight_of, tables_with}
 use Rattle.cfi_tables.specs.declared.view.PassView.{PassView}
 use Rattle.cfi_tables.specs.declared.view.Sight.{Sight}
 use Rattle.cfi_runner.specs.Seen.{IsSight, SeesMore, history_seen, code_seen, policy_seen}
-use Rattle.cfi_runner.specs.Run.{CanRun, HasRun, HasTaken, words_of}
+use Rattle.cfi_runner.specs.Run.{CanRunOn, HasRunOn, HasTaken, words_found}
 use Rattle.cfi_runner.specs.Shown.{IsPausedIn}
 use Rattle.cfi_runner.specs.declared.pause.Pause.{Pause}
 use Rattle.cfi_runner.specs.declared.pause.Pause.TheVariants as pauses
@@ -32,14 +32,14 @@ pub record IsShownBy (k : Key) (later : Sight) (old : Raw) (p q : PassView) (las
   pub history : IsHistory (history_seen k later) (code_seen k later)
   pub retries : ℕ
   pub state : State
-  pub shown : IsShown (history_seen k later) (code_seen k later) 0 old.base old (words_of taken.accesses) retries state
-  pub paused : IsPausedIn (history_seen k later) (code_seen k later) (ends_along old (words_of taken.accesses)) old.base
+  pub shown : IsShown (history_seen k later) (code_seen k later) 0 old.base old (words_found taken.accesses) retries state
+  pub paused : IsPausedIn (history_seen k later) (code_seen k later) (ends_along old (words_found taken.accesses)) old.base
       state pause
 
 abbrev pub RunsShow : Type 0
 RunsShow =
-    (k : Key) (fuel : ℕ) (p q : PassView) (old new : Raw) (pause : Pause) → CanRun k fuel p old →
-    (run : HasRun k fuel p q old new pause) → (later : Sight) → SeesMore k q.sight later →
+    (k : Key) (fuel : ℕ) (p q : PassView) (old new : Raw) (pause : Pause) → CanRunOn k fuel p old →
+    (run : HasRunOn k fuel p q old new pause) → (later : Sight) → SeesMore k q.sight later →
     IsShownBy k later old p q run.last run.taken pause
 
 -- the service of a paused guest may end with this reply: an open's is an answer, of no policy above the latest one
@@ -50,19 +50,19 @@ pub record MayServe (k : Key) (later : Sight) (number : ℕ) (reply : Reply) (r 
 -- where the pass has seen as much or more then, and the guest has not stopped, it can run on
 abbrev pub ServicesHandOn : Type 0
 ServicesHandOn =
-    (k : Key) (fuel : ℕ) (p q next : PassView) (old new : Raw) (number : ℕ) → CanRun k fuel p old →
-    HasRun k fuel p q old new (pauses.Service number) → SeesMore k q.sight next.sight →
+    (k : Key) (fuel : ℕ) (p q next : PassView) (old new : Raw) (number : ℕ) → CanRunOn k fuel p old →
+    HasRunOn k fuel p q old new (pauses.Service number) → SeesMore k q.sight next.sight →
     (reply : Reply) → MayServe k next.sight number reply new → (serve_of new reply).base.stop ≡ None →
-    CanRun k fuel next (serve_of new reply)
+    CanRunOn k fuel next (serve_of new reply)
 
 -- two runs with a service between them are one
 abbrev pub RunsJoin : Type 0
 RunsJoin =
     (k : Key) (fuel : ℕ) (p q next end : PassView) (old mid new : Raw) (number : ℕ) (pause : Pause) →
-    (run : HasRun k fuel p q old mid (pauses.Service number)) → SeesMore k q.sight next.sight →
+    (run : HasRunOn k fuel p q old mid (pauses.Service number)) → SeesMore k q.sight next.sight →
     (reply : Reply) → MayServe k next.sight number reply mid →
-    (then : HasRun k fuel next end (serve_of mid reply) new pause) →
-    let takes = words_of run.taken.accesses ++ Served reply ∷ words_of then.taken.accesses in
+    (then : HasRunOn k fuel next end (serve_of mid reply) new pause) →
+    let takes = words_found run.taken.accesses ++ Served reply ∷ words_found then.taken.accesses in
     (then.last ≡ run_of old takes)
     × ((later : Sight) → SeesMore k end.sight later → Along (history_seen k later) (code_seen k later) old takes)
 
@@ -71,14 +71,14 @@ abbrev pub RunsAreTaken : Type 0
 RunsAreTaken =
     (k : Key) (p q : PassView) (old last : Raw) → old.waits ≡ None →
     (taken : HasTaken k p q old last) (replies : List Reply) →
-    (takes_of old replies taken.accesses ≡ words_of taken.accesses ++ ended_by last.waits last replies)
+    (takes_of old replies taken.accesses ≡ words_found taken.accesses ++ ended_by last.waits last replies)
     × (left_of old replies taken.accesses ≡ left_by last.waits last replies)
 
 -- a guest that is opened at a start of an image that its pass has seen in force can run
 abbrev pub OpenedCanRun : Type 0
 OpenedCanRun =
     (k : Key) (p : PassView) (fuel number entry : ℕ) (fills : List Fill) → IsSight k p.sight →
-    IsStart (history_seen k p.sight) entry → CanRun k fuel p (raw_opened number entry fills)
+    IsStart (history_seen k p.sight) entry → CanRunOn k fuel p (raw_opened number entry fills)
 
 -- what was seen is a history, over which the raw machine shows the policy machine
 abbrev pub SightIsHistory : Type 0
@@ -108,15 +108,15 @@ abbrev pub SeesGoOn : Type 0
 SeesGoOn = (k : Key) (a b c : Sight) → SeesMore k a b → SeesMore k b c → SeesMore k a c
 
 -- some guest can run, asks for a service, and can run on when it has ended
-pub record IsServed (k : Key) (fuel : ℕ) : Type 0 where
+pub record IsServedRun (k : Key) (fuel : ℕ) : Type 0 where
   pub p : PassView
   pub q : PassView
   pub old : Raw
   pub new : Raw
-  pub can : CanRun k fuel p old
-  pub run : HasRun k fuel p q old new (pauses.Service 0)
+  pub can : CanRunOn k fuel p old
+  pub run : HasRunOn k fuel p q old new (pauses.Service 0)
   pub may : MayServe k q.sight 0 too_many new
   pub going : (serve_of new too_many).base.stop ≡ None
 
 abbrev pub SomeIsServed : Type 0
-SomeIsServed = (fuel : ℕ) → 1 ≤ fuel → (k : Key) × IsServed k fuel
+SomeIsServed = (fuel : ℕ) → 1 ≤ fuel → (k : Key) × IsServedRun k fuel

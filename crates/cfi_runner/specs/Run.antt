@@ -21,7 +21,7 @@ use Rattle.cfi_runner.specs.declared.pause.Pause.TheVariants as pauses
 
 -- a guest can run: it has not stopped, waits for nothing and keeps no table word, stands at a start of an image that its
 -- pass has seen in force, has logged no policy above the latest one, and has at most this fuel behind it
-pub record CanRun (k : Key) (fuel : ℕ) (p : PassView) (r : Raw) : Type 0 where
+pub record CanRunOn (k : Key) (fuel : ℕ) (p : PassView) (r : Raw) : Type 0 where
   pub sight : IsSight k p.sight
   pub going : r.base.stop ≡ None
   pub idle : r.waits ≡ None
@@ -44,8 +44,8 @@ AreAsked code_words r (access ∷ later) =
     AsksFor code_words r.waits r access.word × AreAsked code_words (take_one r (Word access.found)) later
 
 -- what the raw machine takes of it: the word that was found
-abbrev pub words_of : List Access → List Take
-words_of accesses = map (λ access. Word access.found) accesses
+abbrev pub words_found : List Access → List Take
+words_found accesses = map (λ access. Word access.found) accesses
 
 -- The guest has run over these accesses, which its pass has appended. Whatever the pass sees later, they fit the history
 -- that it has seen then.
@@ -53,9 +53,9 @@ pub record HasTaken (k : Key) (p q : PassView) (old new : Raw) : Type 0 where
   pub accesses : List Access
   pub appended : q.sight.accesses ≡ p.sight.accesses ++ accesses
   pub asked : AreAsked k.code_words old accesses
-  pub is : new ≡ run_of old (words_of accesses)
+  pub is : new ≡ run_of old (words_found accesses)
   pub along : (later : Sight) → SeesMore k q.sight later
-      → Along (history_seen k later) (code_seen k later) old (words_of accesses)
+      → Along (history_seen k later) (code_seen k later) old (words_found accesses)
 
 -- why the guest pauses, and in which state: it waits in a service, an instruction has stopped it, or the fuel, which it
 -- has run, stops it before a fetch
@@ -69,7 +69,7 @@ PausesAt (pauses.Align address) fuel last new =
 PausesAt pauses.Fuel fuel last new = IsSpent last new × (last.base.steps ≡ fuel)
 
 -- what a run leaves of the pass: its guest and what this has published, and what was seen
-pub record Keeps (k : Key) (old new : PassView) : Type 0 where
+pub record KeepsSeat (k : Key) (old new : PassView) : Type 0 where
   pub guest : new.guest ≡ old.guest
   pub quiet : new.quiet ≡ old.quiet
   pub refusals : new.sight.refusals ≡ old.sight.refusals
@@ -77,10 +77,10 @@ pub record Keeps (k : Key) (old new : PassView) : Type 0 where
 
 -- A guest has run until it paused. It had run no more than its fuel before, and has logged no policy above the latest
 -- one that its pass has seen in force.
-pub record HasRun (k : Key) (fuel : ℕ) (p q : PassView) (old new : Raw) (pause : Pause) : Type 0 where
+pub record HasRunOn (k : Key) (fuel : ℕ) (p q : PassView) (old new : Raw) (pause : Pause) : Type 0 where
   pub last : Raw
   pub taken : HasTaken k p q old last
   pub pauses : PausesAt pause fuel last new
   pub within : new.base.steps ≤ fuel
-  pub keeps : Keeps k p q
+  pub keeps : KeepsSeat k p q
   pub logged : last_policy new.base.log ≤ policy_seen k q.sight

@@ -23,7 +23,7 @@ pub record IsLast (h : History) (code : List ℕ) (ends : List End) (old new : S
   pub step : IsStep h code end before new
 
 -- the guest stands at a service unit, which asks for the service of this number
-pub record IsAsking (code : List ℕ) (s : State) (number : ℕ) : Type 0 where
+pub record AsksIn (code : List ℕ) (s : State) (number : ℕ) : Type 0 where
   pub stands : Stands code s.pc units.Service
   pub is : number ≡ asked s
 
@@ -44,7 +44,7 @@ pub record IsMisaligned (code : List ℕ) (s : State) (address : ℕ) : Type 0 w
 -- before a target outside the code, or with two words of one epoch whose classes differ; a misaligned access has; the
 -- fuel is not shown.
 abbrev pub IsPausedIn : History → (code : List ℕ) → List End → (old s : State) → Pause → Type 0
-IsPausedIn h code ends old s (pauses.Service number) = (s.stop ≡ None) × IsAsking code s number
+IsPausedIn h code ends old s (pauses.Service number) = (s.stop ≡ None) × AsksIn code s number
 IsPausedIn h code ends old s (pauses.Halt target) =
     (last : IsLast h code ends old s) × IsForbidden h code last.end last.before target
 IsPausedIn h code ends old s (pauses.Align address) =

@@ -1,6 +1,6 @@
 //! A guest that runs over what its pass loads.
 
-ghost use Rattle.cfi_runner.specs.Run.{CanRun, HasRun};
+ghost use Rattle.cfi_runner.specs.Run.{CanRunOn, HasRunOn};
 
 use crate::pause::Pause;
 use cfi_tables::{Pass, TableName, Tables};
@@ -11,7 +11,6 @@ use rv_guest::{Act, Guest};
 /// The guest has not stopped, waits for nothing, has at most `fuel` instructions behind it, has logged no policy above
 /// that of the latest epoch which the pass has seen in force, and stands at a start of an image that it has seen. It
 /// takes no memory, and waits for no one.
-// Out of line: inside a larger function its loop would keep what it works with on the stack.
 #[inline(never)]
 pub fn run_until<N: TableName>(
     guest: &mut Guest,
@@ -19,9 +18,10 @@ pub fn run_until<N: TableName>(
     pass: &mut Pass<N>,
     fuel: u32,
 ) -> Pause
-    requires can { CanRun N.key fuel pass.old guest.old }
-    ensures { HasRun N.key fuel pass.old pass.new guest.old guest.new result }
+    requires can { CanRunOn N.key fuel pass.old guest.old }
+    ensures { HasRunOn N.key fuel pass.old pass.new guest.old guest.new result }
 {
+    // Out of line: inside a larger function this loop would keep what it works with on the stack.
     for _ in guest.steps()..fuel {
         let word = tables.fetch(pass, guest.pc() / 4);
         match guest.begin(word) {

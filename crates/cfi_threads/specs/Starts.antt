@@ -4,8 +4,8 @@ use Rattle.cfi_word.specs.declared.lists.Image.{Image}
 use Rattle.cfi_model.specs.Closed.{IsStartIn}
 
 -- its load, its call and its return
-abbrev pub IsEntry : (entry : ℕ) → Type 0
-IsEntry entry = (entry ≡ 64) ⊎ ((entry ≡ 88) ⊎ (entry ≡ 172))
+abbrev pub StartsAt : (entry : ℕ) → Type 0
+StartsAt entry = (entry ≡ 64) ⊎ ((entry ≡ 88) ⊎ (entry ≡ 172))
 
 abbrev pub StartAll : Image → Type 0
-StartAll image = (entry : ℕ) → IsEntry entry → IsStartIn image entry
+StartAll image = (entry : ℕ) → StartsAt entry → IsStartIn image entry

@@ -5,7 +5,7 @@ ghost use Rattle.cfi_model.specs.Closed.{IsClosed, IsStartIn};
 ghost use Rattle.cfi_model.specs.History.{IsStart};
 ghost use Rattle.cfi_runner.specs.Seen.{IsSight, SeesMore, history_seen};
 ghost use Rattle.cfi_threads.specs.Like.{IsLike};
-ghost use Rattle.cfi_threads.specs.Starts.{IsEntry, StartAll};
+ghost use Rattle.cfi_threads.specs.Starts.{StartsAt, StartAll};
 
 use crate::refreshes::refresh;
 use cfi_runner::{Pause, run_until};
@@ -230,7 +230,7 @@ fn paused(
     entry: u32,
     fuel: u32,
 ) -> Result<Option<(Pause, u32, u32)>, Fail>
-    requires { IsEntry entry }
+    requires { StartsAt entry }
 {
     let layout = Layout::new(1024)?;
     let image = call_image(alloc, &layout)?;

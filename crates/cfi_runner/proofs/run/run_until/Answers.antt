@@ -4,7 +4,7 @@ use Rattle.cfi_model.specs.Run.{finish_of}
 use Rattle.cfi_model.specs.Raw.{Raw}
 use Rattle.rv_guest.specs.Guest.{MayLoad}
 use Rattle.cfi_tables.specs.declared.view.PassView.{PassView}
-use Rattle.cfi_runner.specs.Run.{HasRun}
+use Rattle.cfi_runner.specs.Run.{HasRunOn}
 use Rattle.cfi_runner.specs.declared.pause.Pause.TheVariants as pauses
 use Rattle.cfi_runner.proofs.ActLemmas.{Tells}
 use Rattle.cfi_runner.proofs.WayLemmas.{IsUnderWay, starts, place_within, begins_at, finds, address_within, finish_steps}
@@ -59,7 +59,7 @@ returns-in-Service g c =
     let begun = begins_at k c.args.fuel c.args.pass.now c.args.guest.now c.requires.can c.loop.pass c.loop.guest
     c.loop.invariant.under c.pc.result c.pc.ensures c.fetch-word.new.pass c.fetch-word.result c.fetch-word.ensures in
     let below : c.loop.guest.base.steps < c.args.fuel = omega (arith, c.loop.invariant.counted, c.loop-test.true) in
-    subst (λ r. HasRun k c.args.fuel c.args.pass.now c.fetch-word.new.pass c.args.guest.now r
+    subst (λ r. HasRunOn k c.args.fuel c.args.pass.now c.fetch-word.new.pass c.args.guest.now r
     (pauses.Service c.in-Service.number)) (sym c.begin.ensures.state)
     (asks k c.args.fuel c.args.pass.now c.args.guest.now c.requires.can c.loop.pass c.loop.guest
     c.loop.invariant.under c.fetch-word.new.pass c.fetch-word.result begun below c.in-Service.number
@@ -72,7 +72,7 @@ returns-in-Halt g c =
     let begun = begins_at k c.args.fuel c.args.pass.now c.args.guest.now c.requires.can c.loop.pass c.loop.guest
     c.loop.invariant.under c.pc.result c.pc.ensures c.fetch-word.new.pass c.fetch-word.result c.fetch-word.ensures in
     let below : c.loop.guest.base.steps < c.args.fuel = omega (arith, c.loop.invariant.counted, c.loop-test.true) in
-    subst (λ r. HasRun k c.args.fuel c.args.pass.now c.fetch-word.new.pass c.args.guest.now r
+    subst (λ r. HasRunOn k c.args.fuel c.args.pass.now c.fetch-word.new.pass c.args.guest.now r
     (pauses.Halt c.in-Halt.target)) (sym c.begin.ensures.state)
     (halts k c.args.fuel c.args.pass.now c.args.guest.now c.requires.can c.loop.pass c.loop.guest
     c.loop.invariant.under c.fetch-word.new.pass c.fetch-word.result begun below c.in-Halt.target
@@ -85,7 +85,7 @@ returns-in-Align g c =
     let begun = begins_at k c.args.fuel c.args.pass.now c.args.guest.now c.requires.can c.loop.pass c.loop.guest
     c.loop.invariant.under c.pc.result c.pc.ensures c.fetch-word.new.pass c.fetch-word.result c.fetch-word.ensures in
     let below : c.loop.guest.base.steps < c.args.fuel = omega (arith, c.loop.invariant.counted, c.loop-test.true) in
-    subst (λ r. HasRun k c.args.fuel c.args.pass.now c.fetch-word.new.pass c.args.guest.now r
+    subst (λ r. HasRunOn k c.args.fuel c.args.pass.now c.fetch-word.new.pass c.args.guest.now r
     (pauses.Align c.in-Align.address)) (sym c.begin.ensures.state)
     (aligns k c.args.fuel c.args.pass.now c.args.guest.now c.requires.can c.loop.pass c.loop.guest
     c.loop.invariant.under c.fetch-word.new.pass c.fetch-word.result begun below c.in-Align.address
@@ -131,7 +131,7 @@ returns g c =
     omega (arith, c.steps-counter.ensures, c.requires.can.within) in
     let end = c.loop.auto.counter-end most in
     let steps : c.loop.guest.base.steps ≡ c.args.fuel = omega (arith, c.loop.invariant.counted, c.loop-test.false) in
-    subst (λ r. HasRun k c.args.fuel c.args.pass.now c.loop.pass c.args.guest.now r pauses.Fuel)
+    subst (λ r. HasRunOn k c.args.fuel c.args.pass.now c.loop.pass c.args.guest.now r pauses.Fuel)
     (sym c.spend.ensures.state)
     (spends k c.args.fuel c.args.pass.now c.args.guest.now c.requires.can c.loop.pass c.loop.guest
     c.loop.invariant.under steps)

@@ -2,11 +2,11 @@ use Rattle.std.proofs.Common.{rules, ◌≡◌, ℕ, sym, subst, inl, inr, arith
 use Rattle.cfi_word.specs.declared.lists.Image.{Image}
 use Rattle.cfi_word.specs.Table.{IsSize}
 use Rattle.cfi_model.specs.Closed.{IsClosed, IsStartIn}
-use Rattle.cfi_threads.specs.Starts.{IsEntry, StartAll}
+use Rattle.cfi_threads.specs.Starts.{StartsAt, StartAll}
 use Rattle.cfi_runner.proofs.CallLemmas.{call_bary, call_closed, call_code, call_image, call_starts, call_tary}
 use Rattle.cfi_threads.proofs.runs.call_image.Goals as goal
 
-entries : (n entry : ℕ) → IsEntry entry → IsStartIn (call_image n) entry
+entries : (n entry : ℕ) → StartsAt entry → IsStartIn (call_image n) entry
 entries n entry (inl is) = subst (IsStartIn (call_image n)) (sym is) (call_starts n 0 (omega arith))
 entries n entry (inr (inl is)) = subst (IsStartIn (call_image n)) (sym is) (call_starts n 1 (omega arith))
 entries n entry (inr (inr is)) = subst (IsStartIn (call_image n)) (sym is) (call_starts n 9 (omega arith))

@@ -4,7 +4,7 @@ use Rattle.cfi_model.specs.declared.act.Wait.TheVariants as waits
 use Rattle.cfi_model.specs.Raw.{Raw}
 use Rattle.cfi_model.specs.Run.{serve_as}
 use Rattle.cfi_model.specs.Service.{too_many}
-use Rattle.cfi_runner.specs.Run.{CanRun, HasRun}
+use Rattle.cfi_runner.specs.Run.{CanRunOn, HasRunOn}
 use Rattle.cfi_runner.specs.declared.pause.Pause.TheVariants as pauses
 use Rattle.cfi_runner.proofs.HandLemmas.{hands_on}
 use Rattle.cfi_runner.proofs.OpenedLemmas.{opened_can, quiet_sees}
@@ -19,16 +19,16 @@ run_until-second-requires g c =
     let q = c.run_until-first.new.pass in
     let next = c.quiet.new.pass in
     let new : Raw = c.run_until-first.new.guest in
-    let can = subst (CanRun k fuel p) (sym c.in_ok-guest.ensures)
+    let can = subst (CanRunOn k fuel p) (sym c.in_ok-guest.ensures)
     (opened_can k p fuel c.args.number c.args.entry [] c.requires.sight c.requires.start) in
     let same : c.in-Service-eq3.field-0 ≡ QUIET = sym c.in-Service-eq3.field-0-is ∙ c.in-Service-eq3.field-0-test in
-    let run = subst (HasRun k fuel p q c.in_ok-guest.guest new) (c.in-Service-eq3.is ∙ ap pauses.Service same)
+    let run = subst (HasRunOn k fuel p q c.in_ok-guest.guest new) (c.in-Service-eq3.is ∙ ap pauses.Service same)
     c.run_until-first.ensures in
     let wait : new.waits ≡ Some (waits.Service QUIET) = ap (λ r. r.waits) run.pauses.0 ∙ run.pauses.1 in
     let going = ap (λ w. (serve_as w new too_many).base.stop) wait
     ∙ (ap (λ r. r.base.stop) run.pauses.0 ∙ run.pauses.2) in
     record {
-      can = subst (CanRun k fuel next) (sym c.proceed.ensures)
+      can = subst (CanRunOn k fuel next) (sym c.proceed.ensures)
           (hands_on k fuel p q next c.in_ok-guest.guest new QUIET can run
           (quiet_sees k c.quiet.result q next c.quiet.ensures run.keeps.sees.is) too_many
           (record { fits = λ e. absurd (omega (arith, e)); known = λ e. absurd (omega (arith, e)) }) going);
