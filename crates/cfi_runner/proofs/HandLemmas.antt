@@ -88,7 +88,8 @@ module _ (k : Key) (fuel : ℕ) (p q next : PassView) (old new : Raw) (number : 
   fits : Fits h code new (Served reply)
   fits = fits_served h code number reply new wait may.fits
 
-  ended : (s : State) × (n : ℕ) × (Running h code s n new) × Ended h code n (end_of new (Served reply)) s (serve_of new reply)
+  ended : (s : State) × (n : ℕ) × (Running h code s n new)
+      × Ended h code n (end_of new (Served reply)) s (serve_of new reply)
   ended =
       let known = seen_history k next.sight more.is in
       let now = reached h code known (words_found run.taken.accesses) old.base 0 old

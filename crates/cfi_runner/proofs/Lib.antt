@@ -1,7 +1,9 @@
 pub mod SeenLemmas
 pub mod ActLemmas
 pub mod WordLemmas
+pub mod NeedLemmas
 pub mod WayLemmas
+pub mod FoundLemmas
 pub mod PauseLemmas
 pub mod TakenLemmas
 pub mod UnitLemmas

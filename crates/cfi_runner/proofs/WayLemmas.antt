@@ -1,106 +1,37 @@
 -- A guest on its way over what its pass loads.
-use Rattle.std.proofs.Common.{◌≡◌, ◌≤◌, ◌≢◌, ℕ, ◌+◌, ◌-◌, ◌*◌, ◌/◌, ◌%◌, ◌<◌, nat_le, cond, true, false, Option, Some, None, List, [], ◌∷◌, ◌++◌, append_assoc, append-nil, length, slice_index, refl, sym, ap, subst, ◌∙◌, arith, inl, inr}
+use Rattle.std.proofs.Common.{◌≡◌, ◌≤◌, ◌≢◌, ℕ, ◌+◌, ◌-◌, ◌/◌, ◌<◌, Some, None, List, [], ◌∷◌, ◌++◌, append_assoc, append-nil, slice_index, refl, sym, ap, subst, ◌∙◌, arith, inl, inr}
 use Rattle.std.proofs.lemmas.Bool.{cases_lt}
-use Rattle.std.proofs.lemmas.Bool.Decides.{nat_tests}
-use Rattle.std.specs.Prelude.{⊤}
 use Rattle.std.proofs.lemmas.List.{get_or_past}
-use Rattle.rv_insn.specs.declared.insn.Insn.{Insn}
 use Rattle.rv_insn.specs.InsnOf.{insn_of}
-use Rattle.cfi_unit.specs.declared.unit.Unit.{Unit as CodeUnit}
-use Rattle.cfi_unit.specs.declared.unit.Unit.TheVariants as units
 use Rattle.cfi_word.specs.Table.{slots_of, code_word, tary_word, bary_word}
 use Rattle.cfi_word.specs.Table as places
-use Rattle.cfi_word.specs.Word.{epoch_in, policy_in}
-use Rattle.cfi_word.specs.declared.map.TheConstants.{TARY, BARY, CODE_BYTES}
-use Rattle.cfi_model.specs.declared.act.Wait.{Wait}
-use Rattle.cfi_model.specs.declared.act.Wait.TheVariants as waits
 use Rattle.cfi_model.specs.declared.history.Access.{Access}
 use Rattle.cfi_model.specs.Accesses.{KeepsLast}
-use Rattle.cfi_model.specs.Begin.{HasStep, HasStepBy, begin_as, begin_by, begin_of, act_by, act_of}
+use Rattle.cfi_model.specs.Begin.{HasStepBy, begin_as, begin_by, begin_of, act_by, act_of}
 use Rattle.cfi_model.specs.Fits.{Fits, FitsWord, Along}
-use Rattle.cfi_model.specs.History.{History, IsFair}
-use Rattle.cfi_model.specs.InForce.{tary_index}
+use Rattle.cfi_model.specs.History.{History}
 use Rattle.cfi_model.specs.Log.{last_policy}
 use Rattle.cfi_model.specs.Raw.{Raw}
-use Rattle.cfi_model.specs.Run.{Word, take_word, take_one, run_of, finish_as, finish_of}
-use Rattle.cfi_model.specs.Shows.{IsBetween, IsReady, IsShown, MayWait, Shows, ends_along}
+use Rattle.cfi_model.specs.Run.{Word, take_word, take_one, run_of}
+use Rattle.cfi_model.specs.Shows.{IsBetween, IsReady, IsShown, ends_along}
 use Rattle.cfi_model.specs.State.{State}
 use Rattle.cfi_model.proofs.AfterLemmas.{begin_counts, begin_keeps}
 use Rattle.cfi_model.proofs.GrowLemmas.{no_step}
-use Rattle.cfi_model.proofs.InForceLemmas.{index_within}
 use Rattle.cfi_model.proofs.ShownLemmas.{raw_shows}
 use Rattle.cfi_model.proofs.SnocLemmas.{along_snoc}
 use Rattle.cfi_model.proofs.StuckLemmas.{raw_has_steps}
-use Rattle.cfi_tables.specs.Fair.{history_at, kept_of}
+use Rattle.cfi_tables.specs.Fair.{kept_of}
 use Rattle.cfi_tables.specs.Key.{Key}
-use Rattle.cfi_tables.specs.Loads.{IsTableAddress, IsFetch, IsLoad, access_of, place_at}
+use Rattle.cfi_tables.specs.Loads.{IsFetch, access_of}
 use Rattle.cfi_tables.specs.declared.view.PassView.{PassView}
 use Rattle.cfi_tables.specs.declared.view.Sight.{Sight}
 use Rattle.cfi_tables.proofs.FairLemmas.{kept_snoc}
-use Rattle.cfi_tables.proofs.Prefixes.{prefix_length}
-use Rattle.cfi_tables.specs.Views.{tables_with}
-use Rattle.rv_guest.specs.Guest.{MayLoad}
 use Rattle.cfi_runner.specs.Seen.{history_seen, code_seen, policy_seen, IsSight, SeesMore}
 use Rattle.cfi_runner.specs.Run.{AsksFor, CanRunOn, HasTaken, KeepsSeat, words_found}
-use Rattle.cfi_runner.proofs.ActLemmas.{Tells, WaitsAt, act_tells}
-use Rattle.cfi_runner.proofs.SeenLemmas.{sees_same, sees_trans, seen_history, code_many, policy_most, policy_later, bary_seen, tary_seen, tary_rises, code_later, start_later, word_later}
+use Rattle.cfi_runner.proofs.ActLemmas.{Tells, act_tells}
+use Rattle.cfi_runner.proofs.SeenLemmas.{sees_same, sees_trans, seen_history, code_many, policy_most, policy_later, code_later, start_later}
 use Rattle.cfi_runner.proofs.WordLemmas.{words_snoc, run_word, asked_append, no_replies, runs_low, shown_log}
-
--- a table word counts no instruction
-pub finish_steps : (wait : Option Wait) (r : Raw) (word : ℕ) → (finish_as wait r word).base.steps ≡ r.base.steps
-finish_steps None r word = refl
-finish_steps (Some (waits.Tary at rd)) r word = refl
-finish_steps (Some (waits.Bary slot rd)) r word = refl
-finish_steps (Some (waits.Service number)) r word = refl
-
--- a word that has a step is an instruction
-insn_is : (o : Option Insn) (word : ℕ) (r : Raw) → insn_of word ≡ o → HasStepBy o r
-    → (insn : Insn) × (insn_of word ≡ Some insn) × HasStep insn r
-insn_is None word r is has = absurd has
-insn_is (Some insn) word r is has = (insn, is, has)
-
--- what is waited for within a unit
-abbrev pub MayNeed : (code_words : ℕ) → Option Wait → Type 0
-MayNeed code_words (Some (waits.Tary at rd)) = (at < CODE_BYTES) × (at % 4 ≡ 0)
-MayNeed code_words (Some (waits.Bary slot rd)) = slot < slots_of code_words
-MayNeed code_words (Some (waits.Service number)) = ⊤
-MayNeed code_words None = ⊤
-
-needs_of : (c : ℕ) (unit : CodeUnit) (s : State) (wait : Option Wait) → MayWait c unit s wait → MayNeed c wait
-needs_of c (units.Check link rs1 imm slot) s (Some (waits.Bary asked rd)) may =
-    subst (λ n. n < slots_of c) (sym may.0) may.1
-needs_of c (units.Check link rs1 imm slot) s (Some (waits.Tary at rd)) may = (may.1, may.2)
-needs_of c unit s (Some (waits.Service number)) may = tt
-needs_of c unit s None may = tt
-needs_of c (units.Plain insn) s (Some (waits.Bary asked rd)) may = absurd may
-needs_of c (units.Plain insn) s (Some (waits.Tary at rd)) may = absurd may
-needs_of c (units.Load kind rd1 rs1 imm) s (Some (waits.Bary asked rd)) may = absurd may
-needs_of c (units.Load kind rd1 rs1 imm) s (Some (waits.Tary at rd)) may = absurd may
-needs_of c (units.Store kind rs1 rs2 imm) s (Some (waits.Bary asked rd)) may = absurd may
-needs_of c (units.Store kind rs1 rs2 imm) s (Some (waits.Tary at rd)) may = absurd may
-needs_of c (units.Branch b rs1 rs2 off) s (Some (waits.Bary asked rd)) may = absurd may
-needs_of c (units.Branch b rs1 rs2 off) s (Some (waits.Tary at rd)) may = absurd may
-needs_of c (units.Jump link off) s (Some (waits.Bary asked rd)) may = absurd may
-needs_of c (units.Jump link off) s (Some (waits.Tary at rd)) may = absurd may
-needs_of c units.Service s (Some (waits.Bary asked rd)) may = absurd may
-needs_of c units.Service s (Some (waits.Tary at rd)) may = absurd may
-
-pub shown_needs : (h : History) (code : List ℕ) (retries : ℕ) (s : State) (r : Raw) → Shows h code retries s r
-    → MayNeed (length code) r.waits
-shown_needs h code retries s r (inl between) = subst (MayNeed (length code)) (sym between.idle) tt
-shown_needs h code retries s r (inr inside) = needs_of (length code) inside.unit s r.waits inside.waits
-
--- a word is fair in each history of these versions
-fair_in : (h g : History) (kept : Option ℕ) (found : ℕ) → h.versions ≡ g.versions → IsFair h kept found
-    → IsFair g kept found
-fair_in h g None found same fair = tt
-fair_in h g (Some kept) found same fair =
-    λ e. fair (ap (λ v. epoch_in kept % v) same ∙ (e ∙ sym (ap (λ v. epoch_in found % v) same)))
-
-fair_kept : (h : History) (bary kept : Option ℕ) (found : ℕ)
-    → ((word : ℕ) → bary ≡ Some word → kept ≡ Some word) → IsFair h kept found → IsFair h bary found
-fair_kept h None kept found keeps fair = tt
-fair_kept h (Some word) kept found keeps fair = subst (λ o. IsFair h o found) (keeps word refl) fair
+use Rattle.cfi_runner.proofs.NeedLemmas.{MayNeed, shown_needs, insn_is}
 
 -- a guest on its way: it has taken the words of its pass, as far as this has come
 pub record IsOnWay (k : Key) (p : PassView) (old : Raw) (q : PassView) (now : Raw) : Type 0 where
@@ -321,151 +252,3 @@ module _ (k : Key) (fuel : ℕ) (p : PassView) (old : Raw) (can : CanRunOn k fue
       → (new : PassView) (word : ℕ) → IsFetch k (pc / 4) word q new → HasBegun q now u new word
   begins_at q now u pc is new word fetch =
       begins q now u new word (subst (λ n. IsFetch k (n / 4) word q new) is fetch)
-
-  -- ---- a load
-
-  -- where the guest waits for the word of an address
-  module _ (q : PassView) (now : Raw) (way : IsOnWay k p old q now) where
-    -- what a load makes of the way, by what is waited for
-    pub record HasFound (new : PassView) (found : ℕ) : Type 0 where
-      pub may : MayLoad now.waits now.base.log found
-      pub under : IsUnderWay k p old new (finish_of now found)
-
-    more_seen : (new : PassView) (place : places.Place) (found : ℕ) → IsLoad k place found q new
-        → q.sight.latest ≤ new.sight.latest → new.sight.latest < k.first + length new.sight.entries
-        → SeesMore k q.sight new.sight
-    more_seen new place found load latest most = record {
-      entries = load.grows;
-      latest = latest;
-      is = record { tables = load.tables; least = omega (arith, way.keeps.sees.is.least, latest); most = most };
-    }
-
-    on_keeps : (new : PassView) (place : places.Place) (found : ℕ) → IsLoad k place found q new
-        → SeesMore k q.sight new.sight → KeepsSeat k p new
-    on_keeps new place found load sees = record {
-      guest = load.guest ∙ way.keeps.guest;
-      quiet = load.quiet ∙ way.keeps.quiet;
-      refusals = load.refusals ∙ way.keeps.refusals;
-      sees = sees_trans k p.sight q.sight new.sight way.keeps.sees sees;
-    }
-
-    bary_more : (new : PassView) (slot found : ℕ) (load : IsLoad k (places.Bary slot) found q new)
-        → SeesMore k q.sight new.sight
-    bary_more new slot found load =
-        more_seen new (places.Bary slot) found load (omega (arith, load.tells.1))
-        (let long = prefix_length q.sight.entries new.sight.entries load.grows in
-        omega (arith, load.tells.1, load.epoch, load.word.within, way.keeps.sees.is.most, long))
-
-    pub finds_bary : (slot rd : ℕ) → now.waits ≡ Some (waits.Bary slot rd) → now.base.stop ≡ None
-        → (new : PassView) (found : ℕ) → IsLoad k (places.Bary slot) found q new → slot < slots_of k.code_words
-        → HasFound new found
-    finds_bary slot rd wait going new found load inside =
-        let sees = bary_more new slot found load in
-        let done : finish_of now found ≡ finish_as (Some (waits.Bary slot rd)) now found =
-        ap (λ w. finish_as w now found) wait in
-        let taken = takes_more q now way new (access_of k.code_words (places.Bary slot) found) load.accesses sees
-        (subst (λ w. AsksFor k.code_words w now (bary_word k.code_words slot)) (sym wait) refl)
-        (λ later more. subst (λ w. FitsWord (history_seen k later) (code_seen k later) w now found) (sym wait)
-        (let word = word_later k new.sight later sees.is more (places.Bary slot) found load.word in
-        bary_seen k later more.is slot found word.0
-        (omega (arith, word.1, load.epoch, load.tells.1, more.latest)))) in
-        record {
-          may = subst (λ w. MayLoad w now.base.log found) (sym wait) tt;
-          under = record {
-            way = record {
-              taken = subst (HasTaken k p new old) (ap (λ w. take_word w now found) wait ∙ sym done) taken;
-              keeps = on_keeps new (places.Bary slot) found load sees;
-              kept = λ word e.
-                  ap (kept_of k) load.accesses
-                  ∙ (kept_snoc k q.sight.accesses (places.Bary slot) found inside tt
-                  ∙ (sym (ap (λ r. r.bary) done) ∙ e));
-            };
-            idle = ap (λ r. r.waits) done;
-            going = ap (λ r. r.base.stop) done ∙ going;
-          };
-        }
-
-    pub finds_tary : (at rd : ℕ) → now.waits ≡ Some (waits.Tary at rd) → now.base.stop ≡ None
-        → (new : PassView) (found : ℕ) → IsLoad k (places.Tary (tary_index k.code_words at)) found q new
-        → tary_index k.code_words at < k.code_words → HasFound new found
-    finds_tary at rd wait going new found load inside =
-        let index : ℕ = tary_index k.code_words at in
-        let long = prefix_length q.sight.entries new.sight.entries load.grows in
-        let sees = more_seen new (places.Tary index) found load (omega (arith, load.tells.1))
-        (omega (arith, load.tells.1, way.keeps.sees.is.most, long)) in
-        let done : finish_of now found ≡ finish_as (Some (waits.Tary at rd)) now found =
-        ap (λ w. finish_as w now found) wait in
-        let rises : last_policy now.base.log ≤ policy_in found =
-        (let up = policy_later k q.sight new.sight way.keeps.sees.is sees in
-        let tary = tary_rises k new.sight sees.is index found load.word
-        (omega (arith, load.tells.0, load.tells.1, load.epoch)) in
-        omega (arith, low q now way, up, tary)) in
-        let taken = takes_more q now way new (access_of k.code_words (places.Tary index) found) load.accesses sees
-        (subst (λ w. AsksFor k.code_words w now (tary_word k.code_words index)) (sym wait) refl)
-        (λ later more. subst (λ w. FitsWord (history_seen k later) (code_seen k later) w now found) (sym wait)
-        (record {
-          found = tary_seen k later more.is at found
-              (word_later k new.sight later sees.is more (places.Tary index) found load.word).0;
-          fair = fair_in (history_at k) (history_seen k later) now.bary found refl
-              (fair_kept (history_at k) now.bary (kept_of k q.sight.accesses) found way.kept load.fair);
-          rises = rises;
-        })) in
-        record {
-          may = subst (λ w. MayLoad w now.base.log found) (sym wait) rises;
-          under = record {
-            way = record {
-              taken = subst (HasTaken k p new old) (ap (λ w. take_word w now found) wait ∙ sym done) taken;
-              keeps = on_keeps new (places.Tary index) found load sees;
-              kept = λ word e.
-                  ap (kept_of k) load.accesses
-                  ∙ (kept_snoc k q.sight.accesses (places.Tary index) found inside tt
-                  ∙ way.kept word (sym (ap (λ r. r.bary) done) ∙ e));
-            };
-            idle = ap (λ r. r.waits) done;
-            going = ap (λ r. r.base.stop) done ∙ going;
-          };
-        }
-
-    -- ---- the address that the instruction asked for
-
-    bary_place : (c slot address : ℕ) → address ≡ BARY + 4 * slot → place_at c address ≡ places.Bary slot
-    bary_place c slot address is =
-        let high : nat_le BARY address ≡ true = grind (arith, nat_tests) in
-        ap (λ b. cond b (places.Bary ((address - BARY) / 4)) (places.Tary (tary_index c (address - TARY)))) high
-        ∙ ap places.Bary (let same : (address - BARY) / 4 ≡ slot = omega (arith, is) in same)
-
-    needs_address : (wait : Option Wait) (address : ℕ) → WaitsAt wait address → MayNeed k.code_words wait
-        → IsTableAddress k.code_words address
-    needs_address (Some (waits.Tary at rd)) address is may =
-        inr (omega (arith, is), omega (arith, is, may.0), omega (arith, is, may.1))
-    needs_address (Some (waits.Bary slot rd)) address is may =
-        inl (omega (arith, is), omega (arith, is, may), omega (arith, is))
-    needs_address (Some (waits.Service number)) address is may = absurd is
-    needs_address None address is may = absurd is
-
-    pub address_within : (address : ℕ) → WaitsAt now.waits address → IsTableAddress k.code_words address
-    address_within address is = needs_address now.waits address is (needs q now way)
-
-    tary_place : (c at address : ℕ) → address ≡ TARY + at → at < CODE_BYTES
-        → place_at c address ≡ places.Tary (tary_index c at)
-    tary_place c at address is small =
-        let low : nat_le BARY address ≡ false = grind (arith, nat_tests) in
-        ap (λ b. cond b (places.Bary ((address - BARY) / 4)) (places.Tary (tary_index c (address - TARY)))) low
-        ∙ ap (λ n. places.Tary (tary_index c n)) (let same : address - TARY ≡ at = omega (arith, is) in same)
-
-    finds_by : (wait : Option Wait) → now.waits ≡ wait → (address : ℕ) → WaitsAt wait address
-        → MayNeed k.code_words wait → now.base.stop ≡ None
-        → (new : PassView) (found : ℕ) → IsLoad k (place_at k.code_words address) found q new → HasFound new found
-    finds_by (Some (waits.Tary at rd)) wait address is may going new found load =
-        finds_tary at rd wait going new found
-        (subst (λ place. IsLoad k place found q new) (tary_place k.code_words at address is may.0) load)
-        (index_within (tables_with k q.sight.entries) way.keeps.sees.is.tables at)
-    finds_by (Some (waits.Bary slot rd)) wait address is may going new found load =
-        finds_bary slot rd wait going new found
-        (subst (λ place. IsLoad k place found q new) (bary_place k.code_words slot address is) load) may
-    finds_by (Some (waits.Service number)) wait address is may going new found load = absurd is
-    finds_by None wait address is may going new found load = absurd is
-
-    pub finds : (address : ℕ) → WaitsAt now.waits address → now.base.stop ≡ None
-        → (new : PassView) (found : ℕ) → IsLoad k (place_at k.code_words address) found q new → HasFound new found
-    finds address is = finds_by now.waits refl address is (needs q now way)

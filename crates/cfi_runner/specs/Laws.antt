@@ -8,7 +8,7 @@ use Rattle.cfi_model.specs.Closed.{IsStartIn}
 use Rattle.cfi_model.specs.Fits.{Along, FitsOpen}
 use Rattle.cfi_model.specs.History.{IsHistory, IsStart}
 use Rattle.cfi_model.specs.Raw.{Raw, raw_opened}
-use Rattle.cfi_model.specs.Run.{Served, run_of, serve_of}
+use Rattle.cfi_model.specs.Run.{Take, Served, run_of, serve_of}
 use Rattle.cfi_model.specs.Service.{Reply, too_many}
 use Rattle.cfi_model.specs.Shows.{IsShown, ends_along}
 use Rattle.cfi_model.specs.State.{State}
@@ -27,20 +27,18 @@ use Rattle.cfi_runner.specs.declared.pause.Pause.{Pause}
 use Rattle.cfi_runner.specs.declared.pause.Pause.TheVariants as pauses
 
 -- over what a pass has seen the guest that has run shows a state of the policy machine, and pauses in a unit of it
-pub record IsShownBy (k : Key) (later : Sight) (old : Raw) (p q : PassView) (last : Raw) (taken : HasTaken k p q old last)
-    (pause : Pause) : Type 0 where
+pub record IsShownBy (k : Key) (later : Sight) (old : Raw) (takes : List Take) (pause : Pause) : Type 0 where
   pub history : IsHistory (history_seen k later) (code_seen k later)
   pub retries : ℕ
   pub state : State
-  pub shown : IsShown (history_seen k later) (code_seen k later) 0 old.base old (words_found taken.accesses) retries state
-  pub paused : IsPausedIn (history_seen k later) (code_seen k later) (ends_along old (words_found taken.accesses)) old.base
-      state pause
+  pub shown : IsShown (history_seen k later) (code_seen k later) 0 old.base old takes retries state
+  pub paused : IsPausedIn (history_seen k later) (code_seen k later) (ends_along old takes) old.base state pause
 
 abbrev pub RunsShow : Type 0
 RunsShow =
     (k : Key) (fuel : ℕ) (p q : PassView) (old new : Raw) (pause : Pause) → CanRunOn k fuel p old →
     (run : HasRunOn k fuel p q old new pause) → (later : Sight) → SeesMore k q.sight later →
-    IsShownBy k later old p q run.last run.taken pause
+    IsShownBy k later old (words_found run.taken.accesses) pause
 
 -- the service of a paused guest may end with this reply: an open's is an answer, of no policy above the latest one
 pub record MayServe (k : Key) (later : Sight) (number : ℕ) (reply : Reply) (r : Raw) : Type 0 where
@@ -66,7 +64,7 @@ RunsJoin =
     (then.last ≡ run_of old takes)
     × ((later : Sight) → SeesMore k end.sight later → Along (history_seen k later) (code_seen k later) old takes)
 
--- what a run appends to its pass brings the words that were found, and the end of a service that no answer is needed for
+-- what a run appends to its pass brings the words that were found, and the end of a service that needs no answer
 abbrev pub RunsAreTaken : Type 0
 RunsAreTaken =
     (k : Key) (p q : PassView) (old last : Raw) → old.waits ≡ None →

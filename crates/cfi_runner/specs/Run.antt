@@ -19,8 +19,8 @@ use Rattle.cfi_runner.specs.Seen.{IsSight, SeesMore, history_seen, code_seen, po
 use Rattle.cfi_runner.specs.declared.pause.Pause.{Pause}
 use Rattle.cfi_runner.specs.declared.pause.Pause.TheVariants as pauses
 
--- a guest can run: it has not stopped, waits for nothing and keeps no table word, stands at a start of an image that its
--- pass has seen in force, has logged no policy above the latest one, and has at most this fuel behind it
+-- a guest can run: it has not stopped, waits for nothing and keeps no table word, stands at a start of an image that
+-- its pass has seen in force, has logged no policy above the latest one, and has at most this fuel behind it
 pub record CanRunOn (k : Key) (fuel : ℕ) (p : PassView) (r : Raw) : Type 0 where
   pub sight : IsSight k p.sight
   pub going : r.base.stop ≡ None
@@ -47,8 +47,8 @@ AreAsked code_words r (access ∷ later) =
 abbrev pub words_found : List Access → List Take
 words_found accesses = map (λ access. Word access.found) accesses
 
--- The guest has run over these accesses, which its pass has appended. Whatever the pass sees later, they fit the history
--- that it has seen then.
+-- The guest has run over these accesses, which its pass has appended. Whatever the pass sees later, they fit the
+-- history that it has seen then.
 pub record HasTaken (k : Key) (p q : PassView) (old new : Raw) : Type 0 where
   pub accesses : List Access
   pub appended : q.sight.accesses ≡ p.sight.accesses ++ accesses

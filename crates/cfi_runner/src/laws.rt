@@ -41,8 +41,8 @@ pub fn passes_see_more()
 
 /// The premises can be met.
 ///
-/// `opened`: by each guest that is opened at a start which its pass has seen in force. `served`: by some guest that asks
-/// for a service, and can run on after it.
+/// `opened`: by each guest that is opened at a start which its pass has seen in force. `served`: by some guest that
+/// asks for a service, and can run on after it.
 pub fn some_guest_can_run()
     ensures opened { OpenedCanRun }
     ensures served { SomeIsServed }

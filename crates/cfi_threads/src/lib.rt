@@ -7,6 +7,8 @@
 #![tactic(auto)]
 
 #[cfg(test)]
+mod image;
+#[cfg(test)]
 mod refreshes;
 #[cfg(test)]
 mod runs;

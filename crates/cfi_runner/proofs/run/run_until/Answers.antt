@@ -7,7 +7,9 @@ use Rattle.cfi_tables.specs.declared.view.PassView.{PassView}
 use Rattle.cfi_runner.specs.Run.{HasRunOn}
 use Rattle.cfi_runner.specs.declared.pause.Pause.TheVariants as pauses
 use Rattle.cfi_runner.proofs.ActLemmas.{Tells}
-use Rattle.cfi_runner.proofs.WayLemmas.{IsUnderWay, starts, place_within, begins_at, finds, address_within, finish_steps}
+use Rattle.cfi_runner.proofs.NeedLemmas.{finish_steps}
+use Rattle.cfi_runner.proofs.WayLemmas.{IsUnderWay, starts, place_within, begins_at}
+use Rattle.cfi_runner.proofs.FoundLemmas.{finds, address_within}
 use Rattle.cfi_runner.proofs.PauseLemmas.{asks, halts, aligns, goes_on, spends}
 use Rattle.cfi_runner.proofs.run.run_until.Goals.{in-Done, in-Need}
 use Rattle.cfi_runner.proofs.run.run_until.Goals as goal

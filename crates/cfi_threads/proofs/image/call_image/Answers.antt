@@ -4,7 +4,7 @@ use Rattle.cfi_word.specs.Table.{IsSize}
 use Rattle.cfi_model.specs.Closed.{IsClosed, IsStartIn}
 use Rattle.cfi_threads.specs.Starts.{StartsAt, StartAll}
 use Rattle.cfi_runner.proofs.CallLemmas.{call_bary, call_closed, call_code, call_image, call_starts, call_tary}
-use Rattle.cfi_threads.proofs.runs.call_image.Goals as goal
+use Rattle.cfi_threads.proofs.image.call_image.Goals as goal
 
 entries : (n entry : ℕ) → StartsAt entry → IsStartIn (call_image n) entry
 entries n entry (inl is) = subst (IsStartIn (call_image n)) (sym is) (call_starts n 0 (omega arith))
