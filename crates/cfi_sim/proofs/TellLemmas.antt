@@ -1,6 +1,7 @@
 -- A world that agrees with the journal says of epochs and versions what the journal does.
-use Rattle.std.proofs.Common.{◌≡◌, ◌≢◌, ℕ, ◌+◌, ◌<◌, ◌≤◌, ◌==◌, cond, Bool, true, false, Option, Some, None, refl, subst, arith}
+use Rattle.std.proofs.Common.{◌≡◌, ◌≢◌, ℕ, ◌+◌, ◌<◌, ◌≤◌, ◌==◌, cond, Bool, true, false, List, Option, Some, None, refl, subst, arith}
 use Rattle.std.proofs.lemmas.Bool.Decides.{nat_tests}
+use Rattle.cfi_aux.specs.declared.modules.Module.{Module}
 use Rattle.cfi_model.specs.declared.history.Entry.{Entry}
 use Rattle.cfi_model.specs.declared.phase.Phase.TheVariants as phases
 use Rattle.cfi_model.specs.Phases.{phase_of, phase_by, phase_after}
@@ -27,13 +28,13 @@ use Rattle.cfi_world.proofs.ChoiceLemmas.{row_none}
 use Rattle.cfi_world.proofs.RefusalLemmas.{refusal_only}
 use Rattle.cfi_world.proofs.StoringLemmas.{AreIdle, idle_is, force_newest}
 
-abbrev begin_by : World → Option Image → (a b : Bool) → Turn
-begin_by w image a b =
+abbrev begin_as : World → Option Image → (a b : Bool) → Turn
+begin_as w image a b =
     cond a (cond b (record { world = w; answer = EpochsSpent })
     (did (record w { tables = begun image w.tables; updates = w.updates + 1 }))) (nothing w)
 
 -- an update begins where none is under way, and the epoch in force is not the greatest
-did_by : (w : World) (image : Option Image) (a b : Bool) → (begin_by w image a b).answer ≡ Did
+did_by : (w : World) (image : Option Image) (a b : Bool) → (begin_as w image a b).answer ≡ Did
     → (a ≡ true) × (b ≡ false)
 did_by w image true true is = absurd (cc)
 did_by w image true false is = (refl, refl)
@@ -64,27 +65,33 @@ tests t guest is None same at =
 tests t guest is (Some entry) same at =
     let fits : IsAsked t entry = subst (MayBeAsked t) same is.asked_fits in (fits.idle, fits.fits)
 
-late : (plan : Plan) (s : Stage) → WorldAgrees plan s → (guest quiet : ℕ) → IsRefusal s.world guest quiet
+-- the epoch in force is that of the journal
+pub epoch_is : (plan : Plan) (modules : List Module) (s : Stage) → WorldAgrees plan modules s → epoch_in_force s.world.tables ≡ s.state.epoch
+epoch_is plan modules s agrees =
+    omega (arith, force_epoch s.world.tables agrees.world.tables, agrees.tables.first, agrees.tables.epoch)
+
+late : (plan : Plan) (modules : List Module) (s : Stage) → WorldAgrees plan modules s → (guest quiet : ℕ) → IsRefusal s.world guest quiet
     → IsTooOld plan s.state guest quiet
-late plan s agrees guest quiet refusal =
+late plan modules s agrees guest quiet refusal =
     let w : World = s.world in
-    let of = agrees.guests guest quiet refusal.published in
+    let epoch = epoch_is plan modules s agrees in
+    let of = agrees.guests.quiets guest quiet refusal.published in
     let under = tests w.tables guest agrees.world.tables w.tables.asked refl refusal.tests in
     let force : epoch_in_force w.tables + 1 ≡ next_epoch w.tables =
     force_is w.tables agrees.world.tables (omega (arith, under.0)) in
     let since : IsQuietSince w.tables guest of.r quiet =
     subst (QuietFits w.tables guest of.r) refusal.published (agrees.world.running guest of.r of.there).quiet in
     record {
-      left = omega (arith, force, under.1, agrees.epoch);
+      left = omega (arith, force, under.1, epoch);
       known = of.known;
       least = of.least;
-      most = omega (arith, since.published, agrees.epoch);
-      late = omega (arith, refusal.late, force, agrees.epoch, agrees.versions);
+      most = omega (arith, since.published, epoch);
+      late = omega (arith, refusal.late, force, epoch, agrees.tables.versions);
     }
 
 pub tell : AgreeingTell
-tell = λ plan s agrees. record {
-  begins = λ image happens. omega (arith, begins s.world image agrees.world happens, agrees.epoch);
-  spent = λ image is. omega (arith, (epochs_only s.world image is).1, agrees.epoch);
-  late = λ guest quiet is. late plan s agrees guest quiet (refusal_only s.world events.Update guest quiet is).1;
+tell = λ plan modules s agrees. record {
+  begins = λ image happens. omega (arith, begins s.world image agrees.world happens, epoch_is plan modules s agrees);
+  spent = λ image is. omega (arith, (epochs_only s.world image is).1, epoch_is plan modules s agrees);
+  late = λ guest quiet is. late plan modules s agrees guest quiet (refusal_only s.world events.Update guest quiet is).1;
 }

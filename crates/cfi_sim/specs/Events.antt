@@ -1,4 +1,5 @@
 -- What each event of a schedule makes of its stage. An event is one whose turn is not `Nothing`.
+use Rattle.cfi_sim.specs.Stage.{Stage, Aim, Loading, Refreshing, with_line, dropped, IsMade, after_event}
 use Rattle.std.specs.Prelude.{◌≡◌, ◌≢◌, ◌⊎◌, ℕ, ◌≤◌, ◌<◌, List, [], ◌∷◌, ◌++◌, length, slice_get, Option, Some, None}
 use Rattle.cfi_aux.specs.declared.modules.Module.{Module}
 use Rattle.cfi_graph.specs.Direct.{DirectEdge}
@@ -14,7 +15,6 @@ use Rattle.cfi_plan.specs.declared.journal.JournalLine.TheVariants as lines
 use Rattle.cfi_plan.specs.declared.plan.Plan.{Plan}
 use Rattle.cfi_policy.specs.Image.{IsImage}
 use Rattle.cfi_sim.specs.declared.limits.TheConstants.{NOT_LOADED}
-use Rattle.cfi_sim.specs.Stage.{Stage, Aim, Loading, Refreshing, with_line, dropped, made_by, after_event}
 use Rattle.cfi_valid.specs.Joining.{HasNoFault}
 use Rattle.cfi_valid.specs.Journal.{JournalState, LineLeads}
 use Rattle.cfi_valid.specs.Loaded.{LoadedModule, placed_modules, fills_between}
@@ -85,15 +85,15 @@ pub record IsGuestEvent (plan : Plan) (guest : ℕ) (old new : Stage) : Type 0 w
 -- ---- an event of the updater
 
 -- what it means for the journal, by the phase before it
-abbrev pub noted : Phase → Turned → Stage → Stage
-noted phase (VersionsSpent guest quiet) s = dropped s.aim guest quiet s
-noted phases.Epoch answer s = made_by s.aim s
-noted phase answer s = s
+abbrev pub IsNoted : Plan → List Module → Phase → Turned → (old new : Stage) → Type 0
+IsNoted plan modules phase (VersionsSpent guest quiet) old new = new ≡ dropped old.aim guest quiet old
+IsNoted plan modules phases.Epoch answer old new = IsMade plan modules old.aim old new
+IsNoted plan modules phase answer old new = new ≡ old
 
-pub record IsUpdateEvent (old new : Stage) : Type 0 where
+pub record IsUpdateEvent (plan : Plan) (modules : List Module) (old new : Stage) : Type 0 where
   pub busy : phase_of old.world.tables ≢ phases.Idle
   pub is : (let turn = turn_of old.world events.Update in
-      new ≡ noted (phase_of old.world.tables) turn.answer (after_event turn.world old))
+      IsNoted plan modules (phase_of old.world.tables) turn.answer (after_event turn.world old) new)
 
 -- ---- an update that begins
 
@@ -133,7 +133,7 @@ pub record IsBegunLoad (plan : Plan) (modules : List Module) (number : ℕ) (old
   pub image : Image
   pub of_all : (let all = placed_modules old.state.loaded ++ clean.placed ∷ [] in
       IsImage (DirectEdge all) all plan.code_words image)
-  pub begins : IsBeginning (Loading number clean.placed) (lines.LoadEpochs number) (Some image) old new
+  pub begins : IsBeginning (Loading number) (lines.LoadEpochs number) (Some image) old new
 
 abbrev pub IsLoadEvent : Plan → List Module → (number : ℕ) → (old new : Stage) → Type 0
 IsLoadEvent plan modules number old new =

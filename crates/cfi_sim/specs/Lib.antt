@@ -7,3 +7,5 @@ pub mod Valid
 pub mod Example
 pub mod Reach
 pub mod Agrees
+pub mod Stands
+pub mod Told

@@ -1,7 +1,9 @@
 -- A schedule event by event, and what the world has to tell at each event for the journal to be one of a run.
-use Rattle.std.specs.Prelude.{◌≡◌, ℕ, ◌<◌, List, Option}
+use Rattle.std.specs.Prelude.{◌≡◌, ℕ, ◌<◌, List, Option, All}
 use Rattle.cfi_aux.specs.declared.modules.Module.{Module}
+use Rattle.cfi_aux.specs.Sound.{IsSoundModule}
 use Rattle.cfi_plan.specs.declared.plan.Plan.{Plan}
+use Rattle.cfi_plan.specs.Plan.{IsPlan}
 use Rattle.cfi_sim.specs.Events.{IsGuestEvent, IsUpdateEvent, IsRefreshEvent, IsLoadEvent, IsReleaseEvent}
 use Rattle.cfi_sim.specs.Schedule.{Repeats, ScheduleMakes}
 use Rattle.cfi_sim.specs.Stage.{Stage}
@@ -23,7 +25,7 @@ pub data Happening : Type 0 where
 
 abbrev pub Happens : Plan → List Module → (old new : Stage) → Happening → Type 0
 Happens plan modules old new (OfGuest guest) = IsGuestEvent plan guest old new
-Happens plan modules old new OfUpdate = IsUpdateEvent old new
+Happens plan modules old new OfUpdate = IsUpdateEvent plan modules old new
 Happens plan modules old new (OfLoad number) = IsLoadEvent plan modules number old new
 Happens plan modules old new OfRefresh = IsRefreshEvent old new
 Happens plan modules old new (OfRelease guest) = IsReleaseEvent guest old new
@@ -52,8 +54,8 @@ pub record WorldTells (plan : Plan) (s : Stage) : Type 0 where
   pub late : (guest quiet : ℕ) → (turn_of s.world events.Update).answer ≡ VersionsSpent guest quiet
       → IsTooOld plan s.state guest quiet
 
--- where it does at each stage that is reached, the journal is one that a run may have
+-- the journal of a schedule is one that a run may have
 abbrev pub SchedulesJournal : Type 0
-SchedulesJournal = (plan : Plan) (modules : List Module) (schedule : List ℕ) (start end : Stage) →
-    IsStart plan modules start → ScheduleMakes plan modules schedule start end →
-    ((s : Stage) → Reaches plan modules start s → WorldTells plan s) → IsJournal plan modules end.journal end.state
+SchedulesJournal = (plan : Plan) (modules : List Module) (schedule : List ℕ) (start end : Stage) → IsPlan plan →
+    All IsSoundModule modules → IsStart plan modules start → ScheduleMakes plan modules schedule start end →
+    IsJournal plan modules end.journal end.state

@@ -17,11 +17,11 @@ Repeats Happens zero old new = new ≡ old
 Repeats Happens (suc count) old new = (mid : Stage) × Repeats Happens count old mid × Happens mid new
 
 -- events of the updater up to the first after which no update is under way; there is one
-pub record IsWhole (old new : Stage) : Type 0 where
+pub record IsWhole (plan : Plan) (modules : List Module) (old new : Stage) : Type 0 where
   pub more : ℕ
   pub before : Stage
-  pub events : Repeats IsUpdateEvent more old before
-  pub last : IsUpdateEvent before new
+  pub events : Repeats (IsUpdateEvent plan modules) more old before
+  pub last : IsUpdateEvent plan modules before new
   pub idle : IsIdle new.world
 
 -- what a line makes, a case a line
@@ -30,8 +30,8 @@ Makes plan modules Blank old new = new ≡ old
 Makes plan modules (Guest guest count) old new = Repeats (IsGuestEvent plan guest) count old new
 Makes plan modules (Load number) old new = IsLoadEvent plan modules number old new
 Makes plan modules Refresh old new = IsRefreshEvent old new
-Makes plan modules (Update count) old new = Repeats IsUpdateEvent count old new
-Makes plan modules UpdateAll old new = IsWhole old new
+Makes plan modules (Update count) old new = Repeats (IsUpdateEvent plan modules) count old new
+Makes plan modules UpdateAll old new = IsWhole plan modules old new
 Makes plan modules (Release guest) old new = IsReleaseEvent guest old new
 
 -- no limit is passed

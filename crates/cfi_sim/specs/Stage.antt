@@ -1,16 +1,18 @@
 -- How far a schedule has come: the world, what the journal says, and what the update under way is for.
-use Rattle.std.specs.Prelude.{ℕ, ◌+◌, List, [], ◌∷◌, ◌++◌, Option, Some, None}
+use Rattle.std.specs.Prelude.{◌≡◌, ℕ, ◌+◌, List, [], ◌∷◌, ◌++◌, Option, Some, None}
+use Rattle.cfi_aux.specs.declared.modules.Module.{Module}
 use Rattle.cfi_aux.specs.declared.placed.Placed.{Placed}
 use Rattle.cfi_model.specs.World.{World}
 use Rattle.cfi_plan.specs.declared.journal.Entry.{Entry}
 use Rattle.cfi_plan.specs.declared.journal.JournalLine.{JournalLine}
 use Rattle.cfi_plan.specs.declared.journal.JournalLine.TheVariants as lines
 use Rattle.cfi_plan.specs.declared.journal.Who.TheVariants.{Script}
-use Rattle.cfi_valid.specs.Journal.{JournalState, with_loaded}
+use Rattle.cfi_plan.specs.declared.plan.Plan.{Plan}
+use Rattle.cfi_valid.specs.Journal.{JournalState, IsClean, with_loaded}
 
--- the load of a module that is placed so, or a refresh
+-- the load of a module by its number, or a refresh
 pub data Aim : Type 0 where
-  Loading : (number : ℕ) → Placed → Aim
+  Loading : (number : ℕ) → Aim
   Refreshing : Aim
 
 -- the world; the journal and the state to which it leads; the aim of the update whose EPOCH store is not made yet; how
@@ -28,27 +30,31 @@ with_line line s = record s { journal = s.journal ++ record { who = Script; what
 
 -- what came of an update that was not made
 abbrev pub refusal_of : Aim → (guest quiet : ℕ) → JournalLine
-refusal_of (Loading number placed) guest quiet = lines.LoadVersions number guest quiet
+refusal_of (Loading number) guest quiet = lines.LoadVersions number guest quiet
 refusal_of Refreshing guest quiet = lines.RefreshVersions guest quiet
 
 abbrev pub dropped : Option Aim → (guest quiet : ℕ) → Stage → Stage
 dropped None guest quiet s = s
 dropped (Some aim) guest quiet s = with_line (refusal_of aim guest quiet) (record s { aim = None })
 
--- what comes of one with its EPOCH store
-abbrev pub made : Aim → Stage → Stage
-made (Loading number placed) s =
+-- what comes of one with its EPOCH store: the module is loaded as it is placed, or the epoch is the next one
+abbrev pub loaded_as : (number : ℕ) → Placed → Stage → Stage
+loaded_as number placed s =
     let epoch = s.state.epoch + 1 in
     let policy = s.state.policy + 1 in
     with_line (lines.LoadOk number epoch policy)
     (record s { state = with_loaded number epoch policy placed s.state; aim = None })
-made Refreshing s =
+
+abbrev pub refreshed : Stage → Stage
+refreshed s =
     let epoch = s.state.epoch + 1 in
     with_line (lines.RefreshOk epoch) (record s { state = record s.state { epoch = epoch }; aim = None })
 
-abbrev pub made_by : Option Aim → Stage → Stage
-made_by None s = s
-made_by (Some aim) s = made aim s
+abbrev pub IsMade : Plan → List Module → Option Aim → (old new : Stage) → Type 0
+IsMade plan modules None old new = new ≡ old
+IsMade plan modules (Some (Loading number)) old new =
+    (clean : IsClean plan modules old.state number) × (new ≡ loaded_as number clean.placed old)
+IsMade plan modules (Some Refreshing) old new = new ≡ refreshed old
 
 -- one event more, and the world after it
 abbrev pub after_event : World → Stage → Stage

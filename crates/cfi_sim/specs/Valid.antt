@@ -67,6 +67,10 @@ IsSimCause c log at number cause NoFunction = HoldsInSpan c log at (λ loaded. H
 IsSimCause c log at number cause Unlogged = (number < length c.plan.modules) × (cause ≡ NOT_LOADED)
 IsSimCause c log at number cause why = ⊥
 
+-- what a guest of a simulation has logged fits
+abbrev pub IsSimLogged : Course → List Log → Type 0
+IsSimLogged c log = FitsCauses c (λ at asked cause. IsSimCause c log at asked cause (why_of cause)) log
+
 -- the part of a guest: what the world has of it, and what a part of a run's report has to say, but that the guest may
 -- not have stopped; no try was repeated where no update was made and none is under way
 pub record IsSimulated (c : Course) (end : World) (number : ℕ) (part : GuestPart) : Type 0 where
@@ -74,7 +78,7 @@ pub record IsSimulated (c : Course) (end : World) (number : ℕ) (part : GuestPa
   pub there : slice_get end.guests number ≡ Some r
   pub entry : slice_get c.plan.guests number ≡ Some part.entry
   pub told : part ≡ part_of number part.entry r
-  pub logged : FitsCauses c (λ at asked cause. IsSimCause c part.log at asked cause (why_of cause)) part.log
+  pub logged : IsSimLogged c part.log
   pub says : IsGuestPart c part
   pub single : c.end.epoch ≡ c.plan.first → IsIdle end → says.steps.repeats ≡ 0
 

@@ -4,6 +4,7 @@ ghost use Rattle.std.specs.Prelude.{[], ◌∷◌};
 ghost use Rattle.cfi_sim.specs.Agrees.{AgreeingTell};
 ghost use Rattle.cfi_sim.specs.Example.{still};
 ghost use Rattle.cfi_sim.specs.Reach.{SchedulesReach, SchedulesJournal};
+ghost use Rattle.cfi_sim.specs.Told.{SchedulesAreValid};
 ghost use Rattle.cfi_sim.specs.Valid.{IsValidSim};
 ghost use Rattle.cfi_valid.specs.Bare.{bare_plan};
 ghost use Rattle.cfi_valid.specs.Example.{hello_module};
@@ -18,8 +19,8 @@ pub fn schedules_reach()
     ensures { SchedulesReach }
 {}
 
-/// Where the world tells at each stage that is reached of epochs and versions what the journal does, the journal of a
-/// schedule is one that a run may have.
+/// The journal of a schedule is one that a run may have: each event keeps it legal, and leaves a world that agrees with
+/// it.
 pub fn schedules_keep_journals()
     ensures { SchedulesJournal }
 {}
@@ -28,4 +29,10 @@ pub fn schedules_keep_journals()
 /// journal does.
 pub fn agreeing_worlds_tell()
     ensures { AgreeingTell }
+{}
+
+/// What is told of the end of a schedule is a valid simulation: each event leaves a guest's replay as it was, or makes
+/// it one unit longer, and what it has logged fits.
+pub fn schedules_make_valid_simulations()
+    ensures { SchedulesAreValid }
 {}

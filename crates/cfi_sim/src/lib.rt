@@ -3,8 +3,8 @@
 //! Stands on `cfi_plan` and `cfi_report`, `cfi_model`, which has the phases of an update, `cfi_text`, `cfi_word`,
 //! `cfi_place`, `cfi_verify` and `thiserror`, and for what a valid simulation is on `cfi_world` and `cfi_valid`;
 //! nothing calls it yet. Proved: a line of a schedule is read exactly, with the guests and modules that it names; a
-//! simulation is written as its one text; a schedule goes event by event, and its journal is legal where the world
-//! tells of epochs and versions what the journal does. Only tested: nothing. Open: the simulation itself.
+//! simulation is written as its one text; a schedule goes event by event, its journal is legal, and what is told of its
+//! end is a valid simulation. Only tested: nothing. Open: the simulation itself.
 #![tactic(auto)]
 
 mod fault;

@@ -26,7 +26,7 @@ either_guests k gs true x y one other = one
 either_guests k gs false x y one other = other
 
 -- an element that was not set
-set_apart : {X : Type 0} (xs : List X) (k other : ℕ) (v : X) → k ≢ other
+pub set_apart : {X : Type 0} (xs : List X) (k other : ℕ) (v : X) → k ≢ other
     → slice_get (slice_set xs k v) other ≡ slice_get xs other
 set_apart xs k other v apart = elim (cases_lt other (length xs)) [
   | inl inside ↦

@@ -106,6 +106,12 @@ same_bary fuel r = elim (rest_of fuel r) [
   | Stops ends steps ↦ ap (λ x. x.bary) ends.is
 ]
 
+pub same_tary : (fuel : ℕ) (r : Raw) → (rested fuel r).tary ≡ r.tary
+same_tary fuel r = elim (rest_of fuel r) [
+  | Goes same left ↦ ap (λ x. x.tary) same
+  | Stops ends steps ↦ ap (λ x. x.tary) ends.is
+]
+
 -- a guest that has not stopped runs
 pub going_runs : (h : History) (code : List ℕ) (retries : ℕ) (s : State) (r : Raw) → IsGuest h code retries s r
     → r.base.stop ≡ None → IsRunning h code retries s r

@@ -17,7 +17,7 @@ use Rattle.cfi_model.specs.History.{History, IsEpoch, IsFair, allows_at}
 use Rattle.cfi_model.specs.Log.{last_policy}
 use Rattle.cfi_model.specs.Raw.{Raw}
 use Rattle.cfi_model.specs.Run.{Take, Word, take_one, take_word, finish_as, finish_of}
-use Rattle.cfi_model.specs.Running.{IsRunning}
+use Rattle.cfi_model.specs.Running.{IsRunning, EndsUnit}
 use Rattle.cfi_model.specs.Service.{Reply}
 use Rattle.cfi_model.specs.Shows.{end_of, reply_in}
 use Rattle.cfi_model.specs.State.{State}
@@ -25,13 +25,16 @@ use Rattle.cfi_model.specs.Tables.{IsTables}
 use Rattle.cfi_model.specs.Words.{Tables, next_epoch, epoch_in_force, policy_in_force, word_at}
 use Rattle.cfi_model.proofs.AfterLemmas.{effect_logs, effect_unspent, begin_keeps, begin_counts}
 use Rattle.cfi_model.proofs.GrowLemmas.{no_step}
-use Rattle.cfi_model.proofs.RunningLemmas.{rests_run, goes_on, running_shows, running_steps}
+use Rattle.cfi_model.proofs.AdvanceLemmas.{Running, advance}
+use Rattle.cfi_model.proofs.EndLemmas.{effect_units}
+use Rattle.cfi_model.proofs.RunningLemmas.{rests_run, goes_on, running_is, running_shows, running_steps}
+use Rattle.cfi_model.proofs.ShownLemmas.{shows_running, shows_units}
 use Rattle.cfi_model.proofs.TableLemmas.{force_policy}
 use Rattle.cfi_model.proofs.InForceLemmas.{history_is, force_within, later_rises, epoch_within, bary_is, bary_epoch, tary_is, tary_epoch, tary_policy, index_within, code_is}
-use Rattle.cfi_world.specs.Laws.{IsStepped}
+use Rattle.cfi_world.specs.Laws.{IsBrought, IsStepped}
 use Rattle.cfi_world.specs.Seats.{Seat, rested}
 use Rattle.cfi_world.specs.Worlds.{IsServing, IsQuietSince, IsKeptSince, QuietFits, FoundFits, FitsPoint, IsSeat, IsRunningSeat}
-use Rattle.cfi_world.proofs.RestLemmas.{fuel_not, fuel_rests, going_runs, guest_rests, same_bary, same_log, shown_log, shown_stop, came}
+use Rattle.cfi_world.proofs.RestLemmas.{fuel_not, fuel_rests, going_runs, guest_rests, same_bary, same_tary, same_log, shown_log, shown_stop, came}
 use Rattle.cfi_world.proofs.VersionLemmas.{one_turn}
 
 module _ (t : Tables) (is : IsTables t) where
@@ -51,66 +54,91 @@ module _ (t : Tables) (is : IsTables t) where
       (later_rises t is (epoch - t.first) (in_force t) (epoch_within t is epoch known) (force_within t is))
 
   -- after an access the guest shows what it showed, or the policy machine's next state
-  abbrev pub Moves : (retries : ℕ) → State → Raw → (more : ℕ) → State → Type 0
-  Moves retries s r more after = ((more ≡ retries) × (after ≡ s)) ⊎ IsStepped h code retries s r more after
+  abbrev pub Moves : (given : Option Reply) → (retries : ℕ) → State → (r now : Raw) → (more : ℕ) → State → Type 0
+  Moves given retries s r now more after =
+      ((more ≡ retries) × (after ≡ s)) ⊎ IsStepped h code given retries s r now more after
 
   -- after an access the guest runs, and has logged no policy above that in force
-  pub record HasMoved (retries : ℕ) (s : State) (r : Raw) (take : Take) : Type 0 where
+  pub record HasMoved (given : Option Reply) (retries : ℕ) (s : State) (r : Raw) (take : Take) : Type 0 where
     pub more : ℕ
     pub after : State
-    pub moves : Moves retries s r more after
+    pub moves : Moves given retries s r (take_one r take) more after
     pub runs : IsRunning h code more after (take_one r take)
     pub logged : last_policy (take_one r take).base.log ≤ policy_in_force t
     pub unspent : (take_one r take).base.stop ≢ Some Fuel
     pub idle : (take_one r take).base.stop ≢ None → (take_one r take).waits ≡ None
 
-  -- an answer's policy is not above it
-  abbrev pub FitsForce : Take → Type 0
-  FitsForce take = (reply : Reply) → reply_in take ≡ Some reply → reply.cause ≡ 0 → reply.policy ≤ force
+  -- an answer is the one that is given, or a refusal, and its policy is not above the one in force
+  pub record IsBroughtAt (given : Option Reply) (reply : Reply) : Type 0 where
+    pub brings : IsBrought given reply
+    pub force : reply.cause ≡ 0 → reply.policy ≤ force
 
-  pub moved : (retries : ℕ) (s : State) (r : Raw) → IsRunning h code retries s r → last_policy r.base.log ≤ force
-      → r.base.stop ≡ None → (take : Take) → Fits h code r take → FitsForce take → HasMoved retries s r take
-  moved retries s r runs low going take fits answer =
+  abbrev pub FitsForce : (given : Option Reply) → Take → Type 0
+  FitsForce given take = (reply : Reply) → reply_in take ≡ Some reply → IsBroughtAt given reply
+
+  -- a unit that goes on has not ended
+  never_both : (retries : ℕ) (s : State) (r : Raw) (take : Take) → Running h code s retries (take_one r take)
+      → EndsUnit h code retries s r take → ⊥
+  never_both retries s r take on e =
+      let still = shows_units h code retries s (take_one r take) (shows_running h code s retries (take_one r take) on) in
+      let counts = ap (λ b. b.units) e.rests.between.base ∙ ap (λ x. x.units) e.step.is
+      ∙ effect_units e.step.unit (h.policy e.step.epoch) (allows_at h e.step.epoch) e.step.reply s in
+      omega (arith, still, counts)
+
+  pub moved : (given : Option Reply) (retries : ℕ) (s : State) (r : Raw) → IsRunning h code retries s r
+      → last_policy r.base.log ≤ force
+      → r.base.stop ≡ None → (take : Take) → Fits h code r take → FitsForce given take → HasMoved given retries s r take
+  moved given retries s r runs low going take fits answer =
       let known = history_is t is in
       let before = running_shows h code known retries s r runs in
       let s_going : s.stop ≡ None = sym (shown_stop h code retries s r before) ∙ going in
-      elim (goes_on h code known retries s r runs take fits) [
-        | inl on ↦
-            let shows = running_shows h code known retries s (take_one r take) on in
-            record {
-              more = retries;
-              after = s;
-              moves = inl (refl, refl);
-              runs = on;
-              logged = subst (λ l. last_policy l ≤ force)
-                  (shown_log h code retries s r before ∙ sym (shown_log h code retries s (take_one r take) shows)) low;
-              unspent = λ stop. fuel_not s (sym (shown_stop h code retries s (take_one r take) shows) ∙ stop) s_going;
-              idle = λ stops. absurd (stops (shown_stop h code retries s (take_one r take) shows ∙ s_going));
-            }
+      elim (advance h code s retries known r (running_is h code known retries s r runs) take fits) [
+        | inl within ↦ elim (goes_on h code known retries s r runs take fits) [
+          | inl on ↦
+              let shows = running_shows h code known retries s (take_one r take) on in
+              record {
+                more = retries;
+                after = s;
+                moves = inl (refl, refl);
+                runs = on;
+                logged = subst (λ l. last_policy l ≤ force)
+                    (shown_log h code retries s r before ∙ sym (shown_log h code retries s (take_one r take) shows)) low;
+                unspent = λ stop.
+                    fuel_not s (sym (shown_stop h code retries s (take_one r take) shows) ∙ stop) s_going;
+                idle = λ stops. absurd (stops (shown_stop h code retries s (take_one r take) shows ∙ s_going));
+              }
+          | inr e ↦ absurd (never_both retries s r take (inr within) e)
+        ]
         | inr e ↦
             let step = e.step in
             let low_s : last_policy s.log ≤ force =
             subst (λ l. last_policy l ≤ force) (shown_log h code retries s r before) low in
             let log = effect_logs step.unit (h.policy step.epoch) (allows_at h step.epoch) step.reply s force low_s
             (low_policy step.epoch step.known)
-            (λ service free. answer step.reply
-            (came (end_of r take) step.reply s step.unit service step.answered) free) in
-            let base = e.rests.between.base in
+            (λ service free. (answer step.reply
+            (came (end_of r take) step.reply s step.unit service step.answered)).force free) in
+            let base = e.between.base in
             record {
               more = retries + e.more;
-              after = e.after;
+              after = e.new;
               moves = inr (record {
                 end = end_of r take;
                 bary = refl;
                 tary = refl;
                 step = step;
+                brings = λ reply is. (answer reply is).brings;
                 least = omega arith;
+                retried = λ some. e.two (λ none. some (omega (arith, none)));
+                logged = λ some. e.logged (λ none. some (omega (arith, none)));
+                picks = e.picks;
+                fresh = λ going. (e.between.fresh going).2;
               });
-              runs = rests_run h code (retries + e.more) e.after (take_one r take) e.rests;
+              runs = rests_run h code (retries + e.more) e.new (take_one r take)
+                  (record { ready = e.ready; between = e.between; held = e.held });
               logged = subst (λ l. last_policy l ≤ force) (sym (ap (λ b. b.log) base ∙ ap (λ x. x.log) step.is)) log;
               unspent = λ stop. effect_unspent step.unit (h.policy step.epoch) (allows_at h step.epoch) step.reply s
                   step.going (sym (ap (λ x. x.stop) step.is) ∙ sym (ap (λ b. b.stop) base) ∙ stop);
-              idle = λ stops. e.rests.between.idle;
+              idle = λ stops. e.between.idle;
             }
       ]
 
@@ -176,9 +204,10 @@ module _ (t : Tables) (is : IsTables t) where
     pub running : IsRunningSeat t fuel guest s
 
   -- a seat after an event of its guest
-  pub record HasGone (fuel guest : ℕ) (s : Seat) (both : AreSeated fuel guest s) (new : Seat) : Type 0 where
+  pub record HasGone (given : Option Reply) (fuel guest : ℕ) (s : Seat) (both : AreSeated fuel guest s) (new : Seat)
+      : Type 0 where
     pub seated : AreSeated fuel guest new
-    pub moves : Moves both.running.retries both.running.shown s.guest seated.running.retries seated.running.shown
+    pub moves : Moves given both.running.retries both.running.shown s.guest new.guest seated.running.retries seated.running.shown
 
   quiet_rests : (fuel guest : ℕ) (r new : Raw) (quiet : Quiet) → QuietFits t guest r quiet → r.base.stop ≡ None
       → ((q : ℕ) → IsQuietSince t guest r q → (word : ℕ) → new.bary ≡ Some word → IsKeptSince t q word)
@@ -197,15 +226,32 @@ module _ (t : Tables) (is : IsTables t) where
   point_rests r new (Found epoch) fits other = absurd (other fits.0)
   point_rests r new Asking fits other = absurd (other (subst IsServing (sym fits.0) tt))
 
-  pub seat_moved : (fuel guest : ℕ) (s : Seat) (both : AreSeated fuel guest s) → s.guest.base.stop ≡ None
+  -- what the rest leaves of a move
+  moves_rest : (given : Option Reply) (retries : ℕ) (s : State) (r now : Raw) (fuel more : ℕ) (after : State)
+      → Moves given retries s r now more after → Moves given retries s r (rested fuel now) more after
+  moves_rest given retries s r now fuel more after (inl same) = inl same
+  moves_rest given retries s r now fuel more after (inr stepped) = inr (record {
+    end = stepped.end;
+    bary = stepped.bary;
+    tary = stepped.tary;
+    step = stepped.step;
+    brings = stepped.brings;
+    least = stepped.least;
+    retried = stepped.retried;
+    logged = stepped.logged;
+    picks = stepped.picks;
+    fresh = λ going. same_tary fuel now ∙ stepped.fresh going;
+  })
+
+  pub seat_moved : (given : Option Reply) (fuel guest : ℕ) (s : Seat) (both : AreSeated fuel guest s) → s.guest.base.stop ≡ None
       → (take : Take)
-      → Fits h code s.guest take → FitsForce take → (new : Raw) → new ≡ take_one s.guest take → new.base.steps ≤ fuel
+      → Fits h code s.guest take → FitsForce given take → (new : Raw) → new ≡ take_one s.guest take → new.base.steps ≤ fuel
       → (quiet : Quiet) → QuietFits t guest (rested fuel new) quiet
       → (point : Point) → FitsPoint t (rested fuel new) point → FoundFits quiet point
-      → HasGone fuel guest s both (record { guest = rested fuel new; point = point; quiet = quiet })
-  seat_moved fuel guest s both going take fits answer new is_new most quiet quiets point points found =
+      → HasGone given fuel guest s both (record { guest = rested fuel new; point = point; quiet = quiet })
+  seat_moved given fuel guest s both going take fits answer new is_new most quiet quiets point points found =
       let runs = going_runs h code both.running.retries both.running.shown s.guest both.running.runs going in
-      let m = moved both.running.retries both.running.shown s.guest runs both.seat.logged going take fits answer in
+      let m = moved given both.running.retries both.running.shown s.guest runs both.seat.logged going take fits answer in
       let left = fuel_rests fuel new most (subst (λ x. x.base.stop ≢ Some Fuel) (sym is_new) m.unspent)
       (subst (λ x. x.base.stop ≢ None → x.waits ≡ None) (sym is_new) m.idle) in
       record {
@@ -228,11 +274,12 @@ module _ (t : Tables) (is : IsTables t) where
             found = found;
           };
         };
-        moves = m.moves;
+        moves = moves_rest given both.running.retries both.running.shown s.guest new fuel m.more m.after
+            (subst (λ x. Moves given both.running.retries both.running.shown s.guest x m.more m.after) (sym is_new) m.moves);
       }
 
-  no_reply : (word : ℕ) → FitsForce (Word word)
-  no_reply word = λ reply came free. absurd (cc)
+  no_reply : (word : ℕ) → FitsForce None (Word word)
+  no_reply word = λ reply came. absurd (cc)
 
   module _ (fuel guest : ℕ) (s : Seat) (both : AreSeated fuel guest s) (going : s.guest.base.stop ≡ None) where
     abbrev r : Raw
@@ -245,7 +292,7 @@ module _ (t : Tables) (is : IsTables t) where
 
     -- a fetch
     pub fetched : r.waits ≡ None
-        → HasGone fuel guest s both (record s { guest = rested fuel (begin_of r (word_at t (Code (r.base.pc / 4)))) })
+        → HasGone None fuel guest s both (record s { guest = rested fuel (begin_of r (word_at t (Code (r.base.pc / 4)))) })
     fetched idle =
         let word : ℕ = word_at t (Code (r.base.pc / 4)) in
         let runs = going_runs h code both.running.retries both.running.shown r both.running.runs going in
@@ -256,7 +303,7 @@ module _ (t : Tables) (is : IsTables t) where
         let few = both.seat.steps_left going idle in
         let other : IsServing r.waits → ⊥ = λ serving. subst IsServing idle serving in
         let new : Raw = begin_of r word in
-        seat_moved fuel guest s both going (Word word) fits (no_reply word) new
+        seat_moved None fuel guest s both going (Word word) fits (no_reply word) new
         (sym (ap (λ x. take_word x r word) idle)) (omega (arith, steps, few)) s.quiet
         (quiet_rests fuel guest r new s.quiet both.running.quiet going
         (λ q since found e. since.kept found (begin_keeps r (insn_of word) found e)))
@@ -267,12 +314,12 @@ module _ (t : Tables) (is : IsTables t) where
         → Fits h code r (Word word) → (finish_as (Some wait) r word).base.steps ≡ r.base.steps
         → ((q : ℕ) → IsQuietSince t guest r q → (found : ℕ) → (finish_as (Some wait) r word).bary ≡ Some found
         → IsKeptSince t q found)
-        → HasGone fuel guest s both (record s { guest = rested fuel (finish_of r word) })
+        → HasGone None fuel guest s both (record s { guest = rested fuel (finish_of r word) })
     found_word wait no_service waits_is word fits steps keeps =
         let new : Raw = finish_of r word in
         let done : new ≡ finish_as (Some wait) r word = ap (λ x. finish_as x r word) waits_is in
         let other : IsServing r.waits → ⊥ = λ serving. no_service (subst IsServing waits_is serving) in
-        seat_moved fuel guest s both going (Word word) fits (no_reply word) new
+        seat_moved None fuel guest s both going (Word word) fits (no_reply word) new
         (done ∙ sym (ap (λ x. take_word x r word) waits_is))
         (subst (λ n. n ≤ fuel) (sym (ap (λ x. x.base.steps) done ∙ steps)) both.seat.steps_most) s.quiet
         (quiet_rests fuel guest r new s.quiet both.running.quiet going
@@ -283,14 +330,14 @@ module _ (t : Tables) (is : IsTables t) where
     same_word a b e = cc
 
     pub found_bary : (slot rd : ℕ) → r.waits ≡ Some (waits.Bary slot rd)
-        → HasGone fuel guest s both (record s { guest = rested fuel (finish_of r (word_at t (Bary slot))) })
+        → HasGone None fuel guest s both (record s { guest = rested fuel (finish_of r (word_at t (Bary slot))) })
     found_bary slot rd waits_is =
         let word : ℕ = word_at t (Bary slot) in
         found_word (waits.Bary slot rd) (λ serving. serving) waits_is word (bary_fits r slot rd waits_is) refl
         (λ q since found e. subst (IsKeptSince t q) (sym (same_word word found e)) (bary_since guest r q slot since))
 
     pub found_tary : (at rd : ℕ) → r.waits ≡ Some (waits.Tary at rd)
-        → HasGone fuel guest s both
+        → HasGone None fuel guest s both
         (record s { guest = rested fuel (finish_of r (word_at t (Tary (tary_index t.code_words at)))) })
     found_tary at rd waits_is =
         let word : ℕ = word_at t (Tary (tary_index t.code_words at)) in

@@ -28,7 +28,7 @@ use Rattle.cfi_model.specs.Words.{Tables, epoch_in_force, policy_in_force}
 use Rattle.cfi_model.proofs.InForceLemmas.{history_is, force_within}
 use Rattle.cfi_model.proofs.RunningLemmas.{running_shows}
 use Rattle.cfi_model.proofs.TableLemmas.{force_policy}
-use Rattle.cfi_world.proofs.SeatLemmas.{AreSeated, HasGone, FitsForce, seat_moved, fetched, found_bary, found_tary}
+use Rattle.cfi_world.proofs.SeatLemmas.{AreSeated, HasGone, IsBroughtAt, FitsForce, seat_moved, fetched, found_bary, found_tary}
 use Rattle.cfi_world.proofs.RestLemmas.{going_runs, same_bary}
 use Rattle.cfi_world.specs.Seats.{Seat, rested, needs_answer, serves, seat_by, seat_after}
 use Rattle.cfi_world.specs.Worlds.{IsServing, QuietFits, IsAtMost, FoundFits, FitsPoint}
@@ -87,11 +87,11 @@ never_free : TOO_MANY ≡ 0 → ⊥
 never_free e = absurd (omega arith)
 
 -- an answer is that which came
-answers : (t : Tables) (is : IsTables t) (reply : Reply) → (reply.cause ≡ 0 → reply.policy ≤ policy_in_force t)
-    → FitsForce t is (Served reply)
-answers t is reply force = λ other came free.
+answers : (t : Tables) (is : IsTables t) (given : Option Reply) (reply : Reply) → IsBroughtAt t is given reply
+    → FitsForce t is given (Served reply)
+answers t is given reply brought = λ other came.
     let same : reply ≡ other = cc in
-    subst (λ x. x.policy ≤ policy_in_force t) same (force (ap (λ x. x.cause) same ∙ free))
+    subst (IsBroughtAt t is given) same brought
 
 module _ (t : Tables) (is : IsTables t) (fuel guest : ℕ) (s : Seat) (both : AreSeated t is fuel guest s) where
   abbrev h : History
@@ -110,17 +110,17 @@ module _ (t : Tables) (is : IsTables t) (fuel guest : ℕ) (s : Seat) (both : Ar
       (running_shows h code (history_is t is) both.running.retries both.running.shown r runs) is_wait
 
   -- the service has ended with this answer
-  served : (number : ℕ) → r.base.stop ≡ None → r.waits ≡ Some (waits.Service number) → (reply : Reply)
-      → (number ≡ OPEN → FitsOpen reply r.base) → (reply.cause ≡ 0 → reply.policy ≤ policy_in_force t)
+  served : (given : Option Reply) (number : ℕ) → r.base.stop ≡ None → r.waits ≡ Some (waits.Service number)
+      → (reply : Reply) → (number ≡ OPEN → FitsOpen reply r.base) → IsBroughtAt t is given reply
       → (quiet : Quiet) → ((new : Raw) → new.bary ≡ None → QuietFits t guest new quiet)
-      → HasGone t is fuel guest s both
+      → HasGone t is given fuel guest s both
       (record { guest = rested fuel (serve_of r reply); point = Outside; quiet = quiet })
-  served number going is_wait reply fits force quiet quiets =
+  served given number going is_wait reply fits brought quiet quiets =
       let new : Raw = serve_of r reply in
-      let given : Fits h code r (Served reply) = subst (λ w. FitsReply w r reply) (sym is_wait) fits in
+      let meets : Fits h code r (Served reply) = subst (λ w. FitsReply w r reply) (sym is_wait) fits in
       let steps : new.base.steps ≡ r.base.steps = ap (λ w. (serve_as w r reply).base.steps) is_wait in
       let none : new.bary ≡ None = ap (λ w. (serve_as w r reply).bary) is_wait in
-      seat_moved t is fuel guest s both going (Served reply) given (answers t is reply force) new refl
+      seat_moved t is given fuel guest s both going (Served reply) meets (answers t is given reply brought) new refl
       (subst (λ n. n ≤ fuel) (sym steps) both.seat.steps_most) quiet
       (quiets (rested fuel new) (same_bary fuel new ∙ none)) Outside tt tt
 
@@ -172,7 +172,7 @@ module _ (t : Tables) (is : IsTables t) (fuel guest : ℕ) (s : Seat) (both : Ar
   -- the service ends, or needs an answer
   publishes : (number epoch : ℕ) → r.base.stop ≡ None → r.waits ≡ Some (waits.Service number)
       → IsAtMost s.quiet epoch → epoch ≤ epoch_in_force t → (need : Bool) → needs_answer number r ≡ need
-      → HasGone t is fuel guest s both (record {
+      → HasGone t is None fuel guest s both (record {
         guest = cond need r (rested fuel (serve_of r too_many));
         point = cond need Asking Outside;
         quiet = Published epoch;
@@ -204,12 +204,12 @@ module _ (t : Tables) (is : IsTables t) (fuel guest : ℕ) (s : Seat) (both : Ar
         moves = inl (refl, refl);
       }
   publishes number epoch going is_wait most low false needs =
-      served number going is_wait too_many (finds_many number needs) (λ free. absurd (never_free free))
-      (Published epoch) (λ new none. published_fits epoch going s.quiet both.running.quiet most low new none)
+      served None number going is_wait too_many (finds_many number needs)
+      (record { brings = refl; force = λ free. absurd (never_free free) }) (Published epoch) (λ new none. published_fits epoch going s.quiet both.running.quiet most low new none)
 
   -- an event in a service
   serves_on : (number : ℕ) → r.base.stop ≡ None → r.waits ≡ Some (waits.Service number) → (point : Point)
-      → s.point ≡ point → HasGone t is fuel guest s both (serves point t fuel number s)
+      → s.point ≡ point → HasGone t is None fuel guest s both (serves point t fuel number s)
   serves_on number going is_wait Outside is_point = record {
     seated = record {
       seat = record {
@@ -239,25 +239,26 @@ module _ (t : Tables) (is : IsTables t) (fuel guest : ℕ) (s : Seat) (both : Ar
 
   -- every event of a guest that has not stopped
   after_by : (wait : Option Wait) → r.waits ≡ wait → r.base.stop ≡ None
-      → HasGone t is fuel guest s both (seat_by wait t fuel s)
+      → HasGone t is None fuel guest s both (seat_by wait t fuel s)
   after_by None is_wait going =
       fetched t is fuel guest s both going is_wait
   after_by (Some (waits.Tary at rd)) is_wait going = found_tary t is fuel guest s both going at rd is_wait
   after_by (Some (waits.Bary slot rd)) is_wait going = found_bary t is fuel guest s both going slot rd is_wait
   after_by (Some (waits.Service number)) is_wait going = serves_on number going is_wait s.point refl
 
-  pub seat_goes : r.base.stop ≡ None → HasGone t is fuel guest s both (seat_after t fuel s)
+  pub seat_goes : r.base.stop ≡ None → HasGone t is None fuel guest s both (seat_after t fuel s)
   seat_goes going = after_by r.waits refl going
 
   -- the answer to its open
   pub answered : s.point ≡ Asking → (reply : Reply) → reply.policy ≡ policy_in_force t → reply.cause ≢ TOO_MANY
       → All LiesInData reply.fills
-      → HasGone t is fuel guest s both (record s { guest = rested fuel (serve_of r reply); point = Outside })
+      → HasGone t is (Some reply) fuel guest s both
+      (record s { guest = rested fuel (serve_of r reply); point = Outside })
   answered is_point reply policy some inside =
       let point = subst (FitsPoint t r) is_point both.seat.point in
       let going = going_by r.base.stop r.waits (waits.Service OPEN) both.seat.stopped point.0 in
       let most = is.policies_fit (in_force t) (force_within t is) in
-      served OPEN going point.0 reply
+      served (Some reply) OPEN going point.0 reply
       (λ opens_it. record {
         answer = record {
           inside = inside;
@@ -266,5 +267,5 @@ module _ (t : Tables) (is : IsTables t) (fuel guest : ℕ) (s : Seat) (both : Ar
           most = λ free. omega (arith, policy, force_policy t is, most);
         };
         exact = λ below. some;
-      }) (λ free. omega (arith, policy)) s.quiet
+      }) (record { brings = refl; force = λ free. omega (arith, policy) }) s.quiet
       (λ new none. quiet_kept s.quiet both.running.quiet going new none)

@@ -13,7 +13,7 @@ use Rattle.cfi_model.proofs.HaltLemmas.{only_checks_halt}
 use Rattle.cfi_model.proofs.InForceLemmas.{history_is}
 use Rattle.cfi_model.proofs.RunningLemmas.{running_shows, running_steps}
 use Rattle.cfi_world.specs.Checks.{IsHalted, IsPlaced}
-use Rattle.cfi_world.specs.Laws.{IsRefined}
+use Rattle.cfi_world.specs.Laws.{answer_in, IsRefined}
 use Rattle.cfi_world.specs.Premises.{MayTurn}
 use Rattle.cfi_world.specs.Turns.{turn_of}
 use Rattle.cfi_world.specs.Worlds.{IsWorld}
@@ -83,8 +83,8 @@ module _ (w : World) (is : IsWorld w) where
   halted_by : (event : Event) → MayTurn w event → (guest : ℕ) (r now : Raw)
       → slice_get (turn_of w event).world.guests guest ≡ Some now → r.base.stop ≡ None → (retries : ℕ) (s : State)
       → IsGuest (history_of w.tables) (code_in_force w.tables) retries s r
-      → IsRefined w (turn_of w event).world guest r retries s → (target : ℕ) → now.base.stop ≡ Some (Halt target)
-      → IsHalted w r s target
+      → IsRefined w (turn_of w event).world (answer_in event) guest r retries s → (target : ℕ)
+      → now.base.stop ≡ Some (Halt target) → IsHalted w r s target
   halted_by event may guest r now there going retries s runs refined target halts =
       let new : World = (turn_of w event).world in
       let same : refined.now ≡ now = some_same refined.now now (sym refined.there ∙ there) in

@@ -156,13 +156,13 @@ module _ (t : Tables) (is : IsTables t) where
     abbrev longer_by : Tables
     longer_by = record t { entries = t.entries ++ entry ∷ []; stored = 0; asked = None; tested = 0 }
 
-    abbrev begins : Tables
+    abbrev pub begins : Tables
     begins = at_store 0 longer_by
 
-    old_entry : (number : ℕ) → number < length t.entries → entry_at begins number ≡ entry_at t number
+    pub old_entry : (number : ℕ) → number < length t.entries → entry_at begins number ≡ entry_at t number
     old_entry number within = get_or_append_left t.entries (entry ∷ []) no_entry number within
 
-    new_entry : entry_at begins (length t.entries) ≡ entry
+    pub new_entry : entry_at begins (length t.entries) ≡ entry
     new_entry = get_or_push t.entries entry no_entry (length t.entries) refl
 
     pub one_more : length begins.entries ≡ length t.entries + 1
@@ -223,7 +223,7 @@ module _ (t : Tables) (is : IsTables t) where
           (subst (λ n. IsUpdate t.code_words (entry_at t n) entry) (sym here) asks.follows))
     ]
 
-    begins_most : begins.stored ≤ t.code_words
+    pub begins_most : begins.stored ≤ t.code_words
     begins_most =
         let old : List ℕ = (entry_at longer_by (before longer_by)).image.code in
         let new : List ℕ = (entry_at longer_by (newest longer_by)).image.code in

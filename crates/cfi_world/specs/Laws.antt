@@ -1,42 +1,62 @@
 -- What the events of a world make of its guests, over every list of events.
-use Rattle.std.specs.Prelude.{◌≡◌, ◌≢◌, ◌⊎◌, ℕ, ◌+◌, ◌%◌, ◌^◌, ◌≤◌, ◌<◌, List, [], ◌∷◌, slice_get, Some, None, ⊤}
+use Rattle.std.specs.Prelude.{◌≡◌, ◌≢◌, ◌⊎◌, ℕ, ◌+◌, ◌%◌, ◌^◌, ◌≤◌, ◌<◌, List, [], ◌∷◌, slice_get, Option, Some, None, ⊤}
 use Rattle.cfi_word.specs.declared.lists.Image.{Image}
 use Rattle.cfi_word.specs.Rank.{stores_of}
 use Rattle.cfi_word.specs.Table.{IsSize, Tary, Bary, slots_of}
 use Rattle.cfi_word.specs.Word.{epoch_in}
+use Rattle.cfi_word.specs.declared.services.TheConstants.{TOO_MANY}
 use Rattle.cfi_model.specs.History.{History}
 use Rattle.cfi_model.specs.InForce.{history_of, code_in_force, tary_index}
 use Rattle.cfi_model.specs.Raw.{Raw}
 use Rattle.cfi_model.specs.Running.{IsGuest}
-use Rattle.cfi_model.specs.Shows.{End, IsStep}
+use Rattle.cfi_model.specs.Log.{pick_entries}
+use Rattle.cfi_model.specs.Service.{Reply}
+use Rattle.cfi_model.specs.Shows.{End, IsStep, IsRetried}
 use Rattle.cfi_model.specs.State.{State}
 use Rattle.cfi_model.specs.Tables.{IsTables}
 use Rattle.cfi_model.specs.Words.{Tables, epoch_in_force, policy_in_force, next_epoch, word_at}
 use Rattle.cfi_model.specs.World.{World, opened_world}
 use Rattle.cfi_world.specs.Premises.{CanOpen, MayTurn}
-use Rattle.cfi_world.specs.Turns.{turn_of}
+use Rattle.cfi_world.specs.Turns.{reply_in, turn_of}
 use Rattle.cfi_world.specs.Worlds.{IsWorld}
 use Rattle.cfi_world.specs.declared.event.Event.{Event}
 use Rattle.cfi_world.specs.declared.event.Event.TheVariants as events
 
--- the policy machine has run one unit, a check under the policy of the two words that the guest kept
-pub record IsStepped (h : History) (code : List ℕ) (retries : ℕ) (s : State) (r : Raw) (more : ℕ) (after : State)
-    : Type 0 where
+-- the answer that an event gives
+abbrev pub answer_in : Event → Option Reply
+answer_in (events.Answer guest answer) = Some (reply_in answer)
+answer_in event = None
+
+-- a service ends with the answer that is given, and else has found too many opens
+abbrev pub IsBrought : (given : Option Reply) → Reply → Type 0
+IsBrought None reply = reply.cause ≡ TOO_MANY
+IsBrought (Some given) reply = reply ≡ given
+
+-- the policy machine has run one unit, a check under the policy of the two words that the guest kept, a service with
+-- the answer that was given; only a check repeats tries, where words of two epochs can be found, and it logs a pick
+pub record IsStepped (h : History) (code : List ℕ) (given : Option Reply) (retries : ℕ) (s : State) (r now : Raw)
+    (more : ℕ) (after : State) : Type 0 where
   pub end : End
   pub bary : end.bary ≡ r.bary
   pub tary : end.tary ≡ r.tary
   pub step : IsStep h code end s after
+  pub brings : (reply : Reply) → end.reply ≡ Some reply → IsBrought given reply
   pub least : retries ≤ more
+  pub retried : more ≢ retries → IsRetried h step.unit s
+  pub logged : more ≢ retries → 0 < pick_entries after.log
+  pub picks : pick_entries s.log ≤ pick_entries after.log
+  pub fresh : after.stop ≡ None → now.tary ≡ None
 
 -- a guest after an event: it shows what it showed, or the policy machine's state one unit later
-pub record IsRefined (old new : World) (guest : ℕ) (r : Raw) (retries : ℕ) (s : State) : Type 0 where
+pub record IsRefined (old new : World) (given : Option Reply) (guest : ℕ) (r : Raw) (retries : ℕ) (s : State)
+    : Type 0 where
   pub now : Raw
   pub there : slice_get new.guests guest ≡ Some now
   pub more : ℕ
   pub after : State
   pub runs : IsGuest (history_of new.tables) (code_in_force new.tables) more after now
   pub moves : ((more ≡ retries) × (after ≡ s))
-      ⊎ IsStepped (history_of old.tables) (code_in_force old.tables) retries s r more after
+      ⊎ IsStepped (history_of old.tables) (code_in_force old.tables) given retries s r now more after
 
 -- whatever a guest shows, every event refines it
 abbrev pub TurnsRefine : Type 0
@@ -44,7 +64,7 @@ TurnsRefine =
     (w : World) → IsWorld w → (event : Event) → MayTurn w event →
     (guest : ℕ) (r : Raw) → slice_get w.guests guest ≡ Some r →
     (retries : ℕ) (s : State) → IsGuest (history_of w.tables) (code_in_force w.tables) retries s r →
-    IsRefined w (turn_of w event).world guest r retries s
+    IsRefined w (turn_of w event).world (answer_in event) guest r retries s
 
 -- the event is none of the guest's, and no answer to it
 abbrev pub IsAnothers : Event → (guest : ℕ) → Type 0

@@ -50,8 +50,8 @@ abbrev pub more_code : List ℕ
 more_code = return_check 0x8e2e83
 
 -- lists of a table's length, with the rest filled up
-abbrev pub filled : (size : ℕ) → (front : List ℕ) → (fill : ℕ) → List ℕ
-filled size front fill = front ++ replicate (size - length front) fill
+abbrev pub padded : (size : ℕ) → (front : List ℕ) → (fill : ℕ) → List ℕ
+padded size front fill = front ++ replicate (size - length front) fill
 
 -- the function's first word is word 37, the place after the call word 32; slots 0 and 1 go there
 abbrev pub call_tary : List ℕ
@@ -59,17 +59,17 @@ call_tary = replicate 32 0 ++ (2 ∷ (replicate 4 0 ++ (1 ∷ [])))
 
 abbrev pub call_image : Image
 call_image = record {
-  code = filled MIN_CODE_WORDS (replicate FIRST_BASE 0 ++ call_code) 0;
-  tary = filled MIN_CODE_WORDS call_tary 0;
-  bary = filled (slots_of MIN_CODE_WORDS) (1 ∷ 2 ∷ []) FIELD_MAX;
+  code = padded MIN_CODE_WORDS (replicate FIRST_BASE 0 ++ call_code) 0;
+  tary = padded MIN_CODE_WORDS call_tary 0;
+  bary = padded (slots_of MIN_CODE_WORDS) (1 ∷ 2 ∷ []) FIELD_MAX;
 }
 
 -- the second function's first word is word 51, and slot 2 goes where slot 1 does
 abbrev pub more_image : Image
 more_image = record {
-  code = filled MIN_CODE_WORDS ((replicate FIRST_BASE 0 ++ call_code) ++ more_code) 0;
-  tary = filled MIN_CODE_WORDS (call_tary ++ (replicate 13 0 ++ (1 ∷ []))) 0;
-  bary = filled (slots_of MIN_CODE_WORDS) (1 ∷ 2 ∷ 2 ∷ []) FIELD_MAX;
+  code = padded MIN_CODE_WORDS ((replicate FIRST_BASE 0 ++ call_code) ++ more_code) 0;
+  tary = padded MIN_CODE_WORDS (call_tary ++ (replicate 13 0 ++ (1 ∷ []))) 0;
+  bary = padded (slots_of MIN_CODE_WORDS) (1 ∷ 2 ∷ 2 ∷ []) FIELD_MAX;
 }
 
 abbrev pub call_guests : List Raw

@@ -1,0 +1,252 @@
+-- What is told of the end of a schedule is a valid simulation.
+use Rattle.std.proofs.Common.{◌≡◌, ◌≢◌, ℕ, ◌+◌, List, [], slice_get, Some, refl, sym, ◌∙◌, ap, subst, arith, inl, inr}
+use Rattle.std.specs.List.{All}
+use Rattle.cfi_aux.specs.declared.modules.Module.{Module}
+use Rattle.cfi_aux.specs.Sound.{IsSoundModule}
+use Rattle.cfi_model.specs.History.{IsHistory}
+use Rattle.cfi_model.specs.Log.{pick_entries}
+use Rattle.cfi_model.specs.InForce.{in_force, history_of, code_in_force}
+use Rattle.cfi_model.specs.Raw.{Raw}
+use Rattle.cfi_model.specs.Running.{IsSpent, IsGuest}
+use Rattle.cfi_model.specs.Shows.{IsReady}
+use Rattle.cfi_model.specs.State.{State, opened}
+use Rattle.cfi_model.specs.Tables.{IsTables}
+use Rattle.cfi_model.specs.Words.{Tables, entry_at}
+use Rattle.cfi_model.proofs.InForceLemmas.{history_is, force_within}
+use Rattle.cfi_model.proofs.RunningLemmas.{running_shows}
+use Rattle.cfi_model.proofs.ShownLemmas.{shows_units}
+use Rattle.cfi_plan.specs.declared.journal.Entry.{Entry}
+use Rattle.cfi_plan.specs.declared.plan.Plan.{Plan}
+use Rattle.cfi_policy.specs.Code.{IsCodeOf}
+use Rattle.cfi_report.specs.declared.report.GuestPart.{GuestPart}
+use Rattle.cfi_sim.specs.Agrees.{WorldAgrees}
+use Rattle.cfi_sim.specs.Events.{IsIdle}
+use Rattle.cfi_sim.specs.Reach.{Happening, Happens}
+use Rattle.cfi_sim.specs.Stage.{Stage}
+use Rattle.cfi_sim.specs.Stands.{Holds}
+use Rattle.cfi_sim.specs.Told.{SchedulesAreValid}
+use Rattle.cfi_sim.specs.Valid.{part_of, IsSimulated, IsSimLogged}
+use Rattle.cfi_sim.proofs.CausesLemmas.{log_stays}
+use Rattle.cfi_sim.proofs.GuestsLemmas.{runs_after}
+use Rattle.cfi_sim.proofs.TurnLemmas.{AllRun}
+use Rattle.cfi_sim.proofs.HappensLemmas.{HasRoomFor, holds_after}
+use Rattle.cfi_sim.proofs.LinesLemmas.{lines_keep}
+use Rattle.cfi_sim.proofs.OpenedLemmas.{start_runs}
+use Rattle.cfi_sim.proofs.PartLemmas.{shown_output, replay_unspent, stop_same, HasShown, running_steps, spent_steps}
+use Rattle.cfi_sim.proofs.RunsLemmas.{HasRun}
+use Rattle.cfi_sim.proofs.StartLemmas.{start_holds}
+use Rattle.cfi_sim.proofs.ComingLemmas.{all_loaded}
+use Rattle.cfi_text.specs.Lines.{numbered_lines}
+use Rattle.cfi_unit.specs.declared.log.Log.{Log}
+use Rattle.cfi_unit.specs.declared.log.Stop.TheVariants as stops
+use Rattle.cfi_valid.specs.Course.{Course}
+use Rattle.cfi_valid.specs.Journal.{JournalState, EntriesLead}
+use Rattle.cfi_valid.specs.Loaded.{LoadedModule, placed_modules, loaded_by, start_fills}
+use Rattle.cfi_valid.specs.Replay.{Replays, shown_stop as stop_shown}
+use Rattle.cfi_valid.specs.Steps.{HasBegun, HasSteps}
+use Rattle.cfi_valid.specs.Valid.{IsGuestPart, course_of}
+use Rattle.cfi_world.specs.Updates.{is_idle}
+use Rattle.cfi_world.proofs.RestLemmas.{shown_log, shown_stop}
+use Rattle.cfi_world.proofs.StoringLemmas.{idle_is, force_newest}
+
+-- ---- each stage
+
+-- what each stage keeps
+pub record Keeps (plan : Plan) (modules : List Module) (sound : All IsSoundModule modules) (opening : JournalState)
+    (s : Stage) : Type 0 where
+  pub holds : Holds plan modules opening s
+  pub runs : AllRun plan modules sound opening s.state s.world
+
+keeps_after : (plan : Plan) (modules : List Module) (sound : All IsSoundModule modules) (opening : JournalState)
+    (old : Stage) → Keeps plan modules sound opening old → (happening : Happening) (new : Stage)
+    → Happens plan modules old new happening → HasRoomFor happening new → Keeps plan modules sound opening new
+keeps_after plan modules sound opening old kept happening new event room =
+    let holds = holds_after plan modules sound opening old kept.holds happening new event room in
+    record {
+      holds = holds;
+      runs = runs_after plan modules sound opening old kept.holds kept.runs happening new event
+          holds.agrees.world.tables;
+    }
+
+-- ---- the part of a guest
+
+module _ (plan : Plan) (modules : List Module) (journal : List Entry) (end : Stage)
+    (agrees : WorldAgrees plan modules end) (number : ℕ) (r : Raw) (here : slice_get end.world.guests number ≡ Some r)
+    (run : HasRun plan modules end.state end.world.tables number r) where
+  abbrev t : Tables
+  t = end.world.tables
+
+  abbrev code : List ℕ
+  code = code_in_force t
+
+  is : IsTables t
+  is = agrees.world.tables
+
+  pub known : IsHistory (history_of t) code
+  known = history_is t is
+
+  abbrev s : State
+  s = run.shown
+
+  abbrev c : Course
+  c = record { plan = plan; modules = modules; journal = journal; end = end.state }
+
+  abbrev part : GuestPart
+  part = part_of number run.entry r
+
+  is_code : IsCodeOf (placed_modules end.state.loaded) plan.code_words code
+  is_code =
+      let all : loaded_by (entry_at t (in_force t)).policy end.state.loaded ≡ end.state.loaded =
+      ap (λ (p : ℕ). loaded_by p end.state.loaded) (sym agrees.tables.policy)
+      ∙ all_loaded end.state.policy end.state.loaded agrees.tables.low in
+      subst (λ (ls : List LoadedModule). IsCodeOf (placed_modules ls) plan.code_words code) all
+      (agrees.tables.entries (in_force t) (omega arith)).image.1.code
+
+  -- one epoch alone
+  one_entry : end.state.epoch ≡ plan.first → IsIdle end.world → (history_of t).count + (history_of t).ahead ≡ 1
+  one_entry first idle =
+      let rests = idle_is t (ap is_idle idle) in
+      omega (arith, agrees.tables.epoch, first, force_newest t rests.stored, is.some)
+
+  pub single : (history_of t).count + (history_of t).ahead ≡ 1 → run.retries ≡ 0
+  single one = run.single (omega (arith, one, force_within t is))
+
+  -- what a guest shows, whether the fuel has stopped it or not
+  pub record IsShownAs : Type 0 where
+    pub ready : IsReady (history_of t) s
+    pub log : r.base.log ≡ s.log
+    pub out : r.base.output ≡ s.output
+    pub units : r.base.units ≡ s.units
+    pub stop : s.stop ≡ stop_shown r.base.stop
+    pub steps : HasShown (history_of t) code known run.retries s r ready run.picked plan.fuel single r.base.stop
+
+  unspent : s.stop ≢ Some stops.Fuel
+  unspent =
+      replay_unspent code end.state.loaded s.log s.units
+      (opened number run.address (start_fills end.state.loaded)) s run.replayed refl
+
+  shown_by : IsGuest (history_of t) code run.retries s r → IsShownAs
+  shown_by (inl runs) =
+      let shows = running_shows (history_of t) code known run.retries s r runs in
+      let stop = shown_stop (history_of t) code run.retries s r shows in
+      record {
+        ready = runs.rests.ready;
+        log = shown_log (history_of t) code run.retries s r shows;
+        out = shown_output (history_of t) code run.retries s r shows;
+        units = shows_units (history_of t) code run.retries s r shows;
+        stop = stop_same s.stop unspent ∙ ap stop_shown (sym stop);
+        steps = running_steps (history_of t) code known run.retries s r runs.rests.ready run.picked plan.fuel single
+            (λ spent. unspent (sym stop ∙ spent)) shows;
+      }
+  shown_by (inr over) =
+      let last : Raw = over.0 in
+      let runs = over.1 in
+      let spent : IsSpent last r = over.2 in
+      let shows = running_shows (history_of t) code known run.retries s last runs in
+      let stop = shown_stop (history_of t) code run.retries s last shows in
+      let fuel : r.base.stop ≡ Some stops.Fuel = ap (λ (x : Raw). x.base.stop) spent.is in
+      let told = spent_steps (history_of t) code known run.retries s last runs.rests.ready run.picked plan.fuel single
+      spent.going spent.idle shows in
+      let steps : r.base.steps ≡ last.base.steps = ap (λ (x : Raw). x.base.steps) spent.is in
+      record {
+        ready = runs.rests.ready;
+        log = ap (λ (x : Raw). x.base.log) spent.is ∙ shown_log (history_of t) code run.retries s last shows;
+        out = ap (λ (x : Raw). x.base.output) spent.is ∙ shown_output (history_of t) code run.retries s last shows;
+        units = ap (λ (x : Raw). x.base.units) spent.is ∙ shows_units (history_of t) code run.retries s last shows;
+        stop = sym stop ∙ spent.going ∙ ap stop_shown (sym fuel);
+        steps = record {
+          repeats = told.repeats;
+          begun = told.begun;
+          sum = steps ∙ told.sum;
+          begins = subst (λ o. HasBegun code o s told.begun) (sym fuel) told.begins;
+          unpicked = told.unpicked;
+          single_only = told.single_only;
+        };
+      }
+
+  shown : IsShownAs
+  shown = shown_by run.runs
+
+  abbrev has_steps : HasSteps plan.fuel code s part
+  has_steps = record {
+    repeats = shown.steps.repeats;
+    begun = shown.steps.begun;
+    sum = shown.steps.sum;
+    begins = shown.steps.begins;
+    unpicked = λ none meets. shown.steps.unpicked (ap pick_entries (sym shown.log) ∙ none) meets;
+    most = omega (arith, (agrees.world.seats number r here).steps_most, agrees.guests.fuel);
+    spent = λ stop. (agrees.world.running number r here).spent stop ∙ agrees.guests.fuel;
+  }
+
+  abbrev part_is : IsGuestPart c part
+  part_is = record {
+    address = run.address;
+    begins = run.begins;
+    code = code;
+    is_code = is_code;
+    last = s;
+    replay = subst
+        (λ (log : List Log). Replays code end.state.loaded log r.base.units
+        (opened number run.address (start_fills end.state.loaded)) s) (sym shown.log)
+        (subst
+        (λ (n : ℕ). Replays code end.state.loaded s.log n
+        (opened number run.address (start_fills end.state.loaded)) s) (sym shown.units) run.replayed);
+    output = sym shown.out;
+    log = sym shown.log;
+    stop = shown.stop;
+    steps = has_steps;
+  }
+
+  pub simulated : IsSimulated c end.world number part
+  simulated = record {
+    r = r;
+    there = here;
+    entry = run.named;
+    told = refl;
+    logged = subst (IsSimLogged c) (sym shown.log)
+        (log_stays plan modules [] journal run.settled end.state run.later s.log run.logged);
+    says = part_is;
+    single = λ first idle. shown.steps.single_only (one_entry first idle);
+  }
+
+-- ---- the whole
+
+entry_same : (a b : List ℕ) → Some a ≡ Some b → a ≡ b
+entry_same a b e = cc
+
+pub valid : SchedulesAreValid
+valid = λ plan modules schedule start end sim is sound starts makes told.
+    let kept = lines_keep plan modules (Keeps plan modules sound start.state)
+    (λ old keeps happening new event room. keeps_after plan modules sound start.state old keeps happening new event room)
+    (numbered_lines schedule) start end makes
+    (record {
+      holds = start_holds plan modules is sound start starts;
+      runs = start_runs plan modules is sound start starts;
+    }) in
+    record {
+      start = start;
+      starts = starts;
+      end = end;
+      makes = makes;
+      phase = told.phase;
+      journal = told.journal;
+      course = record {
+        opening = start.state;
+        opens = starts.opens;
+        leads = subst (λ (js : List Entry). EntriesLead plan modules start.state js end.state) (sym told.journal)
+            kept.holds.stands.leads;
+      };
+      epoch = told.epoch;
+      policy = told.policy;
+      lines = told.lines;
+      count = told.count;
+      guests = λ number part is_part.
+          let of = told.guests number part is_part in
+          let run = kept.runs number of.r of.there in
+          let entry = entry_same run.entry part.entry (sym run.named ∙ of.entry) in
+          subst (IsSimulated (course_of plan modules sim.report end.state) end.world number) (sym of.told)
+          (subst
+          (λ (e : List ℕ). IsSimulated (course_of plan modules sim.report end.state) end.world number
+          (part_of number e of.r)) entry
+          (simulated plan modules sim.report.journal end kept.holds.agrees number of.r of.there run));
+    }
