@@ -57,7 +57,8 @@ module _ (k : Key) (b : Books) (keeping : Keeping) (kept : AreKept k b keeping) 
       after_same k b new.journal keeping kept who (LoadAgain number b.policy) has asks
       (may, (record { loaded = is_loaded; force = refl }, refl)) refl refl refl in
       let to_new : IsAfter k (entry_of who (LoadAgain number b.policy)) b new keeping keeping =
-      subst (λ (nb : Books). IsAfter k (entry_of who (LoadAgain number b.policy)) b nb keeping keeping) (sym same) all in
+      subst (λ (nb : Books). IsAfter k (entry_of who (LoadAgain number b.policy)) b nb keeping keeping) (sym same)
+      all in
       record {
         all = subst (λ (line : JournalLine). IsAfter k (entry_of who line) b new keeping keeping)
             (sym (line_again number answer b.policy again policy)) to_new;
@@ -130,7 +131,8 @@ module _ (k : Key) (b : Books) (keeping : Keeping) (kept : AreKept k b keeping) 
     }
     says_of Memory unprepared = tt
 
-    line_is : (fault : JoinFault) → fault_line number (refusal_of fault) ≡ option_map (numbered_line number) (numbers_of fault)
+    line_is : (fault : JoinFault)
+        → fault_line number (refusal_of fault) ≡ option_map (numbered_line number) (numbers_of fault)
     line_is (Place fault) = refl
     line_is (Verify fault) = refl
     line_is Memory = refl
