@@ -4,7 +4,7 @@ ghost use Rattle.std.specs.Prelude.{◌≡◌, IfOk, IfErr};
 ghost use Rattle.cfi_plan.specs.declared.journal.JournalLine.TheVariants.{RefreshOk};
 ghost use Rattle.cfi_plan.specs.declared.journal.Who.TheVariants.{Script};
 ghost use Rattle.cfi_valid.specs.Script.{Refresh};
-ghost use Rattle.cfi_loader.specs.Results.{entry_of, refused_refresh};
+ghost use Rattle.cfi_loader.specs.Results.{asked_by, refused_refresh};
 ghost use Rattle.cfi_loader.specs.Told.{HasTold, MayAskFor};
 ghost use Rattle.cfi_loader.specs.inner.Books.{IsAfter, AreKept, ledger_of};
 ghost use Rattle.cfi_loader.specs.inner.Journal.{HasLine, HasRoomFor};
@@ -39,9 +39,9 @@ fn refresh<N: TableName>(
     requires kept { AreKept N.key books.old keeper.old }
     requires due { MayAskFor (ledger_of books.old keeper.old) Script Refresh }
     ensures ok { IfOk result (λ epoch.
-        IsAfter N.key (entry_of who (RefreshOk epoch)) books.old books.new keeper.old keeper.new) }
+        IsAfter N.key (asked_by who (RefreshOk epoch)) books.old books.new keeper.old keeper.new) }
     ensures fault { IfErr result (λ fault.
-        IsAfter N.key (entry_of who (refused_refresh fault)) books.old books.new keeper.old keeper.new) }
+        IsAfter N.key (asked_by who (refused_refresh fault)) books.old books.new keeper.old keeper.new) }
     ensures same { (books.new.plan ≡ books.old.plan) × (books.new.modules ≡ books.old.modules) }
 {
     match keeper.update(tables, &books.image, books.policy, REFRESH_MARK) {
@@ -67,9 +67,9 @@ impl<N: LoaderName> Loader<N> {
         requires script { who ≡ Script }
         requires due { MayAskFor self.old Script Refresh }
         ensures ok { IfOk result (λ epoch.
-            HasTold N.key (entry_of who (RefreshOk epoch)) self.old self.new) }
+            HasTold N.key (asked_by who (RefreshOk epoch)) self.old self.new) }
         ensures fault { IfErr result (λ fault.
-            HasTold N.key (entry_of who (refused_refresh fault)) self.old self.new) }
+            HasTold N.key (asked_by who (refused_refresh fault)) self.old self.new) }
     {
         refresh(&mut self.keeper, &mut self.books, tables, who)
     }
