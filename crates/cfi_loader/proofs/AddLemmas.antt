@@ -27,7 +27,7 @@ use Rattle.cfi_loader.specs.declared.books.Books.{Books}
 use Rattle.cfi_loader.specs.declared.fault.LoadFault.TheVariants as loads
 use Rattle.cfi_loader.specs.declared.loaded.Loaded.{Loaded}
 use Rattle.cfi_loader.specs.Marks.{mark_by}
-use Rattle.cfi_loader.specs.Results.{entry_of, numbered_line, fault_line, IsAddressOf, SaysOf, RefusesBy}
+use Rattle.cfi_loader.specs.Results.{asked_by, numbered_line, fault_line, IsAddressOf, SaysOf, RefusesBy}
 use Rattle.cfi_loader.specs.Told.{MayAskFor}
 use Rattle.cfi_loader.specs.inner.Books.{course_in, ledger_of, loaded_in, AreKept, IsAfter}
 use Rattle.cfi_loader.specs.inner.Journal.{Minutes, HasLine}
@@ -45,21 +45,22 @@ module _ (k : Key) (b : Books) (keeping : Keeping) (kept : AreKept k b keeping) 
     (asks : MayAskFor (ledger_of b keeping) who (Load number)) where
   -- ---- a module that is loaded
 
-  pub again_answers : (new : Books) (at : ℕ) → HasLine (entry_of who (LoadAgain number b.policy)) b.journal new.journal
+  pub again_answers : (new : Books) (at : ℕ) → HasLine (asked_by who (LoadAgain number b.policy)) b.journal new.journal
       → new ≡ record b { journal = new.journal } → IsListed b.roster number at → (answer : Loaded)
       → answer.again ≡ true → answer.epoch ≡ b.epoch → answer.policy ≡ b.policy → (p : Placed)
       → IsFirstGlobal (get_or b.roster.placed at p) answer.address → LoadsTo k who number answer b new keeping keeping
   again_answers new at has same listed answer again epoch policy p first =
       let may = may_ask (ledger_of b keeping) who (Load number) (LoadAgain number b.policy) asks refl in
       let is_loaded = listed_loaded b.roster kept.roster_is.many number at listed p in
-      let all : IsAfter k (entry_of who (LoadAgain number b.policy)) b (record b { journal = new.journal }) keeping
+      let all : IsAfter k (asked_by who (LoadAgain number b.policy)) b (record b { journal = new.journal }) keeping
       keeping =
       after_same k b new.journal keeping kept who (LoadAgain number b.policy) has asks
       (may, (record { loaded = is_loaded; force = refl }, refl)) refl refl refl in
-      let to_new : IsAfter k (entry_of who (LoadAgain number b.policy)) b new keeping keeping =
-      subst (λ (nb : Books). IsAfter k (entry_of who (LoadAgain number b.policy)) b nb keeping keeping) (sym same) all in
+      let to_new : IsAfter k (asked_by who (LoadAgain number b.policy)) b new keeping keeping =
+      subst (λ (nb : Books). IsAfter k (asked_by who (LoadAgain number b.policy)) b nb keeping keeping) (sym same)
+      all in
       record {
-        all = subst (λ (line : JournalLine). IsAfter k (entry_of who line) b new keeping keeping)
+        all = subst (λ (line : JournalLine). IsAfter k (asked_by who line) b new keeping keeping)
             (sym (line_again number answer b.policy again policy)) to_new;
         epoch_is = epoch ∙ ap (λ (nb : Books). nb.epoch) (sym same);
         policy_is = policy ∙ ap (λ (nb : Books). nb.policy) (sym same);
@@ -69,7 +70,7 @@ module _ (k : Key) (b : Books) (keeping : Keeping) (kept : AreKept k b keeping) 
 
   -- ---- a full loader
 
-  pub full_refuses : (new : Books) → HasLine (entry_of who (LoadFull number)) b.journal new.journal
+  pub full_refuses : (new : Books) → HasLine (asked_by who (LoadFull number)) b.journal new.journal
       → new ≡ record b { journal = new.journal } → IsFull b.modules (loaded_in b) number
       → Refuses k who number loads.ModulesFull b new keeping keeping
   full_refuses new has same full =
@@ -105,8 +106,8 @@ module _ (k : Key) (b : Books) (keeping : Keeping) (kept : AreKept k b keeping) 
     }
 
     after_numbers : (fault : JoinFault) (told : FaultNumbers) → IsUnprepared b number fault
-        → numbers_of fault ≡ Some told → HasLine (entry_of who (numbered_line number told)) b.journal new.journal
-        → IsAfter k (entry_of who (numbered_line number told)) b (record b { journal = new.journal }) keeping keeping
+        → numbers_of fault ≡ Some told → HasLine (asked_by who (numbered_line number told)) b.journal new.journal
+        → IsAfter k (asked_by who (numbered_line number told)) b (record b { journal = new.journal }) keeping keeping
     after_numbers fault (numbers.Place kind) unprepared is has =
         let may = may_ask (ledger_of b keeping) who (Load number) (LoadPlace number kind) asks refl in
         after_same k b new.journal keeping kept who (LoadPlace number kind) has asks
@@ -130,14 +131,15 @@ module _ (k : Key) (b : Books) (keeping : Keeping) (kept : AreKept k b keeping) 
     }
     says_of Memory unprepared = tt
 
-    line_is : (fault : JoinFault) → fault_line number (refusal_of fault) ≡ option_map (numbered_line number) (numbers_of fault)
+    line_is : (fault : JoinFault)
+        → fault_line number (refusal_of fault) ≡ option_map (numbered_line number) (numbers_of fault)
     line_is (Place fault) = refl
     line_is (Verify fault) = refl
     line_is Memory = refl
 
     -- the line tells its numbers
     pub told_refuses : (fault : JoinFault) (told : FaultNumbers) → IsUnprepared b number fault
-        → numbers_of fault ≡ Some told → HasLine (entry_of who (numbered_line number told)) b.journal new.journal
+        → numbers_of fault ≡ Some told → HasLine (asked_by who (numbered_line number told)) b.journal new.journal
         → new ≡ record b { journal = new.journal } → Refuses k who number (refusal_of fault) b new keeping keeping
     told_refuses fault told unprepared is has same =
         let all = after_numbers fault told unprepared is has in
@@ -171,14 +173,14 @@ module _ (k : Key) (b : Books) (keeping : Keeping) (kept : AreKept k b keeping) 
     force : mid.policy ≡ b.policy
     force = ap (λ (m : Books). m.policy) lent
 
-    lines_there : (line : JournalLine) → HasLine (entry_of who line) mid.journal new.journal
-        → HasLine (entry_of who line) b.journal new.journal
+    lines_there : (line : JournalLine) → HasLine (asked_by who line) mid.journal new.journal
+        → HasLine (asked_by who line) b.journal new.journal
     lines_there line has =
-        subst (λ (j : Minutes). HasLine (entry_of who line) j new.journal) (ap (λ (m : Books). m.journal) lent) has
+        subst (λ (j : Minutes). HasLine (asked_by who line) j new.journal) (ap (λ (m : Books). m.journal) lent) has
 
     -- its update was made
     pub made_answers : (image : Image) → IsImageOfRoster roster image → (epoch : ℕ) → epoch ≡ epoch_after k keeping
-        → b.epoch < MAX_EPOCH → HasLine (entry_of who (LoadOk number epoch (mid.policy + 1))) mid.journal new.journal
+        → b.epoch < MAX_EPOCH → HasLine (asked_by who (LoadOk number epoch (mid.policy + 1))) mid.journal new.journal
         → new ≡ record mid {
           journal = new.journal;
           roster = roster;
@@ -209,13 +211,13 @@ module _ (k : Key) (b : Books) (keeping : Keeping) (kept : AreKept k b keeping) 
         let grown_is : after ≡ grown_by (entry_by (b.policy + 1) image (mark_by who (Load number))) after.quiets keeping =
         grown ∙ ap (λ (n : ℕ). grown_by (entry_by (n + 1) image (mark_by who (Load number))) after.quiets keeping) force in
         let line : JournalLine = LoadOk number epoch (b.policy + 1) in
-        let has_there : HasLine (entry_of who line) b.journal new.journal =
-        subst (λ (n : ℕ). HasLine (entry_of who (LoadOk number epoch (n + 1))) b.journal new.journal) force
+        let has_there : HasLine (asked_by who line) b.journal new.journal =
+        subst (λ (n : ℕ). HasLine (asked_by who (LoadOk number epoch (n + 1))) b.journal new.journal) force
         (lines_there (LoadOk number epoch (mid.policy + 1)) has) in
         let all = load_made k b keeping kept number roster prepared absent image of after.quiets who epoch new.journal epoch_is left
         has_there asks in
-        let with_after : IsAfter k (entry_of who line) b there keeping after =
-        subst (IsAfter k (entry_of who line) b there keeping) (sym grown_is) all in
+        let with_after : IsAfter k (asked_by who line) b there keeping after =
+        subst (IsAfter k (asked_by who line) b there keeping) (sym grown_is) all in
         let policy_is : answer.policy ≡ b.policy + 1 = policy_of ∙ ap (λ (n : ℕ). n + 1) force in
         let last_line : ModuleLine =
         line_by number (planned_name b.plan.modules number) (b.policy + 1) prepared.joined.one in
@@ -237,7 +239,7 @@ module _ (k : Key) (b : Books) (keeping : Keeping) (kept : AreKept k b keeping) 
         ap (λ (ls : List ModuleLine). length ls) lines_are
         ∙ omega (arith, long, length-append b.roster.lines (last_line ∷ [])) in
         subst (λ (nb : Books). LoadsTo k who number answer b nb keeping after) (sym new_is) (record {
-          all = subst (λ (l : JournalLine). IsAfter k (entry_of who l) b there keeping after)
+          all = subst (λ (l : JournalLine). IsAfter k (asked_by who l) b there keeping after)
               (sym (line_new number answer epoch (b.policy + 1) again epoch_of policy_is)) with_after;
           epoch_is = epoch_of;
           policy_is = policy_is;
@@ -248,7 +250,7 @@ module _ (k : Key) (b : Books) (keeping : Keeping) (kept : AreKept k b keeping) 
     -- or it was refused
     pub unmade_refuses : (fault : UpdateFault) → IsRight k keeping fault
         → FaultIs k (mark_by who (Load number)) keeping after fault
-        → HasLine (entry_of who (update_line number fault)) mid.journal new.journal
+        → HasLine (asked_by who (update_line number fault)) mid.journal new.journal
         → new ≡ record mid { journal = new.journal; roster = without_last roster }
         → Refuses k who number (refusal_by fault) b new keeping after
     unmade_refuses fault right is has same =

@@ -87,9 +87,11 @@ out_other : (out : List Bool) (guest other : ℕ) (b : Bool) (n : ℕ)
     → ((one : ℕ) → is_out out one ≡ true → one < n) → (b ≡ true → guest < n)
     → is_out (slice_set out guest b) other ≡ true → other < n
 out_other out guest other b n before here there = ⊎_elim
-    (λ (less : other < guest). before other (sym (get_or-set_other out guest other b false (λ same. omega (arith, same, less))) ∙ there))
+    (λ (less : other < guest). before other
+    (sym (get_or-set_other out guest other b false (λ same. omega (arith, same, less))) ∙ there))
     (λ (more : guest ≤ other). ⊎_elim
-    (λ (greater : guest < other). before other (sym (get_or-set_other out guest other b false (λ same. omega (arith, same, greater))) ∙ there))
+    (λ (greater : guest < other). before other
+    (sym (get_or-set_other out guest other b false (λ same. omega (arith, same, greater))) ∙ there))
     (λ (least : other ≤ guest).
     let same : guest ≡ other = omega (arith, more, least) in
     ⊎_elim
@@ -99,7 +101,9 @@ out_other out guest other b n before here there = ⊎_elim
     ∙ ap (λ (k : ℕ). get_or (slice_set out guest b) k false) same ∙ there in
     omega (arith, same, here is))
     (λ (past : length out ≤ guest).
-    absurd (false≢true (sym (get_or_past (slice_set out guest b) other false (omega (arith, past, same, length-set out guest b))) ∙ there)))
+    let none = get_or_past (slice_set out guest b) other false
+    (omega (arith, past, same, length-set out guest b)) in
+    absurd (false≢true (sym none ∙ there)))
     (cases_lt guest (length out)))
     (cases_lt guest other))
     (cases_lt other guest)
@@ -140,7 +144,8 @@ pub out_kept : (k : Key) (b : Books) (keeping : Keeping) (guest : ℕ) → AreKe
     → guest < length b.plan.guests → AreKept k b (let_out guest keeping)
 out_kept k b keeping guest kept known =
     passes_kept k b keeping (slice_set keeping.out guest true) kept
-    (λ one there. out_other keeping.out guest one true (length b.plan.guests) kept.ledger.told.guests (λ _. known) there)
+    (λ one there.
+    out_other keeping.out guest one true (length b.plan.guests) kept.ledger.told.guests (λ _. known) there)
 
 -- what an admission leaves
 pub admission_kept : (k : Key) (plan : Plan) (modules : List Module) (b : Books) (old new : Keeping)

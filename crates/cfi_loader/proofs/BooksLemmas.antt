@@ -19,7 +19,7 @@ use Rattle.cfi_word.specs.declared.limits.TheConstants.{MAX_EPOCH}
 use Rattle.cfi_loader.specs.declared.books.Books.{Books}
 use Rattle.cfi_loader.specs.Ledger.{HavePolicies, TellsOf, IsEntryOf}
 use Rattle.cfi_loader.specs.Marks.{mark_of, is_made, spent_in}
-use Rattle.cfi_loader.specs.Results.{entry_of}
+use Rattle.cfi_loader.specs.Results.{asked_by}
 use Rattle.cfi_loader.specs.Told.{GoesOnBy, MayAskFor, HasTold, KeepsAfter}
 use Rattle.cfi_loader.specs.inner.Books.{course_in, end_of, ledger_of, IsRosterOf, AreKept, IsAfter}
 use Rattle.cfi_loader.specs.inner.Journal.{Minutes, HasLine}
@@ -29,10 +29,10 @@ use Rattle.cfi_loader.proofs.PolicyLemmas.{policies_same}
 use Rattle.cfi_loader.proofs.TellLemmas.{tells_same, tells_refused, tells_grown, last_more}
 
 module _ (k : Key) (b : Books) (j : Minutes) (keeping : Keeping) (kept : AreKept k b keeping) (who : Who)
-    (what : JournalLine) (has : HasLine (entry_of who what) b.journal j)
+    (what : JournalLine) (has : HasLine (asked_by who what) b.journal j)
     (asks : MayAskFor (ledger_of b keeping) who (call_of what)) where
   abbrev entry : Entry
-  entry = entry_of who what
+  entry = asked_by who what
 
   abbrev told_there : Books
   told_there = record b { journal = j }
@@ -125,17 +125,17 @@ module _ (k : Key) (b : Books) (j : Minutes) (keeping : Keeping) (kept : AreKept
   last = last_of keeping.entries
 
   abbrev again : TableEntry
-  again = entry_by last.policy last.image (mark_of (entry_of who (RefreshOk (b.epoch + 1))))
+  again = entry_by last.policy last.image (mark_of (asked_by who (RefreshOk (b.epoch + 1))))
 
   abbrev refreshed : Books
   refreshed = record b { journal = j; epoch = b.epoch + 1 }
 
-  pub after_refreshed : HasLine (entry_of who (RefreshOk (b.epoch + 1))) b.journal j
+  pub after_refreshed : HasLine (asked_by who (RefreshOk (b.epoch + 1))) b.journal j
       → MayAskFor (ledger_of b keeping) who (call_of (RefreshOk (b.epoch + 1)))
       → MayAsk b.plan who (RefreshOk (b.epoch + 1)) → b.epoch < MAX_EPOCH
-      → IsAfter k (entry_of who (RefreshOk (b.epoch + 1))) b refreshed keeping (grown_by again quiets keeping)
+      → IsAfter k (asked_by who (RefreshOk (b.epoch + 1))) b refreshed keeping (grown_by again quiets keeping)
   after_refreshed has asks may left =
-      let entry : Entry = entry_of who (RefreshOk (b.epoch + 1)) in
+      let entry : Entry = asked_by who (RefreshOk (b.epoch + 1)) in
       let goes : GoesOnBy entry (course_in b) (course_in refreshed) = record {
         plan_is = refl;
         modules_are = refl;

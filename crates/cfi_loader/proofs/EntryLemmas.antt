@@ -41,7 +41,8 @@ entry_stays old new plan later e is =
 
 pub entries_stay : (old new : Course) → new.plan ≡ old.plan → IsLater old.end new.end → (entries : List TableEntry)
     → All (IsEntryOf old) entries → All (IsEntryOf new) entries
-entries_stay old new plan later entries all = λ at d within. entry_stays old new plan later (get_or entries at d) (all at d within)
+entries_stay old new plan later entries all = λ at d within.
+    entry_stays old new plan later (get_or entries at d) (all at d within)
 
 -- ---- the entry of a load
 

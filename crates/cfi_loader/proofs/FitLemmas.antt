@@ -14,10 +14,10 @@ use Rattle.cfi_valid.specs.Joining.{IsFull, HasFault}
 use Rattle.cfi_valid.specs.Journal.{JournalState, LineLeads, IsTooOld}
 use Rattle.cfi_valid.specs.Loaded.{placed_modules}
 use Rattle.cfi_valid.specs.Script.{Load, call_of}
-use Rattle.cfi_loader.specs.Fitting.{Fits, ComesThrough, HasFewUpdates, HasVersion}
+use Rattle.cfi_loader.specs.Fitting.{LoadFits, ComesThrough, HasFewUpdates, HasVersion}
 
 module _ (c : Course) (number : ℕ) where
-  not_full : IsFull c.modules c.end.loaded number → Fits c number → ⊥
+  not_full : IsFull c.modules c.end.loaded number → LoadFits c number → ⊥
   not_full full fits = ⊎_elim
       (λ there. full.absent there)
       (λ clean. omega (arith, full.full, clean.absent.room))
@@ -29,7 +29,7 @@ module _ (c : Course) (number : ℕ) where
       absurd (cc)
 
   no_fault : (numbers : FaultNumbers) → HasFault c.plan.code_words c.modules c.end.loaded number numbers
-      → Fits c number → ⊥
+      → LoadFits c number → ⊥
   no_fault numbers has fits = ⊎_elim
       (λ there. has.absent.absent there)
       (λ clean.
@@ -47,15 +47,15 @@ same_number : (a b : ℕ) → Load a ≡ Load b → a ≡ b
 same_number a b same = cc
 
 pub through : (c : Course) (line : JournalLine) (number : ℕ) (new : JournalState)
-    → LineLeads c.plan c.modules c.end line new → call_of line ≡ Load number → Fits c number → ComesThrough line
+    → LineLeads c.plan c.modules c.end line new → call_of line ≡ Load number → LoadFits c number → ComesThrough line
 through c (LoadOk n epoch policy) number new leads call fits = tt
 through c (LoadAgain n policy) number new leads call fits = tt
 through c (LoadFull n) number new leads call fits =
     not_full c number (subst (IsFull c.modules c.end.loaded) (same_number n number call) leads.0) fits
 through c (LoadPlace n fault) number new leads call fits =
-    no_fault c n _ leads.0 (subst (Fits c) (sym (same_number n number call)) fits)
+    no_fault c n _ leads.0 (subst (LoadFits c) (sym (same_number n number call)) fits)
 through c (LoadVerify n fault place) number new leads call fits =
-    no_fault c n _ leads.0 (subst (Fits c) (sym (same_number n number call)) fits)
+    no_fault c n _ leads.0 (subst (LoadFits c) (sym (same_number n number call)) fits)
 through c (LoadVersions n guest quiet) number new leads call fits = tt
 through c (LoadEpochs n) number new leads call fits = tt
 through c (RefreshOk epoch) number new leads call fits = absurd (cc)

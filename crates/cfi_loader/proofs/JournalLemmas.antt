@@ -9,7 +9,7 @@ use Rattle.cfi_plan.specs.declared.journal.JournalLine.{JournalLine}
 use Rattle.cfi_plan.specs.declared.journal.Who.{Who}
 use Rattle.cfi_plan.specs.declared.journal.Who.TheVariants.{Script, Guest}
 use Rattle.cfi_valid.specs.Script.{Call, call_of, is_script, made_by_script}
-use Rattle.cfi_loader.specs.Calls.{left_after}
+use Rattle.cfi_loader.specs.Calls.{calls_after}
 use Rattle.cfi_loader.specs.Marks.{mark_of, is_made, made_marks, Spent, spent_in}
 
 -- ---- marks
@@ -78,7 +78,7 @@ IsNext (Guest number) left call = Unit {0}
 
 pub script_more : (journal : List Entry) (who : Who) (what : JournalLine) (left all : List Call)
     → IsNext who left (call_of what) → made_by_script journal ++ left ≡ all
-    → made_by_script (journal ++ record { who = who; what = what } ∷ []) ++ left_after who left ≡ all
+    → made_by_script (journal ++ record { who = who; what = what } ∷ []) ++ calls_after who left ≡ all
 script_more journal Script what left all next before =
     ap (λ (calls : List Call). calls ++ drop 1 left) (calls_append journal (record { who = Script; what = what }))
     ∙ append_assoc (made_by_script journal) (call_of what ∷ []) (drop 1 left)

@@ -13,10 +13,10 @@ use Rattle.cfi_valid.specs.Journal.{IsJournal}
 use Rattle.cfi_valid.specs.Script.{Call, call_of, made_by_script, script_calls}
 use Rattle.cfi_valid.proofs.GrowthLemmas.{along_later}
 use Rattle.cfi_valid.proofs.JournalLemmas.{along_more}
-use Rattle.cfi_loader.specs.Calls.{left_after}
+use Rattle.cfi_loader.specs.Calls.{calls_after}
 use Rattle.cfi_loader.specs.Ledger.{Ledger, IsLedger, HavePolicies, HaveEntries, TellsOf}
 use Rattle.cfi_loader.specs.Plans.{CanStart, AreTablesOf}
-use Rattle.cfi_loader.specs.Results.{entry_of}
+use Rattle.cfi_loader.specs.Results.{asked_by}
 use Rattle.cfi_loader.specs.Told.{GoesOnBy, MayAskFor, HasTold}
 use Rattle.cfi_loader.proofs.JournalLemmas.{IsNext, script_more}
 use Rattle.cfi_loader.proofs.PolicyLemmas.{entries_stay}
@@ -48,12 +48,12 @@ next_of l Script call asks = asks
 next_of l (Guest number) call asks = tt
 
 pub ledger_more : (k : Key) (plan : Plan) (modules : List Module) (who : Who) (what : JournalLine) (old new : Ledger)
-    → IsLedger k plan modules old → MayAskFor old who (call_of what) → HasTold k (entry_of who what) old new
+    → IsLedger k plan modules old → MayAskFor old who (call_of what) → HasTold k (asked_by who what) old new
     → HavePolicies old.course.plan new.course.end → TellsOf k new.course new.keeping → IsLedger k plan modules new
 ledger_more k plan modules who what old new is asks told policies tells =
-    let entry = entry_of who what in
+    let entry = asked_by who what in
     let goes = told.course in
-    let script : made_by_script (old.course.journal ++ entry ∷ []) ++ left_after who old.left
+    let script : made_by_script (old.course.journal ++ entry ∷ []) ++ calls_after who old.left
     ≡ script_calls old.course.plan.script =
     script_more old.course.journal who what old.left (script_calls old.course.plan.script)
     (next_of old who (call_of what) asks) is.script in

@@ -21,3 +21,4 @@ pub mod PlanLemmas
 pub mod AddLemmas
 pub mod EnterLemmas
 pub mod ReadLemmas
+pub mod HistoryLemmas

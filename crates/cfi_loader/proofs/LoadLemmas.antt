@@ -38,7 +38,7 @@ use Rattle.cfi_word.specs.declared.lists.Image.{Image}
 use Rattle.cfi_loader.specs.declared.books.Books.{Books}
 use Rattle.cfi_loader.specs.Ledger.{HavePolicies, TellsOf, IsEntryOf}
 use Rattle.cfi_loader.specs.Marks.{mark_of}
-use Rattle.cfi_loader.specs.Results.{entry_of}
+use Rattle.cfi_loader.specs.Results.{asked_by}
 use Rattle.cfi_loader.specs.Told.{GoesOnBy, MayAskFor, HasTold}
 use Rattle.cfi_loader.specs.inner.Books.{course_in, end_of, ledger_of, loaded_in, AreKept, IsAfter}
 use Rattle.cfi_loader.specs.inner.Journal.{Minutes, HasLine}
@@ -117,7 +117,7 @@ module _ (k : Key) (b : Books) (j : Minutes) (keeping : Keeping) (kept : AreKept
   what = LoadOk number (b.epoch + 1) (b.policy + 1)
 
   abbrev entry : Entry
-  entry = entry_of who what
+  entry = asked_by who what
 
   abbrev line : ModuleLine
   line = line_by number (planned_name b.plan.modules number) (b.policy + 1) one

@@ -22,7 +22,7 @@ use Rattle.cfi_word.specs.declared.limits.TheConstants.{MAX_EPOCH}
 use Rattle.cfi_word.specs.declared.lists.Image.{Image}
 use Rattle.cfi_loader.specs.declared.books.Books.{Books}
 use Rattle.cfi_loader.specs.Marks.{mark_by}
-use Rattle.cfi_loader.specs.Results.{entry_of}
+use Rattle.cfi_loader.specs.Results.{asked_by}
 use Rattle.cfi_loader.specs.Told.{MayAskFor}
 use Rattle.cfi_loader.specs.inner.Books.{end_of, ledger_of, AreKept, IsAfter}
 use Rattle.cfi_loader.specs.inner.Journal.{Minutes, HasLine}
@@ -106,23 +106,23 @@ module _ (k : Key) (b : Books) (keeping : Keeping) (kept : AreKept k b keeping) 
     }
 
     pub load_made : (quiets : List ℕ) (who : Who) (epoch : ℕ) (j : Minutes) → epoch ≡ epoch_after k keeping → b.epoch < MAX_EPOCH
-        → HasLine (entry_of who (LoadOk number epoch (b.policy + 1))) b.journal j
+        → HasLine (asked_by who (LoadOk number epoch (b.policy + 1))) b.journal j
         → MayAskFor (ledger_of b keeping) who (Load number)
-        → IsAfter k (entry_of who (LoadOk number epoch (b.policy + 1))) b (loaded_there_by epoch j) keeping
+        → IsAfter k (asked_by who (LoadOk number epoch (b.policy + 1))) b (loaded_there_by epoch j) keeping
         (grown_by (entry_by (b.policy + 1) image (mark_by who (Load number))) quiets keeping)
     load_made quiets who epoch j epoch_is left has asks =
         let next : b.epoch + 1 ≡ epoch = kept.ledger.told.epoch ∙ sym epoch_is in
         let grown = grown_by (entry_by (b.policy + 1) image (mark_by who (Load number))) quiets keeping in
-        let has_next : HasLine (entry_of who (LoadOk number (b.epoch + 1) (b.policy + 1))) b.journal j =
-        subst (λ (e : ℕ). HasLine (entry_of who (LoadOk number e (b.policy + 1))) b.journal j) (sym next) has in
+        let has_next : HasLine (asked_by who (LoadOk number (b.epoch + 1) (b.policy + 1))) b.journal j =
+        subst (λ (e : ℕ). HasLine (asked_by who (LoadOk number e (b.policy + 1))) b.journal j) (sym next) has in
         let may = may_ask (ledger_of b keeping) who (Load number) (LoadOk number (b.epoch + 1) (b.policy + 1)) asks
         refl in
         let all = after_load k b j keeping kept who number prepared.unplaced one image quiets has_next asks may left
         prepared.is is_sound absent.absent absent.room joins_there labels in
-        let there : IsAfter k (entry_of who (LoadOk number (b.epoch + 1) (b.policy + 1))) b
+        let there : IsAfter k (asked_by who (LoadOk number (b.epoch + 1) (b.policy + 1))) b
         (loaded_there_by (b.epoch + 1) j) keeping grown =
-        subst (λ (r : Roster). IsAfter k (entry_of who (LoadOk number (b.epoch + 1) (b.policy + 1))) b
+        subst (λ (r : Roster). IsAfter k (asked_by who (LoadOk number (b.epoch + 1) (b.policy + 1))) b
         (record b { journal = j; roster = r; image = image; epoch = b.epoch + 1; policy = b.policy + 1 }) keeping
         grown) (sym prepared.joined.is) all in
-        subst (λ (e : ℕ). IsAfter k (entry_of who (LoadOk number e (b.policy + 1))) b (loaded_there_by e j) keeping
+        subst (λ (e : ℕ). IsAfter k (asked_by who (LoadOk number e (b.policy + 1))) b (loaded_there_by e j) keeping
         grown) next there

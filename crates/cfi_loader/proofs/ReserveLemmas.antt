@@ -11,7 +11,7 @@ use Rattle.cfi_loader.specs.declared.books.Books.{Books}
 use Rattle.cfi_loader.specs.declared.fault.LoadFault.{LoadFault}
 use Rattle.cfi_loader.specs.declared.loaded.Loaded.{Loaded}
 use Rattle.cfi_loader.specs.Ledger.{Ledger, IsLedger}
-use Rattle.cfi_loader.specs.Results.{entry_of, loaded_line, IsLoadFault}
+use Rattle.cfi_loader.specs.Results.{asked_by, loaded_line, IsLoadFault}
 use Rattle.cfi_loader.specs.Told.{HasTold}
 use Rattle.cfi_loader.specs.inner.Books.{course_in, end_of, ledger_of, AreKept, IsAfter}
 use Rattle.cfi_loader.specs.inner.Journal.{Minutes}
@@ -93,7 +93,7 @@ module _ (k : Key) (b mid : Books) (keeping : Keeping) (kept : AreKept k b keepi
     pub loads_from : (who : Who) (number : ℕ) (answer : Loaded) (new : Books) (after : Keeping)
         → LoadsTo k who number answer mid new keeping after → LoadsTo k who number answer b new keeping after
     loads_from who number answer new after is = record {
-      all = after_from (entry_of who (loaded_line number answer)) new after is.all;
+      all = after_from (asked_by who (loaded_line number answer)) new after is.all;
       epoch_is = is.epoch_is;
       policy_is = is.policy_is;
       address_is = is.address_is;

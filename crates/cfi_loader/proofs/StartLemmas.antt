@@ -46,7 +46,8 @@ starts_push number (m ∷ ms) one =
     let last : one_of one.start (number + 1 + length ms) ≡ one_of one.start (number + length (m ∷ ms)) =
     ap (one_of one.start) (omega arith) in
     starts_cons m.start number (starts_from (number + 1) (ms ++ one ∷ []))
-    ∙ ap (λ (xs : List ℕ). one_of m.start number ++ xs) (rest ∙ ap (λ (xs : List ℕ). starts_from (number + 1) ms ++ xs) last)
+    ∙ ap (λ (xs : List ℕ). one_of m.start number ++ xs)
+    (rest ∙ ap (λ (xs : List ℕ). starts_from (number + 1) ms ++ xs) last)
     ∙ sym (append_assoc (one_of m.start number) (starts_from (number + 1) ms)
     (one_of one.start (number + length (m ∷ ms))))
     ∙ ap (λ (xs : List ℕ). xs ++ one_of one.start (number + length (m ∷ ms)))
@@ -150,7 +151,8 @@ module _ (plan : Plan) (modules : List Module) where
                 ∙ ap (λ (xs : List ℕ). xs ++ number ∷ []) so_far.starts
                 ∙ sym numbers;
             policies = subst (All IsStart) (sym there)
-                (All-append IsStart (loaded_in r) (l ∷ []) so_far.policies (All-cons IsStart l [] refl (All-nil IsStart)));
+                (All-append IsStart (loaded_in r) (l ∷ []) so_far.policies
+                (All-cons IsStart l [] refl (All-nil IsStart)));
             lines_are =
                 ap (λ (ls : List ModuleLine). ls ++ line ∷ []) so_far.lines_are
                 ∙ ap (λ (x : ModuleLine). map (module_line_of plan.modules) (loaded_in r) ++ x ∷ []) line_is

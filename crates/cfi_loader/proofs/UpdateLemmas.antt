@@ -18,7 +18,7 @@ use Rattle.cfi_word.specs.declared.lists.Image.{Image}
 use Rattle.cfi_loader.specs.declared.books.Books.{Books}
 use Rattle.cfi_loader.specs.Ledger.{Ledger}
 use Rattle.cfi_loader.specs.Marks.{mark_by}
-use Rattle.cfi_loader.specs.Results.{entry_of, refused_refresh}
+use Rattle.cfi_loader.specs.Results.{asked_by, refused_refresh}
 use Rattle.cfi_loader.specs.Told.{MayAskFor}
 use Rattle.cfi_loader.specs.inner.Books.{end_of, ledger_of, AreKept, IsAfter}
 use Rattle.cfi_loader.specs.inner.Journal.{Minutes, HasLine}
@@ -72,10 +72,10 @@ module _ (k : Key) (b : Books) (keeping : Keeping) (kept : AreKept k b keeping) 
     -- a refresh that the keeper has refused
     pub after_refresh_refused : (fault : UpdateFault) → IsRight k keeping fault
         → FaultIs k (mark_by Script Refresh) keeping new fault
-        → HasLine (entry_of Script (refused_refresh fault)) b.journal j → MayAskFor (ledger_of b keeping) Script Refresh
-        → IsAfter k (entry_of Script (refused_refresh fault)) b told_there keeping new
+        → HasLine (asked_by Script (refused_refresh fault)) b.journal j → MayAskFor (ledger_of b keeping) Script Refresh
+        → IsAfter k (asked_by Script (refused_refresh fault)) b told_there keeping new
     after_refresh_refused EpochsSpent right is has asks =
-        subst (IsAfter k (entry_of Script RefreshEpochs) b told_there keeping) (sym is.1)
+        subst (IsAfter k (asked_by Script RefreshEpochs) b told_there keeping) (sym is.1)
         (after_same k b j keeping kept Script RefreshEpochs has asks (tt, (none_left is.0, refl)) refl refl refl)
     after_refresh_refused (VersionsSpent guest quiet) right is has asks =
         after_refused k b j keeping kept Script (RefreshVersions guest quiet) has asks guest quiet new
@@ -84,12 +84,12 @@ module _ (k : Key) (b : Books) (keeping : Keeping) (kept : AreKept k b keeping) 
     -- a load
     pub after_load_refused : (who : Who) (number : ℕ) (fault : UpdateFault) → IsRight k keeping fault
         → FaultIs k (mark_by who (Load number)) keeping new fault
-        → HasLine (entry_of who (update_line number fault)) b.journal j
+        → HasLine (asked_by who (update_line number fault)) b.journal j
         → MayAskFor (ledger_of b keeping) who (Load number) → IsClean b.plan b.modules (end_of b) number
-        → IsAfter k (entry_of who (update_line number fault)) b told_there keeping new
+        → IsAfter k (asked_by who (update_line number fault)) b told_there keeping new
     after_load_refused who number EpochsSpent right is has asks clean =
         let may = may_ask (ledger_of b keeping) who (Load number) (LoadEpochs number) asks refl in
-        subst (IsAfter k (entry_of who (LoadEpochs number)) b told_there keeping) (sym is.1)
+        subst (IsAfter k (asked_by who (LoadEpochs number)) b told_there keeping) (sym is.1)
         (after_same k b j keeping kept who (LoadEpochs number) has asks (may, (clean, none_left is.0, refl)) refl refl
         refl)
     after_load_refused who number (VersionsSpent guest quiet) right is has asks clean =
@@ -106,11 +106,11 @@ module _ (k : Key) (b : Books) (keeping : Keeping) (kept : AreKept k b keeping) 
   refresh_follows mark = inl (record { policy = kept.ledger.told.policy; image = kept.image_is })
 
   pub refresh_made : (epoch : ℕ) (new : Books) (after : Keeping) → epoch ≡ epoch_after k keeping → b.epoch < MAX_EPOCH
-      → HasLine (entry_of Script (RefreshOk epoch)) b.journal new.journal
+      → HasLine (asked_by Script (RefreshOk epoch)) b.journal new.journal
       → new ≡ record b { journal = new.journal; epoch = epoch }
       → after ≡ grown_by (entry_by b.policy b.image (mark_by Script Refresh)) after.quiets keeping
       → MayAskFor (ledger_of b keeping) Script Refresh
-      → IsAfter k (entry_of Script (RefreshOk epoch)) b new keeping after
+      → IsAfter k (asked_by Script (RefreshOk epoch)) b new keeping after
   refresh_made epoch new after epoch_is left has same grown asks =
       let next : b.epoch + 1 ≡ epoch = kept.ledger.told.epoch ∙ sym epoch_is in
       let entries = last_of keeping.entries in
@@ -119,18 +119,18 @@ module _ (k : Key) (b : Books) (keeping : Keeping) (kept : AreKept k b keeping) 
       (sym kept.ledger.told.policy)
       ∙ ap (λ (i : Image). grown_by (entry_by b.policy i (mark_by Script Refresh)) after.quiets keeping) (sym kept.image_is)
       ∙ sym grown in
-      let has_next : HasLine (entry_of Script (RefreshOk (b.epoch + 1))) b.journal new.journal =
-      subst (λ (e : ℕ). HasLine (entry_of Script (RefreshOk e)) b.journal new.journal) (sym next) has in
+      let has_next : HasLine (asked_by Script (RefreshOk (b.epoch + 1))) b.journal new.journal =
+      subst (λ (e : ℕ). HasLine (asked_by Script (RefreshOk e)) b.journal new.journal) (sym next) has in
       let all = after_refreshed k b new.journal keeping kept Script after.quiets has_next asks tt left in
-      let there : IsAfter k (entry_of Script (RefreshOk (b.epoch + 1))) b
+      let there : IsAfter k (asked_by Script (RefreshOk (b.epoch + 1))) b
       (record b { journal = new.journal; epoch = b.epoch + 1 }) keeping after =
-      subst (IsAfter k (entry_of Script (RefreshOk (b.epoch + 1))) b
+      subst (IsAfter k (asked_by Script (RefreshOk (b.epoch + 1))) b
       (record b { journal = new.journal; epoch = b.epoch + 1 }) keeping) grown_is all in
-      let with_epoch : IsAfter k (entry_of Script (RefreshOk epoch)) b
+      let with_epoch : IsAfter k (asked_by Script (RefreshOk epoch)) b
       (record b { journal = new.journal; epoch = epoch }) keeping after =
-      subst (λ (e : ℕ). IsAfter k (entry_of Script (RefreshOk e)) b
+      subst (λ (e : ℕ). IsAfter k (asked_by Script (RefreshOk e)) b
       (record b { journal = new.journal; epoch = e }) keeping after) next there in
-      subst (λ (nb : Books). IsAfter k (entry_of Script (RefreshOk epoch)) b nb keeping after) (sym same) with_epoch
+      subst (λ (nb : Books). IsAfter k (asked_by Script (RefreshOk epoch)) b nb keeping after) (sym same) with_epoch
 
 -- ---- answers of the keeper
 

@@ -12,6 +12,6 @@ call_due (dues.Load number) = Load number
 call_due dues.Refresh = Refresh
 
 -- the calls of the script that are left after one by whoever asked
-abbrev pub left_after : Who → List Call → List Call
-left_after Script left = drop 1 left
-left_after (Guest number) left = left
+abbrev pub calls_after : Who → List Call → List Call
+calls_after Script left = drop 1 left
+calls_after (Guest number) left = left

@@ -7,8 +7,8 @@ use Rattle.cfi_valid.specs.Joining.{HasNoFault}
 use Rattle.cfi_valid.specs.Loaded.{IsLoaded}
 
 -- a load fits where its module is loaded, or has no fault behind those that are
-abbrev pub Fits : Course → (number : ℕ) → Type 0
-Fits c number =
+abbrev pub LoadFits : Course → (number : ℕ) → Type 0
+LoadFits c number =
     IsLoaded c.end.loaded number ⊎ HasNoFault c.plan.code_words c.modules c.end.loaded number
 
 -- the line tells that the module is loaded, or that no version or no epoch is left

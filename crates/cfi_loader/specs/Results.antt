@@ -23,8 +23,9 @@ use Rattle.cfi_loader.specs.declared.loaded.Loaded.{Loaded}
 use Rattle.cfi_loader.specs.Ledger.{Ledger}
 use Rattle.cfi_loader.specs.Told.{HasTold, HasStarved}
 
-abbrev pub entry_of : Who → JournalLine → Entry
-entry_of who what = record { who = who; what = what }
+-- the entry of a line, by whoever asked
+abbrev pub asked_by : Who → JournalLine → Entry
+asked_by who what = record { who = who; what = what }
 
 -- ---- a load that came through
 
@@ -38,7 +39,7 @@ loaded_line number answer =
     if answer.again then lines.LoadAgain number answer.policy else lines.LoadOk number answer.epoch answer.policy
 
 pub record HasLoaded (k : Key) (who : Who) (number : ℕ) (answer : Loaded) (old new : Ledger) : Type 0 where
-  pub told : HasTold k (entry_of who (loaded_line number answer)) old new
+  pub told : HasTold k (asked_by who (loaded_line number answer)) old new
   pub epoch_is : answer.epoch ≡ new.course.end.epoch
   pub policy_is : answer.policy ≡ new.course.end.policy
   pub address_is : IsAddressOf new.course.end.loaded number answer.address
@@ -73,7 +74,7 @@ SaysOf c number fault = ⊤
 
 pub record HasRefused (k : Key) (who : Who) (number : ℕ) (fault : LoadFault) (line : JournalLine) (old new : Ledger)
     : Type 0 where
-  pub told : HasTold k (entry_of who line) old new
+  pub told : HasTold k (asked_by who line) old new
   pub says : SaysOf old.course number fault
 
 -- with a line a refusal, and with none want of memory

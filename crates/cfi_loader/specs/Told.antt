@@ -12,7 +12,7 @@ use Rattle.cfi_valid.specs.Course.{Course}
 use Rattle.cfi_valid.specs.Journal.{EntryLeads}
 use Rattle.cfi_valid.specs.Script.{Call}
 use Rattle.cfi_word.specs.declared.lists.Image.{Image}
-use Rattle.cfi_loader.specs.Calls.{left_after}
+use Rattle.cfi_loader.specs.Calls.{calls_after}
 use Rattle.cfi_loader.specs.Ledger.{Ledger}
 use Rattle.cfi_loader.specs.Marks.{mark_of}
 
@@ -49,7 +49,7 @@ KeepsAfter k mark line old new = new ≡ old
 pub record HasTold (k : Key) (entry : Entry) (old new : Ledger) : Type 0 where
   pub course : GoesOnBy entry old.course new.course
   pub keeping : KeepsAfter k (mark_of entry) entry.what old.keeping new.keeping
-  pub left : new.left ≡ left_after entry.who old.left
+  pub left : new.left ≡ calls_after entry.who old.left
   pub starved : new.starved ≡ old.starved
 
 -- memory was missing: no line more

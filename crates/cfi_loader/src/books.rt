@@ -6,7 +6,7 @@ ghost use Rattle.cfi_plan.specs.declared.journal.Who.TheVariants.{Script};
 ghost use Rattle.cfi_aux.specs.declared.placed.Placed.{Placed as PlacedModule};
 ghost use Rattle.cfi_valid.specs.declared.limits.TheConstants.{MAX_LOADED};
 ghost use Rattle.cfi_loader.specs.Plans.{CanStart};
-ghost use Rattle.cfi_loader.specs.Results.{entry_of};
+ghost use Rattle.cfi_loader.specs.Results.{asked_by};
 ghost use Rattle.cfi_loader.specs.inner.Journal.{HasLine, HasRoomFor};
 ghost use Rattle.cfi_loader.specs.inner.Loads.{HasPrepared, IsUnprepared, IsFirstGlobal};
 ghost use Rattle.cfi_loader.specs.inner.Roster.{IsImageOfRoster};
@@ -46,7 +46,7 @@ impl Books {
     /// Adds a line to the journal, for which there is room. It takes no memory.
     pub(crate) fn tell(&mut self, who: Who, what: JournalLine)
         requires room { HasRoomFor who self.old.journal }
-        ensures line { HasLine (entry_of who what) self.old.journal self.new.journal }
+        ensures line { HasLine (asked_by who what) self.old.journal self.new.journal }
         ensures same { self.new ≡ record self.old { journal = self.new.journal } }
     {
         self.journal.tell(who, what);
@@ -134,7 +134,7 @@ impl Books {
     pub(crate) fn commit(&mut self, candidate: Candidate, who: Who, number: u32, epoch: u32)
         requires room { HasRoomFor who self.old.journal }
         requires few { self.old.policy < MAX_LOADED }
-        ensures line { HasLine (entry_of who (LoadOk number epoch (self.old.policy + 1)))
+        ensures line { HasLine (asked_by who (LoadOk number epoch (self.old.policy + 1)))
             self.old.journal self.new.journal }
         ensures same { self.new ≡ record self.old {
           journal = self.new.journal;

@@ -7,7 +7,7 @@ ghost use Rattle.cfi_series.specs.Numbers.{numbers_of};
 ghost use Rattle.cfi_tables.specs.Keeping.{Keeping};
 ghost use Rattle.cfi_tables.specs.Key.{Key};
 ghost use Rattle.cfi_valid.specs.Script.{Load};
-ghost use Rattle.cfi_loader.specs.Results.{entry_of, fault_line, numbered_line, HasLoaded, IsLoadFault};
+ghost use Rattle.cfi_loader.specs.Results.{asked_by, fault_line, numbered_line, HasLoaded, IsLoadFault};
 ghost use Rattle.cfi_loader.specs.Told.{MayAskFor};
 ghost use Rattle.cfi_loader.specs.inner.Books.{AreKept, ledger_of};
 ghost use Rattle.cfi_loader.specs.inner.Journal.{HasLine, HasRoomFor};
@@ -133,7 +133,7 @@ fn turn_down(
     fault: UpdateFault,
 ) -> LoadFault
     requires room { HasRoomFor who books.old.journal }
-    ensures line { HasLine (entry_of who (update_line number fault)) books.old.journal books.new.journal }
+    ensures line { HasLine (asked_by who (update_line number fault)) books.old.journal books.new.journal }
     ensures same { books.new ≡ record books.old {
       journal = books.new.journal;
       roster = without_last candidate.roster;
@@ -150,7 +150,7 @@ fn commit(books: &mut Books, candidate: Candidate, who: Who, number: u32, epoch:
     requires room { HasRoomFor who books.old.journal }
     requires few { books.old.policy < MAX_LOADED }
     requires some { 0 < length candidate.roster.placed }
-    ensures line { HasLine (entry_of who (LoadOk number epoch (books.old.policy + 1)))
+    ensures line { HasLine (asked_by who (LoadOk number epoch (books.old.policy + 1)))
         books.old.journal books.new.journal }
     ensures same { books.new ≡ record books.old {
       journal = books.new.journal;

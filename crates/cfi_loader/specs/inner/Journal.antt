@@ -4,7 +4,7 @@ use Rattle.cfi_plan.specs.declared.journal.Entry.{Entry}
 use Rattle.cfi_plan.specs.declared.journal.Who.{Who}
 use Rattle.cfi_plan.specs.declared.journal.Who.TheVariants.{Script, Guest}
 use Rattle.cfi_valid.specs.Script.{Call}
-use Rattle.cfi_loader.specs.Calls.{call_due, left_after}
+use Rattle.cfi_loader.specs.Calls.{call_due, calls_after}
 use Rattle.cfi_loader.specs.declared.journal.Journal.TheInside.{Inside}
 
 -- its lines, the script's calls that are left, and for how many lines beside those of the script there is room
@@ -35,4 +35,4 @@ HasRoomFor (Guest number) minutes = 0 < minutes.spare
 -- a line more
 pub record HasLine (entry : Entry) (old new : Minutes) : Type 0 where
   pub lines_are : new.lines ≡ old.lines ++ entry ∷ []
-  pub left_are : new.left ≡ left_after entry.who old.left
+  pub left_are : new.left ≡ calls_after entry.who old.left

@@ -20,7 +20,7 @@ use Rattle.cfi_loader.specs.declared.books.Books.{Books}
 use Rattle.cfi_loader.specs.declared.fault.LoadFault.{LoadFault}
 use Rattle.cfi_loader.specs.declared.fault.LoadFault.TheVariants.{Place, Verify, EpochsSpent, VersionsSpent, Memory}
 use Rattle.cfi_loader.specs.declared.loaded.Loaded.{Loaded}
-use Rattle.cfi_loader.specs.Results.{entry_of, loaded_line, IsAddressOf, IsLoadFault}
+use Rattle.cfi_loader.specs.Results.{asked_by, loaded_line, IsAddressOf, IsLoadFault}
 use Rattle.cfi_loader.specs.inner.Books.{loaded_in, ledger_of, AreKept, IsAfter}
 use Rattle.cfi_loader.specs.inner.Roster.{Roster, HasJoined}
 
@@ -84,7 +84,7 @@ pub record IsSamePlan (old new : Books) : Type 0 where
 -- a load that came through
 pub record LoadsTo (k : Key) (who : Who) (number : ℕ) (answer : Loaded) (old new : Books) (before after : Keeping)
     : Type 0 where
-  pub all : IsAfter k (entry_of who (loaded_line number answer)) old new before after
+  pub all : IsAfter k (asked_by who (loaded_line number answer)) old new before after
   pub epoch_is : answer.epoch ≡ new.epoch
   pub policy_is : answer.policy ≡ new.policy
   pub address_is : IsAddressOf (loaded_in new) number answer.address

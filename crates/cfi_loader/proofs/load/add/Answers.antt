@@ -25,7 +25,8 @@ returns-in-Err-clause-fault g c =
     let k = g.N.TableName.key in
     let keeping = c.args.keeper.now in
     subst (λ (nb : Books). AreKept k nb keeping → MayAskFor (ledger_of nb keeping) c.args.who (Load c.args.number)
-    → IsAbsent nb c.args.number → Refuses k c.args.who c.args.number c.refuse.result nb c.refuse.new.books keeping keeping)
+    → IsAbsent nb c.args.number
+    → Refuses k c.args.who c.args.number c.refuse.result nb c.refuse.new.books keeping keeping)
     c.in-Err.ensures.same (c.refuse.ensures.after k keeping) c.requires.kept c.requires.asks c.requires.absent
 
 -- the next image keeps the code
@@ -66,7 +67,8 @@ returns-in-Ok-update-clause-ok g c =
     let one = sized 0 0 0 0 0 0 in
     made_answers k b keeping kept c.args.who c.args.number c.requires.asks c.requires.absent mid c.commit.new.books
     p.lent candidate.roster p.ok c.update.new.self candidate.image p.image epoch u.ok left c.commit.ensures.line
-    c.commit.ensures.same grown c.commit.result c.commit.ensures.again c.commit.ensures.epoch c.commit.ensures.policy one
+    c.commit.ensures.same grown c.commit.result c.commit.ensures.again c.commit.ensures.epoch
+    c.commit.ensures.policy one
     (c.commit.ensures.address one)
 
 -- the keeper has refused it

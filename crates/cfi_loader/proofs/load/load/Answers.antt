@@ -43,7 +43,12 @@ returns-then-is_full-clause-fault g c =
     refuses_from k b mid keeping kept r.lines r.left r.same c.args.who c.args.number ModulesFull c.tell.new.self keeping
     (full_refuses k mid keeping mid_kept c.args.who c.args.number asks c.tell.new.self c.tell.ensures.line
     c.tell.ensures.same (record {
-      known = omega (arith, c.requires.known, mid_kept.ledger.can_start.count, ap (λ (m : Books). length m.plan.modules) r.same);
+      known = omega (
+        arith,
+        c.requires.known,
+        mid_kept.ledger.can_start.count,
+        ap (λ (m : Books). length m.plan.modules) r.same,
+      );
       absent = unlisted_absent mid.roster many c.args.number c.in_default.ensures.none;
       full = omega (arith, long, many, many_are mid.roster.lines mid.roster.placed many);
     }))

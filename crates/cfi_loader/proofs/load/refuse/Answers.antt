@@ -3,7 +3,7 @@ use Rattle.cfi_plan.specs.declared.journal.JournalLine.{JournalLine}
 use Rattle.cfi_series.specs.Numbers.{numbers_of}
 use Rattle.cfi_loader.specs.declared.books.Books.{Books}
 use Rattle.cfi_loader.specs.declared.fault.LoadFault.{LoadFault}
-use Rattle.cfi_loader.specs.Results.{entry_of}
+use Rattle.cfi_loader.specs.Results.{asked_by}
 use Rattle.cfi_loader.specs.inner.Journal.{HasLine}
 use Rattle.cfi_loader.specs.inner.Loads.{Refuses, refusal_of}
 use Rattle.cfi_loader.proofs.AddLemmas.{told_refuses, starved_refuses}
@@ -21,7 +21,7 @@ returns-clause-after c = λ k keeping kept asks absent.
           let told = from_numbers c.args.number (numbers_of fault) w.in-Some.line
           (sym c.join_line.ensures ∙ w.in-Some.is) in
           let new = w.tell.new.self in
-          let has = subst (λ (line : JournalLine). HasLine (entry_of c.args.who line) b.journal new.journal) told.2
+          let has = subst (λ (line : JournalLine). HasLine (asked_by c.args.who line) b.journal new.journal) told.2
           w.tell.ensures.line in
           subst (λ (nb : Books). Refuses k c.args.who c.args.number (refusal_of fault) b nb keeping keeping)
           (sym w.books-is)

@@ -1,7 +1,7 @@
 use Rattle.std.proofs.Common.{◌++◌, ◌∷◌, [], drop, ap, sym, ◌∙◌}
 use Rattle.cfi_plan.specs.declared.journal.Entry.{Entry}
 use Rattle.cfi_plan.specs.declared.journal.Who.{Who}
-use Rattle.cfi_loader.specs.Calls.{left_after}
+use Rattle.cfi_loader.specs.Calls.{calls_after}
 use Rattle.cfi_loader.specs.inner.Journal.{Minutes}
 use Rattle.cfi_loader.proofs.CallLemmas.{left_next}
 use Rattle.cfi_loader.proofs.journal.Journal.tell.Goals as goal
@@ -16,5 +16,5 @@ returns-in-Script c =
       left_are =
           left_next c.self.inside.calls.items c.self.inside.made
           ∙ ap (λ (m : Minutes). drop 1 m.left) c.self.view_is
-          ∙ ap (λ (w : Who). left_after w c.args.self.now.left) (sym c.in-Script.is);
+          ∙ ap (λ (w : Who). calls_after w c.args.self.now.left) (sym c.in-Script.is);
     }
