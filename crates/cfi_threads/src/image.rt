@@ -21,7 +21,7 @@ const CALL: [u32; 41] = [
 ];
 
 /// The image of these words: the call may go to address 172, and the return to the address after the call.
-pub(crate) fn call_image(alloc: Global, layout: &Layout) -> Result<Image, AllocError>
+pub fn call_image(alloc: Global, layout: &Layout) -> Result<Image, AllocError>
     ensures { IfOk result (λ image. IsClosed layout.now image × StartAll image) }
 {
     let code_words = layout.code_words() as usize;

@@ -6,7 +6,7 @@ use cfi_tables::{Keeper, TableName, Tables};
 use cfi_word::Image;
 
 /// How many of so many refreshes are made.
-pub(crate) fn refresh<N: TableName>(
+pub fn refresh<N: TableName>(
     tables: &Tables<N>,
     mut keeper: Keeper<N>,
     image: &Image,

@@ -16,7 +16,6 @@ use cfi_word::{Image, Layout};
 use rv_guest::{Guest, Log, Stop};
 use std::alloc::{AllocError, Global};
 use std::marker::Brand;
-use std::test::Fail;
 use std::thread::{Threads, join};
 
 // Where the image's load, its call and its return begin.
@@ -195,62 +194,58 @@ fn paused(
     number: u32,
     entry: u32,
     fuel: u32,
-) -> Result<Option<(Pause, u32, u32)>, Fail>
+) -> Result<Option<(Pause, u32, u32)>, AllocError>
     requires { StartsAt entry }
 {
-    let layout = Layout::new(1024)?;
+    let layout = Layout::new(1024).unwrap();
     let image = call_image(alloc, &layout)?;
     let blank = Blank::new(alloc, layout, 3, 0, &image)?;
-    let found = pause_at::<Brand>(alloc, blank, number, entry, fuel)?;
-    Ok(found)
+    pause_at::<Brand>(alloc, blank, number, entry, fuel)
 }
 
-#[test]
-fn a_guest_beside_refreshes(rt: HostRuntime) -> Result<(), Fail> {
-    let layout = Layout::new(1024)?;
-    let image = call_image(rt.alloc(), &layout)?;
-    let blank = Blank::new(rt.alloc(), layout, 16384, 0, &image)?;
-    let found = beside::<Brand, HostRuntime>(&rt, rt.alloc(), blank, image, 20, 0, 20)?;
-    assert_eq!(rt; (found.0, found.1), (20, true));
-    Ok(())
+/// Guests run to their exit beside 20 refreshes.
+pub fn a_guest_beside_refreshes<R: Threads + Sync>(
+    rt: &R,
+    alloc: Global,
+) -> Result<bool, AllocError> {
+    let layout = Layout::new(1024).unwrap();
+    let image = call_image(alloc, &layout)?;
+    let blank = Blank::new(alloc, layout, 16384, 0, &image)?;
+    let found = beside::<Brand, R>(rt, alloc, blank, image, 20, 0, 20)?;
+    Ok((found.0, found.1) == (20, true))
 }
 
-#[test]
-fn a_try_beside_refreshes_is_repeated(rt: HostRuntime) -> Result<(), Fail> {
-    let layout = Layout::new(1024)?;
-    let image = call_image(rt.alloc(), &layout)?;
-    let blank = Blank::new(rt.alloc(), layout, 16384, 0, &image)?;
-    let found = beside::<Brand, HostRuntime>(
-        &rt,
-        rt.alloc(),
-        blank,
-        image,
-        15_000,
-        100_000_000,
-        1_000,
-    )?;
-    assert_eq!(rt; found, (15_000, true, true));
-    Ok(())
+/// A guest repeats a try while an update has stored its Tary words and not yet its Bary words.
+pub fn a_try_beside_refreshes_is_repeated<R: Threads + Sync>(
+    rt: &R,
+    alloc: Global,
+) -> Result<bool, AllocError> {
+    let layout = Layout::new(1024).unwrap();
+    let image = call_image(alloc, &layout)?;
+    let blank = Blank::new(alloc, layout, 16384, 0, &image)?;
+    let found = beside::<Brand, R>(rt, alloc, blank, image, 15_000, 100_000_000, 1_000)?;
+    Ok(found == (15_000, true, true))
 }
 
-#[test]
-fn each_pause(rt: HostRuntime) -> Result<(), Fail> {
+/// Each pause comes where it is due.
+pub fn each_pause(alloc: Global) -> Result<bool, AllocError> {
     // A load at 0x40000002, one past its fuel and one with it, a return to address 0, and an exit.
-    let found = paused(rt.alloc(), 2, LOAD, 100)?;
-    assert_eq!(rt; found, Some((Pause::Align(0x40000002), 1, 6)));
-    let found = paused(rt.alloc(), 0, LOAD, 5)?;
-    assert_eq!(rt; found, Some((Pause::Fuel, 0, 5)));
-    let found = paused(rt.alloc(), 0, LOAD, 6)?;
-    assert_eq!(rt; found, Some((Pause::Fuel, 1, 6)));
-    let found = paused(rt.alloc(), 0, RETURN, 100)?;
-    assert_eq!(rt; found, Some((Pause::Halt(0), 1, 13)));
-    let found = paused(rt.alloc(), 0, MAIN, 100)?;
-    assert_eq!(rt; found, Some((Pause::Service(EXIT), 8, 26)));
-    Ok(())
+    let align = paused(alloc, 2, LOAD, 100)?;
+    let before = paused(alloc, 0, LOAD, 5)?;
+    let after = paused(alloc, 0, LOAD, 6)?;
+    let halt = paused(alloc, 0, RETURN, 100)?;
+    let exit = paused(alloc, 0, MAIN, 100)?;
+    Ok(
+        align == Some((Pause::Align(0x40000002), 1, 6))
+            && before == Some((Pause::Fuel, 0, 5))
+            && after == Some((Pause::Fuel, 1, 6))
+            && halt == Some((Pause::Halt(0), 1, 13))
+            && exit == Some((Pause::Service(EXIT), 8, 26)),
+    )
 }
 
-#[test]
-fn each_fuel(rt: HostRuntime) -> Result<(), Fail> {
+/// Fuel stops a guest before each fetch, with the units that have ended by then.
+pub fn each_fuel(alloc: Global) -> Result<bool, AllocError> {
     // The units behind the guest by its steps: the load ends with step 6, the call's check with 18, the return's
     // with 28.
     for fuel in 1..=30 {
@@ -262,8 +257,10 @@ fn each_fuel(rt: HostRuntime) -> Result<(), Fail> {
             18..=27 => 4,
             _ => fuel - 23,
         };
-        let found = paused(rt.alloc(), 0, LOAD, fuel)?;
-        assert_eq!(rt; found, Some((Pause::Fuel, units, fuel)), "{fuel}");
+        let found = paused(alloc, 0, LOAD, fuel)?;
+        if found != Some((Pause::Fuel, units, fuel)) {
+            return Ok(false);
+        }
     }
-    Ok(())
+    Ok(true)
 }

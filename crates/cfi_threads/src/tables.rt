@@ -13,7 +13,6 @@ use cfi_word::map::{BARY, TARY};
 use cfi_word::{FIELD_MAX, Image, Layout, Word, id};
 use std::alloc::{AllocError, Global};
 use std::marker::Brand;
-use std::test::Fail;
 use std::thread::{Threads, join};
 
 // The image of the instruction `j .`, whose word is 0x0000006f, and of this word behind it, which is another or 0: no
@@ -190,39 +189,42 @@ fn hindered<N: TableName>(
     Some(([first, second, third], seen, again.guest()))
 }
 
-#[test]
-fn two_guests_beside_refreshes(rt: HostRuntime) -> Result<(), Fail> {
-    let layout = Layout::new(1024)?;
-    let image = jump_image(rt.alloc(), &layout, 0)?;
-    let blank = Blank::new(rt.alloc(), layout, 16384, 0, &image)?;
-    let found = beside::<Brand, HostRuntime>(&rt, blank, image);
-    assert_eq!(rt; found, (100, true, 16));
-    Ok(())
+/// Two guests load beside 100 refreshes, and each try finds IDs of one epoch each, in order.
+pub fn two_guests_beside_refreshes<R: Threads + Sync>(
+    rt: &R,
+    alloc: Global,
+) -> Result<bool, AllocError> {
+    let layout = Layout::new(1024).unwrap();
+    let image = jump_image(alloc, &layout, 0)?;
+    let blank = Blank::new(alloc, layout, 16384, 0, &image)?;
+    let found = beside::<Brand, R>(rt, blank, image);
+    Ok(found == (100, true, 16))
 }
 
-#[test]
-fn a_guest_beside_an_update(rt: HostRuntime) -> Result<(), Fail> {
-    let layout = Layout::new(1024)?;
-    let image = jump_image(rt.alloc(), &layout, 0)?;
-    let longer = jump_image(rt.alloc(), &layout, 0x6f)?;
-    let blank = Blank::new(rt.alloc(), layout, 16384, 0, &image)?;
-    let found = added::<Brand, HostRuntime>(&rt, blank, longer);
-    assert_eq!(rt; found, (true, true, 0x6f));
-    Ok(())
+/// A guest fetches beside an update that adds an instruction.
+pub fn a_guest_beside_an_update<R: Threads + Sync>(
+    rt: &R,
+    alloc: Global,
+) -> Result<bool, AllocError> {
+    let layout = Layout::new(1024).unwrap();
+    let image = jump_image(alloc, &layout, 0)?;
+    let longer = jump_image(alloc, &layout, 0x6f)?;
+    let blank = Blank::new(alloc, layout, 16384, 0, &image)?;
+    let found = added::<Brand, R>(rt, blank, longer);
+    Ok(found == (true, true, 0x6f))
 }
 
-#[test]
-fn a_guest_without_quiescent_points(rt: HostRuntime) -> Result<(), Fail> {
+/// A guest that never passes a quiescent point hinders an update, while another goes on.
+pub fn a_guest_without_quiescent_points(alloc: Global) -> Result<bool, AllocError> {
     // Under three versions an update to epoch 2 asks each guest for a quiescent point since epoch 1.
-    let layout = Layout::new(1024)?;
-    let image = jump_image(rt.alloc(), &layout, 0)?;
-    let blank = Blank::new(rt.alloc(), layout, 3, 0, &image)?;
+    let layout = Layout::new(1024).unwrap();
+    let image = jump_image(alloc, &layout, 0)?;
+    let blank = Blank::new(alloc, layout, 3, 0, &image)?;
     let found = hindered::<Brand>(blank, &image);
     let spent = UpdateFault::VersionsSpent { guest: 1, quiet: 0 };
     let seen = Seen {
         epoch: 2,
         policy: 0,
     };
-    assert_eq!(rt; found, Some(([Ok(1), Err(spent), Ok(2)], seen, 0)));
-    Ok(())
+    Ok(found == Some(([Ok(1), Err(spent), Ok(2)], seen, 0)))
 }

@@ -2,4 +2,4 @@ use Rattle.cfi_threads.proofs.tables.a_guest_without_quiescent_points.Given as g
 
 -- the name is that of the table that was just made
 abbrev pub ghosts-hindered : goal.ghosts-hindered
-ghosts-hindered g a = record { table = a.blank.table; key = a.blank.key }
+ghosts-hindered a = record { table = a.blank.table; key = a.blank.key }
