@@ -43,6 +43,7 @@ use Rattle.rv_guest.specs.Guest.{MayLoad}
 use Rattle.cfi_runner.specs.Seen.{history_seen, code_seen, policy_seen, IsSight, SeesMore}
 use Rattle.cfi_runner.specs.Run.{AsksFor, CanRun, HasTaken, Keeps, words_of}
 use Rattle.cfi_runner.proofs.ActLemmas.{Tells, WaitsAt, act_tells}
+use Rattle.cfi_runner.proofs.PickedLemmas.{LogsTo, logs_start, logs_same, logs_begun, logs_found}
 use Rattle.cfi_runner.proofs.SeenLemmas.{sees_same, sees_trans, seen_history, code_many, policy_most, policy_later, bary_seen, tary_seen, tary_rises, code_later, start_later, word_later}
 use Rattle.cfi_runner.proofs.WordLemmas.{words_snoc, run_word, asked_append, no_replies, runs_low, shown_log}
 
@@ -107,6 +108,7 @@ pub record IsOnWay (k : Key) (p : PassView) (old : Raw) (q : PassView) (now : Ra
   pub taken : HasTaken k p q old now
   pub keeps : Keeps k p q
   pub kept : KeepsLast now (kept_of k q.sight.accesses)
+  pub logs : LogsTo (policy_seen k p.sight) old.base.log now
 
 -- and waits for nothing
 pub record IsUnderWay (k : Key) (p : PassView) (old : Raw) (q : PassView) (now : Raw) : Type 0 where
@@ -127,6 +129,7 @@ module _ (k : Key) (fuel : ℕ) (p : PassView) (old : Raw) (can : CanRun k fuel 
       };
       keeps = record { guest = refl; quiet = refl; refusals = refl; sees = sees_same k p.sight can.sight };
       kept = λ word e. absurd (none_some word (sym can.fresh.0 ∙ e));
+      logs = logs_start (policy_seen k p.sight) old can.fresh.1;
     };
     idle = can.idle;
     going = can.going;
@@ -310,6 +313,7 @@ module _ (k : Key) (fuel : ℕ) (p : PassView) (old : Raw) (can : CanRun k fuel 
                   ap (λ (s : Sight). kept_of k s.accesses) sight_is
                   ∙ (kept_snoc k q.sight.accesses (places.Code here) word place_within tt
                   ∙ u.way.kept kept (begin_keeps now (insn_of word) kept e));
+              logs = logs_begun (policy_seen k p.sight) old.base.log now u.way.logs (insn_of word);
             };
             steps = begin_counts now (insn_of word) has;
             tells = subst (λ a. Tells a (begin_of now word)) (sym act)
@@ -379,6 +383,9 @@ module _ (k : Key) (fuel : ℕ) (p : PassView) (old : Raw) (can : CanRun k fuel 
                   ap (kept_of k) load.accesses
                   ∙ (kept_snoc k q.sight.accesses (places.Bary slot) found inside tt
                   ∙ (sym (ap (λ r. r.bary) done) ∙ e));
+              logs = logs_same (policy_seen k p.sight) old.base.log now way.logs (finish_of now found)
+                  (ap (λ r. r.base.log) done)
+                  (λ word e. way.logs.next word (sym (ap (λ r. r.tary) done) ∙ e));
             };
             idle = ap (λ r. r.waits) done;
             going = ap (λ r. r.base.stop) done ∙ going;
@@ -395,11 +402,11 @@ module _ (k : Key) (fuel : ℕ) (p : PassView) (old : Raw) (can : CanRun k fuel 
         (omega (arith, load.tells.1, way.keeps.sees.is.most, long)) in
         let done : finish_of now found ≡ finish_as (Some (waits.Tary at rd)) now found =
         ap (λ w. finish_as w now found) wait in
-        let rises : last_policy now.base.log ≤ policy_in found =
-        (let up = policy_later k q.sight new.sight way.keeps.sees.is sees in
+        let up = policy_later k q.sight new.sight way.keeps.sees.is sees in
         let tary = tary_rises k new.sight sees.is index found load.word
         (omega (arith, load.tells.0, load.tells.1, load.epoch)) in
-        omega (arith, low q now way, up, tary)) in
+        let rises : last_policy now.base.log ≤ policy_in found = omega (arith, low q now way, up, tary) in
+        let before = policy_later k p.sight q.sight can.sight way.keeps.sees in
         let taken = takes_more q now way new (access_of k.code_words (places.Tary index) found) load.accesses sees
         (subst (λ w. AsksFor k.code_words w now (tary_word k.code_words index)) (sym wait) refl)
         (λ later more. subst (λ w. FitsWord (history_seen k later) (code_seen k later) w now found) (sym wait)
@@ -420,6 +427,8 @@ module _ (k : Key) (fuel : ℕ) (p : PassView) (old : Raw) (can : CanRun k fuel 
                   ap (kept_of k) load.accesses
                   ∙ (kept_snoc k q.sight.accesses (places.Tary index) found inside tt
                   ∙ way.kept word (sym (ap (λ r. r.bary) done) ∙ e));
+              logs = logs_found (policy_seen k p.sight) old.base.log now way.logs (finish_of now found) found
+                  (ap (λ r. r.base.log) done) (ap (λ r. r.tary) done) (omega (arith, before, up, tary)) rises;
             };
             idle = ap (λ r. r.waits) done;
             going = ap (λ r. r.base.stop) done ∙ going;
