@@ -1,0 +1,204 @@
+-- What a loader has agrees again after a load that was made.
+use Rattle.std.proofs.Common.{◌≡◌, ℕ, ◌+◌, ◌<◌, ◌++◌, List, [], ◌∷◌, length, map, take, Some, All, inr, refl, sym, ap, subst, ◌∙◌, arith, length-append}
+use Rattle.std.specs.List.{slice_get}
+use Rattle.std.proofs.Math.Seq.{take-length}
+use Rattle.std.proofs.lemmas.List.{map-append, take-append-le}
+use Rattle.cfi_aux.specs.Sound.{IsSoundModule}
+use Rattle.cfi_aux.specs.declared.modules.Module.{Module}
+use Rattle.cfi_aux.specs.declared.placed.Placed.{Placed}
+use Rattle.cfi_graph.specs.Direct.{DirectEdge}
+use Rattle.cfi_model.specs.Closed.{IsClosed}
+use Rattle.cfi_model.specs.declared.history.Entry.{Entry as TableEntry}
+use Rattle.cfi_model.specs.Tables.{IsTables, IsLoad, KeepsCode}
+use Rattle.cfi_plan.specs.declared.journal.Entry.{Entry}
+use Rattle.cfi_plan.specs.declared.journal.JournalLine.{JournalLine}
+use Rattle.cfi_plan.specs.declared.journal.JournalLine.TheVariants.{LoadOk}
+use Rattle.cfi_plan.specs.declared.journal.ModuleLine.{ModuleLine}
+use Rattle.cfi_plan.specs.declared.journal.Who.{Who}
+use Rattle.cfi_policy.specs.Code.{IsCodeOf}
+use Rattle.cfi_policy.specs.Image.{IsImage}
+use Rattle.cfi_series.specs.Loaded.{AreLoaded}
+use Rattle.cfi_series.specs.Order.{Joins}
+use Rattle.cfi_series.specs.Series.{IsSeries}
+use Rattle.cfi_series.proofs.GraphLemmas.{are_loaded}
+use Rattle.cfi_series.proofs.GrowthLemmas.{code_kept}
+use Rattle.cfi_series.proofs.ImageLemmas.{closed}
+use Rattle.cfi_series.proofs.OrderLemmas.{series_more}
+use Rattle.cfi_tables.specs.Keeping.{Keeping, entry_by, grown_by, last_of}
+use Rattle.cfi_tables.specs.Key.{Key}
+use Rattle.cfi_tables.specs.Views.{idle_tables}
+use Rattle.cfi_tables.proofs.KeeperLemmas.{grown_are}
+use Rattle.cfi_valid.specs.Journal.{IsClean, MayAsk, with_loaded}
+use Rattle.cfi_valid.specs.Loaded.{LoadedModule, placed_modules, loaded_by, IsLoaded, module_line_of, planned_name}
+use Rattle.cfi_valid.specs.Script.{call_of}
+use Rattle.cfi_valid.specs.declared.limits.TheConstants.{MAX_LOADED}
+use Rattle.cfi_valid.proofs.SeriesLemmas.{journal_series}
+use Rattle.cfi_word.specs.declared.limits.TheConstants.{MAX_EPOCH}
+use Rattle.cfi_word.specs.declared.lists.Image.{Image}
+use Rattle.cfi_loader.specs.declared.books.Books.{Books}
+use Rattle.cfi_loader.specs.Ledger.{HavePolicies, TellsOf, IsEntryOf}
+use Rattle.cfi_loader.specs.Marks.{mark_of}
+use Rattle.cfi_loader.specs.Results.{entry_of}
+use Rattle.cfi_loader.specs.Told.{GoesOnBy, MayAskFor, HasTold}
+use Rattle.cfi_loader.specs.inner.Books.{course_in, end_of, ledger_of, loaded_in, AreKept, IsAfter}
+use Rattle.cfi_loader.specs.inner.Journal.{Minutes, HasLine}
+use Rattle.cfi_loader.specs.inner.Roster.{Roster, line_by}
+use Rattle.cfi_loader.proofs.BooksLemmas.{last_entry, one_left}
+use Rattle.cfi_loader.proofs.EntryLemmas.{among_self, entry_of_all, loaded_all}
+use Rattle.cfi_loader.proofs.LedgerLemmas.{goes_later, ledger_more}
+use Rattle.cfi_loader.proofs.PolicyLemmas.{policies_below, policies_more}
+use Rattle.cfi_loader.proofs.RosterLemmas.{places_are, loaded_more}
+use Rattle.cfi_loader.proofs.TellLemmas.{tells_grown, last_more}
+
+-- ---- the modules that are loaded
+
+module _ (k : Key) (b : Books) (keeping : Keeping) (kept : AreKept k b keeping) where
+  pub places : placed_modules (loaded_in b) ≡ b.roster.placed
+  places = places_are b.roster.lines b.roster.placed kept.roster_is.many
+
+  sound : All IsSoundModule b.modules
+  sound = λ at d within. (kept.ledger.can_start.taken at d within).sound
+
+  pub series : IsSeries b.plan.code_words b.roster.placed
+  series =
+      subst (IsSeries b.plan.code_words) places
+      (journal_series b.plan b.modules b.journal.lines (end_of b) kept.ledger.can_start.code_words sound
+      kept.ledger.course)
+
+  -- the image in force has the code of all
+  code_in_force : IsCodeOf b.roster.placed b.plan.code_words (last_of keeping.entries).image.code
+  code_in_force =
+      let last = last_of keeping.entries in
+      let all : loaded_by last.policy (loaded_in b) ≡ loaded_in b =
+      ap (λ (n : ℕ). loaded_by n (loaded_in b)) (sym kept.ledger.told.policy)
+      ∙ loaded_all b.policy (loaded_in b) (policies_below b.plan (end_of b) kept.ledger.policies) in
+      subst (λ (ps : List Placed). IsCodeOf ps b.plan.code_words last.image.code)
+      (ap placed_modules all ∙ places) (last_entry k b keeping kept).image_is.1.code
+
+  -- a module that joins them, and the image of all
+  module _ (unplaced : Module) (one : Placed) (image : Image) (is_sound : IsSoundModule unplaced)
+      (joins : Joins b.plan.code_words b.roster.placed unplaced one)
+      (of : IsImage (DirectEdge (b.roster.placed ++ one ∷ [])) (b.roster.placed ++ one ∷ []) b.plan.code_words image)
+    where
+      abbrev all : List Placed
+      all = b.roster.placed ++ one ∷ []
+
+      pub loaded_there : AreLoaded b.plan.code_words all
+      loaded_there =
+          are_loaded b.plan.code_words all
+          (series_more b.plan.code_words b.roster.placed unplaced one series is_sound joins)
+
+      closed_there : IsClosed b.plan.code_words image
+      closed_there = closed b.plan.code_words all loaded_there all image (among_self all, of)
+
+      keeps_there : KeepsCode (last_of keeping.entries).image image
+      keeps_there = λ place there.
+          let n : ℕ = length b.roster.placed in
+          let first : take n all ≡ b.roster.placed =
+          take-append-le n b.roster.placed (one ∷ []) (omega arith) ∙ take-length b.roster.placed in
+          code_kept b.plan.code_words n all (last_of keeping.entries).image.code image.code
+          (subst (λ (ps : List Placed). IsCodeOf ps b.plan.code_words (last_of keeping.entries).image.code) (sym first)
+          code_in_force) of.code place there
+
+      pub load_follows : (mark : ℕ) → length (loaded_in b) < MAX_LOADED
+          → IsLoad k.code_words (last_of keeping.entries) (entry_by (b.policy + 1) image mark)
+      load_follows mark room = record {
+        policy = ap (λ (n : ℕ). n + 1) kept.ledger.told.policy;
+        most = omega (arith, room, kept.ledger.policies.count);
+        closed = subst (λ (n : ℕ). IsClosed n image) (sym kept.ledger.tables_are.code_words) closed_there;
+        keeps = keeps_there;
+      }
+
+-- ---- the line of a load
+
+module _ (k : Key) (b : Books) (j : Minutes) (keeping : Keeping) (kept : AreKept k b keeping) (who : Who)
+    (number : ℕ) (unplaced : Module) (one : Placed) (image : Image) where
+  abbrev what : JournalLine
+  what = LoadOk number (b.epoch + 1) (b.policy + 1)
+
+  abbrev entry : Entry
+  entry = entry_of who what
+
+  abbrev line : ModuleLine
+  line = line_by number (planned_name b.plan.modules number) (b.policy + 1) one
+
+  abbrev roster_there : Roster
+  roster_there = record b.roster { lines = b.roster.lines ++ line ∷ []; placed = b.roster.placed ++ one ∷ [] }
+
+  abbrev loaded_books : Books
+  loaded_books = record b {
+    journal = j;
+    roster = roster_there;
+    image = image;
+    epoch = b.epoch + 1;
+    policy = b.policy + 1;
+  }
+
+  abbrev new : TableEntry
+  new = entry_by (b.policy + 1) image (mark_of entry)
+
+  pub after_load : HasLine entry b.journal j → MayAskFor (ledger_of b keeping) who (call_of what)
+      → MayAsk b.plan who what → b.epoch < MAX_EPOCH → slice_get b.modules number ≡ Some unplaced
+      → IsSoundModule unplaced → ¬ IsLoaded (loaded_in b) number → length (loaded_in b) < MAX_LOADED
+      → Joins b.plan.code_words b.roster.placed unplaced one
+      → IsImage (DirectEdge (b.roster.placed ++ one ∷ [])) (b.roster.placed ++ one ∷ []) b.plan.code_words image
+      → IsAfter k entry b loaded_books keeping (grown_by new keeping)
+  after_load has asks may left is is_sound absent room joins of =
+      let all : List Placed = b.roster.placed ++ one ∷ [] in
+      let many = kept.roster_is.many in
+      let there = loaded_more b.roster.lines b.roster.placed line one many in
+      let end : end_of loaded_books ≡ with_loaded number (b.epoch + 1) (b.policy + 1) one (end_of b) =
+      ap (λ (ls : List LoadedModule). record { epoch = b.epoch + 1; policy = b.policy + 1; loaded = ls }) there in
+      let clean : IsClean b.plan b.modules (end_of b) number = record {
+        absent = record { unplaced = unplaced; is = is; absent = absent; room = room };
+        placed = one;
+        joins = subst (λ (ps : List Placed). Joins b.plan.code_words ps unplaced one)
+            (sym (places k b keeping kept)) joins;
+      } in
+      let goes : GoesOnBy entry (course_in b) (course_in loaded_books) = record {
+        plan_is = refl;
+        modules_are = refl;
+        journal_is = has.lines_are;
+        leads = (may, (record { clean = clean; goes = record { left = left; next = refl }; next = refl }, end));
+      } in
+      let told : HasTold k entry (ledger_of b keeping) (ledger_of loaded_books (grown_by new keeping)) =
+      record { course = goes; keeping = (image, refl); left = has.left_are; starved = refl } in
+      let later = goes_later entry (course_in b) (course_in loaded_books) goes in
+      let tables : IsTables (idle_tables k (grown_by new keeping)) =
+      grown_are k keeping new kept.ledger.told.tables
+      (inr (load_follows k b keeping kept unplaced one image is_sound joins of (mark_of entry) room))
+      (one_left k b keeping kept left) in
+      let policies : HavePolicies b.plan (end_of loaded_books) =
+      subst (HavePolicies b.plan) (sym end)
+      (policies_more b.plan (end_of b) kept.ledger.policies number (b.epoch + 1) (b.policy + 1) one refl room) in
+      let longer : length (b.roster.lines ++ line ∷ []) ≡ length all =
+      omega (arith, length-append b.roster.lines (line ∷ []), length-append b.roster.placed (one ∷ []), many) in
+      let places_there : placed_modules (loaded_in loaded_books) ≡ all =
+      places_are (b.roster.lines ++ line ∷ []) all longer in
+      let is_entry : IsEntryOf (course_in loaded_books) new =
+      entry_of_all (course_in loaded_books) new refl (policies_below b.plan (end_of loaded_books) policies)
+      (subst (AreLoaded b.plan.code_words) (sym places_there)
+      (loaded_there k b keeping kept unplaced one image is_sound joins of))
+      (subst (λ (ps : List Placed). IsImage (DirectEdge ps) ps b.plan.code_words image) (sym places_there) of) in
+      let tells : TellsOf k (course_in loaded_books) (grown_by new keeping) =
+      tells_grown k (course_in b) (course_in loaded_books) entry goes later keeping kept.ledger.told new tables refl
+      refl is_entry refl refl refl in
+      let one_there : LoadedModule = record { number = number; placed = one; policy = b.policy + 1 } in
+      record {
+        kept = record {
+          ledger = ledger_more k b.plan b.modules who what (ledger_of b keeping)
+              (ledger_of loaded_books (grown_by new keeping)) kept.ledger asks told policies tells;
+          roster_is = record {
+            code_words_are = kept.roster_is.code_words_are;
+            many = longer;
+            lines_are =
+                ap (λ (ls : List ModuleLine). ls ++ line ∷ []) kept.roster_is.lines_are
+                ∙ sym (ap (map (module_line_of b.plan.modules)) there
+                ∙ map-append (module_line_of b.plan.modules) (loaded_in b) (one_there ∷ []));
+          };
+          layout_is = kept.layout_is;
+          image_is = ap (λ (e : TableEntry). e.image) (sym (last_more keeping.entries new));
+          starts_are = kept.starts_are;
+        };
+        told = told;
+      }

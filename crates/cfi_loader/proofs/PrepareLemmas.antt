@@ -1,0 +1,128 @@
+-- A load that was prepared.
+use Rattle.std.proofs.Common.{◌≡◌, ℕ, ◌+◌, ◌-◌, ◌<◌, ◌++◌, List, [], ◌∷◌, length, take, inr, refl, sym, ap, subst, ◌∙◌, arith, length-append}
+use Rattle.std.proofs.Math.Seq.{take-length}
+use Rattle.std.proofs.lemmas.List.{take-append-le}
+use Rattle.std.proofs.lemmas.Option.{slice_get_within, get_or_from_slice_get}
+use Rattle.cfi_aux.specs.Sound.{IsSoundModule}
+use Rattle.cfi_aux.specs.declared.placed.Placed.{Placed}
+use Rattle.cfi_graph.specs.Direct.{DirectEdge}
+use Rattle.cfi_model.specs.Tables.{IsUpdate}
+use Rattle.cfi_plan.specs.declared.journal.JournalLine.TheVariants.{LoadOk}
+use Rattle.cfi_plan.specs.declared.journal.ModuleLine.{ModuleLine}
+use Rattle.cfi_plan.specs.declared.journal.Who.{Who}
+use Rattle.cfi_policy.specs.Image.{IsImage}
+use Rattle.cfi_series.specs.Order.{Joins}
+use Rattle.cfi_tables.specs.Faults.{epoch_after}
+use Rattle.cfi_tables.specs.Keeping.{Keeping, entry_by, grown_by, last_of}
+use Rattle.cfi_tables.specs.Key.{Key}
+use Rattle.cfi_valid.specs.Journal.{IsClean}
+use Rattle.cfi_valid.specs.Loaded.{planned_name}
+use Rattle.cfi_valid.specs.Script.{Load}
+use Rattle.cfi_word.specs.declared.limits.TheConstants.{MAX_EPOCH}
+use Rattle.cfi_word.specs.declared.lists.Image.{Image}
+use Rattle.cfi_loader.specs.declared.books.Books.{Books}
+use Rattle.cfi_loader.specs.Marks.{mark_by}
+use Rattle.cfi_loader.specs.Results.{entry_of}
+use Rattle.cfi_loader.specs.Told.{MayAskFor}
+use Rattle.cfi_loader.specs.inner.Books.{end_of, ledger_of, AreKept, IsAfter}
+use Rattle.cfi_loader.specs.inner.Journal.{Minutes, HasLine}
+use Rattle.cfi_loader.specs.inner.Loads.{HasPrepared, IsAbsent}
+use Rattle.cfi_loader.specs.inner.Roster.{Roster, IsImageOfRoster, line_by, without_last}
+use Rattle.cfi_loader.proofs.UpdateLemmas.{may_ask}
+use Rattle.cfi_loader.proofs.LoadLemmas.{places, load_follows, after_load}
+
+-- a list without the item at its end
+init_of : {X : Type 0} (xs : List X) (x : X) → take (length (xs ++ x ∷ []) - 1) (xs ++ x ∷ []) ≡ xs
+init_of xs x =
+    let end : length (xs ++ x ∷ []) - 1 ≡ length xs = omega (arith, length-append xs (x ∷ [])) in
+    ap (λ (n : ℕ). take n (xs ++ x ∷ [])) end
+    ∙ take-append-le (length xs) xs (x ∷ []) (omega arith)
+    ∙ take-length xs
+
+module _ (k : Key) (b : Books) (keeping : Keeping) (kept : AreKept k b keeping) (number : ℕ) (roster : Roster)
+    (prepared : HasPrepared b number roster) (absent : IsAbsent b number) where
+  abbrev one : Placed
+  one = prepared.joined.one
+
+  joins_there : Joins b.plan.code_words b.roster.placed prepared.unplaced one
+  joins_there =
+      subst (λ (n : ℕ). Joins n b.roster.placed prepared.unplaced one) kept.roster_is.code_words_are
+      prepared.joined.joins
+
+  is_sound : IsSoundModule prepared.unplaced
+  is_sound =
+      let within = slice_get_within b.modules number prepared.unplaced prepared.is in
+      subst IsSoundModule (get_or_from_slice_get b.modules number prepared.unplaced prepared.unplaced prepared.is)
+      (kept.ledger.can_start.taken number prepared.unplaced within).sound
+
+  pub clean : IsClean b.plan b.modules (end_of b) number
+  clean = record {
+    absent = record {
+      unplaced = prepared.unplaced;
+      is = prepared.is;
+      absent = absent.absent;
+      room = absent.room;
+    };
+    placed = one;
+    joins = subst (λ (ps : List Placed). Joins b.plan.code_words ps prepared.unplaced one)
+        (sym (places k b keeping kept)) joins_there;
+  }
+
+  -- without its last module it is what it was
+  pub taken_back : without_last roster ≡ b.roster
+  taken_back =
+      let line = line_by number (planned_name b.plan.modules number) (b.policy + 1) one in
+      ap without_last prepared.joined.is
+      ∙ ap (λ (ls : List ModuleLine). record {
+        code_words = b.roster.code_words;
+        lines = ls;
+        placed = take (length (b.roster.placed ++ one ∷ []) - 1) (b.roster.placed ++ one ∷ []);
+      }) (init_of b.roster.lines line)
+      ∙ ap (λ (ps : List Placed). record {
+        code_words = b.roster.code_words;
+        lines = b.roster.lines;
+        placed = ps;
+      }) (init_of b.roster.placed one)
+
+  module _ (image : Image) (of : IsImageOfRoster roster image) where
+    labels : IsImage (DirectEdge (b.roster.placed ++ one ∷ [])) (b.roster.placed ++ one ∷ []) b.plan.code_words image
+    labels =
+        subst (λ (n : ℕ). IsImage (DirectEdge (b.roster.placed ++ one ∷ [])) (b.roster.placed ++ one ∷ []) n image)
+        kept.roster_is.code_words_are
+        (subst (λ (r : Roster). IsImageOfRoster r image) prepared.joined.is of)
+
+    pub load_update : (mark : ℕ)
+        → IsUpdate k.code_words (last_of keeping.entries) (entry_by (b.policy + 1) image mark)
+    load_update mark =
+        inr (load_follows k b keeping kept prepared.unplaced one image is_sound joins_there labels mark absent.room)
+
+    abbrev loaded_there_by : (epoch : ℕ) → Minutes → Books
+    loaded_there_by epoch j = record b {
+      journal = j;
+      roster = roster;
+      image = image;
+      epoch = epoch;
+      policy = b.policy + 1;
+    }
+
+    pub load_made : (who : Who) (epoch : ℕ) (j : Minutes) → epoch ≡ epoch_after k keeping → b.epoch < MAX_EPOCH
+        → HasLine (entry_of who (LoadOk number epoch (b.policy + 1))) b.journal j
+        → MayAskFor (ledger_of b keeping) who (Load number)
+        → IsAfter k (entry_of who (LoadOk number epoch (b.policy + 1))) b (loaded_there_by epoch j) keeping
+        (grown_by (entry_by (b.policy + 1) image (mark_by who (Load number))) keeping)
+    load_made who epoch j epoch_is left has asks =
+        let next : b.epoch + 1 ≡ epoch = kept.ledger.told.epoch ∙ sym epoch_is in
+        let grown = grown_by (entry_by (b.policy + 1) image (mark_by who (Load number))) keeping in
+        let has_next : HasLine (entry_of who (LoadOk number (b.epoch + 1) (b.policy + 1))) b.journal j =
+        subst (λ (e : ℕ). HasLine (entry_of who (LoadOk number e (b.policy + 1))) b.journal j) (sym next) has in
+        let may = may_ask (ledger_of b keeping) who (Load number) (LoadOk number (b.epoch + 1) (b.policy + 1)) asks
+        refl in
+        let all = after_load k b j keeping kept who number prepared.unplaced one image has_next asks may left
+        prepared.is is_sound absent.absent absent.room joins_there labels in
+        let there : IsAfter k (entry_of who (LoadOk number (b.epoch + 1) (b.policy + 1))) b
+        (loaded_there_by (b.epoch + 1) j) keeping grown =
+        subst (λ (r : Roster). IsAfter k (entry_of who (LoadOk number (b.epoch + 1) (b.policy + 1))) b
+        (record b { journal = j; roster = r; image = image; epoch = b.epoch + 1; policy = b.policy + 1 }) keeping
+        grown) (sym prepared.joined.is) all in
+        subst (λ (e : ℕ). IsAfter k (entry_of who (LoadOk number e (b.policy + 1))) b (loaded_there_by e j) keeping
+        grown) next there

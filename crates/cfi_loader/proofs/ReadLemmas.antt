@@ -1,0 +1,62 @@
+-- What a loader tells, of its books.
+use Rattle.std.proofs.Common.{◌≡◌, ℕ, ◌+◌, ◌≤◌, List, take, drop, All, Option, Some, None, sym, ap, ◌∙◌, arith}
+use Rattle.std.specs.Prelude.{IfSome}
+use Rattle.std.proofs.lemmas.List.{take-map}
+use Rattle.std.proofs.lemmas.List.Elements.{All-drop}
+use Rattle.cfi_aux.specs.declared.placed.Placed.{Placed}
+use Rattle.cfi_model.specs.Data.{LiesInData}
+use Rattle.cfi_series.specs.Fills.{fills_of}
+use Rattle.cfi_series.proofs.PrefixLemmas.{data_lies}
+use Rattle.cfi_tables.specs.Keeping.{Keeping}
+use Rattle.cfi_tables.specs.Key.{Key}
+use Rattle.cfi_valid.specs.Guests.{GuestBegins}
+use Rattle.cfi_valid.specs.Loaded.{LoadedModule, placed_modules, loaded_by, fills_between}
+use Rattle.cfi_word.specs.declared.limits.TheConstants.{MAX_POLICY}
+use Rattle.cfi_loader.specs.declared.books.Books.{Books}
+use Rattle.cfi_loader.specs.inner.Books.{end_of, loaded_in, AreKept}
+use Rattle.cfi_loader.specs.inner.Entries.{EntersIn}
+use Rattle.cfi_loader.proofs.AdmitLemmas.{starts_first, later_fills}
+use Rattle.cfi_loader.proofs.LoadLemmas.{places, series}
+use Rattle.cfi_loader.proofs.OpeningLemmas.{begins_from, begins_to}
+
+module _ (k : Key) (b : Books) (keeping : Keeping) (kept : AreKept k b keeping) where
+  -- the start modules are the first ones
+  pub starts_placed : placed_modules (loaded_by 0 (loaded_in b)) ≡ take b.starts b.roster.placed
+  starts_placed =
+      ap placed_modules (starts_first b.plan (end_of b) kept.ledger.policies)
+      ∙ ap (λ (n : ℕ). placed_modules (take n (loaded_in b))) (sym kept.starts_are)
+      ∙ sym (take-map (λ (l : LoadedModule). l.placed) b.starts (loaded_in b))
+      ∙ ap (take b.starts) (places k b keeping kept)
+
+  -- where a guest begins
+  pub entry_some : (ms : List Placed) → ms ≡ b.roster.placed → (name : List ℕ) (found : Option ℕ)
+      → IfSome found (EntersIn b.plan (take b.starts ms) name) → IfSome found (GuestBegins b.plan (loaded_in b) name)
+  entry_some ms same name None some = tt
+  entry_some ms same name (Some address) some =
+      begins_from b.plan (loaded_in b) (take b.starts ms) (starts_placed ∙ ap (take b.starts) (sym same)) name address
+      some
+
+  pub entry_only : (ms : List Placed) → ms ≡ b.roster.placed → (name : List ℕ) (found : Option ℕ)
+      → ((address : ℕ) → EntersIn b.plan (take b.starts ms) name address → found ≡ Some address) → (address : ℕ)
+      → GuestBegins b.plan (loaded_in b) name address → found ≡ Some address
+  entry_only ms same name found only address begins =
+      only address
+      (begins_to b.plan (loaded_in b) (take b.starts ms) (starts_placed ∙ ap (take b.starts) (sym same)) name address
+      begins)
+
+  -- ---- the data that a guest lacks
+
+  pub policy_most : b.policy ≤ MAX_POLICY
+  policy_most = omega (arith, kept.ledger.policies.count, kept.ledger.policies.most)
+
+  pub fills_lie : (given : ℕ) → All LiesInData (drop given (fills_of b.roster.placed))
+  fills_lie given =
+      All-drop LiesInData given (fills_of b.roster.placed)
+      (data_lies b.plan.code_words b.roster.placed (series k b keeping kept))
+
+  pub fills_due : (above : ℕ)
+      → fills_between above b.policy (loaded_in b) ≡ drop (b.starts + above) (fills_of b.roster.placed)
+  fills_due above =
+      later_fills b.plan (end_of b) kept.ledger.policies above
+      ∙ ap (λ (n : ℕ). drop (n + above) (fills_of (placed_modules (loaded_in b)))) (sym kept.starts_are)
+      ∙ ap (λ (ps : List Placed). drop (b.starts + above) (fills_of ps)) (places k b keeping kept)

@@ -1,0 +1,107 @@
+-- Room for a line, and a mark that memory was missing, leave all else as it was.
+use Rattle.std.proofs.Common.{◌≡◌, ℕ, Bool, List, sym, ap, subst, ◌∙◌}
+use Rattle.cfi_aux.specs.declared.modules.Module.{Module}
+use Rattle.cfi_plan.specs.declared.journal.Entry.{Entry}
+use Rattle.cfi_plan.specs.declared.journal.Who.{Who}
+use Rattle.cfi_plan.specs.declared.plan.Plan.{Plan}
+use Rattle.cfi_tables.specs.Keeping.{Keeping}
+use Rattle.cfi_tables.specs.Key.{Key}
+use Rattle.cfi_valid.specs.Script.{Call}
+use Rattle.cfi_loader.specs.declared.books.Books.{Books}
+use Rattle.cfi_loader.specs.declared.fault.LoadFault.{LoadFault}
+use Rattle.cfi_loader.specs.declared.loaded.Loaded.{Loaded}
+use Rattle.cfi_loader.specs.Ledger.{Ledger, IsLedger}
+use Rattle.cfi_loader.specs.Results.{entry_of, loaded_line, IsLoadFault}
+use Rattle.cfi_loader.specs.Told.{HasTold}
+use Rattle.cfi_loader.specs.inner.Books.{course_in, end_of, ledger_of, AreKept, IsAfter}
+use Rattle.cfi_loader.specs.inner.Journal.{Minutes}
+use Rattle.cfi_loader.specs.inner.Loads.{LoadsTo, Refuses}
+
+-- a ledger that says otherwise whether memory was missing
+starved_ledger : (k : Key) (plan : Plan) (modules : List Module) (l : Ledger) (starved : Bool)
+    → IsLedger k plan modules l → IsLedger k plan modules (record l { starved = starved })
+starved_ledger k plan modules l starved is = record {
+  plan_is = is.plan_is;
+  modules_are = is.modules_are;
+  can_start = is.can_start;
+  tables_are = is.tables_are;
+  course = is.course;
+  policies = is.policies;
+  entries = is.entries;
+  told = is.told;
+  script = is.script;
+}
+
+module _ (k : Key) (b : Books) (keeping : Keeping) (j : Minutes) (starved : Bool) where
+  abbrev there : Books
+  there = record b { journal = j; starved = starved }
+
+  -- with the same lines and the same calls the ledger is the same but for that
+  pub reserved_ledger : j.lines ≡ b.journal.lines → j.left ≡ b.journal.left
+      → ledger_of there keeping ≡ record (ledger_of b keeping) { starved = starved }
+  reserved_ledger lines left =
+      ap (λ (ls : List Entry). record {
+        course = record { plan = b.plan; modules = b.modules; journal = ls; end = end_of b };
+        keeping = keeping;
+        left = j.left;
+        starved = starved;
+      }) lines
+      ∙ ap (λ (calls : List Call). record {
+        course = course_in b;
+        keeping = keeping;
+        left = calls;
+        starved = starved;
+      }) left
+
+  pub reserved_kept : AreKept k b keeping → j.lines ≡ b.journal.lines → j.left ≡ b.journal.left
+      → AreKept k there keeping
+  reserved_kept kept lines left = record {
+    ledger = subst (IsLedger k b.plan b.modules) (sym (reserved_ledger lines left))
+        (starved_ledger k b.plan b.modules (ledger_of b keeping) starved kept.ledger);
+    roster_is = record {
+      code_words_are = kept.roster_is.code_words_are;
+      many = kept.roster_is.many;
+      lines_are = kept.roster_is.lines_are;
+    };
+    layout_is = kept.layout_is;
+    image_is = kept.image_is;
+    starts_are = kept.starts_are;
+  }
+
+-- ---- room for the line of a load
+
+module _ (k : Key) (b mid : Books) (keeping : Keeping) (kept : AreKept k b keeping)
+    (lines : mid.journal.lines ≡ b.journal.lines) (left : mid.journal.left ≡ b.journal.left) where
+  -- there is some
+  module _ (same : mid ≡ record b { journal = mid.journal; starved = b.starved }) where
+    pub reserved : AreKept k mid keeping
+    reserved =
+        subst (λ (m : Books). AreKept k m keeping) (sym same)
+        (reserved_kept k b keeping mid.journal b.starved kept lines left)
+
+    pub ledger_same : ledger_of mid keeping ≡ ledger_of b keeping
+    ledger_same =
+        ap (λ (m : Books). ledger_of m keeping) same ∙ reserved_ledger k b keeping mid.journal b.starved lines left
+
+    after_from : (entry : Entry) (new : Books) (after : Keeping) → IsAfter k entry mid new keeping after
+        → IsAfter k entry b new keeping after
+    after_from entry new after is = record {
+      kept = is.kept;
+      told = subst (λ (l : Ledger). HasTold k entry l (ledger_of new after)) ledger_same is.told;
+    }
+
+    pub loads_from : (who : Who) (number : ℕ) (answer : Loaded) (new : Books) (after : Keeping)
+        → LoadsTo k who number answer mid new keeping after → LoadsTo k who number answer b new keeping after
+    loads_from who number answer new after is = record {
+      all = after_from (entry_of who (loaded_line number answer)) new after is.all;
+      epoch_is = is.epoch_is;
+      policy_is = is.policy_is;
+      address_is = is.address_is;
+    }
+
+    pub refuses_from : (who : Who) (number : ℕ) (fault : LoadFault) (new : Books) (after : Keeping)
+        → Refuses k who number fault mid new keeping after → Refuses k who number fault b new keeping after
+    refuses_from who number fault new after is = record {
+      kept = is.kept;
+      fault_is = subst (λ (l : Ledger). IsLoadFault k who number fault l (ledger_of new after)) ledger_same is.fault_is;
+    }

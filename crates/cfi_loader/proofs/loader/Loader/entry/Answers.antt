@@ -1,0 +1,29 @@
+use Rattle.std.proofs.Common.{sym, subst}
+use Rattle.std.specs.Prelude.{IfSome}
+use Rattle.cfi_plan.specs.declared.plan.Plan.{Plan}
+use Rattle.cfi_valid.specs.Guests.{GuestBegins}
+use Rattle.cfi_loader.specs.Ledger.{Ledger}
+use Rattle.cfi_loader.specs.inner.Books.{loaded_in}
+use Rattle.cfi_loader.proofs.ReadLemmas.{entry_some, entry_only}
+use Rattle.cfi_loader.proofs.loader.Loader.entry.Goals as goal
+
+pub returns-clause-some : goal.returns-clause-some
+returns-clause-some g c =
+    let b = c.self.inside.books in
+    let name = c.args.name.now in
+    let found = c.entry_at.result in
+    let some = entry_some g.N.TableName.key b c.self.inside.keeper c.self.invariant.kept c.modules.result.now
+    c.modules.ensures.value name found c.entry_at.ensures.some in
+    subst (λ (l : Ledger). IfSome found (GuestBegins g.N.LoaderName.plan l.course.end.loaded name)) c.self.view_is
+    (subst (λ (p : Plan). IfSome found (GuestBegins p (loaded_in b) name)) c.self.invariant.plan_is some)
+
+pub returns-clause-only : goal.returns-clause-only
+returns-clause-only g c = λ address begins.
+    let b = c.self.inside.books in
+    let name = c.args.name.now in
+    let here : GuestBegins b.plan (loaded_in b) name address =
+    subst (λ (p : Plan). GuestBegins p (loaded_in b) name address) (sym c.self.invariant.plan_is)
+    (subst (λ (l : Ledger). GuestBegins g.N.LoaderName.plan l.course.end.loaded name address) (sym c.self.view_is)
+    begins) in
+    entry_only g.N.TableName.key b c.self.inside.keeper c.self.invariant.kept c.modules.result.now
+    c.modules.ensures.value name c.entry_at.result c.entry_at.ensures.only address here

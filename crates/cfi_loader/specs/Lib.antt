@@ -1,0 +1,10 @@
+pub mod Marks
+pub mod Calls
+pub mod Plans
+pub mod Ledger
+pub mod Told
+pub mod Starting
+pub mod Results
+pub mod Passes
+pub mod Fitting
+pub mod inner

@@ -1,0 +1,25 @@
+-- Passes of guests, and what the answer to an open brings.
+use Rattle.std.specs.Prelude.{ℕ, Bool, count_by, Option, Some, None}
+use Rattle.cfi_model.specs.Service.{Reply, reply_of}
+use Rattle.cfi_tables.specs.Keeping.{Keeping}
+use Rattle.cfi_unit.specs.declared.log.Log.{Log}
+use Rattle.cfi_valid.specs.Loaded.{fills_between}
+use Rattle.cfi_valid.specs.Replay.{given_by}
+use Rattle.cfi_word.specs.declared.services.TheConstants.{NO_FUNCTION}
+use Rattle.std.specs.Prelude.{List, []}
+use Rattle.cfi_loader.specs.Ledger.{Ledger}
+
+-- how many passes are out
+abbrev pub out_of : Ledger → ℕ
+out_of l = count_by (λ (out : Bool). out) l.keeping.out
+
+-- the keeper of the tables keeps something else
+abbrev pub with_keeping : Keeping → Ledger → Ledger
+with_keeping keeping l = record l { keeping = keeping }
+
+-- the answer to an open of a module that is loaded, by the address of its first Global function: with one, the data
+-- that the guest lacks
+abbrev pub reply_with : Ledger → (log : List Log) → (address : Option ℕ) → Reply
+reply_with l log (Some address) =
+    reply_of address 0 l.course.end.policy (fills_between (given_by log) l.course.end.policy l.course.end.loaded)
+reply_with l log None = reply_of 0 NO_FUNCTION l.course.end.policy []

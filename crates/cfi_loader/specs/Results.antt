@@ -1,0 +1,91 @@
+-- What each call answers, by the line that it adds to the journal.
+use Rattle.std.specs.Prelude.{◌≡◌, ℕ, if◌then◌else◌, List, slice_get, Option, Some, None, option_map, ⊤}
+use Rattle.cfi_aux.specs.declared.modules.Module.{Module}
+use Rattle.cfi_plan.specs.declared.journal.Entry.{Entry}
+use Rattle.cfi_plan.specs.declared.journal.JournalLine.{JournalLine}
+use Rattle.cfi_plan.specs.declared.journal.JournalLine.TheVariants as lines
+use Rattle.cfi_plan.specs.declared.journal.Who.{Who}
+use Rattle.cfi_series.specs.declared.fault.JoinFault.{JoinFault}
+use Rattle.cfi_series.specs.declared.fault.JoinFault.TheVariants as joins
+use Rattle.cfi_series.specs.declared.numbers.FaultNumbers.{FaultNumbers}
+use Rattle.cfi_series.specs.declared.numbers.FaultNumbers.TheVariants as numbers
+use Rattle.cfi_series.specs.Numbers.{place_numbers, verify_numbers}
+use Rattle.cfi_series.specs.Order.{IsJoinFault}
+use Rattle.cfi_tables.specs.Key.{Key}
+use Rattle.cfi_tables.specs.declared.fault.UpdateFault.{UpdateFault}
+use Rattle.cfi_tables.specs.declared.fault.UpdateFault.TheVariants as updates
+use Rattle.cfi_valid.specs.Course.{Course}
+use Rattle.cfi_valid.specs.Loaded.{LoadedModule, placed_modules}
+use Rattle.cfi_valid.specs.Log.{HasFunctionAt, HasNoFunction}
+use Rattle.cfi_loader.specs.declared.fault.LoadFault.{LoadFault}
+use Rattle.cfi_loader.specs.declared.fault.LoadFault.TheVariants.{ModulesFull, Place, Verify, EpochsSpent, VersionsSpent, Memory}
+use Rattle.cfi_loader.specs.declared.loaded.Loaded.{Loaded}
+use Rattle.cfi_loader.specs.Ledger.{Ledger}
+use Rattle.cfi_loader.specs.Told.{HasTold, HasStarved}
+
+abbrev pub entry_of : Who → JournalLine → Entry
+entry_of who what = record { who = who; what = what }
+
+-- ---- a load that came through
+
+-- the address is that of the module's first Global function; it has none
+abbrev pub IsAddressOf : List LoadedModule → (number : ℕ) → Option ℕ → Type 0
+IsAddressOf loaded number (Some address) = HasFunctionAt loaded number address
+IsAddressOf loaded number None = HasNoFunction loaded number
+
+abbrev pub loaded_line : (number : ℕ) → Loaded → JournalLine
+loaded_line number answer =
+    if answer.again then lines.LoadAgain number answer.policy else lines.LoadOk number answer.epoch answer.policy
+
+pub record HasLoaded (k : Key) (who : Who) (number : ℕ) (answer : Loaded) (old new : Ledger) : Type 0 where
+  pub told : HasTold k (entry_of who (loaded_line number answer)) old new
+  pub epoch_is : answer.epoch ≡ new.course.end.epoch
+  pub policy_is : answer.policy ≡ new.course.end.policy
+  pub address_is : IsAddressOf new.course.end.loaded number answer.address
+
+-- ---- a load that was refused
+
+-- the line that tells these numbers of a fault
+abbrev pub numbered_line : (number : ℕ) → FaultNumbers → JournalLine
+numbered_line number (numbers.Place fault) = lines.LoadPlace number fault
+numbered_line number (numbers.Verify fault place) = lines.LoadVerify number fault place
+
+-- the line that tells of a fault; want of memory has none
+abbrev pub fault_line : (number : ℕ) → LoadFault → Option JournalLine
+fault_line number ModulesFull = Some (lines.LoadFull number)
+fault_line number (Place fault) = option_map (numbered_line number) (place_numbers fault)
+fault_line number (Verify fault) = option_map (numbered_line number) (verify_numbers fault)
+fault_line number EpochsSpent = Some (lines.LoadEpochs number)
+fault_line number (VersionsSpent guest quiet) = Some (lines.LoadVersions number guest quiet)
+fault_line number Memory = None
+
+-- the module of the number does not join those that are loaded, for this fault
+pub record DoesNotJoin (c : Course) (number : ℕ) (fault : JoinFault) : Type 0 where
+  pub unplaced : Module
+  pub is : slice_get c.modules number ≡ Some unplaced
+  pub why : IsJoinFault c.plan.code_words (placed_modules c.end.loaded) unplaced fault
+
+-- what a fault says of the module
+abbrev pub SaysOf : (c : Course) → (number : ℕ) → LoadFault → Type 0
+SaysOf c number (Place fault) = DoesNotJoin c number (joins.Place fault)
+SaysOf c number (Verify fault) = DoesNotJoin c number (joins.Verify fault)
+SaysOf c number fault = ⊤
+
+pub record HasRefused (k : Key) (who : Who) (number : ℕ) (fault : LoadFault) (line : JournalLine) (old new : Ledger)
+    : Type 0 where
+  pub told : HasTold k (entry_of who line) old new
+  pub says : SaysOf old.course number fault
+
+-- with a line a refusal, and with none want of memory
+abbrev pub RefusesBy : Key → Who → (number : ℕ) → LoadFault → Option JournalLine → (old new : Ledger) → Type 0
+RefusesBy k who number fault (Some line) old new = HasRefused k who number fault line old new
+RefusesBy k who number fault None old new = HasStarved old new
+
+abbrev pub IsLoadFault : Key → Who → (number : ℕ) → LoadFault → (old new : Ledger) → Type 0
+IsLoadFault k who number fault old new = RefusesBy k who number fault (fault_line number fault) old new
+
+-- ---- a refresh
+
+abbrev pub refused_refresh : UpdateFault → JournalLine
+refused_refresh updates.EpochsSpent = lines.RefreshEpochs
+refused_refresh (updates.VersionsSpent guest quiet) = lines.RefreshVersions guest quiet

@@ -1,0 +1,60 @@
+-- A ledger after a call: a line more, or a mark that memory was missing.
+use Rattle.std.specs.Prelude.{◌≡◌, ℕ, ◌<◌, true, ◌++◌, [], ◌∷◌, length, slice_get, Some}
+use Rattle.cfi_plan.specs.declared.journal.Entry.{Entry}
+use Rattle.cfi_plan.specs.declared.journal.JournalLine.{JournalLine}
+use Rattle.cfi_plan.specs.declared.journal.JournalLine.TheVariants.{LoadOk, LoadVersions, RefreshOk, RefreshVersions}
+use Rattle.cfi_plan.specs.declared.journal.Who.{Who}
+use Rattle.cfi_plan.specs.declared.journal.Who.TheVariants.{Script, Guest}
+use Rattle.cfi_tables.specs.Faults.{epoch_after}
+use Rattle.cfi_tables.specs.Keeping.{Keeping, entry_by, grown_by, refused_by, last_of}
+use Rattle.cfi_tables.specs.Key.{Key}
+use Rattle.cfi_valid.specs.Course.{Course}
+use Rattle.cfi_valid.specs.Journal.{EntryLeads}
+use Rattle.cfi_valid.specs.Script.{Call}
+use Rattle.cfi_word.specs.declared.lists.Image.{Image}
+use Rattle.cfi_loader.specs.Calls.{left_after}
+use Rattle.cfi_loader.specs.Ledger.{Ledger}
+use Rattle.cfi_loader.specs.Marks.{mark_of}
+
+-- whoever asks may: the script for the call that is due, a guest of the plan for a load
+abbrev pub MayAskFor : Ledger → Who → Call → Type 0
+MayAskFor l Script call = slice_get l.left 0 ≡ Some call
+MayAskFor l (Guest number) call = number < length l.course.plan.guests
+
+-- the course goes on by a line
+pub record GoesOnBy (entry : Entry) (old new : Course) : Type 0 where
+  pub plan_is : new.plan ≡ old.plan
+  pub modules_are : new.modules ≡ old.modules
+  pub journal_is : new.journal ≡ old.journal ++ entry ∷ []
+  pub leads : EntryLeads old.plan old.modules old.end entry new.end
+
+-- what the keeper keeps then: with an update that was made an entry more, with one that was not admitted a refusal, and
+-- else what it kept
+abbrev pub HasGrown : (policy mark : ℕ) → (old new : Keeping) → Type 0
+HasGrown policy mark old new = (image : Image) × (new ≡ grown_by (entry_by policy image mark) old)
+
+abbrev pub HasRefreshed : (mark : ℕ) → (old new : Keeping) → Type 0
+HasRefreshed mark old new =
+    new ≡ grown_by (entry_by (last_of old.entries).policy (last_of old.entries).image mark) old
+
+abbrev pub HasSpent : Key → (guest quiet mark : ℕ) → (old new : Keeping) → Type 0
+HasSpent k guest quiet mark old new =
+    new ≡ refused_by (record { guest = guest; quiet = quiet; epoch = epoch_after k old; mark = mark }) old
+
+abbrev pub KeepsAfter : Key → (mark : ℕ) → JournalLine → (old new : Keeping) → Type 0
+KeepsAfter k mark (LoadOk number epoch policy) old new = HasGrown policy mark old new
+KeepsAfter k mark (RefreshOk epoch) old new = HasRefreshed mark old new
+KeepsAfter k mark (LoadVersions number guest quiet) old new = HasSpent k guest quiet mark old new
+KeepsAfter k mark (RefreshVersions guest quiet) old new = HasSpent k guest quiet mark old new
+KeepsAfter k mark line old new = new ≡ old
+
+-- a line more
+pub record HasTold (k : Key) (entry : Entry) (old new : Ledger) : Type 0 where
+  pub course : GoesOnBy entry old.course new.course
+  pub keeping : KeepsAfter k (mark_of entry) entry.what old.keeping new.keeping
+  pub left : new.left ≡ left_after entry.who old.left
+  pub starved : new.starved ≡ old.starved
+
+-- memory was missing: no line more
+abbrev pub HasStarved : (old new : Ledger) → Type 0
+HasStarved old new = new ≡ record old { starved = true }

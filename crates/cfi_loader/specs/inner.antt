@@ -1,0 +1,7 @@
+pub mod Journal
+pub mod Roster
+pub mod Books
+pub mod Entries
+pub mod Starts
+pub mod Opening
+pub mod Loads

@@ -1,0 +1,59 @@
+-- What a loader has beside the keeper of the tables, and how both agree.
+use Rattle.std.specs.Prelude.{◌≡◌, List, length, map}
+use Rattle.cfi_aux.specs.declared.modules.Module.{Module}
+use Rattle.cfi_plan.specs.Draft.{starts}
+use Rattle.cfi_plan.specs.declared.journal.Entry.{Entry}
+use Rattle.cfi_plan.specs.declared.plan.Plan.{Plan}
+use Rattle.cfi_tables.specs.Keeping.{Keeping, last_of}
+use Rattle.cfi_tables.specs.Key.{Key}
+use Rattle.cfi_valid.specs.Course.{Course}
+use Rattle.cfi_valid.specs.Journal.{JournalState}
+use Rattle.cfi_valid.specs.Loaded.{LoadedModule, module_line_of}
+use Rattle.cfi_loader.specs.declared.books.Books.{Books}
+use Rattle.cfi_loader.specs.Ledger.{Ledger, IsLedger}
+use Rattle.cfi_loader.specs.Told.{HasTold}
+use Rattle.cfi_loader.specs.inner.Roster.{loaded_of}
+
+-- the loaded modules
+abbrev pub loaded_in : Books → List LoadedModule
+loaded_in b = loaded_of b.roster.lines b.roster.placed
+
+-- the state to which the journal leads, and the course
+abbrev pub end_of : Books → JournalState
+end_of b = record { epoch = b.epoch; policy = b.policy; loaded = loaded_in b }
+
+abbrev pub course_in : Books → Course
+course_in b = record { plan = b.plan; modules = b.modules; journal = b.journal.lines; end = end_of b }
+
+abbrev pub ledger_of : Books → Keeping → Ledger
+ledger_of b keeping = record {
+  course = course_in b;
+  keeping = keeping;
+  left = b.journal.left;
+  starved = b.starved;
+}
+
+-- the roster has the lines of the loaded modules
+pub record IsRosterOf (b : Books) : Type 0 where
+  pub code_words_are : b.roster.code_words ≡ b.plan.code_words
+  pub many : length b.roster.lines ≡ length b.roster.placed
+  pub lines_are : b.roster.lines ≡ map (module_line_of b.plan.modules) (loaded_in b)
+
+-- all of it agrees
+pub record AreKept (k : Key) (b : Books) (keeping : Keeping) : Type 0 where
+  pub ledger : IsLedger k b.plan b.modules (ledger_of b keeping)
+  pub roster_is : IsRosterOf b
+  pub layout_is : b.layout ≡ b.plan.code_words
+  pub image_is : b.image ≡ (last_of keeping.entries).image
+  pub starts_are : b.starts ≡ starts b.plan.modules
+
+-- a line more, and all of it agrees again
+pub record IsAfter (k : Key) (entry : Entry) (old new : Books) (before after : Keeping) : Type 0 where
+  pub kept : AreKept k new after
+  pub told : HasTold k entry (ledger_of old before) (ledger_of new after)
+
+-- and it is the plan's and the modules' of a name
+pub record IsLoader (k : Key) (plan : Plan) (modules : List Module) (b : Books) (keeping : Keeping) : Type 0 where
+  pub kept : AreKept k b keeping
+  pub plan_is : b.plan ≡ plan
+  pub modules_are : b.modules ≡ modules

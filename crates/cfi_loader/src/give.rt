@@ -1,0 +1,72 @@
+//! The answer to an open of a module that is loaded.
+
+ghost use Rattle.std.specs.Prelude.{◌≡◌, ◌≤◌, ◌<◌, Some, drop};
+ghost use Rattle.cfi_model.specs.Log.{last_policy, opens};
+ghost use Rattle.cfi_model.specs.Run.{serve_of};
+ghost use Rattle.cfi_model.specs.Service.{argument};
+ghost use Rattle.cfi_model.specs.declared.act.Wait.TheVariants as waits;
+ghost use Rattle.cfi_valid.specs.Replay.{given_by};
+ghost use Rattle.cfi_word.specs.declared.limits.TheConstants.{MAX_OPENS};
+ghost use Rattle.cfi_word.specs.declared.services.TheConstants.{OPEN};
+ghost use Rattle.cfi_loader.specs.Passes.{reply_with};
+ghost use Rattle.cfi_loader.specs.Results.{IsAddressOf};
+
+use crate::loaded::Loaded;
+use crate::loader::{Loader, LoaderName};
+use cfi_unit::{Answer, Fill, Log};
+use cfi_word::services::NO_FUNCTION;
+use rv_guest::Guest;
+
+// The policy up to which a guest has been given data.
+fn given_by(log: &[Log]) -> u32
+    ensures { result ≡ given_by log.now }
+{
+    let mut given = 0;
+    for entry in log {
+        if let Log::Open { policy, .. } = entry {
+            given = *policy;
+        }
+    }
+    given
+}
+
+// The fills from one on.
+fn fills_from(fills: &[Fill], first: usize) -> &[Fill]
+    ensures { result.now ≡ drop first fills.now }
+{
+    &fills[first.min(fills.len())..]
+}
+
+impl<N: LoaderName> Loader<N> {
+    /// Answers an open, and copies the data due: that of all loaded modules which the guest lacks, in load order; for a
+    /// module without a Global function the cause `NO_FUNCTION`, and no data. It takes no memory.
+    ///
+    /// The guest waits in an open, has fewer than `MAX_OPENS` opens logged and no policy above the one in force.
+    /// `loaded` has the address of the module that a0 names.
+    pub fn give(&self, guest: &mut Guest, loaded: &Loaded)
+        requires waits { guest.old.waits ≡ Some (waits.Service OPEN) }
+        requires few { opens guest.old.base.log < MAX_OPENS }
+        requires rises { last_policy guest.old.base.log ≤ self.now.course.end.policy }
+        requires address { IsAddressOf self.now.course.end.loaded (argument guest.old.base) loaded.now.address }
+        ensures { guest.new ≡ serve_of guest.old
+            (reply_with self.now guest.old.base.log loaded.now.address) }
+    {
+        let policy = self.books.policy;
+        let Some(address) = loaded.address else {
+            guest.answer(&Answer {
+                address: 0,
+                cause: NO_FUNCTION,
+                policy,
+                fills: &[],
+            });
+            return;
+        };
+        let given = self.books.starts + given_by(guest.log()) as usize;
+        guest.answer(&Answer {
+            address,
+            cause: 0,
+            policy,
+            fills: fills_from(self.books.roster.fills(), given),
+        });
+    }
+}

@@ -1,0 +1,46 @@
+//! What holds of every loader.
+
+ghost use Rattle.std.specs.Prelude.{◌≡◌, ◌==◌, ◌<◌, ℕ, List, [], ◌∷◌, All, count_by, length};
+ghost use Rattle.cfi_aux.specs.declared.modules.Module.{Module};
+ghost use Rattle.cfi_model.specs.declared.history.Refusal.{Refusal};
+ghost use Rattle.cfi_plan.specs.declared.journal.JournalLine.{JournalLine};
+ghost use Rattle.cfi_plan.specs.declared.journal.Who.{Who};
+ghost use Rattle.cfi_plan.specs.declared.journal.Who.TheVariants.{Guest};
+ghost use Rattle.cfi_plan.specs.declared.plan.Plan.{Plan};
+ghost use Rattle.cfi_plan.specs.Plan.{IsPlan};
+ghost use Rattle.cfi_series.specs.Series.{CanBeTaken};
+ghost use Rattle.cfi_tables.specs.Key.{Key};
+ghost use Rattle.cfi_valid.specs.Log.{is_versions};
+ghost use Rattle.cfi_word.specs.declared.limits.TheConstants.{GUESTS};
+ghost use Rattle.cfi_loader.specs.Marks.{mark_by};
+ghost use Rattle.cfi_valid.specs.Bare.{bare_plan};
+ghost use Rattle.cfi_valid.specs.Script.{Load, call_of};
+ghost use Rattle.cfi_loader.specs.Fitting.{Fits, ComesThrough, HasFewUpdates, HasVersion};
+ghost use Rattle.cfi_loader.specs.Ledger.{Ledger, IsLedger};
+ghost use Rattle.cfi_loader.specs.Plans.{CanStart};
+ghost use Rattle.cfi_loader.specs.Results.{entry_of};
+ghost use Rattle.cfi_loader.specs.Told.{HasTold};
+
+/// A load that fits is made, or no version or no epoch is left; and while few updates were made versions are left.
+pub fn loads_that_fit_come_through()
+    ensures through { (k : Key) (who : Who) (line : JournalLine) (number : ℕ) (old new : Ledger) →
+        HasTold k (entry_of who line) old new → call_of line ≡ Load number → Fits old.course number →
+        ComesThrough line }
+    ensures versions { (k : Key) (who : Who) (line : JournalLine) (old new : Ledger) →
+        HasTold k (entry_of who line) old new → HasFewUpdates old.course → HasVersion line }
+{}
+
+/// A guest's lines of updates that were not admitted are the refusals with its mark.
+pub fn refusals_are_versions_lines()
+    ensures { (k : Key) (plan : Plan) (modules : List Module) (l : Ledger) → IsLedger k plan modules l →
+        (guest number : ℕ) → guest < GUESTS → number < length plan.modules →
+        count_by (λ (r : Refusal). r.mark == mark_by (Guest guest) (Load number)) l.keeping.refusals
+        ≡ count_by (is_versions guest number) l.course.journal }
+{}
+
+/// A plan that was read can be started with modules that can be taken, one a line; so can that of a bare file.
+pub fn plans_can_start()
+    ensures plan { (plan : Plan) (modules : List Module) → IsPlan plan →
+        length modules ≡ length plan.modules → All CanBeTaken modules → CanStart plan modules }
+    ensures bare { (m : Module) → CanBeTaken m → CanStart bare_plan (m ∷ []) }
+{}

@@ -1,0 +1,38 @@
+//! The live loader: the value under the lock that guests and a script share.
+//!
+//! Stands on `cfi_tables`, `cfi_series`, `cfi_valid` and what these stand on. Proved: a plan is started exactly as its
+//! opening state says, or refused by its first fault; the type of a loader keeps that the journal is legal line by line,
+//! that the tables' history and refusals are what the journal tells, with marks that name who asked, that each entry's
+//! image is that of the modules which its policy finds loaded, and that the script's lines are those of its calls before
+//! the one that is due (`specs/Ledger.antt`); each load and each refresh adds the one line that its answer tells
+//! (`specs/Told.antt`, `specs/Results.antt`), and a refusal leaves tables, code and modules as they were; a load that
+//! fits is made, or no version or no epoch is left; an answer to an open brings the data that the guest lacks. Only
+//! tested: nothing. Open: that memory suffices; what a load costs.
+#![tactic(auto)]
+
+mod books;
+mod copies;
+mod due;
+mod entrant;
+mod entries;
+mod fault;
+mod give;
+mod journal;
+pub mod laws;
+mod load;
+mod loaded;
+mod loader;
+mod mark;
+mod passes;
+mod reading;
+mod refresh;
+mod roster;
+mod start;
+
+pub use cfi_plan::{Entry, JournalLine, ModuleLine, Who};
+pub use cfi_tables::{AdmitFault, Seen, UpdateFault};
+pub use due::Due;
+pub use fault::{LoadFault, OpenFault};
+pub use loaded::Loaded;
+pub use loader::{Loader, LoaderName};
+pub use start::Start;

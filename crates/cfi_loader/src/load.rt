@@ -1,0 +1,253 @@
+//! Loads.
+
+ghost use Rattle.std.specs.Prelude.{◌≡◌, ◌+◌, ◌-◌, ◌<◌, false, IfOk, IfErr, length, option_map, slice_index_or};
+ghost use Rattle.cfi_aux.specs.declared.placed.Placed.{Placed};
+ghost use Rattle.cfi_plan.specs.declared.journal.JournalLine.TheVariants.{LoadOk};
+ghost use Rattle.cfi_series.specs.Numbers.{numbers_of};
+ghost use Rattle.cfi_tables.specs.Keeping.{Keeping};
+ghost use Rattle.cfi_tables.specs.Key.{Key};
+ghost use Rattle.cfi_valid.specs.Script.{Load};
+ghost use Rattle.cfi_loader.specs.Results.{entry_of, fault_line, numbered_line, HasLoaded, IsLoadFault};
+ghost use Rattle.cfi_loader.specs.Told.{MayAskFor};
+ghost use Rattle.cfi_loader.specs.inner.Books.{AreKept, ledger_of};
+ghost use Rattle.cfi_loader.specs.inner.Journal.{HasLine, HasRoomFor};
+ghost use Rattle.cfi_valid.specs.declared.limits.TheConstants.{MAX_LOADED};
+ghost use Rattle.cfi_loader.specs.inner.Loads.{IsAbsent, IsFirstGlobal, IsListed, IsSamePlan, IsUnprepared, LoadsTo, Refuses, refusal_of, refusal_by, update_line};
+ghost use Rattle.cfi_loader.specs.inner.Roster.{without_last};
+
+use crate::books::Books;
+use crate::fault::LoadFault;
+use crate::loaded::Loaded;
+use crate::loader::{Loader, LoaderName};
+use crate::mark::load_mark;
+use crate::roster::Candidate;
+use cfi_plan::{JournalLine, Who};
+use cfi_series::{FaultNumbers, JoinFault};
+use cfi_tables::{Keeper, TableName, Tables, UpdateFault};
+
+// The line that tells of a fault of joining; None for want of memory.
+fn join_line(number: u32, fault: &JoinFault) -> Option<JournalLine>
+    ensures { result ≡ option_map (numbered_line number) (numbers_of fault.now) }
+{
+    match fault.numbers() {
+        Some(FaultNumbers::Place { number: kind }) => Some(JournalLine::LoadPlace {
+            module: number,
+            number: kind,
+        }),
+        Some(
+            FaultNumbers::Verify {
+                number: kind,
+                place,
+            },
+        ) => Some(JournalLine::LoadVerify {
+            module: number,
+            number: kind,
+            place,
+        }),
+        None => None,
+    }
+}
+
+// The fault of joining as one of loading.
+fn refusal_of(fault: JoinFault) -> LoadFault
+    ensures { result ≡ refusal_of fault }
+{
+    match fault {
+        JoinFault::Place(fault) => LoadFault::Place(fault),
+        JoinFault::Verify(fault) => LoadFault::Verify(fault),
+        JoinFault::Memory => LoadFault::Memory,
+    }
+}
+
+// The fault of an update as one of loading.
+fn refusal_by(fault: UpdateFault) -> LoadFault
+    ensures { result ≡ refusal_by fault }
+{
+    match fault {
+        UpdateFault::EpochsSpent => LoadFault::EpochsSpent,
+        UpdateFault::VersionsSpent { guest, quiet } => LoadFault::VersionsSpent { guest, quiet },
+    }
+}
+
+// The line that tells of it.
+fn update_line(number: u32, fault: UpdateFault) -> JournalLine
+    ensures { result ≡ update_line number fault }
+{
+    match fault {
+        UpdateFault::EpochsSpent => JournalLine::LoadEpochs { module: number },
+        UpdateFault::VersionsSpent { guest, quiet } => JournalLine::LoadVersions {
+            module: number,
+            guest,
+            quiet,
+        },
+    }
+}
+
+// The answer where the module stands at this place in load order.
+fn again(books: &mut Books, who: Who, number: u32, at: usize) -> Loaded
+    requires room { HasRoomFor who books.old.journal }
+    requires listed { IsListed books.old.roster number at }
+    ensures after { (k : Key) (keeping : Keeping) → AreKept k books.old keeping →
+        MayAskFor (ledger_of books.old keeping) who (Load number) →
+        LoadsTo k who number result books.old books.new keeping keeping }
+    ensures same { IsSamePlan books.old books.new }
+{
+    let policy = books.policy;
+    books.tell(
+        who,
+        JournalLine::LoadAgain {
+            module: number,
+            policy,
+        },
+    );
+    Loaded {
+        again: true,
+        epoch: books.epoch,
+        policy,
+        address: books.address_at(at),
+    }
+}
+
+// Tells why the module does not join.
+fn refuse(books: &mut Books, who: Who, number: u32, fault: JoinFault) -> LoadFault
+    requires room { HasRoomFor who books.old.journal }
+    requires unprepared { IsUnprepared books.old number fault }
+    ensures after { (k : Key) (keeping : Keeping) → AreKept k books.old keeping →
+        MayAskFor (ledger_of books.old keeping) who (Load number) → IsAbsent books.old number →
+        Refuses k who number result books.old books.new keeping keeping }
+    ensures same { IsSamePlan books.old books.new }
+{
+    match join_line(number, &fault) {
+        Some(line) => books.tell(who, line),
+        None => books.starved = true,
+    }
+    refusal_of(fault)
+}
+
+// Tells why the module is not put in force, and takes it back.
+fn turn_down(
+    books: &mut Books,
+    candidate: Candidate,
+    who: Who,
+    number: u32,
+    fault: UpdateFault,
+) -> LoadFault
+    requires room { HasRoomFor who books.old.journal }
+    ensures line { HasLine (entry_of who (update_line number fault)) books.old.journal books.new.journal }
+    ensures same { books.new ≡ record books.old {
+      journal = books.new.journal;
+      roster = without_last candidate.roster;
+    } }
+    ensures fault { result ≡ refusal_by fault }
+{
+    books.roster = candidate.discard();
+    books.tell(who, update_line(number, fault));
+    refusal_by(fault)
+}
+
+// Puts the module in force, with its line, and answers.
+fn commit(books: &mut Books, candidate: Candidate, who: Who, number: u32, epoch: u32) -> Loaded
+    requires room { HasRoomFor who books.old.journal }
+    requires few { books.old.policy < MAX_LOADED }
+    requires some { 0 < length candidate.roster.placed }
+    ensures line { HasLine (entry_of who (LoadOk number epoch (books.old.policy + 1)))
+        books.old.journal books.new.journal }
+    ensures same { books.new ≡ record books.old {
+      journal = books.new.journal;
+      roster = candidate.roster;
+      image = candidate.image;
+      epoch = epoch;
+      policy = books.old.policy + 1;
+    } }
+    ensures again { result.again ≡ false }
+    ensures epoch { result.epoch ≡ epoch }
+    ensures policy { result.policy ≡ books.old.policy + 1 }
+    ensures address { (d : Placed) → IsFirstGlobal
+        (slice_index_or candidate.roster.placed (length candidate.roster.placed - 1) d) result.address }
+{
+    books.commit(candidate, who, number, epoch);
+    let last = books.roster.modules().len() - 1;
+    Loaded {
+        again: false,
+        epoch,
+        policy: books.policy,
+        address: books.address_at(last),
+    }
+}
+
+// Loads a module that is not loaded, where there is room for its line.
+fn add<N: TableName>(
+    keeper: &mut Keeper<N>,
+    books: &mut Books,
+    tables: &Tables<N>,
+    number: u32,
+    who: Who,
+) -> Result<Loaded, LoadFault>
+    requires known { number < length books.old.plan.modules }
+    requires kept { AreKept N.key books.old keeper.old }
+    requires asks { MayAskFor (ledger_of books.old keeper.old) who (Load number) }
+    requires room { HasRoomFor who books.old.journal }
+    requires absent { IsAbsent books.old number }
+    ensures ok { IfOk result (λ loaded.
+        LoadsTo N.key who number loaded books.old books.new keeper.old keeper.new) }
+    ensures fault { IfErr result (λ fault.
+        Refuses N.key who number fault books.old books.new keeper.old keeper.new) }
+    ensures same { IsSamePlan books.old books.new }
+{
+    let candidate = match books.prepare(number) {
+        Ok(candidate) => candidate,
+        Err(fault) => return Err(refuse(books, who, number, fault)),
+    };
+    let mark = load_mark(who, number);
+    match keeper.update(tables, candidate.image(), books.policy + 1, mark) {
+        Ok(epoch) => Ok(commit(books, candidate, who, number, epoch)),
+        Err(fault) => Err(turn_down(books, candidate, who, number, fault)),
+    }
+}
+
+// Loads a module, and tells the journal what came of it.
+fn load<N: TableName>(
+    keeper: &mut Keeper<N>,
+    books: &mut Books,
+    tables: &Tables<N>,
+    number: u32,
+    who: Who,
+) -> Result<Loaded, LoadFault>
+    requires known { number < length books.old.plan.modules }
+    requires kept { AreKept N.key books.old keeper.old }
+    requires asks { MayAskFor (ledger_of books.old keeper.old) who (Load number) }
+    ensures ok { IfOk result (λ loaded.
+        LoadsTo N.key who number loaded books.old books.new keeper.old keeper.new) }
+    ensures fault { IfErr result (λ fault.
+        Refuses N.key who number fault books.old books.new keeper.old keeper.new) }
+    ensures same { IsSamePlan books.old books.new }
+{
+    if !books.reserve(who) {
+        return Err(LoadFault::Memory);
+    }
+    if let Some(at) = books.roster.find(number) {
+        return Ok(again(books, who, number, at));
+    }
+    if books.is_full() {
+        books.tell(who, JournalLine::LoadFull { module: number });
+        return Err(LoadFault::ModulesFull);
+    }
+    add(keeper, books, tables, number, who)
+}
+
+impl<N: LoaderName> Loader<N> {
+    /// Loads the module of this number of the plan: places and verifies it behind those that are loaded, makes the
+    /// image of all, and puts it in force with the next policy. A module that is loaded answers at once.
+    ///
+    /// Each answer but `Memory` adds one line to the journal. A refusal leaves the tables, the code and the modules as
+    /// they were; all memory is taken before the first word is stored, and want of it marks the loader starved. The
+    /// faults come in the order of `LoadFault`. Where the script asks, its next call is this one.
+    pub fn load(&mut self, tables: &Tables<N>, number: u32, who: Who) -> Result<Loaded, LoadFault>
+        requires known { number < length N.plan.modules }
+        requires asks { MayAskFor self.old who (Load number) }
+        ensures ok { IfOk result (λ loaded. HasLoaded N.key who number loaded self.old self.new) }
+        ensures fault { IfErr result (λ fault. IsLoadFault N.key who number fault self.old self.new) }
+    {
+        load(&mut self.keeper, &mut self.books, tables, number, who)
+    }
+}

@@ -1,0 +1,65 @@
+//! The loader: the value under the lock.
+
+ghost use Rattle.std.specs.Prelude.{◌≡◌};
+
+use crate::books::Books;
+use crate::start::Start;
+use cfi_tables::{Keeper, TableName, Tables};
+use std::marker::{Brand, Model};
+
+/// Names one loader: its table, its plan, and the modules of that.
+pub trait LoaderName: TableName {
+    ghost use Rattle.std.specs.Prelude.{List};
+    ghost use Rattle.cfi_aux.specs.declared.modules.Module.{Module};
+    ghost use Rattle.cfi_plan.specs.declared.plan.Plan.{Plan};
+
+    ghost plan: { Plan };
+
+    ghost modules: { List Module };
+}
+
+impl LoaderName for Brand {
+    ghost use Rattle.std.specs.Prelude.{[]};
+    ghost use Rattle.cfi_valid.specs.Bare.{bare_plan};
+
+    ghost plan = { bare_plan };
+
+    ghost modules = { [] };
+}
+
+/// The keeper of the tables, with the plan and its modules, those that are loaded, the journal, and the place in the
+/// script.
+///
+/// Whoever gets it from a lock knows of it what its name says and what its type keeps: that the journal is legal, that
+/// the tables are as the journal tells, and that the script's lines are those of its calls before the one that is due.
+#[derive(Drop)]
+pub struct Loader<N: LoaderName> {
+    pub(crate) keeper: Keeper<N>,
+    pub(crate) books: Books,
+}
+
+impl<N: LoaderName> Model for Loader<N> {
+    ghost use Rattle.cfi_loader.specs.Ledger.{Ledger};
+    ghost use Rattle.cfi_loader.specs.inner.Books.{ledger_of, IsLoader};
+
+    ghost Value = { Ledger };
+
+    ghost view = { λ a. ledger_of a.books a.keeper };
+
+    ghost invariant = { λ a. IsLoader N.key N.plan N.modules a.books a.keeper };
+}
+
+impl<N: LoaderName> Loader<N> {
+    /// The loader of a start, and its tables, under the name N, which is the start's. It takes no memory.
+    pub fn open(start: Start) -> (Loader<N>, Tables<N>)
+        requires table { start.named.table ≡ N.table }
+        requires key { start.named.key ≡ N.key }
+        requires plan { start.ledger.course.plan ≡ N.plan }
+        requires modules { start.ledger.course.modules ≡ N.modules }
+        ensures { result.0 ≡ start.ledger }
+    {
+        let Start { blank, books } = start;
+        let (tables, keeper) = Tables::<N>::open(blank);
+        (Loader { keeper, books }, tables)
+    }
+}

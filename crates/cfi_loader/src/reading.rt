@@ -1,0 +1,101 @@
+//! What a loader tells.
+
+ghost use Rattle.std.specs.Prelude.{◌≡◌, ℕ, Some, IfSome, IfNone, map, option_map, slice_get};
+ghost use Rattle.cfi_series.specs.Fills.{fills_of};
+ghost use Rattle.cfi_valid.specs.Guests.{GuestBegins};
+ghost use Rattle.cfi_valid.specs.Loaded.{placed_modules, module_line_of};
+ghost use Rattle.cfi_valid.specs.Script.{made_by_script, script_calls};
+ghost use Rattle.cfi_loader.specs.Calls.{call_due};
+ghost use Rattle.cfi_loader.specs.Ledger.{IsLedger};
+
+use crate::books::Books;
+use crate::due::Due;
+use crate::entries::entry_at;
+use crate::loader::{Loader, LoaderName};
+use cfi_aux::Module;
+use cfi_plan::{Entry, ModuleLine, Plan};
+use cfi_series::loaded_have_entries;
+use cfi_tables::Seen;
+use cfi_unit::Fill;
+use cfi_values::Items;
+
+impl<N: LoaderName> Loader<N> {
+    /// The journal: a line for each load and each refresh, but those that found no memory.
+    ///
+    /// `law`: what the loader keeps at every moment.
+    pub fn journal(&self) -> &[Entry]
+        ensures value { result.now ≡ self.now.course.journal }
+        ensures law { IsLedger N.key N.plan N.modules self.now }
+    {
+        self.books.journal.lines()
+    }
+
+    /// The epoch and the policy in force.
+    pub fn force(&self) -> Seen
+        ensures epoch { result.epoch ≡ self.now.course.end.epoch }
+        ensures policy { result.policy ≡ self.now.course.end.policy }
+    {
+        Seen {
+            epoch: self.books.epoch,
+            policy: self.books.policy,
+        }
+    }
+
+    /// The plan.
+    pub fn plan(&self) -> &Plan
+        ensures { result.now ≡ N.plan }
+    {
+        &self.books.plan
+    }
+
+    /// What a report says of each loaded module, in load order.
+    pub fn modules(&self) -> &[ModuleLine]
+        ensures { result.now ≡ map (module_line_of N.plan.modules) self.now.course.end.loaded }
+    {
+        self.books.roster.lines()
+    }
+
+    /// The data of the loaded modules, in load order.
+    pub fn fills(&self) -> &[Fill]
+        ensures { result.now ≡ fills_of (placed_modules self.now.course.end.loaded) }
+    {
+        self.books.roster.fills()
+    }
+
+    /// Whether memory was missing for a load.
+    pub fn starved(&self) -> bool
+        ensures { result ≡ self.now.starved }
+    {
+        self.books.starved
+    }
+
+    /// The script's next call; a line `refresh N` is N calls. None exactly where every line was made.
+    pub fn due(&self) -> Option<Due>
+        ensures next { option_map call_due result ≡ slice_get self.now.left 0 }
+        ensures none { IfNone result (made_by_script self.now.course.journal ≡ script_calls N.plan.script) }
+    {
+        self.books.journal.due()
+    }
+
+    /// Where a guest of this entry begins: at the Global function of this name in the first start module that has one,
+    /// and for a bare file's plan at its module's first word.
+    pub fn entry(&self, name: &str) -> Option<u32>
+        ensures some { IfSome result (GuestBegins N.plan self.now.course.end.loaded name.now) }
+        ensures only { (address : ℕ) → GuestBegins N.plan self.now.course.end.loaded name.now address →
+            result ≡ Some address }
+    {
+        loaded_have_entries();
+        let starts = &self.books.roster.modules()[..self.books.starts];
+        entry_at(&self.books.plan, starts, name)
+    }
+
+    /// The plan and its modules, as `Start::new` took them. It takes no memory.
+    pub fn parts(self) -> (Plan, Items<Module>)
+        ensures plan { result.0 ≡ N.plan }
+        ensures modules { result.1 ≡ N.modules }
+    {
+        let Loader { keeper: _, books } = self;
+        let Books { plan, modules, .. } = books;
+        (plan, modules)
+    }
+}
