@@ -21,9 +21,10 @@ use Rattle.cfi_tables.proofs.FairLemmas.{kept_snoc}
 use Rattle.cfi_tables.proofs.Prefixes.{prefix_length}
 use Rattle.cfi_tables.specs.Views.{tables_with}
 use Rattle.rv_guest.specs.Guest.{MayLoad}
-use Rattle.cfi_runner.specs.Seen.{history_seen, code_seen, SeesMore}
+use Rattle.cfi_runner.specs.Seen.{history_seen, code_seen, policy_seen, SeesMore}
 use Rattle.cfi_runner.specs.Run.{AsksFor, CanRunOn, HasTaken, KeepsSeat}
 use Rattle.cfi_runner.proofs.ActLemmas.{WaitsAt}
+use Rattle.cfi_runner.proofs.PickedLemmas.{logs_same, logs_found}
 use Rattle.cfi_runner.proofs.SeenLemmas.{sees_trans, policy_later, bary_seen, tary_seen, tary_rises, word_later}
 use Rattle.cfi_runner.proofs.NeedLemmas.{MayNeed, fair_in, fair_kept}
 use Rattle.cfi_runner.proofs.WayLemmas.{IsOnWay, IsUnderWay, low, needs, takes_more}
@@ -84,6 +85,9 @@ module _ (k : Key) (fuel : ℕ) (p : PassView) (old : Raw) (can : CanRunOn k fue
                   ap (kept_of k) load.accesses
                   ∙ (kept_snoc k q.sight.accesses (places.Bary slot) found inside tt
                   ∙ (sym (ap (λ r. r.bary) done) ∙ e));
+              logs = logs_same (policy_seen k p.sight) old.base.log now way.logs (finish_of now found)
+                  (ap (λ r. r.base.log) done)
+                  (λ word e. way.logs.next word (sym (ap (λ r. r.tary) done) ∙ e));
             };
             idle = ap (λ r. r.waits) done;
             going = ap (λ r. r.base.stop) done ∙ going;
@@ -100,11 +104,12 @@ module _ (k : Key) (fuel : ℕ) (p : PassView) (old : Raw) (can : CanRunOn k fue
         (omega (arith, load.tells.1, way.keeps.sees.is.most, long)) in
         let done : finish_of now found ≡ finish_as (Some (waits.Tary at rd)) now found =
         ap (λ w. finish_as w now found) wait in
-        let rises : last_policy now.base.log ≤ policy_in found =
-        (let up = policy_later k q.sight new.sight way.keeps.sees.is sees in
+        let up = policy_later k q.sight new.sight way.keeps.sees.is sees in
         let tary = tary_rises k new.sight sees.is index found load.word
         (omega (arith, load.tells.0, load.tells.1, load.epoch)) in
-        omega (arith, low k fuel p old can q now way, up, tary)) in
+        let rises : last_policy now.base.log ≤ policy_in found =
+        omega (arith, low k fuel p old can q now way, up, tary) in
+        let before = policy_later k p.sight q.sight can.sight way.keeps.sees in
         let taken = takes_more k fuel p old can q now way new (access_of k.code_words (places.Tary index) found) load.accesses sees
         (subst (λ w. AsksFor k.code_words w now (tary_word k.code_words index)) (sym wait) refl)
         (λ later more. subst (λ w. FitsWord (history_seen k later) (code_seen k later) w now found) (sym wait)
@@ -125,6 +130,8 @@ module _ (k : Key) (fuel : ℕ) (p : PassView) (old : Raw) (can : CanRunOn k fue
                   ap (kept_of k) load.accesses
                   ∙ (kept_snoc k q.sight.accesses (places.Tary index) found inside tt
                   ∙ way.kept word (sym (ap (λ r. r.bary) done) ∙ e));
+              logs = logs_found (policy_seen k p.sight) old.base.log now way.logs (finish_of now found) found
+                  (ap (λ r. r.base.log) done) (ap (λ r. r.tary) done) (omega (arith, before, up, tary)) rises;
             };
             idle = ap (λ r. r.waits) done;
             going = ap (λ r. r.base.stop) done ∙ going;

@@ -1,6 +1,7 @@
 pub mod SeenLemmas
 pub mod ActLemmas
 pub mod WordLemmas
+pub mod PickedLemmas
 pub mod NeedLemmas
 pub mod WayLemmas
 pub mod FoundLemmas

@@ -8,11 +8,14 @@ use Rattle.cfi_model.specs.Raw.{Raw}
 use Rattle.cfi_tables.specs.Key.{Key}
 use Rattle.cfi_tables.specs.declared.view.PassView.{PassView}
 use Rattle.rv_guest.specs.Guest.{spent, is_spent}
+use Rattle.cfi_runner.specs.Picks.{HasPicked}
 use Rattle.cfi_runner.specs.Seen.{policy_seen}
 use Rattle.cfi_runner.specs.Run.{CanRunOn, HasRunOn, PausesAt}
 use Rattle.cfi_runner.specs.declared.pause.Pause.{Pause}
 use Rattle.cfi_runner.specs.declared.pause.Pause.TheVariants as pauses
 use Rattle.cfi_runner.proofs.ActLemmas.{Tells}
+use Rattle.cfi_runner.proofs.PickedLemmas.{picks_within}
+use Rattle.cfi_runner.proofs.SeenLemmas.{policy_later}
 use Rattle.cfi_runner.proofs.WayLemmas.{IsOnWay, IsUnderWay, HasBegun, low}
 
 module _ (k : Key) (fuel : ℕ) (p : PassView) (old : Raw) (can : CanRunOn k fuel p old) where
@@ -26,6 +29,9 @@ module _ (k : Key) (fuel : ℕ) (p : PassView) (old : Raw) (can : CanRunOn k fue
     within = within;
     keeps = way.keeps;
     logged = subst (λ l. last_policy l ≤ policy_seen k q.sight) (sym log) (low k fuel p old can q last way);
+    picked = subst (HasPicked (policy_seen k p.sight) (policy_seen k q.sight) old.base.log) (sym log)
+        (picks_within (policy_seen k p.sight) (policy_seen k q.sight) old.base.log last.base.log way.logs.to
+        (policy_later k p.sight q.sight can.sight way.keeps.sees) (low k fuel p old can q last way));
   }
 
   module _ (q : PassView) (now : Raw) (u : IsUnderWay k p old q now) (new : PassView) (word : ℕ)

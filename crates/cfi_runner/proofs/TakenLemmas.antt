@@ -12,7 +12,7 @@ use Rattle.cfi_model.proofs.KeptLemmas.{not_epoch}
 use Rattle.cfi_runner.specs.Run.{AsksFor, AreAsked, words_found}
 
 -- no guest asks for EPOCH
-first_code : (c : ℕ) (wait : Option Wait) (r : Raw) (word : ℕ) → AsksFor c wait r word → FIRST_CODE ≤ word
+pub first_code : (c : ℕ) (wait : Option Wait) (r : Raw) (word : ℕ) → AsksFor c wait r word → FIRST_CODE ≤ word
 first_code c None r word is = omega (arith, is)
 first_code c (Some (waits.Tary at rd)) r word is = omega (arith, is)
 first_code c (Some (waits.Bary slot rd)) r word is = omega (arith, is)

@@ -29,6 +29,7 @@ use Rattle.cfi_tables.proofs.FairLemmas.{kept_snoc}
 use Rattle.cfi_runner.specs.Seen.{history_seen, code_seen, policy_seen, IsSight, SeesMore}
 use Rattle.cfi_runner.specs.Run.{AsksFor, CanRunOn, HasTaken, KeepsSeat, words_found}
 use Rattle.cfi_runner.proofs.ActLemmas.{Tells, act_tells}
+use Rattle.cfi_runner.proofs.PickedLemmas.{LogsTo, logs_start, logs_begun}
 use Rattle.cfi_runner.proofs.SeenLemmas.{sees_same, sees_trans, seen_history, code_many, policy_most, policy_later, code_later, start_later}
 use Rattle.cfi_runner.proofs.WordLemmas.{words_snoc, run_word, asked_append, no_replies, runs_low, shown_log}
 use Rattle.cfi_runner.proofs.NeedLemmas.{MayNeed, shown_needs, insn_is}
@@ -38,6 +39,7 @@ pub record IsOnWay (k : Key) (p : PassView) (old : Raw) (q : PassView) (now : Ra
   pub taken : HasTaken k p q old now
   pub keeps : KeepsSeat k p q
   pub kept : KeepsLast now (kept_of k q.sight.accesses)
+  pub logs : LogsTo (policy_seen k p.sight) old.base.log now
 
 -- and waits for nothing
 pub record IsUnderWay (k : Key) (p : PassView) (old : Raw) (q : PassView) (now : Raw) : Type 0 where
@@ -58,6 +60,7 @@ module _ (k : Key) (fuel : ℕ) (p : PassView) (old : Raw) (can : CanRunOn k fue
       };
       keeps = record { guest = refl; quiet = refl; refusals = refl; sees = sees_same k p.sight can.sight };
       kept = λ word e. absurd (none_some word (sym can.fresh.0 ∙ e));
+      logs = logs_start (policy_seen k p.sight) old can.fresh.1;
     };
     idle = can.idle;
     going = can.going;
@@ -241,6 +244,7 @@ module _ (k : Key) (fuel : ℕ) (p : PassView) (old : Raw) (can : CanRunOn k fue
                   ap (λ (s : Sight). kept_of k s.accesses) sight_is
                   ∙ (kept_snoc k q.sight.accesses (places.Code here) word place_within tt
                   ∙ u.way.kept kept (begin_keeps now (insn_of word) kept e));
+              logs = logs_begun (policy_seen k p.sight) old.base.log now u.way.logs (insn_of word);
             };
             steps = begin_counts now (insn_of word) has;
             tells = subst (λ a. Tells a (begin_of now word)) (sym act)

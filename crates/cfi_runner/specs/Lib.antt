@@ -1,4 +1,5 @@
 pub mod Seen
+pub mod Picks
 pub mod Run
 pub mod Shown
 pub mod Laws

@@ -15,6 +15,7 @@ use Rattle.cfi_model.specs.Shows.{IsReady}
 use Rattle.cfi_tables.specs.Key.{Key}
 use Rattle.cfi_tables.specs.declared.view.PassView.{PassView}
 use Rattle.cfi_tables.specs.declared.view.Sight.{Sight}
+use Rattle.cfi_runner.specs.Picks.{HasPicked}
 use Rattle.cfi_runner.specs.Seen.{IsSight, SeesMore, history_seen, code_seen, policy_seen}
 use Rattle.cfi_runner.specs.declared.pause.Pause.{Pause}
 use Rattle.cfi_runner.specs.declared.pause.Pause.TheVariants as pauses
@@ -76,7 +77,8 @@ pub record KeepsSeat (k : Key) (old new : PassView) : Type 0 where
   pub sees : SeesMore k old.sight new.sight
 
 -- A guest has run until it paused. It had run no more than its fuel before, and has logged no policy above the latest
--- one that its pass has seen in force.
+-- one that its pass has seen in force. What it has logged are picks, none under a policy below the latest one that its
+-- pass had seen before.
 pub record HasRunOn (k : Key) (fuel : ℕ) (p q : PassView) (old new : Raw) (pause : Pause) : Type 0 where
   pub last : Raw
   pub taken : HasTaken k p q old last
@@ -84,3 +86,4 @@ pub record HasRunOn (k : Key) (fuel : ℕ) (p q : PassView) (old new : Raw) (pau
   pub within : new.base.steps ≤ fuel
   pub keeps : KeepsSeat k p q
   pub logged : last_policy new.base.log ≤ policy_seen k q.sight
+  pub picked : HasPicked (policy_seen k p.sight) (policy_seen k q.sight) old.base.log new.base.log

@@ -1,0 +1,14 @@
+pub mod PathLemmas
+pub mod SettledLemmas
+pub mod RunLemmas
+pub mod OpeningLemmas
+pub mod LedgerLemmas
+pub mod TellingLemmas
+pub mod ToldLemmas
+pub mod SeesLemmas
+pub mod ServeLemmas
+pub mod NoteLemmas
+pub mod CauseLemmas
+pub mod AnswerLemmas
+pub mod OpenLemmas
+pub mod OtherLemmas
