@@ -12,3 +12,4 @@ pub mod CauseLemmas
 pub mod AnswerLemmas
 pub mod OpenLemmas
 pub mod OtherLemmas
+pub mod TurnLemmas

@@ -20,12 +20,12 @@ use Rattle.cfi_engine.specs.Path.{AreDue, AreFound, IsDueWith, word_found, word_
 -- ---- words
 
 -- a guest takes each word that it has asked for
-pub words_found : (c : ℕ) (accesses : List Access) (r : Raw) → AreAsked c r accesses
+pub found_words : (c : ℕ) (accesses : List Access) (r : Raw) → AreAsked c r accesses
     → AreFound accesses (words_found accesses)
-words_found c [] r asked = refl
-words_found c (access ∷ later) r asked =
+found_words c [] r asked = refl
+found_words c (access ∷ later) r asked =
     let rest : List ℕ = filter_map word_found later in
-    ap (cons_option (Some access.found)) (words_found c later (take_one r (Word access.found)) asked.1)
+    ap (cons_option (Some access.found)) (found_words c later (take_one r (Word access.found)) asked.1)
     ∙ ap (λ (b : Bool). cons_option (cond b None (Some access.found)) rest)
     (sym (not_epoch access.word (first_code c r.waits r access.word asked.0)))
 

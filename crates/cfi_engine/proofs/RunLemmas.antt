@@ -23,7 +23,7 @@ use Rattle.cfi_unit.specs.declared.log.Stop.TheVariants as stops
 use Rattle.cfi_engine.specs.Path.{AreFound, IsOpenedAs, IsPath}
 use Rattle.cfi_engine.specs.Runner.{IsEndOf, IsRunnerBy}
 use Rattle.cfi_engine.specs.Settled.{FitsSettled}
-use Rattle.cfi_engine.proofs.PathLemmas.{words_found, found_append, due_append, due_words}
+use Rattle.cfi_engine.proofs.PathLemmas.{found_words, found_append, due_append, due_words}
 use Rattle.cfi_engine.proofs.SettledLemmas.{fits_picked}
 
 -- a guest that has not stopped is where the raw machine is
@@ -102,7 +102,7 @@ module _ (k : Key) (plan : Plan) (modules : List Module) (p q : PassView) (old n
   found_more =
       subst (λ all. AreFound all (path.takes ++ words_found accesses)) (sym run.taken.appended)
       (found_append p.sight.accesses accesses path.takes (words_found accesses) path.found
-      (words_found k.code_words accesses old run.taken.asked))
+      (found_words k.code_words accesses old run.taken.asked))
 
   path_run : IsPath k l.course q run.last
   path_run = record {

@@ -1,12 +1,19 @@
-//! A guest with the pass that loads for it.
+//! A guest with the pass that loads for it, and how it is run to its end.
 
-ghost use Rattle.std.specs.Prelude.{◌≡◌};
+ghost use Rattle.std.specs.Prelude.{◌≡◌, ◌≢◌, Some, None, OnOk, OnErr};
+ghost use Rattle.cfi_model.specs.declared.act.Wait.TheVariants as waits;
+ghost use Rattle.cfi_word.specs.declared.services.TheConstants.{OPEN};
 ghost use Rattle.cfi_engine.specs.Runner.{IsOpening, IsRunner};
 
-use cfi_loader::LoaderName;
-use cfi_tables::Pass;
+use crate::serving::serve;
+use cfi_io::Gate;
+use cfi_loader::{Loader, LoaderName};
+use cfi_runner::{Pause, run_until};
+use cfi_tables::{Pass, Tables};
 use rv_guest::Guest;
+use std::alloc::AllocError;
 use std::marker::Model;
+use std::sync::{Mutex, Wait};
 
 /// A guest of a plan, with its pass.
 ///
@@ -48,4 +55,61 @@ impl<N: LoaderName> Runner<N> {
     {
         &self.guest
     }
+}
+
+impl<N: LoaderName> Runner<N> {
+    // Runs the guest until it pauses, and does the service that it asks for.
+    fn turn<G: Gate, R: Wait>(
+        &mut self,
+        rt: &R,
+        tables: &Tables<N>,
+        loader: &Mutex<Loader<N>>,
+        gate: &G,
+        fuel: u32,
+    ) -> Result<(), AllocError>
+        requires going { self.old.guest.base.stop ≡ None }
+        requires idle { self.old.guest.waits ≡ None }
+        requires fuel { fuel ≡ N.plan.fuel }
+        ensures ok { OnOk result (self.new.guest.waits ≡ None) }
+        ensures fault { OnErr result (self.new.guest.waits ≡ Some (waits.Service OPEN)) }
+    {
+        match run_until(&mut self.guest, tables, &mut self.pass, fuel) {
+            Pause::Service(number) => serve(
+                rt,
+                &mut self.guest,
+                tables,
+                &mut self.pass,
+                loader,
+                gate,
+                number,
+            ),
+            _ => Ok(()),
+        }
+    }
+}
+
+/// Runs a runner's guest until it has stopped, with a service each time that it asks for one.
+///
+/// The guest waits for nothing, and `fuel` is the plan's. It takes the loader's lock in opens alone. `AllocError` is that
+/// of `serve`, for an open whose load found no memory: the guest then waits in it.
+pub fn drive<N: LoaderName, G: Gate, R: Wait>(
+    rt: &R,
+    runner: &mut Runner<N>,
+    tables: &Tables<N>,
+    loader: &Mutex<Loader<N>>,
+    gate: &G,
+    fuel: u32,
+) -> Result<(), AllocError>
+    requires idle { runner.old.guest.waits ≡ None }
+    requires fuel { fuel ≡ N.plan.fuel }
+    ensures stopped { OnOk result (runner.new.guest.base.stop ≢ None) }
+    ensures fault { OnErr result (runner.new.guest.waits ≡ Some (waits.Service OPEN)) }
+{
+    for _ in rt.forever() {
+        if runner.guest().stop().is_some() {
+            return Ok(());
+        }
+        runner.turn(rt, tables, loader, gate, fuel)?;
+    }
+    unreachable!()
 }
