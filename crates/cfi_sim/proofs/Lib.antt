@@ -26,3 +26,6 @@ pub mod GuestsLemmas
 pub mod OpenedLemmas
 pub mod PartLemmas
 pub mod EndLemmas
+pub mod FoundLemmas
+pub mod DueLemmas
+pub mod GoLemmas
