@@ -29,3 +29,4 @@ pub mod EndLemmas
 pub mod FoundLemmas
 pub mod DueLemmas
 pub mod GoLemmas
+pub mod ReleaseLemmas

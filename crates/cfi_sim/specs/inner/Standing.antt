@@ -6,7 +6,7 @@ use Rattle.cfi_model.specs.World.{World}
 use Rattle.cfi_plan.specs.declared.plan.Plan.{Plan}
 use Rattle.cfi_plan.specs.Plan.{IsPlan}
 use Rattle.cfi_series.specs.Series.{CanBeTaken}
-use Rattle.cfi_sim.specs.Events.{IsAnswered, IsGuestEvent}
+use Rattle.cfi_sim.specs.Events.{IsAnswered, IsGuestEvent, IsReleaseEvent}
 use Rattle.cfi_sim.specs.Stage.{Stage}
 use Rattle.cfi_sim.specs.Stands.{IsGoing}
 use Rattle.cfi_sim.specs.declared.standing.Standing.TheInside.{Inside}
@@ -66,3 +66,8 @@ pub record HasDone (Happens : Stage → Stage → Type 0) (old new : Whole) : Ty
 abbrev pub GoesBy : (guest : ℕ) → (old new : Whole) → (happened : Bool) → Type 0
 GoesBy guest old new true = HasDone (IsGuestEvent old.plan guest) old new
 GoesBy guest old new false = (turn_of old.stage.world (events.Guest guest)).answer ≡ Nothing
+
+-- a guest was released, or there is nothing to be released
+abbrev pub ReleasesBy : (guest : ℕ) → (old new : Whole) → (happened : Bool) → Type 0
+ReleasesBy guest old new true = HasDone (IsReleaseEvent guest) old new
+ReleasesBy guest old new false = (turn_of old.stage.world (events.Release guest)).answer ≡ Nothing

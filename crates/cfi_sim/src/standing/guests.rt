@@ -7,7 +7,7 @@ ghost use Rattle.cfi_model.specs.Words.{policy_in_force};
 ghost use Rattle.cfi_sim.specs.Agrees.{AreApart};
 ghost use Rattle.cfi_sim.specs.Events.{fills_in};
 ghost use Rattle.cfi_sim.specs.declared.limits.TheConstants.{MAX_EVENTS};
-ghost use Rattle.cfi_sim.specs.inner.Standing.{AnswersOpen, GoesBy, IsThere, IsUnderWay};
+ghost use Rattle.cfi_sim.specs.inner.Standing.{AnswersOpen, GoesBy, ReleasesBy, IsThere, IsUnderWay};
 
 use crate::found::Found;
 use crate::opens::{fills_between, find, given_by};
@@ -68,5 +68,23 @@ impl<'a> Standing<'a> {
         }
         self.events += 1;
         Ok(true)
+    }
+
+    /// Releases the data of a guest. False where nothing is to be released.
+    #[inline(always)]
+    pub(super) fn release(&mut self, guest: u32) -> bool
+        requires under_way { IsUnderWay self.old }
+        requires few { self.old.stage.events < MAX_EVENTS }
+        ensures { ReleasesBy guest self.old self.new result }
+    {
+        match self.world.turn(Event::Release(guest)) {
+            Turned::Nothing => return false,
+            Turned::Did
+            | Turned::Asks { .. }
+            | Turned::VersionsSpent { .. }
+            | Turned::EpochsSpent => {}
+        }
+        self.events += 1;
+        true
     }
 }
