@@ -1,5 +1,7 @@
 -- An access of the updater leaves the world in agreement with the journal.
-use Rattle.cfi_sim.specs.Stage.{Stage, Aim, Loading, Refreshing, IsMade, after_event}
+use Rattle.cfi_sim.specs.declared.aim.Aim.{Aim}
+use Rattle.cfi_sim.specs.declared.aim.Aim.TheVariants.{Loading, Refreshing}
+use Rattle.cfi_sim.specs.Stage.{Stage, IsMade, after_event}
 use Rattle.std.proofs.Common.{◌≡◌, ◌≢◌, ℕ, ◌+◌, ◌*◌, ◌<◌, ◌≤◌, cond, Bool, true, false, List, Option, Some, None, refl, sym, ◌∙◌, ap, subst, arith}
 use Rattle.std.specs.Prelude.{nat_lt}
 use Rattle.std.proofs.lemmas.Bool.{lt-ltb, le-ltb}

@@ -12,7 +12,8 @@ use Rattle.cfi_model.specs.Raw.{Raw}
 use Rattle.cfi_model.specs.Words.{Tables}
 use Rattle.cfi_world.proofs.RestLemmas.{going_runs, same_tary, shown_log}
 use Rattle.cfi_model.specs.Run.{serve_as, serve_of}
-use Rattle.cfi_sim.specs.Events.{Found, IsFound, reply_by}
+use Rattle.cfi_sim.specs.declared.found.Found.{Found}
+use Rattle.cfi_sim.specs.Events.{IsFound, reply_by}
 use Rattle.cfi_sim.proofs.TurnLemmas.{some_same, none_some, waits_on, reply_same, shown_argument, AllRun}
 use Rattle.cfi_model.specs.Service.{Reply, argument}
 use Rattle.cfi_world.proofs.OthersLemmas.{others_stay, only_updates}

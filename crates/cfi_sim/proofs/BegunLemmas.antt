@@ -15,7 +15,9 @@ use Rattle.cfi_model.specs.Words.{Tables, entry_at, newest, epoch_in_force}
 use Rattle.cfi_series.proofs.ImageLemmas.{closed}
 use Rattle.cfi_sim.specs.Events.{Begins}
 use Rattle.cfi_world.specs.Updates.{is_idle, begun, asked_entry}
-use Rattle.cfi_sim.specs.Stage.{Stage, Aim, Loading, Refreshing, after_event}
+use Rattle.cfi_sim.specs.declared.aim.Aim.{Aim}
+use Rattle.cfi_sim.specs.declared.aim.Aim.TheVariants.{Loading, Refreshing}
+use Rattle.cfi_sim.specs.Stage.{Stage, after_event}
 use Rattle.cfi_model.specs.InForce.{in_force}
 use Rattle.cfi_model.specs.Data.{LiesInData}
 use Rattle.cfi_sim.specs.Stands.{Holds}

@@ -4,7 +4,9 @@ use Rattle.std.proofs.Common.{◌≡◌, ℕ, ◌+◌, ◌||◌, ◌++◌, cond,
 use Rattle.std.specs.List.{All}
 use Rattle.cfi_world.specs.declared.event.Turned.TheVariants.{Did, Asks, VersionsSpent, EpochsSpent, Nothing}
 use Rattle.cfi_world.specs.declared.event.Event.TheVariants as events
-use Rattle.cfi_sim.specs.Stage.{Stage, Aim, Loading, Refreshing, with_line, IsMade, dropped, after_event}
+use Rattle.cfi_sim.specs.declared.aim.Aim.{Aim}
+use Rattle.cfi_sim.specs.declared.aim.Aim.TheVariants.{Loading, Refreshing}
+use Rattle.cfi_sim.specs.Stage.{Stage, with_line, IsMade, dropped, after_event}
 use Rattle.cfi_sim.proofs.RunsLemmas.{same_later, runs_on}
 use Rattle.cfi_valid.specs.Loaded.{LoadedModule}
 use Rattle.cfi_world.proofs.ForceLemmas.{turn_on}

@@ -8,10 +8,13 @@ use Rattle.cfi_model.proofs.TableLemmas.{force_policy}
 use Rattle.cfi_world.specs.declared.event.Event.TheVariants as events
 use Rattle.cfi_world.specs.declared.event.Turned.TheVariants.{Did, Asks, VersionsSpent, EpochsSpent, Nothing}
 use Rattle.cfi_model.specs.Words.{Tables, epoch_in_force, policy_in_force}
-use Rattle.cfi_sim.specs.Events.{Found, Unknown, Functionless, Opened, Unloaded, reply_by, GuestTurns, IsGuestEvent, IsReleaseEvent}
+use Rattle.cfi_sim.specs.declared.found.Found.{Found}
+use Rattle.cfi_sim.specs.declared.found.Found.TheVariants.{Unknown, Functionless, Opened, Unloaded}
+use Rattle.cfi_sim.specs.Events.{reply_by, GuestTurns, IsGuestEvent, IsReleaseEvent}
 use Rattle.cfi_world.specs.Updates.{is_idle}
 use Rattle.cfi_model.specs.Raw.{Raw}
-use Rattle.cfi_sim.specs.Stage.{Stage, Loading, Refreshing, after_event}
+use Rattle.cfi_sim.specs.declared.aim.Aim.TheVariants.{Loading, Refreshing}
+use Rattle.cfi_sim.specs.Stage.{Stage, after_event}
 use Rattle.cfi_model.specs.Service.{Reply}
 use Rattle.cfi_sim.proofs.BegunLemmas.{some_fills, comes, begin_agrees, refresh_may, load_may}
 use Rattle.cfi_model.specs.Run.{serve_of}

@@ -1,5 +1,7 @@
 -- The journal of a schedule is one that a run may have.
-use Rattle.cfi_sim.specs.Stage.{Stage, Aim, Loading, Refreshing, dropped, IsMade, after_event}
+use Rattle.cfi_sim.specs.declared.aim.Aim.{Aim}
+use Rattle.cfi_sim.specs.declared.aim.Aim.TheVariants.{Loading, Refreshing}
+use Rattle.cfi_sim.specs.Stage.{Stage, dropped, IsMade, after_event}
 use Rattle.std.proofs.Common.{◌≡◌, ℕ, ◌+◌, ◌<◌, ◌++◌, List, [], ◌∷◌, Option, Some, None, inl, inr, refl, sym, subst}
 use Rattle.cfi_aux.specs.declared.modules.Module.{Module}
 use Rattle.cfi_model.specs.declared.phase.Phase.{Phase}

@@ -26,3 +26,7 @@ pub mod GuestsLemmas
 pub mod OpenedLemmas
 pub mod PartLemmas
 pub mod EndLemmas
+pub mod FoundLemmas
+pub mod DueLemmas
+pub mod GoLemmas
+pub mod ReleaseLemmas

@@ -15,7 +15,8 @@ use Rattle.cfi_valid.specs.Growth.{IsLater}
 use Rattle.cfi_policy.specs.Image.{IsImage}
 use Rattle.cfi_series.proofs.GraphLemmas.{are_loaded}
 use Rattle.cfi_aux.specs.declared.modules.Module.{Module}
-use Rattle.cfi_sim.specs.Stage.{Aim, Loading, Refreshing}
+use Rattle.cfi_sim.specs.declared.aim.Aim.{Aim}
+use Rattle.cfi_sim.specs.declared.aim.Aim.TheVariants.{Loading, Refreshing}
 use Rattle.cfi_valid.specs.Loaded.{LoadedModule, placed_modules, loaded_by, live_at, IsLoaded}
 use Rattle.cfi_plan.specs.declared.plan.Plan.{Plan}
 use Rattle.cfi_model.proofs.InForceLemmas.{force_within, later_rises}

@@ -3,7 +3,9 @@ use Rattle.std.proofs.Common.{◌≡◌, ℕ, ◌+◌, ◌-◌, List, length, Op
 use Rattle.std.proofs.lemmas.Bool.{cases_eq}
 use Rattle.cfi_valid.specs.Running.{HasReplayed, RunsUnit}
 use Rattle.cfi_valid.proofs.RunningLemmas.{replay_goes_on}
-use Rattle.cfi_sim.specs.Events.{Found, Unknown as NoModuleFound, Functionless, Opened, Unloaded, reply_by}
+use Rattle.cfi_sim.specs.declared.found.Found.{Found}
+use Rattle.cfi_sim.specs.declared.found.Found.TheVariants.{Unknown as NoModuleFound, Functionless, Opened, Unloaded}
+use Rattle.cfi_sim.specs.Events.{reply_by}
 use Rattle.cfi_model.proofs.RunningLemmas.{running_shows}
 use Rattle.cfi_sim.specs.Agrees.{TablesAgree}
 use Rattle.cfi_sim.proofs.SettledLemmas.{FitsGiven, is_settled}
@@ -27,7 +29,7 @@ use Rattle.cfi_world.specs.Laws.{IsBrought, IsStepped}
 use Rattle.cfi_aux.specs.declared.modules.Module.{Module}
 use Rattle.cfi_world.proofs.RestLemmas.{going_runs, shown_stop}
 use Rattle.cfi_plan.specs.declared.plan.Plan.{Plan}
-use Rattle.cfi_sim.specs.Stage.{Aim}
+use Rattle.cfi_sim.specs.declared.aim.Aim.{Aim}
 use Rattle.cfi_model.specs.Log.{pick_entries}
 use Rattle.cfi_valid.specs.FromLaw.{HasPolicies, BringsDue}
 use Rattle.cfi_series.specs.Loaded.{AreLoaded, IsLoadedImage}

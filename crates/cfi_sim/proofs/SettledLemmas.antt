@@ -3,7 +3,9 @@ use Rattle.std.proofs.Math.Seq.{take-length}
 use Rattle.std.proofs.lemmas.List.{take-append-le, length-drop}
 use Rattle.std.proofs.Common.{◌≡◌, ℕ, ℤ, ◌+◌, ◌-◌, ◌≤◌, ◌<◌, ◌==◌, ◌++◌, cond, Bool, true, false, List, [], ◌∷◌, length, take, drop, length-append, Option, Some, None, refl, sym, ◌∙◌, ap, subst, arith}
 use Rattle.cfi_sim.proofs.CausesLemmas.{log_grows}
-use Rattle.cfi_sim.specs.Events.{Found, Unknown as NoModuleFound, Functionless, Opened, Unloaded, IsFound, reply_by}
+use Rattle.cfi_sim.specs.declared.found.Found.{Found}
+use Rattle.cfi_sim.specs.declared.found.Found.TheVariants.{Unknown as NoModuleFound, Functionless, Opened, Unloaded}
+use Rattle.cfi_sim.specs.Events.{IsFound, reply_by}
 use Rattle.cfi_sim.specs.Agrees.{TablesAgree}
 use Rattle.cfi_model.specs.Raw.{Raw}
 use Rattle.cfi_sim.proofs.RunsLemmas.{course_at, HasRun, same_later}
@@ -25,7 +27,7 @@ use Rattle.cfi_unit.specs.declared.unit.Unit.{Unit as CodeUnit}
 use Rattle.cfi_world.specs.Laws.{IsBrought, IsStepped}
 use Rattle.cfi_aux.specs.declared.modules.Module.{Module}
 use Rattle.cfi_plan.specs.declared.plan.Plan.{Plan}
-use Rattle.cfi_sim.specs.Stage.{Aim}
+use Rattle.cfi_sim.specs.declared.aim.Aim.{Aim}
 use Rattle.cfi_unit.specs.declared.log.Log.TheVariants.{Open, Cause}
 use Rattle.cfi_model.specs.Log.{picked, last_policy}
 use Rattle.cfi_model.proofs.IdLemmas.{seen_of, tary_policy}

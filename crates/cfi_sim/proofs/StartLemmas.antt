@@ -30,7 +30,8 @@ use Rattle.cfi_series.proofs.PrefixLemmas.{data_lies}
 use Rattle.cfi_series.proofs.SeriesLemmas.{item_at}
 use Rattle.cfi_sim.specs.declared.limits.TheConstants.{MAX_UPDATES}
 use Rattle.cfi_sim.specs.Agrees.{AreApart, IsPolicyOf, IsOfPlan, HasFound, HasEntry, coming, TablesAgree, GuestsAgree, WorldAgrees}
-use Rattle.cfi_sim.specs.Stage.{Stage, Aim}
+use Rattle.cfi_sim.specs.declared.aim.Aim.{Aim}
+use Rattle.cfi_sim.specs.Stage.{Stage}
 use Rattle.cfi_sim.specs.Valid.{IsStart}
 use Rattle.cfi_sim.specs.Stands.{Holds}
 use Rattle.cfi_sim.proofs.BegunLemmas.{some_fills}

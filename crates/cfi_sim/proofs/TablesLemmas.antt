@@ -9,7 +9,8 @@ use Rattle.cfi_model.specs.InForce.{in_force}
 use Rattle.cfi_world.proofs.UpdateLemmas as updates
 use Rattle.cfi_policy.specs.Image.{IsImage}
 use Rattle.cfi_aux.specs.declared.modules.Module.{Module}
-use Rattle.cfi_sim.specs.Stage.{Aim, Loading, Refreshing}
+use Rattle.cfi_sim.specs.declared.aim.Aim.{Aim}
+use Rattle.cfi_sim.specs.declared.aim.Aim.TheVariants.{Loading, Refreshing}
 use Rattle.cfi_valid.specs.Loaded.{placed_modules}
 use Rattle.cfi_plan.specs.declared.plan.Plan.{Plan}
 use Rattle.cfi_model.proofs.InForceLemmas.{force_within}

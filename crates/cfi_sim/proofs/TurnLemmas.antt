@@ -14,7 +14,9 @@ use Rattle.cfi_valid.specs.Replay.{given_by}
 use Rattle.cfi_model.specs.Raw.{Raw}
 use Rattle.cfi_model.specs.Words.{Tables, policy_in_force}
 use Rattle.cfi_valid.specs.Growth.{IsLater}
-use Rattle.cfi_sim.specs.Events.{Found, Unknown, Functionless, Opened, Unloaded, reply_by}
+use Rattle.cfi_sim.specs.declared.found.Found.{Found}
+use Rattle.cfi_sim.specs.declared.found.Found.TheVariants.{Unknown, Functionless, Opened, Unloaded}
+use Rattle.cfi_sim.specs.Events.{reply_by}
 use Rattle.cfi_word.specs.Word.{policy_in}
 use Rattle.cfi_unit.specs.declared.log.Log.{Log}
 use Rattle.cfi_model.specs.Service.{reply_of, argument}

@@ -18,7 +18,9 @@ use Rattle.cfi_series.specs.Loaded.{AreLoaded, IsLoadedImage}
 use Rattle.cfi_series.specs.Series.{IsSeries}
 use Rattle.cfi_sim.specs.declared.limits.TheConstants.{MAX_UPDATES}
 use Rattle.cfi_sim.specs.Reach.{WorldTells}
-use Rattle.cfi_sim.specs.Stage.{Stage, Aim, Loading, Refreshing}
+use Rattle.cfi_sim.specs.declared.aim.Aim.{Aim}
+use Rattle.cfi_sim.specs.declared.aim.Aim.TheVariants.{Loading, Refreshing}
+use Rattle.cfi_sim.specs.Stage.{Stage}
 use Rattle.cfi_valid.specs.Journal.{JournalState, IsClean}
 use Rattle.cfi_valid.specs.Loaded.{LoadedModule, placed_modules, loaded_by, live_at}
 use Rattle.cfi_world.specs.Worlds.{IsWorld}

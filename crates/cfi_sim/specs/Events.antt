@@ -1,5 +1,7 @@
 -- What each event of a schedule makes of its stage. An event is one whose turn is not `Nothing`.
-use Rattle.cfi_sim.specs.Stage.{Stage, Aim, Loading, Refreshing, with_line, dropped, IsMade, after_event}
+use Rattle.cfi_sim.specs.declared.aim.Aim.{Aim}
+use Rattle.cfi_sim.specs.declared.aim.Aim.TheVariants.{Loading, Refreshing}
+use Rattle.cfi_sim.specs.Stage.{Stage, with_line, dropped, IsMade, after_event}
 use Rattle.std.specs.Prelude.{◌≡◌, ◌≢◌, ◌⊎◌, ℕ, ◌≤◌, ◌<◌, List, [], ◌∷◌, ◌++◌, length, slice_get, Option, Some, None}
 use Rattle.cfi_aux.specs.declared.modules.Module.{Module}
 use Rattle.cfi_graph.specs.Direct.{DirectEdge}
@@ -14,12 +16,15 @@ use Rattle.cfi_plan.specs.declared.journal.JournalLine.{JournalLine}
 use Rattle.cfi_plan.specs.declared.journal.JournalLine.TheVariants as lines
 use Rattle.cfi_plan.specs.declared.plan.Plan.{Plan}
 use Rattle.cfi_policy.specs.Image.{IsImage}
+use Rattle.cfi_sim.specs.declared.found.Found.{Found}
+use Rattle.cfi_sim.specs.declared.found.Found.TheVariants.{Unknown, Functionless, Opened, Unloaded}
 use Rattle.cfi_sim.specs.declared.limits.TheConstants.{NOT_LOADED}
 use Rattle.cfi_valid.specs.Joining.{HasNoFault}
 use Rattle.cfi_valid.specs.Journal.{JournalState, LineLeads}
 use Rattle.cfi_valid.specs.Loaded.{LoadedModule, placed_modules, fills_between}
 use Rattle.cfi_valid.specs.Log.{HasFunctionAt, HasNoFunction}
 use Rattle.cfi_valid.specs.Replay.{given_by}
+use Rattle.cfi_unit.specs.declared.fill.Fill.{Fill}
 use Rattle.cfi_word.specs.declared.lists.Image.{Image}
 use Rattle.cfi_word.specs.declared.services.TheConstants.{NO_MODULE, NO_FUNCTION}
 use Rattle.cfi_world.specs.declared.event.Event.TheVariants as events
@@ -37,13 +42,6 @@ pub record IsOpen (loaded : List LoadedModule) (world : World) (number address :
   pub opened : HasFunctionAt loaded number address
   pub idle : IsIdle world
 
--- what an open finds
-pub data Found : Type 0 where
-  Unknown : Found
-  Functionless : Found
-  Opened : (address : ℕ) → Found
-  Unloaded : Found
-
 -- a case a cause, in the order in which they are tried
 abbrev pub IsFound : Plan → World → List LoadedModule → (number : ℕ) → Found → Type 0
 IsFound plan world loaded number Unknown = length plan.modules ≤ number
@@ -53,13 +51,29 @@ IsFound plan world loaded number Unloaded =
     (number < length plan.modules) × ¬ HasNoFunction loaded number
     × ((address : ℕ) → ¬ IsOpen loaded world number address)
 
--- the answer: a success brings the data that the guest lacks
+-- the address and the cause of the answer
+abbrev pub address_in : Found → ℕ
+address_in Unknown = 0
+address_in Functionless = 0
+address_in (Opened address) = address
+address_in Unloaded = 0
+
+abbrev pub cause_in : Found → ℕ
+cause_in Unknown = NO_MODULE
+cause_in Functionless = NO_FUNCTION
+cause_in (Opened address) = 0
+cause_in Unloaded = NOT_LOADED
+
+-- a success brings the data that came with policies above the one up to which the guest has data
+abbrev pub fills_in : JournalState → (given : ℕ) → Found → List Fill
+fills_in state given Unknown = []
+fills_in state given Functionless = []
+fills_in state given (Opened address) = fills_between given state.policy state.loaded
+fills_in state given Unloaded = []
+
 abbrev pub reply_by : JournalState → State → Found → Reply
-reply_by state s Unknown = reply_of 0 NO_MODULE state.policy []
-reply_by state s Functionless = reply_of 0 NO_FUNCTION state.policy []
-reply_by state s (Opened address) =
-    reply_of address 0 state.policy (fills_between (given_by s.log) state.policy state.loaded)
-reply_by state s Unloaded = reply_of 0 NOT_LOADED state.policy []
+reply_by state s found =
+    reply_of (address_in found) (cause_in found) state.policy (fills_in state (given_by s.log) found)
 
 -- the open of a guest is answered at once
 pub record IsAnswered (plan : Plan) (state : JournalState) (old new : World) (guest number : ℕ) : Type 0 where

@@ -9,3 +9,4 @@ pub mod Reach
 pub mod Agrees
 pub mod Stands
 pub mod Told
+pub mod inner

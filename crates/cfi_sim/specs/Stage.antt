@@ -8,12 +8,9 @@ use Rattle.cfi_plan.specs.declared.journal.JournalLine.{JournalLine}
 use Rattle.cfi_plan.specs.declared.journal.JournalLine.TheVariants as lines
 use Rattle.cfi_plan.specs.declared.journal.Who.TheVariants.{Script}
 use Rattle.cfi_plan.specs.declared.plan.Plan.{Plan}
+use Rattle.cfi_sim.specs.declared.aim.Aim.{Aim}
+use Rattle.cfi_sim.specs.declared.aim.Aim.TheVariants.{Loading, Refreshing}
 use Rattle.cfi_valid.specs.Journal.{JournalState, IsClean, with_loaded}
-
--- the load of a module by its number, or a refresh
-pub data Aim : Type 0 where
-  Loading : (number : ℕ) → Aim
-  Refreshing : Aim
 
 -- the world; the journal and the state to which it leads; the aim of the update whose EPOCH store is not made yet; how
 -- many events there were

@@ -3,7 +3,9 @@ use Rattle.std.specs.Prelude.{ℕ, ◌<◌, List, Option, Some, None, ⊤}
 use Rattle.cfi_aux.specs.declared.modules.Module.{Module}
 use Rattle.cfi_plan.specs.declared.plan.Plan.{Plan}
 use Rattle.cfi_sim.specs.Agrees.{WorldAgrees}
-use Rattle.cfi_sim.specs.Stage.{Stage, Aim, Loading, Refreshing}
+use Rattle.cfi_sim.specs.declared.aim.Aim.{Aim}
+use Rattle.cfi_sim.specs.declared.aim.Aim.TheVariants.{Loading, Refreshing}
+use Rattle.cfi_sim.specs.Stage.{Stage}
 use Rattle.cfi_valid.specs.Journal.{JournalState, IsClean, IsOpeningState, EntriesLead}
 use Rattle.cfi_word.specs.declared.limits.TheConstants.{MAX_EPOCH}
 

@@ -7,14 +7,21 @@
 //! end is a valid simulation. Only tested: nothing. Open: the simulation itself.
 #![tactic(auto)]
 
+mod aim;
 mod fault;
+mod found;
 pub mod laws;
 mod limits;
 mod line;
+mod opens;
 mod report;
+mod spot;
+mod standing;
 mod writer;
 
+pub use aim::Aim;
 pub use fault::{OpenFault, SimFault};
+pub use found::Found;
 pub use limits::{MAX_EVENTS, MAX_UPDATES, NOT_LOADED};
 pub use line::{Line, read_line};
 pub use report::SimReport;

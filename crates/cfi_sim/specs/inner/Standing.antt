@@ -1,0 +1,73 @@
+-- A simulation under way, as it is kept.
+use Rattle.std.specs.Prelude.{◌≡◌, ℕ, Bool, true, false, List, length, slice_get, Some, All}
+use Rattle.cfi_aux.specs.declared.modules.Module.{Module}
+use Rattle.cfi_model.specs.Raw.{Raw}
+use Rattle.cfi_model.specs.World.{World}
+use Rattle.cfi_plan.specs.declared.plan.Plan.{Plan}
+use Rattle.cfi_plan.specs.Plan.{IsPlan}
+use Rattle.cfi_series.specs.Series.{CanBeTaken}
+use Rattle.cfi_sim.specs.Events.{IsAnswered, IsGuestEvent, IsReleaseEvent}
+use Rattle.cfi_sim.specs.Stage.{Stage}
+use Rattle.cfi_sim.specs.Stands.{IsGoing}
+use Rattle.cfi_sim.specs.declared.standing.Standing.TheInside.{Inside}
+use Rattle.cfi_sim.specs.inner.Loaded.{loaded_of}
+use Rattle.cfi_world.specs.Turns.{turn_of}
+use Rattle.cfi_world.specs.declared.event.Event.TheVariants as events
+use Rattle.cfi_world.specs.declared.event.Turned.TheVariants.{Nothing}
+
+-- the plan, its modules, and the stage
+pub record Whole : Type 0 where
+  pub plan : Plan
+  pub modules : List Module
+  pub stage : Stage
+
+abbrev pub whole_of : Inside → Whole
+whole_of a = record {
+  plan = a.plan.now;
+  modules = a.modules.now;
+  stage = record {
+    world = a.world;
+    journal = a.journal.items;
+    state = record { epoch = a.epoch; policy = a.policy; loaded = loaded_of a.spots.items a.series.placed };
+    aim = a.aim;
+    events = a.events;
+  };
+}
+
+pub record IsKept (a : Inside) : Type 0 where
+  pub count : length a.spots.items ≡ length a.series.placed
+  pub size : a.series.code_words ≡ a.plan.now.code_words
+
+-- the journal is legal so far, and the world agrees with it
+pub record IsUnderWay (x : Whole) : Type 0 where
+  pub plan : IsPlan x.plan
+  pub taken : All CanBeTaken x.modules
+  pub named : length x.modules ≡ length x.plan.modules
+  pub going : IsGoing x.plan x.modules x.stage
+
+-- the guest is there
+abbrev pub IsThere : World → (guest : ℕ) → Type 0
+IsThere w guest = (r : Raw) × (slice_get w.guests guest ≡ Some r)
+
+-- its open was answered
+pub record AnswersOpen (old new : Whole) (guest number : ℕ) : Type 0 where
+  pub world : World
+  pub answered : IsAnswered old.plan old.stage.state old.stage.world world guest number
+  pub is : new ≡ record old { stage = record old.stage { world = world } }
+
+-- an event has happened
+pub record HasDone (Happens : Stage → Stage → Type 0) (old new : Whole) : Type 0 where
+  pub event : Happens old.stage new.stage
+  pub plan : new.plan ≡ old.plan
+  pub modules : new.modules ≡ old.modules
+  pub under_way : IsUnderWay new
+
+-- a guest had an event, or has none
+abbrev pub GoesBy : (guest : ℕ) → (old new : Whole) → (happened : Bool) → Type 0
+GoesBy guest old new true = HasDone (IsGuestEvent old.plan guest) old new
+GoesBy guest old new false = (turn_of old.stage.world (events.Guest guest)).answer ≡ Nothing
+
+-- a guest was released, or there is nothing to be released
+abbrev pub ReleasesBy : (guest : ℕ) → (old new : Whole) → (happened : Bool) → Type 0
+ReleasesBy guest old new true = HasDone (IsReleaseEvent guest) old new
+ReleasesBy guest old new false = (turn_of old.stage.world (events.Release guest)).answer ≡ Nothing
