@@ -4,7 +4,8 @@
 //! `cfi_place`, `cfi_verify` and `thiserror`, and for what a valid simulation is on `cfi_world` and `cfi_valid`;
 //! nothing calls it yet. Proved: a line of a schedule is read exactly, with the guests and modules that it names; a
 //! simulation is written as its one text; a schedule goes event by event, its journal is legal, and what is told of its
-//! end is a valid simulation. Only tested: nothing. Open: the simulation itself.
+//! end is a valid simulation; a simulation under way makes its guests' events, with the answers to their opens, and
+//! releases. Only tested: nothing. Open: the updater's events, and the call that makes a whole simulation of them.
 #![tactic(auto)]
 
 mod aim;
