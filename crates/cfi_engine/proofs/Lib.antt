@@ -10,6 +10,7 @@ pub mod ServeLemmas
 pub mod NoteLemmas
 pub mod CauseLemmas
 pub mod AnswerLemmas
+pub mod FaultLemmas
 pub mod OpenLemmas
 pub mod OtherLemmas
 pub mod TurnLemmas

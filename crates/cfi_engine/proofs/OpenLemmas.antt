@@ -24,7 +24,8 @@ use Rattle.cfi_word.specs.declared.limits.TheConstants.{MAX_OPENS}
 use Rattle.cfi_word.specs.declared.services.TheConstants.{OPEN}
 use Rattle.cfi_engine.specs.Runner.{HasAsked, IsRunner, IsRunnerBy}
 use Rattle.cfi_engine.specs.Serving.{IsTold, cause_by}
-use Rattle.cfi_engine.proofs.AnswerLemmas.{given, policy_fits, refused_by}
+use Rattle.cfi_engine.proofs.AnswerLemmas.{given, policy_fits}
+use Rattle.cfi_engine.proofs.FaultLemmas.{refused_by}
 use Rattle.cfi_engine.proofs.NoteLemmas.{logged_now, planned, runner_told}
 use Rattle.cfi_engine.proofs.SeesLemmas.{asked_on, on_noted}
 
