@@ -43,7 +43,14 @@ fn main(rt: HostRuntime) -> ExitCode {
     };
     let mut shelf = DirShelf::new(rt, rt.alloc());
     let mut sink = StdSink::new(rt);
-    let ended = top(rt.alloc(), &words, &mut shelf, &mut sink, &QuietGate::new());
+    let ended = top(
+        &rt,
+        rt.alloc(),
+        &words,
+        &mut shelf,
+        &mut sink,
+        &QuietGate::new(),
+    );
     let _ = explain(&rt, ended.status, sink.error().or(shelf.error()));
     ExitCode::from(ended.status)
 }

@@ -1,6 +1,2 @@
 pub mod LoadedLemmas
-pub mod ImageLemmas
-pub mod PlacedLemmas
-pub mod KeptLemmas
-pub mod RefusalLemmas
-pub mod AcceptedLemmas
+pub mod SoundLemmas

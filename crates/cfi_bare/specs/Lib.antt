@@ -1,4 +1,2 @@
 pub mod Module
-pub mod Runnable
 pub mod File
-pub mod Image

@@ -1,18 +1,12 @@
--- The module that a bare file is, and its place. Its bytes are the words of one function named `bare`, which is not
--- global; it has no data, no symbols and no relocations. It is the first module of the largest code.
+-- The module that a bare file is. Its bytes are the words of one function named `bare`, which is not global; it has no
+-- data, no symbols and no relocations.
 use Rattle.std.specs.Prelude.{ℕ, List, [], ◌∷◌, length, codes, None, false}
 use Rattle.elf_read.specs.declared.object.Object.{Object}
 use Rattle.cfi_types.specs.Node.{Node, make_node}
 use Rattle.cfi_types.specs.declared.kind.TheConstants.{VOID, FUNC}
-use Rattle.cfi_word.specs.declared.map.TheConstants.{FIRST_BASE, DATA_START}
-use Rattle.cfi_word.specs.declared.limits.TheConstants.{MAX_CODE_WORDS}
 use Rattle.cfi_aux.specs.declared.records.Function.{Function}
 use Rattle.cfi_aux.specs.declared.records.Kind.{Kind}
 use Rattle.cfi_aux.specs.declared.modules.Module.{Module}
-use Rattle.cfi_aux.specs.declared.placed.Placed.{Placed}
-use Rattle.cfi_place.specs.declared.room.Room.{Room}
-use Rattle.cfi_place.specs.Names.{Names}
-use Rattle.cfi_place.specs.Placed.{IsPlaced}
 use Rattle.cfi_bare.specs.declared.modules.TheConstants.{FUNCTION_TYPE}
 
 -- its types: Void, and a function of no parameters that gives Void
@@ -37,14 +31,3 @@ bare_module bytes branches = record {
   types = bare_types;
   records = record { functions = bare_functions bytes; branches = branches };
 }
-
--- its place, and the names that are known there
-abbrev pub bare_room : Room
-bare_room = record { base = FIRST_BASE; slot_base = 0; data_base = DATA_START; code_words = MAX_CODE_WORDS }
-
-abbrev pub no_names : Names
-no_names name = None
-
--- that module at its place
-abbrev pub IsPlacedFile : (bytes : List ℕ) → (branches : List Kind) → Placed → Type 0
-IsPlacedFile bytes branches placed = IsPlaced (bare_module bytes branches) bare_room no_names placed

@@ -1,21 +1,26 @@
 //! Why a bare file is refused.
 
-use cfi_verify::VerifyFault;
+ghost use Rattle.std.specs.Prelude.{◌≡◌};
+ghost use Rattle.cfi_bare.specs.declared.fault.BareFault.TheVariants.{Memory};
+
+use std::alloc::{AllocError, AllocFailed};
 use thiserror::Error;
 
-/// Why a bare file is refused: the first reason, in the order of the variants.
+/// Why a file is no bare file.
 #[derive(Clone, Copy, Debug, PartialEq, Eq, Error)]
 pub enum BareFault {
-    /// It begins as a plan does.
-    #[error("it is a plan")]
-    Plan,
     /// It has this many bytes, which are no whole words.
     #[error("{0} bytes are no whole words")]
     Length(usize),
-    /// It has more than `MAX_WORDS` words.
-    #[error("the code is full")]
-    CodeFull,
-    /// Its module, at its place, has this fault.
-    #[error("{0}")]
-    Verify(VerifyFault),
+    /// There is no memory for its module.
+    #[error("out of memory")]
+    Memory,
+}
+
+impl From<AllocError> for BareFault {
+    ghost from_gives = { λ _ e. e ≡ Memory };
+
+    fn from(_error: AllocError) -> BareFault {
+        BareFault::Memory
+    }
 }

@@ -1,33 +1,28 @@
 //! Bare files.
 
-ghost use Rattle.std.specs.Prelude.{IfOk, MatchResult};
-ghost use Rattle.cfi_bare.specs.File.{IsAccepted, IsFirstRefusal};
+ghost use Rattle.std.specs.Prelude.{◌≤◌, length, IfOk, IfErr};
+ghost use Rattle.cfi_bare.specs.File.{IsBareFile, IsBareFault};
+ghost use Rattle.cfi_series.specs.Series.{CanBeTaken};
+ghost use Rattle.cfi_word.specs.declared.limits.TheConstants.{MAX_FILE_BYTES};
 
-use crate::code::BareCode;
 use crate::fault::BareFault;
-use crate::modules::MAX_WORDS;
+use crate::modules::module_of;
+use cfi_aux::Module;
 use cfi_values::Items;
-use std::alloc::{AllocError, Global};
+use std::alloc::Global;
 
-/// The code of a bare file, or why it is refused.
+/// The module of a bare file, or why it is none.
 ///
-/// `bytes` are the file's, four to a word, the lowest first. `Ok(Ok(..))` exactly where nothing stands against the
-/// file, else the first reason: a check has no record in it. `Err` where memory is out.
-pub fn accept(alloc: Global, bytes: &[u8]) -> Result<Result<BareCode, BareFault>, AllocError>
-    ensures { IfOk result (λ found.
-        MatchResult found (IsAccepted bytes.now) (IsFirstRefusal bytes.now)) }
+/// `bytes` are the file's, four to a word, the lowest first. No check has a record in it. Whether its words can run is
+/// for the verifier to say.
+pub fn read_bare(alloc: Global, bytes: &[u8]) -> Result<Module, BareFault>
+    requires short { length bytes.now ≤ MAX_FILE_BYTES }
+    ensures ok { IfOk result (IsBareFile bytes.now) }
+    ensures taken { IfOk result CanBeTaken }
+    ensures fault { IfErr result (IsBareFault bytes.now) }
 {
-    if bytes.starts_with(b"plan ") {
-        return Ok(Err(BareFault::Plan));
-    }
     if bytes.len() % 4 != 0 {
-        return Ok(Err(BareFault::Length(bytes.len())));
+        return Err(BareFault::Length(bytes.len()));
     }
-    if bytes.len() / 4 > MAX_WORDS as usize {
-        return Ok(Err(BareFault::CodeFull));
-    }
-    match BareCode::with_checks(alloc, bytes, Items::from_vec(Vec::new(alloc)))? {
-        Ok(code) => Ok(Ok(code)),
-        Err(fault) => Ok(Err(BareFault::Verify(fault))),
-    }
+    Ok(module_of(alloc, bytes, Items::from_vec(Vec::new(alloc)))?)
 }

@@ -1,31 +1,17 @@
-//! The module that a bare file is, and its place.
+//! The module that a bare file is.
 
-ghost use Rattle.std.specs.Prelude.{◌≡◌, IfOk};
-ghost use Rattle.cfi_bare.specs.File.{AreWords};
-ghost use Rattle.cfi_bare.specs.Module.{bare_types, bare_functions, bare_object, bare_module, IsPlacedFile};
+ghost use Rattle.std.specs.Prelude.{◌≡◌, ◌≤◌, length, IfOk};
+ghost use Rattle.cfi_bare.specs.Module.{bare_types, bare_functions, bare_object, bare_module};
+ghost use Rattle.cfi_word.specs.declared.limits.TheConstants.{MAX_FILE_BYTES};
 
-use cfi_aux::{Function, Kind, Module, Placed, Records};
-use cfi_place::{Room, Symbols as Names, place};
+use cfi_aux::{Function, Kind, Module, Records};
 use cfi_types::{FUNC, TypeNode, TypeTable, VOID};
 use cfi_values::{Bytes, Items};
-use cfi_word::limits::MAX_CODE_WORDS;
-use cfi_word::map::{DATA_START, FIRST_BASE};
 use elf_read::{Name, Object, Relocs, Symbols};
 use std::alloc::{AllocError, Global};
 
-/// The most words of a bare file: those of the largest code from the first module's place on.
-pub const MAX_WORDS: u32 = MAX_CODE_WORDS - FIRST_BASE;
-
 /// The number of the type of a bare file's function: a function of no parameters that gives Void.
 pub const FUNCTION_TYPE: u32 = 1;
-
-// The place of a bare file: that of the first module of the largest code.
-const ROOM: Room = Room {
-    base: FIRST_BASE,
-    slot_base: 0,
-    data_base: DATA_START,
-    code_words: MAX_CODE_WORDS,
-};
 
 // The types of a bare file: Void, and its function's.
 fn types_of(alloc: Global) -> Result<TypeTable, AllocError>
@@ -39,7 +25,7 @@ fn types_of(alloc: Global) -> Result<TypeTable, AllocError>
 
 // The function of a bare file, which an empty one has not.
 fn functions_of(alloc: Global, bytes: &[u8]) -> Result<Items<Function>, AllocError>
-    requires { AreWords bytes.now }
+    requires { length bytes.now ≤ MAX_FILE_BYTES }
     ensures { IfOk result (λ functions. functions ≡ bare_functions bytes.now) }
 {
     let mut functions = Vec::new(alloc);
@@ -69,9 +55,9 @@ fn object_of(alloc: Global, bytes: &[u8]) -> Result<Object, AllocError>
     })
 }
 
-// The module of a bare file.
-fn module_of(alloc: Global, bytes: &[u8], branches: Items<Kind>) -> Result<Module, AllocError>
-    requires { AreWords bytes.now }
+/// The module of a bare file's bytes, whose checks have these records. `Err` where memory is out.
+pub fn module_of(alloc: Global, bytes: &[u8], branches: Items<Kind>) -> Result<Module, AllocError>
+    requires { length bytes.now ≤ MAX_FILE_BYTES }
     ensures { IfOk result (λ made. made ≡ bare_module bytes.now branches) }
 {
     let functions = functions_of(alloc, bytes)?;
@@ -83,17 +69,4 @@ fn module_of(alloc: Global, bytes: &[u8], branches: Items<Kind>) -> Result<Modul
             branches,
         },
     })
-}
-
-/// The module of a bare file's bytes, whose checks have these records, at its place. `Err` where memory is out.
-pub fn place_file(alloc: Global, bytes: &[u8], branches: Items<Kind>) -> Result<Placed, AllocError>
-    requires { AreWords bytes.now }
-    ensures { IfOk result (IsPlacedFile bytes.now branches) }
-{
-    let unplaced = module_of(alloc, bytes, branches)?;
-    match place(alloc, &unplaced, &ROOM, &Names::new(alloc)) {
-        Ok(placed) => Ok(placed),
-        // It has no relocations and no data, and its words fit, so that nothing but memory can be wanting.
-        Err(_) => Err(AllocError),
-    }
 }

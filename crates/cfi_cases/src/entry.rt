@@ -39,6 +39,8 @@ pub enum Head {
     Run(Commands),
     /// The status that the last command ends with; the text that it prints is the entry's.
     Status(u8),
+    /// The status that the last command ends with; the lines of the entry stand among those that it prints, in order.
+    Lines(u8),
     /// A file of this name has the entry's bytes, from this place on where there is one.
     Left(String, Option<usize>),
     /// No file has this name.

@@ -70,6 +70,18 @@ impl Log {
         self.note(line, &what)
     }
 
+    /// Notes the first of these lines that does not stand among those of the text, behind the ones before it.
+    pub fn find(&mut self, line: usize, wanted: &[u8], came: &[u8]) -> Result<(), AllocError> {
+        let mut rest = came.split(|byte| *byte == b'\n');
+        for one in wanted.split(|byte| *byte == b'\n') {
+            if !rest.any(|other| other == one) {
+                let one = text_from(self.alloc, one, 0)?;
+                return self.note(line, &format!(in self.alloc; "no line {one} there")?);
+            }
+        }
+        Ok(())
+    }
+
     /// The differences, and the two numbers on the last line.
     pub fn report(&self) -> Result<String, AllocError> {
         let lines = self.lines.as_str();

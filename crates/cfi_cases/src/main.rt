@@ -16,23 +16,30 @@ mod session;
 
 use crate::reader::entries_of;
 use crate::session::Session;
+use std::sync::Wait;
+use std::thread::Threads;
 use std::{env, fs, io};
 
-// Plays the cases of a file.
-fn play(rt: &HostRuntime, session: &mut Session, name: &str) -> io::Result<()> {
+// Plays the cases of a file. Only `main` hands on the right to start threads, which `threads` has.
+fn play<R: Threads + Wait + Sync>(
+    threads: &R,
+    rt: &HostRuntime,
+    session: &mut Session,
+    name: &str,
+) -> io::Result<()> {
     let Ok(text) = fs::read_to_string(rt, name) else {
         session.miss(name)?;
         return Ok(());
     };
     let entries = entries_of(rt.alloc(), &text)?;
-    session.play(name, &entries)?;
+    session.play(threads, name, &entries)?;
     Ok(())
 }
 
 fn main(rt: HostRuntime) -> io::Result<()> {
     let mut session = Session::new(rt.alloc());
     for name in env::args(&rt)?.skip(1) {
-        play(&rt, &mut session, &name)?;
+        play(&rt, &rt, &mut session, &name)?;
     }
     print!(rt; "{}", session.report()?)
 }

@@ -97,6 +97,7 @@ fn head_of(alloc: Global, line: &str) -> Result<Option<Head>, AllocError> {
         "fail" => fail_head(alloc, rest),
         "$" => Ok(commands_of(alloc, rest)?.map(Head::Run)),
         "=" => Ok(rest.parse::<u8>().ok().map(Head::Status)),
+        "lines" => Ok(rest.parse::<u8>().ok().map(Head::Lines)),
         "left" => left_head(alloc, rest),
         "gone" => Ok(Some(Head::Gone(rest.to_string(alloc)?))),
         "gate" => Ok(rest.parse::<u32>().ok().map(Head::Gate)),

@@ -1,14 +1,17 @@
 //! Plays entries: the files of a group, what the last command answered, and what differs.
 
+mod judging;
+
 use crate::entry::{Commands, Entry, Head};
 use crate::files::Files;
 use crate::gate::CountingGate;
 use crate::log::Log;
-use crate::reports::report_fault;
 use cfi_io::MemSink;
 use cfi_top::top;
 use std::alloc::{AllocError, Global};
 use std::mem;
+use std::sync::Wait;
+use std::thread::Threads;
 
 // What a command has answered.
 #[derive(Debug, Drop)]
@@ -61,11 +64,16 @@ impl Session {
     }
 
     /// Plays the entries of a file, over a shelf without files.
-    pub fn play(&mut self, source: &str, entries: &[Entry]) -> Result<(), AllocError> {
+    pub fn play<R: Threads + Wait + Sync>(
+        &mut self,
+        rt: &R,
+        source: &str,
+        entries: &[Entry],
+    ) -> Result<(), AllocError> {
         self.log.source = source.to_string(self.alloc)?;
         self.begin_group("")?;
         for entry in entries {
-            self.take(entry)?;
+            self.take(rt, entry)?;
         }
         self.settle(0)
     }
@@ -77,14 +85,14 @@ impl Session {
     }
 
     // Plays an entry, where its bytes are there.
-    fn take(&mut self, entry: &Entry) -> Result<(), AllocError> {
+    fn take<R: Threads + Wait + Sync>(&mut self, rt: &R, entry: &Entry) -> Result<(), AllocError> {
         let empty: [u8; 0] = [];
         let base = match (&entry.head, &self.table) {
             (Head::Row(_, _), Some(table)) => table.base.as_slice(),
             _ => empty.as_slice(),
         };
         match self.files.bytes_over(base, &entry.pieces)? {
-            Some(bytes) => self.step(entry.line, &entry.head, bytes),
+            Some(bytes) => self.step(rt, entry.line, &entry.head, bytes),
             None => self
                 .log
                 .note(entry.line, "it asks for bytes that are not there"),
@@ -92,21 +100,28 @@ impl Session {
     }
 
     // Does what a line says, with the bytes of its entry.
-    fn step(&mut self, line: usize, head: &Head, bytes: Vec<u8>) -> Result<(), AllocError> {
+    fn step<R: Threads + Wait + Sync>(
+        &mut self,
+        rt: &R,
+        line: usize,
+        head: &Head,
+        bytes: Vec<u8>,
+    ) -> Result<(), AllocError> {
         match head {
             Head::Group(title) => self.begin_group(title),
             Head::File(name) => self.files.put(name, bytes),
             Head::Case(title) => self.entitle(title),
             Head::FailShelf(numbers) => self.fail_shelf(numbers),
             Head::FailSink(numbers) => self.fail_sink(numbers),
-            Head::Run(commands) => self.run(line, commands),
+            Head::Run(commands) => self.run(rt, line, commands),
             Head::Status(status) => self.judge(line, *status, &bytes),
+            Head::Lines(status) => self.judge_lines(line, *status, &bytes),
             Head::Left(name, place) => self.judge_file(line, name, *place, &bytes),
             Head::Gone(name) => self.judge_gone(line, name),
             Head::Gate(passes) => self.judge_gate(line, *passes),
             Head::Report(wanted) => self.judge_report(line, &bytes, *wanted),
             Head::Table(name, commands) => self.begin_table(name, bytes, commands),
-            Head::Row(status, text) => self.row(line, bytes, *status, text),
+            Head::Row(status, text) => self.row(rt, line, bytes, *status, text),
             Head::Bad => self.log.note(line, "no line of cases"),
         }
     }
@@ -159,8 +174,9 @@ impl Session {
     }
 
     // Runs a command, over a shelf and a sink whose calls with these numbers fail.
-    fn command(
+    fn command<R: Threads + Wait + Sync>(
         &mut self,
+        rt: &R,
         words: &[String],
         shelf_fails: Vec<u32>,
         sink_fails: Vec<u32>,
@@ -168,7 +184,7 @@ impl Session {
         let mut shelf = self.files.shelf(shelf_fails)?;
         let mut sink = MemSink::new(self.alloc, sink_fails);
         let gate = CountingGate::new();
-        let ended = top(self.alloc, words, &mut shelf, &mut sink, &gate);
+        let ended = top(rt, self.alloc, words, &mut shelf, &mut sink, &gate);
         self.passes = gate.passes();
         for word in words {
             if let Some(bytes) = shelf.file(word) {
@@ -184,83 +200,27 @@ impl Session {
     }
 
     // Runs the commands of a case.
-    fn run(&mut self, line: usize, commands: &Commands) -> Result<(), AllocError> {
+    fn run<R: Threads + Wait + Sync>(
+        &mut self,
+        rt: &R,
+        line: usize,
+        commands: &Commands,
+    ) -> Result<(), AllocError> {
         self.settle(line)?;
         for words in &commands.first {
-            self.command(words, Vec::new(self.alloc), Vec::new(self.alloc))?;
+            self.command(rt, words, Vec::new(self.alloc), Vec::new(self.alloc))?;
             self.judge(line, 0, b"")?;
         }
         let shelf_fails = mem::replace(&mut self.shelf_fails, Vec::new(self.alloc));
         let sink_fails = mem::replace(&mut self.sink_fails, Vec::new(self.alloc));
         self.log.count();
-        self.command(&commands.last, shelf_fails, sink_fails)
-    }
-
-    // Asks for the status and the text of the last command.
-    fn judge(&mut self, line: usize, status: u8, text: &[u8]) -> Result<(), AllocError> {
-        let Some(answer) = self.answer.take() else {
-            return self.log.note(line, "no command was run before this line");
-        };
-        if answer.status != status {
-            let came = answer.status;
-            let what = format!(in self.alloc; "status: wanted {status}, came {came}")?;
-            self.log.note(line, &what)?;
-        }
-        self.log.compare(line, "text", text, &answer.text)
-    }
-
-    // Asks for the bytes of a file.
-    fn judge_file(
-        &mut self,
-        line: usize,
-        name: &str,
-        place: Option<usize>,
-        bytes: &[u8],
-    ) -> Result<(), AllocError> {
-        let part = place.map(|at| (at, bytes.len()));
-        let Some(file) = self.files.copy(name, part)? else {
-            return self
-                .log
-                .note(line, "the file, or this part of it, is not there");
-        };
-        self.log.compare(line, name, bytes, &file)
-    }
-
-    // Asks that no file has the name.
-    fn judge_gone(&mut self, line: usize, name: &str) -> Result<(), AllocError> {
-        if self.files.file(name).is_some() {
-            return self.log.note(line, "the file is there");
-        }
-        Ok(())
-    }
-
-    // Asks how often the gate was passed in the last command.
-    fn judge_gate(&mut self, line: usize, passes: u32) -> Result<(), AllocError> {
-        let came = self.passes;
-        if came == passes {
-            return Ok(());
-        }
-        let what = format!(in self.alloc; "the gate: wanted {passes}, came {came}")?;
-        self.log.note(line, &what)
-    }
-
-    // Asks for a report, or for none from this line on.
-    fn judge_report(
-        &mut self,
-        line: usize,
-        bytes: &[u8],
-        wanted: Option<u32>,
-    ) -> Result<(), AllocError> {
-        self.log.count();
-        match report_fault(self.alloc, bytes, wanted)? {
-            Some(what) => self.log.note(line, &what),
-            None => Ok(()),
-        }
+        self.command(rt, &commands.last, shelf_fails, sink_fails)
     }
 
     // Plays a row of the table.
-    fn row(
+    fn row<R: Threads + Wait + Sync>(
         &mut self,
+        rt: &R,
         line: usize,
         bytes: Vec<u8>,
         status: u8,
@@ -270,7 +230,7 @@ impl Session {
             return self.log.note(line, "no table has this row");
         };
         self.files.put(&table.name, bytes)?;
-        self.run(line, &table.commands)?;
+        self.run(rt, line, &table.commands)?;
         self.judge(line, status, text)?;
         self.table = Some(table);
         Ok(())

@@ -1,7 +1,8 @@
 -- Why a file is refused, in words: the layer that refuses it, the fault's name, and its fields, single spaces between.
 use Rattle.std.specs.Prelude.{ℕ, List, ◌++◌, codes}
+use Rattle.std.specs.Fmt.{decimal}
 use Rattle.cfi_commands.specs.declared.refusal.Refusal.{Refusal}
-use Rattle.cfi_commands.specs.declared.refusal.Refusal.TheVariants.{Bare, Elf, Aux, Instr, Asm, Link, Plan, Place, Verify}
+use Rattle.cfi_commands.specs.declared.refusal.Refusal.TheVariants.{Bare, Elf, Aux, Instr, Asm, Link, Plan, Place, Verify, Entry, Sim}
 use Rattle.cfi_commands.specs.Asm.{asm_text}
 use Rattle.cfi_commands.specs.Aux.{aux_text}
 use Rattle.cfi_commands.specs.Bare.{bare_text}
@@ -13,7 +14,7 @@ use Rattle.cfi_commands.specs.Plan.{plan_text}
 use Rattle.cfi_commands.specs.Verify.{verify_text}
 
 abbrev pub refusal_text : Refusal → List ℕ
-refusal_text (Bare fault) = bare_text fault
+refusal_text (Bare fault) = codes "bare " ++ bare_text fault
 refusal_text (Elf fault) = codes "elf " ++ elf_text fault
 refusal_text (Aux fault) = aux_text fault
 refusal_text (Instr fault) = codes "instr " ++ instr_text fault
@@ -22,3 +23,5 @@ refusal_text (Link fault) = codes "link " ++ link_text fault
 refusal_text (Plan fault) = codes "plan " ++ plan_text fault
 refusal_text (Place fault) = codes "place " ++ place_text fault
 refusal_text (Verify fault) = verify_text fault
+refusal_text (Entry guest) = codes "entry NoEntry " ++ decimal guest
+refusal_text (Sim line) = codes "sim BadEvent " ++ decimal line

@@ -1,5 +1,6 @@
 ghost use Rattle.std.specs.Prelude.{◌≡◌, All, IfOk, IfErr};
 ghost use Rattle.cfi_aux.specs.Sound.{IsSoundModule};
+ghost use Rattle.cfi_series.specs.Series.{CanBeTaken};
 ghost use Rattle.cfi_commands.specs.Modules.{AreModuleFiles, IsModulesFault, IsShortFile};
 
 use crate::fault::CommandFault;
@@ -15,6 +16,7 @@ pub fn read_modules(alloc: Global, files: &[Bytes]) -> Result<Items<Module>, Com
     requires small { All IsShortFile files.now }
     ensures ok { IfOk result (AreModuleFiles files.now) }
     ensures sound { IfOk result (All IsSoundModule) }
+    ensures taken { IfOk result (All CanBeTaken) }
     ensures fault { IfErr result (IsModulesFault files.now) }
 {
     let mut modules = Vec::new(alloc);

@@ -42,6 +42,10 @@ pub enum Refusal {
     Place(PlaceFault),
     /// As a placed module.
     Verify(VerifyFault),
+    /// As a plan, of which the guest of this number enters no function.
+    Entry(u32),
+    /// As a schedule, of which the line of this number has no event.
+    Sim(u32),
 }
 
 /// Appends the words of a refusal: the layer's name, the fault's name, and the fault's fields.
@@ -53,7 +57,10 @@ pub fn put_refusal(text: &mut String, refusal: &Refusal) -> Result<(), AllocErro
         (string_bytes text.new ≡ string_bytes text.old ++ refusal_text refusal.now) }
 {
     match refusal {
-        Refusal::Bare(fault) => put_bare(text, *fault),
+        Refusal::Bare(fault) => {
+            text.push_str("bare ")?;
+            put_bare(text, *fault)
+        }
         Refusal::Elf(fault) => {
             text.push_str("elf ")?;
             put_elf(text, *fault)
@@ -80,5 +87,7 @@ pub fn put_refusal(text: &mut String, refusal: &Refusal) -> Result<(), AllocErro
             put_place(text, fault)
         }
         Refusal::Verify(fault) => put_verify_fault(text, *fault),
+        Refusal::Entry(guest) => write!(text, "entry NoEntry {guest}"),
+        Refusal::Sim(line) => write!(text, "sim BadEvent {line}"),
     }
 }

@@ -1,5 +1,3 @@
-pub mod Settled
-pub mod Path
-pub mod Runner
-pub mod Serving
-pub mod Laws
+pub mod Fault
+pub mod Guests
+pub mod inner

@@ -1,15 +1,16 @@
-//! Guests with their passes, and how they are served and run to their end, each on a thread of its own.
+//! A plan run from its start to its report: guests on threads of their own, beside the script.
 //!
-//! Stands on `cfi_loader`, `cfi_runner` and the gate of `cfi_io`. Proved: the type of a runner keeps that its guest is
-//! where the raw machine is after what its pass has loaded and what its opens were answered, and that its log fits what
-//! the pass has settled; `serve` keeps it, and `drive` until the guest has stopped. Only tested: nothing. Open: what a run
-//! concludes, and the run of a plan.
+//! Stands on `cfi_drive`, whose runners and conclusion it hands on, `cfi_loader`, `cfi_tables` and what these stand on.
+//! Proved: what is concluded is valid for the plan and the modules, and a plan that cannot be opened is refused by its
+//! first fault. Only tested: nothing. Open: nothing.
 #![tactic(auto)]
 
-mod causes;
-pub mod laws;
-mod runner;
-mod serving;
+mod fault;
+mod guests;
+mod run;
+mod script;
 
-pub use runner::{Runner, drive};
-pub use serving::serve;
+pub use cfi_drive::{Concluded, Runner, conclude, drive, serve};
+pub use fault::RunFault;
+pub use guests::{has_code, open_guests};
+pub use run::run_plan;

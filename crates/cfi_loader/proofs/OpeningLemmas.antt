@@ -32,7 +32,8 @@ use Rattle.cfi_loader.specs.declared.books.Books.{Books}
 use Rattle.cfi_loader.specs.Ledger.{HavePolicies, HaveEntries, IsEntryOf, TellsOf}
 use Rattle.cfi_loader.specs.Marks.{AreMade, AreRefused}
 use Rattle.cfi_loader.specs.Plans.{CanStart}
-use Rattle.cfi_loader.specs.Starting.{IsFirstLost, IsStarted}
+use Rattle.cfi_valid.specs.Opening.{IsFirstLost}
+use Rattle.cfi_loader.specs.Starting.{IsStarted}
 use Rattle.cfi_loader.specs.inner.Books.{course_in, end_of, ledger_of, AreKept}
 use Rattle.cfi_loader.specs.inner.Entries.{EntersBy, EntersIn, AllEnter, IsFirstOut}
 use Rattle.cfi_loader.specs.inner.Journal.{Minutes}

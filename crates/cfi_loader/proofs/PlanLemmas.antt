@@ -5,7 +5,7 @@ use Rattle.cfi_aux.specs.declared.modules.Module.{Module}
 use Rattle.cfi_plan.specs.Plan.{IsPlan, IsScriptLine}
 use Rattle.cfi_plan.specs.declared.plan.Plan.{Plan}
 use Rattle.cfi_series.specs.Series.{CanBeTaken}
-use Rattle.cfi_valid.specs.Bare.{bare_plan}
+use Rattle.cfi_plan.specs.Bare.{bare_plan}
 use Rattle.cfi_loader.specs.Plans.{CanStart}
 
 pub plan_starts : (plan : Plan) (modules : List Module) → IsPlan plan → length modules ≡ length plan.modules

@@ -19,7 +19,8 @@ use Rattle.cfi_series.specs.declared.fault.JoinFault.TheVariants as joins
 use Rattle.cfi_series.proofs.OrderLemmas.{order_more}
 use Rattle.cfi_valid.specs.Journal.{IsOpeningState, starts_from, modules_at}
 use Rattle.cfi_valid.specs.Loaded.{LoadedModule, module_line_of, planned_name}
-use Rattle.cfi_loader.specs.Starting.{IsFirstUnjoined, IsOpenFault}
+use Rattle.cfi_valid.specs.Opening.{IsFirstUnjoined}
+use Rattle.cfi_loader.specs.Starting.{IsOpenFault}
 use Rattle.cfi_loader.specs.inner.Roster.{Roster, HasJoined, line_by, loaded_of}
 use Rattle.cfi_loader.specs.inner.Starts.{AreStarted, loaded_in, opened_state, fault_at}
 use Rattle.cfi_loader.proofs.RosterLemmas.{loaded_more, places_are}

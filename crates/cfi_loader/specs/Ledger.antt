@@ -11,7 +11,7 @@ use Rattle.cfi_tables.specs.Keeping.{Keeping, is_out, last_of}
 use Rattle.cfi_tables.specs.Key.{Key}
 use Rattle.cfi_tables.specs.Views.{idle_tables}
 use Rattle.cfi_valid.specs.Course.{Course, IsCourse}
-use Rattle.cfi_valid.specs.Guests.{GuestBegins}
+use Rattle.cfi_valid.specs.Guests.{HasEntry}
 use Rattle.cfi_valid.specs.Journal.{JournalState}
 use Rattle.cfi_valid.specs.Loaded.{LoadedModule, placed_modules, loaded_by, live_at}
 use Rattle.cfi_valid.specs.Script.{Call, script_calls, made_by_script}
@@ -53,10 +53,7 @@ pub record TellsOf (k : Key) (c : Course) (keeping : Keeping) : Type 0 where
   pub refusals : AreRefused c.journal keeping.refusals
   pub guests : (guest : ℕ) → is_out keeping.out guest ≡ true → guest < length c.plan.guests
 
--- a guest of this entry has an address to begin at, and each guest of the plan has
-abbrev pub HasEntry : Plan → List LoadedModule → (entry : List ℕ) → Type 0
-HasEntry plan loaded entry = (address : ℕ) × GuestBegins plan loaded entry address
-
+-- each guest of the plan has an address to begin at
 abbrev pub HaveEntries : Plan → List LoadedModule → Type 0
 HaveEntries plan loaded =
     (guest : ℕ) (entry : List ℕ) → slice_get plan.guests guest ≡ Some entry → HasEntry plan loaded entry

@@ -16,7 +16,7 @@ ghost use Rattle.cfi_valid.specs.Log.{is_versions};
 ghost use Rattle.cfi_word.specs.declared.limits.TheConstants.{GUESTS};
 ghost use Rattle.cfi_loader.specs.Marks.{mark_by};
 ghost use Rattle.cfi_tables.specs.Views.{idle_tables};
-ghost use Rattle.cfi_valid.specs.Bare.{bare_plan};
+ghost use Rattle.cfi_plan.specs.Bare.{bare_plan};
 ghost use Rattle.cfi_valid.specs.FromLaw.{HasPolicies};
 ghost use Rattle.cfi_valid.specs.Growth.{Continues};
 ghost use Rattle.cfi_valid.specs.Script.{Load, call_of};

@@ -20,7 +20,7 @@ pub trait LoaderName: TableName {
 
 impl LoaderName for Brand {
     ghost use Rattle.std.specs.Prelude.{[]};
-    ghost use Rattle.cfi_valid.specs.Bare.{bare_plan};
+    ghost use Rattle.cfi_plan.specs.Bare.{bare_plan};
 
     ghost plan = { bare_plan };
 

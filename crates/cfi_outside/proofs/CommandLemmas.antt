@@ -23,7 +23,8 @@ command_from (name ∷ input ∷ []) =
 command_from (name ∷ input ∷ output ∷ []) =
     if bytes_eq name (codes "asm") then Some (commands.Asm input output)
     else (if bytes_eq name (codes "instrument") then Some (commands.Instrument input output)
-    else (if bytes_eq name (codes "link") then Some (commands.Link input (output ∷ [])) else None))
+    else (if bytes_eq name (codes "sim") then Some (commands.Sim input output)
+    else (if bytes_eq name (codes "link") then Some (commands.Link input (output ∷ [])) else None)))
 command_from (name ∷ output ∷ input ∷ more ∷ rest) =
     if bytes_eq name (codes "link") then Some (commands.Link output (input ∷ more ∷ rest)) else None
 
@@ -41,6 +42,7 @@ from_spelled (commands.Instrument input output) number = refl
 from_spelled (commands.Link output inputs) number = linked_spelled output inputs number
 from_spelled (commands.Verify plan) number = refl
 from_spelled (commands.Graph plan) number = refl
+from_spelled (commands.Sim plan schedule) number = refl
 from_spelled (commands.Run input) number = refl
 
 -- words are one command at most

@@ -4,7 +4,7 @@ use Rattle.cfi_args.specs.Words.{IsOperand}
 use Rattle.cfi_outside.specs.declared.command.Command.{Command}
 use Rattle.cfi_outside.specs.declared.command.Command.TheVariants as commands
 use Rattle.cfi_word.specs.declared.limits.TheConstants.{MAX_INPUTS}
-use Rattle.cfi_outside.specs.Plans.{named_files}
+use Rattle.cfi_outside.specs.Plans.{named_files, named_files_and, run_files}
 
 -- the word that names a command, and the words after it
 abbrev pub command_word : Command → List ℕ
@@ -14,6 +14,7 @@ command_word (commands.Instrument input output) = codes "instrument"
 command_word (commands.Link output inputs) = codes "link"
 command_word (commands.Verify plan) = codes "verify"
 command_word (commands.Graph plan) = codes "graph"
+command_word (commands.Sim plan schedule) = codes "sim"
 command_word (commands.Run input) = codes "run"
 
 abbrev pub operands_of : Command → List (List ℕ)
@@ -23,6 +24,7 @@ operands_of (commands.Instrument input output) = input ∷ output ∷ []
 operands_of (commands.Link output inputs) = output ∷ inputs
 operands_of (commands.Verify plan) = plan ∷ []
 operands_of (commands.Graph plan) = plan ∷ []
+operands_of (commands.Sim plan schedule) = plan ∷ schedule ∷ []
 operands_of (commands.Run input) = input ∷ []
 
 -- a command that takes any number of inputs has one at least, and not too many
@@ -53,12 +55,15 @@ inputs_of (commands.Instrument input output) = input ∷ []
 inputs_of (commands.Link output inputs) = inputs
 inputs_of (commands.Verify plan) = plan ∷ []
 inputs_of (commands.Graph plan) = plan ∷ []
+inputs_of (commands.Sim plan schedule) = plan ∷ []
 inputs_of (commands.Run input) = input ∷ []
 
--- the files that it reads after them, in order: those that its inputs, of these bytes, name
+-- the files that it reads after them, in order: those that its inputs, of these bytes, name, and then a schedule
 abbrev pub more_of : Command → (files : List (List ℕ)) → List (List ℕ)
 more_of (commands.Verify plan) (bytes ∷ []) = named_files bytes
 more_of (commands.Graph plan) (bytes ∷ []) = named_files bytes
+more_of (commands.Sim plan schedule) (bytes ∷ []) = named_files_and bytes schedule
+more_of (commands.Run input) (bytes ∷ []) = run_files bytes
 more_of command files = []
 
 -- the file that a command saves, where it saves one
@@ -69,4 +74,5 @@ saved_name (commands.Instrument input output) = Some output
 saved_name (commands.Link output inputs) = Some output
 saved_name (commands.Verify plan) = None
 saved_name (commands.Graph plan) = None
+saved_name (commands.Sim plan schedule) = None
 saved_name (commands.Run input) = None

@@ -1,5 +1,6 @@
 -- The files that a plan names.
-use Rattle.std.specs.Prelude.{ℕ, List, [], map, Result, Ok, Err}
+use Rattle.std.specs.Prelude.{ℕ, Bool, nat_eq, List, [], ◌∷◌, ◌++◌, map, codes, if◌then◌else◌, Result, Ok, Err}
+use Rattle.std.specs.List.{starts_with}
 use Rattle.cfi_plan.specs.declared.plan.Plan.{Plan}
 use Rattle.cfi_plan.specs.declared.fault.PlanFault.{PlanFault}
 use Rattle.cfi_plan.specs.Reading.{plan_in}
@@ -16,3 +17,19 @@ files_in (Err fault) = []
 -- the files that the plan of these bytes names
 abbrev pub named_files : (bytes : List ℕ) → List (List ℕ)
 named_files bytes = files_in (plan_in bytes)
+
+-- the same, and the file of one name more behind those of a plan
+abbrev pub files_and : (last : List ℕ) → Result Plan PlanFault → List (List ℕ)
+files_and last (Ok plan) = files_of plan ++ last ∷ []
+files_and last (Err fault) = []
+
+abbrev pub named_files_and : (bytes last : List ℕ) → List (List ℕ)
+named_files_and bytes last = files_and last (plan_in bytes)
+
+-- a file that begins so is a plan where it is to be run, any other a bare file
+abbrev pub begins_as_plan : (bytes : List ℕ) → Bool
+begins_as_plan bytes = starts_with nat_eq bytes (codes "plan ")
+
+-- the files that a file of these bytes names where it is to be run
+abbrev pub run_files : (bytes : List ℕ) → List (List ℕ)
+run_files bytes = if begins_as_plan bytes then named_files bytes else []

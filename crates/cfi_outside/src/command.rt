@@ -3,7 +3,9 @@ ghost use Rattle.cfi_args.specs.Words.{IsOperand, texts};
 ghost use Rattle.cfi_outside.specs.Command.{IsReading, inputs_of, more_of};
 ghost use Rattle.cfi_outside.specs.Reading.{IsShort};
 
-use crate::names::{copies_of, named_files, names_of, one_name, text_of};
+use crate::names::{
+    copies_of, named_files, named_files_and, names_of, one_name, run_files, text_of,
+};
 use crate::reading::only;
 use cfi_args::split_words;
 use cfi_values::{Bytes, Items, Text};
@@ -49,9 +51,16 @@ pub enum Command {
         /// The plan's file.
         plan: Text,
     },
-    /// Runs a bare file.
+    /// Simulates a plan, event by event.
+    Sim {
+        /// The plan's file.
+        plan: Text,
+        /// The schedule's file, which has the events.
+        schedule: Text,
+    },
+    /// Runs a plan, or a bare file.
     Run {
-        /// The bare file.
+        /// The file.
         input: Text,
     },
 }
@@ -68,11 +77,13 @@ impl Command {
             Command::Link { inputs, .. } => copies_of(alloc, inputs.as_slice()),
             Command::Verify { plan } => one_name(alloc, plan),
             Command::Graph { plan } => one_name(alloc, plan),
+            Command::Sim { plan, .. } => one_name(alloc, plan),
             Command::Run { input } => one_name(alloc, input),
         }
     }
 
-    /// The names of the files that the command reads after its inputs, in order: those that the inputs name.
+    /// The names of the files that the command reads after its inputs, in order: those that the inputs name, and then
+    /// those that come after them.
     ///
     /// `files` are the bytes of its inputs.
     pub fn more(&self, alloc: Global, files: &[Bytes]) -> Result<Vec<Text>, AllocError>
@@ -87,7 +98,8 @@ impl Command {
             Command::Link { .. } => Ok(Vec::new(alloc)),
             Command::Verify { .. } => named_files(alloc, only(files)),
             Command::Graph { .. } => named_files(alloc, only(files)),
-            Command::Run { .. } => Ok(Vec::new(alloc)),
+            Command::Sim { schedule, .. } => named_files_and(alloc, only(files), schedule),
+            Command::Run { .. } => run_files(alloc, only(files)),
         }
     }
 }
@@ -131,6 +143,12 @@ fn binary(
     }
     if name == "instrument" {
         return Ok(Some(Command::Instrument { input, output }));
+    }
+    if name == "sim" {
+        return Ok(Some(Command::Sim {
+            plan: input,
+            schedule: output,
+        }));
     }
     Ok(None)
 }

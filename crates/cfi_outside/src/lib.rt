@@ -14,7 +14,7 @@ mod reading;
 
 pub use command::{Command, command_of};
 pub use delivery::deliver;
-pub use names::text_of;
+pub use names::{begins_as_plan, text_of};
 pub use output::{
     DONE, MEMORY, NO_FILE, Output, READ_FAULT, REFUSED, USAGE, WRITE_FAULT, line_of, unread_output,
     usage_output,

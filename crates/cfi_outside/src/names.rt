@@ -2,7 +2,7 @@
 
 ghost use Rattle.std.specs.Prelude.{◌≡◌, ◌≤◌, ◌∷◌, [], length, map, IfOk};
 ghost use Rattle.cfi_word.specs.declared.limits.TheConstants.{MAX_FILE_BYTES};
-ghost use Rattle.cfi_outside.specs.Plans.{named_files};
+ghost use Rattle.cfi_outside.specs.Plans.{named_files, named_files_and, begins_as_plan, run_files};
 
 use cfi_plan::{PlanFault, PlanModule, read_plan};
 use cfi_values::Text;
@@ -67,4 +67,38 @@ pub fn named_files(alloc: Global, bytes: &[u8]) -> Result<Vec<Text>, AllocError>
         Err(PlanFault::Memory) => Err(AllocError),
         Err(_) => Ok(Vec::new(alloc)),
     }
+}
+
+/// The files that the plan of these bytes names, in order, and then this one: none where they are no plan.
+pub fn named_files_and(alloc: Global, bytes: &[u8], last: &Text) -> Result<Vec<Text>, AllocError>
+    requires short { length bytes.now ≤ MAX_FILE_BYTES }
+    ensures { IfOk result (λ names. names.items ≡ named_files_and bytes.now last.now) }
+{
+    match read_plan(alloc, bytes) {
+        Ok(plan) => {
+            let mut names = files_of(alloc, plan.modules.as_slice())?;
+            names.push(text_of(alloc, last.as_str())?)?;
+            Ok(names)
+        }
+        Err(PlanFault::Memory) => Err(AllocError),
+        Err(_) => Ok(Vec::new(alloc)),
+    }
+}
+
+/// Whether a file that is to be run is a plan: it begins as one. Any other is a bare file.
+pub fn begins_as_plan(bytes: &[u8]) -> bool
+    ensures { result ≡ begins_as_plan bytes.now }
+{
+    bytes.starts_with(b"plan ")
+}
+
+/// The files that a file of these bytes names where it is to be run: those of a plan, and none where it is a bare file.
+pub fn run_files(alloc: Global, bytes: &[u8]) -> Result<Vec<Text>, AllocError>
+    requires short { length bytes.now ≤ MAX_FILE_BYTES }
+    ensures { IfOk result (λ names. names.items ≡ run_files bytes.now) }
+{
+    if begins_as_plan(bytes) {
+        return named_files(alloc, bytes);
+    }
+    Ok(Vec::new(alloc))
 }

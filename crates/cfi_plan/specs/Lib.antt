@@ -1,3 +1,4 @@
+pub mod Bare
 pub mod Draft
 pub mod Kept
 pub mod Line

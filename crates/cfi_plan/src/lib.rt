@@ -5,6 +5,7 @@
 //! the texts of faults, and that memory suffices. Open: nothing.
 #![tactic(auto)]
 
+mod bare;
 mod draft;
 mod fault;
 mod index;
@@ -13,6 +14,7 @@ mod line;
 mod plan;
 mod reading;
 
+pub use bare::bare_plan;
 pub use fault::PlanFault;
 pub use journal::{Entry, JournalLine, ModuleLine, Who};
 pub use plan::{Plan, PlanModule, ScriptLine};

@@ -2,7 +2,7 @@
 use Rattle.std.proofs.Common.{◌≡◌, inr, ℕ, zero, suc, ◌*◌, ◌<◌, [], ◌∷◌, length, get_or, Some, None, refl, sym, subst, arith}
 use Rattle.std.specs.Prelude.{slice_get}
 use Rattle.std.proofs.lemmas.List.{length-replicate, get_or-replicate}
-use Rattle.cfi_bare.specs.Image.{copies}
+use Rattle.cfi_bare.proofs.LoadedLemmas.{copies}
 use Rattle.cfi_class.specs.Labels.{AreLabels}
 use Rattle.cfi_flow.proofs.Members.{member_of_one}
 use Rattle.cfi_aux.specs.declared.placed.Placed.{Placed}
@@ -16,7 +16,7 @@ use Rattle.cfi_sim.specs.Example.{still_part, still}
 use Rattle.cfi_sim.specs.Stage.{Stage}
 use Rattle.cfi_sim.specs.Valid.{IsGuestAt, IsStart, IsSimulated, IsValidSim}
 use Rattle.cfi_sim.specs.declared.limits.TheConstants.{MAX_UPDATES}
-use Rattle.cfi_valid.specs.Bare.{bare_plan}
+use Rattle.cfi_plan.specs.Bare.{bare_plan}
 use Rattle.cfi_valid.specs.Course.{Course}
 use Rattle.cfi_valid.specs.Example.{hello_module}
 use Rattle.cfi_valid.specs.Loaded.{start_fills}

@@ -111,15 +111,18 @@ module _ (plan : Plan) (world : World) (spots : List Spot) (placed : List Placed
       known,
       record { one = module_of spot one; has = contains_at loaded at (module_of spot one) stands; is = same; none = finds },
     )
-    one_found (Opened address) finds = record {
-      opened = record {
-        one = module_of spot one;
-        has = contains_at loaded at (module_of spot one) stands;
-        is = same;
-        first = finds.0;
-      };
-      idle = finds.1;
-    }
+    one_found (Opened address) finds = (
+      known,
+      record {
+        opened = record {
+          one = module_of spot one;
+          has = contains_at loaded at (module_of spot one) stands;
+          is = same;
+          first = finds.0;
+        };
+        idle = finds.1;
+      },
+    )
     one_found Unloaded finds =
         (known, (λ found. finds.0 (none_in found)), (λ address found. finds.1 found.idle))
 
@@ -146,7 +149,7 @@ filter_more test (first ∷ loaded) l = by_test (test first) (filter_more test l
     by_test true rest = ap (λ (fs : List Fill). fill_of first.placed ∷ fs) rest
     by_test false rest = rest
 
-take_more : (loaded : List LoadedModule) (k : ℕ) (l : LoadedModule) → slice_get loaded k ≡ Some l
+pub take_more : (loaded : List LoadedModule) (k : ℕ) (l : LoadedModule) → slice_get loaded k ≡ Some l
     → take (suc k) loaded ≡ take k loaded ++ l ∷ []
 take_more [] k l is = absurd (cc)
 take_more (x ∷ loaded) zero l is =

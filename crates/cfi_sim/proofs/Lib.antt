@@ -30,3 +30,15 @@ pub mod FoundLemmas
 pub mod DueLemmas
 pub mod GoLemmas
 pub mod ReleaseLemmas
+pub mod BeginLemmas
+pub mod LoadLemmas
+pub mod NotedLemmas
+pub mod UpdateLemmas
+pub mod OnceLemmas
+pub mod RepeatLemmas
+pub mod StartedLemmas
+pub mod OpeningLemmas
+pub mod FollowLemmas
+pub mod PartsLemmas
+pub mod SimulateLemmas
+pub mod FormLemmas

@@ -193,7 +193,7 @@ module _ (plan : Plan) (modules : List Module) (state : JournalState) (aim : Opt
               (subst (HasNoFunction state.loaded) asks found.1),
         ) log
     found_settles number' asks (Opened address) found log =
-        open_settles address (subst (λ (m : ℕ). HasFunctionAt state.loaded m address) asks found.opened) log
+        open_settles address (subst (λ (m : ℕ). HasFunctionAt state.loaded m address) asks found.1.opened) log
     found_settles number' asks Unloaded found log =
         cause_settles (argument s) NOT_LOADED
         (subst (λ (m : ℕ). m < length plan.modules) asks found.0, refl) log

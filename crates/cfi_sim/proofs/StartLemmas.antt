@@ -69,7 +69,7 @@ not_bare plan is =
 
 -- ---- lists
 
-low_first : (policy : ℕ) (loaded : List LoadedModule) → AllByRecursion (λ (l : LoadedModule). l.policy ≡ 0) loaded
+pub low_first : (policy : ℕ) (loaded : List LoadedModule) → AllByRecursion (λ (l : LoadedModule). l.policy ≡ 0) loaded
     → AllByRecursion (λ (l : LoadedModule). l.policy ≤ policy) loaded
 low_first policy [] all = tt
 low_first policy (l ∷ loaded) all = (omega (arith, all.0), low_first policy loaded all.1)
@@ -122,7 +122,7 @@ module _ (plan : Plan) (modules : List Module) (is : IsPlan plan) (sound : All I
     start = guest_start number r there;
   }
 
-  can : CanOpen plan.code_words plan.versions plan.first image starts.guests plan.fuel
+  pub can : CanOpen plan.code_words plan.versions plan.first image starts.guests plan.fuel
   can = record {
     versions_least = is.versions.0;
     versions_most = is.versions.1;

@@ -46,7 +46,8 @@ pub record IsOpen (loaded : List LoadedModule) (world : World) (number address :
 abbrev pub IsFound : Plan → World → List LoadedModule → (number : ℕ) → Found → Type 0
 IsFound plan world loaded number Unknown = length plan.modules ≤ number
 IsFound plan world loaded number Functionless = (number < length plan.modules) × HasNoFunction loaded number
-IsFound plan world loaded number (Opened address) = IsOpen loaded world number address
+IsFound plan world loaded number (Opened address) =
+    (number < length plan.modules) × IsOpen loaded world number address
 IsFound plan world loaded number Unloaded =
     (number < length plan.modules) × ¬ HasNoFunction loaded number
     × ((address : ℕ) → ¬ IsOpen loaded world number address)

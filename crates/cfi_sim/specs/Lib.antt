@@ -9,4 +9,5 @@ pub mod Reach
 pub mod Agrees
 pub mod Stands
 pub mod Told
+pub mod Faults
 pub mod inner

@@ -1,7 +1,5 @@
 -- The lines of a schedule, by their words.
-use Rattle.std.specs.Prelude.{ℕ, nat_lt, ◌==◌, List, [], ◌∷◌, length, codes, if◌then◌else◌, Option, Some, None}
-use Rattle.std.specs.Option.{option_map}
-use Rattle.std.specs.Str.{bytes_eq}
+use Rattle.std.specs.Prelude.{◌≡◌, ◌⊎◌, ℕ, ◌<◌, nat_lt, ◌==◌, List, [], ◌∷◌, ◌++◌, length, codes, if◌then◌else◌, Option, Some, None, ⊤}
 use Rattle.cfi_plan.specs.declared.plan.Plan.{Plan}
 use Rattle.cfi_plan.specs.Draft.{module_of}
 use Rattle.cfi_sim.specs.declared.line.Line.{Line}
@@ -17,37 +15,31 @@ guest_in plan word =
 abbrev pub count_in : (word : List ℕ) → Option ℕ
 count_in word = small_number_in word >>= λ number. if number == 0 then None else Some number
 
--- so many events of a guest
-abbrev pub guest_form : Plan → (number count : List ℕ) → Option Line
-guest_form plan number count = do
-  guest ← guest_in plan number
-  events ← count_in count
-  Some (Guest guest events)
+-- the words are these alone, which stands for one event, or these and a number of events
+abbrev pub SaysCount : (front words : List (List ℕ)) → (count : ℕ) → Type 0
+SaysCount front words count =
+    ((words ≡ front) × (count ≡ 1))
+    ⊎ ((number : List ℕ) × (words ≡ front ++ number ∷ []) × (count_in number ≡ Some count))
 
--- so many events of the updater, or all that are left of its update
-unfoldable pub updates_form : (word : List ℕ) → Option Line
-updates_form word = if bytes_eq word (codes "all") then Some UpdateAll else option_map Update (count_in word)
+-- what the words say: a case a kind of line
+abbrev pub Says : Plan → (words : List (List ℕ)) → Line → Type 0
+Says plan words Blank = words ≡ []
+Says plan words (Guest guest count) =
+    (number : List ℕ) × (guest_in plan number ≡ Some guest) × SaysCount (codes "guest" ∷ number ∷ []) words count
+Says plan words (Load number) =
+    (name : List ℕ) × (module_of plan.modules name ≡ Some number) × (words ≡ codes "load" ∷ name ∷ [])
+Says plan words Refresh = words ≡ codes "refresh" ∷ []
+Says plan words (Update count) = SaysCount (codes "update" ∷ []) words count
+Says plan words UpdateAll = words ≡ codes "update" ∷ codes "all" ∷ []
+Says plan words (Release guest) =
+    (number : List ℕ) × (guest_in plan number ≡ Some guest) × (words ≡ codes "release" ∷ number ∷ [])
 
--- a line of one word
-unfoldable pub alone_form : (keyword : List ℕ) → Option Line
-alone_form keyword =
-    if bytes_eq keyword (codes "refresh") then Some Refresh
-    else (if bytes_eq keyword (codes "update") then Some (Update 1) else None)
-
--- and one of two
-unfoldable pub pair_form : Plan → (keyword word : List ℕ) → Option Line
-pair_form plan keyword word =
-    if bytes_eq keyword (codes "guest") then option_map (λ guest. Guest guest 1) (guest_in plan word)
-    else (if bytes_eq keyword (codes "load") then option_map Load (module_of plan.modules word)
-    else (if bytes_eq keyword (codes "release") then option_map Release (guest_in plan word)
-    else (if bytes_eq keyword (codes "update") then updates_form word
-    else None)))
-
--- the line that the words say
-abbrev pub form_of : Plan → (words : List (List ℕ)) → Option Line
-form_of plan [] = Some Blank
-form_of plan (keyword ∷ []) = alone_form keyword
-form_of plan (keyword ∷ word ∷ []) = pair_form plan keyword word
-form_of plan (keyword ∷ number ∷ count ∷ []) =
-    if bytes_eq keyword (codes "guest") then guest_form plan number count else None
-form_of plan (keyword ∷ number ∷ count ∷ word ∷ words) = None
+-- a module that a line loads is one of the plan
+abbrev pub IsKnown : Plan → Line → Type 0
+IsKnown plan (Load number) = number < length plan.modules
+IsKnown plan Blank = ⊤
+IsKnown plan (Guest guest count) = ⊤
+IsKnown plan Refresh = ⊤
+IsKnown plan (Update count) = ⊤
+IsKnown plan UpdateAll = ⊤
+IsKnown plan (Release guest) = ⊤

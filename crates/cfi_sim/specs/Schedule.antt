@@ -1,12 +1,12 @@
 -- What the lines of a schedule make of its stage. A line for which there is no such stage is a bad one.
-use Rattle.std.specs.Prelude.{◌≡◌, ℕ, zero, suc, ◌≤◌, List, [], ◌∷◌, Some}
+use Rattle.std.specs.Prelude.{◌≡◌, ℕ, zero, suc, ◌≤◌, List, [], ◌∷◌}
 use Rattle.cfi_aux.specs.declared.modules.Module.{Module}
 use Rattle.cfi_plan.specs.declared.plan.Plan.{Plan}
 use Rattle.cfi_sim.specs.declared.limits.TheConstants.{MAX_EVENTS, MAX_UPDATES}
 use Rattle.cfi_sim.specs.declared.line.Line.{Line}
 use Rattle.cfi_sim.specs.declared.line.Line.TheVariants.{Blank, Guest, Load, Refresh, Update, UpdateAll, Release}
 use Rattle.cfi_sim.specs.Events.{IsIdle, IsGuestEvent, IsUpdateEvent, IsRefreshEvent, IsLoadEvent, IsReleaseEvent}
-use Rattle.cfi_sim.specs.Line.{form_of}
+use Rattle.cfi_sim.specs.Line.{Says}
 use Rattle.cfi_sim.specs.Stage.{Stage}
 use Rattle.cfi_text.specs.Lines.{numbered_lines, statement_of}
 use Rattle.cfi_text.specs.Words.{words_in}
@@ -42,7 +42,7 @@ pub record IsWithin (s : Stage) : Type 0 where
 -- the text of a line is one, and leads from one stage to another
 pub record LineMakes (plan : Plan) (modules : List Module) (text : List ℕ) (old new : Stage) : Type 0 where
   pub line : Line
-  pub reads : form_of plan (words_in (statement_of text)) ≡ Some line
+  pub says : Says plan (words_in (statement_of text)) line
   pub makes : Makes plan modules line old new
   pub within : IsWithin new
 

@@ -1,7 +1,11 @@
 //! Why there is no simulation.
 
+ghost use Rattle.std.specs.Prelude.{◌≡◌};
+ghost use Rattle.cfi_sim.specs.declared.fault.SimFault.TheVariants.{Memory};
+
 use cfi_place::PlaceFault;
 use cfi_verify::VerifyFault;
+use std::alloc::{AllocError, AllocFailed};
 use thiserror::Error;
 
 /// Why the start modules or the guests of a plan cannot be opened: the first fault, modules before guests.
@@ -31,4 +35,20 @@ pub enum SimFault {
     /// Memory ran out.
     #[error("out of memory")]
     Memory,
+}
+
+impl From<AllocError> for SimFault {
+    ghost from_gives = { λ _ e. e ≡ Memory };
+
+    fn from(_error: AllocError) -> SimFault {
+        SimFault::Memory
+    }
+}
+
+impl<T: Drop> From<AllocFailed<T>> for SimFault {
+    ghost from_gives = { λ _ e. e ≡ Memory };
+
+    fn from(_error: AllocFailed<T>) -> SimFault {
+        SimFault::Memory
+    }
 }

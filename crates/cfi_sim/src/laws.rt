@@ -6,7 +6,7 @@ ghost use Rattle.cfi_sim.specs.Example.{still};
 ghost use Rattle.cfi_sim.specs.Reach.{SchedulesReach, SchedulesJournal};
 ghost use Rattle.cfi_sim.specs.Told.{SchedulesAreValid};
 ghost use Rattle.cfi_sim.specs.Valid.{IsValidSim};
-ghost use Rattle.cfi_valid.specs.Bare.{bare_plan};
+ghost use Rattle.cfi_plan.specs.Bare.{bare_plan};
 ghost use Rattle.cfi_valid.specs.Example.{hello_module};
 
 /// What a schedule without a line makes of a bare file is a valid simulation: the guest stands at its entry.

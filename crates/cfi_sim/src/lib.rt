@@ -1,11 +1,11 @@
-//! Schedules of a simulation, read line by line, and the text of what a simulation has come to.
+//! Simulations: what a schedule makes of a plan and its modules, line by line.
 //!
-//! Stands on `cfi_plan` and `cfi_report`, `cfi_model`, which has the phases of an update, `cfi_text`, `cfi_word`,
-//! `cfi_place`, `cfi_verify` and `thiserror`, and for what a valid simulation is on `cfi_world` and `cfi_valid`;
-//! nothing calls it yet. Proved: a line of a schedule is read exactly, with the guests and modules that it names; a
-//! simulation is written as its one text; a schedule goes event by event, its journal is legal, and what is told of its
-//! end is a valid simulation; a simulation under way makes its guests' events, with the answers to their opens, and
-//! releases. Only tested: nothing. Open: the updater's events, and the call that makes a whole simulation of them.
+//! Stands on `cfi_world`, which makes the events, `cfi_series`, which places and verifies modules, `cfi_plan`,
+//! `cfi_report` and `cfi_text`, and for what a valid simulation is on `cfi_valid`, with what these stand on. Proved: what a schedule
+//! makes is a valid simulation, and where there is none, the fault is the first: of opening the plan, or the first line
+//! that leads nowhere; a line of a schedule is read exactly, with the guests and modules that it names; a simulation is
+//! written as its one text; a schedule goes event by event, and its journal is legal. Only tested: nothing. Open: that
+//! memory suffices.
 #![tactic(auto)]
 
 mod aim;
@@ -14,10 +14,13 @@ mod found;
 pub mod laws;
 mod limits;
 mod line;
+mod opening;
 mod opens;
 mod report;
+mod simulation;
 mod spot;
 mod standing;
+mod told;
 mod writer;
 
 pub use aim::Aim;
@@ -26,4 +29,5 @@ pub use found::Found;
 pub use limits::{MAX_EVENTS, MAX_UPDATES, NOT_LOADED};
 pub use line::{Line, read_line};
 pub use report::SimReport;
+pub use simulation::simulate;
 pub use writer::write_sim;

@@ -1,10 +1,13 @@
 //! The lines of a schedule.
 
-ghost use Rattle.std.specs.Prelude.{◌≡◌, ◌<◌, ◌≤◌, length, IfSome};
+ghost use Rattle.std.specs.Prelude.{◌≡◌, ◌<◌, ◌≤◌, length, Some, IfSome};
 ghost use Rattle.cfi_plan.specs.Draft.{module_of};
 ghost use Rattle.cfi_text.specs.Words.{words_in};
 ghost use Rattle.cfi_word.specs.declared.limits.TheConstants.{MAX_MODULES};
-ghost use Rattle.cfi_sim.specs.Line.{form_of, alone_form, pair_form, guest_form, guest_in, count_in, updates_form};
+ghost use Rattle.cfi_plan.specs.declared.plan.Plan.{Plan as PlanValue};
+ghost use Rattle.cfi_sim.specs.Line.{IsKnown, Says, guest_in, count_in};
+ghost use Rattle.cfi_sim.specs.declared.line.Line.{Line as LineValue};
+ghost use Rattle.cfi_sim.specs.inner.Forms.{form_of, alone_form, pair_form, guest_form, updates_form};
 
 use cfi_plan::{Plan, PlanModule};
 use cfi_text::{next_word, read_small_dec};
@@ -38,7 +41,19 @@ pub enum Line {
 /// It is for a plan within the limits.
 pub fn read_line(plan: &Plan, statement: &[u8]) -> Option<Line>
     requires { length plan.now.modules ≤ MAX_MODULES }
-    ensures { result ≡ form_of plan.now (words_in statement.now) }
+    ensures some { IfSome result (Says plan.now (words_in statement.now)) }
+    ensures only { (line : LineValue) → Says plan.now (words_in statement.now) line →
+        result ≡ Some line }
+    ensures known { IfSome result (IsKnown plan.now) }
+{
+    line_in(plan, statement)
+}
+
+// The line that the statement says, by the number of its words.
+fn line_in(plan: &Plan, statement: &[u8]) -> Option<Line>
+    requires { length plan.now.modules ≤ MAX_MODULES }
+    ensures line { result ≡ form_of plan.now (words_in statement.now) }
+    ensures known { IfSome result (IsKnown plan.now) }
 {
     let Some((keyword, rest)) = next_word(statement) else {
         return Some(Line::Blank);
@@ -55,9 +70,10 @@ pub fn read_line(plan: &Plan, statement: &[u8]) -> Option<Line>
     guest(plan, first, second)
 }
 
-#[tactic(auto, unfolding(crate::specs::Line::alone_form))]
+#[tactic(auto, unfolding(crate::specs::inner::Forms::alone_form))]
 fn alone(keyword: &[u8]) -> Option<Line>
-    ensures { result ≡ alone_form keyword.now }
+    ensures line { result ≡ alone_form keyword.now }
+    ensures known { IfSome result (λ line. (plan : PlanValue) → IsKnown plan line) }
 {
     if keyword == b"refresh".as_slice() {
         return Some(Line::Refresh);
@@ -68,10 +84,11 @@ fn alone(keyword: &[u8]) -> Option<Line>
     None
 }
 
-#[tactic(auto, unfolding(crate::specs::Line::pair_form))]
+#[tactic(auto, unfolding(crate::specs::inner::Forms::pair_form))]
 fn pair(plan: &Plan, keyword: &[u8], word: &[u8]) -> Option<Line>
     requires { length plan.now.modules ≤ MAX_MODULES }
-    ensures { result ≡ pair_form plan.now keyword.now word.now }
+    ensures line { result ≡ pair_form plan.now keyword.now word.now }
+    ensures known { IfSome result (IsKnown plan.now) }
 {
     if keyword == b"guest".as_slice() {
         return guest_of(plan, word).map(|guest| Line::Guest { guest, count: 1 });
@@ -88,9 +105,10 @@ fn pair(plan: &Plan, keyword: &[u8], word: &[u8]) -> Option<Line>
     None
 }
 
-#[tactic(auto, unfolding(crate::specs::Line::updates_form))]
+#[tactic(auto, unfolding(crate::specs::inner::Forms::updates_form))]
 fn updates(word: &[u8]) -> Option<Line>
-    ensures { result ≡ updates_form word.now }
+    ensures line { result ≡ updates_form word.now }
+    ensures known { IfSome result (λ line. (plan : PlanValue) → IsKnown plan line) }
 {
     if word == b"all".as_slice() {
         return Some(Line::UpdateAll);
@@ -100,7 +118,8 @@ fn updates(word: &[u8]) -> Option<Line>
 
 // So many events of a guest.
 fn guest(plan: &Plan, number: &[u8], count: &[u8]) -> Option<Line>
-    ensures { result ≡ guest_form plan.now number.now count.now }
+    ensures line { result ≡ guest_form plan.now number.now count.now }
+    ensures known { IfSome result (IsKnown plan.now) }
 {
     let guest = guest_of(plan, number)?;
     let count = count_of(count)?;
@@ -130,7 +149,8 @@ fn count_of(word: &[u8]) -> Option<u32>
 // The number of the plan's module of this name.
 fn module_of(plan: &Plan, name: &[u8]) -> Option<u32>
     requires { length plan.now.modules ≤ MAX_MODULES }
-    ensures { result ≡ module_of plan.now.modules name.now }
+    ensures number { result ≡ module_of plan.now.modules name.now }
+    ensures within { IfSome result (λ number. number < length plan.now.modules) }
 {
     match place_of(plan.modules.as_slice(), name) {
         Some(place) => Some(place as u32),

@@ -1,18 +1,25 @@
-//! Tests of what runs on threads: a keeper, passes and guests beside each other, over one table.
+//! Tests of what runs on threads: a keeper, passes and guests beside each other, over one table, and whole plans.
 //!
-//! Stands on `cfi_runner` and `cfi_tables`; nothing stands on it. They are a program, so that they are proved once and run
-//! as both compilers build them; `stdout` has what it must print. Proved: that each keeps what the calls take for
-//! granted. Tested: two guests load and fetch beside 100 updates, a guest fetches beside an update that adds code, and one
-//! without quiescent points hinders an update; guests run beside refreshes, one of them repeats a try, and each pause
-//! comes. Open: nothing.
+//! Stands on `cfi_engine`, `cfi_commands`, `cfi_runner` and `cfi_tables`; nothing stands on it. They are a program, so that
+//! they are proved once and run as both compilers build them; `stdout` has what it must print, and `data/` the plans that
+//! are run, their sources and their reports. Proved: that each keeps what the calls take for granted. Tested: two guests
+//! load and fetch beside 100 updates, a guest fetches beside an update that adds code, and one without quiescent points
+//! hinders an update; guests run beside refreshes, one of them repeats a try, and each pause comes; two guests of a plan
+//! are in their services at once, its script goes on beside a guest, and a guest runs to its end while the loader's lock
+//! is held. Open: nothing.
 #![tactic(auto)]
 
+mod files;
+mod gates;
 mod image;
+mod marks;
+mod plans;
 mod refreshes;
 mod runs;
 mod tables;
 
-use std::io;
+use crate::plans::Texts;
+use std::{fs, io};
 
 // Prints whether a test came out as it must.
 fn tell(rt: &HostRuntime, name: &str, is_right: bool) -> io::Result<()> {
@@ -20,6 +27,14 @@ fn tell(rt: &HostRuntime, name: &str, is_right: bool) -> io::Result<()> {
         "{name}: {}",
         if is_right { "as it must be" } else { "differs" }
     )
+}
+
+// The texts of a plan and of its one source.
+fn texts(rt: &HostRuntime, plan: &str, source: &str) -> io::Result<Texts> {
+    Ok(Texts {
+        plan: fs::read(rt, plan)?,
+        source: fs::read(rt, source)?,
+    })
 }
 
 fn main(rt: HostRuntime) -> io::Result<()> {
@@ -49,5 +64,25 @@ fn main(rt: HostRuntime) -> io::Result<()> {
         runs::a_try_beside_refreshes_is_repeated(&rt, rt.alloc())?,
     )?;
     tell(&rt, "each pause", runs::each_pause(rt.alloc())?)?;
-    tell(&rt, "each fuel", runs::each_fuel(rt.alloc())?)
+    tell(&rt, "each fuel", runs::each_fuel(rt.alloc())?)?;
+    let two = texts(&rt, "two.plan", "quiet.s")?;
+    let two_report = fs::read(&rt, "two.report")?;
+    tell(
+        &rt,
+        "two guests at once",
+        plans::two_guests_at_once(&rt, rt.alloc(), &two, &two_report),
+    )?;
+    let script = texts(&rt, "script.plan", "quiet.s")?;
+    let script_report = fs::read(&rt, "script.report")?;
+    tell(
+        &rt,
+        "a script beside a guest",
+        plans::a_script_beside_a_guest(&rt, rt.alloc(), &script, &script_report),
+    )?;
+    let call = texts(&rt, "call.plan", "call.s")?;
+    tell(
+        &rt,
+        "a guest beside a held lock",
+        plans::a_guest_beside_a_held_lock(&rt, rt.alloc(), &call),
+    )
 }

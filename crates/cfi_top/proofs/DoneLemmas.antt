@@ -1,31 +1,31 @@
--- What status 0 says.
-use Rattle.std.proofs.Common.{◌≡◌, ℕ, List, [], ◌∷◌, inl, inr, arith, subst}
-use Rattle.cfi_io.specs.Files.{Puts}
-use Rattle.cfi_io.specs.Told.{WhereKeptTold}
+-- What status 0 says: a command was done.
+use Rattle.std.proofs.Common.{◌≡◌, ℕ, Bool, true, false, List, [], ◌∷◌, Option, Some, None, IfSome, inl, inr, arith, refl, sym, ap, subst, ◌∙◌}
+use Rattle.std.specs.Prelude.{◌==◌, if◌then◌else◌}
+use Rattle.cfi_drive.specs.Concluded.{Conclusion}
 use Rattle.cfi_outside.specs.declared.command.Command.{Command}
 use Rattle.cfi_outside.specs.declared.command.Command.TheVariants as commands
 use Rattle.cfi_top.specs.declared.answer.Answer.{Answer}
 use Rattle.cfi_top.specs.declared.answer.Answer.TheVariants as answers
 use Rattle.cfi_outside.specs.declared.output.TheConstants.{DONE}
-use Rattle.cfi_top.specs.Answer.{output_of}
-use Rattle.cfi_outside.specs.Command.{IsCommand, IsCommandLine, more_of}
-use Rattle.cfi_outside.specs.Outside.{Holds, IsWrittenWhole}
+use Rattle.cfi_top.specs.Answer.{output_of, run_in, kept_at}
+use Rattle.cfi_outside.specs.Command.{IsCommand, IsCommandLine}
+use Rattle.cfi_outside.specs.Outside.{IsWrittenWhole}
 use Rattle.cfi_io.specs.Seen.{ShelfView, SinkView}
-use Rattle.cfi_outside.specs.Plans.{named_files}
-use Rattle.cfi_outside.specs.Reading.{AreRead}
-use Rattle.cfi_top.specs.Outcome.{IsMade, IsAllRead, IsWorked}
-use Rattle.cfi_top.specs.Top.{Ends, HasRun, HasListed, HasAssembled, HasInstrumented, HasLinked, HasVerified, HasGraphed}
+use Rattle.cfi_top.specs.Outcome.{IsMade, IsAllRead, IsWorked, IsAnswer}
+use Rattle.cfi_top.specs.Top.{Ends, Runs}
 use Rattle.cfi_outside.proofs.CommandLemmas.{one_command}
-use Rattle.cfi_outside.proofs.ReadingLemmas.{one_file, unread_least}
+use Rattle.cfi_outside.proofs.ReadingLemmas.{unread_least}
 
 -- a command was done: its inputs had these bytes, and what it makes of them was delivered whole
-pub record HasDone (command : Command) (shelf shelf' : ShelfView) (sink sink' : SinkView) : Type 0 where
+pub record HasDone (command : Command) (shelf shelf' : ShelfView) (sink sink' : SinkView) (run : Option Conclusion)
+    : Type 0 where
   pub answer : Answer
   pub files : List (List ℕ)
   pub more : List (List ℕ)
   pub read : IsAllRead command shelf files more
   pub made : IsMade command files more answer
   pub delivered : IsWrittenWhole (output_of answer) shelf shelf' sink sink'
+  pub handed : run ≡ run_in answer
 
 -- what a command that the words are comes to, said of another that they are
 worked_as : (words : List (List ℕ)) (a b : Command) (shelf : ShelfView) (files more : List (List ℕ)) (answer : Answer)
@@ -36,33 +36,38 @@ worked_as words a b shelf files more answer is_a is_b read worked =
     (one_command words a b is_a is_b) (read, worked)
 
 module _ (words : List (List ℕ)) (shelf shelf' : ShelfView) (sink sink' : SinkView) (status : ℕ)
-    (e : status ≡ DONE) where
-  pub done_of : Ends words shelf shelf' sink sink' status → IsCommandLine words
-  done_of (inl memory) = absurd (omega (arith, e, memory.0))
-  done_of (inr (answers.Usage, is, inl d)) = absurd (omega (arith, e, d.0))
-  done_of (inr (answers.Ran part, is, inl d)) = (is.0, is.1)
-  done_of (inr (answers.Print text, is, inl d)) = (is.0, is.1)
-  done_of (inr (answers.Save name bytes, is, inl d)) = (is.0, is.1)
-  done_of (inr (answers.Unread unread, is, inl d)) = (is.0, is.1)
-  done_of (inr (answers.Refused name refusal, is, inl d)) = (is.0, is.1)
-  done_of (inr (answer, is, inr d)) = absurd (omega (arith, e, d.0))
+    (run : Option Conclusion) (e : status ≡ DONE) where
+  -- what is kept where the report was written
+  handed : (it : Option Conclusion) → run ≡ kept_at status it → run ≡ it
+  handed it kept = kept ∙ ap (λ (n : ℕ). kept_at n it) e
+
+  pub done_of : Ends words shelf shelf' sink sink' status run → IsCommandLine words
+  done_of (inl memory) = absurd (omega (arith, e, memory.0.0))
+  done_of (inr (answers.Usage, is, inl d, kept)) = absurd (omega (arith, e, d.0))
+  done_of (inr (answers.Ran it text, is, inl d, kept)) = (is.0, is.1)
+  done_of (inr (answers.Print text, is, inl d, kept)) = (is.0, is.1)
+  done_of (inr (answers.Save name bytes, is, inl d, kept)) = (is.0, is.1)
+  done_of (inr (answers.Unread unread, is, inl d, kept)) = (is.0, is.1)
+  done_of (inr (answers.Refused name refusal, is, inl d, kept)) = (is.0, is.1)
+  done_of (inr (answer, is, inr d, kept)) = absurd (omega (arith, e, d.0))
 
   -- the command that the words are was done
-  pub command_done : (command : Command) → IsCommand words command → Ends words shelf shelf' sink sink' status
-      → HasDone command shelf shelf' sink sink'
-  command_done command fits (inl memory) = absurd (omega (arith, e, memory.0))
-  command_done command fits (inr (answers.Usage, is, inl d)) = absurd (omega (arith, e, d.0))
-  command_done command fits (inr (answers.Ran part, is, inl d)) =
-      let same = worked_as words is.0 command shelf is.2.0 is.2.1 (answers.Ran part) is.1 fits is.2.2 is.2.3 in
+  pub command_done : (command : Command) → IsCommand words command → Ends words shelf shelf' sink sink' status run
+      → HasDone command shelf shelf' sink sink' run
+  command_done command fits (inl memory) = absurd (omega (arith, e, memory.0.0))
+  command_done command fits (inr (answers.Usage, is, inl d, kept)) = absurd (omega (arith, e, d.0))
+  command_done command fits (inr (answers.Ran it text, is, inl d, kept)) =
+      let same = worked_as words is.0 command shelf is.2.0 is.2.1 (answers.Ran it text) is.1 fits is.2.2 is.2.3 in
       record {
-        answer = answers.Ran part;
+        answer = answers.Ran it text;
         files = is.2.0;
         more = is.2.1;
         read = same.0;
         made = same.1;
         delivered = d.1;
+        handed = handed (Some it) kept;
       }
-  command_done command fits (inr (answers.Print text, is, inl d)) =
+  command_done command fits (inr (answers.Print text, is, inl d, kept)) =
       let same = worked_as words is.0 command shelf is.2.0 is.2.1 (answers.Print text) is.1 fits is.2.2 is.2.3 in
       record {
         answer = answers.Print text;
@@ -71,8 +76,9 @@ module _ (words : List (List ℕ)) (shelf shelf' : ShelfView) (sink sink' : Sink
         read = same.0;
         made = same.1;
         delivered = d.1;
+        handed = handed None kept;
       }
-  command_done command fits (inr (answers.Save name file, is, inl d)) =
+  command_done command fits (inr (answers.Save name file, is, inl d, kept)) =
       let same = worked_as words is.0 command shelf is.2.0 is.2.1 (answers.Save name file) is.1 fits is.2.2 is.2.3 in
       record {
         answer = answers.Save name file;
@@ -81,179 +87,64 @@ module _ (words : List (List ℕ)) (shelf shelf' : ShelfView) (sink sink' : Sink
         read = same.0;
         made = same.1;
         delivered = d.1;
+        handed = handed None kept;
       }
-  command_done command fits (inr (answers.Unread unread, is, inl d)) =
+  command_done command fits (inr (answers.Unread unread, is, inl d, kept)) =
       absurd (omega (arith, e, d.0, unread_least unread.cause))
-  command_done command fits (inr (answers.Refused name refusal, is, inl d)) = absurd (omega (arith, e, d.0))
-  command_done command fits (inr (answer, is, inr d)) = absurd (omega (arith, e, d.0))
+  command_done command fits (inr (answers.Refused name refusal, is, inl d, kept)) = absurd (omega (arith, e, d.0))
+  command_done command fits (inr (answer, is, inr d, kept)) = absurd (omega (arith, e, d.0))
 
--- ---- what each command has done
+-- ---- what a run has come to is handed out where it was run
 
-module _ (input bytes : List ℕ) (shelf shelf' : ShelfView) (sink sink' : SinkView)
-    (held : Holds shelf input bytes) (more : List (List ℕ)) where
-  run_done : (answer : Answer) → IsMade (commands.Run input) (bytes ∷ []) more answer
-      → IsWrittenWhole (output_of answer) shelf shelf' sink sink' → HasRun input shelf sink sink'
-  run_done (answers.Ran part) made whole =
-      record { bytes = bytes; held = held; part = part; justified = made; text = whole.1 }
-  run_done (answers.Print text) made whole = absurd made
-  run_done (answers.Save name file) made whole = absurd made
-  run_done answers.Usage made whole = absurd made
-  run_done (answers.Unread unread) made whole = absurd made
-  run_done (answers.Refused name refusal) made whole = absurd made
+-- only running makes such an answer
+is_run : (command : Command) (files more : List (List ℕ)) (it : Conclusion) (text : List ℕ)
+    → IsMade command files more (answers.Ran it text) → (input : List ℕ) × (command ≡ commands.Run input)
+is_run (commands.Run input) (bytes ∷ []) more it text made = (input, refl)
+is_run (commands.Asm input output) (bytes ∷ []) more it text made = absurd made
+is_run (commands.List input) (bytes ∷ []) more it text made = absurd made
+is_run (commands.Instrument input output) (bytes ∷ []) more it text made = absurd made
+is_run (commands.Link output inputs) files more it text made = absurd made
+is_run (commands.Verify plan) (bytes ∷ []) more it text made = absurd made
+is_run (commands.Graph plan) (bytes ∷ []) more it text made = absurd made
+is_run (commands.Sim plan schedule) (bytes ∷ []) more it text made = absurd made
+is_run command files more it text made = absurd made
 
-  asm_done : (output : List ℕ) (answer : Answer) → IsMade (commands.Asm input output) (bytes ∷ []) more answer
-      → IsWrittenWhole (output_of answer) shelf shelf' sink sink' → HasAssembled input output shelf shelf' sink sink'
-  asm_done output (answers.Save name file) made whole = record {
-    bytes = bytes;
-    held = held;
-    file = file;
-    made = made.1;
-    saved = subst (λ (n : List ℕ). WhereKeptTold shelf.files shelf'.files (Puts n file)) made.0 whole.1;
-    silent = whole.0;
-  }
-  asm_done output (answers.Print text) made whole = absurd made
-  asm_done output (answers.Ran part) made whole = absurd made
-  asm_done output answers.Usage made whole = absurd made
-  asm_done output (answers.Unread unread) made whole = absurd made
-  asm_done output (answers.Refused name refusal) made whole = absurd made
+-- nothing is kept of nothing
+none_if : (test : Bool) (run : Option Conclusion) → run ≡ None → (if test then run else None) ≡ None
+none_if true run is = is
+none_if false run is = refl
 
-  instrument_done : (output : List ℕ) (answer : Answer)
-      → IsMade (commands.Instrument input output) (bytes ∷ []) more answer
-      → IsWrittenWhole (output_of answer) shelf shelf' sink sink' → HasInstrumented input output shelf shelf' sink sink'
-  instrument_done output (answers.Save name file) made whole = record {
-    bytes = bytes;
-    held = held;
-    file = file;
-    made = made.1;
-    saved = subst (λ (n : List ℕ). WhereKeptTold shelf.files shelf'.files (Puts n file)) made.0 whole.1;
-    silent = whole.0;
-  }
-  instrument_done output (answers.Print text) made whole = absurd made
-  instrument_done output (answers.Ran part) made whole = absurd made
-  instrument_done output answers.Usage made whole = absurd made
-  instrument_done output (answers.Unread unread) made whole = absurd made
-  instrument_done output (answers.Refused name refusal) made whole = absurd made
+none_kept : (status : ℕ) → kept_at status None ≡ None
+none_kept status = none_if (status == DONE) None refl
 
-  list_done : (answer : Answer) → IsMade (commands.List input) (bytes ∷ []) more answer
-      → IsWrittenWhole (output_of answer) shelf shelf' sink sink' → HasListed input shelf sink sink'
-  list_done (answers.Print text) made whole =
-      record { bytes = bytes; held = held; text = text; listing = made; printed = whole.1 }
-  list_done (answers.Ran part) made whole = absurd made
-  list_done (answers.Save name file) made whole = absurd made
-  list_done answers.Usage made whole = absurd made
-  list_done (answers.Unread unread) made whole = absurd made
-  list_done (answers.Refused name refusal) made whole = absurd made
+module _ (words : List (List ℕ)) (shelf shelf' : ShelfView) (sink sink' : SinkView) (status : ℕ)
+    (run : Option Conclusion) where
+  -- the words run a file, and the status is 0
+  abbrev Handed : Option Conclusion → Type 0
+  Handed it = IfSome it (λ _. (status ≡ DONE) × Runs words)
 
-module _ (input bytes : List ℕ) (shelf shelf' : ShelfView) (sink sink' : SinkView)
-    (held : Holds shelf input bytes) (files : List (List ℕ)) (read : AreRead shelf (named_files bytes) files) where
-  verify_done : (answer : Answer) → IsMade (commands.Verify input) (bytes ∷ []) files answer
-      → IsWrittenWhole (output_of answer) shelf shelf' sink sink' → HasVerified input shelf sink sink'
-  verify_done (answers.Print text) made whole =
-      record { bytes = bytes; held = held; files = files; read = read; text = text; said = made; printed = whole.1 }
-  verify_done (answers.Ran part) made whole = absurd made
-  verify_done (answers.Save name file) made whole = absurd made
-  verify_done answers.Usage made whole = absurd made
-  verify_done (answers.Unread unread) made whole = absurd made
-  verify_done (answers.Refused name refusal) made whole = absurd made
+  handed_none : (it : Option Conclusion) → it ≡ None → Handed it
+  handed_none it same = subst Handed (sym same) tt
 
-  graph_done : (answer : Answer) → IsMade (commands.Graph input) (bytes ∷ []) files answer
-      → IsWrittenWhole (output_of answer) shelf shelf' sink sink' → HasGraphed input shelf sink sink'
-  graph_done (answers.Print text) made whole =
-      record { bytes = bytes; held = held; files = files; read = read; text = text; said = made; printed = whole.1 }
-  graph_done (answers.Ran part) made whole = absurd made
-  graph_done (answers.Save name file) made whole = absurd made
-  graph_done answers.Usage made whole = absurd made
-  graph_done (answers.Unread unread) made whole = absurd made
-  graph_done (answers.Refused name refusal) made whole = absurd made
+  handed_run : (it : Conclusion) (text : List ℕ) → IsAnswer words shelf shelf' (answers.Ran it text) → status ≡ DONE
+      → Handed (Some it)
+  handed_run it text is e =
+      let found = is_run is.0 is.2.0 is.2.1 it text is.2.3 in
+      (e, (found.0, subst (IsCommand words) found.1 is.1))
 
-link_done : (output : List ℕ) (inputs files more : List (List ℕ)) (shelf shelf' : ShelfView) (sink sink' : SinkView)
-    → AreRead shelf inputs files → (answer : Answer) → IsMade (commands.Link output inputs) files more answer
-    → IsWrittenWhole (output_of answer) shelf shelf' sink sink' → HasLinked output inputs shelf shelf' sink sink'
-link_done output inputs files more shelf shelf' sink sink' read (answers.Save name file) made whole = record {
-  files = files;
-  read = read;
-  file = file;
-  made = made.1;
-  saved = subst (λ (n : List ℕ). WhereKeptTold shelf.files shelf'.files (Puts n file)) made.0 whole.1;
-  silent = whole.0;
-}
-link_done output inputs files more shelf shelf' sink sink' read (answers.Print text) made whole = absurd made
-link_done output inputs files more shelf shelf' sink sink' read (answers.Ran part) made whole = absurd made
-link_done output inputs files more shelf shelf' sink sink' read answers.Usage made whole = absurd made
-link_done output inputs files more shelf shelf' sink sink' read (answers.Unread unread) made whole = absurd made
-link_done output inputs files more shelf shelf' sink sink' read (answers.Refused name refusal) made whole = absurd made
+  pub run_only : Ends words shelf shelf' sink sink' status run → Handed run
+  run_only (inl memory) = handed_none run memory.1
+  run_only (inr (answers.Ran it text, is, inl d, kept)) =
+      subst Handed (sym (handed words shelf shelf' sink sink' status run d.0 (Some it) kept)) (handed_run it text is d.0)
+  run_only (inr (answers.Ran it text, is, inr d, kept)) =
+      handed_none run (kept ∙ ap (λ (n : ℕ). kept_at n (Some it)) d.0)
+  run_only (inr (answers.Usage, is, d, kept)) = handed_none run (kept ∙ none_kept status)
+  run_only (inr (answers.Print text, is, d, kept)) = handed_none run (kept ∙ none_kept status)
+  run_only (inr (answers.Save name file, is, d, kept)) = handed_none run (kept ∙ none_kept status)
+  run_only (inr (answers.Unread unread, is, d, kept)) = handed_none run (kept ∙ none_kept status)
+  run_only (inr (answers.Refused name refusal, is, d, kept)) = handed_none run (kept ∙ none_kept status)
 
-pub assembled_of : (words : List (List ℕ)) (shelf shelf' : ShelfView) (sink sink' : SinkView) (status : ℕ)
-    → Ends words shelf shelf' sink sink' status → (input output : List ℕ)
-    → IsCommand words (commands.Asm input output) → status ≡ DONE
-    → HasAssembled input output shelf shelf' sink sink'
-assembled_of words shelf shelf' sink sink' status ends input output fits e =
-    let done = command_done words shelf shelf' sink sink' status e (commands.Asm input output) fits ends in
-    let one = one_file shelf input done.files done.read.inputs in
-    let made = subst (λ (fs : List (List ℕ)). IsMade (commands.Asm input output) fs done.more done.answer) one.1
-    done.made in
-    asm_done input one.0 shelf shelf' sink sink' one.2 done.more output done.answer made done.delivered
-
-pub instrumented_of : (words : List (List ℕ)) (shelf shelf' : ShelfView) (sink sink' : SinkView) (status : ℕ)
-    → Ends words shelf shelf' sink sink' status → (input output : List ℕ)
-    → IsCommand words (commands.Instrument input output) → status ≡ DONE
-    → HasInstrumented input output shelf shelf' sink sink'
-instrumented_of words shelf shelf' sink sink' status ends input output fits e =
-    let done = command_done words shelf shelf' sink sink' status e (commands.Instrument input output) fits ends in
-    let one = one_file shelf input done.files done.read.inputs in
-    let made = subst (λ (fs : List (List ℕ)). IsMade (commands.Instrument input output) fs done.more done.answer) one.1
-    done.made in
-    instrument_done input one.0 shelf shelf' sink sink' one.2 done.more output done.answer made done.delivered
-
-pub ran_of : (words : List (List ℕ)) (shelf shelf' : ShelfView) (sink sink' : SinkView) (status : ℕ)
-    → Ends words shelf shelf' sink sink' status → (input : List ℕ)
-    → IsCommand words (commands.Run input) → status ≡ DONE → HasRun input shelf sink sink'
-ran_of words shelf shelf' sink sink' status ends input fits e =
-    let done = command_done words shelf shelf' sink sink' status e (commands.Run input) fits ends in
-    let one = one_file shelf input done.files done.read.inputs in
-    let made = subst (λ (fs : List (List ℕ)). IsMade (commands.Run input) fs done.more done.answer) one.1
-    done.made in
-    run_done input one.0 shelf shelf' sink sink' one.2 done.more done.answer made done.delivered
-
-pub listed_of : (words : List (List ℕ)) (shelf shelf' : ShelfView) (sink sink' : SinkView) (status : ℕ)
-    → Ends words shelf shelf' sink sink' status → (input : List ℕ)
-    → IsCommand words (commands.List input) → status ≡ DONE → HasListed input shelf sink sink'
-listed_of words shelf shelf' sink sink' status ends input fits e =
-    let done = command_done words shelf shelf' sink sink' status e (commands.List input) fits ends in
-    let one = one_file shelf input done.files done.read.inputs in
-    let made = subst (λ (fs : List (List ℕ)). IsMade (commands.List input) fs done.more done.answer) one.1
-    done.made in
-    list_done input one.0 shelf shelf' sink sink' one.2 done.more done.answer made done.delivered
-
-pub linked_of : (words : List (List ℕ)) (shelf shelf' : ShelfView) (sink sink' : SinkView) (status : ℕ)
-    → Ends words shelf shelf' sink sink' status → (output : List ℕ) (inputs : List (List ℕ))
-    → IsCommand words (commands.Link output inputs) → status ≡ DONE
-    → HasLinked output inputs shelf shelf' sink sink'
-linked_of words shelf shelf' sink sink' status ends output inputs fits e =
-    let done = command_done words shelf shelf' sink sink' status e (commands.Link output inputs) fits ends in
-    link_done output inputs done.files done.more shelf shelf' sink sink' done.read.inputs done.answer done.made
-    done.delivered
-
-pub verified_of : (words : List (List ℕ)) (shelf shelf' : ShelfView) (sink sink' : SinkView) (status : ℕ)
-    → Ends words shelf shelf' sink sink' status → (input : List ℕ)
-    → IsCommand words (commands.Verify input) → status ≡ DONE → HasVerified input shelf sink sink'
-verified_of words shelf shelf' sink sink' status ends input fits e =
-    let done = command_done words shelf shelf' sink sink' status e (commands.Verify input) fits ends in
-    let one = one_file shelf input done.files done.read.inputs in
-    let made = subst (λ (fs : List (List ℕ)). IsMade (commands.Verify input) fs done.more done.answer) one.1
-    done.made in
-    let read = subst (λ (fs : List (List ℕ)). AreRead shelf (more_of (commands.Verify input) fs) done.more) one.1
-    done.read.others in
-    verify_done input one.0 shelf shelf' sink sink' one.2 done.more read done.answer made done.delivered
-
-pub graphed_of : (words : List (List ℕ)) (shelf shelf' : ShelfView) (sink sink' : SinkView) (status : ℕ)
-    → Ends words shelf shelf' sink sink' status → (input : List ℕ)
-    → IsCommand words (commands.Graph input) → status ≡ DONE → HasGraphed input shelf sink sink'
-graphed_of words shelf shelf' sink sink' status ends input fits e =
-    let done = command_done words shelf shelf' sink sink' status e (commands.Graph input) fits ends in
-    let one = one_file shelf input done.files done.read.inputs in
-    let made = subst (λ (fs : List (List ℕ)). IsMade (commands.Graph input) fs done.more done.answer) one.1
-    done.made in
-    let read = subst (λ (fs : List (List ℕ)). AreRead shelf (more_of (commands.Graph input) fs) done.more) one.1
-    done.read.others in
-    graph_done input one.0 shelf shelf' sink sink' one.2 done.more read done.answer made done.delivered
+-- what holds of each value holds of one that is there
+pub if_some : {X : Type 0} {P : X → Type 0} (o : Option X) → ((x : X) → P x) → IfSome o P
+if_some None each = tt
+if_some (Some x) each = each x

@@ -1,6 +1,7 @@
 -- Which files stay, and when valid input gives 0 or 6.
 use Rattle.std.proofs.Common.{◌≡◌, ℕ, ◌≤◌, ◌⊎◌, List, map, Option, Some, None, inl, inr, arith, sym, subst, IfSome, ◌∙◌}
 use Rattle.std.specs.Prelude.{◌≢◌}
+use Rattle.cfi_drive.specs.Concluded.{Conclusion}
 use Rattle.cfi_io.specs.Count.{Rose}
 use Rattle.cfi_io.specs.Files.{Files}
 use Rattle.cfi_io.specs.Told.{WhereKeptTold}
@@ -46,44 +47,46 @@ refused_valid words told faults misses last command files more name refusal v fi
     subst (λ (fs : List (List ℕ)). IsUnrefused command fs v.more) equal unrefused in
     subst (IsUnrefused command files) alike here name refusal refuses
 
-module _ (words : List (List ℕ)) (sink sink' : SinkView) (status : ℕ) where
+module _ (words : List (List ℕ)) (sink sink' : SinkView) (status : ℕ)
+    (run : Option Conclusion) where
   -- valid input over a shelf and a sink that do not fail gives 0 or 6
   valid_of : (told : Files) (faults misses : ℕ) (last : Option Undone) (shelf' : ShelfView)
-      → Ends words (shelf_view (Some told) faults misses last) shelf' sink sink' status → IsValid words told
+      → Ends words (shelf_view (Some told) faults misses last) shelf' sink sink' status run → IsValid words told
       → IsSteady (shelf_view (Some told) faults misses last) shelf' sink sink' → (status ≡ DONE) ⊎ (status ≡ MEMORY)
-  valid_of told faults misses last shelf' (inl memory) v steady = inr memory.0
-  valid_of told faults misses last shelf' (inr (answers.Usage, is, inl d)) v steady = absurd (is (v.command, v.fits))
-  valid_of told faults misses last shelf' (inr (answers.Ran part, is, inl d)) v steady = inl d.0
-  valid_of told faults misses last shelf' (inr (answers.Print text, is, inl d)) v steady = inl d.0
-  valid_of told faults misses last shelf' (inr (answers.Save name file, is, inl d)) v steady = inl d.0
-  valid_of told faults misses last shelf' (inr (answers.Unread unread, is, inl d)) v steady =
+  valid_of told faults misses last shelf' (inl memory) v steady = inr memory.0.0
+  valid_of told faults misses last shelf' (inr (answers.Usage, is, inl d, kept)) v steady = absurd (is (v.command, v.fits))
+  valid_of told faults misses last shelf' (inr (answers.Ran it text, is, inl d, kept)) v steady = inl d.0
+  valid_of told faults misses last shelf' (inr (answers.Print text, is, inl d, kept)) v steady = inl d.0
+  valid_of told faults misses last shelf' (inr (answers.Save name file, is, inl d, kept)) v steady = inl d.0
+  valid_of told faults misses last shelf' (inr (answers.Unread unread, is, inl d, kept)) v steady =
       absurd (unread_unsteady (shelf_view (Some told) faults misses last) shelf' unread.name unread.cause
       (why_of is.0 (shelf_view (Some told) faults misses last) shelf' unread is.2) steady.read steady.found)
-  valid_of told faults misses last shelf' (inr (answers.Refused name refusal, is, inl d)) v steady =
+  valid_of told faults misses last shelf' (inr (answers.Refused name refusal, is, inl d, kept)) v steady =
       absurd (refused_valid words told faults misses last is.0 is.2.0 is.2.1 name refusal v is.1 is.2.2 is.2.3)
-  valid_of told faults misses last shelf' (inr (answers.Save name file, is, inr d)) v steady =
+  valid_of told faults misses last shelf' (inr (answers.Save name file, is, inr d, kept)) v steady =
       absurd (steady.read d.1.1.rose)
-  valid_of told faults misses last shelf' (inr (answers.Usage, is, inr d)) v steady = absurd (steady.written d.1.1)
-  valid_of told faults misses last shelf' (inr (answers.Ran part, is, inr d)) v steady = absurd (steady.written d.1.1)
-  valid_of told faults misses last shelf' (inr (answers.Print text, is, inr d)) v steady = absurd (steady.written d.1.1)
-  valid_of told faults misses last shelf' (inr (answers.Unread unread, is, inr d)) v steady = absurd (steady.written d.1.1)
-  valid_of told faults misses last shelf' (inr (answers.Refused name refusal, is, inr d)) v steady =
+  valid_of told faults misses last shelf' (inr (answers.Usage, is, inr d, kept)) v steady = absurd (steady.written d.1.1)
+  valid_of told faults misses last shelf' (inr (answers.Ran it text, is, inr d, kept)) v steady = absurd (steady.written d.1.1)
+  valid_of told faults misses last shelf' (inr (answers.Print text, is, inr d, kept)) v steady = absurd (steady.written d.1.1)
+  valid_of told faults misses last shelf' (inr (answers.Unread unread, is, inr d, kept)) v steady = absurd (steady.written d.1.1)
+  valid_of told faults misses last shelf' (inr (answers.Refused name refusal, is, inr d, kept)) v steady =
       absurd (steady.written d.1.1)
 
   -- the same, where the shelf may tell nothing
   valid_if : (files : Option Files) (faults misses : ℕ) (last : Option Undone) (shelf' : ShelfView)
-      → Ends words (shelf_view files faults misses last) shelf' sink sink' status
+      → Ends words (shelf_view files faults misses last) shelf' sink sink' status run
       → IfSome files (λ told. IsValid words told → IsSteady (shelf_view files faults misses last) shelf' sink sink'
       → (status ≡ DONE) ⊎ (status ≡ MEMORY))
   valid_if None faults misses last shelf' ends = tt
   valid_if (Some told) faults misses last shelf' ends = valid_of told faults misses last shelf' ends
 
-  pub valid_shelf : (shelf shelf' : ShelfView) → Ends words shelf shelf' sink sink' status
+  pub valid_shelf : (shelf shelf' : ShelfView) → Ends words shelf shelf' sink sink' status run
       → IfSome shelf.files (λ told. IsValid words told → IsSteady shelf shelf' sink sink'
       → (status ≡ DONE) ⊎ (status ≡ MEMORY))
   valid_shelf shelf shelf' ends = valid_if shelf.files shelf.faults shelf.misses shelf.last shelf' ends
 
-module _ (words : List (List ℕ)) (shelf shelf' : ShelfView) (sink sink' : SinkView) (status : ℕ) where
+module _ (words : List (List ℕ)) (shelf shelf' : ShelfView) (sink sink' : SinkView) (status : ℕ)
+    (run : Option Conclusion) where
   -- names that no command saves
   abbrev pub Stay : Type 0
   Stay = WhereKeptTold shelf.files shelf'.files (λ told told'.
@@ -98,7 +101,7 @@ module _ (words : List (List ℕ)) (shelf shelf' : ShelfView) (sink sink' : Sink
   whole_stays (answers.Save name file) is whole =
       kept_puts shelf.files shelf'.files _ name file (apart name (saves_of words shelf shelf' name file is)) whole.1
   whole_stays answers.Usage is whole = kept_same shelf.files shelf'.files _ whole.0
-  whole_stays (answers.Ran part) is whole = kept_same shelf.files shelf'.files _ whole.0
+  whole_stays (answers.Ran it text) is whole = kept_same shelf.files shelf'.files _ whole.0
   whole_stays (answers.Print text) is whole = kept_same shelf.files shelf'.files _ whole.0
   whole_stays (answers.Unread unread) is whole = kept_same shelf.files shelf'.files _ whole.0
   whole_stays (answers.Refused name refusal) is whole = kept_same shelf.files shelf'.files _ whole.0
@@ -108,15 +111,15 @@ module _ (words : List (List ℕ)) (shelf shelf' : ShelfView) (sink sink' : Sink
   broken_stays (answers.Save name file) is broken =
       kept_part shelf.files shelf'.files _ name file (apart name (saves_of words shelf shelf' name file is)) broken.2
   broken_stays answers.Usage is broken = kept_same shelf.files shelf'.files _ broken.0
-  broken_stays (answers.Ran part) is broken = kept_same shelf.files shelf'.files _ broken.0
+  broken_stays (answers.Ran it text) is broken = kept_same shelf.files shelf'.files _ broken.0
   broken_stays (answers.Print text) is broken = kept_same shelf.files shelf'.files _ broken.0
   broken_stays (answers.Unread unread) is broken = kept_same shelf.files shelf'.files _ broken.0
   broken_stays (answers.Refused name refusal) is broken = kept_same shelf.files shelf'.files _ broken.0
 
-  pub elsewhere_of : Ends words shelf shelf' sink sink' status → Stay
-  elsewhere_of (inl memory) = kept_same shelf.files shelf'.files _ memory.1
-  elsewhere_of (inr (answer, is, inl d)) = whole_stays answer is d.1
-  elsewhere_of (inr (answer, is, inr d)) = broken_stays answer is d.1
+  pub elsewhere_of : Ends words shelf shelf' sink sink' status run → Stay
+  elsewhere_of (inl memory) = kept_same shelf.files shelf'.files _ memory.0.1
+  elsewhere_of (inr (answer, is, inl d, kept)) = whole_stays answer is d.1
+  elsewhere_of (inr (answer, is, inr d, kept)) = broken_stays answer is d.1
 
   -- the files are the same, or one was saved, whole or in part
   abbrev pub Keeps : Type 0
@@ -127,7 +130,7 @@ module _ (words : List (List ℕ)) (shelf shelf' : ShelfView) (sink sink' : Sink
       → IsWrittenWhole (output_of answer) shelf shelf' sink sink' → Keeps
   whole_keeps (answers.Save name file) is e whole = inr ((name, saves_of words shelf shelf' name file is), inl e)
   whole_keeps answers.Usage is e whole = inl whole.0
-  whole_keeps (answers.Ran part) is e whole = inl whole.0
+  whole_keeps (answers.Ran it text) is e whole = inl whole.0
   whole_keeps (answers.Print text) is e whole = inl whole.0
   whole_keeps (answers.Unread unread) is e whole = inl whole.0
   whole_keeps (answers.Refused name refusal) is e whole = inl whole.0
@@ -137,25 +140,25 @@ module _ (words : List (List ℕ)) (shelf shelf' : ShelfView) (sink sink' : Sink
   broken_keeps (answers.Save name file) is e broken =
       inr ((name, saves_of words shelf shelf' name file is), inr (e, broken.1.rose))
   broken_keeps answers.Usage is e broken = inl broken.0
-  broken_keeps (answers.Ran part) is e broken = inl broken.0
+  broken_keeps (answers.Ran it text) is e broken = inl broken.0
   broken_keeps (answers.Print text) is e broken = inl broken.0
   broken_keeps (answers.Unread unread) is e broken = inl broken.0
   broken_keeps (answers.Refused name refusal) is e broken = inl broken.0
 
-  pub same_of : Ends words shelf shelf' sink sink' status → Keeps
-  same_of (inl memory) = inl memory.1
-  same_of (inr (answer, is, inl d)) = whole_keeps answer is d.0 d.1
-  same_of (inr (answer, is, inr d)) = broken_keeps answer is d.0 d.1
+  pub same_of : Ends words shelf shelf' sink sink' status run → Keeps
+  same_of (inl memory) = inl memory.0.1
+  same_of (inr (answer, is, inl d, kept)) = whole_keeps answer is d.0 d.1
+  same_of (inr (answer, is, inr d, kept)) = broken_keeps answer is d.0 d.1
 
   status_within : (answer : Answer) → status_of (output_of answer) ≤ MEMORY
   status_within answers.Usage = omega arith
-  status_within (answers.Ran part) = omega arith
+  status_within (answers.Ran it text) = omega arith
   status_within (answers.Print text) = omega arith
   status_within (answers.Save name file) = omega arith
   status_within (answers.Unread unread) = omega (arith, unread_most unread.cause)
   status_within (answers.Refused name refusal) = omega arith
 
-  pub within_of : Ends words shelf shelf' sink sink' status → status ≤ MEMORY
-  within_of (inl memory) = omega (arith, memory.0)
-  within_of (inr (answer, is, inl d)) = omega (arith, d.0, status_within answer)
-  within_of (inr (answer, is, inr d)) = omega (arith, d.0)
+  pub within_of : Ends words shelf shelf' sink sink' status run → status ≤ MEMORY
+  within_of (inl memory) = omega (arith, memory.0.0)
+  within_of (inr (answer, is, inl d, kept)) = omega (arith, d.0, status_within answer)
+  within_of (inr (answer, is, inr d, kept)) = omega (arith, d.0)

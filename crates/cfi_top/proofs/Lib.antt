@@ -1,8 +1,12 @@
 pub mod UnreadLemmas
 pub mod LinkLemmas
 pub mod PlansLemmas
+pub mod OpeningLemmas
+pub mod RunLemmas
+pub mod SimLemmas
 pub mod OutcomeLemmas
 pub mod DoneLemmas
+pub mod MadeLemmas
 pub mod TopLemmas
 pub mod FilesLemmas
 pub mod ValidLemmas

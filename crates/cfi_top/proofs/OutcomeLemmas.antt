@@ -1,5 +1,5 @@
 -- What the outcome of a command says.
-use Rattle.std.proofs.Common.{◌≡◌, ◌≤◌, ℕ, ◌⊎◌, List, [], ◌∷◌, Some, inl, inr, sym, ap, subst, ◌∙◌}
+use Rattle.std.proofs.Common.{◌≡◌, ◌≤◌, ℕ, ◌⊎◌, List, [], ◌∷◌, Option, Some, None, inl, inr, sym, ap, subst, ◌∙◌}
 use Rattle.cfi_outside.specs.declared.command.Command.{Command}
 use Rattle.cfi_outside.specs.declared.command.Command.TheVariants as commands
 use Rattle.cfi_top.specs.declared.answer.Answer.{Answer}
@@ -7,7 +7,9 @@ use Rattle.cfi_top.specs.declared.answer.Answer.TheVariants as answers
 use Rattle.cfi_outside.specs.declared.reading.Unread.{Unread}
 use Rattle.cfi_outside.specs.Command.{inputs_of, more_of, saved_name}
 use Rattle.cfi_outside.specs.declared.output.Output.{Output}
-use Rattle.cfi_top.specs.Answer.{output_of}
+use Rattle.cfi_drive.specs.Concluded.{Conclusion}
+use Rattle.cfi_outside.specs.declared.output.TheConstants.{MEMORY}
+use Rattle.cfi_top.specs.Answer.{output_of, run_in, kept_at}
 use Rattle.cfi_outside.specs.Outside.{IsStarved, IsDelivered, KeepsLast}
 use Rattle.cfi_io.specs.Seen.{ShelfView, SinkView}
 use Rattle.cfi_top.specs.Outcome.{IsMade, IsAllRead, IsWorked, GoesOn, IsOutcome, IsAnswer}
@@ -21,7 +23,7 @@ pub answer_later : (words : List (List ℕ)) (shelf mid shelf' : ShelfView) (ans
     → mid.faults ≤ shelf'.faults → shelf.misses ≤ mid.misses → mid.misses ≤ shelf'.misses
     → KeepsLast (output_of answer) mid shelf' → IsAnswer words shelf mid answer → IsAnswer words shelf shelf' answer
 answer_later words shelf mid shelf' answers.Usage a b c d same is = is
-answer_later words shelf mid shelf' (answers.Ran part) a b c d same is = is
+answer_later words shelf mid shelf' (answers.Ran it text) a b c d same is = is
 answer_later words shelf mid shelf' (answers.Print text) a b c d same is = is
 answer_later words shelf mid shelf' (answers.Save name bytes) a b c d same is = is
 answer_later words shelf mid shelf' (answers.Unread unread) a b c d same is =
@@ -39,6 +41,7 @@ saved_is_output (commands.Instrument input output) (bytes ∷ []) more name file
 saved_is_output (commands.Link output inputs) files more name file made = ap (λ (n : List ℕ). Some n) (sym made.0)
 saved_is_output (commands.Verify plan) (bytes ∷ []) more name file made = absurd made
 saved_is_output (commands.Graph plan) (bytes ∷ []) more name file made = absurd made
+saved_is_output (commands.Sim plan schedule) (bytes ∷ []) more name file made = absurd made
 saved_is_output (commands.Run input) (bytes ∷ []) more name file made = absurd made
 saved_is_output command files more name file made = absurd made
 
@@ -51,6 +54,7 @@ never_unread (commands.Instrument input output) (bytes ∷ []) more unread made 
 never_unread (commands.Link output inputs) files more unread made = made
 never_unread (commands.Verify plan) (bytes ∷ []) more unread made = made
 never_unread (commands.Graph plan) (bytes ∷ []) more unread made = made
+never_unread (commands.Sim plan schedule) (bytes ∷ []) more unread made = made
 never_unread (commands.Run input) (bytes ∷ []) more unread made = made
 never_unread command files more unread made = made
 
@@ -59,7 +63,7 @@ pub worked_is : (command : Command) (files more : List (List ℕ)) (shelf shelf'
     → AreRead shelf (more_of command files) more → IsWorked command files more answer
     → GoesOn command files shelf shelf' answer
 worked_is command files more shelf shelf' answers.Usage read worked = (more, read, worked)
-worked_is command files more shelf shelf' (answers.Ran part) read worked = (more, read, worked)
+worked_is command files more shelf shelf' (answers.Ran it text) read worked = (more, read, worked)
 worked_is command files more shelf shelf' (answers.Print text) read worked = (more, read, worked)
 worked_is command files more shelf shelf' (answers.Save name file) read worked = (more, read, worked)
 worked_is command files more shelf shelf' (answers.Refused name refusal) read worked = (more, read, worked)
@@ -74,25 +78,33 @@ module _ (command : Command) (files : List (List ℕ)) (shelf mid shelf' : Shelf
 
   pub outcome_is : (answer : Answer) → GoesOn command files mid shelf' answer → IsOutcome command shelf shelf' answer
   outcome_is answers.Usage goes = (files, goes.0, all_read goes.0 goes.1, goes.2)
-  outcome_is (answers.Ran part) goes = (files, goes.0, all_read goes.0 goes.1, goes.2)
+  outcome_is (answers.Ran it text) goes = (files, goes.0, all_read goes.0 goes.1, goes.2)
   outcome_is (answers.Print text) goes = (files, goes.0, all_read goes.0 goes.1, goes.2)
   outcome_is (answers.Save name file) goes = (files, goes.0, all_read goes.0 goes.1, goes.2)
   outcome_is (answers.Refused name refusal) goes = (files, goes.0, all_read goes.0 goes.1, goes.2)
   outcome_is (answers.Unread unread) goes = inr (files, read, stops_since shelf mid shelf' _ unread later goes)
 
+-- nothing is handed out where no memory was left
+starved_kept : (status : ℕ) (told : Option Conclusion) → status ≡ MEMORY → kept_at status told ≡ None
+starved_kept status told e = ap (λ (n : ℕ). kept_at n told) e
+
 -- an answer that was delivered ends the program
 pub ends_of : (words : List (List ℕ)) (shelf mid shelf' : ShelfView) (sink sink' : SinkView) (status : ℕ)
-    (answer : Answer) (output : Output) → output ≡ output_of answer → IsLater shelf mid → mid.faults ≤ shelf'.faults
+    (answer : Answer) (output : Output) (run told : Option Conclusion) → output ≡ output_of answer
+    → told ≡ run_in answer → run ≡ kept_at status told → IsLater shelf mid → mid.faults ≤ shelf'.faults
     → mid.misses ≤ shelf'.misses → KeepsLast output mid shelf' → IsAnswer words shelf mid answer
     → IsStarved mid shelf' sink sink' status ⊎ IsDelivered output mid shelf' sink sink' status
-    → Ends words shelf shelf' sink sink' status
-ends_of words shelf mid shelf' sink sink' status answer output same later faults misses last is (inl memory) =
-    inl (memory.0, memory.1 ∙ later.files, memory.2)
-ends_of words shelf mid shelf' sink sink' status answer output same later faults misses last is (inr delivered) =
+    → Ends words shelf shelf' sink sink' status run
+ends_of words shelf mid shelf' sink sink' status answer output run told same runs kept later faults misses last is
+    (inl memory) =
+    inl ((memory.0, memory.1 ∙ later.files, memory.2), kept ∙ starved_kept status told memory.0)
+ends_of words shelf mid shelf' sink sink' status answer output run told same runs kept later faults misses last is
+    (inr delivered) =
     let said = subst (λ (o : Output). IsDelivered o mid shelf' sink sink' status) same delivered in
     inr (
       answer,
       answer_later words shelf mid shelf' answer later.faults faults later.misses misses
           (subst (λ (o : Output). KeepsLast o mid shelf') same last) is,
       delivered_since (output_of answer) shelf mid shelf' sink sink' status later said,
+      kept ∙ ap (kept_at status) runs,
     )

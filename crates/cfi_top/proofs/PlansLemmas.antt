@@ -34,9 +34,16 @@ named_count bytes plan is =
     ∙ length-map plan.modules (λ (one : PlanModule). one.file)
 
 -- what holds of an item that is there
-found_at : {X : Type 0} (P : X → Type 0) (found : Option X) → IsSomeAnd found P → (x : X) × (found ≡ Some x) × P x
+pub found_at : {X : Type 0} (P : X → Type 0) (found : Option X) → IsSomeAnd found P → (x : X) × (found ≡ Some x) × P x
 found_at P None some = absurd some
 found_at P (Some x) some = (x, refl, some)
+
+-- the file of a module of a plan
+pub file_at : (p : Plan) (number : ℕ) (one : PlanModule) → slice_get p.modules number ≡ Some one
+    → slice_get (files_of p) number ≡ Some one.file
+file_at p number one here =
+    slice_get-map (λ (m : PlanModule). m.file) p.modules number
+    ∙ ap (option_map (λ (m : PlanModule). m.file)) here
 
 -- the fault of files is of one of them
 among : (code_words : ℕ) (files : List (List ℕ)) (fault : CommandFault) → IsFilesFault code_words files fault
@@ -57,7 +64,7 @@ among_modules bytes plan files modules fault is count same bad =
 -- ---- refusals that stand
 
 -- a fault of a plan that is no want of memory is what is due
-plan_fault : {Y : Type 0} (fault : PlanFault) (due : Result Y PlanFault) → fault ≢ plan_faults.Memory → Fails fault due
+pub plan_fault : {Y : Type 0} (fault : PlanFault) (due : Result Y PlanFault) → fault ≢ plan_faults.Memory → Fails fault due
     → due ≡ Err fault
 plan_fault (plan_faults.Syntax line) due other fails = fails
 plan_fault (plan_faults.Limit line) due other fails = fails
@@ -79,22 +86,17 @@ module _ (plan bytes : List ℕ) (files : List (List ℕ)) where
   pub plan_stands : (fault : PlanFault) (answer : Answer) → Fails fault (plan_in bytes) → fault ≢ plan_faults.Memory
       → answer ≡ plan_refused plan fault → Stands answer
   plan_stands fault answer fails other said =
-      subst Stands (sym said) (refl, plan_fault fault (plan_in bytes) other fails, other)
+      subst Stands (sym said)
+      (record { named = refl; is = plan_fault fault (plan_in bytes) other fails; some = other })
 
   -- of a plan the file of a module
   module _ (p : Plan) (is : plan_in bytes ≡ Ok p) where
-    file_at : (number : ℕ) (one : PlanModule) → slice_get p.modules number ≡ Some one
-        → slice_get (files_of p) number ≡ Some one.file
-    file_at number one here =
-        slice_get-map (λ (m : PlanModule). m.file) p.modules number
-        ∙ ap (option_map (λ (m : PlanModule). m.file)) here
-
     file_stands : (number : ℕ) (one : PlanModule) (refusal : Refusal) → slice_get p.modules number ≡ Some one
         → IsFilesFault p.code_words files (File number refusal) → RefusesPlan plan bytes files one.file refusal
     file_stands number one (refusals.Plan fault) here first =
         absurd (some_stands _ (slice_get files number) (λ bytes is. is) first.here)
     file_stands number one refusal here first =
-        record { plan = p; is = is; number = number; named = file_at number one here; first = first }
+        record { plan = p; is = is; number = number; named = file_at p number one here; first = first }
 
     pub files_stand : (fault : CommandFault) (answer : Answer) → IsFilesFault p.code_words files fault
         → IsModuleRefused p.modules fault answer → Stands answer
@@ -107,7 +109,7 @@ module _ (plan bytes : List ℕ) (files : List (List ℕ)) where
   -- it is what the commands on plans come to
   pub verify_stands : (answer : Answer) → Stands answer → IsWorked (commands.Verify plan) (bytes ∷ []) files answer
   verify_stands (answers.Refused name refusal) stands = stands
-  verify_stands (answers.Ran part) stands = absurd stands
+  verify_stands (answers.Ran it text) stands = absurd stands
   verify_stands (answers.Print text) stands = absurd stands
   verify_stands (answers.Save name file) stands = absurd stands
   verify_stands answers.Usage stands = absurd stands
@@ -115,7 +117,7 @@ module _ (plan bytes : List ℕ) (files : List (List ℕ)) where
 
   pub graph_stands : (answer : Answer) → Stands answer → IsWorked (commands.Graph plan) (bytes ∷ []) files answer
   graph_stands (answers.Refused name refusal) stands = stands
-  graph_stands (answers.Ran part) stands = absurd stands
+  graph_stands (answers.Ran it text) stands = absurd stands
   graph_stands (answers.Print text) stands = absurd stands
   graph_stands (answers.Save name file) stands = absurd stands
   graph_stands answers.Usage stands = absurd stands

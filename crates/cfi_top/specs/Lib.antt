@@ -1,5 +1,9 @@
 pub mod Answer
 pub mod Plans
 pub mod Refused
+pub mod Opening
+pub mod Running
+pub mod Simulating
 pub mod Outcome
 pub mod Top
+pub mod inner

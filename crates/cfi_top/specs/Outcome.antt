@@ -1,12 +1,9 @@
 -- What each command comes to, by what the shelf tells and counts before and after.
-use Rattle.std.specs.Prelude.{◌≡◌, ◌≢◌, ℕ, ◌⊎◌, List, [], ◌∷◌, slice_get, Some, Ok, Err}
-use Rattle.cfi_bare.specs.File.{IsAccepted, IsFirstRefusal}
+use Rattle.std.specs.Prelude.{◌≡◌, ℕ, ◌⊎◌, List, [], ◌∷◌, slice_get, Some, Ok}
 use Rattle.cfi_plan.specs.declared.plan.Plan.{Plan as ModulePlan}
-use Rattle.cfi_plan.specs.declared.fault.PlanFault.TheVariants as plan_faults
 use Rattle.cfi_plan.specs.Reading.{plan_in}
 use Rattle.cfi_commands.specs.declared.refusal.Refusal.{Refusal}
-use Rattle.cfi_commands.specs.declared.refusal.Refusal.TheVariants.{Bare, Link, Plan}
-use Rattle.cfi_report.specs.declared.report.GuestPart.{GuestPart}
+use Rattle.cfi_commands.specs.declared.refusal.Refusal.TheVariants.{Link, Plan}
 use Rattle.cfi_commands.specs.declared.fault.CommandFault.TheVariants.{File, Together}
 use Rattle.cfi_commands.specs.Files.{IsFilesFault}
 use Rattle.cfi_commands.specs.Graph.{IsGraphText}
@@ -15,25 +12,20 @@ use Rattle.cfi_commands.specs.Assembling.{IsAssembled, IsSourceFault}
 use Rattle.cfi_commands.specs.Instrumenting.{IsInstrumentedFile, IsInstrumentFault}
 use Rattle.cfi_commands.specs.Linking.{IsLinkedFile, IsLinkingFault}
 use Rattle.cfi_commands.specs.Listing.{IsObjectListing, IsObjectFault}
-use Rattle.cfi_commands.specs.Modules.{IsFirstBadFile}
+use Rattle.cfi_report.specs.Report.{report_text}
 use Rattle.cfi_outside.specs.declared.command.Command.{Command}
 use Rattle.cfi_outside.specs.declared.command.Command.TheVariants as commands
 use Rattle.cfi_top.specs.declared.answer.Answer.{Answer}
 use Rattle.cfi_top.specs.declared.answer.Answer.TheVariants as answers
-use Rattle.cfi_word.specs.declared.limits.TheConstants.{FUEL}
 use Rattle.cfi_outside.specs.Command.{IsCommand, IsCommandLine, inputs_of, more_of}
 use Rattle.cfi_io.specs.Seen.{ShelfView}
 use Rattle.cfi_outside.specs.Plans.{files_of}
+use Rattle.cfi_top.specs.Opening.{IsNoPlan, IsNamedBad}
 use Rattle.cfi_top.specs.Plans.{IsSaid}
+use Rattle.cfi_top.specs.Running.{IsRunOfFile, RefusesRun}
+use Rattle.cfi_top.specs.Simulating.{IsSimOfPlan, RefusesSimulation}
 use Rattle.cfi_outside.specs.Reading.{AreRead, StopsAt}
 use Rattle.cfi_outside.specs.declared.reading.Unread.{Unread}
-use Rattle.cfi_run.specs.Run.{IsRun}
-
--- the bytes are accepted as these words, whose run is what the part says
-pub record Justifies (bytes : List ℕ) (part : GuestPart) : Type 0 where
-  pub words : List ℕ
-  pub accepted : IsAccepted bytes words
-  pub run : IsRun words FUEL part
 
 -- the text says that the modules of the plan of these bytes verify; it has the groups of their policy
 abbrev pub IsVerifiedPlan : (bytes : List ℕ) → (files : List (List ℕ)) → (text : List ℕ) → Type 0
@@ -52,14 +44,10 @@ IsMade (commands.Instrument input output) (bytes ∷ []) more (answers.Save name
 IsMade (commands.Link output inputs) files more (answers.Save name file) = (name ≡ output) × IsLinkedFile files file
 IsMade (commands.Verify plan) (bytes ∷ []) more (answers.Print text) = IsVerifiedPlan bytes more text
 IsMade (commands.Graph plan) (bytes ∷ []) more (answers.Print text) = IsGraphOfPlan bytes more text
-IsMade (commands.Run input) (bytes ∷ []) more (answers.Ran part) = Justifies bytes part
+IsMade (commands.Sim plan schedule) (bytes ∷ []) more (answers.Print text) = IsSimOfPlan bytes more text
+IsMade (commands.Run input) (bytes ∷ []) more (answers.Ran run text) =
+    (text ≡ report_text run.report) × IsRunOfFile bytes more run
 IsMade command files more answer = ⊥
-
--- of the files of these names one is no module, the first of them, and this is its name
-pub record IsNamedBad (names files : List (List ℕ)) (name : List ℕ) (refusal : Refusal) : Type 0 where
-  pub number : ℕ
-  pub named : slice_get names number ≡ Some name
-  pub first : IsFirstBadFile files number refusal
 
 -- the bytes are a plan, and the file of this name, which one of its modules has, is refused for the first fault of the
 -- modules' files
@@ -72,8 +60,7 @@ pub record IsModuleAtFault (bytes : List ℕ) (files : List (List ℕ)) (name : 
 
 -- why the bytes of a plan, or the files that it names, are refused, and the file that is at fault
 abbrev pub RefusesPlan : (plan bytes : List ℕ) → (files : List (List ℕ)) → (name : List ℕ) → Refusal → Type 0
-RefusesPlan plan bytes files name (Plan fault) =
-    (name ≡ plan) × (plan_in bytes ≡ Err fault) × (fault ≢ plan_faults.Memory)
+RefusesPlan plan bytes files name (Plan fault) = IsNoPlan plan bytes name fault
 RefusesPlan plan bytes files name refusal = IsModuleAtFault bytes files name refusal
 
 -- why a command refuses its files, and the file that is at fault: the first of the faults
@@ -87,7 +74,9 @@ Refuses (commands.Link output inputs) files more name (Link fault) =
 Refuses (commands.Link output inputs) files more name refusal = IsNamedBad inputs files name refusal
 Refuses (commands.Verify plan) (bytes ∷ []) more name refusal = RefusesPlan plan bytes more name refusal
 Refuses (commands.Graph plan) (bytes ∷ []) more name refusal = RefusesPlan plan bytes more name refusal
-Refuses (commands.Run input) (bytes ∷ []) more name (Bare refusal) = (name ≡ input) × IsFirstRefusal bytes refusal
+Refuses (commands.Sim plan schedule) (bytes ∷ []) more name refusal =
+    RefusesSimulation plan schedule bytes more name refusal
+Refuses (commands.Run input) (bytes ∷ []) more name refusal = RefusesRun input bytes more name refusal
 Refuses command files more name refusal = ⊥
 
 -- no refusal stands in its files

@@ -1,43 +1,53 @@
 -- What each status of the program says, and which input gives 0 or 6.
-use Rattle.std.specs.Prelude.{◌≡◌, ℕ, ◌⊎◌, List, map, All, Some}
+use Rattle.std.specs.Prelude.{◌≡◌, ℕ, ◌⊎◌, List, map, All, Option, Some, None}
 use Rattle.std.specs.Io.KnownBytes.{Appends}
 use Rattle.cfi_io.specs.Count.{Rose}
 use Rattle.cfi_io.specs.Files.{Files, Puts}
 use Rattle.cfi_io.specs.Told.{WhereKeptTold}
-use Rattle.cfi_report.specs.declared.report.GuestPart.{GuestPart}
+use Rattle.cfi_drive.specs.Concluded.{Conclusion}
+use Rattle.cfi_report.specs.Report.{report_text}
 use Rattle.cfi_commands.specs.declared.refusal.Refusal.{Refusal}
 use Rattle.cfi_commands.specs.Assembling.{IsAssembled}
 use Rattle.cfi_commands.specs.Instrumenting.{IsInstrumentedFile}
 use Rattle.cfi_commands.specs.Linking.{IsLinkedFile}
 use Rattle.cfi_commands.specs.Listing.{IsObjectListing}
 use Rattle.cfi_outside.specs.declared.command.Command.{Command}
+use Rattle.cfi_outside.specs.declared.command.Command.TheVariants as commands
 use Rattle.cfi_top.specs.declared.answer.Answer.{Answer}
 use Rattle.cfi_outside.specs.Output.{unread_line, unread_status}
-use Rattle.cfi_top.specs.Answer.{refused_line, output_of}
+use Rattle.cfi_top.specs.Answer.{refused_line, output_of, run_in, kept_at}
 use Rattle.cfi_outside.specs.Command.{IsCommand, inputs_of, more_of, saved_name}
 use Rattle.cfi_outside.specs.Outside.{Holds, HasFailedToSave, IsStarved, IsDelivered}
 use Rattle.cfi_io.specs.Seen.{ShelfView, SinkView}
-use Rattle.cfi_outside.specs.Plans.{named_files}
+use Rattle.cfi_outside.specs.Plans.{named_files, named_files_and, run_files}
 use Rattle.cfi_outside.specs.Reading.{AreRead, IsShort}
 use Rattle.cfi_outside.specs.declared.reading.Unread.{Unread}
-use Rattle.cfi_top.specs.Outcome.{Justifies, IsVerifiedPlan, IsGraphOfPlan, Refuses, IsUnrefused, IsAllRead, IsFirstUnread, IsAnswer}
-use Rattle.cfi_run.specs.Text.{bare_text}
+use Rattle.cfi_top.specs.Outcome.{IsVerifiedPlan, IsGraphOfPlan, Refuses, IsUnrefused, IsAllRead, IsFirstUnread, IsAnswer}
+use Rattle.cfi_top.specs.Running.{IsRunOfFile}
+use Rattle.cfi_top.specs.Simulating.{IsSimOfPlan}
 
--- no memory was left, or an answer was delivered
-abbrev pub Ends : (words : List (List ℕ)) → (shelf shelf' : ShelfView) → (sink sink' : SinkView) → (status : ℕ) → Type 0
-Ends words shelf shelf' sink sink' status =
-    IsStarved shelf shelf' sink sink' status
+-- no memory was left, or an answer was delivered; where that is the report of a run, what the run has come to is handed
+-- out with it
+abbrev pub Ends : (words : List (List ℕ)) → (shelf shelf' : ShelfView) → (sink sink' : SinkView) → (status : ℕ)
+    → (run : Option Conclusion) → Type 0
+Ends words shelf shelf' sink sink' status run =
+    (IsStarved shelf shelf' sink sink' status × (run ≡ None))
     ⊎ ((answer : Answer) × IsAnswer words shelf shelf' answer
-    × IsDelivered (output_of answer) shelf shelf' sink sink' status)
+    × IsDelivered (output_of answer) shelf shelf' sink sink' status × (run ≡ kept_at status (run_in answer)))
 
--- The bare file `input` was accepted and run, as the policy machine runs it, and the sink has the text of the run's
--- report.
-pub record HasRun (input : List ℕ) (shelf : ShelfView) (sink sink' : SinkView) : Type 0 where
+-- The file `input` is a plan whose modules' files are read, or a bare file. Its plan and its modules are those of the
+-- run, which was concluded, and the sink has the text of the run's report.
+pub record HasRun (input : List ℕ) (shelf : ShelfView) (sink sink' : SinkView) (run : Conclusion) : Type 0 where
   pub bytes : List ℕ
   pub held : Holds shelf input bytes
-  pub part : GuestPart
-  pub justified : Justifies bytes part
-  pub text : Appends sink.written sink'.written (bare_text part)
+  pub files : List (List ℕ)
+  pub read : AreRead shelf (run_files bytes) files
+  pub run_is : IsRunOfFile bytes files run
+  pub text : Appends sink.written sink'.written (report_text run.report)
+
+-- the words are the command that runs
+abbrev pub Runs : (words : List (List ℕ)) → Type 0
+Runs words = (input : List ℕ) × IsCommand words (commands.Run input)
 
 -- the file `input` is an object, and the sink has the listing of its text
 pub record HasListed (input : List ℕ) (shelf : ShelfView) (sink sink' : SinkView) : Type 0 where
@@ -75,24 +85,29 @@ pub record HasLinked (output : List ℕ) (inputs : List (List ℕ)) (shelf shelf
   pub saved : WhereKeptTold shelf.files shelf'.files (Puts output file)
   pub silent : sink'.written ≡ sink.written
 
--- the file `input` is a plan whose files are read, and the sink has what is said so of it
-pub record HasSaid (Says : (bytes : List ℕ) → (files : List (List ℕ)) → (text : List ℕ) → Type 0) (input : List ℕ)
+-- the files that the file `input` names are read, and the sink has what is said so of them
+pub record HasSaid (names_in : (bytes : List ℕ) → List (List ℕ))
+    (Says : (bytes : List ℕ) → (files : List (List ℕ)) → (text : List ℕ) → Type 0) (input : List ℕ)
     (shelf : ShelfView) (sink sink' : SinkView) : Type 0 where
   pub bytes : List ℕ
   pub held : Holds shelf input bytes
   pub files : List (List ℕ)
-  pub read : AreRead shelf (named_files bytes) files
+  pub read : AreRead shelf (names_in bytes) files
   pub text : List ℕ
   pub said : Says bytes files text
   pub printed : Appends sink.written sink'.written text
 
 -- the modules of the plan `input` verify in order, and the sink has a line for each
 abbrev pub HasVerified : (input : List ℕ) → (shelf : ShelfView) → (sink sink' : SinkView) → Type 0
-HasVerified = HasSaid IsVerifiedPlan
+HasVerified = HasSaid named_files IsVerifiedPlan
 
 -- they do, and the sink has the groups of their policy
 abbrev pub HasGraphed : (input : List ℕ) → (shelf : ShelfView) → (sink sink' : SinkView) → Type 0
-HasGraphed = HasSaid IsGraphOfPlan
+HasGraphed = HasSaid named_files IsGraphOfPlan
+
+-- the schedule, read behind the modules' files, makes a valid simulation of the plan `input`, and the sink has its text
+abbrev pub HasSimulated : (input schedule : List ℕ) → (shelf : ShelfView) → (sink sink' : SinkView) → Type 0
+HasSimulated input schedule = HasSaid (λ bytes. named_files_and bytes schedule) IsSimOfPlan input
 
 -- a command's files were read and refused for the first fault, and the sink has the line that says so
 pub record IsRefused (words : List (List ℕ)) (shelf : ShelfView) (sink sink' : SinkView) : Type 0 where

@@ -1,11 +1,11 @@
 //! The program as one public call: `top` takes the words, a shelf, a sink and a gate.
 //!
-//! Stands on `cfi_outside`, `cfi_run`, `cfi_commands`, `cfi_bare`, `cfi_plan` and what these stand on; `cfi` calls it.
-//! Proved: what is reported was run by a guest of the raw machine, which shows the policy machine, unit by unit; what is
-//! listed is the listing of the object's text, what is said of a plan the stated text of its modules; what is saved is
-//! the written object that the source or the modules make; each status and its text, with its cause; that valid input
-//! gives 0 or 6; which files stay. Only tested, by the cases of `cfi_cases`: that memory is there where it is asked for.
-//! Open: nothing.
+//! Stands on `cfi_outside`, `cfi_commands`, `cfi_engine`, `cfi_sim`, `cfi_bare`, `cfi_plan`, `cfi_report` and what these
+//! stand on; `cfi` calls it. Proved: what is reported of a run was concluded, of the plan and the modules that the file
+//! says, and is valid; what is printed of a simulation is the text of a valid one; what is listed is the listing of the
+//! object's text, what is said of a plan the stated text of its modules; what is saved is the written object that the
+//! source or the modules make; each status and its text, with its cause; that valid input gives 0 or 6; which files
+//! stay. Only tested, by the cases of `cfi_cases`: that memory is there where it is asked for. Open: nothing.
 #![tactic(auto)]
 
 mod answer;
@@ -13,6 +13,7 @@ pub mod laws;
 mod plans;
 mod program;
 mod refused;
+mod running;
 mod work;
 
 pub use cfi_outside::{DONE, MEMORY, NO_FILE, READ_FAULT, REFUSED, USAGE, WRITE_FAULT};

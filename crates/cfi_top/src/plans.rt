@@ -4,13 +4,16 @@ ghost use Rattle.std.specs.Prelude.{◌≡◌, ◌≤◌, ◌∷◌, [], length,
 ghost use Rattle.cfi_word.specs.declared.limits.TheConstants.{MAX_FILE_BYTES};
 ghost use Rattle.cfi_outside.specs.declared.command.Command.TheVariants as commands;
 ghost use Rattle.cfi_top.specs.Outcome.{IsWorked};
-ghost use Rattle.cfi_outside.specs.Plans.{named_files};
+ghost use Rattle.cfi_outside.specs.Plans.{named_files, named_files_and};
 ghost use Rattle.cfi_outside.specs.Reading.{IsShort};
+ghost use Rattle.cfi_plan.specs.Plan.{IsPlan};
+ghost use Rattle.cfi_top.specs.inner.Simulating.{IsSimAmong, IsSimRefused, IsSimulated};
 
 use crate::answer::Answer;
-use crate::refused::{module_refused, plan_refused};
-use cfi_commands::{graph_text, verified_text};
-use cfi_plan::read_plan;
+use crate::refused::{module_refused, opening_refused, plan_refused};
+use cfi_commands::{Refusal, graph_text, read_modules, verified_text};
+use cfi_plan::{Plan, read_plan};
+use cfi_sim::{SimFault, simulate, write_sim};
 use cfi_values::{Bytes, Text};
 use std::alloc::{AllocError, Global};
 
@@ -55,4 +58,72 @@ pub fn graph(alloc: Global, plan: Text, bytes: &[u8], files: &[Bytes]) -> Result
         Ok(text) => Ok(Answer::Print(Bytes::from_vec(text))),
         Err(fault) => module_refused(alloc, found.modules.as_slice(), fault),
     }
+}
+
+// The refusal of a plan or a schedule of which there is no simulation.
+fn sim_refused(
+    alloc: Global,
+    plan: Text,
+    schedule: Text,
+    found: &Plan,
+    fault: SimFault,
+) -> Result<Answer, AllocError>
+    requires { IsSimAmong (length found.now.modules) fault }
+    ensures { IfOk result (IsSimRefused plan schedule found.now.modules fault) }
+{
+    match fault {
+        SimFault::Open(fault) => opening_refused(alloc, plan, found.modules.as_slice(), fault),
+        SimFault::BadEvent(line) => Ok(Answer::Refused(schedule, Refusal::Sim(line))),
+        SimFault::Memory => Err(AllocError),
+    }
+}
+
+// Makes a simulation of a plan that is read, by a schedule of these bytes.
+fn sim_of(
+    alloc: Global,
+    plan: Text,
+    schedule: Text,
+    found: &Plan,
+    files: &[Bytes],
+    bytes: &[u8],
+) -> Result<Answer, AllocError>
+    requires plan { IsPlan found.now }
+    requires count { length files.now ≡ length found.now.modules }
+    requires small { All IsShort files.now }
+    requires short { length bytes.now ≤ MAX_FILE_BYTES }
+    ensures { IfOk result (IsSimulated plan schedule found.now files.now bytes.now) }
+{
+    let modules = match read_modules(alloc, files) {
+        Ok(modules) => modules,
+        Err(fault) => return module_refused(alloc, found.modules.as_slice(), fault),
+    };
+    match simulate(alloc, found, modules, bytes) {
+        Ok(sim) => Ok(Answer::Print(Bytes::from_vec(write_sim(alloc, &sim)?))),
+        Err(fault) => sim_refused(alloc, plan, schedule, found, fault),
+    }
+}
+
+/// Makes a simulation of a plan by a schedule.
+///
+/// `bytes` are those of the plan, `others` those of its modules' files and, at the end, of the schedule.
+pub fn sim(
+    alloc: Global,
+    plan: Text,
+    schedule: Text,
+    bytes: &[u8],
+    others: &[Bytes],
+) -> Result<Answer, AllocError>
+    requires short { length bytes.now ≤ MAX_FILE_BYTES }
+    requires named { length others.now ≡ length (named_files_and bytes.now schedule) }
+    requires small { All IsShort others.now }
+    ensures { IfOk result (IsWorked (commands.Sim plan schedule) (bytes.now ∷ []) others.now) }
+{
+    let found = match read_plan(alloc, bytes) {
+        Ok(found) => found,
+        Err(fault) => return plan_refused(plan, fault),
+    };
+    let Some((last, files)) = others.split_last() else {
+        unreachable!();
+    };
+    sim_of(alloc, plan, schedule, &found, files, last.as_slice())
 }

@@ -1,28 +1,37 @@
-ghost use Rattle.std.specs.Prelude.{◌≡◌, ◌≤◌, IfOk, IfSome, ◌⊎◌, ℕ, List};
+ghost use Rattle.std.specs.Prelude.{◌≡◌, ◌≤◌, IfOk, IfSome, IsSomeAnd, ◌⊎◌, ℕ, List};
 ghost use Rattle.cfi_io.specs.Count.{Rose};
 ghost use Rattle.cfi_io.specs.Told.{WhereKeptTold};
 ghost use Rattle.cfi_outside.specs.declared.command.Command.TheVariants as commands;
 ghost use Rattle.cfi_outside.specs.declared.output.TheConstants.{DONE, USAGE, READ_FAULT, NO_FILE, WRITE_FAULT, REFUSED, MEMORY};
 ghost use Rattle.cfi_args.specs.Words.{texts};
 ghost use Rattle.cfi_outside.specs.Command.{IsCommand, IsCommandLine};
+ghost use Rattle.cfi_headline.specs.Promises.{GuestsKeepPolicies, GuestsEnterUnits, GuestsStoreInside};
+ghost use Rattle.cfi_moments.specs.Force.{TriesHoldPolicies};
 ghost use Rattle.cfi_top.specs.Outcome.{IsAnswer};
-ghost use Rattle.cfi_top.specs.Top.{Ends, HasRun, HasListed, HasAssembled, HasInstrumented, HasLinked, HasVerified, HasGraphed, IsRefused, IsStopped, IsSavedBy, IsUnsaved, Saves, IsValid, IsSteady};
+ghost use Rattle.cfi_top.specs.Answer.{kept_at};
+ghost use Rattle.cfi_top.specs.Top.{Ends, HasRun, HasSimulated, HasListed, HasAssembled, HasInstrumented, HasLinked, HasVerified, HasGraphed, IsRefused, IsStopped, IsSavedBy, IsUnsaved, Saves, Runs, IsValid, IsSteady};
 
 use crate::answer::{Answer, output_of};
 use crate::work::outcome_of;
+use cfi_engine::Concluded;
 use cfi_io::{Gate, Shelf, Sink};
-use cfi_outside::{MEMORY, command_of, deliver};
+use cfi_outside::{DONE, MEMORY, command_of, deliver};
 use std::alloc::{AllocError, Global};
+use std::sync::Wait;
+use std::thread::Threads;
 
 /// How the program ended.
-#[derive(Clone, Copy, Debug, PartialEq, Eq)]
+#[derive(Drop)]
 pub struct Ended {
     /// The exit status, 0 to 6.
     pub status: u8,
+    /// What the run has come to, exactly where the command is `run` and the status is 0.
+    pub run: Option<Concluded>,
 }
 
 // What the words come to.
-fn answer_of<F: Shelf, G: Gate>(
+fn answer_of<F: Shelf, G: Gate, R: Threads + Wait + Sync>(
+    rt: &R,
     alloc: Global,
     words: &[String],
     shelf: &mut F,
@@ -36,44 +45,21 @@ fn answer_of<F: Shelf, G: Gate>(
     ensures misses { (F.seen shelf.old).misses ≤ (F.seen shelf.new).misses }
 {
     match command_of(alloc, words)? {
-        Some(command) => outcome_of(alloc, command, shelf, gate),
+        Some(command) => outcome_of(rt, alloc, command, shelf, gate),
         None => Ok(Answer::Usage),
     }
 }
 
-// Answers the words, and the status that the program ends with.
-fn run_words<F: Shelf, S: Sink, G: Gate>(
-    alloc: Global,
-    words: &[String],
-    shelf: &mut F,
-    sink: &mut S,
-    gate: &G,
-) -> u8
-    ensures ends { Ends (texts words.now)
-        (F.seen shelf.old)
-        (F.seen shelf.new)
-        (S.seen sink.old)
-        (S.seen sink.new) result }
+// What a run has come to, where its report was written.
+fn kept(status: u8, run: Option<Concluded>) -> Option<Concluded>
+    ensures { result ≡ kept_at status run }
 {
-    let Ok(answer) = answer_of(alloc, words, shelf, gate) else {
-        return MEMORY;
-    };
-    let Ok(output) = output_of(alloc, answer) else {
-        return MEMORY;
-    };
-    deliver(shelf, sink, &output)
+    if status == DONE { run } else { None }
 }
 
-/// Runs the program: its words after its own name, over a shelf, a sink and a gate.
-///
-/// `asm IN OUT` assembles a source and saves the object. `list IN` prints the listing of an object's text. `instrument
-/// IN OUT` instruments a module and saves it. `link OUT IN..` links 1 to 64 modules and saves what they make. `verify
-/// PLAN` verifies the modules of a plan and prints a line for each; `graph PLAN` does so and prints the groups of their
-/// policy. `run FILE` verifies a bare file, runs it and prints its report.
-/// Status 0 where the command's bytes were written whole, 1 where the words are no command, 2 where the shelf failed,
-/// 3 where a file is not there or too long, 4 where the sink failed, or the shelf where a file was saved, 5 where a
-/// file was refused, 6 where no memory was left.
-pub fn top<F: Shelf, S: Sink, G: Gate>(
+// Answers the words, and says how the program ends.
+fn run_words<F: Shelf, S: Sink, G: Gate, R: Threads + Wait + Sync>(
+    rt: &R,
     alloc: Global,
     words: &[String],
     shelf: &mut F,
@@ -84,11 +70,72 @@ pub fn top<F: Shelf, S: Sink, G: Gate>(
         (F.seen shelf.old)
         (F.seen shelf.new)
         (S.seen sink.old)
-        (S.seen sink.new) result.status }
+        (S.seen sink.new) result.status result.run }
+{
+    let Ok(answer) = answer_of(rt, alloc, words, shelf, gate) else {
+        return Ended {
+            status: MEMORY,
+            run: None,
+        };
+    };
+    let Ok((output, run)) = output_of(alloc, answer) else {
+        return Ended {
+            status: MEMORY,
+            run: None,
+        };
+    };
+    let status = deliver(shelf, sink, &output);
+    Ended {
+        status,
+        run: kept(status, run),
+    }
+}
 
-    // The headline: what is reported was run by the policy machine, unit by unit.
+/// Runs the program: its words after its own name, over a shelf, a sink and a gate.
+///
+/// `asm IN OUT` assembles a source and saves the object. `list IN` prints the listing of an object's text. `instrument
+/// IN OUT` instruments a module and saves it. `link OUT IN..` links 1 to 64 modules and saves what they make. `verify
+/// PLAN` verifies the modules of a plan and prints a line for each; `graph PLAN` does so and prints the groups of their
+/// policy. `sim PLAN SCHEDULE` makes the events of a schedule, one by one, and prints what they come to. `run FILE` runs a
+/// plan, or a bare file, whose guests run on threads of their own beside the script, and prints the report.
+/// Status 0 where the command's bytes were written whole, 1 where the words are no command, 2 where the shelf failed,
+/// 3 where a file is not there or too long, 4 where the sink failed, or the shelf where a file was saved, 5 where a
+/// file was refused, 6 where no memory was left.
+pub fn top<F: Shelf, S: Sink, G: Gate, R: Threads + Wait + Sync>(
+    rt: &R,
+    alloc: Global,
+    words: &[String],
+    shelf: &mut F,
+    sink: &mut S,
+    gate: &G,
+) -> Ended
+    ensures ends { Ends (texts words.now)
+        (F.seen shelf.old)
+        (F.seen shelf.new)
+        (S.seen sink.old)
+        (S.seen sink.new) result.status result.run }
+
+    // The headline: what was run is what the file says, its report is valid, and it is what is printed.
     ensures ran { (input : List ℕ) → IsCommand (texts words.now) (commands.Run input) →
-        result.status ≡ DONE → HasRun input
+        result.status ≡ DONE → IsSomeAnd result.run (HasRun input
+        (F.seen shelf.old)
+        (S.seen sink.old)
+        (S.seen sink.new)) }
+    ensures run { IfSome result.run (λ _. (result.status ≡ DONE) × Runs (texts words.now)) }
+
+    // Promise by promise, of each guest that was run: unit by unit it does what the policy machine does, each check goes
+    // where the policy that it asks allows and halts only where that forbids; it never enters a unit's middle; and it
+    // never stores outside its own data.
+    ensures policies { IfSome result.run GuestsKeepPolicies }
+    ensures enters { IfSome result.run GuestsEnterUnits }
+    ensures stores { IfSome result.run GuestsStoreInside }
+
+    // The policy that a check asks is in force from the load of its first word to that of its second.
+    ensures in_force { TriesHoldPolicies }
+
+    ensures simulated { (plan schedule : List ℕ) →
+        IsCommand (texts words.now) (commands.Sim plan schedule) →
+        result.status ≡ DONE → HasSimulated plan schedule
         (F.seen shelf.old)
         (S.seen sink.old)
         (S.seen sink.new) }
@@ -172,6 +219,5 @@ pub fn top<F: Shelf, S: Sink, G: Gate>(
         ((result.status ≡ DONE) ⊎ ((result.status ≡ WRITE_FAULT) ×
         Rose (F.seen shelf.old).faults (F.seen shelf.new).faults))) }
 {
-    let status = run_words(alloc, words, shelf, sink, gate);
-    Ended { status }
+    run_words(rt, alloc, words, shelf, sink, gate)
 }

@@ -2,12 +2,13 @@
 
 ghost use Rattle.std.specs.Prelude.{◌≡◌, ◌≢◌, length, IfOk};
 ghost use Rattle.cfi_plan.specs.declared.fault.PlanFault.TheVariants.{Memory};
-ghost use Rattle.cfi_top.specs.Refused.{IsAmong, IsRefusalOf, IsModuleRefused, plan_refused};
+ghost use Rattle.cfi_top.specs.Refused.{IsAmong, IsOpenAmong, IsRefusalOf, IsModuleRefused, IsOpeningRefused, bare_refused, plan_refused};
 
 use crate::answer::Answer;
 use cfi_commands::{CommandFault, Refusal};
 use cfi_outside::text_of;
 use cfi_plan::{PlanFault, PlanModule};
+use cfi_sim::OpenFault;
 use cfi_values::Text;
 use std::alloc::{AllocError, Global};
 
@@ -49,5 +50,39 @@ pub fn module_refused(
         }
         CommandFault::Together(_) => unreachable!(),
         CommandFault::Memory => Err(AllocError),
+    }
+}
+
+/// The refusal of a plan that cannot be opened: of the file of one of its modules, or of the plan itself.
+pub fn opening_refused(
+    alloc: Global,
+    plan: Text,
+    modules: &[PlanModule],
+    fault: OpenFault,
+) -> Result<Answer, AllocError>
+    requires { IsOpenAmong (length modules.now) fault }
+    ensures { IfOk result (IsOpeningRefused plan modules.now fault) }
+{
+    match fault {
+        OpenFault::Place(number, fault) => {
+            let file = text_of(alloc, modules[number as usize].file.as_str())?;
+            Ok(Answer::Refused(file, Refusal::Place(fault)))
+        }
+        OpenFault::Verify(number, fault) => {
+            let file = text_of(alloc, modules[number as usize].file.as_str())?;
+            Ok(Answer::Refused(file, Refusal::Verify(fault)))
+        }
+        OpenFault::NoEntry(guest) => Ok(Answer::Refused(plan, Refusal::Entry(guest))),
+    }
+}
+
+/// The refusal of a bare file whose plan cannot be opened.
+pub fn bare_refused(input: Text, fault: OpenFault) -> Answer
+    ensures { result ≡ bare_refused input fault }
+{
+    match fault {
+        OpenFault::Place(_, fault) => Answer::Refused(input, Refusal::Place(fault)),
+        OpenFault::Verify(_, fault) => Answer::Refused(input, Refusal::Verify(fault)),
+        OpenFault::NoEntry(guest) => Answer::Refused(input, Refusal::Entry(guest)),
     }
 }

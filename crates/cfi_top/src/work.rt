@@ -6,16 +6,16 @@ ghost use Rattle.cfi_outside.specs.Reading.{IsShort};
 ghost use Rattle.cfi_top.specs.Outcome.{GoesOn, IsWorked, IsOutcome};
 
 use crate::answer::Answer;
-use crate::plans::{graph, verify};
+use crate::plans::{graph, sim, verify};
 use crate::refused::refused;
-use cfi_bare::accept;
-use cfi_commands::{CommandFault, Refusal, assembled, instrumented, linked, listing_of};
+use crate::running::run;
+use cfi_commands::{CommandFault, assembled, instrumented, linked, listing_of};
 use cfi_io::{Gate, Shelf};
 use cfi_outside::{Command, only, read_files, text_of};
-use cfi_run::run_bare;
 use cfi_values::{Bytes, Text};
-use cfi_word::limits::FUEL;
 use std::alloc::{AllocError, Global};
+use std::sync::Wait;
+use std::thread::Threads;
 
 // Assembles a source.
 fn asm(alloc: Global, input: Text, output: Text, bytes: &[u8]) -> Result<Answer, AllocError>
@@ -67,18 +67,9 @@ fn link(alloc: Global, output: Text, inputs: &[Text], files: &[Bytes]) -> Result
     }
 }
 
-// Runs a bare file.
-fn run<G: Gate>(alloc: Global, input: Text, bytes: &[u8], gate: &G) -> Result<Answer, AllocError>
-    ensures { IfOk result (IsWorked (commands.Run input) (bytes.now ∷ []) []) }
-{
-    match accept(alloc, bytes)? {
-        Ok(code) => Ok(Answer::Ran(run_bare(alloc, &code, gate, FUEL)?)),
-        Err(refusal) => Ok(Answer::Refused(input, Refusal::Bare(refusal))),
-    }
-}
-
 // Does a command, of whose inputs these are the bytes, and of the files that they name.
-fn work<G: Gate>(
+fn work<G: Gate, R: Threads + Wait + Sync>(
+    rt: &R,
     alloc: Global,
     command: Command,
     files: &[Bytes],
@@ -99,12 +90,14 @@ fn work<G: Gate>(
         Command::Link { output, inputs } => link(alloc, output, inputs.as_slice(), files),
         Command::Verify { plan } => verify(alloc, plan, only(files), more),
         Command::Graph { plan } => graph(alloc, plan, only(files), more),
-        Command::Run { input } => run(alloc, input, only(files), gate),
+        Command::Sim { plan, schedule } => sim(alloc, plan, schedule, only(files), more),
+        Command::Run { input } => run(rt, alloc, input, only(files), more, gate),
     }
 }
 
-// Reads the files that a command's inputs, of these bytes, name, and does the command.
-fn outcome_over<F: Shelf, G: Gate>(
+// Reads the files that a command's inputs, of these bytes, name, and those after them, and does the command.
+fn outcome_over<F: Shelf, G: Gate, R: Threads + Wait + Sync>(
+    rt: &R,
     alloc: Global,
     command: Command,
     files: &[Bytes],
@@ -123,15 +116,17 @@ fn outcome_over<F: Shelf, G: Gate>(
 {
     let names = command.more(alloc, files)?;
     match read_files(alloc, shelf, &names)? {
-        Ok(more) => work(alloc, command, files, more.as_slice(), gate),
+        Ok(more) => work(rt, alloc, command, files, more.as_slice(), gate),
         Err(behind) => Ok(Answer::Unread(behind)),
     }
 }
 
-/// Reads a command's inputs and then the files that they name, all before it looks into one, and does the command.
+/// Reads a command's inputs, then the files that they name, then those that come after them, all before it looks into
+/// one, and does the command.
 ///
 /// An input that names files is looked into for their names alone.
-pub fn outcome_of<F: Shelf, G: Gate>(
+pub fn outcome_of<F: Shelf, G: Gate, R: Threads + Wait + Sync>(
+    rt: &R,
     alloc: Global,
     command: Command,
     shelf: &mut F,
@@ -147,7 +142,7 @@ pub fn outcome_of<F: Shelf, G: Gate>(
 {
     let names = command.inputs(alloc)?;
     match read_files(alloc, shelf, &names)? {
-        Ok(files) => outcome_over(alloc, command, files.as_slice(), shelf, gate),
+        Ok(files) => outcome_over(rt, alloc, command, files.as_slice(), shelf, gate),
         Err(unread) => Ok(Answer::Unread(unread)),
     }
 }

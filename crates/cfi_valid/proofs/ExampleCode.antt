@@ -3,7 +3,7 @@ use Rattle.std.proofs.Common.{◌≡◌, ℕ, ◌+◌, ◌-◌, ◌/◌, ◌%◌
 use Rattle.std.proofs.Math.Seq.{drop-append-add}
 use Rattle.std.proofs.lemmas.List.{length-replicate}
 use Rattle.cfi_aux.specs.declared.placed.Placed.{Placed}
-use Rattle.cfi_bare.specs.Image.{copies}
+use Rattle.cfi_bare.proofs.LoadedLemmas.{copies}
 use Rattle.cfi_model.specs.Shows.{Stands}
 use Rattle.cfi_policy.specs.Code.{IsCodeOf}
 use Rattle.cfi_series.specs.Loaded.{AreLoaded}

@@ -14,7 +14,7 @@ use Rattle.cfi_policy.specs.Code.{IsCodeOf}
 use Rattle.cfi_series.specs.Order.{Joins}
 use Rattle.cfi_bare.proofs.LoadedLemmas.{loaded as loaded_alone}
 use Rattle.cfi_report.specs.declared.report.GuestPart.{GuestPart}
-use Rattle.cfi_valid.specs.Bare.{bare_plan}
+use Rattle.cfi_plan.specs.Bare.{bare_plan}
 use Rattle.cfi_valid.specs.Course.{Course}
 use Rattle.cfi_valid.specs.Example.{hello_module, hello_part, hello_report}
 use Rattle.cfi_valid.specs.Journal.{JournalState, IsOpeningState}

@@ -23,7 +23,7 @@ use Rattle.cfi_word.specs.declared.services.TheConstants.{OPEN, TOO_MANY}
 
 module _ (h : History) (code : List ℕ) (loaded : List LoadedModule) (end : End) (old new : State)
     (known : IsHistory h code) (policies : HasPolicies (length code) loaded h) (ready : IsReady h old)
-    (p : IsStep h code end old new) (due : BringsDue loaded old end.reply) where
+    (p : IsStep h code end old new) where
   -- ---- a check
 
   -- its slot is one of the table
@@ -42,7 +42,7 @@ module _ (h : History) (code : List ℕ) (loaded : List LoadedModule) (end : End
       omega (arith, inside.1, (known.closed s.epoch s.is).1.classes.bary_length)
 
   -- it is let through where the policy of its epoch allows it
-  check_given : (link : Bool) (rs1 : ℕ) (imm : ℤ) (slot : ℕ) → p.unit ≡ units.Check link rs1 imm slot
+  pub check_given : (link : Bool) (rs1 : ℕ) (imm : ℤ) (slot : ℕ) → p.unit ≡ units.Check link rs1 imm slot
       → let target = displaced (register old rs1) imm in
       is_in_code target ≡ true
       → (allows_at h p.epoch slot target ≡ true) ↔ AllowedAt loaded (h.policy p.epoch) slot target
@@ -59,66 +59,67 @@ module _ (h : History) (code : List ℕ) (loaded : List LoadedModule) (end : End
         λ allowed. eq-eqb bary tary (exact.1 allowed),
       )
 
-  -- ---- a service
+  module _ (due : BringsDue loaded old end.reply) where
+    -- ---- a service
 
-  answered : p.unit ≡ units.Service → IsAnswered units.Service end p.reply old
-  answered same = subst (λ (u : CodeUnit). IsAnswered u end p.reply old) same p.answered
+    answered : p.unit ≡ units.Service → IsAnswered units.Service end p.reply old
+    answered same = subst (λ (u : CodeUnit). IsAnswered u end p.reply old) same p.answered
 
-  service_given : p.unit ≡ units.Service → (asking : Bool) → asks old ≡ asking
-      → FitsService asking loaded old p.reply
-  service_given same true is =
-      let both = and_parts (asked old == OPEN) (nat_lt (opens old.log) MAX_OPENS) is in
-      let a = answered same in
-      let fits = a.fits (eqb-true (asked old) OPEN both.0) in
-      record {
-        some = fits.exact (ltb-true (opens old.log) MAX_OPENS both.1);
-        brings = subst (BringsDue loaded old) a.came due;
-      }
-  service_given same false is = λ opening.
-      let fits = (answered same).fits opening in
-      ⊎_elim
-      (λ (many : p.reply.cause ≡ TOO_MANY). many)
-      (λ other.
-      let few = fits.answer.few other in
-      let both = and_from (asked old == OPEN) (nat_lt (opens old.log) MAX_OPENS) (eq-eqb (asked old) OPEN opening)
-      (lt-ltb (opens old.log) MAX_OPENS few) in
-      absurd (false≢true (sym is ∙ both)))
-      (cases_eq p.reply.cause TOO_MANY)
+    service_given : p.unit ≡ units.Service → (asking : Bool) → asks old ≡ asking
+        → FitsService asking loaded old p.reply
+    service_given same true is =
+        let both = and_parts (asked old == OPEN) (nat_lt (opens old.log) MAX_OPENS) is in
+        let a = answered same in
+        let fits = a.fits (eqb-true (asked old) OPEN both.0) in
+        record {
+          some = fits.exact (ltb-true (opens old.log) MAX_OPENS both.1);
+          brings = subst (BringsDue loaded old) a.came due;
+        }
+    service_given same false is = λ opening.
+        let fits = (answered same).fits opening in
+        ⊎_elim
+        (λ (many : p.reply.cause ≡ TOO_MANY). many)
+        (λ other.
+        let few = fits.answer.few other in
+        let both = and_from (asked old == OPEN) (nat_lt (opens old.log) MAX_OPENS) (eq-eqb (asked old) OPEN opening)
+        (lt-ltb (opens old.log) MAX_OPENS few) in
+        absurd (false≢true (sym is ∙ both)))
+        (cases_eq p.reply.cause TOO_MANY)
 
-  -- ---- every unit
+    -- ---- every unit
 
-  -- whether a check is let through
-  abbrev allowed_by : CodeUnit → Bool
-  allowed_by (units.Check link rs1 imm slot) = allows_at h p.epoch slot (displaced (register old rs1) imm)
-  allowed_by unit = true
+    -- whether a check is let through
+    abbrev allowed_by : CodeUnit → Bool
+    allowed_by (units.Check link rs1 imm slot) = allows_at h p.epoch slot (displaced (register old rs1) imm)
+    allowed_by unit = true
 
-  given : (unit : CodeUnit) → p.unit ≡ unit → IsGiven loaded unit old (h.policy p.epoch) (allowed_by unit) p.reply
-  given (units.Plain insn) same = tt
-  given (units.Load kind rd rs1 imm) same = tt
-  given (units.Store kind rs1 rs2 imm) same = tt
-  given (units.Branch cond rs1 rs2 off) same = tt
-  given (units.Jump link off) same = tt
-  given (units.Check link rs1 imm slot) same = check_given link rs1 imm slot same
-  given units.Service same = service_given same (asks old) refl
+    given : (unit : CodeUnit) → p.unit ≡ unit → IsGiven loaded unit old (h.policy p.epoch) (allowed_by unit) p.reply
+    given (units.Plain insn) same = tt
+    given (units.Load kind rd rs1 imm) same = tt
+    given (units.Store kind rs1 rs2 imm) same = tt
+    given (units.Branch cond rs1 rs2 off) same = tt
+    given (units.Jump link off) same = tt
+    given (units.Check link rs1 imm slot) same = check_given link rs1 imm slot same
+    given units.Service same = service_given same (asks old) refl
 
-  effect_same : (unit : CodeUnit) → effect unit (h.policy p.epoch) (allows_at h p.epoch) p.reply old
-      ≡ effect unit (h.policy p.epoch) (λ slot target. allowed_by unit) p.reply old
-  effect_same (units.Plain insn) = refl
-  effect_same (units.Load kind rd rs1 imm) = refl
-  effect_same (units.Store kind rs1 rs2 imm) = refl
-  effect_same (units.Branch cond rs1 rs2 off) = refl
-  effect_same (units.Jump link off) = refl
-  effect_same (units.Check link rs1 imm slot) = refl
-  effect_same units.Service = refl
+    effect_same : (unit : CodeUnit) → effect unit (h.policy p.epoch) (allows_at h p.epoch) p.reply old
+        ≡ effect unit (h.policy p.epoch) (λ slot target. allowed_by unit) p.reply old
+    effect_same (units.Plain insn) = refl
+    effect_same (units.Load kind rd rs1 imm) = refl
+    effect_same (units.Store kind rs1 rs2 imm) = refl
+    effect_same (units.Branch cond rs1 rs2 off) = refl
+    effect_same (units.Jump link off) = refl
+    effect_same (units.Check link rs1 imm slot) = refl
+    effect_same units.Service = refl
 
-  pub step_unit : RunsUnit code loaded old new
-  step_unit = record {
-    going = p.going;
-    unit = p.unit;
-    stands = p.stands;
-    pick = h.policy p.epoch;
-    allowed = allowed_by p.unit;
-    reply = p.reply;
-    given = given p.unit refl;
-    is = p.is ∙ effect_same p.unit;
-  }
+    pub step_unit : RunsUnit code loaded old new
+    step_unit = record {
+      going = p.going;
+      unit = p.unit;
+      stands = p.stands;
+      pick = h.policy p.epoch;
+      allowed = allowed_by p.unit;
+      reply = p.reply;
+      given = given p.unit refl;
+      is = p.is ∙ effect_same p.unit;
+    }

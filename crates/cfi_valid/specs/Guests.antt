@@ -14,3 +14,7 @@ EntersAt false loaded entry address = IsEntryIn (placed_modules (loaded_by 0 loa
 
 abbrev pub GuestBegins : Plan → List LoadedModule → (entry : List ℕ) → (address : ℕ) → Type 0
 GuestBegins plan loaded entry address = EntersAt (is_bare_plan plan) loaded entry address
+
+-- a guest of this entry has an address to begin at
+abbrev pub HasEntry : Plan → List LoadedModule → (entry : List ℕ) → Type 0
+HasEntry plan loaded entry = (address : ℕ) × GuestBegins plan loaded entry address

@@ -5,6 +5,7 @@ pub mod Journal
 pub mod Script
 pub mod Course
 pub mod Guests
+pub mod Opening
 pub mod Replay
 pub mod Log
 pub mod Steps

@@ -7,7 +7,7 @@ ghost use Rattle.cfi_plan.specs.declared.journal.Entry.{Entry};
 ghost use Rattle.cfi_plan.specs.declared.plan.Plan.{Plan};
 ghost use Rattle.cfi_report.specs.declared.report.Report.{Report};
 ghost use Rattle.cfi_valid.specs.Agree.{AgreeIn};
-ghost use Rattle.cfi_valid.specs.Bare.{bare_plan};
+ghost use Rattle.cfi_plan.specs.Bare.{bare_plan};
 ghost use Rattle.cfi_valid.specs.Example.{hello_module, hello_report};
 ghost use Rattle.cfi_valid.specs.FromLaw.{StepsAreUnits};
 ghost use Rattle.cfi_valid.specs.Growth.{IsLater, LoadedStays, LogStays, SettledLies, LogGrows, PicksGrow};

@@ -11,6 +11,10 @@ use Rattle.cfi_sim.specs.declared.spot.Spot.{Spot}
 use Rattle.cfi_unit.specs.declared.fill.Fill.{Fill}
 use Rattle.cfi_valid.specs.Loaded.{LoadedModule}
 
+-- a module at a spot
+abbrev pub module_at : Spot → Placed → LoadedModule
+module_at spot one = record { number = spot.number; placed = one; policy = spot.policy }
+
 abbrev pub loaded_of : List Spot → List Placed → List LoadedModule
 loaded_of [] placed = []
 loaded_of (spot ∷ spots) [] = []

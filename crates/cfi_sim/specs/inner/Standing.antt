@@ -1,6 +1,7 @@
 -- A simulation under way, as it is kept.
-use Rattle.std.specs.Prelude.{◌≡◌, ℕ, Bool, true, false, List, length, slice_get, Some, All}
+use Rattle.std.specs.Prelude.{◌≡◌, ℕ, Bool, true, false, List, [], length, slice_get, Some, None, All}
 use Rattle.cfi_aux.specs.declared.modules.Module.{Module}
+use Rattle.cfi_aux.specs.declared.placed.Placed.{Placed}
 use Rattle.cfi_model.specs.Raw.{Raw}
 use Rattle.cfi_model.specs.World.{World}
 use Rattle.cfi_plan.specs.declared.plan.Plan.{Plan}
@@ -9,6 +10,7 @@ use Rattle.cfi_series.specs.Series.{CanBeTaken}
 use Rattle.cfi_sim.specs.Events.{IsAnswered, IsGuestEvent, IsReleaseEvent}
 use Rattle.cfi_sim.specs.Stage.{Stage}
 use Rattle.cfi_sim.specs.Stands.{IsGoing}
+use Rattle.cfi_sim.specs.declared.spot.Spot.{Spot}
 use Rattle.cfi_sim.specs.declared.standing.Standing.TheInside.{Inside}
 use Rattle.cfi_sim.specs.inner.Loaded.{loaded_of}
 use Rattle.cfi_world.specs.Turns.{turn_of}
@@ -31,6 +33,20 @@ whole_of a = record {
     state = record { epoch = a.epoch; policy = a.policy; loaded = loaded_of a.spots.items a.series.placed };
     aim = a.aim;
     events = a.events;
+  };
+}
+
+-- before the first line
+abbrev pub whole_at : Plan → List Module → World → List Placed → List Spot → Whole
+whole_at plan modules world placed spots = record {
+  plan = plan;
+  modules = modules;
+  stage = record {
+    world = world;
+    journal = [];
+    state = record { epoch = plan.first; policy = 0; loaded = loaded_of spots placed };
+    aim = None;
+    events = 0;
   };
 }
 

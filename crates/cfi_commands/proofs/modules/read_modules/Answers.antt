@@ -1,8 +1,10 @@
-use Rattle.std.proofs.Common.{◌+◌, take, All, sym, subst}
+use Rattle.std.proofs.Common.{◌+◌, take, All, sym, subst, arith}
 use Rattle.std.proofs.lemmas.List.Elements.{All-push}
+use Rattle.std.proofs.lemmas.Grind.{common_steps}
 use Rattle.std.proofs.lemmas.Result.{err_from_is_err_and}
 use Rattle.cfi_aux.specs.Sound.{IsSoundModule}
 use Rattle.cfi_commands.specs.Modules.{AreModuleFiles}
+use Rattle.cfi_commands.proofs.FileLemmas.{all_taken}
 use Rattle.cfi_commands.proofs.ModulesLemmas.{more_modules, modules_fault}
 use Rattle.cfi_commands.proofs.modules.read_modules.Goals as goal
 
@@ -30,3 +32,12 @@ loop-number-preserved c =
       sound = subst (All IsSoundModule) (sym items)
           (All-push IsSoundModule modules found c.loop-number.invariant.sound c.in_ok-found.ensures.sound);
     }
+
+-- what was read of the files can be taken
+pub returns-clause-taken : goal.returns-clause-taken
+returns-clause-taken c =
+    let files = c.args.files.now in
+    let modules = c.from_vec.result in
+    let are : AreModuleFiles files modules = grind (arith, common_steps) in
+    let sound : All IsSoundModule modules = grind (arith, common_steps) in
+    all_taken files modules are sound

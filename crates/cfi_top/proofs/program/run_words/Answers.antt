@@ -12,6 +12,6 @@ returns g c =
     let kept = c.answer_of.ensures in
     let later : IsLater old mid = record { files = kept.same; faults = kept.faults; misses = kept.misses } in
     record {
-      ends = ends_of _ old mid _ _ _ _ _ _ c.in-Ok-output_of.ensures later c.deliver.ensures.faults
-          c.deliver.ensures.misses c.deliver.ensures.last c.in-Ok.ensures.answer c.deliver.ensures.delivered;
+      ends = ends_of _ old mid _ _ _ _ _ _ _ _ c.in-Ok-output_of.ensures.output c.in-Ok-output_of.ensures.run c.kept.ensures later
+          c.deliver-status.ensures.faults c.deliver-status.ensures.misses c.deliver-status.ensures.last c.in-Ok.ensures.answer c.deliver-status.ensures.delivered;
     }

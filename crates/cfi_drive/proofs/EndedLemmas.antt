@@ -1,0 +1,105 @@
+-- A runner whose guest has stopped, and whose pass agrees with a ledger: the part of its guest.
+use Rattle.std.proofs.Common.{◌≡◌, ◌≢◌, ℕ, List, [], ◌∷◌, Some, None, get_or, slice_get, refl, sym, ap, subst, ◌∙◌}
+use Rattle.std.proofs.lemmas.Option.{get_or_from_slice_get}
+use Rattle.cfi_aux.specs.declared.modules.Module.{Module}
+use Rattle.cfi_loader.specs.Ledger.{Ledger, IsLedger}
+use Rattle.cfi_model.specs.Raw.{Raw}
+use Rattle.cfi_model.specs.Run.{Take, Word, Served, take_one}
+use Rattle.cfi_part.specs.Part.{IsEndOf, IsWithin, part_of}
+use Rattle.cfi_part.specs.Ran.{AreBrought, HasRun}
+use Rattle.cfi_part.proofs.MadeLemmas.{part_made}
+use Rattle.cfi_plan.specs.declared.plan.Plan.{Plan}
+use Rattle.cfi_report.specs.declared.report.GuestPart.{GuestPart}
+use Rattle.cfi_runner.proofs.SeenLemmas.{sees_same}
+use Rattle.cfi_tables.specs.Key.{Key}
+use Rattle.cfi_tables.specs.Rule.{AgreesWith}
+use Rattle.cfi_tables.specs.Views.{noted}
+use Rattle.cfi_tables.specs.declared.view.PassView.{PassView}
+use Rattle.cfi_valid.specs.Journal.{JournalState}
+use Rattle.cfi_drive.specs.Ending.{IsPartAt, code_by, history_by, part_by}
+use Rattle.cfi_drive.specs.Path.{AreDue}
+use Rattle.cfi_drive.specs.Runner.{IsRunner, IsRunnerBy}
+use Rattle.cfi_drive.specs.Serving.{IsTold}
+use Rattle.cfi_drive.proofs.HistoryLemmas.{history_is}
+use Rattle.cfi_drive.proofs.NoteLemmas.{logged_now, runner_told}
+
+-- what is due is brought
+brought : (end : JournalState) (takes : List Take) (r : Raw) → AreDue end r takes → AreBrought end.loaded r takes
+brought end [] r due = tt
+brought end (Word word ∷ takes) r due = (tt, brought end takes (take_one r (Word word)) due.1)
+brought end (Served reply ∷ takes) r due =
+    (λ free. (due.0 free).fills, brought end takes (take_one r (Served reply)) due.1)
+
+module _ (k : Key) (plan : Plan) (modules : List Module) (l : Ledger) (is : IsLedger k plan modules l) (p : PassView)
+    (r : Raw) (was : IsRunner k plan modules p r) (agrees : AgreesWith k l.keeping.entries l.keeping.refusals p.sight)
+  where
+    abbrev n : PassView
+    n = noted k l.keeping p
+
+    told : IsTold k plan modules l p n
+    told = record { ledger = is; agrees = agrees; is = refl }
+
+    at : IsRunnerBy k plan modules n r l
+    at = runner_told k plan modules p r was.0 l was.1 was.1.sight is told
+
+    run : HasRun l.course (history_by k l) (code_by k l) p.guest r
+    run = record {
+      start = at.path.start;
+      opened = at.path.opened;
+      starts = at.path.starts;
+      takes = at.path.takes;
+      along = at.path.along n.sight (sees_same k n.sight at.sight);
+      brings = brought l.course.end at.path.takes at.path.start at.path.due;
+      ends = subst (λ (last : Raw). IsEndOf last r) at.path.is at.ends;
+    }
+
+    pub runner_part : r.base.stop ≢ None → (entry : List ℕ) → slice_get plan.guests p.guest ≡ Some entry
+        → IsPartAt k l p.guest (part_of p.guest entry r)
+    runner_part stopped entry named =
+        let made = part_made l.course (history_by k l) (code_by k l) (history_is k plan modules l is) p.guest r run stopped
+        (subst (λ (a : Plan). IsWithin a.fuel r) (sym is.plan_is) at.within)
+        (logged_now k plan modules p r was.0 l was.1 was.1.sight is told) entry
+        (ap (λ (a : Plan). slice_get a.guests p.guest) is.plan_is ∙ named) in
+        record { ended = made.0; run = made.1 }
+
+-- ---- as its pass is taken back
+
+module _ (k : Key) (plan : Plan) (modules : List Module) (l : Ledger) (is : IsLedger k plan modules l) (p : PassView)
+    (r : Raw) (was : IsRunner k plan modules p r) (stopped : r.base.stop ≢ None) where
+  -- the guest is one of the plan
+  entry_at : (d : List ℕ) → slice_get plan.guests p.guest ≡ Some (get_or plan.guests p.guest d)
+  entry_at d =
+      let opened = was.1.path.opened in
+      let there : slice_get plan.guests p.guest ≡ Some opened.entry =
+      ap (λ (a : Plan). slice_get a.guests p.guest) (sym was.1.settled.ledger.plan_is) ∙ opened.entry_is in
+      there ∙ ap (λ (e : List ℕ). Some e) (sym (get_or_from_slice_get plan.guests p.guest opened.entry d there))
+
+  module _ (q : PassView) (g : Raw) (number : ℕ) (a : Plan) (guests : List (List ℕ)) (item name : List ℕ)
+      (part : GuestPart) (guest_is : g ≡ r) (pass_is : q ≡ p) (number_is : number ≡ q.guest) (plan_is : a ≡ plan)
+      (guests_are : guests ≡ a.guests) (item_is : item ≡ get_or guests number item) (name_is : name ≡ item)
+      (says : part ≡ part_of number name g) where
+    same : number ≡ p.guest
+    same = number_is ∙ ap (λ (v : PassView). v.guest) pass_is
+
+    named : slice_get plan.guests p.guest ≡ Some item
+    named =
+        entry_at item
+        ∙ ap (λ (e : List ℕ). Some e) (sym (item_is
+        ∙ ap (λ (xs : List (List ℕ)). get_or xs number item) (guests_are ∙ ap (λ (x : Plan). x.guests) plan_is)
+        ∙ ap (λ (n : ℕ). get_or plan.guests n item) same))
+
+    whole : part ≡ part_of p.guest item r
+    whole =
+        says ∙ ap (λ (z : (ℕ × List ℕ) × Raw). part_of z.0.0 z.0.1 z.1) (λ i. ((same i, name_is i), guest_is i))
+
+    pub said_back : part ≡ part_by plan (record { guest = r; pass = p })
+    said_back =
+        whole
+        ∙ ap (λ (e : List ℕ). part_of p.guest e r) (sym (get_or_from_slice_get plan.guests p.guest item [] named))
+
+    pub taken_back : AgreesWith k l.keeping.entries l.keeping.refusals q.sight → IsPartAt k l p.guest part
+    taken_back agrees =
+        subst (IsPartAt k l p.guest) (sym whole)
+        (runner_part k plan modules l is p r was
+        (subst (λ (v : PassView). AgreesWith k l.keeping.entries l.keeping.refusals v.sight) pass_is agrees) stopped item
+        named)

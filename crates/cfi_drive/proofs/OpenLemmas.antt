@@ -1,0 +1,112 @@
+-- A runner in an open, by the answers of the loader's calls.
+use Rattle.std.proofs.Common.{◌≡◌, ◌≤◌, ◌<◌, ℕ, Some, List, [], length, refl, sym, ap, subst, ◌∙◌, arith}
+use Rattle.cfi_aux.specs.declared.modules.Module.{Module}
+use Rattle.cfi_loader.specs.Ledger.{Ledger}
+use Rattle.cfi_loader.specs.Passes.{reply_with}
+use Rattle.cfi_loader.specs.Results.{HasLoaded, IsLoadFault, loaded_line}
+use Rattle.cfi_loader.specs.declared.fault.LoadFault.{LoadFault}
+use Rattle.cfi_loader.specs.declared.loaded.Loaded.{Loaded}
+use Rattle.std.proofs.lemmas.List.Elements.{All-nil}
+use Rattle.cfi_model.specs.declared.act.Wait.TheVariants as waits
+use Rattle.cfi_model.specs.Data.{LiesInData}
+use Rattle.rv_guest.specs.Guest.{MayAnswer}
+use Rattle.cfi_model.specs.Log.{last_policy, opens}
+use Rattle.cfi_model.specs.Raw.{Raw}
+use Rattle.cfi_model.specs.Run.{serve_of}
+use Rattle.cfi_model.specs.Service.{argument, reply_of}
+use Rattle.cfi_plan.specs.declared.journal.Who.TheVariants.{Guest}
+use Rattle.cfi_plan.specs.declared.plan.Plan.{Plan}
+use Rattle.cfi_tables.specs.Key.{Key}
+use Rattle.cfi_tables.specs.Views.{noted}
+use Rattle.cfi_tables.specs.declared.view.PassView.{PassView}
+use Rattle.cfi_valid.specs.Log.{IsLogged}
+use Rattle.cfi_word.specs.declared.limits.TheConstants.{MAX_OPENS}
+use Rattle.cfi_word.specs.declared.services.TheConstants.{OPEN}
+use Rattle.cfi_drive.specs.Runner.{HasAsked, IsRunner, IsRunnerBy}
+use Rattle.cfi_drive.specs.Serving.{IsTold, cause_by}
+use Rattle.cfi_drive.proofs.AnswerLemmas.{given, policy_fits}
+use Rattle.cfi_drive.proofs.FaultLemmas.{refused_by}
+use Rattle.cfi_drive.proofs.NoteLemmas.{logged_now, planned, runner_told}
+use Rattle.cfi_drive.proofs.SeesLemmas.{asked_on, on_noted}
+
+-- a guest that has asked waits
+pub asked_waits : (k : Key) (fuel : ℕ) (p : PassView) (r : Raw) (number : ℕ) → HasAsked k fuel p r number
+    → r.waits ≡ Some (waits.Service number)
+asked_waits k fuel p r number asked = ap (λ x. x.waits) asked.run.pauses.0 ∙ asked.run.pauses.1
+
+-- what is known of a guest in an open that was told of a ledger
+pub record IsToldOf (k : Key) (plan : Plan) (modules : List Module) (n : PassView) (r : Raw) (l : Ledger) : Type 0 where
+  pub at : IsRunnerBy k plan modules n r l
+  pub asked : HasAsked k plan.fuel n r OPEN
+  pub logged : IsLogged l.course n.guest r.base.log
+  pub planned : n.guest < length plan.guests
+
+pub told_of : (k : Key) (plan : Plan) (modules : List Module) (p n : PassView) (r : Raw) (l : Ledger)
+    → IsRunner k plan modules p r → HasAsked k plan.fuel p r OPEN → IsTold k plan modules l p n
+    → IsToldOf k plan modules n r l
+told_of k plan modules p n r l was asked told =
+    let note : IsTold k plan modules l p (noted k l.keeping p) = record {
+      ledger = told.ledger;
+      agrees = told.agrees;
+      is = refl;
+    } in
+    let seen = asked.sees.sees.is in
+    subst (λ v. IsToldOf k plan modules v r l) (sym told.is) (record {
+      at = runner_told k plan modules p r was.0 l was.1 seen told.ledger note;
+      asked = asked_on k plan.fuel p (noted k l.keeping p) r OPEN
+          (on_noted k l.keeping p told.ledger.told.tables told.agrees seen) asked;
+      logged = logged_now k plan modules p r was.0 l was.1 seen told.ledger note;
+      planned = planned k plan modules p r was.0 l was.1 seen told.ledger note;
+    })
+
+module _ (k : Key) (plan : Plan) (modules : List Module) (p n : PassView) (r : Raw) (first l : Ledger)
+    (of : IsToldOf k plan modules p r first) (few : opens r.base.log < MAX_OPENS)
+    (told : IsTold k plan modules l p n) where
+  note : IsTold k plan modules l p (noted k l.keeping p)
+  note = record { ledger = told.ledger; agrees = told.agrees; is = refl }
+
+  -- its module is loaded
+  pub opens_loaded : (loaded : Loaded) → HasLoaded k (Guest p.guest) (argument r.base) loaded first l → (new : Raw)
+      → new ≡ serve_of r (reply_with l r.base.log loaded.address) → IsRunner k plan modules n new
+  opens_loaded loaded has new is =
+      subst (λ (z : PassView × Raw). IsRunner k plan modules z.0 z.1) (λ i. (sym told.is i, sym is i))
+      (given k plan modules p r first of.at of.asked few of.logged (loaded_line (argument r.base) loaded) l has.told
+      told.ledger note loaded.address has.address_is)
+
+  -- no policy that it has logged is above the one in force
+  pub rises : last_policy r.base.log ≤ l.course.end.policy
+  rises = (logged_now k plan modules p r first l of.at of.asked.sees.sees.is told.ledger note).most
+
+  -- or it is refused
+  pub opens_refused : (fault : LoadFault) (cause policy : ℕ) → cause_by fault ≡ Some cause
+      → IsLoadFault k (Guest p.guest) (argument r.base) fault first l → policy ≡ l.course.end.policy → (new : Raw)
+      → new ≡ serve_of r (reply_of 0 cause policy []) → IsRunner k plan modules n new
+  opens_refused fault cause policy why has force new is =
+      subst (λ (z : PassView × Raw). IsRunner k plan modules z.0 z.1)
+      (λ i. (sym told.is i, sym (is ∙ ap (λ m. serve_of r (reply_of 0 cause m [])) force) i))
+      (refused_by k plan modules p r first of.at of.asked few of.logged l told.ledger note fault cause why has)
+
+  -- a refusal may be answered
+  pub may_refuse : (cause policy : ℕ) → policy ≡ l.course.end.policy → MayAnswer (reply_of 0 cause policy []) r
+  may_refuse cause policy force = record {
+    waiting = asked_waits k plan.fuel p r OPEN of.asked;
+    inside = All-nil LiesInData;
+    few = λ other. few;
+    rises = omega (arith, force, rises);
+    most = omega (arith, force, policy_fits k plan modules l told.ledger);
+  }
+
+-- what the loader answers is of this guest, its module and the ledger of which it was told
+pub loaded_as : (k : Key) (g number : ℕ) (desk l first : Ledger) (p : PassView) (r : Raw) (loaded : Loaded)
+    → g ≡ p.guest → number ≡ argument r.base → desk ≡ first → HasLoaded k (Guest g) number loaded desk l
+    → HasLoaded k (Guest p.guest) (argument r.base) loaded first l
+loaded_as k g number desk l first p r loaded g_is number_is desk_is has =
+    subst (λ (z : (ℕ × ℕ) × Ledger). HasLoaded k (Guest z.0.0) z.0.1 loaded z.1 l)
+    (λ i. ((g_is i, number_is i), desk_is i)) has
+
+pub refused_as : (k : Key) (g number : ℕ) (desk l first : Ledger) (p : PassView) (r : Raw) (fault : LoadFault)
+    → g ≡ p.guest → number ≡ argument r.base → desk ≡ first → IsLoadFault k (Guest g) number fault desk l
+    → IsLoadFault k (Guest p.guest) (argument r.base) fault first l
+refused_as k g number desk l first p r fault g_is number_is desk_is has =
+    subst (λ (z : (ℕ × ℕ) × Ledger). IsLoadFault k (Guest z.0.0) z.0.1 fault z.1 l)
+    (λ i. ((g_is i, number_is i), desk_is i)) has

@@ -1,0 +1,43 @@
+-- What a run has come to: its report, which is valid for its plan and its modules, and how each of its guests has run.
+use Rattle.std.specs.Prelude.{◌≡◌, ◌≢◌, ℕ, true, List, All, Option, Some, None, slice_get, ⊤}
+use Rattle.cfi_aux.specs.declared.modules.Module.{Module}
+use Rattle.cfi_model.specs.History.{History}
+use Rattle.cfi_part.specs.Ran.{IsHistoryOf, IsRunOf}
+use Rattle.cfi_plan.specs.declared.plan.Plan.{Plan}
+use Rattle.cfi_plan.specs.declared.plan.PlanModule.{PlanModule}
+use Rattle.cfi_report.specs.Report.{IsReport}
+use Rattle.cfi_report.specs.declared.report.GuestPart.{GuestPart}
+use Rattle.cfi_report.specs.declared.report.Report.{Report}
+use Rattle.cfi_text.specs.Names.{is_name}
+use Rattle.cfi_valid.specs.Valid.{IsValidReport, course_of}
+use Rattle.cfi_drive.specs.Runner.{Ran}
+
+-- a run that was concluded: its plan, the modules of that, and its report
+pub record Conclusion : Type 0 where
+  pub plan : Plan
+  pub modules : List Module
+  pub report : Report
+
+abbrev pub conclusion_of : Plan → List Module → Report → Conclusion
+conclusion_of plan modules report = record { plan = plan; modules = modules; report = report }
+
+-- the names of a plan are names
+pub record HasNames (plan : Plan) : Type 0 where
+  pub modules : All (λ (one : PlanModule). is_name one.name ≡ true) plan.modules
+  pub guests : All (λ entry. is_name entry ≡ true) plan.guests
+
+-- The report is valid. Each of its guests has run over one history, that of the run, under the policies of its epochs,
+-- and its part tells of that. The report can be read from its text, where the plan's names are names.
+pub record IsConcluded (c : Conclusion) : Type 0 where
+  pub valid : IsValidReport c.plan c.modules c.report
+  pub history : History
+  pub code : List ℕ
+  pub of : IsHistoryOf (course_of c.plan c.modules c.report valid.end) history code
+  pub runs : (number : ℕ) (part : GuestPart) → slice_get c.report.guests number ≡ Some part
+      → IsRunOf (course_of c.plan c.modules c.report valid.end) history code number part
+  pub readable : HasNames c.plan → IsReport c.report
+
+-- the runner of this number is that of the guest of this number, which has stopped
+abbrev pub IsEndedRun : (number : ℕ) → Option Ran → Type 0
+IsEndedRun number None = ⊤
+IsEndedRun number (Some ran) = (ran.pass.guest ≡ number) × (ran.guest.base.stop ≢ None)

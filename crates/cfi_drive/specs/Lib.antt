@@ -1,0 +1,9 @@
+pub mod Settled
+pub mod Path
+pub mod Runner
+pub mod Serving
+pub mod Opens
+pub mod Ending
+pub mod Laws
+pub mod Concluded
+pub mod inner

@@ -1,0 +1,26 @@
+-- What a report's lines of modules and of the journal say, in numbers of 32 bits.
+use Rattle.std.specs.Prelude.{◌^◌, ◌<◌}
+use Rattle.std.specs.List.{AllByRecursion}
+use Rattle.cfi_plan.specs.declared.journal.Entry.{Entry}
+use Rattle.cfi_plan.specs.declared.journal.JournalLine.{JournalLine}
+use Rattle.cfi_plan.specs.declared.journal.ModuleLine.{ModuleLine}
+use Rattle.cfi_plan.specs.declared.journal.Who.{Who}
+use Rattle.cfi_report.specs.Line.{what_fields, who_field}
+use Rattle.cfi_report.specs.Report.{IsField}
+
+abbrev pub HasWho : Who → Type 0
+HasWho who = IsField (who_field who)
+
+abbrev pub HasWhat : JournalLine → Type 0
+HasWhat what = AllByRecursion IsField (what_fields what)
+
+pub record HasEntry (entry : Entry) : Type 0 where
+  pub who : HasWho entry.who
+  pub what : HasWhat entry.what
+
+pub record HasModule (line : ModuleLine) : Type 0 where
+  pub number : line.number < 2 ^ 32
+  pub base : line.base < 2 ^ 32
+  pub slot : line.slot < 2 ^ 32
+  pub data_base : line.data_base < 2 ^ 32
+  pub policy : line.policy < 2 ^ 32

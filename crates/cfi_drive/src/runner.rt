@@ -1,0 +1,130 @@
+//! A guest with the pass that loads for it, and how it is run to its end.
+
+ghost use Rattle.std.specs.Prelude.{◌≡◌, ◌≢◌, Some, None, OnOk, OnErr};
+ghost use Rattle.cfi_model.specs.declared.act.Wait.TheVariants as waits;
+ghost use Rattle.cfi_word.specs.declared.services.TheConstants.{OPEN};
+ghost use Rattle.cfi_drive.specs.Runner.{IsOpening, IsRunner};
+ghost use Rattle.cfi_drive.specs.Serving.{KeepsPass};
+
+use crate::serving::serve;
+use cfi_io::Gate;
+use cfi_loader::{Loader, LoaderName};
+use cfi_runner::{Pause, run_until};
+use cfi_tables::{Pass, Tables};
+use rv_guest::Guest;
+use std::alloc::AllocError;
+use std::marker::Model;
+use std::sync::{Mutex, Wait};
+
+/// A guest of a plan, with its pass.
+///
+/// Its type keeps that the guest is where the raw machine is after what the pass has loaded and what its opens were
+/// answered, that its log fits what the pass has settled, that its steps are within the plan's fuel, and that it can run
+/// on where it has not stopped and waits for nothing.
+#[derive(Drop)]
+pub struct Runner<N: LoaderName> {
+    guest: Guest,
+    pass: Pass<N>,
+}
+
+impl<N: LoaderName> Model for Runner<N> {
+    ghost use Rattle.cfi_drive.specs.Runner.{IsRunner, Ran};
+
+    ghost Value = { Ran };
+
+    ghost view = { λ a. record { guest = a.guest; pass = a.pass } };
+
+    ghost invariant = { λ a. IsRunner N.key N.plan N.modules a.pass a.guest };
+}
+
+impl<N: LoaderName> Runner<N> {
+    /// The runner of a guest as `Guest::open` leaves it for the plan's guest of the pass's number, at a start of the image
+    /// in force, with a pass as `Loader::admit` gives it.
+    pub fn new(guest: Guest, pass: Pass<N>) -> Runner<N>
+        requires { IsOpening N.key N.plan N.modules pass guest }
+        ensures { result ≡ record { guest = guest; pass = pass } }
+    {
+        Runner { guest, pass }
+    }
+
+    /// The guest.
+    ///
+    /// `law`: what the runner keeps at every moment.
+    pub fn guest(&self) -> &Guest
+        ensures value { result.now ≡ self.now.guest }
+        ensures law { IsRunner N.key N.plan N.modules self.now.pass self.now.guest }
+    {
+        &self.guest
+    }
+
+    /// The guest and its pass.
+    ///
+    /// `law`: what the runner has kept.
+    pub(crate) fn into_parts(self) -> (Guest, Pass<N>)
+        ensures guest { result.0 ≡ self.guest }
+        ensures pass { result.1 ≡ self.pass }
+        ensures law { IsRunner N.key N.plan N.modules self.pass self.guest }
+    {
+        let Runner { guest, pass } = self;
+        (guest, pass)
+    }
+}
+
+impl<N: LoaderName> Runner<N> {
+    // Runs the guest until it pauses, and does the service that it asks for.
+    fn turn<G: Gate, R: Wait>(
+        &mut self,
+        rt: &R,
+        tables: &Tables<N>,
+        loader: &Mutex<Loader<N>>,
+        gate: &G,
+        fuel: u32,
+    ) -> Result<(), AllocError>
+        requires going { self.old.guest.base.stop ≡ None }
+        requires idle { self.old.guest.waits ≡ None }
+        requires fuel { fuel ≡ N.plan.fuel }
+        ensures ok { OnOk result (self.new.guest.waits ≡ None) }
+        ensures fault { OnErr result (self.new.guest.waits ≡ Some (waits.Service OPEN)) }
+        ensures keeps { KeepsPass self.old.pass self.new.pass }
+    {
+        match run_until(&mut self.guest, tables, &mut self.pass, fuel) {
+            Pause::Service(number) => serve(
+                rt,
+                &mut self.guest,
+                tables,
+                &mut self.pass,
+                loader,
+                gate,
+                number,
+            ),
+            _ => Ok(()),
+        }
+    }
+}
+
+/// Runs a runner's guest until it has stopped, with a service each time that it asks for one.
+///
+/// The guest waits for nothing, and `fuel` is the plan's. It takes the loader's lock in opens alone. `AllocError` is that
+/// of `serve`, for an open whose load found no memory: the guest then waits in it.
+pub fn drive<N: LoaderName, G: Gate, R: Wait>(
+    rt: &R,
+    runner: &mut Runner<N>,
+    tables: &Tables<N>,
+    loader: &Mutex<Loader<N>>,
+    gate: &G,
+    fuel: u32,
+) -> Result<(), AllocError>
+    requires idle { runner.old.guest.waits ≡ None }
+    requires fuel { fuel ≡ N.plan.fuel }
+    ensures stopped { OnOk result (runner.new.guest.base.stop ≢ None) }
+    ensures fault { OnErr result (runner.new.guest.waits ≡ Some (waits.Service OPEN)) }
+    ensures keeps { KeepsPass runner.old.pass runner.new.pass }
+{
+    for _ in rt.forever() {
+        if runner.guest().stop().is_some() {
+            return Ok(());
+        }
+        runner.turn(rt, tables, loader, gate, fuel)?;
+    }
+    unreachable!()
+}

@@ -1,0 +1,161 @@
+//! The services of a guest.
+
+ghost use Rattle.std.specs.Prelude.{◌≡◌, ◌≢◌, ◌<◌, length, Some, OnOk, OnErr, []};
+ghost use Rattle.cfi_model.specs.Log.{opens};
+ghost use Rattle.cfi_model.specs.Run.{serve_of};
+ghost use Rattle.cfi_model.specs.Service.{argument, reply_of, too_many};
+ghost use Rattle.cfi_model.specs.declared.act.Wait.TheVariants as waits;
+ghost use Rattle.rv_guest.specs.Guest.{MayAnswer};
+ghost use Rattle.cfi_word.specs.declared.limits.TheConstants.{MAX_OPENS};
+ghost use Rattle.cfi_word.specs.declared.services.TheConstants.{OPEN};
+ghost use Rattle.cfi_drive.specs.Runner.{HasAsked, IsRunner};
+ghost use Rattle.cfi_drive.specs.Opens.{HasAskedLoader, HasOpened, HasServedElse, HasServedOpen};
+ghost use Rattle.cfi_drive.specs.Serving.{HasServed, IsTold, KeepsPass};
+
+use crate::causes::{cause_by, last_policy};
+use cfi_io::Gate;
+use cfi_loader::{Loader, LoaderName, Who};
+use cfi_tables::{Pass, Tables};
+use cfi_unit::Answer;
+use cfi_word::limits::MAX_OPENS;
+use cfi_word::services::{EXIT, NO_MODULE, OPEN, PUT, TOO_MANY};
+use rv_guest::Guest;
+use std::alloc::AllocError;
+use std::sync::{Mutex, Wait};
+
+// Refuses an open.
+fn refuse(guest: &mut Guest, cause: u32, policy: u32)
+    requires { MayAnswer (reply_of 0 cause policy []) guest.old }
+    ensures { guest.new ≡ serve_of guest.old (reply_of 0 cause policy []) }
+{
+    guest.answer(&Answer {
+        address: 0,
+        cause,
+        policy,
+        fills: &[],
+    });
+}
+
+// Tells a pass all that the keeper has seen.
+fn tell<N: LoaderName>(desk: &mut Loader<N>, tables: &Tables<N>, pass: &mut Pass<N>)
+    ensures told { IsTold N.key N.plan N.modules desk.old pass.old pass.new }
+    ensures same { desk.new ≡ desk.old }
+{
+    let _ = desk.journal();
+    desk.note(tables, pass);
+}
+
+// Loads the module that an open names, and answers.
+fn open_at<N: LoaderName>(
+    desk: &mut Loader<N>,
+    guest: &mut Guest,
+    tables: &Tables<N>,
+    pass: &mut Pass<N>,
+) -> Result<(), AllocError>
+    requires runner { IsRunner N.key N.plan N.modules pass.old guest.old }
+    requires asked { HasAsked N.key N.plan.fuel pass.old guest.old OPEN }
+    requires few { opens guest.old.base.log < MAX_OPENS }
+    requires known { argument guest.old.base < length N.plan.modules }
+    ensures runner { IsRunner N.key N.plan N.modules pass.new guest.new }
+    ensures ok { OnOk result (HasServed guest.old guest.new) }
+    ensures answer { OnOk result
+        (HasAskedLoader N.key N.plan N.modules pass.old pass.new guest.old guest.new) }
+    ensures same { OnErr result (guest.new ≡ guest.old) }
+    ensures keeps { KeepsPass pass.old pass.new }
+{
+    tell(desk, tables, pass);
+    let who = Who::Guest(pass.guest());
+    match desk.load(tables, guest.argument(), who) {
+        Ok(loaded) => {
+            tell(desk, tables, pass);
+            desk.give(guest, &loaded);
+        }
+        Err(fault) => {
+            let Some(cause) = cause_by(&fault) else {
+                return Err(AllocError);
+            };
+            tell(desk, tables, pass);
+            refuse(guest, cause, desk.force().policy);
+        }
+    }
+    Ok(())
+}
+
+// Ends an open: a refusal where no more are logged, and where the plan lacks the module; else the loader's answer.
+fn open<N: LoaderName, R: Wait>(
+    rt: &R,
+    guest: &mut Guest,
+    tables: &Tables<N>,
+    pass: &mut Pass<N>,
+    loader: &Mutex<Loader<N>>,
+) -> Result<(), AllocError>
+    requires runner { IsRunner N.key N.plan N.modules pass.old guest.old }
+    requires asked { HasAsked N.key N.plan.fuel pass.old guest.old OPEN }
+    ensures runner { IsRunner N.key N.plan N.modules pass.new guest.new }
+    ensures ok { OnOk result (HasServed guest.old guest.new) }
+    ensures answer { OnOk result
+        (HasOpened N.key N.plan N.modules pass.old pass.new guest.old guest.new) }
+    ensures same { OnErr result (guest.new ≡ guest.old) }
+    ensures keeps { KeepsPass pass.old pass.new }
+{
+    let policy = last_policy(guest.log());
+    if guest.opens() >= MAX_OPENS {
+        refuse(guest, TOO_MANY, policy);
+        return Ok(());
+    }
+    let mut desk = loader.lock(rt);
+    if guest.argument() as usize >= desk.plan().modules.len() {
+        refuse(guest, NO_MODULE, policy);
+        return Ok(());
+    }
+    open_at(&mut desk, guest, tables, pass)
+}
+
+// Ends a service that needs no loader.
+fn end(guest: &mut Guest, number: u32)
+    requires waits { guest.old.waits ≡ Some (waits.Service number) }
+    requires other { number ≢ OPEN }
+    ensures { guest.new ≡ serve_of guest.old too_many }
+{
+    match number {
+        EXIT => guest.exit(),
+        PUT => guest.put(),
+        _ => guest.proceed(),
+    }
+}
+
+/// Does one service of a guest, in which it waits, as a run over its pass has left it: the quiescent point, the gate, and
+/// the service's work.
+///
+/// An open takes the loader's lock, but for one that is answered `TOO_MANY`. One of a module that the plan lacks is
+/// answered `NO_MODULE`; for each other the pass is told all that the keeper has seen before the load and again before
+/// the answer. `AllocError` comes in an open alone, where its load found no memory; the open then stays unanswered.
+pub fn serve<N: LoaderName, G: Gate, R: Wait>(
+    rt: &R,
+    guest: &mut Guest,
+    tables: &Tables<N>,
+    pass: &mut Pass<N>,
+    loader: &Mutex<Loader<N>>,
+    gate: &G,
+    number: u32,
+) -> Result<(), AllocError>
+    requires runner { IsRunner N.key N.plan N.modules pass.old guest.old }
+    requires asked { HasAsked N.key N.plan.fuel pass.old guest.old number }
+    ensures runner { IsRunner N.key N.plan N.modules pass.new guest.new }
+    ensures ok { OnOk result (HasServed guest.old guest.new) }
+    ensures open { OnOk result (number ≡ OPEN →
+        HasServedOpen N.key N.plan N.modules pass.old pass.new guest.old guest.new) }
+    ensures other { number ≢ OPEN →
+        HasServedElse N.key pass.old pass.new guest.old guest.new }
+    ensures fault { OnErr result (number ≡ OPEN) }
+    ensures same { OnErr result (guest.new ≡ guest.old) }
+    ensures keeps { KeepsPass pass.old pass.new }
+{
+    tables.quiet(pass);
+    gate.pass(pass.guest(), number);
+    if number == OPEN {
+        return open(rt, guest, tables, pass, loader);
+    }
+    end(guest, number);
+    Ok(())
+}

@@ -1,0 +1,30 @@
+-- The guests of a plan, as far as they are opened.
+use Rattle.std.specs.Prelude.{◌≡◌, ℕ, ◌<◌, ◌≤◌, true, false, List, length, slice_get, Some}
+use Rattle.cfi_aux.specs.declared.modules.Module.{Module}
+use Rattle.cfi_loader.specs.Ledger.{Ledger}
+use Rattle.cfi_plan.specs.declared.plan.Plan.{Plan}
+use Rattle.cfi_plan.specs.declared.plan.PlanModule.{PlanModule}
+use Rattle.cfi_tables.specs.Keeping.{is_out}
+use Rattle.cfi_valid.specs.Bare.{is_bare_plan}
+use Rattle.cfi_valid.specs.Journal.{IsOpeningState}
+use Rattle.cfi_word.specs.declared.limits.TheConstants.{GUESTS}
+
+-- the plan's first module is there from the start, and has a function
+pub record HasFirst (plan : Plan) (modules : List Module) : Type 0 where
+  pub line : PlanModule
+  pub line_is : slice_get plan.modules 0 ≡ Some line
+  pub starts : line.start ≡ true
+  pub first : Module
+  pub first_is : slice_get modules 0 ≡ Some first
+  pub some : 0 < length first.records.functions
+
+-- where a plan stands for a bare file, there is code for its guest to begin in
+abbrev pub HasCode : Plan → List Module → Type 0
+HasCode plan modules = is_bare_plan plan ≡ true → HasFirst plan modules
+
+-- nothing was loaded since the start, and the passes that are out are those of the guests below a number
+pub record IsOpenedTo (plan : Plan) (modules : List Module) (number : ℕ) (l : Ledger) : Type 0 where
+  pub opens : IsOpeningState plan modules l.course.end
+  pub seats : length l.keeping.out ≡ GUESTS
+  pub out : (guest : ℕ) → guest < number → is_out l.keeping.out guest ≡ true
+  pub free : (guest : ℕ) → number ≤ guest → is_out l.keeping.out guest ≡ false

@@ -1,0 +1,147 @@
+//! The guests of a plan, from their opening to their end.
+
+ghost use Rattle.std.specs.Prelude.{◌≡◌, ◌≢◌, ◌+◌, ◌<◌, ℕ, true, None, Some, All, IfOk, OnOk, length, slice_get};
+ghost use Rattle.cfi_drive.specs.Concluded.{IsEndedRun};
+ghost use Rattle.cfi_drive.specs.Runner.{Ran};
+ghost use Rattle.cfi_valid.specs.Bare.{has_no_file, is_bare_plan};
+ghost use Rattle.cfi_engine.specs.Guests.{HasCode, IsOpenedTo};
+ghost use Rattle.cfi_engine.specs.inner.Guests.{IsWaiting};
+
+use cfi_aux::Module;
+use cfi_drive::{Runner, drive};
+use cfi_io::Gate;
+use cfi_loader::{Loader, LoaderName};
+use cfi_plan::{Plan, PlanModule};
+use cfi_tables::Tables;
+use rv_guest::Guest;
+use std::alloc::{AllocError, Global};
+use std::sync::{Mutex, Wait};
+use std::thread;
+use std::thread::Threads;
+
+// The file of a module has no name.
+fn has_no_file(one: &PlanModule) -> bool
+    ensures { result ≡ has_no_file one.now }
+{
+    one.file.as_str().is_empty()
+}
+
+// The plan stands for a bare file.
+fn is_bare(plan: &Plan) -> bool
+    ensures { result ≡ is_bare_plan plan.now }
+{
+    plan.modules.as_slice().iter().any(has_no_file)
+}
+
+/// Whether there is code for the guests to begin in: a plan that stands for a bare file has a first module with a
+/// function, and each other has entries by name.
+pub fn has_code(plan: &Plan, modules: &[Module]) -> bool
+    ensures { result ≡ true → HasCode plan.now modules.now }
+{
+    if !is_bare(plan) {
+        return true;
+    }
+    let lines = plan.modules.as_slice();
+    if lines.is_empty() || modules.is_empty() {
+        return false;
+    }
+    lines[0].start && modules[0].records.functions.len() > 0
+}
+
+// The entry of the guest of this number.
+fn entry_of(plan: &Plan, number: usize) -> &str
+    requires { number < length plan.now.guests }
+    ensures { slice_get plan.now.guests number ≡ Some result.now }
+{
+    plan.guests.as_slice()[number].as_str()
+}
+
+// Opens the guest of this number at its entry, with the data of the start modules, and admits its pass.
+fn open_guest<N: LoaderName>(
+    alloc: Global,
+    loader: &mut Loader<N>,
+    tables: &Tables<N>,
+    number: usize,
+) -> Result<Runner<N>, AllocError>
+    requires number { number < length N.plan.guests }
+    requires code { HasCode N.plan N.modules }
+    requires opened { IsOpenedTo N.plan N.modules number loader.old }
+    ensures ok { IfOk result (IsWaiting number) }
+    ensures opened { OnOk result (IsOpenedTo N.plan N.modules (number + 1) loader.new) }
+{
+    let _ = loader.journal();
+    let entry = entry_of(loader.plan(), number);
+    let address = loader.entry(entry).unwrap();
+    let guest = Guest::open(alloc, number as u32, address, loader.fills())?;
+    let pass = loader.admit(tables).unwrap();
+    Ok(Runner::new(guest, pass))
+}
+
+/// Opens all guests of the plan, in order: each at its entry, with the data of the start modules and a pass.
+///
+/// Nothing was loaded since the start, and no pass is out.
+pub fn open_guests<N: LoaderName>(
+    alloc: Global,
+    loader: &mut Loader<N>,
+    tables: &Tables<N>,
+) -> Result<Vec<Runner<N>>, AllocError>
+    requires code { HasCode N.plan N.modules }
+    requires opened { IsOpenedTo N.plan N.modules 0 loader.old }
+    ensures count { IfOk result (λ runners. length runners.items ≡ length N.plan.guests) }
+    ensures idle { IfOk result (λ runners. All (λ (ran : Ran). ran.guest.waits ≡ None) runners.items) }
+{
+    let guests = loader.plan().guests.len();
+    let mut runners = Vec::new(alloc);
+    for number in 0..guests {
+        runners.push(open_guest(alloc, loader, tables, number)?)?;
+    }
+    Ok(runners)
+}
+
+/// Runs each guest to its end, on a thread of its own.
+///
+/// A guest whose open found no memory has not stopped.
+pub(crate) fn run_guests<N: LoaderName + Send + Sync, G: Gate, R: Threads + Wait + Sync>(
+    rt: &R,
+    tables: &Tables<N>,
+    loader: &Mutex<Loader<N>>,
+    gate: &G,
+    fuel: u32,
+    runners: &mut [Runner<N>],
+)
+    requires idle { All (λ (ran : Ran). ran.guest.waits ≡ None) runners.old }
+    requires fuel { fuel ≡ N.plan.fuel }
+{
+    let threads = runners.len().max(1);
+    thread::for_each_mut(
+        rt,
+        runners,
+        threads,
+        &|_, runner: &mut Runner<N>|
+            requires idle { runner.now.guest.waits ≡ None }
+            requires fuel { fuel ≡ N.plan.fuel }
+        {
+            let _ = drive(rt, runner, tables, loader, gate, fuel);
+        },
+    );
+}
+
+// Whether the runner's guest is that of this number, and has stopped.
+fn has_ended<N: LoaderName>(runner: &Runner<N>, number: usize) -> bool
+    ensures { result ≡ true → (runner.now.pass.guest ≡ number) × (runner.now.guest.base.stop ≢ None) }
+{
+    let guest = runner.guest();
+    guest.number() as usize == number && guest.stop().is_some()
+}
+
+/// Whether the runners are those of the plan's guests, in order, and all of these have stopped.
+pub(crate) fn have_ended<N: LoaderName>(runners: &[Runner<N>]) -> bool
+    ensures { result ≡ true → (number : ℕ) → IsEndedRun number (slice_get runners.now number) }
+{
+    for (number, runner) in runners.iter().enumerate() {
+        if !has_ended(runner, number) {
+            return false;
+        }
+    }
+    true
+}

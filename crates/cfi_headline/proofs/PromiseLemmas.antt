@@ -1,0 +1,16 @@
+-- The headline, promise by promise.
+use Rattle.cfi_drive.specs.Concluded.{Conclusion}
+use Rattle.cfi_headline.specs.Promises.{GuestsKeepPolicies, GuestsEnterUnits, GuestsStoreInside, course_in}
+use Rattle.cfi_headline.proofs.HeadlineLemmas.{run_keeps, run_policies}
+
+pub keep_policies_in : (run : Conclusion) → GuestsKeepPolicies run
+keep_policies_in run c number part there ran =
+    (run_policies (course_in run c) c.history c.code c.of number part ran, ran.shown.shows)
+
+pub enter_units : (run : Conclusion) → GuestsEnterUnits run
+enter_units run c number part there ran =
+    (run_keeps (course_in run c) c.history c.code c.of number part ran).confined.enters
+
+pub store_inside : (run : Conclusion) → GuestsStoreInside run
+store_inside run c number part there ran =
+    (run_keeps (course_in run c) c.history c.code c.of number part ran).confined.stores

@@ -1,0 +1,11 @@
+use Rattle.cfi_headline.proofs.PromiseLemmas.{keep_policies_in, enter_units, store_inside}
+use Rattle.cfi_headline.proofs.laws.concluded_runs_keep_the_headline.Goals as goal
+
+pub returns-clause-policies : goal.returns-clause-policies
+returns-clause-policies c = keep_policies_in
+
+pub returns-clause-enters : goal.returns-clause-enters
+returns-clause-enters c = enter_units
+
+pub returns-clause-stores : goal.returns-clause-stores
+returns-clause-stores c = store_inside

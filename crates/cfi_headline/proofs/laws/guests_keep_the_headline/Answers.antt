@@ -1,0 +1,8 @@
+use Rattle.cfi_headline.proofs.HeadlineLemmas.{keeps_headline, run_keeps}
+use Rattle.cfi_headline.proofs.laws.guests_keep_the_headline.Goals as goal
+
+pub returns-clause-guests : goal.returns-clause-guests
+returns-clause-guests c = keeps_headline
+
+pub returns-clause-runs : goal.returns-clause-runs
+returns-clause-runs c = run_keeps

@@ -1,0 +1,3 @@
+pub mod Moments
+pub mod Force
+pub mod Ready

@@ -1,0 +1,21 @@
+//! What holds at every moment.
+
+ghost use Rattle.cfi_moments.specs.Force.{TriesHoldPolicies};
+ghost use Rattle.cfi_moments.specs.Moments.{GuestsAreConfined};
+ghost use Rattle.cfi_moments.specs.Ready.{RunsStayReady};
+
+/// At every moment a guest runs a unit that it has entered at its start, and stores in its own data alone.
+pub fn guests_are_confined()
+    ensures { GuestsAreConfined }
+{}
+
+/// From the moment at which a slot's word is of an epoch to that at which an address's word is of it, the epoch is in
+/// force, and its policy with it.
+pub fn tries_hold_policies()
+    ensures { TriesHoldPolicies }
+{}
+
+/// After however many units the policy machine is ready for the next one.
+pub fn runs_stay_ready()
+    ensures { RunsStayReady }
+{}

@@ -1,0 +1,8 @@
+pub mod PushLemmas
+pub mod ApartLemmas
+pub mod RetriedLemmas
+pub mod StepsLemmas
+pub mod EndLemmas
+pub mod RanLemmas
+pub mod MadeLemmas
+pub mod ReadLemmas

@@ -1,4 +1,0 @@
-pub mod Text
-pub mod inner
-pub mod Moments
-pub mod Run

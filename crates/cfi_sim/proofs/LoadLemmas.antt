@@ -1,0 +1,272 @@
+-- Loads, as a simulation under way makes them.
+use Rattle.std.proofs.Common.{◌≡◌, ℕ, ◌<◌, ◌≤◌, ◌++◌, Bool, true, false, List, [], ◌∷◌, length, get_or, slice_get, Some, None, refl, sym, ◌∙◌, ap, subst, arith, inl, inr}
+use Rattle.cfi_aux.specs.declared.modules.Module.{Module}
+use Rattle.cfi_aux.specs.declared.placed.Placed.{Placed}
+use Rattle.cfi_graph.proofs.BoundLemmas.{contains_at}
+use Rattle.cfi_plan.specs.declared.journal.JournalLine.{JournalLine}
+use Rattle.cfi_plan.specs.declared.journal.JournalLine.TheVariants as lines
+use Rattle.cfi_series.proofs.OrderLemmas.{joins_or_refused}
+use Rattle.cfi_series.proofs.SeriesLemmas.{item_at}
+use Rattle.std.proofs.lemmas.Option.{slice_get-get_or, slice_get_within}
+use Rattle.cfi_series.specs.declared.fault.JoinFault.{JoinFault}
+use Rattle.cfi_series.specs.declared.fault.JoinFault.TheVariants.{Memory}
+use Rattle.cfi_series.specs.declared.numbers.FaultNumbers.{FaultNumbers}
+use Rattle.cfi_series.specs.declared.numbers.FaultNumbers.TheVariants as numbers
+use Rattle.cfi_series.specs.Numbers.{numbers_of}
+use Rattle.cfi_series.specs.Order.{IsJoinFault}
+use Rattle.cfi_series.specs.Series.{Series}
+use Rattle.cfi_sim.specs.declared.aim.Aim.TheVariants.{Loading}
+use Rattle.cfi_sim.specs.declared.spot.Spot.{Spot}
+use Rattle.cfi_sim.specs.Events.{IsTold, IsLoadEvent}
+use Rattle.cfi_sim.specs.Reach.{OfLoad}
+use Rattle.cfi_sim.specs.Schedule.{IsWithin}
+use Rattle.cfi_sim.specs.Stage.{Stage, with_line}
+use Rattle.cfi_sim.specs.inner.Loaded.{loaded_of, SpotHas, NoSpotHas}
+use Rattle.cfi_sim.specs.inner.Making.{HasMade, MakesBy, CanBegin, BeginsBy, IsImageWith, with_told, fault_line}
+use Rattle.cfi_sim.specs.declared.standing.Standing.TheInside.{Inside}
+use Rattle.cfi_sim.specs.inner.Standing.{Whole, IsKept, IsUnderWay, whole_of}
+use Rattle.cfi_sim.proofs.BeginLemmas.{under_after, updates_few, done_so}
+use Rattle.cfi_sim.proofs.BegunLemmas.{load_may}
+use Rattle.cfi_sim.proofs.FoundLemmas.{module_of, loaded_at, loaded_many, place_in, placed_are, spot_of}
+use Rattle.cfi_sim.proofs.GoLemmas.{all_sound}
+use Rattle.cfi_valid.specs.Joining.{IsUnloaded}
+use Rattle.cfi_valid.specs.Journal.{IsClean, LineLeads}
+use Rattle.cfi_valid.specs.Loaded.{LoadedModule, placed_modules, IsLoaded}
+use Rattle.cfi_valid.specs.declared.limits.TheConstants.{MAX_LOADED}
+use Rattle.cfi_word.specs.declared.lists.Image.{Image}
+use Rattle.cfi_world.proofs.StoringLemmas.{idle_is}
+
+-- the module at a spot is loaded
+pub spot_loaded : (spots : List Spot) (placed : List Placed) → length spots ≡ length placed → (number at : ℕ)
+    → SpotHas spots number at → (one : Placed) → slice_get placed at ≡ Some one
+    → IsLoaded (loaded_of spots placed) number
+spot_loaded spots placed same number at has one there =
+    let l : LoadedModule = module_of has.0 one in
+    (l, contains_at (loaded_of spots placed) at l (loaded_at spots placed at has.0 one has.1 there), has.2)
+
+module _ (x : Whole) (under : IsUnderWay x) (within : IsWithin x.stage) (number : ℕ) where
+  -- a line that is told at once
+  pub told_load : (line : JournalLine) → IsTold line number
+      → LineLeads x.plan x.modules x.stage.state line x.stage.state → (y : Whole) → y ≡ with_told line x
+      → HasMade (IsLoadEvent x.plan x.modules number) x y
+  told_load line told legal y is =
+      let new : Stage = with_line line x.stage in
+      let event : IsLoadEvent x.plan x.modules number x.stage new =
+      inl (record { line = line; told = told; legal = legal; is = refl }) in
+      let room = updates_few x under in
+      subst (HasMade (IsLoadEvent x.plan x.modules number) x) (sym is)
+      (record {
+        done = done_so (IsLoadEvent x.plan x.modules number) x (with_told line x) refl event
+            (under_after x under (OfLoad number) new event room);
+        within = record { events = within.events; updates = room };
+      })
+
+  module _ (absent : IsUnloaded x.modules x.stage.state.loaded number) where
+    -- a fault is told at once
+    pub fault_load : (fault : JoinFault) (told : FaultNumbers)
+        → IsJoinFault x.plan.code_words (placed_modules x.stage.state.loaded) absent.unplaced fault
+        → numbers_of fault ≡ Some told → (y : Whole) → y ≡ with_told (fault_line number told) x
+        → HasMade (IsLoadEvent x.plan x.modules number) x y
+    fault_load fault (numbers.Place kind) stands told y is =
+        told_load (lines.LoadPlace number kind) refl
+        (record { absent = absent; fault = fault; stands = stands; told = told }, refl) y is
+    fault_load fault (numbers.Verify kind place) stands told y is =
+        told_load (lines.LoadVerify number kind place) refl
+        (record { absent = absent; fault = fault; stands = stands; told = told }, refl) y is
+
+    -- or an update begins
+    module _ (image : Image) (with : IsImageWith (record {
+      code_words = x.plan.code_words;
+      placed = placed_modules x.stage.state.loaded;
+    }) absent.unplaced image) where
+      abbrev clean : IsClean x.plan x.modules x.stage.state number
+      clean = record { absent = absent; placed = with.placed; joins = with.joins }
+
+      pub load_room : CanBegin x.stage.world (Some image)
+      load_room = λ idle few.
+          (load_may x.plan x.modules (all_sound x.modules under.taken) under.going.opening x.stage under.going.holds
+          number clean image with.is (idle_is x.stage.world.tables idle) (omega (arith, few))).0
+
+      no_fault : (told : FaultNumbers) (other : IsUnloaded x.modules x.stage.state.loaded number) (fault : JoinFault)
+          → IsJoinFault x.plan.code_words (placed_modules x.stage.state.loaded) other.unplaced fault
+          → numbers_of fault ≡ Some told → ⊥
+      no_fault told other fault stands is =
+          let both : Some other.unplaced ≡ Some absent.unplaced = sym other.is ∙ absent.is in
+          let same : other.unplaced ≡ absent.unplaced = cc in
+          let memory : fault ≡ Memory =
+          joins_or_refused x.plan.code_words (placed_modules x.stage.state.loaded) absent.unplaced with.placed fault
+          with.joins (subst
+          (λ (m : Module). IsJoinFault x.plan.code_words (placed_modules x.stage.state.loaded) m fault) same stands) in
+          let none : None ≡ Some told = sym (ap numbers_of memory) ∙ is in
+          absurd (cc)
+
+      not_told : (line : JournalLine) → IsTold line number
+          → LineLeads x.plan x.modules x.stage.state line x.stage.state → ⊥
+      not_told (lines.LoadAgain asked policy) told legal =
+          absent.absent (subst (IsLoaded x.stage.state.loaded) told legal.0.loaded)
+      not_told (lines.LoadFull asked) told legal = (let full = legal.0.full in let room = absent.room in omega arith)
+      not_told (lines.LoadPlace asked fault) told legal =
+          let has = subst (λ (n : ℕ). LineLeads x.plan x.modules x.stage.state (lines.LoadPlace n fault) x.stage.state)
+          told legal in
+          no_fault (numbers.Place fault) has.0.absent has.0.fault has.0.stands has.0.told
+      not_told (lines.LoadVerify asked fault place) told legal =
+          let has = subst
+          (λ (n : ℕ). LineLeads x.plan x.modules x.stage.state (lines.LoadVerify n fault place) x.stage.state)
+          told legal in
+          no_fault (numbers.Verify fault place) has.0.absent has.0.fault has.0.stands has.0.told
+      not_told (lines.LoadOk asked epoch policy) told legal = told
+      not_told (lines.LoadVersions asked guest quiet) told legal = told
+      not_told (lines.LoadEpochs asked) told legal = told
+      not_told (lines.RefreshOk epoch) told legal = told
+      not_told (lines.RefreshVersions guest quiet) told legal = told
+      not_told lines.RefreshEpochs told legal = told
+
+      pub load_by : (y : Whole) (happened : Bool)
+          → BeginsBy (Loading number) (lines.LoadEpochs number) (Some image) x y happened
+          → MakesBy (IsLoadEvent x.plan x.modules number) x y happened
+      load_by y true has =
+          let event : IsLoadEvent x.plan x.modules number x.stage y.stage =
+          inr (record { clean = clean; image = image; of_all = with.is; begins = has.begins }) in
+          record {
+            done = done_so (IsLoadEvent x.plan x.modules number) x y has.is event
+                (under_after x under (OfLoad number) y.stage event has.within.updates);
+            within = has.within;
+          }
+      load_by y false none = λ s event fits. by_event s fits event
+        where
+          by_event : (s : Stage) → IsWithin s → IsLoadEvent x.plan x.modules number x.stage s → ⊥
+          by_event s fits (inl told) = not_told told.line told.told told.legal
+          by_event s fits (inr load) = none (Some load.image) s load.begins fits
+
+-- ---- as it is kept
+
+-- a spot and a place more make a loaded module more
+pub loaded_more : (spots : List Spot) (placed : List Placed) (spot : Spot) (one : Placed)
+    → length spots ≡ length placed
+    → loaded_of (spots ++ spot ∷ []) (placed ++ one ∷ []) ≡ loaded_of spots placed ++ module_of spot one ∷ []
+loaded_more [] [] spot one same = refl
+loaded_more [] (p ∷ placed) spot one same = absurd (omega (arith, same))
+loaded_more (s ∷ spots) [] spot one same = absurd (omega (arith, same))
+loaded_more (s ∷ spots) (p ∷ placed) spot one same =
+    ap (λ (ls : List LoadedModule). module_of s p ∷ ls) (loaded_more spots placed spot one (omega (arith, same)))
+
+-- the series is that of the loaded modules
+pub series_is : (a : Inside) → IsKept a
+    → a.series ≡ record {
+      code_words = a.plan.now.code_words;
+      placed = placed_modules (loaded_of a.spots.items a.series.placed);
+    }
+series_is a kept =
+    let words = kept.size in
+    let placed = placed_are a.spots.items a.series.placed kept.count in
+    ap (λ (n : ℕ). record { code_words = n; placed = a.series.placed }) words
+    ∙ ap (λ (ps : List Placed). record { code_words = a.plan.now.code_words; placed = ps }) (sym placed)
+
+module _ (a : Inside) (kept : IsKept a) (x : Whole) (is : whole_of a ≡ x) (under : IsUnderWay x)
+    (within : IsWithin x.stage) (number : ℕ) (known : number < length x.plan.modules) where
+  abbrev here : Whole
+  here = whole_of a
+
+  under_here : IsUnderWay here
+  under_here = subst IsUnderWay (sym is) under
+
+  within_here : IsWithin here.stage
+  within_here = subst (λ (w : Whole). IsWithin w.stage) (sym is) within
+
+  known_here : number < length here.modules
+  known_here =
+      let known_plan = subst (λ (w : Whole). number < length w.plan.modules) (sym is) known in
+      omega (arith, known_plan, under_here.named)
+
+  back : (y : Whole) → HasMade (IsLoadEvent here.plan here.modules number) here y
+      → HasMade (IsLoadEvent x.plan x.modules number) x y
+  back y has = subst (λ (w : Whole). HasMade (IsLoadEvent w.plan w.modules number) w y) is has
+
+  -- it is loaded
+  pub again_load : (spots : List Spot) → spots ≡ a.spots.items → (at : ℕ) → SpotHas spots number at → (y : Whole)
+      → y ≡ with_told (lines.LoadAgain number a.policy) here → HasMade (IsLoadEvent x.plan x.modules number) x y
+  again_load spots same at has y y_is =
+      let own = subst (λ (ss : List Spot). SpotHas ss number at) same has in
+      let in_spots = slice_get_within a.spots.items at own.0 own.1 in
+      let one = item_at a.series.placed at (omega (arith, in_spots, kept.count)) in
+      back y (told_load here under_here within_here number (lines.LoadAgain number a.policy) refl (
+        record {
+          loaded = spot_loaded a.spots.items a.series.placed kept.count number at own one.0 one.1;
+          force = refl;
+        },
+        refl,
+      ) y y_is)
+
+  absent_here : (spots : List Spot) → spots ≡ a.spots.items → NoSpotHas spots number
+      → IsLoaded here.stage.state.loaded number → ⊥
+  absent_here spots same none has =
+      let own = subst (λ (ss : List Spot). NoSpotHas ss number) same none in
+      let at = place_in here.stage.state.loaded has.0 has.1 in
+      let spot = spot_of a.spots.items a.series.placed at.0 has.0 at.1 in
+      own at.0 spot.0 spot.1 (spot.2 ∙ has.2)
+
+  pub absent_load : (spots : List Spot) → spots ≡ a.spots.items → NoSpotHas spots number
+      → IsLoaded x.stage.state.loaded number → ⊥
+  absent_load spots same none =
+      subst (λ (w : Whole). IsLoaded w.stage.state.loaded number → ⊥) is (absent_here spots same none)
+
+  -- no further one may be
+  pub full_load : (spots : List Spot) → spots ≡ a.spots.items → NoSpotHas spots number
+      → MAX_LOADED ≤ length a.spots.items → (y : Whole) → y ≡ with_told (lines.LoadFull number) here
+      → HasMade (IsLoadEvent x.plan x.modules number) x y
+  full_load spots same none full y y_is =
+      let many = loaded_many a.spots.items a.series.placed kept.count in
+      back y (told_load here under_here within_here number (lines.LoadFull number) refl (
+        record {
+          known = known_here;
+          absent = absent_here spots same none;
+          full = omega (arith, many, full);
+        },
+        refl,
+      ) y y_is)
+
+  pub room_load : length a.spots.items < MAX_LOADED → length x.stage.state.loaded < MAX_LOADED
+  room_load few =
+      let many = loaded_many a.spots.items a.series.placed kept.count in
+      subst (λ (w : Whole). length w.stage.state.loaded < MAX_LOADED) is (omega (arith, many, few))
+
+  -- one that is not loaded
+  module _ (absent : IsLoaded x.stage.state.loaded number → ⊥) (room : length x.stage.state.loaded < MAX_LOADED)
+      (m : Module) (m_is : m ≡ get_or a.modules.now number m) where
+    abbrev unloaded : IsUnloaded here.modules here.stage.state.loaded number
+    unloaded = record {
+      unplaced = m;
+      is = slice_get-get_or a.modules.now number m known_here ∙ ap (λ (one : Module). Some one) (sym m_is);
+      absent = subst (λ (w : Whole). IsLoaded w.stage.state.loaded number → ⊥) (sym is) absent;
+      room = subst (λ (w : Whole). length w.stage.state.loaded < MAX_LOADED) (sym is) room;
+    }
+
+    module _ (image : Image) (with : IsImageWith a.series m image) where
+      with_here : IsImageWith (record {
+        code_words = here.plan.code_words;
+        placed = placed_modules here.stage.state.loaded;
+      }) m image
+      with_here = subst (λ (s : Series). IsImageWith s m image) (series_is a kept) with
+
+      pub may_load : CanBegin a.world (Some image)
+      may_load = load_room here under_here within_here number unloaded image with_here
+
+      pub begun_load : (s : Series) → s ≡ a.series → (y : Whole) (happened : Bool)
+          → BeginsBy (Loading number) (lines.LoadEpochs number) (Some image) (whole_of (record a { series = s })) y
+          happened
+          → MakesBy (IsLoadEvent x.plan x.modules number) x y happened
+      begun_load s same y happened begins =
+          subst (λ (w : Whole). MakesBy (IsLoadEvent w.plan w.modules number) w y happened) is
+          (load_by here under_here within_here number unloaded image with_here y happened
+          (subst
+          (λ (t : Series). BeginsBy (Loading number) (lines.LoadEpochs number) (Some image)
+          (whole_of (record a { series = t })) y happened) same begins))
+
+    pub refused_load : (fault : JoinFault) (told : FaultNumbers)
+        → IsJoinFault a.series.code_words a.series.placed m fault → numbers_of fault ≡ Some told → (s : Series)
+        → s ≡ a.series → (y : Whole) → y ≡ with_told (fault_line number told) (whole_of (record a { series = s }))
+        → HasMade (IsLoadEvent x.plan x.modules number) x y
+    refused_load fault told why is_told s same y y_is =
+        back y (fault_load here under_here within_here number unloaded fault told
+        (subst (λ (t : Series). IsJoinFault t.code_words t.placed m fault) (series_is a kept) why) is_told y
+        (y_is ∙ ap (λ (t : Series). with_told (fault_line number told) (whole_of (record a { series = t }))) same))

@@ -1,0 +1,9 @@
+use Rattle.cfi_threads.proofs.plans.a_guest_beside_a_held_lock.Given as goal
+
+-- the names are the table that was made, the plan and its modules
+abbrev pub ghosts-driven-N-TableName : goal.ghosts-driven-N-TableName
+ghosts-driven-N-TableName g a = record { table = a.start.named.table; key = a.start.named.key }
+
+abbrev pub ghosts-driven-N-LoaderName : goal.ghosts-driven-N-LoaderName
+ghosts-driven-N-LoaderName g a =
+    record { plan = a.start.ledger.course.plan; modules = a.start.ledger.course.modules }

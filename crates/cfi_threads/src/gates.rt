@@ -1,0 +1,99 @@
+//! Gates that hold guests and the script.
+
+use crate::marks::Mark;
+use cfi_io::Gate;
+use cfi_word::services::{EXIT, QUIET};
+
+/// Holds each of two guests in its quiet service until the other has come to it.
+#[derive(Drop)]
+pub struct Meeting {
+    first: Mark,
+    second: Mark,
+    late: Mark,
+}
+
+impl Meeting {
+    /// No guest has come.
+    pub fn new() -> Meeting {
+        Meeting {
+            first: Mark::new(),
+            second: Mark::new(),
+            late: Mark::new(),
+        }
+    }
+
+    /// Whether no guest has waited in vain.
+    pub fn is_kept(&self) -> bool {
+        !self.late.is_put()
+    }
+
+    // Puts a mark and waits for the other.
+    fn meet(&self, mine: &Mark, other: &Mark) {
+        mine.put();
+        if !other.came() {
+            self.late.put();
+        }
+    }
+}
+
+impl Gate for Meeting {
+    fn pass(&self, guest: u32, service: u32) {
+        match (guest, service) {
+            (0, QUIET) => self.meet(&self.first, &self.second),
+            (1, QUIET) => self.meet(&self.second, &self.first),
+            _ => {}
+        }
+    }
+
+    fn line(&self, _call: u32) {}
+}
+
+/// Holds the script's first call until guest 0 has come to its quiet service, and that guest's exit until the script has
+/// come to its second call.
+#[derive(Drop)]
+pub struct Weaving {
+    quiet: Mark,
+    second: Mark,
+    late: Mark,
+}
+
+impl Weaving {
+    /// Neither has come.
+    pub fn new() -> Weaving {
+        Weaving {
+            quiet: Mark::new(),
+            second: Mark::new(),
+            late: Mark::new(),
+        }
+    }
+
+    /// Whether nobody has waited in vain.
+    pub fn is_kept(&self) -> bool {
+        !self.late.is_put()
+    }
+
+    // Waits for a mark.
+    fn hold(&self, mark: &Mark) {
+        if !mark.came() {
+            self.late.put();
+        }
+    }
+}
+
+impl Gate for Weaving {
+    fn pass(&self, guest: u32, service: u32) {
+        match (guest, service) {
+            (0, QUIET) => self.quiet.put(),
+            (0, EXIT) => self.hold(&self.second),
+            _ => {}
+        }
+    }
+
+    fn line(&self, call: u32) {
+        match call {
+            0 => self.hold(&self.quiet),
+            1 => self.second.put(),
+            _ => {}
+        }
+    }
+}

@@ -1,0 +1,15 @@
+use Rattle.std.proofs.Common.{◌≡◌, ◌∷◌, ◌++◌, [], rules}
+use Rattle.std.proofs.lemmas.Result.{IfOk-weaker}
+use Rattle.cfi_top.proofs.SimLemmas.{plan_sim}
+use Rattle.cfi_top.proofs.plans.sim.Goals as goal
+
+-- the last file is the schedule
+pub returns : goal.returns
+returns c =
+    let files = c.in-Some.files.now in
+    let text = c.as_slice.result.now in
+    let split : c.args.others.now ≡ files ++ text ∷ [] = search rules in
+    IfOk-weaker c.sim_of.result _ _
+    (plan_sim c.args.plan c.args.schedule c.args.bytes.now c.args.others.now c.in-Ok.found c.in-Ok.ensures.due files text
+    split)
+    c.sim_of.ensures
