@@ -73,6 +73,6 @@ run_policies c h code of number part ran =
     let starts : IsStart h opening.address = subst (λ r. IsStart h r.base.pc) opening.is run.starts in
     let ready : IsReady h run.start.base =
     subst (λ r. IsReady h r.base) (sym opening.is)
-        (opened_ready h number opening.address (start_fills c.end.loaded) starts).0 in
+    (opened_ready h number opening.address (start_fills c.end.loaded) starts).0 in
     keep_policies h code c.end.loaded of.known policies (ends_along run.start run.takes) run.start.base ran.state ready
     ran.shown.runs
