@@ -1,24 +1,17 @@
--- What a unit leaves of the log's last policy and of the stop, and an access of the kept Bary word and of the count.
-use Rattle.std.proofs.Common.{◌≡◌, ◌≢◌, ℕ, ◌+◌, ◌≤◌, ◌==◌, ◌||◌, Bool, true, false, cond, List, [], ◌∷◌, ◌++◌, Option, Some, None, refl, arith, rules}
+-- What a unit leaves of the log's last policy and of the stop, and an access of the count of instructions.
+use Rattle.std.proofs.Common.{◌≡◌, ◌≢◌, ℕ, ◌+◌, ◌≤◌, ◌==◌, Bool, true, false, cond, List, [], ◌∷◌, ◌++◌, Option, Some, None, refl, arith, rules}
 use Rattle.rv_insn.specs.declared.insn.Insn.{Insn}
-use Rattle.rv_insn.specs.declared.insn.Insn.TheVariants as insns
-use Rattle.rv_insn.specs.declared.insn.LoadKind.{LoadKind}
-use Rattle.rv_insn.specs.declared.insn.StoreKind.{StoreKind}
-use Rattle.cfi_unit.specs.Free.{is_reserved}
 use Rattle.cfi_unit.specs.declared.log.Log.{Log}
 use Rattle.cfi_unit.specs.declared.log.Log.TheVariants.{Open, Cause}
 use Rattle.cfi_unit.specs.declared.log.Stop.{Stop}
 use Rattle.cfi_unit.specs.declared.log.Stop.TheVariants as stops
 use Rattle.cfi_unit.specs.declared.unit.Unit.{Unit as CodeUnit}
 use Rattle.cfi_unit.specs.declared.unit.Unit.TheVariants as units
-use Rattle.cfi_word.specs.declared.map.TheConstants.{DATA_START}
 use Rattle.cfi_word.specs.declared.services.TheConstants.{TOO_MANY}
-use Rattle.cfi_model.specs.declared.act.Wait.TheVariants as waits
-use Rattle.cfi_model.specs.Begin.{Area, Private, TaryId, BaryId, Nothing, HasStepBy, ran, next, stopped, waiting, judged, jalr_target, units_of, begin_as, begin_by, load_at, store_at, reads_table, area_of}
-use Rattle.cfi_model.specs.Data.{is_aligned, load_width, store_width, loaded, stored}
+use Rattle.cfi_model.specs.Begin.{HasStepBy, begin_by}
 use Rattle.cfi_model.specs.Effect.{effect, is_in_code}
 use Rattle.cfi_model.specs.Log.{last_policy, picked}
-use Rattle.cfi_model.specs.Raw.{Raw, with_reg, access_address}
+use Rattle.cfi_model.specs.Raw.{Raw}
 use Rattle.cfi_model.specs.Service.{Reply, Service, Ends, Puts, Quiets, Opens, Unknown, served_log, served_stop, service_of, succeeds, argument, asked}
 use Rattle.cfi_model.specs.State.{State, register, displaced}
 use Rattle.cfi_model.proofs.LogLemmas.{policy_push}
@@ -94,65 +87,8 @@ effect_unspent (units.Check link rs1 imm slot) pick allows reply s going =
     goes_unspent _ s.stop _ going (λ same. absurd (cc))
 effect_unspent units.Service pick allows reply s going = served_unspent (service_of (asked s)) s going
 
--- ---- the kept Bary word
+-- ---- the count of instructions
 
--- a fetch keeps the Bary word, or keeps none
-abbrev pub KeepsBary : (old new : Raw) → Type 0
-KeepsBary old new = (word : ℕ) → new.bary ≡ Some word → old.bary ≡ Some word
-
-either : (b : Bool) (r x y : Raw) → KeepsBary r x → KeepsBary r y → KeepsBary r (cond b x y)
-either true r x y one other = one
-either false r x y one other = other
-
-module _ (r : Raw) where
-  load_keeps : (area : Area) (kind : LoadKind) (rd units : ℕ) → KeepsBary r (load_at area kind rd units r)
-  load_keeps (Private offset) kind rd units =
-      either (is_aligned (load_width kind) offset) r (ran (next r) 1 (with_reg r rd (loaded kind r.base.memory offset)))
-      (stopped (stops.Align (DATA_START + offset)) r) (λ word e. e) (λ word e. e)
-  load_keeps (TaryId address) kind rd units =
-      let on : Raw = waiting (waits.Tary address rd) units r in
-      let off : Raw = stopped (stops.Halt address) r in
-      either (reads_table kind) r (cond (is_aligned 4 address) on off) r
-      (either (is_aligned 4 address) r on off (λ word e. e) (λ word e. e)) (λ word e. e)
-  load_keeps (BaryId slot) kind rd units =
-      either (reads_table kind) r (waiting (waits.Bary slot rd) units r) r (λ word e. e) (λ word e. e)
-  load_keeps Nothing kind rd units = λ word e. e
-
-  store_keeps : (area : Area) (kind : StoreKind) (value : ℕ) → KeepsBary r (store_at area kind value r)
-  store_keeps (Private offset) kind value =
-      let on : Raw = ran (next r) 1
-      (record r { base = record r.base { memory = stored kind r.base.memory offset value } }) in
-      either (is_aligned (store_width kind) offset) r on (stopped (stops.Align (DATA_START + offset)) r)
-      (λ word e. e) (λ word e. e)
-  store_keeps (TaryId address) kind value = λ word e. e
-  store_keeps (BaryId slot) kind value = λ word e. e
-  store_keeps Nothing kind value = λ word e. e
-
-  insn_keeps : (insn : Insn) → KeepsBary r (begin_as insn r)
-  insn_keeps (insns.Lui rd imm) = λ word e. e
-  insn_keeps (insns.Auipc rd imm) = λ word e. e
-  insn_keeps (insns.Jal rd off) = λ word e. e
-  insn_keeps (insns.Jalr rd rs1 imm) =
-      let to : ℕ = jalr_target r rs1 imm in
-      let linked : Raw = with_reg r rd (next r) in
-      let ends : Raw = ran to 1 (judged linked) in
-      let on : Raw = ran to (units_of (is_reserved rd || is_reserved rs1)) linked in
-      either (rs1 == 31) r ends on (λ word e. absurd (cc)) (λ word e. e)
-  insn_keeps (insns.Branch c rs1 rs2 off) = λ word e. e
-  insn_keeps (insns.Load kind rd rs1 imm) = load_keeps (area_of (access_address r rs1 imm)) kind rd _
-  insn_keeps (insns.Store kind rs1 rs2 imm) = store_keeps (area_of (access_address r rs1 imm)) kind _
-  insn_keeps (insns.OpImm op rd rs1 imm) = λ word e. e
-  insn_keeps (insns.Op op rd rs1 rs2) = λ word e. e
-  insn_keeps (insns.Fence fields) = λ word e. e
-  insn_keeps insns.Ecall = λ word e. e
-  insn_keeps insns.Ebreak = λ word e. absurd (cc)
-
-  pub begin_keeps : (o : Option Insn) → KeepsBary r (begin_by o r)
-  begin_keeps None = λ word e. e
-  begin_keeps (Some insn) = insn_keeps insn
-
-  -- ---- the count of instructions
-
-  pub begin_counts : (o : Option Insn) → HasStepBy o r → (begin_by o r).base.steps ≡ r.base.steps + 1
-  begin_counts None has = absurd has
-  begin_counts (Some insn) has = counts_step insn r has
+pub begin_counts : (r : Raw) (o : Option Insn) → HasStepBy o r → (begin_by o r).base.steps ≡ r.base.steps + 1
+begin_counts r None has = absurd has
+begin_counts r (Some insn) has = counts_step insn r has

@@ -1,7 +1,9 @@
--- An image that is closed: code of the one word `j .`, and tables in which no address has a class.
-use Rattle.std.proofs.Common.{◌≡◌, ◌≢◌, ℕ, zero, suc, ◌+◌, ◌-◌, ◌≤◌, false, pos, List, [], ◌∷◌, ◌++◌, length, replicate, slice_index, Some, refl, ap, subst, ◌∙◌, arith}
+-- An image that is closed: code of the one word `j .`, and tables in which no address has a class. In each closed
+-- image word 0 and the places past the code have none.
+use Rattle.std.proofs.Common.{◌≡◌, ◌≢◌, ℕ, zero, suc, ◌+◌, ◌-◌, ◌≤◌, false, pos, List, [], ◌∷◌, ◌++◌, length, replicate, slice_index, Some, refl, ap, subst, ◌∙◌, arith, inl, inr}
 use Rattle.std.specs.Prelude.{slice_get}
-use Rattle.std.proofs.lemmas.List.{length-replicate, get_or-replicate}
+use Rattle.std.proofs.lemmas.Bool.{cases_lt}
+use Rattle.std.proofs.lemmas.List.{length-replicate, get_or-replicate, get_or_past}
 use Rattle.std.proofs.lemmas.Option.{slice_get_within, same_Some}
 use Rattle.cfi_unit.specs.declared.unit.Unit.{Unit as CodeUnit}
 use Rattle.cfi_unit.specs.declared.unit.Unit.TheVariants as units
@@ -92,3 +94,16 @@ closed code_words size = (
     targets = λ k held. (let none = at_most code_words 0 k in absurd (held (omega arith)));
   },
 )
+
+-- code word 0 is no target, nor is a place past the code
+pub none_first : (c : ℕ) (image : Image) → IsClosed c image → slice_index image.tary 0 ≡ 0
+none_first c image closed = elim (cases_lt 0 (slice_index image.tary 0)) [
+  | inl some ↦ (let start = closed.1.targets 0 (λ none. absurd (omega (arith, some, none))) in
+      absurd (omega (arith, start.2)))
+  | inr none ↦ omega (arith, none)
+]
+
+pub none_past : (c : ℕ) (image : Image) → IsClosed c image → (place : ℕ) → c ≤ place
+    → slice_index image.tary place ≡ 0
+none_past c image closed place past =
+    get_or_past image.tary place 0 (omega (arith, past, closed.1.classes.tary_length))

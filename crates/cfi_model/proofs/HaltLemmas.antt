@@ -1,5 +1,7 @@
 -- Which units stop a guest with Halt.
-use Rattle.std.proofs.Common.{◌≡◌, ◌≢◌, ℕ, ◌==◌, ◌&&◌, Bool, true, false, cond, List, Option, Some, None, refl, sym, ◌∙◌, ap, subst, rules, arith}
+use Rattle.std.proofs.Common.{◌≡◌, ℕ, ◌&&◌, Bool, true, false, cond, List, Option, Some, None, refl, sym, ◌∙◌, ap, subst}
+use Rattle.std.proofs.lemmas.Bool.{eqb-false}
+use Rattle.std.proofs.lemmas.Option.{none-some}
 use Rattle.cfi_unit.specs.declared.log.Stop.{Stop}
 use Rattle.cfi_unit.specs.declared.log.Stop.TheVariants as stops
 use Rattle.cfi_unit.specs.declared.unit.Unit.{Unit as CodeUnit}
@@ -11,9 +13,6 @@ use Rattle.cfi_model.specs.Service.{Reply, Service, Ends, Puts, Quiets, Opens, U
 use Rattle.cfi_model.specs.Shows.{Stands, End, AsksUnder, IsStep}
 use Rattle.cfi_model.specs.State.{State, register, displaced}
 
-none_halts : (o : Option Stop) (target : ℕ) → o ≡ None → o ≡ Some (stops.Halt target) → ⊥
-none_halts o target none some = absurd (cc)
-
 -- an access stops with Align
 access_halts : (fits : Bool) (stop : Option Stop) (address target : ℕ) → stop ≡ None
     → cond fits stop (Some (stops.Align address)) ≡ Some (stops.Halt target) → ⊥
@@ -23,38 +22,35 @@ access_halts false stop address target none some = absurd (cc)
 served_halts : (service : Service) (s : State) (target : ℕ) → s.stop ≡ None
     → served_stop service s ≡ Some (stops.Halt target) → ⊥
 served_halts Ends s target none some = absurd (cc)
-served_halts Puts s target none some = none_halts s.stop target none some
-served_halts Quiets s target none some = none_halts s.stop target none some
-served_halts Opens s target none some = none_halts s.stop target none some
-served_halts Unknown s target none some = none_halts s.stop target none some
+served_halts Puts s target none some = none-some (stops.Halt target) (sym none ∙ some)
+served_halts Quiets s target none some = none-some (stops.Halt target) (sym none ∙ some)
+served_halts Opens s target none some = none-some (stops.Halt target) (sym none ∙ some)
+served_halts Unknown s target none some = none-some (stops.Halt target) (sym none ∙ some)
 
 -- a check that goes on does not stop
 check_halts : (goes : Bool) (stop : Option Stop) (to target : ℕ) → stop ≡ None
     → cond goes stop (Some (stops.Halt to)) ≡ Some (stops.Halt target) → (goes ≡ false) × (target ≡ to)
-check_halts true stop to target none some = absurd (none_halts stop target none some)
+check_halts true stop to target none some = absurd (none-some (stops.Halt target) (sym none ∙ some))
 check_halts false stop to target none some = (refl, cc)
 
 not_both : (a b : Bool) → a && b ≡ false → a ≡ true → b ≡ false
 not_both true b e is = e
 not_both false b e is = absurd (cc)
 
-classes_apart : (a b : ℕ) → (a == b) ≡ false → a ≢ b
-classes_apart a b e same =
-    let test : (a == b) ≡ true = search (rules, arith) in
-    absurd (cc)
-
 module _ (h : History) (code : List ℕ) (end : End) (s : State) (going : s.stop ≡ None) (target : ℕ) where
   halts_by : (unit : CodeUnit) → Stands code s.pc unit → (epoch : ℕ) → IsEpoch h epoch → AsksUnder h epoch end unit s
       → (reply : Reply) → (effect unit (h.policy epoch) (allows_at h epoch) reply s).stop ≡ Some (stops.Halt target)
       → IsForbidden h code end s target
-  halts_by (units.Plain insn) stands epoch known under reply halts = absurd (none_halts s.stop target going halts)
+  halts_by (units.Plain insn) stands epoch known under reply halts =
+      absurd (none-some (stops.Halt target) (sym going ∙ halts))
   halts_by (units.Load kind rd rs1 imm) stands epoch known under reply halts =
       absurd (access_halts _ s.stop _ target going halts)
   halts_by (units.Store kind rs1 rs2 imm) stands epoch known under reply halts =
       absurd (access_halts _ s.stop _ target going halts)
   halts_by (units.Branch c rs1 rs2 off) stands epoch known under reply halts =
-      absurd (none_halts s.stop target going halts)
-  halts_by (units.Jump link off) stands epoch known under reply halts = absurd (none_halts s.stop target going halts)
+      absurd (none-some (stops.Halt target) (sym going ∙ halts))
+  halts_by (units.Jump link off) stands epoch known under reply halts =
+      absurd (none-some (stops.Halt target) (sym going ∙ halts))
   halts_by (units.Check link rs1 imm slot) stands epoch known under reply halts =
       let to : ℕ = displaced (register s rs1) imm in
       let both = check_halts (is_in_code to && allows_at h epoch slot to) s.stop to target going halts in
@@ -67,7 +63,7 @@ module _ (h : History) (code : List ℕ) (end : End) (s : State) (going : s.stop
         is = both.1;
         forbids = λ inside.
             let here : is_in_code to ≡ true = sym (ap is_in_code both.1) ∙ inside in
-            let apart = classes_apart (slot_class h epoch slot) (target_class h epoch to)
+            let apart = eqb-false (slot_class h epoch slot) (target_class h epoch to)
             (not_both (is_in_code to) (allows_at h epoch slot to) both.0 here) in
             subst (HasApartClasses h end slot) (sym both.1)
             (record { epoch = epoch; known = known; tried = under here; apart = apart });

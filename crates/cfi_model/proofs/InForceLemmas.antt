@@ -14,6 +14,7 @@ use Rattle.cfi_model.specs.InForce.{GoesOn, in_force, history_of, code_in_force,
 use Rattle.cfi_model.specs.Running.{Extends, Keeps}
 use Rattle.cfi_model.specs.Tables.{IsTables, IsUpdate, KeepsCode}
 use Rattle.cfi_model.specs.Words.{Tables, entry_at, epoch_in_force, policy_in_force, is_stored, number_at, rank_at, word_at}
+use Rattle.cfi_model.proofs.ClosedLemmas.{none_first, none_past}
 use Rattle.cfi_model.proofs.TableLemmas.{number_within, packable, force_epoch, force_policy}
 
 -- an update keeps the code, and its policy is not below the one before
@@ -195,19 +196,6 @@ module _ (t : Tables) (is : IsTables t) where
             (slice_index (entry_at t k).image.tary (address / 4)) t.versions) (back n);
       }
 
-  -- code word 0 is no target, nor is a place past the code
-  none_first : (image : Image) → IsClosed t.code_words image → slice_index image.tary 0 ≡ 0
-  none_first image closed = elim (cases_lt 0 (slice_index image.tary 0)) [
-    | inl some ↦ (let start = closed.1.targets 0 (λ none. absurd (omega (arith, some, none))) in
-        absurd (omega (arith, start.2)))
-    | inr none ↦ omega (arith, none)
-  ]
-
-  none_past : (image : Image) → IsClosed t.code_words image → (place : ℕ) → t.code_words ≤ place
-      → slice_index image.tary place ≡ 0
-  none_past image closed place past =
-      get_or_past image.tary place 0 (omega (arith, past, closed.1.classes.tary_length))
-
   pub index_within : (address : ℕ) → tary_index t.code_words address < t.code_words
   index_within address = elim (cases_lt (address / 4) t.code_words) [
     | inl inside ↦
@@ -228,7 +216,8 @@ module _ (t : Tables) (is : IsTables t) where
         subst (λ k. IsTaryWord (history_of t) address (word_at t (Tary k)))
         (sym (ap (λ b. cond b (address / 4) 0) (le-ltb _ _ past)))
         (tary_by 0 address
-        (none_first (entry_at t n).image closed ∙ sym (none_past (entry_at t n).image closed (address / 4) past)))
+        (none_first t.code_words (entry_at t n).image closed
+        ∙ sym (none_past t.code_words (entry_at t n).image closed (address / 4) past)))
   ]
 
   -- a code word of the image in force that is not 0 is found

@@ -32,6 +32,7 @@ pub mod CanLemmas
 pub mod PhaseLemmas
 pub mod TableLemmas
 pub mod InForceLemmas
+pub mod BeginLemmas
 pub mod AfterLemmas
 pub mod HaltLemmas
 pub mod KeptLemmas

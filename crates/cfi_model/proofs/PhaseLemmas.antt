@@ -1,7 +1,7 @@
 -- Which words are new in each phase.
 use Rattle.std.proofs.Common.{◌≡◌, ◌≢◌, ℕ, ◌+◌, ◌*◌, ◌<◌, ◌≤◌, nat_lt, ◌==◌, cond, Bool, true, false, inl, inr, refl, sym, ap, ◌∙◌, arith, Option, Some, None}
 use Rattle.std.specs.Prelude.{⊤}
-use Rattle.std.proofs.lemmas.Bool.{cases_lt}
+use Rattle.std.proofs.lemmas.Bool.{cases_lt, lt-ltb, le-ltb}
 use Rattle.std.proofs.lemmas.Bool.Decides.{nat_tests}
 use Rattle.cfi_word.specs.Table.{Place, Epoch, Quiet, Code, Tary, Bary, IsPlace, word_number}
 use Rattle.cfi_word.specs.Rank.{rank, IsStored, stores_of}
@@ -35,16 +35,10 @@ phase_row c s =
     (λ g. row_by c s (nat_lt s (stores_of c)) _ _ (λ h. grind (arith, nat_tests)) (λ h. grind (arith, nat_tests)))))
 
 -- a place's word is new exactly where its rank is below the number of stores
-below : (n s : ℕ) → n < s → nat_lt n s ≡ true
-below n s h = grind (arith, nat_tests)
-
-above : (n s : ℕ) → s ≤ n → nat_lt n s ≡ false
-above n s h = grind (arith, nat_tests)
-
 shifted : (k i n s : ℕ) → k + n ≡ s → nat_lt i n ≡ nat_lt (k + i) s
 shifted k i n s e = elim (cases_lt i n) [
-  | inl h ↦ below i n h ∙ sym (below (k + i) s (omega arith))
-  | inr h ↦ above i n h ∙ sym (above (k + i) s (omega arith))
+  | inl h ↦ lt-ltb i n h ∙ sym (lt-ltb (k + i) s (omega arith))
+  | inr h ↦ le-ltb i n h ∙ sym (le-ltb (k + i) s (omega arith))
 ]
 
 -- the place's word is one that updates store
@@ -55,31 +49,31 @@ HasStore place = ⊤
 pub row_tells : (c s : ℕ) (phase : Phase) (place : Place) → s ≤ stores_of c → IsRow c s phase → IsPlace c place
     → HasStore place → is_newest phase place ≡ nat_lt (rank_at c place) s
 row_tells c s phase (Quiet guest) most row at has = absurd has
-row_tells c s phases.Idle (Code index) most row at has = sym (below index s (omega arith))
-row_tells c s phases.Idle (Tary index) most row at has = sym (below (c + index) s (omega arith))
-row_tells c s phases.Idle Epoch most row at has = sym (below (2 * c) s (omega arith))
-row_tells c s phases.Idle (Bary slot) most row at has = sym (below (2 * c + 1 + slot) s (omega arith))
+row_tells c s phases.Idle (Code index) most row at has = sym (lt-ltb index s (omega arith))
+row_tells c s phases.Idle (Tary index) most row at has = sym (lt-ltb (c + index) s (omega arith))
+row_tells c s phases.Idle Epoch most row at has = sym (lt-ltb (2 * c) s (omega arith))
+row_tells c s phases.Idle (Bary slot) most row at has = sym (lt-ltb (2 * c + 1 + slot) s (omega arith))
 row_tells c s (phases.Testing guest) (Code index) most row at has = absurd row
 row_tells c s (phases.Testing guest) (Tary index) most row at has = absurd row
 row_tells c s (phases.Testing guest) Epoch most row at has = absurd row
 row_tells c s (phases.Testing guest) (Bary slot) most row at has = absurd row
 row_tells c s (phases.Code next) (Code index) most row at has = ap (λ n. nat_lt index n) row.1
-row_tells c s (phases.Code next) (Tary index) most row at has = sym (above (c + index) s (omega (arith, row.0)))
-row_tells c s (phases.Code next) Epoch most row at has = sym (above (2 * c) s (omega (arith, row.0)))
+row_tells c s (phases.Code next) (Tary index) most row at has = sym (le-ltb (c + index) s (omega (arith, row.0)))
+row_tells c s (phases.Code next) Epoch most row at has = sym (le-ltb (2 * c) s (omega (arith, row.0)))
 row_tells c s (phases.Code next) (Bary slot) most row at has =
-    sym (above (2 * c + 1 + slot) s (omega (arith, row.0)))
-row_tells c s (phases.Tary next) (Code index) most row at has = sym (below index s (omega (arith, row.0)))
+    sym (le-ltb (2 * c + 1 + slot) s (omega (arith, row.0)))
+row_tells c s (phases.Tary next) (Code index) most row at has = sym (lt-ltb index s (omega (arith, row.0)))
 row_tells c s (phases.Tary next) (Tary index) most row at has = shifted c index next s row.2
-row_tells c s (phases.Tary next) Epoch most row at has = sym (above (2 * c) s (omega (arith, row.1)))
+row_tells c s (phases.Tary next) Epoch most row at has = sym (le-ltb (2 * c) s (omega (arith, row.1)))
 row_tells c s (phases.Tary next) (Bary slot) most row at has =
-    sym (above (2 * c + 1 + slot) s (omega (arith, row.1)))
-row_tells c s phases.Epoch (Code index) most row at has = sym (below index s (omega arith))
-row_tells c s phases.Epoch (Tary index) most row at has = sym (below (c + index) s (omega arith))
-row_tells c s phases.Epoch Epoch most row at has = sym (above (2 * c) s (omega arith))
-row_tells c s phases.Epoch (Bary slot) most row at has = sym (above (2 * c + 1 + slot) s (omega arith))
-row_tells c s (phases.Bary next) (Code index) most row at has = sym (below index s (omega (arith, row.0)))
-row_tells c s (phases.Bary next) (Tary index) most row at has = sym (below (c + index) s (omega (arith, row.0)))
-row_tells c s (phases.Bary next) Epoch most row at has = sym (below (2 * c) s (omega (arith, row.0)))
+    sym (le-ltb (2 * c + 1 + slot) s (omega (arith, row.1)))
+row_tells c s phases.Epoch (Code index) most row at has = sym (lt-ltb index s (omega arith))
+row_tells c s phases.Epoch (Tary index) most row at has = sym (lt-ltb (c + index) s (omega arith))
+row_tells c s phases.Epoch Epoch most row at has = sym (le-ltb (2 * c) s (omega arith))
+row_tells c s phases.Epoch (Bary slot) most row at has = sym (le-ltb (2 * c + 1 + slot) s (omega arith))
+row_tells c s (phases.Bary next) (Code index) most row at has = sym (lt-ltb index s (omega (arith, row.0)))
+row_tells c s (phases.Bary next) (Tary index) most row at has = sym (lt-ltb (c + index) s (omega (arith, row.0)))
+row_tells c s (phases.Bary next) Epoch most row at has = sym (lt-ltb (2 * c) s (omega (arith, row.0)))
 row_tells c s (phases.Bary next) (Bary slot) most row at has = shifted (2 * c + 1) slot next s row.2
 
 -- where a test is under way, all stores of the update before were made
@@ -111,8 +105,8 @@ phase_words t (Bary slot) is at =
 -- one store more
 next_test : (n s : ℕ) → n ≢ s → nat_lt n (s + 1) ≡ nat_lt n s
 next_test n s other = elim (cases_lt n s) [
-  | inl h ↦ below n (s + 1) (omega arith) ∙ sym (below n s h)
-  | inr h ↦ above n (s + 1) (omega arith) ∙ sym (above n s h)
+  | inl h ↦ lt-ltb n (s + 1) (omega arith) ∙ sym (lt-ltb n s h)
+  | inr h ↦ le-ltb n (s + 1) (omega arith) ∙ sym (le-ltb n s h)
 ]
 
 pub store_same : (t : Tables) (place : Place) → rank_at t.code_words place ≢ t.stored
@@ -125,7 +119,7 @@ pub store_new : (t : Tables) (place : Place) → rank_at t.code_words place ≡ 
     → word_at (one_more t) place ≡ word_of_entry t (newest t) place
 store_new t place is =
     ap (λ b. word_of_entry t (cond b (newest t) (before t)) place)
-    (below (rank_at t.code_words place) (t.stored + 1) (omega arith))
+    (lt-ltb (rank_at t.code_words place) (t.stored + 1) (omega arith))
 
 -- ranks of places are those of their words
 pub rank_same : (c : ℕ) (place : Place) → IsPlace c place → IsStored c (word_number c place)

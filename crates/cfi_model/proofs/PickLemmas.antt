@@ -97,14 +97,14 @@ opened_rises reply s false false rises =
     record { policies = omega arith; picks = omega arith }
 
 -- the service of opens has one number
-opens_by : (a b c d : Bool) → cond a Ends (cond b Puts (cond c Quiets (cond d Opens Unknown))) ≡ Opens → d ≡ true
+pub opens_by : (a b c d : Bool) → cond a Ends (cond b Puts (cond c Quiets (cond d Opens Unknown))) ≡ Opens → d ≡ true
 opens_by true b c d is = absurd (cc)
 opens_by false true c d is = absurd (cc)
 opens_by false false true d is = absurd (cc)
 opens_by false false false true is = refl
 opens_by false false false false is = absurd (cc)
 
-opens_is : (number : ℕ) → service_of number ≡ Opens → number ≡ OPEN
+pub opens_is : (number : ℕ) → service_of number ≡ Opens → number ≡ OPEN
 opens_is number is =
     let test : (number == OPEN) ≡ true = opens_by (number == 1) (number == 2) (number == 3) (number == OPEN) is in
     search (rules, arith)

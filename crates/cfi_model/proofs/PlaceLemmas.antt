@@ -1,5 +1,6 @@
 -- Where within a unit a guest stands, and where it stands when it has stopped.
 use Rattle.std.proofs.Common.{◌≡◌, ◌≢◌, ℕ, ◌+◌, ◌==◌, ◌||◌, Bool, true, false, cond, Option, Some, None, refl, sym, ◌∙◌, ap, subst, arith}
+use Rattle.std.proofs.lemmas.Bool.{cond_both}
 use Rattle.std.specs.Prelude.{⊤}
 use Rattle.rv_insn.specs.declared.insn.Insn.{Insn}
 use Rattle.rv_insn.specs.declared.insn.Insn.TheVariants as insns
@@ -112,8 +113,7 @@ goes : (r new : Raw) → new.base.stop ≡ None → StaysPut r new
 goes r new going stops = absurd (stops going)
 
 either : (b : Bool) (r x y : Raw) → StaysPut r x → StaysPut r y → StaysPut r (cond b x y)
-either true r x y one other = one
-either false r x y one other = other
+either b r x y one other = cond_both b x y (StaysPut r) (λ yes_is. one) (λ no_is. other)
 
 module _ (r : Raw) (going : r.base.stop ≡ None) where
   load_stays : (area : Area) (kind : LoadKind) (rd units : ℕ) → StaysPut r (load_at area kind rd units r)

@@ -26,6 +26,22 @@ pub shows_units : (h : History) (code : List ℕ) (retries : ℕ) (s : State) (r
 shows_units h code retries s r (inl between) = ap (λ b. b.units) between.base
 shows_units h code retries s r (inr inside) = ap (λ b. b.units) inside.base
 
+-- and its output, its log and its stop
+pub shown_output : (h : History) (code : List ℕ) (retries : ℕ) (s : State) (r : Raw) → Shows h code retries s r
+    → r.base.output ≡ s.output
+shown_output h code retries s r (inl between) = ap (λ b. b.output) between.base
+shown_output h code retries s r (inr inside) = ap (λ b. b.output) inside.base
+
+pub shown_log : (h : History) (code : List ℕ) (retries : ℕ) (s : State) (r : Raw) → Shows h code retries s r
+    → r.base.log ≡ s.log
+shown_log h code retries s r (inl between) = ap (λ b. b.log) between.base
+shown_log h code retries s r (inr inside) = ap (λ b. b.log) inside.base
+
+pub shown_stop : (h : History) (code : List ℕ) (retries : ℕ) (s : State) (r : Raw) → Shows h code retries s r
+    → r.base.stop ≡ s.stop
+shown_stop h code retries s r (inl between) = ap (λ b. b.stop) between.base
+shown_stop h code retries s r (inr inside) = ap (λ b. b.stop) inside.base
+
 -- and is ready
 ready_running : (h : History) (code : List ℕ) (p : State) (retries : ℕ) (r : Raw) → Running h code p retries r
     → IsReady h p
@@ -46,37 +62,36 @@ at_rest h code p retries r running = record {
 }
 
 -- a history of one epoch has no other
-only : (h : History) (one other : ℕ) → h.count + h.ahead ≡ 1 → IsSeen h one → IsSeen h other → one ≡ other
-only h one other count a b = omega (arith, a.least, a.most, b.least, b.most)
+pub one_epoch : (h : History) (one other : ℕ) → h.count + h.ahead ≡ 1 → IsSeen h one → IsSeen h other → one ≡ other
+one_epoch h one other count a b = omega (arith, a.least, a.most, b.least, b.most)
 
--- one epoch has one version
-never_two : (h : History) (code : List ℕ) → IsHistory h code → (slot target more : ℕ) → h.count + h.ahead ≡ 1
-    → (more ≢ 0 → IsRepeat h slot target) → more ≡ 0
-never_two h code known slot target zero one two = refl
-never_two h code known slot target (suc more) one two =
-    let words = (two (λ e. omega arith)).apart in
+-- so no try is repeated
+pub never_two : (h : History) (code : List ℕ) → IsHistory h code → (slot target : ℕ) → h.count + h.ahead ≡ 1
+    → IsRepeat h slot target → ⊥
+never_two h code known slot target one two =
+    let words = two.apart in
     let b = bary_epoch h code slot known words.branch in
     let t = tary_epoch h code target known words.goal in
-    let same = only h words.branch.epoch words.goal.epoch one (seen_of h words.branch.epoch words.branch.known)
+    let same = one_epoch h words.branch.epoch words.goal.epoch one (seen_of h words.branch.epoch words.branch.known)
     words.goal.known in
-    absurd (words.apart (ap (λ e. e % h.versions) (b ∙ same ∙ sym t)))
+    words.apart (ap (λ (e : ℕ). e % h.versions) (b ∙ same ∙ sym t))
+
+-- nor by any unit
+pub never_retried : (h : History) (code : List ℕ) → IsHistory h code → (unit : CodeUnit) (s : State)
+    → h.count + h.ahead ≡ 1 → IsRetried h unit s → ⊥
+never_retried h code known (units.Check link rs1 imm slot) s one two =
+    never_two h code known slot (displaced (register s rs1) imm) one two
+never_retried h code known (units.Plain insn) s one two = two
+never_retried h code known (units.Load kind rd rs1 imm) s one two = two
+never_retried h code known (units.Store kind rs1 rs2 imm) s one two = two
+never_retried h code known (units.Branch c rs1 rs2 off) s one two = two
+never_retried h code known (units.Jump link off) s one two = two
+never_retried h code known units.Service s one two = two
 
 -- there is none
 no_try : (more : ℕ) → (more ≢ 0 → ⊥) → more ≡ 0
 no_try zero none = refl
 no_try (suc more) none = absurd (none (λ e. omega arith))
-
--- no unit but a check repeats a try
-never_retried : (h : History) (code : List ℕ) → IsHistory h code → (unit : CodeUnit) (s : State) (more : ℕ)
-    → h.count + h.ahead ≡ 1 → (more ≢ 0 → IsRetried h unit s) → more ≡ 0
-never_retried h code known (units.Check link rs1 imm slot) s more one two =
-    never_two h code known slot (displaced (register s rs1) imm) more one two
-never_retried h code known (units.Plain insn) s more one two = no_try more two
-never_retried h code known (units.Load kind rd rs1 imm) s more one two = no_try more two
-never_retried h code known (units.Store kind rs1 rs2 imm) s more one two = no_try more two
-never_retried h code known (units.Branch c rs1 rs2 off) s more one two = no_try more two
-never_retried h code known (units.Jump link off) s more one two = no_try more two
-never_retried h code known units.Service s more one two = no_try more two
 
 module _ (h : History) (code : List ℕ) (known : IsHistory h code) (retries : ℕ) (p : State) (r : Raw) (t : Take)
     (takes : List Take) where
@@ -114,7 +129,9 @@ module _ (h : History) (code : List ℕ) (known : IsHistory h code) (retries : �
             ∙ ap (λ m. retries + m) (no_try e.more (λ some. omega (arith, e.logged some, s.picks)))
             ∙ omega arith;
         single = λ one.
-            s.single one ∙ ap (λ m. retries + m) (never_retried h code known e.step.unit p e.more one e.two)
+            s.single one
+            ∙ ap (λ m. retries + m)
+            (no_try e.more (λ some. never_retried h code known e.step.unit p one (e.two some)))
             ∙ omega arith;
         shows = s.shows;
       }

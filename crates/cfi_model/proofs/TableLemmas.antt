@@ -1,10 +1,12 @@
 -- Tables, and the words that tell what is in force.
-use Rattle.std.proofs.Common.{◌≡◌, ℕ, ◌+◌, ◌-◌, ◌<◌, ◌≤◌, cond, Bool, true, false, sym, ap, subst, arith, length}
+use Rattle.std.proofs.Common.{◌≡◌, ℕ, ◌+◌, ◌-◌, ◌<◌, ◌≤◌, cond, Bool, true, false, sym, ap, subst, arith, List, [], ◌∷◌, ◌++◌, length, length-append, ◌⊎◌, inl, inr}
+use Rattle.std.proofs.lemmas.Bool.{cases_lt}
 use Rattle.cfi_word.specs.declared.lists.Image.{Image}
 use Rattle.cfi_word.specs.declared.limits.TheConstants.{MIN_VERSIONS, MAX_VERSIONS, MAX_EPOCH}
 use Rattle.cfi_word.specs.Word.{IsPackable}
 use Rattle.cfi_word.specs.Table.{IsSize, Epoch}
 use Rattle.cfi_word.proofs.WordLemmas.{policy_in-packed, epoch_in-packed}
+use Rattle.cfi_model.specs.declared.history.Entry.{Entry}
 use Rattle.cfi_model.specs.Closed.{IsClosed}
 use Rattle.cfi_model.specs.Words.{Tables, entry_at, epoch_in_force, policy_in_force, is_stored, newest, before, number_at, opened_tables}
 use Rattle.cfi_model.specs.Tables.{IsTables}
@@ -14,6 +16,14 @@ use Rattle.cfi_model.specs.World.{first_entry}
 number_by : (n : ℕ) (b : Bool) → 1 ≤ n → cond b (n - 1) (n - 2) < n
 number_by n true some = omega arith
 number_by n false some = omega arith
+
+-- the number of an entry is that of an old one or of the one that was added
+pub either_entry : (entries : List Entry) (entry : Entry) (number : ℕ) → number < length (entries ++ entry ∷ [])
+    → (number < length entries) ⊎ (number ≡ length entries)
+either_entry entries entry number within = elim (cases_lt number (length entries)) [
+  | inl old ↦ inl old
+  | inr past ↦ inr (omega (arith, past, within, length-append entries (entry ∷ [])))
+]
 
 module _ (t : Tables) (is : IsTables t) where
   pub number_within : (b : Bool) → cond b (newest t) (before t) < length t.entries

@@ -19,7 +19,7 @@ use Rattle.cfi_model.specs.Raw.{Raw}
 use Rattle.cfi_model.specs.Run.{Take, Word, Served, take_one, take_word, serve_as, serve_of, run_of}
 use Rattle.cfi_model.specs.Service.{Reply, too_many}
 use Rattle.cfi_model.proofs.KeptLemmas.{not_epoch, is_epoch, kept_same, kept_new, same_test, other_test}
-use Rattle.cfi_model.proofs.AfterLemmas.{begin_keeps}
+use Rattle.cfi_model.proofs.BeginLemmas.{begin_keeps_bary}
 use Rattle.cfi_model.proofs.SnocLemmas.{along_append, run_append}
 
 -- the answer that there are too many fits an open where no more are logged
@@ -131,7 +131,7 @@ module _ (h : History) (code : List ℕ) where
         (let begun : (take_word None r access.found).bary ≡ Some word =
         subst (λ w. (take_word w r access.found).bary ≡ Some word) awaits e in
         kept_same (length code) kept access (omega (arith, found.2)) (omega (arith, found.1, found.2))
-        ∙ keeps word (begin_keeps r (insn_of access.found) word begun));
+        ∙ keeps word (begin_keeps_bary r (insn_of access.found) word begun));
   }
   asks_by size r kept access keeps fair (Some (waits.Tary at rd)) awaits found =
       let within = index_within size at in

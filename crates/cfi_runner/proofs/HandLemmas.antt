@@ -13,7 +13,7 @@ use Rattle.cfi_model.specs.State.{State, register}
 use Rattle.cfi_model.proofs.AdvanceLemmas.{Running, advance}
 use Rattle.cfi_model.proofs.AfterLemmas.{effect_logs}
 use Rattle.cfi_model.proofs.LawLemmas.{Ended}
-use Rattle.cfi_model.proofs.ShownLemmas.{reached, shows_running, shows_units}
+use Rattle.cfi_model.proofs.ShownLemmas.{reached, shows_running, shows_units, shown_log}
 use Rattle.cfi_model.proofs.SnocLemmas.{along_append, run_append}
 use Rattle.cfi_tables.specs.Key.{Key}
 use Rattle.cfi_tables.specs.declared.view.PassView.{PassView}
@@ -25,7 +25,6 @@ use Rattle.cfi_runner.specs.declared.pause.Pause.{Pause}
 use Rattle.cfi_runner.specs.declared.pause.Pause.TheVariants as pauses
 use Rattle.cfi_runner.proofs.SeenLemmas.{policy_later, policy_most, seen_history, sees_trans}
 use Rattle.cfi_runner.proofs.WayLemmas.{between, ready_in}
-use Rattle.cfi_runner.proofs.WordLemmas.{shown_log}
 
 -- the reply that may come is the one that the machine takes
 fits_served : (h : History) (code : List ℕ) (number : ℕ) (reply : Reply) (r : Raw)

@@ -1,8 +1,6 @@
 -- What a pass has seen is a history, which goes on as it sees more.
 use Rattle.std.proofs.Common.{◌≡◌, ◌≢◌, ℕ, ◌+◌, ◌-◌, ◌/◌, ◌<◌, ◌≤◌, cond, inl, inr, length, slice_index, refl, sym, ap, subst, ◌∙◌, arith}
 use Rattle.std.proofs.lemmas.Bool.{cases_lt, lt-ltb, le-ltb}
-use Rattle.std.proofs.lemmas.List.{get_or_past}
-use Rattle.cfi_word.specs.declared.lists.Image.{Image}
 use Rattle.cfi_word.specs.Table.{IsSize}
 use Rattle.cfi_word.specs.Table as places
 use Rattle.cfi_word.specs.Word.{packed, policy_in}
@@ -12,6 +10,7 @@ use Rattle.cfi_model.specs.Closed.{HasClasses, IsClosed, IsStartIn}
 use Rattle.cfi_model.specs.History.{History, IsEpoch, IsSeen, IsStart, IsHistory, IsBaryWord, IsTaryWord}
 use Rattle.cfi_model.specs.InForce.{tary_index}
 use Rattle.cfi_model.specs.Words.{Tables, entry_at, entry_word, no_entry}
+use Rattle.cfi_model.proofs.ClosedLemmas.{none_first, none_past}
 use Rattle.cfi_model.proofs.InForceLemmas.{later_keeps, later_rises}
 use Rattle.cfi_model.proofs.TableLemmas.{packable}
 use Rattle.cfi_tables.specs.Key.{Key}
@@ -107,18 +106,6 @@ module _ (k : Key) (s : Sight) (is : IsSight k s) where
             (slice_index (entry_at t m).image.tary (address / 4)) k.versions) (back n));
       }
 
-  none_first : (image : Image) → IsClosed k.code_words image → slice_index image.tary 0 ≡ 0
-  none_first image closed = elim (cases_lt 0 (slice_index image.tary 0)) [
-    | inl some ↦ (let start = closed.1.targets 0 (λ none. absurd (omega (arith, some, none))) in
-        absurd (omega (arith, start.2)))
-    | inr none ↦ omega (arith, none)
-  ]
-
-  none_past : (image : Image) → IsClosed k.code_words image → (place : ℕ) → k.code_words ≤ place
-      → slice_index image.tary place ≡ 0
-  none_past image closed place past =
-      get_or_past image.tary place 0 (omega (arith, past, closed.1.classes.tary_length))
-
   pub tary_seen : (address found : ℕ)
       → IsWordOf k s.entries (places.Tary (tary_index k.code_words address)) found → IsTaryWord h address found
   tary_seen address found word = elim (cases_lt (address / 4) k.code_words) [
@@ -131,8 +118,8 @@ module _ (k : Key) (s : Sight) (is : IsSight k s) where
         (ap (λ b. cond b (address / 4) 0) (le-ltb _ _ past)) word in
         let closed = is.tables.closed here.number here.within in
         tary_by 0 address found here
-        (none_first (entry_at t here.number).image closed
-        ∙ sym (none_past (entry_at t here.number).image closed (address / 4) past))
+        (none_first k.code_words (entry_at t here.number).image closed
+        ∙ sym (none_past k.code_words (entry_at t here.number).image closed (address / 4) past))
   ]
 
   -- a target's word of an epoch that is not before the latest one has no lower policy

@@ -1,5 +1,6 @@
 -- The unit in which a guest pauses.
 use Rattle.std.proofs.Common.{◌≡◌, ℕ, ◌+◌, Bool, true, false, cond, Option, Some, None, List, [], ◌∷◌, refl, sym, ap, subst, ◌∙◌, inl, inr}
+use Rattle.std.proofs.lemmas.Option.{none-some}
 use Rattle.cfi_unit.specs.declared.log.Stop.{Stop}
 use Rattle.cfi_unit.specs.declared.log.Stop.TheVariants as stops
 use Rattle.cfi_unit.specs.declared.unit.Unit.{Unit as CodeUnit}
@@ -14,25 +15,17 @@ use Rattle.cfi_model.specs.Service.{Reply, Service, Ends, Puts, Quiets, Opens, U
 use Rattle.cfi_model.specs.Shows.{End, IsStep, MayWait, Runs, Shows, Stands}
 use Rattle.cfi_model.specs.State.{State}
 use Rattle.cfi_model.proofs.HaltLemmas.{only_checks_halt}
+use Rattle.cfi_model.proofs.ShownLemmas.{shown_stop}
 use Rattle.cfi_runner.specs.Shown.{AsksIn, IsLast, IsMisaligned, IsPausedIn}
 use Rattle.cfi_runner.specs.Run.{PausesAt}
 use Rattle.cfi_runner.specs.declared.pause.Pause.{Pause}
 use Rattle.cfi_runner.specs.declared.pause.Pause.TheVariants as pauses
 
-none_stops : (o : Option Stop) (stop : Stop) → o ≡ None → o ≡ Some stop → ⊥
-none_stops o stop none some = absurd (cc)
-
--- the raw machine has the stop of the state that it shows
-pub shown_stop : (h : History) (code : List ℕ) (retries : ℕ) (s : State) (r : Raw) → Shows h code retries s r
-    → r.base.stop ≡ s.stop
-shown_stop h code retries s r (inl between) = ap (λ b. b.stop) between.base
-shown_stop h code retries s r (inr inside) = ap (λ b. b.stop) inside.base
-
 -- units have run, and the last one has stopped the guest
 last_run : (h : History) (code : List ℕ) (ends : List End) (old new : State) → Runs h code ends old new
     → old.stop ≡ None → (stop : Stop) → new.stop ≡ Some stop → IsLast h code ends old new
 last_run h code [] old new runs going stop stopped =
-    absurd (none_stops old.stop stop going (sym (ap (λ s. s.stop) runs) ∙ stopped))
+    absurd (none-some stop (sym going ∙ sym (ap (λ s. s.stop) runs) ∙ stopped))
 last_run h code (end ∷ []) old new runs going stop stopped = record {
   front = [];
   end = end;
@@ -56,27 +49,27 @@ last_run h code (end ∷ next ∷ ends) old new runs going stop stopped =
 
 access_aligns : (fits : Bool) (stop : Option Stop) (at address : ℕ) → stop ≡ None
     → cond fits stop (Some (stops.Align at)) ≡ Some (stops.Align address) → (address ≡ at) × (fits ≡ false)
-access_aligns true stop at address none some = absurd (none_stops stop (stops.Align address) none some)
+access_aligns true stop at address none some = absurd (none-some (stops.Align address) (sym none ∙ some))
 access_aligns false stop at address none some = (cc, refl)
 
 check_aligns : (goes : Bool) (stop : Option Stop) (to address : ℕ) → stop ≡ None
     → cond goes stop (Some (stops.Halt to)) ≡ Some (stops.Align address) → ⊥
-check_aligns true stop to address none some = none_stops stop (stops.Align address) none some
+check_aligns true stop to address none some = none-some (stops.Align address) (sym none ∙ some)
 check_aligns false stop to address none some = absurd (cc)
 
 served_aligns : (service : Service) (s : State) (address : ℕ) → s.stop ≡ None
     → served_stop service s ≡ Some (stops.Align address) → ⊥
 served_aligns Ends s address none some = absurd (cc)
-served_aligns Puts s address none some = none_stops s.stop (stops.Align address) none some
-served_aligns Quiets s address none some = none_stops s.stop (stops.Align address) none some
-served_aligns Opens s address none some = none_stops s.stop (stops.Align address) none some
-served_aligns Unknown s address none some = none_stops s.stop (stops.Align address) none some
+served_aligns Puts s address none some = none-some (stops.Align address) (sym none ∙ some)
+served_aligns Quiets s address none some = none-some (stops.Align address) (sym none ∙ some)
+served_aligns Opens s address none some = none-some (stops.Align address) (sym none ∙ some)
+served_aligns Unknown s address none some = none-some (stops.Align address) (sym none ∙ some)
 
 module _ (code : List ℕ) (s : State) (going : s.stop ≡ None) (pick : ℕ) (allows : ℕ → ℕ → Bool) (reply : Reply)
     (address : ℕ) where
   aligns_by : (unit : CodeUnit) → Stands code s.pc unit
       → (effect unit pick allows reply s).stop ≡ Some (stops.Align address) → IsMisaligned code s address
-  aligns_by (units.Plain insn) stands aligns = absurd (none_stops s.stop (stops.Align address) going aligns)
+  aligns_by (units.Plain insn) stands aligns = absurd (none-some (stops.Align address) (sym going ∙ aligns))
   aligns_by (units.Load kind rd rs1 imm) stands aligns = record {
     unit = units.Load kind rd rs1 imm;
     stands = stands;
@@ -90,8 +83,8 @@ module _ (code : List ℕ) (s : State) (going : s.stop ≡ None) (pick : ℕ) (a
         (DATA_START + masked_at rs1 imm s) address going aligns;
   }
   aligns_by (units.Branch c rs1 rs2 off) stands aligns =
-      absurd (none_stops s.stop (stops.Align address) going aligns)
-  aligns_by (units.Jump link off) stands aligns = absurd (none_stops s.stop (stops.Align address) going aligns)
+      absurd (none-some (stops.Align address) (sym going ∙ aligns))
+  aligns_by (units.Jump link off) stands aligns = absurd (none-some (stops.Align address) (sym going ∙ aligns))
   aligns_by (units.Check link rs1 imm slot) stands aligns = absurd (check_aligns _ s.stop _ address going aligns)
   aligns_by units.Service stands aligns = absurd (served_aligns (service_of (asked s)) s address going aligns)
 

@@ -15,9 +15,10 @@ use Rattle.cfi_model.specs.Raw.{Raw}
 use Rattle.cfi_model.specs.Run.{Word, take_word, take_one, run_of}
 use Rattle.cfi_model.specs.Shows.{IsBetween, IsReady, IsShown, ends_along}
 use Rattle.cfi_model.specs.State.{State}
-use Rattle.cfi_model.proofs.AfterLemmas.{begin_counts, begin_keeps}
+use Rattle.cfi_model.proofs.AfterLemmas.{begin_counts}
+use Rattle.cfi_model.proofs.BeginLemmas.{begin_keeps_bary}
 use Rattle.cfi_model.proofs.GrowLemmas.{no_step}
-use Rattle.cfi_model.proofs.ShownLemmas.{raw_shows}
+use Rattle.cfi_model.proofs.ShownLemmas.{raw_shows, shown_log}
 use Rattle.cfi_model.proofs.SnocLemmas.{along_snoc}
 use Rattle.cfi_model.proofs.StuckLemmas.{raw_has_steps}
 use Rattle.cfi_tables.specs.Fair.{kept_of}
@@ -31,7 +32,7 @@ use Rattle.cfi_runner.specs.Run.{AsksFor, CanRunOn, HasTaken, KeepsSeat, words_f
 use Rattle.cfi_runner.proofs.ActLemmas.{Tells, act_tells}
 use Rattle.cfi_runner.proofs.PickedLemmas.{LogsTo, logs_start, logs_begun}
 use Rattle.cfi_runner.proofs.SeenLemmas.{sees_same, sees_trans, seen_history, code_many, policy_most, policy_later, code_later, start_later}
-use Rattle.cfi_runner.proofs.WordLemmas.{words_snoc, run_word, asked_append, no_replies, runs_low, shown_log}
+use Rattle.cfi_runner.proofs.WordLemmas.{words_snoc, run_word, asked_append, no_replies, runs_low}
 use Rattle.cfi_runner.proofs.NeedLemmas.{MayNeed, shown_needs, insn_is}
 
 -- a guest on its way: it has taken the words of its pass, as far as this has come
@@ -243,7 +244,7 @@ module _ (k : Key) (fuel : ℕ) (p : PassView) (old : Raw) (can : CanRunOn k fue
               kept = λ kept e.
                   ap (λ (s : Sight). kept_of k s.accesses) sight_is
                   ∙ (kept_snoc k q.sight.accesses (places.Code here) word place_within tt
-                  ∙ u.way.kept kept (begin_keeps now (insn_of word) kept e));
+                  ∙ u.way.kept kept (begin_keeps_bary now (insn_of word) kept e));
               logs = logs_begun (policy_seen k p.sight) old.base.log now u.way.logs (insn_of word);
             };
             steps = begin_counts now (insn_of word) has;

@@ -1,5 +1,5 @@
 -- Accesses that come one after the other, and what their words make of the raw machine and of the policy machine.
-use Rattle.std.proofs.Common.{◌≡◌, ◌≤◌, ℕ, nat_lt, Bool, true, false, cond, Some, None, List, [], ◌∷◌, ◌++◌, refl, sym, ap, subst, ◌∙◌, inl, inr}
+use Rattle.std.proofs.Common.{◌≡◌, ◌≤◌, ℕ, nat_lt, Bool, true, false, cond, Some, None, List, [], ◌∷◌, ◌++◌, refl, sym, ap, subst, ◌∙◌}
 use Rattle.std.proofs.lemmas.List.{map-append}
 use Rattle.std.specs.List.{AllByRecursion}
 use Rattle.cfi_unit.specs.declared.unit.Unit.{Unit as CodeUnit}
@@ -10,7 +10,7 @@ use Rattle.cfi_model.specs.Log.{last_policy}
 use Rattle.cfi_model.specs.Raw.{Raw}
 use Rattle.cfi_model.specs.Run.{Word, take_one, run_of}
 use Rattle.cfi_model.specs.Service.{Reply}
-use Rattle.cfi_model.specs.Shows.{End, IsAnswered, Runs, Shows, ends_along, ends_before, end_of}
+use Rattle.cfi_model.specs.Shows.{End, IsAnswered, Runs, ends_along, ends_before, end_of}
 use Rattle.cfi_model.specs.State.{State}
 use Rattle.cfi_model.proofs.AfterLemmas.{effect_logs}
 use Rattle.cfi_model.proofs.SnocLemmas.{run_snoc}
@@ -75,9 +75,3 @@ runs_low h code most below (end ∷ ends) old new none runs low =
     (λ service free. absurd (no_service step.unit end step.reply old none.0 service step.answered)) in
     runs_low h code most below ends runs.0 new none.1 runs.2
     (subst (λ s. last_policy s.log ≤ most) (sym step.is) mid)
-
--- the raw machine has the log of the state that it shows
-pub shown_log : (h : History) (code : List ℕ) (retries : ℕ) (s : State) (r : Raw) → Shows h code retries s r
-    → r.base.log ≡ s.log
-shown_log h code retries s r (inl between) = ap (λ b. b.log) between.base
-shown_log h code retries s r (inr inside) = ap (λ b. b.log) inside.base

@@ -10,7 +10,8 @@ use Rattle.cfi_sim.proofs.OwnLemmas.{stepped}
 use Rattle.cfi_model.proofs.RunningLemmas.{running_shows}
 use Rattle.cfi_model.specs.Raw.{Raw}
 use Rattle.cfi_model.specs.Words.{Tables}
-use Rattle.cfi_world.proofs.RestLemmas.{going_runs, same_tary, shown_log}
+use Rattle.cfi_model.proofs.ShownLemmas.{shown_log}
+use Rattle.cfi_world.proofs.RestLemmas.{going_runs, same_tary}
 use Rattle.cfi_model.specs.Run.{serve_as, serve_of}
 use Rattle.cfi_sim.specs.declared.found.Found.{Found}
 use Rattle.cfi_sim.specs.Events.{IsFound, reply_by}

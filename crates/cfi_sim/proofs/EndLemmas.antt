@@ -14,7 +14,7 @@ use Rattle.cfi_model.specs.Tables.{IsTables}
 use Rattle.cfi_model.specs.Words.{Tables, entry_at}
 use Rattle.cfi_model.proofs.InForceLemmas.{history_is, force_within}
 use Rattle.cfi_model.proofs.RunningLemmas.{running_shows}
-use Rattle.cfi_model.proofs.ShownLemmas.{shows_units}
+use Rattle.cfi_model.proofs.ShownLemmas.{shows_units, shown_log, shown_stop}
 use Rattle.cfi_plan.specs.declared.journal.Entry.{Entry}
 use Rattle.cfi_plan.specs.declared.plan.Plan.{Plan}
 use Rattle.cfi_policy.specs.Code.{IsCodeOf}
@@ -46,7 +46,6 @@ use Rattle.cfi_valid.specs.Replay.{Replays, shown_stop as stop_shown}
 use Rattle.cfi_valid.specs.Steps.{HasBegun, HasSteps}
 use Rattle.cfi_valid.specs.Valid.{IsGuestPart, course_of}
 use Rattle.cfi_world.specs.Updates.{is_idle}
-use Rattle.cfi_world.proofs.RestLemmas.{shown_log, shown_stop}
 use Rattle.cfi_world.proofs.StoringLemmas.{idle_is, force_newest}
 
 -- ---- each stage

@@ -27,7 +27,8 @@ use Rattle.cfi_model.proofs.EndLemmas.{effect_units}
 use Rattle.cfi_model.specs.Running.{IsGuest}
 use Rattle.cfi_world.specs.Laws.{IsBrought, IsStepped}
 use Rattle.cfi_aux.specs.declared.modules.Module.{Module}
-use Rattle.cfi_world.proofs.RestLemmas.{going_runs, shown_stop}
+use Rattle.cfi_model.proofs.ShownLemmas.{shown_stop}
+use Rattle.cfi_world.proofs.RestLemmas.{going_runs}
 use Rattle.cfi_plan.specs.declared.plan.Plan.{Plan}
 use Rattle.cfi_sim.specs.declared.aim.Aim.{Aim}
 use Rattle.cfi_model.specs.Log.{pick_entries}

@@ -20,7 +20,7 @@ use Rattle.cfi_sim.proofs.RetriedLemmas.{never_retried}
 use Rattle.cfi_valid.specs.Loaded.{LoadedModule}
 use Rattle.cfi_valid.specs.Replay.{Replays, shown_stop as stop_shown}
 use Rattle.cfi_valid.specs.Steps.{begun_most, HasBegun, is_check, MeetsCheck}
-use Rattle.cfi_world.proofs.RestLemmas.{shown_stop}
+use Rattle.cfi_model.proofs.ShownLemmas.{shown_stop}
 
 -- ---- what is shown
 

@@ -18,10 +18,10 @@ use Rattle.cfi_model.proofs.TableLemmas.{force_epoch}
 use Rattle.cfi_tables.specs.Faults.{AdmitBelow, AllAdmit, IsFarBehind, IsFirstBehind, epoch_after, quiet_in}
 use Rattle.cfi_tables.specs.Key.{Key}
 use Rattle.cfi_tables.specs.Keeping.{Keeping, grown_by, is_out, last_of, refused_by}
-use Rattle.cfi_tables.specs.Rule.{IsKept, TellsForce}
+use Rattle.cfi_tables.specs.Rule.{KeepsRule, TellsForce}
 use Rattle.cfi_tables.specs.Views.{idle_tables, idle_view, keeper_of, keeping_of, tables_of, view_at}
-use Rattle.cfi_tables.specs.inner.Steps.{Seated, Tests, grown, is_passed, loaded, loaded_before, passed, refusal_of, refused, tested_by}
-use Rattle.cfi_tables.specs.inner.Stores.{HavePassed, IsAt, IsReady, IsTesting, asked_at, keeping_at, testing}
+use Rattle.cfi_tables.specs.inner.Steps.{Seated, Tests, grown, is_passed, loaded, loaded_before, test_passed, test_refusal, refused, tested_by}
+use Rattle.cfi_tables.specs.inner.Stores.{HavePassed, IsAt, CanAsk, IsTesting, asked_at, keeping_at, testing}
 use Rattle.cfi_tables.specs.declared.view.KeeperView.{KeeperView}
 use Rattle.cfi_tables.specs.declared.view.View.TheVariants.{Keeper}
 use Rattle.cfi_tables.proofs.TablesLemmas.{force_newest}
@@ -69,7 +69,7 @@ module _ (k : Key) (keeping : Keeping) (entry : Entry) where
   }
 
   -- one more is tested
-  module _ (ready : IsReady k keeping entry) (tested : ℕ) (few : tested < GUESTS) where
+  module _ (ready : CanAsk k keeping entry) (tested : ℕ) (few : tested < GUESTS) where
     abbrev u : KeeperView
     u = asked_at k keeping entry tested
 
@@ -79,7 +79,7 @@ module _ (k : Key) (keeping : Keeping) (entry : Entry) where
 
     pub testing_allowed : (key : Key) (slots id i : ℕ) (me : Seated) → key ≡ k → id ≡ 0
         → me ≡ (Keeper (testing k keeping entry tested), []) → i ≡ quiet_word tested
-        → Allows (IsKept key) slots id me i (λ n. n) (Tests k entry (step slots i 0 0 none) me)
+        → Allows (KeepsRule key) slots id me i (λ n. n) (Tests k entry (step slots i 0 0 none) me)
     testing_allowed key slots id i me same zeroth is word_is =
         let a = asked_is tested in
         let entries = ap (λ (z : Keeping). z.entries) a.keeping_is in
@@ -109,7 +109,7 @@ module _ (k : Key) (keeping : Keeping) (entry : Entry) where
           → new ≡ (Keeper (testing k (heard found tested keeping) entry (tested + 1)), [])
       passes_to ok =
           new_is ∙ ap (λ v. (Keeper v, []))
-          (ap (λ b. cond b (passed entry v) (refused (refusal_of k entry.mark u found) v)) (same_test ∙ ok)
+          (ap (λ b. cond b (test_passed entry v) (refused (test_refusal k entry.mark u found) v)) (same_test ∙ ok)
           ∙ passed_is)
         where
           more : ℕ
@@ -129,7 +129,7 @@ module _ (k : Key) (keeping : Keeping) (entry : Entry) where
               ap (λ n. record v { asked = Some entry; tested = n }) (one_more ∙ suc_is tested)
               ∙ ((asked_is tested).on found tested ∙ ap (asked_at k now entry) (sym (suc_is tested)))
 
-          passed_is : passed entry v ≡ testing k now entry (tested + 1)
+          passed_is : test_passed entry v ≡ testing k now entry (tested + 1)
           passed_is =
               ap (λ n. cond (nat_lt n GUESTS) (record v { asked = Some entry; tested = u.tested + 1 }) (grown entry v))
               one_more
@@ -150,8 +150,8 @@ module _ (k : Key) (keeping : Keeping) (entry : Entry) where
           )
       fails_to bad =
           new_is ∙ ap (λ v. (Keeper v, []))
-          (ap (λ b. cond b (passed entry v) (refused (refusal_of k entry.mark u found) v)) (same_test ∙ bad)
-          ∙ ((asked_is tested).drops found (refusal_of k entry.mark u found)
+          (ap (λ b. cond b (test_passed entry v) (refused (test_refusal k entry.mark u found) v)) (same_test ∙ bad)
+          ∙ ((asked_is tested).drops found (test_refusal k entry.mark u found)
           ∙ ap (λ (z : ℕ × ℕ). idle_view k (refused_by (record {
             guest = z.0;
             quiet = found - 1;
@@ -207,8 +207,8 @@ module _ (k : Key) (keeping : Keeping) (entry : Entry) where
 -- ---- the whole test
 
 -- what was loaded does not matter
-pub ready_before : (k : Key) (keeping : Keeping) (entry : Entry) (quiets : List ℕ) → IsReady k keeping entry
-    → IsReady k (record keeping { quiets = quiets }) entry
+pub ready_before : (k : Key) (keeping : Keeping) (entry : Entry) (quiets : List ℕ) → CanAsk k keeping entry
+    → CanAsk k (record keeping { quiets = quiets }) entry
 ready_before k keeping entry quiets ready = record {
   tables = ready.tables;
   follows = ready.follows;
@@ -282,7 +282,7 @@ module _ (k : Key) (keeping : Keeping) (quiets : List ℕ) (tested found : ℕ)
       not_none zero bad = absurd (cc)
       not_none (suc n) bad = omega arith
 
-module _ (table : TableId) (k : Key) (keeping : Keeping) (entry : Entry) (ready : IsReady k keeping entry)
+module _ (table : TableId) (k : Key) (keeping : Keeping) (entry : Entry) (ready : CanAsk k keeping entry)
     (at : TableId) (id : ℕ) (me : Seated) (tested : ℕ) (few : tested < GUESTS)
     (is : IsTesting table k keeping entry at id me tested) (at' : TableId) (id' : ℕ) (new : Seated) (found : ℕ)
     (at_is : at' ≡ at) (id_is : id' ≡ id) (goes : new ≡ (Keeper (tested_by k entry found (keeper_of me.0)), me.1)) where

@@ -13,10 +13,10 @@ use Rattle.cfi_tables.specs.Fair.{history_at, kept_of}
 use Rattle.cfi_tables.specs.Key.{Key}
 use Rattle.cfi_tables.specs.Keeping.{last_of}
 use Rattle.cfi_tables.specs.Loads.{IsFetch, access_of}
-use Rattle.cfi_tables.specs.Rule.{CodeFits, HasStore, HeldFits, IsAccessOf, IsKept, IsRegistered, ShowQuiets, ShowTables}
+use Rattle.cfi_tables.specs.Rule.{CodeFits, HasStore, HeldFits, IsAccessOf, KeepsRule, IsRegistered, ShowQuiets, ShowTables}
 use Rattle.cfi_tables.specs.Views.{keeper_of, pass_of, tables_of}
 use Rattle.cfi_tables.specs.inner.Steps.{Fetches, Looks, Seated}
-use Rattle.cfi_tables.specs.inner.Stores.{Reaches}
+use Rattle.cfi_tables.specs.inner.Stores.{HasStoredBelow}
 use Rattle.cfi_tables.specs.declared.view.KeeperView.{KeeperView}
 use Rattle.cfi_tables.specs.declared.view.PassView.{PassView}
 use Rattle.cfi_tables.specs.declared.view.View.TheVariants.{Keeper, Pass}
@@ -94,7 +94,7 @@ module _ (k : Key) (u : KeeperView) (is : IsTables (tables_of k u)) (index : ℕ
   }
 
 fetch_moves : (k : Key) (slots id i : ℕ) (p : PassView) (index : ℕ) → index < k.code_words → i ≡ code_word index
-    → Allows (IsKept k) slots id (Pass p, []) i (λ n. n) (Fetches k (step slots i 0 0 none) (Pass p, []))
+    → Allows (KeepsRule k) slots id (Pass p, []) i (λ n. n) (Fetches k (step slots i 0 0 none) (Pass p, []))
 fetch_moves k slots id i p index inside word_is s r _ there _ =
     let u : KeeperView = r.keeper in
     let here : slice_index s.words i ≡ word_at (tables_of k u) (Code index) =
@@ -127,9 +127,9 @@ fetch_moves k slots id i p index inside word_is s r _ there _ =
 
 pub fetch_allowed : (k key : Key) (slots id i : ℕ) (me : Seated) → key ≡ k → me ≡ (Pass (pass_of me.0), [])
     → (index : ℕ) → index < k.code_words → i ≡ code_word index
-    → Allows (IsKept key) slots id me i (λ n. n) (Fetches k (step slots i 0 0 none) me)
+    → Allows (KeepsRule key) slots id me i (λ n. n) (Fetches k (step slots i 0 0 none) me)
 fetch_allowed k key slots id i me same is index inside word_is =
-    subst (λ (z : Key × Seated). Allows (IsKept z.0) slots id z.1 i (λ n. n) (Fetches k (step slots i 0 0 none) z.1))
+    subst (λ (z : Key × Seated). Allows (KeepsRule z.0) slots id z.1 i (λ n. n) (Fetches k (step slots i 0 0 none) z.1))
     (λ j. (sym same j, sym is j)) (fetch_moves k slots id i (pass_of me.0) index inside word_is)
 
 -- ---- the keeper's look
@@ -137,7 +137,7 @@ fetch_allowed k key slots id i me same is index inside word_is =
 pub look_allowed : (k key : Key) (slots id i : ℕ) (me : Seated) (u : KeeperView) → key ≡ k → id ≡ 0
     → me ≡ (Keeper u, [])
     → (place : Place) → IsPlace k.code_words place → HasStore place → i ≡ word_number k.code_words place
-    → Allows (IsKept key) slots id me i (λ n. n) (Looks k (step slots i 0 0 none) me)
+    → Allows (KeepsRule key) slots id me i (λ n. n) (Looks k (step slots i 0 0 none) me)
 look_allowed k key slots id i me u same zeroth is place at has word_is =
     keeper_moves k key slots id i (λ n. n) me u (Looks k (step slots i 0 0 none) me) same zeroth is
     (λ s r e. (
@@ -164,9 +164,9 @@ look_allowed k key slots id i me u same zeroth is place at has word_is =
 -- ---- a store that is skipped
 
 -- where the word is there already, the next code word's store is reached
-pub skip_reached : (k : Key) (u : KeeperView) (index : ℕ) → index < k.code_words → Reaches k u index
+pub skip_reached : (k : Key) (u : KeeperView) (index : ℕ) → index < k.code_words → HasStoredBelow k u index
     → slice_index (last_of u.entries).image.code index ≡ word_at (tables_of k u) (Code index)
-    → Reaches k u (index + 1)
+    → HasStoredBelow k u (index + 1)
 skip_reached k u index inside reaches same = record {
   same = reaches.same;
   least = omega (arith, reaches.least);

@@ -15,7 +15,7 @@ use Rattle.cfi_model.specs.Words.{epoch_in_force, number_at}
 use Rattle.cfi_model.proofs.TableLemmas.{force_epoch}
 use Rattle.cfi_tables.specs.Key.{Key}
 use Rattle.cfi_tables.specs.Keeping.{is_out}
-use Rattle.cfi_tables.specs.Rule.{AgreesWith, HeldFits, IsElse, IsHeld, IsKept, IsRegistered, IsSeen, ShowQuiets, ShowTables, TellsForce, CodeFits}
+use Rattle.cfi_tables.specs.Rule.{AgreesWith, HeldFits, IsElse, IsHeldOut, KeepsRule, IsRegistered, IsSeen, ShowQuiets, ShowTables, TellsForce, CodeFits}
 use Rattle.cfi_tables.specs.Views.{admitted, held_by, keeper_of, keeping_of, noted, sight_of, tables_of}
 use Rattle.cfi_tables.specs.inner.Steps.{Clears, Registers, Seated, Tells, cleared, registered, told}
 use Rattle.cfi_tables.specs.declared.view.KeeperView.{KeeperView}
@@ -162,7 +162,7 @@ module _ (k : Key) (words : List ℕ) (u : KeeperView) (is : IsTables (tables_of
 
   -- ---- the pass that is held
 
-  module _ (p : PassView) (held : IsHeld k words u p) (is_held : u.held ≡ Some p) where
+  module _ (p : PassView) (held : IsHeldOut k words u p) (is_held : u.held ≡ Some p) where
     apart_of : (guest : ℕ) → IsElse u.held guest → p.guest ≢ guest
     apart_of guest else = subst (λ h. IsElse h guest) is_held else
 
@@ -226,9 +226,9 @@ back guest = omega arith
 pub register_allowed : (k key : Key) (slots id i word guest : ℕ) (me : Seated) (u : KeeperView) → key ≡ k → id ≡ 0
     → me ≡ (Keeper u, []) → u.stored ≡ stores_of k.code_words → u.tested ≡ 0 → guest < GUESTS
     → is_out u.out guest ≡ false → i ≡ quiet_word guest → word ≡ k.first + length u.entries
-    → Allows (IsKept key) slots id me i (λ _. word) (λ _. Registers k (step slots i word 0 none) me word)
+    → Allows (KeepsRule key) slots id me i (λ _. word) (λ _. Registers k (step slots i word 0 none) me word)
 register_allowed k key slots id i word guest me u same zeroth is idle untested few free word_at word_is =
-    subst (λ j. Allows (IsKept key) slots id me j (λ _. word) (λ _. Registers k (step slots j word 0 none) me word))
+    subst (λ j. Allows (KeepsRule key) slots id me j (λ _. word) (λ _. Registers k (step slots j word 0 none) me word))
     (sym word_at)
     (keeper_moves k key slots id (quiet_word guest) (λ _. word) me u
     (λ _. Registers k (step slots (quiet_word guest) word 0 none) me word) same zeroth is
@@ -245,13 +245,13 @@ register_allowed k key slots id i word guest me u same zeroth is idle untested f
 
 -- a fact of the pass that the keeper holds
 held_at : (k : Key) (words : List ℕ) (u v : KeeperView) (p : PassView) → v ≡ u → u.held ≡ Some p
-    → HeldFits k words v v.held → IsHeld k words u p
+    → HeldFits k words v v.held → IsHeldOut k words u p
 held_at k words u v p same is fits =
     subst (HeldFits k words u) is (subst (λ z. HeldFits k words z z.held) same fits)
 
 pub tell_allowed : (k key : Key) (slots id : ℕ) (me : Seated) (u : KeeperView) (p : PassView) → key ≡ k → id ≡ 0
     → me ≡ (Keeper u, []) → u.stored ≡ stores_of k.code_words → u.held ≡ Some p
-    → Allows (IsKept key) slots id me 0 (λ n. n) (Tells k (step slots 0 0 0 none) me)
+    → Allows (KeepsRule key) slots id me 0 (λ n. n) (Tells k (step slots 0 0 0 none) me)
 tell_allowed k key slots id me u p same zeroth is idle is_held =
     keeper_moves k key slots id 0 (λ n. n) me u (Tells k (step slots 0 0 0 none) me) same zeroth is
     (λ s r e.
@@ -274,9 +274,10 @@ tell_allowed k key slots id me u p same zeroth is idle is_held =
 
 pub clear_allowed : (k key : Key) (slots id i : ℕ) (me : Seated) (u : KeeperView) (p : PassView) → key ≡ k → id ≡ 0
     → me ≡ (Keeper u, []) → u.stored ≡ stores_of k.code_words → u.held ≡ Some p → i ≡ quiet_word p.guest
-    → Allows (IsKept key) slots id me i (λ _. 0) (λ _. Clears k (step slots i 0 0 none) me 0)
+    → Allows (KeepsRule key) slots id me i (λ _. 0) (λ _. Clears k (step slots i 0 0 none) me 0)
 clear_allowed k key slots id i me u p same zeroth is idle is_held word_at =
-    subst (λ j. Allows (IsKept key) slots id me j (λ _. 0) (λ _. Clears k (step slots j 0 0 none) me 0)) (sym word_at)
+    subst (λ j. Allows (KeepsRule key) slots id me j (λ _. 0) (λ _. Clears k (step slots j 0 0 none) me 0))
+    (sym word_at)
     (keeper_moves k key slots id (quiet_word p.guest) (λ _. 0) me u
     (λ _. Clears k (step slots (quiet_word p.guest) 0 0 none) me 0) same zeroth is
     (λ s r e.

@@ -7,7 +7,7 @@ use Rattle.atomic_table.proofs.Lists.{at_longer, at_set, set_else}
 use Rattle.cfi_word.specs.Table.{quiet_word, word_count}
 use Rattle.cfi_model.specs.Tables.{IsTables}
 use Rattle.cfi_tables.specs.Key.{Key}
-use Rattle.cfi_tables.specs.Rule.{HeldFits, IsElse, IsKept, IsPublished, IsRegistered, IsTrueOf, ShowQuiets, ShowTables, CodeFits}
+use Rattle.cfi_tables.specs.Rule.{HeldFits, IsElse, KeepsRule, IsPublished, IsRegistered, IsTrueOf, ShowQuiets, ShowTables, CodeFits}
 use Rattle.cfi_tables.specs.Views.{keeper_of, tables_of}
 use Rattle.cfi_tables.specs.declared.view.KeeperView.{KeeperView}
 use Rattle.cfi_tables.specs.declared.view.PassView.{PassView}
@@ -36,12 +36,12 @@ at_end (x ∷ xs) a zero b e = inl e
 at_end (x ∷ xs) a (suc i) b e = ⊎_elim (λ was. inl was) (λ last. inr (ap suc last.0, last.1)) (at_end xs a i b e)
 
 -- the seat 0 has the keeper's view
-pub the_keeper : (k : Key) (s : Shared) (r : IsKept k s) (u : KeeperView) → get_elem? s.views 0 ≡ some (Keeper u)
+pub the_keeper : (k : Key) (s : Shared) (r : KeepsRule k s) (u : KeeperView) → get_elem? s.views 0 ≡ some (Keeper u)
     → r.keeper ≡ u
 the_keeper k s r u at = ap keeper_of (some-injective _ _ (sym r.first ∙ at))
 
 -- a seat with another view is not the seat 0
-pub seat_apart : (k : Key) (s : Shared) (r : IsKept k s) (seat : ℕ) (view : View)
+pub seat_apart : (k : Key) (s : Shared) (r : KeepsRule k s) (seat : ℕ) (view : View)
     → get_elem? s.views seat ≡ some view → ((u : KeeperView) → view ≢ Keeper u) → seat ≢ 0
 seat_apart k s r seat view at other zeroth =
     other r.keeper (some-injective _ _ (sym at ∙ (ap (get_elem? s.views) zeroth ∙ r.first)))
@@ -82,15 +82,15 @@ pub keeper_is_no_pass : (u : KeeperView) (p : PassView) → Keeper u ≢ Pass p
 keeper_is_no_pass u p e = absurd (cc)
 
 -- what is asked of each pass that has a seat
-abbrev pub AllOut : (k : Key) (s : Shared) (r : IsKept k s) (words : List ℕ) (new : KeeperView) → Type 0
+abbrev pub AllOut : (k : Key) (s : Shared) (r : KeepsRule k s) (words : List ℕ) (new : KeeperView) → Type 0
 AllOut k s r words new =
     (seat : ℕ) (p : PassView) → get_elem? s.views seat ≡ some (Pass p) → IsOut k s.words r.keeper p
     → IsOut k words new p
 
-unfoldable pub keeper_changes : (k : Key) (s : Shared) (r : IsKept k s) (words : List ℕ) (new : KeeperView)
+unfoldable pub keeper_changes : (k : Key) (s : Shared) (r : KeepsRule k s) (words : List ℕ) (new : KeeperView)
     → IsTables (tables_of k new) → length words ≡ word_count k.code_words → ShowTables k words new
     → ShowQuiets k words new → CodeFits k words → HeldFits k words new new.held → AllOut k s r words new
-    → IsKept k (with s words (slice_set s.views 0 (Keeper new)))
+    → KeepsRule k (with s words (slice_set s.views 0 (Keeper new)))
 keeper_changes k s r words new tables many shows quiets code held each = record {
   keeper = new;
   first = set_there s.views 0 (Keeper r.keeper) (Keeper new) r.first;
@@ -129,8 +129,8 @@ keeper_changes k s r words new tables many shows quiets code held each = record 
         (λ (else : (seat ≢ 0) × (get_elem? s.views seat ≡ some view)). true_by seat view else.1)
         (at_set s.views 0 seat (Keeper new) view at)
 
-pub keeper_goes : (k : Key) (s : Shared) (r : IsKept k s) (words : List ℕ) (new : KeeperView)
-    → IsNext k s.words r.keeper words new → IsKept k (with s words (slice_set s.views 0 (Keeper new)))
+pub keeper_goes : (k : Key) (s : Shared) (r : KeepsRule k s) (words : List ℕ) (new : KeeperView)
+    → IsNext k s.words r.keeper words new → KeepsRule k (with s words (slice_set s.views 0 (Keeper new)))
 keeper_goes k s r words new next =
     keeper_changes k s r words new next.tables next.many next.shows next.quiets next.code next.held
     (λ seat p at. next.each p)
@@ -138,7 +138,7 @@ keeper_goes k s r words new next =
 -- ---- a pass's seat
 
 -- its view changes, and of the words its own QUIET word at most
-pub record IsMove (k : Key) (s : Shared) (r : IsKept k s) (p : PassView) (words : List ℕ) (new : PassView)
+pub record IsMove (k : Key) (s : Shared) (r : KeepsRule k s) (p : PassView) (words : List ℕ) (new : PassView)
     : Type 0 where
   pub guest : new.guest ≡ p.guest
   pub registered : IsRegistered k r.keeper new
@@ -150,9 +150,9 @@ pub record IsMove (k : Key) (s : Shared) (r : IsKept k s) (p : PassView) (words 
   pub others : (guest : ℕ) → guest < 16 → guest ≢ p.guest
       → slice_index words (quiet_word guest) ≡ slice_index s.words (quiet_word guest)
 
-pub pass_goes : (k : Key) (s : Shared) (r : IsKept k s) (seat : ℕ) (p : PassView) (words : List ℕ) (new : PassView)
+pub pass_goes : (k : Key) (s : Shared) (r : KeepsRule k s) (seat : ℕ) (p : PassView) (words : List ℕ) (new : PassView)
     → get_elem? s.views seat ≡ some (Pass p) → IsMove k s r p words new
-    → IsKept k (with s words (slice_set s.views seat (Pass new)))
+    → KeepsRule k (with s words (slice_set s.views seat (Pass new)))
 pass_goes k s r seat p words new at move = record {
   keeper = r.keeper;
   first = set_else s.views seat 0 (Pass new) (λ e. seat_apart k s r seat (Pass p) at (pass_is_no_keeper p) (sym e))
@@ -205,8 +205,8 @@ pub spent_is_no_pass : (p : PassView) → Spent ≢ Pass p
 spent_is_no_pass p e = absurd (cc)
 
 -- a seat that is not the keeper's is used no more
-unfoldable pub spends : (k : Key) (s : Shared) (r : IsKept k s) (seat : ℕ) → seat ≢ 0
-    → IsKept k (with s s.words (slice_set s.views seat Spent))
+unfoldable pub spends : (k : Key) (s : Shared) (r : KeepsRule k s) (seat : ℕ) → seat ≢ 0
+    → KeepsRule k (with s s.words (slice_set s.views seat Spent))
 spends k s r seat apart = record {
   keeper = r.keeper;
   first = set_else s.views seat 0 Spent (λ e. apart (sym e)) ∙ r.first;
@@ -230,7 +230,7 @@ spends k s r seat apart = record {
     was other p there = old_pass s.views seat other Spent p spent_is_no_pass there
 
 -- a seat comes that is not used
-pub spent_comes : (k : Key) (s : Shared) (r : IsKept k s) → IsKept k (with s s.words (s.views ++ Spent ∷ []))
+pub spent_comes : (k : Key) (s : Shared) (r : KeepsRule k s) → KeepsRule k (with s s.words (s.views ++ Spent ∷ []))
 spent_comes k s r = record {
   keeper = r.keeper;
   first = at_longer s.views (Spent ∷ []) 0 (Keeper r.keeper) r.first;
@@ -255,9 +255,9 @@ spent_comes k s r = record {
         (at_end s.views Spent seat (Pass p) at)
 
 -- a pass's seat comes, whose guest has no other
-pub pass_comes : (k : Key) (s : Shared) (r : IsKept k s) (new : PassView) → IsOut k s.words r.keeper new
+pub pass_comes : (k : Key) (s : Shared) (r : KeepsRule k s) (new : PassView) → IsOut k s.words r.keeper new
     → ((seat : ℕ) (p : PassView) → get_elem? s.views seat ≡ some (Pass p) → p.guest ≢ new.guest)
-    → IsKept k (with s s.words (s.views ++ Pass new ∷ []))
+    → KeepsRule k (with s s.words (s.views ++ Pass new ∷ []))
 pass_comes k s r new out else = record {
   keeper = r.keeper;
   first = at_longer s.views (Pass new ∷ []) 0 (Keeper r.keeper) r.first;

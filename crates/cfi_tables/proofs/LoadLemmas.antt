@@ -2,6 +2,7 @@
 use Rattle.std.proofs.Common.{◌≡◌, ℕ, zero, suc, ◌+◌, ◌<◌, ◌≤◌, max, nat_lt, cond, Bool, true, false, List, [], ◌∷◌, ◌++◌, length, length-take, slice_get, take, Option, Some, None, refl, sym, ap, subst, ◌∙◌, arith}
 use Rattle.std.proofs.lemmas.Bool.Decides.{nat_tests}
 use mathlib.Core.List.{IsPrefix}
+use Rattle.std.proofs.lemmas.Option.{same_Some}
 use Rattle.cfi_word.specs.Table.{Place, Epoch, Quiet, Code, Tary, Bary, IsPlace}
 use Rattle.cfi_word.specs.Word.{epoch_in}
 use Rattle.cfi_model.specs.declared.history.Entry.{Entry}
@@ -27,14 +28,11 @@ use Rattle.cfi_tables.proofs.SeenLemmas.{word_stays}
 
 -- ---- a load
 
-same_some : {A : Type 0} (a b : A) → Some a ≡ Some b → a ≡ b
-same_some a b e = cc
-
 -- what is known of an item at the end of a list, and of the others
 pub each_snoc : {A : Type 0} (P : A → Type 0) (xs : List A) (x : A)
     → ((number : ℕ) (item : A) → slice_get xs number ≡ Some item → P item) → P x
     → (number : ℕ) (item : A) → slice_get (xs ++ x ∷ []) number ≡ Some item → P item
-each_snoc P [] x each last zero item is = subst P (same_some x item is) last
+each_snoc P [] x each last zero item is = subst P (same_Some x item is) last
 each_snoc P [] x each last (suc number) item is = absurd (cc)
 each_snoc P (y ∷ xs) x each last zero item is = each zero item is
 each_snoc P (y ∷ xs) x each last (suc number) item is =
@@ -244,7 +242,7 @@ module _ (k : Key) (u : KeeperView) (is : IsTables (tables_of k u)) where
     keeps_is Epoch word e = absurd (cc)
     keeps_is (Tary index) word e = let kept = r.kept word e in record { least = kept.least; most = kept.most }
     keeps_is (Bary slot) word e =
-        let same : word_at t (Bary slot) ≡ word = same_some (word_at t (Bary slot)) word e in
+        let same : word_at t (Bary slot) ≡ word = same_Some (word_at t (Bary slot)) word e in
         let epoch = bary_epoch t is slot in
         subst (IsKeptBy (loaded k u (Bary slot) (word_at t (Bary slot)) p)) same (record {
           least = omega (arith, r.published, r.seen.latest, epoch.1);

@@ -14,7 +14,7 @@ use Rattle.cfi_model.specs.Words.{Tables, entry_word, newest}
 use Rattle.cfi_model.specs.World.{first_entry}
 use Rattle.cfi_tables.specs.Key.{Key}
 use Rattle.cfi_tables.specs.Keeping.{opened_keeping}
-use Rattle.cfi_tables.specs.Rule.{HasStore, IsKept, IsTrueOf, ShowQuiets, ShowTables, CodeFits}
+use Rattle.cfi_tables.specs.Rule.{HasStore, KeepsRule, IsTrueOf, ShowQuiets, ShowTables, CodeFits}
 use Rattle.cfi_tables.specs.Views.{idle_tables, idle_view, opened_view, tables_of}
 use Rattle.cfi_tables.specs.inner.Opening.{opened_words}
 use Rattle.cfi_tables.specs.inner.Stamps.{Stamp, word_by}
@@ -140,7 +140,7 @@ module _ (k : Key) (is : IsTables (idle_tables k (opened_keeping k)))
   no_pass (suc seat) p at = some-ne-none (Pass p) (sym at)
 
   pub opening_kept : (opening_words : List ℕ) → opening_words ≡ opened_words stamp k.image
-      → IsKept k (opening opening_words [] (opened_view k))
+      → KeepsRule k (opening opening_words [] (opened_view k))
   opening_kept opening_words e = record {
     keeper = u;
     first = refl;

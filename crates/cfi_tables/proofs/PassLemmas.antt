@@ -14,7 +14,7 @@ use Rattle.cfi_tables.specs.Fair.{kept_of}
 use Rattle.cfi_tables.specs.Key.{Key}
 use Rattle.cfi_tables.specs.Keeping.{is_out}
 use Rattle.cfi_tables.specs.Loads.{IsLoad, IsQuiet, TellsEpoch}
-use Rattle.cfi_tables.specs.Rule.{IsKept, ShowQuiets, ShowTables, TellsForce, CodeFits}
+use Rattle.cfi_tables.specs.Rule.{KeepsRule, ShowQuiets, ShowTables, TellsForce, CodeFits}
 use Rattle.cfi_tables.specs.Views.{pass_of, tables_of}
 use Rattle.cfi_tables.specs.inner.Steps.{Loads, Publishes, Seated, published}
 use Rattle.cfi_tables.specs.declared.view.KeeperView.{KeeperView}
@@ -30,7 +30,7 @@ use Rattle.cfi_tables.proofs.StepLemmas.{words_stay}
 
 load_moves : (k : Key) (slots id i : ℕ) (p : PassView) (place : Place) → IsPlace k.code_words place
     → TellsEpoch place → i ≡ word_number k.code_words place
-    → Allows (IsKept k) slots id (Pass p, []) i (λ n. n) (Loads k (step slots i 0 0 none) (Pass p, []))
+    → Allows (KeepsRule k) slots id (Pass p, []) i (λ n. n) (Loads k (step slots i 0 0 none) (Pass p, []))
 load_moves k slots id i p place at tells word_is s r _ there _ =
     let u : KeeperView = r.keeper in
     let found : ℕ = word_at (tables_of k u) place in
@@ -63,9 +63,9 @@ load_moves k slots id i p place at tells word_is s r _ there _ =
 
 pub load_allowed : (k key : Key) (slots id i : ℕ) (me : Seated) → key ≡ k → me ≡ (Pass (pass_of me.0), [])
     → (place : Place) → IsPlace k.code_words place → TellsEpoch place → i ≡ word_number k.code_words place
-    → Allows (IsKept key) slots id me i (λ n. n) (Loads k (step slots i 0 0 none) me)
+    → Allows (KeepsRule key) slots id me i (λ n. n) (Loads k (step slots i 0 0 none) me)
 load_allowed k key slots id i me same is place at tells word_is =
-    subst (λ (z : Key × Seated). Allows (IsKept z.0) slots id z.1 i (λ n. n) (Loads k (step slots i 0 0 none) z.1))
+    subst (λ (z : Key × Seated). Allows (KeepsRule z.0) slots id z.1 i (λ n. n) (Loads k (step slots i 0 0 none) z.1))
     (λ j. (sym same j, sym is j)) (load_moves k slots id i (pass_of me.0) place at tells word_is)
 
 -- ---- a store of a QUIET word
@@ -115,7 +115,7 @@ module _ (k : Key) (words : List ℕ) (u : KeeperView) (guest word : ℕ) (few :
 
 publish_moves : (k : Key) (slots id i word : ℕ) (p : PassView) → i ≡ quiet_word p.guest
     → kept_of k p.sight.accesses ≡ None → word ≡ p.sight.latest + 1
-    → Allows (IsKept k) slots id (Pass p, []) i (λ _. word)
+    → Allows (KeepsRule k) slots id (Pass p, []) i (λ _. word)
     (λ _. Publishes (step slots i word 0 none) (Pass p, []) word)
 publish_moves k slots id i word p word_is bare new s r _ there _ =
     let u : KeeperView = r.keeper in
@@ -138,7 +138,7 @@ publish_moves k slots id i word p word_is bare new s r _ there _ =
       Pass (published p),
       keeps,
       tt,
-      subst (λ j. IsKept k (with s (slice_set s.words j word) (slice_set s.views id (Pass (published p)))))
+      subst (λ j. KeepsRule k (with s (slice_set s.words j word) (slice_set s.views id (Pass (published p)))))
           (sym word_is) goes,
       refl,
     )
@@ -146,9 +146,9 @@ publish_moves k slots id i word p word_is bare new s r _ there _ =
 pub publish_allowed : (k key : Key) (slots id i word : ℕ) (me : Seated) → key ≡ k → me ≡ (Pass (pass_of me.0), [])
     → i ≡ quiet_word (pass_of me.0).guest → kept_of k (pass_of me.0).sight.accesses ≡ None
     → word ≡ (pass_of me.0).sight.latest + 1
-    → Allows (IsKept key) slots id me i (λ _. word) (λ _. Publishes (step slots i word 0 none) me word)
+    → Allows (KeepsRule key) slots id me i (λ _. word) (λ _. Publishes (step slots i word 0 none) me word)
 publish_allowed k key slots id i word me same is word_is bare new =
-    subst (λ (z : Key × Seated). Allows (IsKept z.0) slots id z.1 i (λ _. word)
+    subst (λ (z : Key × Seated). Allows (KeepsRule z.0) slots id z.1 i (λ _. word)
     (λ _. Publishes (step slots i word 0 none) z.1 word))
     (λ j. (sym same j, sym is j)) (publish_moves k slots id i word (pass_of me.0) word_is bare new)
 

@@ -5,7 +5,7 @@ use lib.ListN.{get_elem?}
 use Rattle.atomic_table.specs.Table.{Joins, Splits}
 use Rattle.atomic_table.proofs.Lists.{at_set, set_again, set_else}
 use Rattle.cfi_tables.specs.Key.{Key}
-use Rattle.cfi_tables.specs.Rule.{HeldFits, IsElse, IsHeld, IsKept}
+use Rattle.cfi_tables.specs.Rule.{HeldFits, IsElse, IsHeldOut, KeepsRule}
 use Rattle.cfi_tables.specs.Views.{held_by}
 use Rattle.cfi_tables.specs.inner.Steps.{left_view, returned_view, seat_view}
 use Rattle.cfi_tables.specs.declared.view.KeeperView.{KeeperView}
@@ -18,12 +18,12 @@ use Rattle.cfi_tables.proofs.HoldLemmas.{registered_same}
 -- ---- the pass that is held gets a seat
 
 leave_at : (k : Key) (u : KeeperView) (p : PassView) → u.held ≡ Some p
-    → Splits (IsKept k) 0 (Keeper u) (Keeper (record u { held = None })) (Pass p)
+    → Splits (KeepsRule k) 0 (Keeper u) (Keeper (record u { held = None })) (Pass p)
 unfolding keeper_changes
 leave_at k u p is_held s r at =
     let e = the_keeper k s r u at in
     let v : KeeperView = r.keeper in
-    let fits : IsHeld k s.words v p = subst (HeldFits k s.words v) (ap (λ z. z.held) e ∙ is_held) r.held in
+    let fits : IsHeldOut k s.words v p = subst (HeldFits k s.words v) (ap (λ z. z.held) e ∙ is_held) r.held in
     let apart : (guest : ℕ) → IsElse v.held guest → p.guest ≢ guest =
     (λ guest else. subst (λ h. IsElse h guest) (ap (λ z. z.held) e ∙ is_held) else) in
     let new : KeeperView = record v { held = None } in
@@ -34,7 +34,7 @@ leave_at k u p is_held s r at =
       published = o.published;
       apart = tt;
     }) in
-    subst (λ z. IsKept k (with s s.words (slice_set s.views 0 (Keeper (record z { held = None })) ++ Pass p ∷ []))) e
+    subst (λ z. KeepsRule k (with s s.words (slice_set s.views 0 (Keeper (record z { held = None })) ++ Pass p ∷ []))) e
     (pass_comes k (with s s.words (slice_set s.views 0 (Keeper new))) kept p
     (record {
       registered = registered_same k v v.out None p fits.registered fits.registered.out;
@@ -45,19 +45,19 @@ leave_at k u p is_held s r at =
     apart q.guest (r.apart seat q (old_pass s.views 0 seat (Keeper new) q (keeper_is_no_pass new) there)) (sym same)))
 
 pub leave_splits : (k key : Key) (id : ℕ) (view : View) (u : KeeperView) (p : PassView) → key ≡ k → id ≡ 0
-    → view ≡ Keeper u → u.held ≡ Some p → Splits (IsKept key) id view (left_view view) (seat_view view)
+    → view ≡ Keeper u → u.held ≡ Some p → Splits (KeepsRule key) id view (left_view view) (seat_view view)
 leave_splits k key id view u p same zeroth is is_held =
-    subst (λ (z : Key × ℕ × View). Splits (IsKept z.0) z.1 z.2 (left_view z.2) (seat_view z.2))
+    subst (λ (z : Key × ℕ × View). Splits (KeepsRule z.0) z.1 z.2 (left_view z.2) (seat_view z.2))
     (λ j. (sym same j, sym zeroth j, sym is j))
-    (subst (λ h. Splits (IsKept k) 0 (Keeper u) (Keeper (record u { held = None })) (Pass (held_by h))) (sym is_held)
+    (subst (λ h. Splits (KeepsRule k) 0 (Keeper u) (Keeper (record u { held = None })) (Pass (held_by h))) (sym is_held)
     (leave_at k u p is_held))
 
 -- ---- a seat for no one
 
-pub vacate_splits : (k key : Key) (id : ℕ) (view : View) → key ≡ k → Splits (IsKept key) id view view Spent
+pub vacate_splits : (k key : Key) (id : ℕ) (view : View) → key ≡ k → Splits (KeepsRule key) id view view Spent
 vacate_splits k key id view same =
-    subst (λ z. Splits (IsKept z) id view view Spent) (sym same)
-    (λ s r at. subst (λ views. IsKept k (with s s.words (views ++ Spent ∷ []))) (sym (set_again s.views id view at))
+    subst (λ z. Splits (KeepsRule z) id view view Spent) (sym same)
+    (λ s r at. subst (λ views. KeepsRule k (with s s.words (views ++ Spent ∷ []))) (sym (set_again s.views id view at))
     (spent_comes k s r))
 
 -- ---- a pass gives up its seat
@@ -71,7 +71,7 @@ set_swap (x ∷ xs) (suc i) zero a b apart = refl
 set_swap (x ∷ xs) (suc i) (suc j) a b apart = ap (λ l. x ∷ l) (set_swap xs i j a b (λ e. apart (ap suc e)))
 
 return_at : (k : Key) (u : KeeperView) (other : ℕ) (p : PassView) → u.held ≡ None
-    → Joins (IsKept k) 0 (Keeper u) other (Pass p) (Keeper (record u { held = Some p })) Spent
+    → Joins (KeepsRule k) 0 (Keeper u) other (Pass p) (Keeper (record u { held = Some p })) Spent
 unfolding spends
 return_at k u other p free s r at apart there =
     let e = the_keeper k s r u at in
@@ -95,9 +95,9 @@ return_at k u other p free s r at apart there =
       published = o.published;
       apart = λ same. not_spent seat q at_seat (r.alone seat other q p (was seat q at_seat) here (sym same));
     }) in
-    subst (λ views. IsKept k (with s s.words views))
+    subst (λ views. KeepsRule k (with s s.words views))
     (set_swap s.views other 0 Spent (Keeper (record u { held = Some p })) apart)
-    (subst (λ z. IsKept k
+    (subst (λ z. KeepsRule k
     (with s s.words (slice_set (slice_set s.views other Spent) 0 (Keeper (record z { held = Some p }))))) e kept)
   where
     spent_is_no_pass : (q : PassView) → Spent ≢ Pass q
@@ -113,7 +113,7 @@ return_at k u other p free s r at apart there =
 
 pub return_joins : (k key : Key) (id other : ℕ) (view gone : View) (u : KeeperView) (p : PassView) → key ≡ k → id ≡ 0
     → view ≡ Keeper u → gone ≡ Pass p → u.held ≡ None
-    → Joins (IsKept key) id view other gone (returned_view view gone) Spent
+    → Joins (KeepsRule key) id view other gone (returned_view view gone) Spent
 return_joins k key id other view gone u p same zeroth is gone_is free =
-    subst (λ (z : Key × ℕ × View × View). Joins (IsKept z.0) z.1 z.2 other z.3 (returned_view z.2 z.3) Spent)
+    subst (λ (z : Key × ℕ × View × View). Joins (KeepsRule z.0) z.1 z.2 other z.3 (returned_view z.2 z.3) Spent)
     (λ j. (sym same j, sym zeroth j, sym is j, sym gone_is j)) (return_at k u other p free)

@@ -12,7 +12,7 @@ use Rattle.cfi_model.specs.Tables.{IsTables}
 use Rattle.cfi_model.specs.Words.{newest, next_epoch, rank_at, word_of_entry}
 use Rattle.cfi_tables.specs.Key.{Key}
 use Rattle.cfi_tables.specs.Keeping.{is_out}
-use Rattle.cfi_tables.specs.Rule.{HasStore, HeldFits, IsElse, IsKept, IsPublished, IsRegistered, ShowQuiets, ShowTables, TellsForce, CodeFits}
+use Rattle.cfi_tables.specs.Rule.{HasStore, HeldFits, IsElse, KeepsRule, IsPublished, IsRegistered, ShowQuiets, ShowTables, TellsForce, CodeFits}
 use Rattle.cfi_tables.specs.Views.{keeper_of, tables_of}
 use Rattle.cfi_tables.specs.inner.Steps.{Seated, Stores, stored_to}
 use Rattle.cfi_tables.specs.declared.view.KeeperView.{KeeperView}
@@ -133,15 +133,15 @@ store_next k words u is many shows quiets idle free place at has least skipped w
 -- a step of the keeper's seat, whose view is known
 pub keeper_moves : (k key : Key) (slots id i : ℕ) (f : ℕ → ℕ) (me : Seated) (u : KeeperView)
     (then : ℕ → Seated → Type 0) → key ≡ k → id ≡ 0 → me ≡ (Keeper u, [])
-    → ((s : Shared) (r : IsKept k s) → r.keeper ≡ u → (new : KeeperView)
+    → ((s : Shared) (r : KeepsRule k s) → r.keeper ≡ u → (new : KeeperView)
     × IsNext k s.words r.keeper (slice_set s.words i (f (slice_index s.words i))) new
     × then (slice_index s.words i) (Keeper new, []))
-    → Allows (IsKept key) slots id me i f then
+    → Allows (KeepsRule key) slots id me i f then
 keeper_moves k key slots id i f me u then same zeroth is move =
-    subst (λ (z : Key × ℕ × Seated). Allows (IsKept z.0) slots z.1 z.2 i f then)
+    subst (λ (z : Key × ℕ × Seated). Allows (KeepsRule z.0) slots z.1 z.2 i f then)
     (λ j. (sym same j, sym zeroth j, sym is j)) at_keeper
   where
-    at_keeper : Allows (IsKept k) slots 0 (Keeper u, []) i f then
+    at_keeper : Allows (KeepsRule k) slots 0 (Keeper u, []) i f then
     at_keeper s r _ at _ =
         let m = move s r (the_keeper k s r u at) in
         (Keeper m.0, keeps, tt, keeper_goes k s r (slice_set s.words i (f (slice_index s.words i))) m.0 m.1, m.2)
@@ -158,7 +158,7 @@ pub store_allowed : (k key : Key) (slots id i word : ℕ) (me : Seated) (u : Kee
     → (place : Place) → IsPlace k.code_words place → HasStore place → i ≡ word_number k.code_words place
     → u.stored ≤ rank_at k.code_words place → AreSkipped k u place
     → word ≡ word_of_entry (tables_of k u) (newest (tables_of k u)) place → FitsCode place word
-    → Allows (IsKept key) slots id me i (λ _. word) (λ _. Stores k (step slots i word 0 none) me word)
+    → Allows (KeepsRule key) slots id me i (λ _. word) (λ _. Stores k (step slots i word 0 none) me word)
 store_allowed k key slots id i word me u same zeroth is idle free place at has word_is least skipped new small =
     keeper_moves k key slots id i (λ _. word) me u (λ _. Stores k (step slots i word 0 none) me word) same zeroth is
     (λ s r e. (
@@ -174,6 +174,6 @@ store_allowed k key slots id i word me u same zeroth is idle free place at has w
     ))
 
 -- a load leaves the words as they were
-pub words_stay : (k : Key) (s : Shared) (views : List View) (i : ℕ) → IsKept k (with s s.words views)
-    → IsKept k (with s (slice_set s.words i (slice_index s.words i)) views)
-words_stay k s views i r = subst (λ words. IsKept k (with s words views)) (sym (set-get_or s.words i 0)) r
+pub words_stay : (k : Key) (s : Shared) (views : List View) (i : ℕ) → KeepsRule k (with s s.words views)
+    → KeepsRule k (with s (slice_set s.words i (slice_index s.words i)) views)
+words_stay k s views i r = subst (λ words. KeepsRule k (with s words views)) (sym (set-get_or s.words i 0)) r

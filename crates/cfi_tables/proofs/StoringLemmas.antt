@@ -9,10 +9,10 @@ use Rattle.cfi_model.specs.declared.history.Entry.{Entry}
 use Rattle.cfi_model.specs.Words.{newest, no_entry, rank_at, word_of_entry}
 use Rattle.cfi_tables.specs.Key.{Key}
 use Rattle.cfi_tables.specs.Keeping.{Keeping, grown_by, last_of}
-use Rattle.cfi_tables.specs.Rule.{HasStore, IsKept}
+use Rattle.cfi_tables.specs.Rule.{HasStore, KeepsRule}
 use Rattle.cfi_tables.specs.Views.{idle_view, keeper_of, keeping_of, tables_of, view_at}
 use Rattle.cfi_tables.specs.inner.Steps.{Seated, Stores, stored_to}
-use Rattle.cfi_tables.specs.inner.Stores.{Reaches, keeping_at}
+use Rattle.cfi_tables.specs.inner.Stores.{HasStoredBelow, keeping_at}
 use Rattle.cfi_tables.specs.declared.view.KeeperView.{KeeperView}
 use Rattle.cfi_tables.specs.declared.view.View.TheVariants.{Keeper}
 use Rattle.cfi_tables.proofs.PlaceLemmas.{rank_is}
@@ -21,17 +21,17 @@ use Rattle.cfi_tables.proofs.StepLemmas.{store_allowed, FitsCode}
 -- the view after a store
 pub record HasGone (k : Key) (u : KeeperView) (new : Seated) (after : ℕ) : Type 0 where
   pub me_is : new ≡ (Keeper (keeper_of new.0), [])
-  pub reaches : Reaches k (keeper_of new.0) after
+  pub reaches : HasStoredBelow k (keeper_of new.0) after
   pub stored : (keeper_of new.0).stored ≡ after
   pub same : keeping_at new ≡ keeping_of u
 
 module _ (k : Key) (u : KeeperView) (place : Place) (at : IsPlace k.code_words place) (has : HasStore place)
-    (n : ℕ) (next : n ≡ rank_at k.code_words place) (reached : Reaches k u n) where
+    (n : ℕ) (next : n ≡ rank_at k.code_words place) (reached : HasStoredBelow k u n) where
   -- the word that comes next may be stored
   pub next_allowed : (key : Key) (slots id i word : ℕ) (me : Seated) → key ≡ k → id ≡ 0
       → me ≡ (Keeper u, []) → i ≡ word_number k.code_words place
       → word ≡ word_of_entry (tables_of k u) (newest (tables_of k u)) place → FitsCode place word
-      → Allows (IsKept key) slots id me i (λ _. word) (λ _. Stores k (step slots i word 0 none) me word)
+      → Allows (KeepsRule key) slots id me i (λ _. word) (λ _. Stores k (step slots i word 0 none) me word)
   next_allowed key slots id i word me same zeroth is word_is new small =
       store_allowed k key slots id i word me u same zeroth is (ap (λ v. v.asked) reached.same)
       (ap (λ v. v.held) reached.same) place at has word_is (omega (arith, next, reached.least))
@@ -52,7 +52,7 @@ module _ (k : Key) (u : KeeperView) (place : Place) (at : IsPlace k.code_words p
       let stored : (keeper_of new.0).stored ≡ after = ap (λ v. v.stored) view ∙ sym one_more in
       record {
         me_is = new_is ∙ ap (λ v. (Keeper v, [])) (sym view);
-        reaches = subst (λ v. Reaches k v after) (sym view) (record {
+        reaches = subst (λ v. HasStoredBelow k v after) (sym view) (record {
           same = ap (stored_to n) reached.same;
           least = omega (arith, one_more);
           skipped = λ other inside has_store least early. absurd (omega (arith, one_more, least, early));
@@ -81,7 +81,7 @@ module _ (k : Key) (keeping : Keeping) (entry : Entry) (quiets : List ℕ) (some
 
   -- where the code is the one in force, its stores are skipped
   pub code_reached : entry.image.code ≡ (last_of keeping.entries).image.code
-      → Reaches k (view_at grown 0) k.code_words
+      → HasStoredBelow k (view_at grown 0) k.code_words
   code_reached same = record { same = refl; least = omega arith; skipped = skips }
     where
       skips : (other : Place) → IsPlace k.code_words other → HasStore other → 0 ≤ rank_at k.code_words other
@@ -97,7 +97,7 @@ module _ (k : Key) (keeping : Keeping) (entry : Entry) (quiets : List ℕ) (some
       skips (Quiet guest) inside stored least early = absurd stored
 
 -- all stores were made
-pub idle_reached : (k : Key) (u : KeeperView) (n : ℕ) (keeping : Keeping) → Reaches k u n
+pub idle_reached : (k : Key) (u : KeeperView) (n : ℕ) (keeping : Keeping) → HasStoredBelow k u n
     → u.stored ≡ stores_of k.code_words → keeping_of u ≡ keeping → u ≡ idle_view k keeping
 idle_reached k u n keeping reaches all same =
     reaches.same ∙ (ap (view_at (keeping_of u)) all ∙ ap (idle_view k) same)

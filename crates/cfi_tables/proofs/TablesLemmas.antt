@@ -1,8 +1,8 @@
 -- The tables of a keeper's view while an update goes on.
 use Rattle.cfi_word.specs.Table.{Place}
-use Rattle.std.proofs.Common.{◌≡◌, ℕ, ◌+◌, ◌-◌, ◌*◌, ◌<◌, ◌≤◌, nat_lt, cond, inl, inr, ◌⊎◌, [], ◌∷◌, length, length-append, Some, None, refl, sym, ap, subst, ◌∙◌, arith, Bool, true, false}
+use Rattle.std.proofs.Common.{◌≡◌, ℕ, ◌+◌, ◌-◌, ◌*◌, ◌<◌, ◌≤◌, nat_lt, cond, inl, inr, [], ◌∷◌, length, length-append, Some, None, refl, sym, ap, subst, ◌∙◌, arith, Bool, true, false}
 use mathlib.Core.List.{IsPrefix}
-use Rattle.std.proofs.lemmas.Bool.{cases_lt, lt-ltb}
+use Rattle.std.proofs.lemmas.Bool.{lt-ltb}
 use Rattle.std.proofs.lemmas.Bool.Decides.{nat_tests}
 use Rattle.std.proofs.lemmas.List.{get_or_append_left, get_or_push}
 use Rattle.cfi_word.specs.declared.limits.TheConstants.{GUESTS, MAX_EPOCH, MAX_POLICY}
@@ -13,6 +13,7 @@ use Rattle.cfi_model.specs.Closed.{IsClosed}
 use Rattle.cfi_model.specs.InForce.{GoesOn, in_force}
 use Rattle.cfi_model.specs.Tables.{IsTables, IsUpdate, MayBeAsked}
 use Rattle.cfi_model.specs.Words.{Tables, entry_at, no_entry, newest, before, next_epoch, number_at, rank_at}
+use Rattle.cfi_model.proofs.TableLemmas.{either_entry}
 use Rattle.cfi_tables.specs.Key.{Key}
 use Rattle.cfi_tables.specs.Keeping.{last_of}
 use Rattle.cfi_tables.specs.Views.{tables_of}
@@ -137,13 +138,6 @@ module _ (k : Key) (u : KeeperView) (is : IsTables (tables_of k u)) where
     pub one_more : length new.entries ≡ length u.entries + 1
     one_more = length-append u.entries (entry ∷ [])
 
-    either_entry : (number : ℕ) → number < length new.entries
-        → (number < length u.entries) ⊎ (number ≡ length u.entries)
-    either_entry number within = elim (cases_lt number (length u.entries)) [
-      | inl old ↦ inl old
-      | inr past ↦ inr (omega (arith, past, within, one_more))
-    ]
-
     pub new_at : (number : ℕ) → number ≡ length u.entries → entry_at new number ≡ entry
     new_at number last = ap (entry_at new) last ∙ get_or_push u.entries entry no_entry (length u.entries) refl
 
@@ -165,14 +159,14 @@ module _ (k : Key) (u : KeeperView) (is : IsTables (tables_of k u)) where
     -- what holds of the old entries and of the new one
     each_entry : (P : Entry → Type 0) → ((number : ℕ) → number < length u.entries → P (entry_at t number)) → P entry
         → (number : ℕ) → number < length new.entries → P (entry_at new number)
-    each_entry P old last number within = elim (either_entry number within) [
+    each_entry P old last number within = elim (either_entry u.entries entry number within) [
       | inl inside ↦ subst P (sym (old_entry number inside)) (old number inside)
       | inr end ↦ subst P (sym (new_at number end)) last
     ]
 
     follows_on : (number : ℕ) → number + 1 < length new.entries
         → IsUpdate k.code_words (entry_at new number) (entry_at new (number + 1))
-    follows_on number within = elim (either_entry (number + 1) within) [
+    follows_on number within = elim (either_entry u.entries entry (number + 1) within) [
       | inl inside ↦
           subst (λ e. IsUpdate k.code_words e (entry_at new (number + 1)))
           (sym (old_entry number (omega (arith, inside))))

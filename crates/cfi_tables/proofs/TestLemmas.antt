@@ -14,9 +14,9 @@ use Rattle.cfi_model.specs.Tables.{IsTables, IsUpdate}
 use Rattle.cfi_model.specs.Words.{next_epoch}
 use Rattle.cfi_tables.specs.Key.{Key}
 use Rattle.cfi_tables.specs.Keeping.{is_out, last_of}
-use Rattle.cfi_tables.specs.Rule.{HeldFits, IsKept, IsPublished, IsRegistered, ShowQuiets, ShowTables, TellsForce, CodeFits}
+use Rattle.cfi_tables.specs.Rule.{HeldFits, KeepsRule, IsPublished, IsRegistered, ShowQuiets, ShowTables, TellsForce, CodeFits}
 use Rattle.cfi_tables.specs.Views.{keeper_of, tables_of}
-use Rattle.cfi_tables.specs.inner.Steps.{Seated, Tests, grown, is_passed, loaded, passed, refusal_of, refused, tested_by}
+use Rattle.cfi_tables.specs.inner.Steps.{Seated, Tests, grown, is_passed, loaded, test_passed, test_refusal, refused, tested_by}
 use Rattle.cfi_tables.specs.declared.view.KeeperView.{KeeperView}
 use Rattle.cfi_tables.specs.declared.view.PassView.{PassView}
 use Rattle.cfi_tables.specs.declared.view.View.TheVariants.{Keeper}
@@ -122,7 +122,7 @@ module _ (k : Key) (words : List ℕ) (u : KeeperView) (is : IsTables (tables_of
         });
       }
 
-  passed_next : is_passed k u found ≡ true → IsNext k words u words (passed entry with_found)
+  passed_next : is_passed k u found ≡ true → IsNext k words u words (test_passed entry with_found)
   passed_next ok = by (nat_lt (u.tested + 1) GUESTS) refl
     where
       by : (more : Bool) → nat_lt (u.tested + 1) GUESTS ≡ more
@@ -161,10 +161,10 @@ module _ (k : Key) (words : List ℕ) (u : KeeperView) (is : IsTables (tables_of
   test_next = by (is_passed k u found) refl
     where
       by : (ok : Bool) → is_passed k u found ≡ ok
-          → IsNext k words u words (cond ok (passed entry with_found)
-          (refused (refusal_of k entry.mark u found) with_found))
+          → IsNext k words u words (cond ok (test_passed entry with_found)
+          (refused (test_refusal k entry.mark u found) with_found))
       by true e = passed_next e
-      by false e = refused_next (refusal_of k entry.mark u found)
+      by false e = refused_next (test_refusal k entry.mark u found)
 
   -- a word that is not 0 is a pass's that is out
   pub found_out : found ≢ 0 → is_out u.out u.tested ≡ true
@@ -178,13 +178,13 @@ pub test_allowed : (k key : Key) (slots id i : ℕ) (me : Seated) (u : KeeperVie
     → me ≡ (Keeper u, []) → u.stored ≡ stores_of k.code_words → u.held ≡ None → u.tested < GUESTS
     → IsUpdate k.code_words (last_of u.entries) entry → next_epoch (tables_of k u) ≤ MAX_EPOCH
     → i ≡ quiet_word u.tested
-    → Allows (IsKept key) slots id me i (λ n. n) (Tests k entry (step slots i 0 0 none) me)
+    → Allows (KeepsRule key) slots id me i (λ n. n) (Tests k entry (step slots i 0 0 none) me)
 test_allowed k key slots id i me u entry same zeroth is idle free few follows fits word_is =
-    subst (λ j. Allows (IsKept key) slots id me j (λ n. n) (Tests k entry (step slots j 0 0 none) me)) (sym word_is)
+    subst (λ j. Allows (KeepsRule key) slots id me j (λ n. n) (Tests k entry (step slots j 0 0 none) me)) (sym word_is)
     (keeper_moves k key slots id (quiet_word u.tested) (λ n. n) me u
     (Tests k entry (step slots (quiet_word u.tested) 0 0 none) me) same zeroth is moves)
   where
-    moves : (s : Shared) (r : IsKept k s) → r.keeper ≡ u → let found = slice_index s.words (quiet_word u.tested) in
+    moves : (s : Shared) (r : KeepsRule k s) → r.keeper ≡ u → let found = slice_index s.words (quiet_word u.tested) in
         (new : KeeperView) × IsNext k s.words r.keeper (slice_set s.words (quiet_word u.tested) found) new
         × Tests k entry (step slots (quiet_word u.tested) 0 0 none) me found (Keeper new, [])
     moves s r e =

@@ -83,13 +83,13 @@ abbrev pub IsPublished : (words : List ℕ) → PassView → Type 0
 IsPublished words p = slice_index words (quiet_word p.guest) ≡ p.quiet + 1
 
 -- the pass that the keeper holds is out too
-pub record IsHeld (k : Key) (words : List ℕ) (u : KeeperView) (p : PassView) : Type 0 where
+pub record IsHeldOut (k : Key) (words : List ℕ) (u : KeeperView) (p : PassView) : Type 0 where
   pub registered : IsRegistered k u p
   pub published : IsPublished words p
 
 abbrev pub HeldFits : Key → (words : List ℕ) → KeeperView → Option PassView → Type 0
 HeldFits k words u None = ⊤
-HeldFits k words u (Some p) = IsHeld k words u p
+HeldFits k words u (Some p) = IsHeldOut k words u p
 
 -- the keeper holds no pass of the guest
 abbrev pub IsElse : Option PassView → (guest : ℕ) → Type 0
@@ -116,7 +116,7 @@ pub record ShowQuiets (k : Key) (words : List ℕ) (u : KeeperView) : Type 0 whe
 abbrev pub CodeFits : Key → (words : List ℕ) → Type 0
 CodeFits k words = (index : ℕ) → index < k.code_words → slice_index words (code_word index) < 2 ^ 32
 
-pub record IsKept (k : Key) (s : State (Unit {0}) View) : Type 0 where
+pub record KeepsRule (k : Key) (s : State (Unit {0}) View) : Type 0 where
   pub keeper : KeeperView
   pub first : get_elem? s.views 0 ≡ some (Keeper keeper)
   pub tables : IsTables (tables_of k keeper)

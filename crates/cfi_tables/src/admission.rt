@@ -6,7 +6,7 @@ ghost use Rattle.cfi_word.specs.declared.limits.TheConstants.{MIN_VERSIONS, MAX_
 ghost use Rattle.cfi_tables.specs.Faults.{AllAdmit, IsFarBehind, IsFirstBehind, epoch_after, quiet_in};
 ghost use Rattle.cfi_tables.specs.Keeping.{entry_by, grown_by, refused_by};
 ghost use Rattle.cfi_tables.specs.Views.{idle_view, view_at};
-ghost use Rattle.cfi_tables.specs.inner.Stores.{IsAt, IsReady, keeping_at};
+ghost use Rattle.cfi_tables.specs.inner.Stores.{IsAt, CanAsk, keeping_at};
 
 use crate::blank::Place;
 use crate::rule::{Asks, TableName, Test};
@@ -34,7 +34,7 @@ pub fn test_all<N: TableName, A: Asks>(
     asked: &Asked,
 ) -> Option<(u32, u32)>
     requires asked { A.entry ≡ entry_by asked.now.policy asked.now.image.now asked.now.mark }
-    requires ready { IsReady N.key (keeping_at seat.old.me) A.entry }
+    requires ready { CanAsk N.key (keeping_at seat.old.me) A.entry }
     requires epoch { epoch ≡ epoch_after N.key (keeping_at seat.old.me) }
     requires versions { versions ≡ N.key.versions }
     requires seat { IsAt N.table seat.old.table_id seat.old.id seat.old.me

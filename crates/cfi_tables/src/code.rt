@@ -3,7 +3,7 @@
 ghost use Rattle.std.specs.Prelude.{◌≡◌, ◌+◌, ◌<◌, true, length, slice_index};
 ghost use Rattle.cfi_tables.specs.Keeping.{last_of};
 ghost use Rattle.cfi_tables.specs.Views.{keeper_of, view_at};
-ghost use Rattle.cfi_tables.specs.inner.Stores.{IsAt, Reaches, keeping_at};
+ghost use Rattle.cfi_tables.specs.inner.Stores.{IsAt, HasStoredBelow, keeping_at};
 
 use crate::blank::Place;
 use crate::rule::{Look, Store, TableName};
@@ -16,10 +16,10 @@ pub fn put_code<N: TableName>(tables: &Tables<N>, seat: &mut Place, code: &[u32]
     requires seat { IsAt N.table seat.old.table_id seat.old.id seat.old.me
         (view_at (keeping_at seat.old.me) 0) }
     requires same { is_same ≡ true →
-        Reaches N.key (view_at (keeping_at seat.old.me) 0) N.key.code_words }
+        HasStoredBelow N.key (view_at (keeping_at seat.old.me) 0) N.key.code_words }
     ensures seat { IsAt N.table seat.new.table_id seat.new.id seat.new.me
         (keeper_of seat.new.me.0) }
-    ensures reaches { Reaches N.key (keeper_of seat.new.me.0) N.key.code_words }
+    ensures reaches { HasStoredBelow N.key (keeper_of seat.new.me.0) N.key.code_words }
     ensures same { keeping_at seat.new.me ≡ keeping_at seat.old.me }
 {
     if is_same {
@@ -37,10 +37,10 @@ fn put_word<N: TableName>(tables: &Tables<N>, seat: &mut Place, index: u32, word
         word ≡ slice_index entry.image.code index }
     requires seat { IsAt N.table seat.old.table_id seat.old.id seat.old.me
         (keeper_of seat.old.me.0) }
-    requires reaches { Reaches N.key (keeper_of seat.old.me.0) index }
+    requires reaches { HasStoredBelow N.key (keeper_of seat.old.me.0) index }
     ensures seat { IsAt N.table seat.new.table_id seat.new.id seat.new.me
         (keeper_of seat.new.me.0) }
-    ensures reaches { Reaches N.key (keeper_of seat.new.me.0) (index + 1) }
+    ensures reaches { HasStoredBelow N.key (keeper_of seat.new.me.0) (index + 1) }
     ensures same { keeping_at seat.new.me ≡ keeping_at seat.old.me }
 {
     let number = tables.layout.code(index);

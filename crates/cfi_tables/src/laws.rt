@@ -9,7 +9,7 @@ ghost use Rattle.cfi_model.specs.Tables.{IsTables, IsUpdate};
 ghost use Rattle.cfi_model.specs.Words.{word_of_entry};
 ghost use Rattle.cfi_tables.specs.Key.{Key};
 ghost use Rattle.cfi_tables.specs.Keeping.{entry_by, opened_keeping};
-ghost use Rattle.cfi_tables.specs.Rule.{HasStore, IsKept};
+ghost use Rattle.cfi_tables.specs.Rule.{HasStore, KeepsRule};
 ghost use Rattle.cfi_tables.specs.Views.{idle_tables, opened_view, tables_of};
 ghost use Rattle.cfi_tables.specs.declared.view.View.{View};
 
@@ -18,9 +18,9 @@ ghost use Rattle.cfi_tables.specs.declared.view.View.{View};
 /// `tables`: the keeper's view is tables, in some phase of an update. `words`: each word but the QUIET words is of the
 /// entry that the table of phases names.
 pub fn words_show_tables()
-    ensures tables { (k : Key) (s : State (Unit {0}) View) → (kept : IsKept k s) →
+    ensures tables { (k : Key) (s : State (Unit {0}) View) → (kept : KeepsRule k s) →
         IsTables (tables_of k kept.keeper) }
-    ensures words { (k : Key) (s : State (Unit {0}) View) → (kept : IsKept k s) →
+    ensures words { (k : Key) (s : State (Unit {0}) View) → (kept : KeepsRule k s) →
         (place : Place) → IsPlace k.code_words place → HasStore place →
         let t = tables_of k kept.keeper in
         slice_index s.words (word_number k.code_words place)
@@ -34,7 +34,7 @@ pub fn words_show_tables()
 pub fn some_tables_are_kept()
     ensures opens { (k : Key) → IsTables (idle_tables k (opened_keeping k)) →
         ((index : ℕ) → slice_index k.image.code index < 2 ^ 32) →
-        (words : List ℕ) × IsKept k (opening words [] (opened_view k)) }
+        (words : List ℕ) × KeepsRule k (opening words [] (opened_view k)) }
     ensures refresh { (code_words : ℕ) (last : Entry) (mark : ℕ) →
         IsUpdate code_words last (entry_by last.policy last.image mark) }
 {}

@@ -40,10 +40,10 @@ pub struct Law;
 
 impl TableRule<(), View, Told> for Law {
     ghost use Rattle.cfi_tables.specs.Key.{key_of};
-    ghost use Rattle.cfi_tables.specs.Rule.{IsKept};
+    ghost use Rattle.cfi_tables.specs.Rule.{KeepsRule};
     ghost use Rattle.cfi_tables.specs.Views.{opened_view};
 
-    ghost holds = { λ told. IsKept (key_of told) };
+    ghost holds = { λ told. KeepsRule (key_of told) };
 
     ghost first = { λ told. opened_view (key_of told) };
 }

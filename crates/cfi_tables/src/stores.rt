@@ -5,7 +5,7 @@ ghost use Rattle.cfi_word.specs.Rank.{stores_of};
 ghost use Rattle.cfi_model.specs.Closed.{HasClasses};
 ghost use Rattle.cfi_tables.specs.Keeping.{last_of};
 ghost use Rattle.cfi_tables.specs.Views.{idle_view, keeper_of};
-ghost use Rattle.cfi_tables.specs.inner.Stores.{IsAt, Reaches, keeping_at, stamp_of};
+ghost use Rattle.cfi_tables.specs.inner.Stores.{IsAt, HasStoredBelow, keeping_at, stamp_of};
 
 use crate::blank::Place;
 use crate::rule::{Store, TableName};
@@ -20,7 +20,7 @@ pub fn store_all<N: TableName>(tables: &Tables<N>, seat: &mut Place, stamp: &Sta
     requires fit { HasClasses N.key.code_words image.now }
     requires seat { IsAt N.table seat.old.table_id seat.old.id seat.old.me
         (keeper_of seat.old.me.0) }
-    requires reaches { Reaches N.key (keeper_of seat.old.me.0) N.key.code_words }
+    requires reaches { HasStoredBelow N.key (keeper_of seat.old.me.0) N.key.code_words }
     ensures { IsAt N.table seat.new.table_id seat.new.id seat.new.me
         (idle_view N.key (keeping_at seat.old.me)) }
 {
@@ -36,10 +36,10 @@ fn store_tary<N: TableName>(tables: &Tables<N>, seat: &mut Place, stamp: &Stamp,
     requires fit { HasClasses N.key.code_words (last_of (keeping_at seat.old.me).entries).image }
     requires seat { IsAt N.table seat.old.table_id seat.old.id seat.old.me
         (keeper_of seat.old.me.0) }
-    requires reaches { Reaches N.key (keeper_of seat.old.me.0) N.key.code_words }
+    requires reaches { HasStoredBelow N.key (keeper_of seat.old.me.0) N.key.code_words }
     ensures seat { IsAt N.table seat.new.table_id seat.new.id seat.new.me
         (keeper_of seat.new.me.0) }
-    ensures reaches { Reaches N.key (keeper_of seat.new.me.0) (2 * N.key.code_words) }
+    ensures reaches { HasStoredBelow N.key (keeper_of seat.new.me.0) (2 * N.key.code_words) }
     ensures same { keeping_at seat.new.me ≡ keeping_at seat.old.me }
 {
     for index in 0..classes.len() {
@@ -57,10 +57,10 @@ fn store_epoch<N: TableName>(tables: &Tables<N>, seat: &mut Place, stamp: &Stamp
     requires stamp { stamp.now ≡ stamp_of N.key (keeping_at seat.old.me).entries }
     requires seat { IsAt N.table seat.old.table_id seat.old.id seat.old.me
         (keeper_of seat.old.me.0) }
-    requires reaches { Reaches N.key (keeper_of seat.old.me.0) (2 * N.key.code_words) }
+    requires reaches { HasStoredBelow N.key (keeper_of seat.old.me.0) (2 * N.key.code_words) }
     ensures seat { IsAt N.table seat.new.table_id seat.new.id seat.new.me
         (keeper_of seat.new.me.0) }
-    ensures reaches { Reaches N.key (keeper_of seat.new.me.0) (2 * N.key.code_words + 1) }
+    ensures reaches { HasStoredBelow N.key (keeper_of seat.new.me.0) (2 * N.key.code_words + 1) }
     ensures stored { (keeper_of seat.new.me.0).stored ≡ 2 * N.key.code_words + 1 }
     ensures same { keeping_at seat.new.me ≡ keeping_at seat.old.me }
 {
@@ -78,11 +78,11 @@ fn store_bary<N: TableName>(tables: &Tables<N>, seat: &mut Place, stamp: &Stamp,
     requires fit { HasClasses N.key.code_words (last_of (keeping_at seat.old.me).entries).image }
     requires seat { IsAt N.table seat.old.table_id seat.old.id seat.old.me
         (keeper_of seat.old.me.0) }
-    requires reaches { Reaches N.key (keeper_of seat.old.me.0) (2 * N.key.code_words + 1) }
+    requires reaches { HasStoredBelow N.key (keeper_of seat.old.me.0) (2 * N.key.code_words + 1) }
     requires stored { (keeper_of seat.old.me.0).stored ≡ 2 * N.key.code_words + 1 }
     ensures seat { IsAt N.table seat.new.table_id seat.new.id seat.new.me
         (keeper_of seat.new.me.0) }
-    ensures reaches { Reaches N.key (keeper_of seat.new.me.0) (stores_of N.key.code_words) }
+    ensures reaches { HasStoredBelow N.key (keeper_of seat.new.me.0) (stores_of N.key.code_words) }
     ensures stored { (keeper_of seat.new.me.0).stored ≡ stores_of N.key.code_words }
     ensures same { keeping_at seat.new.me ≡ keeping_at seat.old.me }
 {

@@ -1,6 +1,6 @@
 -- When epochs are spent, and when a guest asks.
-use Rattle.std.proofs.Common.{◌≡◌, ℕ, ◌+◌, ◌<◌, ◌==◌, ◌||◌, ◌&&◌, nat_lt, cond, Bool, true, false, is_some, slice_get, Option, Some, None, refl, sym, ap, ◌∙◌, arith}
-use Rattle.std.proofs.lemmas.Bool.Decides.{nat_tests}
+use Rattle.std.proofs.Common.{◌≡◌, ℕ, ◌+◌, ◌==◌, ◌||◌, ◌&&◌, nat_lt, cond, Bool, true, false, is_some, slice_get, Option, Some, None, refl, sym, ap, ◌∙◌}
+use Rattle.std.proofs.lemmas.Bool.{eq-eqb, eqb-true, lt-ltb, ltb-true}
 use Rattle.cfi_unit.specs.declared.log.Stop.{Stop}
 use Rattle.cfi_word.specs.declared.lists.Image.{Image}
 use Rattle.cfi_word.specs.declared.limits.TheConstants.{MAX_EPOCH, MAX_OPENS}
@@ -43,24 +43,18 @@ begin_by w image a b =
     cond a (cond b (record { world = w; answer = EpochsSpent })
     (did (record w { tables = begun image w.tables; updates = w.updates + 1 }))) (nothing w)
 
-same_test : (n m : ℕ) → n ≡ m → (n == m) ≡ true
-same_test n m e = grind (arith, nat_tests)
-
-test_same : (n m : ℕ) → (n == m) ≡ true → n ≡ m
-test_same n m e = grind (arith, nat_tests)
-
 pub epochs_spent : (w : World) (image : Option Image) → phase_of w.tables ≡ phases.Idle
     → epoch_in_force w.tables ≡ MAX_EPOCH
     → turn_of w (events.Begin image) ≡ record { world = w; answer = EpochsSpent }
 epochs_spent w image idle last =
     ap (λ a. begin_by w image a (epoch_in_force w.tables == MAX_EPOCH)) (ap is_idle idle)
-    ∙ ap (λ b. begin_by w image true b) (same_test (epoch_in_force w.tables) MAX_EPOCH last)
+    ∙ ap (λ b. begin_by w image true b) (eq-eqb (epoch_in_force w.tables) MAX_EPOCH last)
 
 spent_by : (w : World) (image : Option Image) (a b : Bool) → is_idle (phase_of w.tables) ≡ a
     → (epoch_in_force w.tables == MAX_EPOCH) ≡ b → (begin_by w image a b).answer ≡ EpochsSpent
     → (phase_of w.tables ≡ phases.Idle) × (epoch_in_force w.tables ≡ MAX_EPOCH)
 spent_by w image true true idle last is =
-    (idle_is (phase_of w.tables) idle, test_same (epoch_in_force w.tables) MAX_EPOCH last)
+    (idle_is (phase_of w.tables) idle, eqb-true (epoch_in_force w.tables) MAX_EPOCH last)
 spent_by w image true false idle last is = absurd (cc)
 spent_by w image false b idle last is = absurd (cc)
 
@@ -75,12 +69,6 @@ not_held : (stop : Option Stop) (point : Point) (epoch : ℕ) → stop ≡ None 
 not_held stop point epoch going found =
     ap (λ s. is_some s || is_asking point) going ∙ ap is_asking found
 
-few_test : (n m : ℕ) → n < m → nat_lt n m ≡ true
-few_test n m below = grind (arith, nat_tests)
-
-test_few : (n m : ℕ) → nat_lt n m ≡ true → n < m
-test_few n m test = grind (arith, nat_tests)
-
 module _ (w : World) (guest : ℕ) where
   -- the seat after the store in the QUIET word
   asks_by : (number : ℕ) → (is : IsOpening w guest number)
@@ -92,7 +80,7 @@ module _ (w : World) (guest : ℕ) where
         guest = cond b is.r (rested w.fuel (serve_of is.r too_many));
         point = cond b Asking Outside;
         quiet = (serves (Found is.epoch) w.tables w.fuel OPEN (seat_of w guest is.r)).quiet;
-      })) (few_test (opens is.r.base.log) MAX_OPENS is.few)
+      })) (lt-ltb (opens is.r.base.log) MAX_OPENS is.few)
       ∙ ap (Asks guest) (sym is.asks)
 
   pub opening_asks : (number : ℕ) → IsOpening w guest number
@@ -129,8 +117,8 @@ module _ (w : World) (guest : ℕ) where
             r = r;
             there = there;
             going = going;
-            opens_is = waiting ∙ ap (λ n. Some (waits.Service n)) (test_same service OPEN both.0);
-            few = test_few (opens r.base.log) MAX_OPENS both.1;
+            opens_is = waiting ∙ ap (λ n. Some (waits.Service n)) (eqb-true service OPEN both.0);
+            few = ltb-true (opens r.base.log) MAX_OPENS both.1;
             epoch = epoch;
             found = found;
             asks = sym two;

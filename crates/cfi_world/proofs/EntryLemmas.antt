@@ -6,7 +6,7 @@ use Rattle.std.proofs.lemmas.List.{get_or_append_left}
 use Rattle.cfi_word.specs.declared.lists.Image.{Image}
 use Rattle.cfi_model.specs.declared.history.Entry.{Entry}
 use Rattle.cfi_model.specs.Words.{no_entry}
-use Rattle.cfi_world.specs.inner.Entries.{AreKept, entry_by, entries_by, last_policy_of, update_by}
+use Rattle.cfi_world.specs.inner.Entries.{HaveImages, entry_by, entries_by, last_policy_of, update_by}
 
 -- an entry by its parts
 abbrev entry_with : (policy : ℕ) → Image → Entry
@@ -39,12 +39,12 @@ each_push policies policy most each below number within = elim (cases_lt number 
       omega (arith, e, below))
 ]
 
-last_below : (images : List Image) (policies : List ℕ) → AreKept images policies
+last_below : (images : List Image) (policies : List ℕ) → HaveImages images policies
     → last_policy_of policies < length images
 last_below images policies kept = omega (arith, kept.last)
 
-pub kept_refresh : (images : List Image) (policies : List ℕ) → AreKept images policies
-    → AreKept images (policies ++ last_policy_of policies ∷ [])
+pub kept_refresh : (images : List Image) (policies : List ℕ) → HaveImages images policies
+    → HaveImages images (policies ++ last_policy_of policies ∷ [])
 kept_refresh images policies kept =
     let last = last_is policies (last_policy_of policies) in
     record {
@@ -53,8 +53,8 @@ kept_refresh images policies kept =
       each = each_push policies (last_policy_of policies) (length images) kept.each (last_below images policies kept);
     }
 
-pub kept_load : (images : List Image) (policies : List ℕ) (image : Image) → AreKept images policies
-    → AreKept (images ++ image ∷ []) (policies ++ ((last_policy_of policies + 1) ∷ []))
+pub kept_load : (images : List Image) (policies : List ℕ) (image : Image) → HaveImages images policies
+    → HaveImages (images ++ image ∷ []) (policies ++ ((last_policy_of policies + 1) ∷ []))
 kept_load images policies image kept =
     let last = last_is policies (last_policy_of policies + 1) in
     let long = one_longer images image in
@@ -86,7 +86,7 @@ pub entries_refresh : (images : List Image) (policies : List ℕ)
     ≡ entries_by images policies ++ update_by images policies None ∷ []
 entries_refresh images policies = map-append (entry_by images) policies (last_policy_of policies ∷ [])
 
-pub entries_load : (images : List Image) (policies : List ℕ) (image : Image) → AreKept images policies
+pub entries_load : (images : List Image) (policies : List ℕ) (image : Image) → HaveImages images policies
     → entries_by (images ++ image ∷ []) (policies ++ ((last_policy_of policies + 1) ∷ []))
     ≡ entries_by images policies ++ update_by images policies (Some image) ∷ []
 entries_load images policies image kept =

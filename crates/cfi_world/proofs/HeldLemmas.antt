@@ -8,7 +8,7 @@ use Rattle.cfi_model.specs.Words.{Tables}
 use Rattle.cfi_world.specs.Updates.{next_store}
 use Rattle.cfi_world.specs.declared.tables.Tables.TheInside.{Inside}
 use Rattle.cfi_world.specs.inner.Entries.{asked_by, entries_by, update_by}
-use Rattle.cfi_world.specs.inner.Held.{IsHeld, tables_by}
+use Rattle.cfi_world.specs.inner.Held.{AreHeldTables, tables_by}
 use Rattle.cfi_world.proofs.StoreLemmas.{next_most, pushed_are, stored_are}
 
 -- a store was made
@@ -19,7 +19,7 @@ stored_held t is none more s e =
     (subst (λ n. n ≤ stores_of t.code_words) (sym e) (next_most t is (t.stored + 1) (omega (arith, more))))
     (λ below. is.under_way more)
 
-module _ (a : Inside) (held : IsHeld a) (image : Option Image) (asks : a.asked ≡ Some image) where
+module _ (a : Inside) (held : AreHeldTables a) (image : Option Image) (asks : a.asked ≡ Some image) where
   abbrev entry : Entry
   entry = update_by a.images.items a.policies.items image
 

@@ -7,7 +7,7 @@ use Rattle.cfi_model.specs.History.{History}
 use Rattle.cfi_model.specs.Raw.{Raw}
 use Rattle.cfi_model.specs.Running.{IsRunning, IsSpent, IsGuest}
 use Rattle.cfi_model.specs.Service.{Reply}
-use Rattle.cfi_model.specs.Shows.{Shows, End, IsAnswered}
+use Rattle.cfi_model.specs.Shows.{End, IsAnswered}
 use Rattle.cfi_model.specs.State.{State}
 use Rattle.cfi_world.specs.Seats.{rested}
 use Rattle.rv_guest.specs.Guest.{spent, is_spent}
@@ -119,17 +119,6 @@ going_runs h code retries s r (inl runs) going = runs
 going_runs h code retries s r (inr over) going =
     let stop : r.base.stop ≡ Some Fuel = ap (λ x. x.base.stop) over.2.is in
     absurd (cc)
-
--- what a running guest shows
-pub shown_log : (h : History) (code : List ℕ) (retries : ℕ) (s : State) (r : Raw) → Shows h code retries s r
-    → r.base.log ≡ s.log
-shown_log h code retries s r (inl between) = ap (λ b. b.log) between.base
-shown_log h code retries s r (inr inside) = ap (λ b. b.log) inside.base
-
-pub shown_stop : (h : History) (code : List ℕ) (retries : ℕ) (s : State) (r : Raw) → Shows h code retries s r
-    → r.base.stop ≡ s.stop
-shown_stop h code retries s r (inl between) = ap (λ b. b.stop) between.base
-shown_stop h code retries s r (inr inside) = ap (λ b. b.stop) inside.base
 
 -- it has stopped for one reason, or none
 pub fuel_not : (s : State) → s.stop ≡ Some Fuel → s.stop ≡ None → ⊥

@@ -23,18 +23,19 @@ use Rattle.cfi_model.specs.Shows.{end_of, reply_in}
 use Rattle.cfi_model.specs.State.{State}
 use Rattle.cfi_model.specs.Tables.{IsTables}
 use Rattle.cfi_model.specs.Words.{Tables, next_epoch, epoch_in_force, policy_in_force, word_at}
-use Rattle.cfi_model.proofs.AfterLemmas.{effect_logs, effect_unspent, begin_keeps, begin_counts}
+use Rattle.cfi_model.proofs.AfterLemmas.{effect_logs, effect_unspent, begin_counts}
+use Rattle.cfi_model.proofs.BeginLemmas.{begin_keeps_bary}
 use Rattle.cfi_model.proofs.GrowLemmas.{no_step}
 use Rattle.cfi_model.proofs.AdvanceLemmas.{Running, advance}
 use Rattle.cfi_model.proofs.EndLemmas.{effect_units}
 use Rattle.cfi_model.proofs.RunningLemmas.{rests_run, goes_on, running_is, running_shows, running_steps}
-use Rattle.cfi_model.proofs.ShownLemmas.{shows_running, shows_units}
+use Rattle.cfi_model.proofs.ShownLemmas.{shows_running, shows_units, shown_log, shown_stop}
 use Rattle.cfi_model.proofs.TableLemmas.{force_policy}
 use Rattle.cfi_model.proofs.InForceLemmas.{history_is, force_within, later_rises, epoch_within, bary_is, bary_epoch, tary_is, tary_epoch, tary_policy, index_within, code_is}
 use Rattle.cfi_world.specs.Laws.{IsBrought, IsStepped}
 use Rattle.cfi_world.specs.Seats.{Seat, rested}
 use Rattle.cfi_world.specs.Worlds.{IsServing, IsQuietSince, IsKeptSince, QuietFits, FoundFits, FitsPoint, IsSeat, IsRunningSeat}
-use Rattle.cfi_world.proofs.RestLemmas.{fuel_not, fuel_rests, going_runs, guest_rests, same_bary, same_tary, same_log, shown_log, shown_stop, came}
+use Rattle.cfi_world.proofs.RestLemmas.{fuel_not, fuel_rests, going_runs, guest_rests, same_bary, same_tary, same_log, came}
 use Rattle.cfi_world.proofs.VersionLemmas.{one_turn}
 
 module _ (t : Tables) (is : IsTables t) where
@@ -306,7 +307,7 @@ module _ (t : Tables) (is : IsTables t) where
         seat_moved None fuel guest s both going (Word word) fits (no_reply word) new
         (sym (ap (λ x. take_word x r word) idle)) (omega (arith, steps, few)) s.quiet
         (quiet_rests fuel guest r new s.quiet both.running.quiet going
-        (λ q since found e. since.kept found (begin_keeps r (insn_of word) found e)))
+        (λ q since found e. since.kept found (begin_keeps_bary r (insn_of word) found e)))
         s.point (point_rests r (rested fuel new) s.point both.seat.point other) (found_rests s.point refl other)
 
     -- a load of a table's word, with which the guest goes on

@@ -17,9 +17,6 @@ use Rattle.cfi_world.specs.Worlds.{IsQuietSince, IsWorld, pending}
 use Rattle.cfi_world.proofs.LaterLemmas.{IsAdmittedAt, seat_later}
 use Rattle.cfi_world.proofs.SeatLemmas.{AreSeated}
 
-same_some : {X : Type 0} (x y : X) → Some x ≡ Some y → x ≡ y
-same_some x y e = cc
-
 -- the element at another place
 set_other : {X : Type 0} (xs : List X) (k other : ℕ) (v x : X) → other ≢ k → slice_get (slice_set xs k v) other ≡ Some x
     → slice_get xs other ≡ Some x

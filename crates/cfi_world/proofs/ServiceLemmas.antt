@@ -1,7 +1,9 @@
 -- The seat after an event within a service, and after an answer.
 use Rattle.std.proofs.Common.{◌≡◌, ◌≢◌, ℕ, ◌<◌, ◌≤◌, ◌==◌, ◌&&◌, nat_lt, Bool, true, false, cond, List, Option, Some, None, refl, sym, ◌∙◌, ap, subst, arith, rules, inl, inr}
 use Rattle.std.specs.List.{All}
+use Rattle.std.proofs.lemmas.Bool.{eq-eqb}
 use Rattle.std.proofs.lemmas.List.Elements.{All-nil}
+use Rattle.std.proofs.lemmas.Option.{none-some}
 use Rattle.cfi_unit.specs.declared.log.Stop.{Stop}
 use Rattle.cfi_unit.specs.declared.unit.Unit.{Unit as CodeUnit}
 use Rattle.cfi_unit.specs.declared.unit.Unit.TheVariants as units
@@ -46,12 +48,10 @@ keeps_none code_words number (units.Jump link off) s bary tary may keeps = absur
 keeps_none code_words number (units.Check link rs1 imm slot) s bary tary may keeps = absurd may
 keeps_none code_words number units.Service s bary tary may keeps = keeps.0
 
-both_wait : (wait : Option Wait) (number : ℕ) → wait ≡ None → wait ≡ Some (waits.Service number) → ⊥
-both_wait wait number none some = absurd (cc)
-
 shown_keeps : (h : History) (code : List ℕ) (retries : ℕ) (s : State) (r : Raw) (number : ℕ)
     → Shows h code retries s r → r.waits ≡ Some (waits.Service number) → r.bary ≡ None
-shown_keeps h code retries s r number (inl between) is = absurd (both_wait r.waits number between.idle is)
+shown_keeps h code retries s r number (inl between) is =
+    absurd (none-some (waits.Service number) (sym between.idle ∙ is))
 shown_keeps h code retries s r number (inr inside) is =
     keeps_none _ number inside.unit s r.bary r.tary (subst (MayWait _ inside.unit s) is inside.waits) inside.keeps
 
@@ -62,9 +62,6 @@ going_by (Some stop) wait w stopped is =
     let none : wait ≡ None = stopped (λ e. absurd (cc)) in
     absurd (cc)
 
-none_some : (o : Option ℕ) (word : ℕ) → o ≡ None → o ≡ Some word → ⊥
-none_some o word none some = absurd (cc)
-
 -- tests and what they tell
 last_false : (a b : Bool) → a ≡ true → a && b ≡ false → b ≡ false
 last_false true b one none = none
@@ -74,9 +71,6 @@ needs_both : (a b : Bool) → a && b ≡ true → (a ≡ true) × (b ≡ true)
 needs_both true true e = (refl, refl)
 needs_both true false e = absurd (cc)
 needs_both false b e = absurd (cc)
-
-same_number : (a b : ℕ) → a ≡ b → (a == b) ≡ true
-same_number a b e = search (rules, arith)
 
 never_below : (a b : ℕ) → nat_lt a b ≡ false → a < b → ⊥
 never_below a b e less =
@@ -137,7 +131,7 @@ module _ (t : Tables) (is : IsTables t) (fuel guest : ℕ) (s : Seat) (both : Ar
     published = fits.published;
     newest = fits.newest;
     next = fits.next;
-    kept = λ word e. absurd (none_some new.bary word none e);
+    kept = λ word e. absurd (none-some word (sym none ∙ e));
   }
 
   -- the guest has published an epoch that it has found
@@ -151,14 +145,14 @@ module _ (t : Tables) (is : IsTables t) (fuel guest : ℕ) (s : Seat) (both : Ar
     next = λ asked tested.
         let before = fits.next asked tested in
         omega (arith, before, most);
-    kept = λ word e. absurd (none_some new.bary word none e);
+    kept = λ word e. absurd (none-some word (sym none ∙ e));
   }
 
   -- an open that needs no answer finds too many logged
   finds_many : (number : ℕ) → needs_answer number r ≡ false → number ≡ OPEN → FitsOpen too_many r.base
   finds_many number no_need opens_it =
       let many : nat_lt (opens r.base.log) MAX_OPENS ≡ false = last_false (number == OPEN) _
-      (same_number number OPEN opens_it) no_need in
+      (eq-eqb number OPEN opens_it) no_need in
       record {
         answer = record {
           inside = All-nil LiesInData;

@@ -19,7 +19,7 @@ use Rattle.cfi_world.specs.Turns.{turn_of}
 use Rattle.cfi_world.specs.Worlds.{IsWorld}
 use Rattle.cfi_world.specs.declared.event.Event.{Event}
 use Rattle.cfi_world.proofs.RefineLemmas.{refines}
-use Rattle.cfi_world.proofs.RestLemmas.{shown_stop}
+use Rattle.cfi_model.proofs.ShownLemmas.{shown_stop}
 use Rattle.cfi_world.proofs.SeatLemmas.{fetch_fits}
 use Rattle.cfi_world.proofs.WorldLemmas.{turn_kept}
 

@@ -1,6 +1,5 @@
 -- The tables after each access of the updater.
-use Rattle.std.proofs.Common.{◌≡◌, ◌≢◌, ℕ, ◌+◌, ◌<◌, ◌≤◌, List, [], ◌∷◌, ◌++◌, length, drop, length-drop, length-append, Option, Some, None, refl, sym, ◌∙◌, ap, subst, arith, ◌⊎◌, inl, inr}
-use Rattle.std.proofs.lemmas.Bool.{cases_lt}
+use Rattle.std.proofs.Common.{◌≡◌, ◌≢◌, ℕ, ◌+◌, ◌<◌, ◌≤◌, List, [], ◌∷◌, ◌++◌, length, drop, length-drop, length-append, Option, Some, None, refl, sym, ◌∙◌, ap, subst, arith, inl, inr}
 use Rattle.std.proofs.lemmas.List.{get_or_append_left, get_or_push}
 use Rattle.cfi_word.specs.declared.lists.Image.{Image}
 use Rattle.cfi_word.specs.declared.limits.TheConstants.{GUESTS, MAX_EPOCH, MAX_POLICY}
@@ -10,7 +9,7 @@ use Rattle.cfi_model.specs.Closed.{IsClosed}
 use Rattle.cfi_model.specs.InForce.{GoesOn}
 use Rattle.cfi_model.specs.Tables.{IsTables, IsAsked, MayBeAsked, IsUpdate}
 use Rattle.cfi_model.specs.Words.{Tables, entry_at, no_entry, newest, before, epoch_in_force}
-use Rattle.cfi_model.proofs.TableLemmas.{force_epoch}
+use Rattle.cfi_model.proofs.TableLemmas.{either_entry, force_epoch}
 use Rattle.cfi_world.specs.Premises.{MayBegin}
 use Rattle.cfi_world.specs.Updates.{asked_entry, begun, dropped, next_store, at_store, stored}
 use Rattle.cfi_world.proofs.StoringLemmas.{AreIdle, AreStoring, agreeing_most, force_before, force_grows, force_newest}
@@ -168,13 +167,6 @@ module _ (t : Tables) (is : IsTables t) where
     pub one_more : length begins.entries ≡ length t.entries + 1
     one_more = length-append t.entries (entry ∷ []) ∙ omega arith
 
-    either_entry : (number : ℕ) → number < length begins.entries
-        → (number < length t.entries) ⊎ (number ≡ length t.entries)
-    either_entry number within = elim (cases_lt number (length t.entries)) [
-      | inl old ↦ inl old
-      | inr past ↦ inr (omega (arith, past, within, one_more))
-    ]
-
     new_at : (number : ℕ) → number ≡ length t.entries → entry_at begins number ≡ entry
     new_at number last = ap (entry_at begins) last ∙ new_entry
 
@@ -194,14 +186,14 @@ module _ (t : Tables) (is : IsTables t) where
     ]
 
     policies : (number : ℕ) → number < length begins.entries → (entry_at begins number).policy ≤ MAX_POLICY
-    policies number within = elim (either_entry number within) [
+    policies number within = elim (either_entry t.entries entry number within) [
       | inl old ↦ subst (λ e. e.policy ≤ MAX_POLICY) (sym (old_entry number old)) (is.policies_fit number old)
       | inr last ↦ subst (λ e. e.policy ≤ MAX_POLICY) (sym (new_at number last)) new_policy
     ]
 
     closed_all : (number : ℕ) → number < length begins.entries
         → IsClosed t.code_words (entry_at begins number).image
-    closed_all number within = elim (either_entry number within) [
+    closed_all number within = elim (either_entry t.entries entry number within) [
       | inl old ↦
           subst (λ e. IsClosed t.code_words e.image) (sym (old_entry number old)) (is.closed number old)
       | inr last ↦ subst (λ e. IsClosed t.code_words e.image) (sym (new_at number last)) new_closed
@@ -209,7 +201,7 @@ module _ (t : Tables) (is : IsTables t) where
 
     follow_all : (number : ℕ) → number + 1 < length begins.entries
         → IsUpdate t.code_words (entry_at begins number) (entry_at begins (number + 1))
-    follow_all number within = elim (either_entry (number + 1) within) [
+    follow_all number within = elim (either_entry t.entries entry (number + 1) within) [
       | inl old ↦
           subst (λ e. IsUpdate t.code_words e (entry_at begins (number + 1)))
           (sym (old_entry number (omega (arith, old))))

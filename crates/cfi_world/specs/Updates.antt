@@ -52,15 +52,15 @@ abbrev pub at_store : (from : ℕ) → Tables → Tables
 at_store from t = record t { stored = next_store t from }
 
 -- a QUIET word was tested: the next one is, or after the last one the stores begin
-abbrev pub passed : Entry → Tables → Tables
-passed entry t =
+abbrev pub quiet_passed : Entry → Tables → Tables
+quiet_passed entry t =
     if nat_lt (t.tested + 1) GUESTS
     then record t { tested = t.tested + 1 }
     else at_store 0 (record t { entries = t.entries ++ entry ∷ []; stored = 0; asked = None; tested = 0 })
 
 abbrev pub passed_by : Option Entry → Tables → Tables
 passed_by None t = t
-passed_by (Some entry) t = passed entry t
+passed_by (Some entry) t = quiet_passed entry t
 
 -- a store was made
 abbrev pub stored : Tables → Tables

@@ -37,13 +37,13 @@ pub struct Tables {
 
 // Clauses see the entries, and for how many updates there is room.
 impl Model for Tables {
-    ghost use Rattle.cfi_world.specs.inner.Held.{Held, held_by, IsHeld};
+    ghost use Rattle.cfi_world.specs.inner.Held.{Held, held_by, AreHeldTables};
 
     ghost Value = { Held };
 
     ghost view = { held_by };
 
-    ghost invariant = { IsHeld };
+    ghost invariant = { AreHeldTables };
 }
 
 impl Tables {

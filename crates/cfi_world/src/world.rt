@@ -33,13 +33,13 @@ pub struct World {
 
 impl Model for World {
     ghost use Rattle.cfi_model.specs.World.{World as Whole};
-    ghost use Rattle.cfi_world.specs.inner.Kept.{whole_of, IsKept};
+    ghost use Rattle.cfi_world.specs.inner.Kept.{kept_world, IsKeptWorld};
 
     ghost Value = { Whole };
 
-    ghost view = { whole_of };
+    ghost view = { kept_world };
 
-    ghost invariant = { IsKept };
+    ghost invariant = { IsKeptWorld };
 }
 
 // The first guests are registered at an epoch.

@@ -56,13 +56,13 @@ abbrev pub grown : Entry → KeeperView → KeeperView
 grown entry u = record u { entries = u.entries ++ entry ∷ []; stored = 0; asked = None; tested = 0 }
 
 -- the test goes on, or has passed all words
-abbrev pub passed : Entry → KeeperView → KeeperView
-passed entry u =
+abbrev pub test_passed : Entry → KeeperView → KeeperView
+test_passed entry u =
     if nat_lt (u.tested + 1) GUESTS then record u { asked = Some entry; tested = u.tested + 1 } else grown entry u
 
 -- or it ends
-abbrev pub refusal_of : Key → (mark : ℕ) → KeeperView → (word : ℕ) → Refusal
-refusal_of k mark u word =
+abbrev pub test_refusal : Key → (mark : ℕ) → KeeperView → (word : ℕ) → Refusal
+test_refusal k mark u word =
     record { guest = u.tested; quiet = word - 1; epoch = next_epoch (tables_of k u); mark = mark }
 
 abbrev pub refused : Refusal → KeeperView → KeeperView
@@ -70,8 +70,8 @@ refused refusal u = record u { asked = None; tested = 0; refusals = u.refusals +
 
 abbrev pub tested_by : Key → Entry → (word : ℕ) → KeeperView → KeeperView
 tested_by k entry word u =
-    if is_passed k u word then passed entry (loaded word u)
-    else refused (refusal_of k entry.mark u word) (loaded word u)
+    if is_passed k u word then test_passed entry (loaded word u)
+    else refused (test_refusal k entry.mark u word) (loaded word u)
 
 -- a word that is not 0 is that of a pass that is out, and tells an epoch that is or was in force
 pub record Tests (k : Key) (entry : Entry) (s : Step (Unit {0})) (old : Seated) (found : ℕ) (new : Seated)

@@ -27,7 +27,7 @@ abbrev pub keeping_at : Seated → Keeping
 keeping_at me = keeping_of (keeper_of me.0)
 
 -- an update to the entry may be asked for: its epoch is one
-pub record IsReady (k : Key) (keeping : Keeping) (entry : Entry) : Type 0 where
+pub record CanAsk (k : Key) (keeping : Keeping) (entry : Entry) : Type 0 where
   pub tables : IsTables (idle_tables k keeping)
   pub follows : IsUpdate k.code_words (last_of keeping.entries) entry
   pub fits : next_epoch (idle_tables k keeping) ≤ MAX_EPOCH
@@ -53,7 +53,7 @@ pub record IsTesting (table : TableId) (k : Key) (keeping : Keeping) (entry : En
   pub passed : HavePassed k keeping (keeping_at me).quiets tested
 
 -- the stores of ranks below this were made, but for words that are the same in the newest entry and in the one before
-pub record Reaches (k : Key) (u : KeeperView) (rank : ℕ) : Type 0 where
+pub record HasStoredBelow (k : Key) (u : KeeperView) (rank : ℕ) : Type 0 where
   pub same : u ≡ view_at (keeping_of u) u.stored
   pub least : u.stored ≤ rank
   pub skipped : (other : Place) → IsPlace k.code_words other → HasStore other

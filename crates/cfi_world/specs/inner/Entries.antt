@@ -30,7 +30,7 @@ asked_by images policies None = None
 asked_by images policies (Some image) = Some (update_by images policies image)
 
 -- there is an entry, and each policy up to the last one has its image
-pub record AreKept (images : List Image) (policies : List ℕ) : Type 0 where
+pub record HaveImages (images : List Image) (policies : List ℕ) : Type 0 where
   pub some : 1 ≤ length policies
   pub last : length images ≡ last_policy_of policies + 1
   pub each : (number : ℕ) → number < length policies → slice_index policies number < length images

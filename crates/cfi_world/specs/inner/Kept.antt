@@ -3,8 +3,8 @@ use Rattle.cfi_model.specs.World.{World}
 use Rattle.cfi_world.specs.Worlds.{IsWorld}
 use Rattle.cfi_world.specs.declared.world.World.TheInside.{Inside}
 
-abbrev pub whole_of : Inside → World
-whole_of a = record {
+abbrev pub kept_world : Inside → World
+kept_world a = record {
   tables = a.tables.tables;
   quiets = a.quiets;
   guests = a.guests.items;
@@ -14,5 +14,5 @@ whole_of a = record {
   updates = a.updates;
 }
 
-abbrev pub IsKept : Inside → Type 0
-IsKept a = IsWorld (whole_of a)
+abbrev pub IsKeptWorld : Inside → Type 0
+IsKeptWorld a = IsWorld (kept_world a)

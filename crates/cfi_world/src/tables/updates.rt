@@ -8,7 +8,7 @@ ghost use Rattle.cfi_word.specs.declared.limits.TheConstants.{MAX_EPOCH, MAX_POL
 ghost use Rattle.cfi_model.specs.Words.{next_epoch};
 ghost use Rattle.cfi_world.specs.Premises.{MayBegin};
 ghost use Rattle.cfi_world.specs.Updates.{begun, dropped, next_store, passed_by, stored};
-ghost use Rattle.cfi_world.specs.inner.Entries.{AreKept, FitsNext, entries_by, update_by};
+ghost use Rattle.cfi_world.specs.inner.Entries.{HaveImages, FitsNext, entries_by, update_by};
 
 use crate::stores::parting;
 use crate::tables::Tables;
@@ -18,11 +18,11 @@ use cfi_word::limits::GUESTS;
 // Adds the entry of an update; a refresh has no image.
 #[tactic(auto, using(crate::proofs::EntryLemmas::kept_refresh, crate::proofs::EntryLemmas::kept_load, crate::proofs::EntryLemmas::entries_refresh, crate::proofs::EntryLemmas::entries_load,))]
 fn add(images: &mut Vec<Image>, policies: &mut Vec<u32>, image: Option<Image>)
-    requires kept { AreKept images.old.items policies.old.items }
+    requires kept { HaveImages images.old.items policies.old.items }
     requires next { FitsNext policies.old.items image }
     requires image_room { MAX_POLICY + 1 ≤ vec_capacity images.old }
     requires entry_room { vec_len policies.old < vec_capacity policies.old }
-    ensures kept { AreKept images.new.items policies.new.items }
+    ensures kept { HaveImages images.new.items policies.new.items }
     ensures images { vec_capacity images.new ≡ vec_capacity images.old }
     ensures policies { vec_capacity policies.new ≡ vec_capacity policies.old }
     ensures entries { entries_by images.new.items policies.new.items ≡

@@ -5,7 +5,7 @@ use Rattle.cfi_model.specs.Words.{epoch_in_force}
 use Rattle.cfi_world.specs.Premises.{HasRoom}
 use Rattle.cfi_world.specs.Updates.{is_idle}
 use Rattle.cfi_world.specs.Worlds.{IsWorld}
-use Rattle.cfi_world.specs.inner.Kept.{whole_of}
+use Rattle.cfi_world.specs.inner.Kept.{kept_world}
 use Rattle.cfi_world.proofs.UpdateLemmas.{begun_is}
 use Rattle.cfi_world.proofs.StoringLemmas.{idle_is}
 use Rattle.cfi_world.proofs.WorldLemmas.{begun_kept}
@@ -16,7 +16,7 @@ pub begin-requires-clause-fits : goal.begin-requires-clause-fits
 begin-requires-clause-fits c =
     let idle : is_idle (phase_of c.self.inside.tables.tables) ≡ true =
     sym c.is_idle.ensures ∙ c.if-not-is_idle.false in
-    let has : HasRoom (whole_of c.self.inside) c.args.image =
+    let has : HasRoom (kept_world c.self.inside) c.args.image =
     subst (λ w. HasRoom w c.args.image) (sym c.self.view_is) c.requires in
     let left : epoch_in_force c.self.inside.tables.tables ≢ MAX_EPOCH =
     λ last. c.if-epoch-eq-MAX_EPOCH.false (c.epoch.ensures ∙ last) in
@@ -26,7 +26,7 @@ begin-requires-clause-fits c =
 -- updates are fewer than there is room for
 pub overflow_add-self : goal.overflow_add-self
 overflow_add-self c =
-    let has : HasRoom (whole_of c.self.inside) c.args.image =
+    let has : HasRoom (kept_world c.self.inside) c.args.image =
     subst (λ w. HasRoom w c.args.image) (sym c.self.view_is) c.requires in
     let few = has.room in
     let fits = c.self.invariant.room_fits in
@@ -36,13 +36,13 @@ pub invariant_of-self : goal.invariant_of-self
 invariant_of-self c =
     let idle : is_idle (phase_of c.self.inside.tables.tables) ≡ true =
     sym c.is_idle.ensures ∙ c.if-not-is_idle.false in
-    let has : HasRoom (whole_of c.self.inside) c.args.image =
+    let has : HasRoom (kept_world c.self.inside) c.args.image =
     subst (λ w. HasRoom w c.args.image) (sym c.self.view_is) c.requires in
     let left : epoch_in_force c.self.inside.tables.tables ≢ MAX_EPOCH =
     λ last. c.if-epoch-eq-MAX_EPOCH.false (c.epoch.ensures ∙ last) in
-    subst (λ h. IsWorld (record (whole_of c.self.inside) {
+    subst (λ h. IsWorld (record (kept_world c.self.inside) {
       tables = h.tables;
       room = h.room;
       updates = c.self.inside.updates + 1;
     })) (sym c.begin.ensures)
-    (begun_kept (whole_of c.self.inside) c.self.invariant c.args.image has idle left)
+    (begun_kept (kept_world c.self.inside) c.self.invariant c.args.image has idle left)

@@ -2,14 +2,14 @@ use Rattle.std.proofs.Common.{◌≡◌, ◌<◌, ◌||◌, false, is_some, leng
 use Rattle.cfi_model.specs.World.{point_of}
 use Rattle.cfi_world.specs.Seats.{is_asking}
 use Rattle.cfi_world.specs.Turns.{guest_turn}
-use Rattle.cfi_world.specs.inner.Kept.{whole_of}
+use Rattle.cfi_world.specs.inner.Kept.{kept_world}
 use Rattle.cfi_world.specs.inner.Parts.{seat_by_parts}
 use Rattle.cfi_world.proofs.CodeLemmas.{item_is, same_item, steps_fit, logs_fit, going, gone_kept, gone_is}
 use Rattle.cfi_world.proofs.world.World.go.Goals as goal
 
 pub act-requires-clause-steps : goal.act-requires-clause-steps
 act-requires-clause-steps c =
-    let w = whole_of c.self.inside in
+    let w = kept_world c.self.inside in
     let within : c.args.guest < length w.guests = search (rules, arith) in
     let r = c.index_mut.result.now in
     let here = item_is w.guests c.args.guest r within c.index_mut.ensures.value in
@@ -21,7 +21,7 @@ act-requires-clause-steps c =
 
 pub act-requires-clause-logged : goal.act-requires-clause-logged
 act-requires-clause-logged c =
-    let w = whole_of c.self.inside in
+    let w = kept_world c.self.inside in
     let within : c.args.guest < length w.guests = search (rules, arith) in
     let r = c.index_mut.result.now in
     let here = item_is w.guests c.args.guest r within c.index_mut.ensures.value in
@@ -29,7 +29,7 @@ act-requires-clause-logged c =
 
 pub invariant_of-self : goal.invariant_of-self
 invariant_of-self c =
-    let w = whole_of c.self.inside in
+    let w = kept_world c.self.inside in
     let within : c.args.guest < length w.guests = search (rules, arith) in
     let r = c.index_mut.result.now in
     let here = item_is w.guests c.args.guest r within c.index_mut.ensures.value in
@@ -42,7 +42,7 @@ invariant_of-self c =
 
 pub returns : goal.returns
 returns c =
-    let w = whole_of c.self.inside in
+    let w = kept_world c.self.inside in
     let within : c.args.guest < length w.guests = search (rules, arith) in
     let r = c.index_mut.result.now in
     let here = item_is w.guests c.args.guest r within c.index_mut.ensures.value in

@@ -1,13 +1,13 @@
 use Rattle.std.proofs.Common.{◌≡◌, true, is_some, slice_get, sym, ap, ◌∙◌, rules, arith}
 use Rattle.cfi_world.specs.Turns.{release_turn}
-use Rattle.cfi_world.specs.inner.Kept.{whole_of}
+use Rattle.cfi_world.specs.inner.Kept.{kept_world}
 use Rattle.cfi_world.proofs.CodeLemmas.{item_is, some_by, released_kept, released_is}
 use Rattle.cfi_world.proofs.world.World.release.Goals as goal
 
 -- a guest that has stopped is released
 pub invariant_of-self : goal.invariant_of-self
 invariant_of-self c =
-    let w = whole_of c.self.inside in
+    let w = kept_world c.self.inside in
     let r = c.index.result.now in
     let here = item_is w.guests c.args.guest r (search (rules, arith)) c.index.ensures in
     let stopped : is_some r.base.stop ≡ true =
@@ -17,7 +17,7 @@ invariant_of-self c =
 
 pub returns : goal.returns
 returns c =
-    let w = whole_of c.self.inside in
+    let w = kept_world c.self.inside in
     let r = c.index.result.now in
     let here = item_is w.guests c.args.guest r (search (rules, arith)) c.index.ensures in
     let stopped : is_some r.base.stop ≡ true =
