@@ -22,7 +22,7 @@ use Rattle.cfi_model.specs.InForce.{in_force}
 use Rattle.cfi_model.specs.Data.{LiesInData}
 use Rattle.cfi_sim.specs.Stands.{Holds}
 use Rattle.cfi_series.proofs.GrowthLemmas.{code_kept}
-use Rattle.cfi_sim.specs.Agrees.{HasEntry, IsEntryFor, TablesAgree, WorldAgrees}
+use Rattle.cfi_sim.specs.Agrees.{HasComingEntry, IsEntryFor, TablesAgree, WorldAgrees}
 use Rattle.cfi_policy.specs.Image.{IsImage}
 use Rattle.cfi_sim.proofs.ComingLemmas.{idle_comes, all_loaded, among}
 use Rattle.cfi_series.specs.Fills.{fill_of, fills_of}
@@ -101,10 +101,10 @@ module _ (plan : Plan) (modules : List Module) (sound : All IsSoundModule module
 
     pub no_aim : AreIdle t → old.aim ≡ None
     no_aim idle =
-        by_aim old.aim (subst (HasEntry plan modules old.state (entry_at t (in_force t)) old.aim)
+        by_aim old.aim (subst (HasComingEntry plan modules old.state (entry_at t (in_force t)) old.aim)
         (idle_comes t idle.asked (force_newest t idle.stored)) holds.agrees.tables.aims)
       where
-        by_aim : (aim : Option Aim) → HasEntry plan modules old.state (entry_at t (in_force t)) aim None
+        by_aim : (aim : Option Aim) → HasComingEntry plan modules old.state (entry_at t (in_force t)) aim None
             → aim ≡ None
         by_aim None has = refl
         by_aim (Some aim) has = absurd has

@@ -7,16 +7,16 @@ use Rattle.cfi_aux.specs.declared.placed.Placed.{Placed}
 use Rattle.cfi_model.specs.declared.phase.Phase.{Phase}
 use Rattle.cfi_model.specs.Phases.{phase_of}
 use Rattle.cfi_model.specs.Raw.{Raw}
+use Rattle.cfi_part.specs.Part.{part_of}
 use Rattle.cfi_plan.specs.declared.journal.Entry.{Entry}
 use Rattle.cfi_plan.specs.declared.journal.ModuleLine.{ModuleLine}
 use Rattle.cfi_plan.specs.declared.plan.Plan.{Plan}
 use Rattle.cfi_plan.specs.declared.plan.PlanModule.{PlanModule}
 use Rattle.cfi_report.specs.declared.report.GuestPart.{GuestPart}
 use Rattle.cfi_series.proofs.OrderLemmas.{left, last}
-use Rattle.cfi_sim.specs.Told.{IsTold}
-use Rattle.cfi_sim.specs.Valid.{part_of}
+use Rattle.cfi_sim.specs.Told.{IsToldSim}
 use Rattle.cfi_sim.specs.declared.standing.Standing.TheInside.{Inside}
-use Rattle.cfi_sim.specs.inner.Standing.{Whole, whole_of}
+use Rattle.cfi_sim.specs.inner.Standing.{Whole, whole_inside}
 use Rattle.cfi_sim.specs.declared.spot.Spot.{Spot}
 use Rattle.cfi_sim.specs.inner.Loaded.{loaded_of, module_at}
 use Rattle.cfi_sim.specs.inner.Parts.{ArePartsOf, IsPartOf}
@@ -87,18 +87,18 @@ module _ (plan : Plan) (guests : List Raw) (entries : List (List ℕ)) (same : e
 
 -- ---- the whole
 
-pub told_end : (a : Inside) (x : Whole) → whole_of a ≡ x → (phase : Phase) → phase ≡ phase_of a.world.tables
+pub told_end : (a : Inside) (x : Whole) → whole_inside a ≡ x → (phase : Phase) → phase ≡ phase_of a.world.tables
     → (lines : List ModuleLine)
     → lines ≡ map (module_line_of a.plan.now.modules) (loaded_of a.spots.items a.series.placed) → (journal : List Entry)
     → journal ≡ a.journal.items → (parts : List GuestPart)
     → ArePartsOf a.plan.now a.world.guests (length a.plan.now.guests) parts
-    → IsTold x.plan x.stage (record {
+    → IsToldSim x.plan x.stage (record {
       phase = phase;
       report = record { epoch = a.epoch; policy = a.policy; modules = lines; journal = journal; guests = parts };
     })
 told_end a x is phase phase_is lines lines_are journal journal_is parts told =
     subst
-    (λ (w : Whole). IsTold w.plan w.stage (record {
+    (λ (w : Whole). IsToldSim w.plan w.stage (record {
       phase = phase;
       report = record { epoch = a.epoch; policy = a.policy; modules = lines; journal = journal; guests = parts };
     })) is
