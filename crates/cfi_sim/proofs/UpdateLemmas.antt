@@ -182,6 +182,3 @@ module _ (a : Inside) (x : Whole) (is : whole_inside a ≡ x) (under : IsUnderWa
       → NotesBy phase turned_now y → HasMadeWithin (IsUpdateEvent x.plan x.modules) x y
   noted_advance other y notes =
       advanced y (notes_is phase y notes) (not_spent phase turned other turned_now y notes)
-
-  pub fits_now : FitsAim turned_now
-  fits_now = fits_aim now (subst IsUnderWay (sym is) under) mid (a.events + 1)
