@@ -19,7 +19,7 @@ use Rattle.cfi_model.specs.Words.{Tables, entry_at, newest, before, next_epoch}
 use Rattle.cfi_model.specs.World.{World, quiet_of}
 use Rattle.cfi_model.proofs.PhaseLemmas.{IsRow, phase_row}
 use Rattle.cfi_plan.specs.declared.plan.Plan.{Plan}
-use Rattle.cfi_sim.specs.Agrees.{HasEntry, TablesAgree, GuestsAgree, WorldAgrees}
+use Rattle.cfi_sim.specs.Agrees.{HasComingEntry, TablesAgree, GuestsAgree, WorldAgrees}
 use Rattle.cfi_sim.specs.Events.{IsNoted, IsUpdateEvent}
 use Rattle.cfi_sim.specs.Stage as stages
 use Rattle.cfi_sim.proofs.ComingLemmas.{storing_comes, IsNext, next_is}
@@ -187,9 +187,9 @@ module _ (plan : Plan) (modules : List Module) (old : Stage) (agrees : WorldAgre
       → IsMade plan modules aim (after_event (record w { tables = stored t }) old) new → WorldAgrees plan modules new
   made_agrees None none end new made =
       let apart : in_force t ≢ newest t = λ both. omega (arith, end.goes, both) in
-      absurd (subst (λ (a : Option Aim). HasEntry plan modules old.state (entry_at t (in_force t)) a
+      absurd (subst (λ (a : Option Aim). HasComingEntry plan modules old.state (entry_at t (in_force t)) a
       (Some (entry_at t (newest t)))) none
-      (subst (HasEntry plan modules old.state (entry_at t (in_force t)) old.aim) (storing_comes t end.asked apart)
+      (subst (HasComingEntry plan modules old.state (entry_at t (in_force t)) old.aim) (storing_comes t end.asked apart)
       agrees.tables.aims))
   made_agrees (Some (Loading number)) some end new made =
       let clean = made.0 in

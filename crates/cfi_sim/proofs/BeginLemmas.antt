@@ -6,12 +6,10 @@ use Rattle.cfi_sim.specs.declared.limits.TheConstants.{MAX_UPDATES}
 use Rattle.cfi_sim.specs.Events.{IsRefreshEvent}
 use Rattle.cfi_sim.specs.Reach.{Happening, OfRefresh, Happens}
 use Rattle.cfi_sim.specs.Stage.{Stage}
-use Rattle.cfi_sim.specs.inner.Making.{MakesBy, CanBegin, BeginsBy}
+use Rattle.cfi_sim.specs.inner.Making.{MakesBy, BeginsBy}
 use Rattle.cfi_sim.specs.inner.Standing.{Whole, HasDone, IsUnderWay}
-use Rattle.cfi_sim.proofs.BegunLemmas.{refresh_may}
 use Rattle.cfi_sim.proofs.GoLemmas.{all_sound}
 use Rattle.cfi_sim.proofs.HappensLemmas.{HasRoomFor, holds_after}
-use Rattle.cfi_world.proofs.StoringLemmas.{idle_is}
 
 -- ---- what goes on
 
@@ -48,11 +46,6 @@ done_so P x y is event under = record {
 }
 
 -- ---- a refresh
-
-pub refresh_room : (x : Whole) → IsUnderWay x → CanBegin x.stage.world None
-refresh_room x under = λ idle few.
-    (refresh_may x.plan x.modules (all_sound x.modules under.taken) under.going.opening x.stage under.going.holds
-    (idle_is x.stage.world.tables idle) (omega (arith, few))).0
 
 pub refresh_by : (x y : Whole) → IsUnderWay x → (happened : Bool)
     → BeginsBy Refreshing RefreshEpochs None x y happened → MakesBy IsRefreshEvent x y happened

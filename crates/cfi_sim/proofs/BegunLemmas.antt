@@ -1,10 +1,11 @@
 -- The beginning of an update leaves the world in agreement with the journal.
 use Rattle.std.proofs.Math.Seq.{take-length}
+use Rattle.std.proofs.lemmas.Bool.{eqb-false}
 use Rattle.std.proofs.lemmas.List.{take-append-le}
 use Rattle.std.proofs.lemmas.List.Elements.{All-nil, All-cons, All-head, All-tail}
 use Rattle.std.specs.Prelude.{filter}
 use Rattle.std.proofs.lemmas.Option.{slice_get_within, get_or_from_slice_get}
-use Rattle.std.proofs.Common.{◌≡◌, ◌≢◌, ℕ, ◌+◌, ◌≤◌, ◌==◌, ◌++◌, cond, Bool, true, false, List, [], ◌∷◌, length, take, Option, Some, None, refl, sym, ◌∙◌, ap, subst, arith, rules}
+use Rattle.std.proofs.Common.{◌≡◌, ◌≢◌, ℕ, ◌+◌, ◌≤◌, ◌==◌, ◌++◌, cond, Bool, true, false, List, [], ◌∷◌, length, take, Option, Some, None, refl, sym, ◌∙◌, ap, subst, arith}
 use Rattle.std.specs.List.{All}
 use Rattle.cfi_policy.specs.Code.{IsCodeOf}
 use Rattle.cfi_series.proofs.OrderLemmas.{series_more}
@@ -22,7 +23,7 @@ use Rattle.cfi_model.specs.InForce.{in_force}
 use Rattle.cfi_model.specs.Data.{LiesInData}
 use Rattle.cfi_sim.specs.Stands.{Holds}
 use Rattle.cfi_series.proofs.GrowthLemmas.{code_kept}
-use Rattle.cfi_sim.specs.Agrees.{HasEntry, IsEntryFor, TablesAgree, WorldAgrees}
+use Rattle.cfi_sim.specs.Agrees.{HasComingEntry, IsEntryFor, TablesAgree, WorldAgrees}
 use Rattle.cfi_policy.specs.Image.{IsImage}
 use Rattle.cfi_sim.proofs.ComingLemmas.{idle_comes, all_loaded, among}
 use Rattle.cfi_series.specs.Fills.{fill_of, fills_of}
@@ -101,10 +102,10 @@ module _ (plan : Plan) (modules : List Module) (sound : All IsSoundModule module
 
     pub no_aim : AreIdle t → old.aim ≡ None
     no_aim idle =
-        by_aim old.aim (subst (HasEntry plan modules old.state (entry_at t (in_force t)) old.aim)
+        by_aim old.aim (subst (HasComingEntry plan modules old.state (entry_at t (in_force t)) old.aim)
         (idle_comes t idle.asked (force_newest t idle.stored)) holds.agrees.tables.aims)
       where
-        by_aim : (aim : Option Aim) → HasEntry plan modules old.state (entry_at t (in_force t)) aim None
+        by_aim : (aim : Option Aim) → HasComingEntry plan modules old.state (entry_at t (in_force t)) aim None
             → aim ≡ None
         by_aim None has = refl
         by_aim (Some aim) has = absurd has
@@ -122,11 +123,6 @@ module _ (plan : Plan) (modules : List Module) (sound : All IsSoundModule module
       guests = guests_on plan w (begun image t) (w.updates + 1) holds.agrees.guests;
     }
 
-    not_last : (n m : ℕ) → (n == m) ≡ false → n ≢ m
-    not_last n m e same =
-        let test : (n == m) ≡ true = search (rules, arith) in
-        absurd (cc)
-
     begins_by : (aim : Aim) (spent : JournalLine) (image : Option Image) (new : Stage)
         → (AreIdle t → w.updates + 1 ≤ MAX_UPDATES
         → HasRoom w image × IsEntryFor plan modules old.state (entry_at t (in_force t)) aim (asked_entry t image))
@@ -143,7 +139,7 @@ module _ (plan : Plan) (modules : List Module) (sound : All IsSoundModule module
         let room : w.updates + 1 ≤ MAX_UPDATES = subst (λ (s : Stage). s.world.updates ≤ MAX_UPDATES) event few in
         let can = may (idle_is t idle) room in
         subst (WorldAgrees plan modules) (sym event)
-        (begun_agrees aim image can.0 idle (not_last (epoch_in_force t) MAX_EPOCH last) can.1)
+        (begun_agrees aim image can.0 idle (eqb-false (epoch_in_force t) MAX_EPOCH last) can.1)
     begins_by aim spent image new may few false last idle is_last event = absurd event
 
     pub begin_agrees : (aim : Aim) (spent : JournalLine) (image : Option Image) (new : Stage)

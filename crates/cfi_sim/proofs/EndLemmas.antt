@@ -4,17 +4,17 @@ use Rattle.std.specs.List.{All}
 use Rattle.cfi_aux.specs.declared.modules.Module.{Module}
 use Rattle.cfi_aux.specs.Sound.{IsSoundModule}
 use Rattle.cfi_model.specs.History.{IsHistory}
-use Rattle.cfi_model.specs.Log.{pick_entries}
 use Rattle.cfi_model.specs.InForce.{in_force, history_of, code_in_force}
 use Rattle.cfi_model.specs.Raw.{Raw}
-use Rattle.cfi_model.specs.Running.{IsSpent, IsGuest}
-use Rattle.cfi_model.specs.Shows.{IsReady}
+use Rattle.cfi_model.specs.Running.{IsRunning, IsGuest}
 use Rattle.cfi_model.specs.State.{State, opened}
 use Rattle.cfi_model.specs.Tables.{IsTables}
 use Rattle.cfi_model.specs.Words.{Tables, entry_at}
 use Rattle.cfi_model.proofs.InForceLemmas.{history_is, force_within}
 use Rattle.cfi_model.proofs.RunningLemmas.{running_shows}
-use Rattle.cfi_model.proofs.ShownLemmas.{shows_units, shown_log, shown_stop}
+use Rattle.cfi_part.specs.Part.{IsEndOf, IsWithin, part_of}
+use Rattle.cfi_part.proofs.EndLemmas.{IsShownAs, shown_as, steps_of}
+use Rattle.cfi_part.proofs.StepsLemmas.{replay_unspent}
 use Rattle.cfi_plan.specs.declared.journal.Entry.{Entry}
 use Rattle.cfi_plan.specs.declared.plan.Plan.{Plan}
 use Rattle.cfi_policy.specs.Code.{IsCodeOf}
@@ -25,14 +25,13 @@ use Rattle.cfi_sim.specs.Reach.{Happening, Happens}
 use Rattle.cfi_sim.specs.Stage.{Stage}
 use Rattle.cfi_sim.specs.Stands.{Holds}
 use Rattle.cfi_sim.specs.Told.{SchedulesAreValid}
-use Rattle.cfi_sim.specs.Valid.{part_of, IsSimulated, IsSimLogged}
+use Rattle.cfi_sim.specs.Valid.{IsSimulated, IsSimLogged}
 use Rattle.cfi_sim.proofs.CausesLemmas.{log_stays}
 use Rattle.cfi_sim.proofs.GuestsLemmas.{runs_after}
 use Rattle.cfi_sim.proofs.TurnLemmas.{AllRun}
 use Rattle.cfi_sim.proofs.HappensLemmas.{HasRoomFor, holds_after}
 use Rattle.cfi_sim.proofs.LinesLemmas.{lines_keep}
 use Rattle.cfi_sim.proofs.OpenedLemmas.{start_runs}
-use Rattle.cfi_sim.proofs.PartLemmas.{shown_output, replay_unspent, stop_same, HasShown, running_steps, spent_steps}
 use Rattle.cfi_sim.proofs.RunsLemmas.{HasRun}
 use Rattle.cfi_sim.proofs.StartLemmas.{start_holds}
 use Rattle.cfi_sim.proofs.ComingLemmas.{all_loaded}
@@ -42,8 +41,8 @@ use Rattle.cfi_unit.specs.declared.log.Stop.TheVariants as stops
 use Rattle.cfi_valid.specs.Course.{Course}
 use Rattle.cfi_valid.specs.Journal.{JournalState, EntriesLead}
 use Rattle.cfi_valid.specs.Loaded.{LoadedModule, placed_modules, loaded_by, start_fills}
-use Rattle.cfi_valid.specs.Replay.{Replays, shown_stop as stop_shown}
-use Rattle.cfi_valid.specs.Steps.{HasBegun, HasSteps}
+use Rattle.cfi_valid.specs.Replay.{Replays}
+use Rattle.cfi_valid.specs.Steps.{HasSteps}
 use Rattle.cfi_valid.specs.Valid.{IsGuestPart, course_of}
 use Rattle.cfi_world.specs.Updates.{is_idle}
 use Rattle.cfi_world.proofs.StoringLemmas.{idle_is, force_newest}
@@ -110,72 +109,39 @@ module _ (plan : Plan) (modules : List Module) (journal : List Entry) (end : Sta
   pub single : (history_of t).count + (history_of t).ahead ≡ 1 → run.retries ≡ 0
   single one = run.single (omega (arith, one, force_within t is))
 
-  -- what a guest shows, whether the fuel has stopped it or not
-  pub record IsShownAs : Type 0 where
-    pub ready : IsReady (history_of t) s
-    pub log : r.base.log ≡ s.log
-    pub out : r.base.output ≡ s.output
-    pub units : r.base.units ≡ s.units
-    pub stop : s.stop ≡ stop_shown r.base.stop
-    pub steps : HasShown (history_of t) code known run.retries s r ready run.picked plan.fuel single r.base.stop
-
   unspent : s.stop ≢ Some stops.Fuel
   unspent =
       replay_unspent code end.state.loaded s.log s.units
       (opened number run.address (start_fills end.state.loaded)) s run.replayed refl
 
-  shown_by : IsGuest (history_of t) code run.retries s r → IsShownAs
-  shown_by (inl runs) =
-      let shows = running_shows (history_of t) code known run.retries s r runs in
-      let stop = shown_stop (history_of t) code run.retries s r shows in
-      record {
-        ready = runs.rests.ready;
-        log = shown_log (history_of t) code run.retries s r shows;
-        out = shown_output (history_of t) code run.retries s r shows;
-        units = shows_units (history_of t) code run.retries s r shows;
-        stop = stop_same s.stop unspent ∙ ap stop_shown (sym stop);
-        steps = running_steps (history_of t) code known run.retries s r runs.rests.ready run.picked plan.fuel single
-            (λ spent. unspent (sym stop ∙ spent)) shows;
-      }
-  shown_by (inr over) =
-      let last : Raw = over.0 in
-      let runs = over.1 in
-      let spent : IsSpent last r = over.2 in
-      let shows = running_shows (history_of t) code known run.retries s last runs in
-      let stop = shown_stop (history_of t) code run.retries s last shows in
-      let fuel : r.base.stop ≡ Some stops.Fuel = ap (λ (x : Raw). x.base.stop) spent.is in
-      let told = spent_steps (history_of t) code known run.retries s last runs.rests.ready run.picked plan.fuel single
-      spent.going spent.idle shows in
-      let steps : r.base.steps ≡ last.base.steps = ap (λ (x : Raw). x.base.steps) spent.is in
-      record {
-        ready = runs.rests.ready;
-        log = ap (λ (x : Raw). x.base.log) spent.is ∙ shown_log (history_of t) code run.retries s last shows;
-        out = ap (λ (x : Raw). x.base.output) spent.is ∙ shown_output (history_of t) code run.retries s last shows;
-        units = ap (λ (x : Raw). x.base.units) spent.is ∙ shows_units (history_of t) code run.retries s last shows;
-        stop = sym stop ∙ spent.going ∙ ap stop_shown (sym fuel);
-        steps = record {
-          repeats = told.repeats;
-          begun = told.begun;
-          sum = steps ∙ told.sum;
-          begins = subst (λ o. HasBegun code o s told.begun) (sym fuel) told.begins;
-          unpicked = told.unpicked;
-          single_only = told.single_only;
-        };
-      }
+  -- where it runs, or where the fuel has stopped it
+  pub record HasEnd : Type 0 where
+    pub last : Raw
+    pub runs : IsRunning (history_of t) code run.retries s last
+    pub ends : IsEndOf last r
 
-  shown : IsShownAs
-  shown = shown_by run.runs
+  ends_by : IsGuest (history_of t) code run.retries s r → HasEnd
+  ends_by (inl runs) = record { last = r; runs = runs; ends = inl refl }
+  ends_by (inr over) = record { last = over.0; runs = over.1; ends = inr over.2 }
 
-  abbrev has_steps : HasSteps plan.fuel code s part
-  has_steps = record {
-    repeats = shown.steps.repeats;
-    begun = shown.steps.begun;
-    sum = shown.steps.sum;
-    begins = shown.steps.begins;
-    unpicked = λ none meets. shown.steps.unpicked (ap pick_entries (sym shown.log) ∙ none) meets;
+  ended : HasEnd
+  ended = ends_by run.runs
+
+  shown : IsShownAs (history_of t) code known run.retries s ended.runs.rests.ready run.picked single unspent r
+  shown =
+      shown_as (history_of t) code known run.retries s ended.runs.rests.ready run.picked single unspent ended.last r
+      (running_shows (history_of t) code known run.retries s ended.last ended.runs) ended.ends
+
+  within : IsWithin plan.fuel r
+  within = record {
     most = omega (arith, (agrees.world.seats number r here).steps_most, agrees.guests.fuel);
     spent = λ stop. (agrees.world.running number r here).spent stop ∙ agrees.guests.fuel;
   }
+
+  abbrev has_steps : HasSteps plan.fuel code s part
+  has_steps =
+      steps_of (history_of t) code known run.retries s ended.runs.rests.ready run.picked single unspent plan.fuel number
+      run.entry r shown within
 
   abbrev part_is : IsGuestPart c part
   part_is = record {

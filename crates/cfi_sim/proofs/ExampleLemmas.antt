@@ -1,7 +1,7 @@
 -- The simulation of a schedule without a line is valid.
-use Rattle.std.proofs.Common.{◌≡◌, inr, ℕ, zero, suc, ◌*◌, ◌<◌, [], ◌∷◌, length, get_or, Some, None, refl, sym, subst, arith}
+use Rattle.std.proofs.Common.{◌≡◌, inr, ℕ, zero, suc, ◌*◌, ◌<◌, [], ◌∷◌, get_or, Some, None, refl, sym, subst, arith}
 use Rattle.std.specs.Prelude.{slice_get}
-use Rattle.std.proofs.lemmas.List.{length-replicate, get_or-replicate}
+use Rattle.std.proofs.lemmas.List.{get_or-replicate}
 use Rattle.cfi_bare.proofs.LoadedLemmas.{copies}
 use Rattle.cfi_class.specs.Labels.{AreLabels}
 use Rattle.cfi_flow.proofs.Members.{member_of_one}
@@ -21,7 +21,7 @@ use Rattle.cfi_valid.specs.Course.{Course}
 use Rattle.cfi_valid.specs.Example.{hello_module}
 use Rattle.cfi_valid.specs.Loaded.{start_fills}
 use Rattle.cfi_valid.specs.Valid.{IsGuestPart, course_of}
-use Rattle.cfi_valid.proofs.ExampleCode.{stands}
+use Rattle.cfi_valid.proofs.ExampleCode.{length-copies, stands}
 use Rattle.cfi_valid.proofs.ExampleLemmas.{hello_words, sets, hello_placed, fit}
 use Rattle.cfi_valid.proofs.ExampleReplay.{one, end, opening, code, is_code, s0}
 use Rattle.cfi_word.specs.Table.{slots_of}
@@ -39,10 +39,6 @@ no_edge slot address edge =
     let has = subst (λ (m : Placed). HasKind m slot edge.kind) (sym owner) edge.has in
     let none : slice_get [] has.0 ≡ Some edge.kind = has.2 in
     absurd (cc)
-
-length-copies : (count value : ℕ) → length (copies count value) ≡ count
-unfolding copies
-length-copies count value = length-replicate count value
 
 get-copies : (count value k d : ℕ) → k < count → get_or (copies count value) k d ≡ value
 unfolding copies

@@ -10,7 +10,7 @@ use Rattle.cfi_sim.specs.Stage.{Stage}
 use Rattle.cfi_sim.specs.declared.fault.SimFault.{SimFault}
 use Rattle.cfi_sim.specs.declared.fault.SimFault.TheVariants.{Open, BadEvent, Memory}
 use Rattle.cfi_sim.specs.inner.Following.{FollowsTo, IsLineFault, IsScheduleFault}
-use Rattle.cfi_sim.specs.inner.Making.{HasMade, MakesBy}
+use Rattle.cfi_sim.specs.inner.Making.{HasMadeWithin, MakesBy}
 use Rattle.cfi_sim.specs.inner.Standing.{Whole}
 use Rattle.cfi_text.specs.Lines.{numbered_lines, statement_of}
 use Rattle.cfi_text.specs.Words.{words_in}
@@ -29,7 +29,7 @@ module _ (schedule : List ℕ) (left : List (ℕ × List ℕ)) (old mid : Whole)
   lines : numbered_lines schedule ≡ so_far.before ++ (number, text) ∷ after
   lines = so_far.lines ∙ ap (λ (ls : List (ℕ × List ℕ)). so_far.before ++ ls) is
 
-  pub follows_more : (new : Whole) → HasMade (LineMakes mid.plan mid.modules text) mid new
+  pub follows_more : (new : Whole) → HasMadeWithin (LineMakes mid.plan mid.modules text) mid new
       → FollowsTo schedule after old new
   follows_more new made =
       let here : LineMakes old.plan old.modules text mid.stage new.stage =
@@ -85,7 +85,7 @@ module _ (x : Whole) (text : List ℕ) (read : Option Line)
 
   -- or leads on
   pub line_made : (line : Line) → read ≡ Some line → (y : Whole) (made : Bool) → made ≡ true
-      → MakesBy (Makes x.plan x.modules line) x y made → HasMade (LineMakes x.plan x.modules text) x y
+      → MakesBy (Makes x.plan x.modules line) x y made → HasMadeWithin (LineMakes x.plan x.modules text) x y
   line_made line is y true made has = record {
     done = record {
       event = record {

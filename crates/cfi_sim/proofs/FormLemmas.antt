@@ -10,7 +10,7 @@ use Rattle.cfi_plan.specs.Draft.{module_of}
 use Rattle.cfi_sim.specs.Line.{Says, guest_in, count_in}
 use Rattle.cfi_sim.specs.declared.line.Line.{Line}
 use Rattle.cfi_sim.specs.declared.line.Line.TheVariants.{Blank, Guest, Load, Refresh, Update, UpdateAll, Release}
-use Rattle.cfi_sim.specs.inner.Forms.{form_of, alone_form, pair_form, guest_form, updates_form}
+use Rattle.cfi_sim.specs.inner.Forms.{schedule_form, alone_form, two_words_form, guest_form, updates_form}
 use Rattle.cfi_text.specs.Decimal.{number_in, small_number_in}
 use Rattle.cfi_values.specs.Some.{◌>>=◌}
 
@@ -71,9 +71,9 @@ module _ (plan : Plan) (line : Line) where
           subst (Says plan words) one (are ∙ ap (λ (k : List ℕ). codes "update" ∷ k ∷ []) (equal word (codes "all") ea))
       by_word false ea same = says_count words word are (count_in word) refl same
 
-  says_pair : (keyword word : List ℕ) → pair_form plan keyword word ≡ Some line
+  says_pair : (keyword word : List ℕ) → two_words_form plan keyword word ≡ Some line
       → Says plan (keyword ∷ word ∷ []) line
-  unfolding pair_form
+  unfolding two_words_form
   says_pair keyword word is =
       by_word (bytes_eq keyword (codes "guest")) (bytes_eq keyword (codes "load")) (bytes_eq keyword (codes "release"))
       (bytes_eq keyword (codes "update")) refl refl refl refl is
@@ -117,7 +117,7 @@ module _ (plan : Plan) (line : Line) where
       (count_in count) refl refl same
   says_three keyword number count false ea same = absurd (cc)
 
-  pub form_says : (words : List (List ℕ)) → form_of plan words ≡ Some line → Says plan words line
+  pub form_says : (words : List (List ℕ)) → schedule_form plan words ≡ Some line → Says plan words line
   form_says [] is = (let one : Blank ≡ line = cc in subst (Says plan []) one refl)
   form_says (keyword ∷ []) is = says_alone keyword is
   form_says (keyword ∷ word ∷ []) is = says_pair keyword word is
@@ -144,23 +144,23 @@ module _ (plan : Plan) where
           absurd (cc)
       by_word false ea = ap (λ o. option_map Update o) times
 
-  pub says_form : (words : List (List ℕ)) (line : Line) → Says plan words line → form_of plan words ≡ Some line
-  unfolding alone_form pair_form updates_form
-  says_form words Blank says = subst (λ ws. form_of plan ws ≡ Some Blank) (sym says) refl
+  pub says_form : (words : List (List ℕ)) (line : Line) → Says plan words line → schedule_form plan words ≡ Some line
+  unfolding alone_form two_words_form updates_form
+  says_form words Blank says = subst (λ ws. schedule_form plan ws ≡ Some Blank) (sym says) refl
   says_form words (Guest guest count) (number, at, inl (are, one)) =
-      subst (λ ws. form_of plan ws ≡ Some (Guest guest count)) (sym are)
+      subst (λ ws. schedule_form plan ws ≡ Some (Guest guest count)) (sym are)
       (ap (λ o. option_map (λ g. Guest g 1) o) at ∙ ap (λ (n : ℕ). Some (Guest guest n)) (sym one))
   says_form words (Guest guest count) (number, at, inr (times, are, many)) =
-      subst (λ ws. form_of plan ws ≡ Some (Guest guest count)) (sym are)
+      subst (λ ws. schedule_form plan ws ≡ Some (Guest guest count)) (sym are)
       (ap (λ o. o >>= (λ g. count_in times >>= (λ events. Some (Guest g events)))) at
       ∙ ap (λ o. o >>= (λ events. Some (Guest guest events))) many)
   says_form words (Load number) (name, at, are) =
-      subst (λ ws. form_of plan ws ≡ Some (Load number)) (sym are) (ap (λ o. option_map Load o) at)
-  says_form words Refresh says = subst (λ ws. form_of plan ws ≡ Some Refresh) (sym says) refl
+      subst (λ ws. schedule_form plan ws ≡ Some (Load number)) (sym are) (ap (λ o. option_map Load o) at)
+  says_form words Refresh says = subst (λ ws. schedule_form plan ws ≡ Some Refresh) (sym says) refl
   says_form words (Update count) (inl (are, one)) =
-      subst (λ ws. form_of plan ws ≡ Some (Update count)) (sym are) (ap (λ (n : ℕ). Some (Update n)) (sym one))
+      subst (λ ws. schedule_form plan ws ≡ Some (Update count)) (sym are) (ap (λ (n : ℕ). Some (Update n)) (sym one))
   says_form words (Update count) (inr (times, are, many)) =
-      subst (λ ws. form_of plan ws ≡ Some (Update count)) (sym are) (read_update times count many)
-  says_form words UpdateAll says = subst (λ ws. form_of plan ws ≡ Some UpdateAll) (sym says) refl
+      subst (λ ws. schedule_form plan ws ≡ Some (Update count)) (sym are) (read_update times count many)
+  says_form words UpdateAll says = subst (λ ws. schedule_form plan ws ≡ Some UpdateAll) (sym says) refl
   says_form words (Release guest) (number, at, are) =
-      subst (λ ws. form_of plan ws ≡ Some (Release guest)) (sym are) (ap (λ o. option_map Release o) at)
+      subst (λ ws. schedule_form plan ws ≡ Some (Release guest)) (sym are) (ap (λ o. option_map Release o) at)

@@ -8,7 +8,7 @@ use Rattle.cfi_graph.proofs.BoundLemmas.{contains_at}
 use Rattle.cfi_model.specs.World.{World}
 use Rattle.cfi_plan.specs.declared.plan.Plan.{Plan}
 use Rattle.cfi_series.specs.Entry.{IsGlobal, HasNoneOf}
-use Rattle.cfi_sim.specs.Agrees.{AreApart}
+use Rattle.cfi_sim.specs.Agrees.{NumbersAreApart}
 use Rattle.cfi_sim.specs.Events.{IsFound}
 use Rattle.cfi_sim.specs.declared.found.Found.{Found}
 use Rattle.cfi_sim.specs.declared.found.Found.TheVariants.{Unknown, Functionless, Opened, Unloaded}
@@ -90,7 +90,8 @@ module _ (plan : Plan) (world : World) (spots : List Spot) (placed : List Placed
   )
 
   -- one does
-  module _ (apart : AreApart loaded) (at : ℕ) (spot : Spot) (one : Placed) (here : slice_get spots at ≡ Some spot)
+  module _ (apart : NumbersAreApart loaded) (at : ℕ) (spot : Spot) (one : Placed)
+      (here : slice_get spots at ≡ Some spot)
       (same : spot.number ≡ number) (there : slice_get placed at ≡ Some one) where
     stands : slice_get loaded at ≡ Some (module_of spot one)
     stands = loaded_at spots placed at spot one here there

@@ -6,7 +6,7 @@ use Rattle.cfi_world.specs.declared.event.Turned.TheVariants.{Did, Asks, Version
 use Rattle.cfi_world.specs.declared.event.Event.TheVariants as events
 use Rattle.cfi_sim.specs.declared.aim.Aim.{Aim}
 use Rattle.cfi_sim.specs.declared.aim.Aim.TheVariants.{Loading, Refreshing}
-use Rattle.cfi_sim.specs.Stage.{Stage, with_line, IsMade, dropped, after_event}
+use Rattle.cfi_sim.specs.Stage.{Stage, with_journal_line, IsMade, dropped, after_event}
 use Rattle.cfi_sim.proofs.RunsLemmas.{same_later, runs_on}
 use Rattle.cfi_valid.specs.Loaded.{LoadedModule}
 use Rattle.cfi_world.proofs.ForceLemmas.{turn_on}
@@ -214,7 +214,7 @@ module _ (plan : Plan) (modules : List Module) (sound : All IsSoundModule module
         same_on (events.Begin image) new (record (after_event u old) { aim = Some aim }) (sym is_world) refl begun
         (λ number. others_stay w (events.Begin image) number tt)
     begun_on aim spent image new EpochsSpent u is_world begun =
-        same_on (events.Begin image) new (with_line spent (after_event u old)) (sym is_world) refl begun
+        same_on (events.Begin image) new (with_journal_line spent (after_event u old)) (sym is_world) refl begun
         (λ number. others_stay w (events.Begin image) number tt)
     begun_on aim spent image new (Asks guest number) u is_world begun = absurd begun
     begun_on aim spent image new (VersionsSpent guest quiet) u is_world begun = absurd begun

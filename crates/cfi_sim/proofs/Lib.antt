@@ -17,14 +17,12 @@ pub mod CausesLemmas
 pub mod PicksLemmas
 pub mod LaterLemmas
 pub mod RunsLemmas
-pub mod RetriedLemmas
 pub mod SettledLemmas
 pub mod OwnLemmas
 pub mod TurnLemmas
 pub mod AnswerLemmas
 pub mod GuestsLemmas
 pub mod OpenedLemmas
-pub mod PartLemmas
 pub mod EndLemmas
 pub mod FoundLemmas
 pub mod DueLemmas

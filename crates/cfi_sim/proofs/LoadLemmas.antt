@@ -17,14 +17,14 @@ use Rattle.cfi_series.specs.Order.{IsJoinFault}
 use Rattle.cfi_series.specs.Series.{Series}
 use Rattle.cfi_sim.specs.declared.aim.Aim.TheVariants.{Loading}
 use Rattle.cfi_sim.specs.declared.spot.Spot.{Spot}
-use Rattle.cfi_sim.specs.Events.{IsTold, IsLoadEvent}
+use Rattle.cfi_sim.specs.Events.{TellsLoad, IsLoadEvent}
 use Rattle.cfi_sim.specs.Reach.{OfLoad}
-use Rattle.cfi_sim.specs.Schedule.{IsWithin}
-use Rattle.cfi_sim.specs.Stage.{Stage, with_line}
+use Rattle.cfi_sim.specs.Schedule.{PassesNoLimit}
+use Rattle.cfi_sim.specs.Stage.{Stage, with_journal_line}
 use Rattle.cfi_sim.specs.inner.Loaded.{loaded_of, SpotHas, NoSpotHas}
-use Rattle.cfi_sim.specs.inner.Making.{HasMade, MakesBy, CanBegin, BeginsBy, IsImageWith, with_told, fault_line}
+use Rattle.cfi_sim.specs.inner.Making.{HasMadeWithin, MakesBy, CanBegin, BeginsBy, IsImageWith, with_told, fault_line}
 use Rattle.cfi_sim.specs.declared.standing.Standing.TheInside.{Inside}
-use Rattle.cfi_sim.specs.inner.Standing.{Whole, IsKept, IsUnderWay, whole_of}
+use Rattle.cfi_sim.specs.inner.Standing.{Whole, SeriesFits, IsUnderWay, whole_inside}
 use Rattle.cfi_sim.proofs.BeginLemmas.{under_after, updates_few, done_so}
 use Rattle.cfi_sim.proofs.BegunLemmas.{load_may}
 use Rattle.cfi_sim.proofs.FoundLemmas.{module_of, loaded_at, loaded_many, place_in, placed_are, spot_of}
@@ -44,17 +44,17 @@ spot_loaded spots placed same number at has one there =
     let l : LoadedModule = module_of has.0 one in
     (l, contains_at (loaded_of spots placed) at l (loaded_at spots placed at has.0 one has.1 there), has.2)
 
-module _ (x : Whole) (under : IsUnderWay x) (within : IsWithin x.stage) (number : ℕ) where
+module _ (x : Whole) (under : IsUnderWay x) (within : PassesNoLimit x.stage) (number : ℕ) where
   -- a line that is told at once
-  pub told_load : (line : JournalLine) → IsTold line number
+  pub told_load : (line : JournalLine) → TellsLoad line number
       → LineLeads x.plan x.modules x.stage.state line x.stage.state → (y : Whole) → y ≡ with_told line x
-      → HasMade (IsLoadEvent x.plan x.modules number) x y
+      → HasMadeWithin (IsLoadEvent x.plan x.modules number) x y
   told_load line told legal y is =
-      let new : Stage = with_line line x.stage in
+      let new : Stage = with_journal_line line x.stage in
       let event : IsLoadEvent x.plan x.modules number x.stage new =
       inl (record { line = line; told = told; legal = legal; is = refl }) in
       let room = updates_few x under in
-      subst (HasMade (IsLoadEvent x.plan x.modules number) x) (sym is)
+      subst (HasMadeWithin (IsLoadEvent x.plan x.modules number) x) (sym is)
       (record {
         done = done_so (IsLoadEvent x.plan x.modules number) x (with_told line x) refl event
             (under_after x under (OfLoad number) new event room);
@@ -66,7 +66,7 @@ module _ (x : Whole) (under : IsUnderWay x) (within : IsWithin x.stage) (number 
     pub fault_load : (fault : JoinFault) (told : FaultNumbers)
         → IsJoinFault x.plan.code_words (placed_modules x.stage.state.loaded) absent.unplaced fault
         → numbers_of fault ≡ Some told → (y : Whole) → y ≡ with_told (fault_line number told) x
-        → HasMade (IsLoadEvent x.plan x.modules number) x y
+        → HasMadeWithin (IsLoadEvent x.plan x.modules number) x y
     fault_load fault (numbers.Place kind) stands told y is =
         told_load (lines.LoadPlace number kind) refl
         (record { absent = absent; fault = fault; stands = stands; told = told }, refl) y is
@@ -100,7 +100,7 @@ module _ (x : Whole) (under : IsUnderWay x) (within : IsWithin x.stage) (number 
           let none : None ≡ Some told = sym (ap numbers_of memory) ∙ is in
           absurd (cc)
 
-      not_told : (line : JournalLine) → IsTold line number
+      not_told : (line : JournalLine) → TellsLoad line number
           → LineLeads x.plan x.modules x.stage.state line x.stage.state → ⊥
       not_told (lines.LoadAgain asked policy) told legal =
           absent.absent (subst (IsLoaded x.stage.state.loaded) told legal.0.loaded)
@@ -134,7 +134,7 @@ module _ (x : Whole) (under : IsUnderWay x) (within : IsWithin x.stage) (number 
           }
       load_by y false none = λ s event fits. by_event s fits event
         where
-          by_event : (s : Stage) → IsWithin s → IsLoadEvent x.plan x.modules number x.stage s → ⊥
+          by_event : (s : Stage) → PassesNoLimit s → IsLoadEvent x.plan x.modules number x.stage s → ⊥
           by_event s fits (inl told) = not_told told.line told.told told.legal
           by_event s fits (inr load) = none (Some load.image) s load.begins fits
 
@@ -151,7 +151,7 @@ loaded_more (s ∷ spots) (p ∷ placed) spot one same =
     ap (λ (ls : List LoadedModule). module_of s p ∷ ls) (loaded_more spots placed spot one (omega (arith, same)))
 
 -- the series is that of the loaded modules
-pub series_is : (a : Inside) → IsKept a
+pub series_is : (a : Inside) → SeriesFits a
     → a.series ≡ record {
       code_words = a.plan.now.code_words;
       placed = placed_modules (loaded_of a.spots.items a.series.placed);
@@ -162,29 +162,29 @@ series_is a kept =
     ap (λ (n : ℕ). record { code_words = n; placed = a.series.placed }) words
     ∙ ap (λ (ps : List Placed). record { code_words = a.plan.now.code_words; placed = ps }) (sym placed)
 
-module _ (a : Inside) (kept : IsKept a) (x : Whole) (is : whole_of a ≡ x) (under : IsUnderWay x)
-    (within : IsWithin x.stage) (number : ℕ) (known : number < length x.plan.modules) where
+module _ (a : Inside) (kept : SeriesFits a) (x : Whole) (is : whole_inside a ≡ x) (under : IsUnderWay x)
+    (within : PassesNoLimit x.stage) (number : ℕ) (known : number < length x.plan.modules) where
   abbrev here : Whole
-  here = whole_of a
+  here = whole_inside a
 
   under_here : IsUnderWay here
   under_here = subst IsUnderWay (sym is) under
 
-  within_here : IsWithin here.stage
-  within_here = subst (λ (w : Whole). IsWithin w.stage) (sym is) within
+  within_here : PassesNoLimit here.stage
+  within_here = subst (λ (w : Whole). PassesNoLimit w.stage) (sym is) within
 
   known_here : number < length here.modules
   known_here =
       let known_plan = subst (λ (w : Whole). number < length w.plan.modules) (sym is) known in
       omega (arith, known_plan, under_here.named)
 
-  back : (y : Whole) → HasMade (IsLoadEvent here.plan here.modules number) here y
-      → HasMade (IsLoadEvent x.plan x.modules number) x y
-  back y has = subst (λ (w : Whole). HasMade (IsLoadEvent w.plan w.modules number) w y) is has
+  back : (y : Whole) → HasMadeWithin (IsLoadEvent here.plan here.modules number) here y
+      → HasMadeWithin (IsLoadEvent x.plan x.modules number) x y
+  back y has = subst (λ (w : Whole). HasMadeWithin (IsLoadEvent w.plan w.modules number) w y) is has
 
   -- it is loaded
   pub again_load : (spots : List Spot) → spots ≡ a.spots.items → (at : ℕ) → SpotHas spots number at → (y : Whole)
-      → y ≡ with_told (lines.LoadAgain number a.policy) here → HasMade (IsLoadEvent x.plan x.modules number) x y
+      → y ≡ with_told (lines.LoadAgain number a.policy) here → HasMadeWithin (IsLoadEvent x.plan x.modules number) x y
   again_load spots same at has y y_is =
       let own = subst (λ (ss : List Spot). SpotHas ss number at) same has in
       let in_spots = slice_get_within a.spots.items at own.0 own.1 in
@@ -213,7 +213,7 @@ module _ (a : Inside) (kept : IsKept a) (x : Whole) (is : whole_of a ≡ x) (und
   -- no further one may be
   pub full_load : (spots : List Spot) → spots ≡ a.spots.items → NoSpotHas spots number
       → MAX_LOADED ≤ length a.spots.items → (y : Whole) → y ≡ with_told (lines.LoadFull number) here
-      → HasMade (IsLoadEvent x.plan x.modules number) x y
+      → HasMadeWithin (IsLoadEvent x.plan x.modules number) x y
   full_load spots same none full y y_is =
       let many = loaded_many a.spots.items a.series.placed kept.count in
       back y (told_load here under_here within_here number (lines.LoadFull number) refl (
@@ -252,7 +252,7 @@ module _ (a : Inside) (kept : IsKept a) (x : Whole) (is : whole_of a ≡ x) (und
       may_load = load_room here under_here within_here number unloaded image with_here
 
       pub begun_load : (s : Series) → s ≡ a.series → (y : Whole) (happened : Bool)
-          → BeginsBy (Loading number) (lines.LoadEpochs number) (Some image) (whole_of (record a { series = s })) y
+          → BeginsBy (Loading number) (lines.LoadEpochs number) (Some image) (whole_inside (record a { series = s })) y
           happened
           → MakesBy (IsLoadEvent x.plan x.modules number) x y happened
       begun_load s same y happened begins =
@@ -260,13 +260,13 @@ module _ (a : Inside) (kept : IsKept a) (x : Whole) (is : whole_of a ≡ x) (und
           (load_by here under_here within_here number unloaded image with_here y happened
           (subst
           (λ (t : Series). BeginsBy (Loading number) (lines.LoadEpochs number) (Some image)
-          (whole_of (record a { series = t })) y happened) same begins))
+          (whole_inside (record a { series = t })) y happened) same begins))
 
     pub refused_load : (fault : JoinFault) (told : FaultNumbers)
         → IsJoinFault a.series.code_words a.series.placed m fault → numbers_of fault ≡ Some told → (s : Series)
-        → s ≡ a.series → (y : Whole) → y ≡ with_told (fault_line number told) (whole_of (record a { series = s }))
-        → HasMade (IsLoadEvent x.plan x.modules number) x y
+        → s ≡ a.series → (y : Whole) → y ≡ with_told (fault_line number told) (whole_inside (record a { series = s }))
+        → HasMadeWithin (IsLoadEvent x.plan x.modules number) x y
     refused_load fault told why is_told s same y y_is =
         back y (fault_load here under_here within_here number unloaded fault told
         (subst (λ (t : Series). IsJoinFault t.code_words t.placed m fault) (series_is a kept) why) is_told y
-        (y_is ∙ ap (λ (t : Series). with_told (fault_line number told) (whole_of (record a { series = t }))) same))
+        (y_is ∙ ap (λ (t : Series). with_told (fault_line number told) (whole_inside (record a { series = t }))) same))

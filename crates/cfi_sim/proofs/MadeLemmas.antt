@@ -5,7 +5,7 @@ use Rattle.std.proofs.lemmas.Bool.{cases_lt}
 use Rattle.std.specs.List.{AllByRecursion, slice_get}
 use Rattle.std.proofs.Common.{◌≡◌, ◌≢◌, ℕ, ◌+◌, ◌≤◌, ◌++◌, List, [], ◌∷◌, length, length-append, Some, None, refl, sym, ◌∙◌, ap, subst, arith, inl, inr}
 use Rattle.cfi_series.specs.Series.{IsSeries}
-use Rattle.cfi_sim.specs.Agrees.{AreApart, IsPolicyOf, IsEntryFor, coming, HasEntry, TablesAgree}
+use Rattle.cfi_sim.specs.Agrees.{NumbersAreApart, IsPolicyOf, IsEntryFor, coming, HasComingEntry, TablesAgree}
 use Rattle.cfi_valid.proofs.GrowthLemmas.{loaded_stays}
 use Rattle.cfi_model.specs.Tables.{IsTables}
 use Rattle.cfi_series.specs.Loaded.{AreLoaded, IsLoadedImage}
@@ -53,8 +53,8 @@ clean_once plan modules state number a b =
     (subst (λ (m : Module). Joins plan.code_words (placed_modules state.loaded) m a.placed) same a.joins) b.joins
 
 -- one number more, which is none of the others
-apart_more : (loaded : List LoadedModule) (l : LoadedModule) → ¬ IsLoaded loaded l.number → AreApart loaded
-    → AreApart (loaded ++ l ∷ [])
+apart_more : (loaded : List LoadedModule) (l : LoadedModule) → ¬ IsLoaded loaded l.number → NumbersAreApart loaded
+    → NumbersAreApart (loaded ++ l ∷ [])
 apart_more loaded l absent apart j k a b at_j at_k same =
     let all : List LoadedModule = loaded ++ l ∷ [] in
     let here : (n : ℕ) (m : LoadedModule) → slice_get loaded n ≡ Some m → m.number ≡ l.number → ⊥ =
@@ -94,15 +94,15 @@ module _ (plan : Plan) (modules : List Module) (state : JournalState) (t : Table
         omega (arith, rises, agrees.policy)
 
     pub fits : IsEntryFor plan modules state (entry_at t (in_force t)) aim (entry_at t (newest t))
-    fits = subst (HasEntry plan modules state (entry_at t (in_force t)) (Some aim)) (storing_comes t asked apart)
+    fits = subst (HasComingEntry plan modules state (entry_at t (in_force t)) (Some aim)) (storing_comes t asked apart)
         agrees.aims
 
     epoch_more : state.epoch + 1 ≡ plan.first + in_force after
     epoch_more = omega (arith, agrees.epoch, goes, same)
 
-    nothing_comes : (state' : JournalState) (now : Entry) → HasEntry plan modules state' now None (coming after)
+    nothing_comes : (state' : JournalState) (now : Entry) → HasComingEntry plan modules state' now None (coming after)
     nothing_comes state' now =
-        subst (HasEntry plan modules state' now None) (sym (idle_comes after asked same)) tt
+        subst (HasComingEntry plan modules state' now None) (sym (idle_comes after asked same)) tt
 
     either : (P : ℕ → Type 0) → ((number : ℕ) → number ≤ in_force t → P number) → P (newest t)
         → (number : ℕ) → number ≤ in_force after → P number

@@ -1,7 +1,7 @@
 -- The numbers of start modules: each is that of one loaded module.
 use Rattle.std.proofs.Common.{◌≡◌, ℕ, zero, suc, ◌+◌, ◌≤◌, cond, Bool, true, false, List, [], ◌∷◌, map, slice_get, Some, refl, ◌∙◌, ap, subst, arith}
 use Rattle.cfi_plan.specs.declared.plan.PlanModule.{PlanModule}
-use Rattle.cfi_sim.specs.Agrees.{AreApart}
+use Rattle.cfi_sim.specs.Agrees.{NumbersAreApart}
 use Rattle.cfi_valid.specs.Journal.{starts_from}
 use Rattle.cfi_valid.specs.Loaded.{LoadedModule}
 
@@ -57,7 +57,7 @@ number_at (x ∷ loaded) zero l is =
 number_at (x ∷ loaded) (suc k) l is = number_at loaded k l is
 
 pub starts_apart : (modules : List PlanModule) (loaded : List LoadedModule) (from : ℕ)
-    → map (λ (l : LoadedModule). l.number) loaded ≡ starts_from from modules → AreApart loaded
+    → map (λ (l : LoadedModule). l.number) loaded ≡ starts_from from modules → NumbersAreApart loaded
 starts_apart modules loaded from same j k l m at_j at_k number =
     starts_once modules from m.number j k
     (subst (λ (ns : List ℕ). slice_get ns j ≡ Some m.number) same

@@ -10,7 +10,7 @@ use Rattle.cfi_model.specs.Raw.{Raw}
 use Rattle.cfi_model.specs.World.{World}
 use Rattle.cfi_plan.specs.declared.plan.Plan.{Plan}
 use Rattle.cfi_series.specs.Entry.{IsGlobal, IsFirstOf, HasNoneOf}
-use Rattle.cfi_sim.specs.Agrees.{AreApart}
+use Rattle.cfi_sim.specs.Agrees.{NumbersAreApart}
 use Rattle.cfi_sim.specs.Events.{IsFound, IsAnswered, GuestTurns, IsGuestEvent, IsUpdateEvent, reply_by}
 use Rattle.cfi_sim.specs.declared.found.Found.{Found}
 use Rattle.cfi_sim.specs.declared.found.Found.TheVariants.{Unknown, Functionless, Opened, Unloaded}
@@ -45,7 +45,7 @@ first_once m a b p q =
       ]
     ]
 
-module _ (loaded : List LoadedModule) (apart : AreApart loaded) where
+module _ (loaded : List LoadedModule) (apart : NumbersAreApart loaded) where
   one_module : (l m : LoadedModule) → Contains loaded l → Contains loaded m → l.number ≡ m.number → l ≡ m
   one_module l m has has' same =
       let at = place_in loaded l has in
@@ -88,7 +88,7 @@ module _ (loaded : List LoadedModule) (apart : AreApart loaded) where
 -- ---- a guest
 
 module _ (plan : Plan) (guest : ℕ) where
-  answered_once : (state : JournalState) → AreApart state.loaded → (mid a b : World) (number : ℕ)
+  answered_once : (state : JournalState) → NumbersAreApart state.loaded → (mid a b : World) (number : ℕ)
       → IsAnswered plan state mid a guest number → IsAnswered plan state mid b guest number → a ≡ b
   answered_once state apart mid a b number p q =
       let both : Some p.r ≡ Some q.r = sym p.there ∙ q.there in
@@ -99,7 +99,7 @@ module _ (plan : Plan) (guest : ℕ) where
       ∙ ap (λ (f : Found). (answer_turn mid guest (reply_by state q.r.base f) (Some q.r)).world) found
       ∙ sym q.is
 
-  turned_once : (state : JournalState) → AreApart state.loaded → (mid a b : World) (answer : Turned)
+  turned_once : (state : JournalState) → NumbersAreApart state.loaded → (mid a b : World) (answer : Turned)
       → GuestTurns plan state mid a guest answer → GuestTurns plan state mid b guest answer → a ≡ b
   turned_once state apart mid a b Did p q = p ∙ sym q
   turned_once state apart mid a b (Asks asking number) p q = answered_once state apart mid a b number p q
@@ -107,7 +107,7 @@ module _ (plan : Plan) (guest : ℕ) where
   turned_once state apart mid a b EpochsSpent p q = absurd p
   turned_once state apart mid a b Nothing p q = absurd p
 
-  guest_once : (old x y : Stage) → AreApart old.state.loaded → IsGuestEvent plan guest old x
+  guest_once : (old x y : Stage) → NumbersAreApart old.state.loaded → IsGuestEvent plan guest old x
       → IsGuestEvent plan guest old y → x ≡ y
   guest_once old x y apart p q =
       let turn = turn_of old.world (events.Guest guest) in
@@ -119,13 +119,13 @@ module _ (plan : Plan) (guest : ℕ) where
   guests_state (suc count) old x more =
       ap (λ (s : Stage). s.state) more.2.is ∙ guests_state count old more.0 more.1
 
-  pub guests_once : (count : ℕ) (old x y : Stage) → AreApart old.state.loaded
+  pub guests_once : (count : ℕ) (old x y : Stage) → NumbersAreApart old.state.loaded
       → Repeats (IsGuestEvent plan guest) count old x → Repeats (IsGuestEvent plan guest) count old y → x ≡ y
   guests_once zero old x y apart p q = p ∙ sym q
   guests_once (suc count) old x y apart p q =
       let same = guests_once count old p.0 q.0 apart p.1 q.1 in
       let there = guests_state count old q.0 q.1 in
-      guest_once q.0 x y (subst (λ (s : JournalState). AreApart s.loaded) (sym there) apart)
+      guest_once q.0 x y (subst (λ (s : JournalState). NumbersAreApart s.loaded) (sym there) apart)
       (subst (λ (s : Stage). IsGuestEvent plan guest s x) same p.2) q.2
 
 -- ---- the updater

@@ -21,7 +21,6 @@ use Rattle.cfi_sim.specs.declared.fault.SimFault.{SimFault}
 use Rattle.cfi_sim.specs.declared.fault.SimFault.TheVariants.{Open, BadEvent, Memory}
 use Rattle.cfi_sim.specs.declared.limits.TheConstants.{MAX_UPDATES}
 use Rattle.cfi_sim.specs.declared.spot.Spot.{Spot}
-use Rattle.cfi_sim.specs.Schedule.{IsWithin}
 use Rattle.cfi_sim.specs.Stage.{Stage}
 use Rattle.cfi_sim.specs.Valid.{IsStart}
 use Rattle.cfi_sim.specs.inner.Loaded.{loaded_of}
@@ -228,9 +227,3 @@ opened_under plan modules is taken named x opened =
     (sym opened.modules_are)
     (subst (λ (p : Plan). IsUnderWay (record { plan = p; modules = modules; stage = x.stage })) (sym opened.plan_is)
     here)
-
-pub opened_within : (plan : Plan) (modules : List Module) (x : Whole) → IsOpened plan modules x → IsWithin x.stage
-opened_within plan modules x opened =
-    let updates_are = ap (λ (w : World). w.updates) opened.starts.world in
-    let events_are = opened.starts.events in
-    record { events = omega (arith, events_are); updates = omega (arith, updates_are) }

@@ -16,7 +16,7 @@ use Rattle.cfi_valid.specs.Journal.{JournalState}
 use Rattle.cfi_valid.specs.Loaded.{placed_modules, loaded_by, live_at, start_fills, fills_between}
 use Rattle.cfi_valid.proofs.LawLemmas.{step_unit}
 use Rattle.cfi_model.proofs.InForceLemmas.{history_is, force_within, epoch_within}
-use Rattle.cfi_sim.proofs.RetriedLemmas.{never_retried}
+use Rattle.cfi_part.proofs.RetriedLemmas.{never_retried}
 use Rattle.cfi_model.specs.InForce.{in_force, history_of, code_in_force}
 use Rattle.cfi_model.specs.State.{State, opened}
 use Rattle.cfi_model.specs.World.{World}

@@ -9,9 +9,9 @@ use Rattle.cfi_model.specs.World.{World}
 use Rattle.cfi_plan.specs.declared.plan.Plan.{Plan}
 use Rattle.cfi_sim.specs.declared.limits.TheConstants.{MAX_EVENTS}
 use Rattle.cfi_sim.specs.Events.{IsIdle, GuestTurns, IsGuestEvent, IsUpdateEvent}
-use Rattle.cfi_sim.specs.Schedule.{Repeats, IsWhole, IsWithin}
+use Rattle.cfi_sim.specs.Schedule.{Repeats, IsWholeUpdate, PassesNoLimit}
 use Rattle.cfi_sim.specs.Stage.{Stage}
-use Rattle.cfi_sim.specs.inner.Making.{AdvancesBy, Cannot, HasAdvanced, HasMade, IsAtRest}
+use Rattle.cfi_sim.specs.inner.Making.{AdvancesBy, Cannot, HasAdvanced, HasMadeWithin, IsAtRest}
 use Rattle.cfi_sim.specs.inner.Standing.{Whole, GoesBy, IsUnderWay}
 use Rattle.cfi_sim.proofs.BeginLemmas.{updates_few}
 use Rattle.cfi_sim.proofs.OnceLemmas.{guests_once, updates_once}
@@ -53,16 +53,16 @@ module _ (P : (old new : Stage) → Type 0) (counts : (a b : Stage) → P a b �
 -- ---- one more
 
 -- none yet
-pub none_made : (P : (old new : Stage) → Type 0) (x : Whole) → IsUnderWay x → IsWithin x.stage
-    → HasMade (Repeats P 0) x x
+pub none_made : (P : (old new : Stage) → Type 0) (x : Whole) → IsUnderWay x → PassesNoLimit x.stage
+    → HasMadeWithin (Repeats P 0) x x
 none_made P x under within = record {
   done = record { event = refl; plan = refl; modules = refl; under_way = under };
   within = within;
 }
 
 pub one_made : (P : Plan → List Module → (old new : Stage) → Type 0) (n : ℕ) (x y z : Whole)
-    → HasMade (Repeats (P x.plan x.modules) n) x y → HasMade (P y.plan y.modules) y z
-    → HasMade (Repeats (P x.plan x.modules) (n + 1)) x z
+    → HasMadeWithin (Repeats (P x.plan x.modules) n) x y → HasMadeWithin (P y.plan y.modules) y z
+    → HasMadeWithin (Repeats (P x.plan x.modules) (n + 1)) x z
 one_made P n x y z so_far more =
     let here : P x.plan x.modules y.stage z.stage =
     subst (λ (ms : List Module). P x.plan ms y.stage z.stage) so_far.done.modules
@@ -84,7 +84,7 @@ guest_counts : (plan : Plan) (guest : ℕ) (a b : Stage) → IsGuestEvent plan g
 guest_counts plan guest a b event = ap (λ (s : Stage). s.events) event.is
 
 pub guests_stuck : (x y : Whole) (guest k count : ℕ) → IsUnderWay x
-    → HasMade (Repeats (IsGuestEvent x.plan guest) k) x y → k < count
+    → HasMadeWithin (Repeats (IsGuestEvent x.plan guest) k) x y → k < count
     → (turn_of y.stage.world (events.Guest guest)).answer ≡ Nothing ⊎ MAX_EVENTS ≤ y.stage.events
     → Cannot (Repeats (IsGuestEvent x.plan guest) count) x
 guests_stuck x y guest k count under made less stuck = λ s more within.
@@ -93,7 +93,8 @@ guests_stuck x y guest k count under made less stuck = λ s more within.
     guests_once x.plan guest k x.stage of.mid y.stage under.going.holds.agrees.tables.apart of.before made.done.event in
     by_stuck s within of same stuck
   where
-    by_stuck : (s : Stage) → IsWithin s → (of : IsEarlier (IsGuestEvent x.plan guest) k x.stage s) → of.mid ≡ y.stage
+    by_stuck : (s : Stage) → PassesNoLimit s → (of : IsEarlier (IsGuestEvent x.plan guest) k x.stage s)
+        → of.mid ≡ y.stage
         → (turn_of y.stage.world (events.Guest guest)).answer ≡ Nothing ⊎ MAX_EVENTS ≤ y.stage.events → ⊥
     by_stuck s within of same (inl nothing) =
         let turn = turn_of of.mid.world (events.Guest guest) in
@@ -117,8 +118,9 @@ repeats_count plan modules (suc n) old new more =
     let one = update_counts plan modules more.0 new more.2 in
     omega (arith, rest, one)
 
-module _ (x y : Whole) (k : ℕ) (made : HasMade (Repeats (IsUpdateEvent x.plan x.modules) k) x y) where
-  not_next : IsAtRest y.stage → (s : Stage) → IsWithin s → IsEarlier (IsUpdateEvent x.plan x.modules) k x.stage s → ⊥
+module _ (x y : Whole) (k : ℕ) (made : HasMadeWithin (Repeats (IsUpdateEvent x.plan x.modules) k) x y) where
+  not_next : IsAtRest y.stage → (s : Stage) → PassesNoLimit s
+      → IsEarlier (IsUpdateEvent x.plan x.modules) k x.stage s → ⊥
   not_next rest s within of = by_rest rest
     where
       same : of.mid.world ≡ y.stage.world
@@ -141,14 +143,14 @@ module _ (x y : Whole) (k : ℕ) (made : HasMade (Repeats (IsUpdateEvent x.plan 
       (earlier (IsUpdateEvent x.plan x.modules) (update_counts x.plan x.modules) count k x.stage s less more)
 
   -- all that are left of an update
-  pub whole_stuck : (k ≡ 0) ⊎ (IsIdle y.stage.world → ⊥) → IsAtRest y.stage → Cannot (IsWhole x.plan x.modules) x
+  pub whole_stuck : (k ≡ 0) ⊎ (IsIdle y.stage.world → ⊥) → IsAtRest y.stage → Cannot (IsWholeUpdate x.plan x.modules) x
   whole_stuck going rest = λ s whole within. by_count s whole within
     where
-      run : (s : Stage) (whole : IsWhole x.plan x.modules x.stage s)
+      run : (s : Stage) (whole : IsWholeUpdate x.plan x.modules x.stage s)
           → Repeats (IsUpdateEvent x.plan x.modules) (suc whole.more) x.stage s
       run s whole = (whole.before, whole.events, whole.last)
 
-      at_end : (s : Stage) (whole : IsWhole x.plan x.modules x.stage s) → suc whole.more ≡ k
+      at_end : (s : Stage) (whole : IsWholeUpdate x.plan x.modules x.stage s) → suc whole.more ≡ k
           → (k ≡ 0) ⊎ (IsIdle y.stage.world → ⊥) → ⊥
       at_end s whole last (inl none) = absurd (omega (arith, last, none))
       at_end s whole last (inr busy) =
@@ -156,14 +158,14 @@ module _ (x y : Whole) (k : ℕ) (made : HasMade (Repeats (IsUpdateEvent x.plan 
           let same = updates_once x.plan x.modules k x.stage y.stage s made.done.event more in
           busy (ap (λ (w : World). phase_of w.tables) same ∙ whole.idle)
 
-      at_mid : (s : Stage) (whole : IsWhole x.plan x.modules x.stage s) → suc whole.more < k → ⊥
+      at_mid : (s : Stage) (whole : IsWholeUpdate x.plan x.modules x.stage s) → suc whole.more < k → ⊥
       at_mid s whole below =
           let of = earlier (IsUpdateEvent x.plan x.modules) (update_counts x.plan x.modules) k (suc whole.more) x.stage
           y.stage below made.done.event in
           let same = updates_once x.plan x.modules (suc whole.more) x.stage of.mid s of.before (run s whole) in
           of.event.busy (ap (λ (w : World). phase_of w.tables) same ∙ whole.idle)
 
-      by_count : (s : Stage) → IsWhole x.plan x.modules x.stage s → IsWithin s → ⊥
+      by_count : (s : Stage) → IsWholeUpdate x.plan x.modules x.stage s → PassesNoLimit s → ⊥
       by_count s whole within = elim (cases_lt k (suc whole.more)) [
         | inl less ↦
             not_next rest s within
@@ -177,8 +179,8 @@ module _ (x y : Whole) (k : ℕ) (made : HasMade (Repeats (IsUpdateEvent x.plan 
 
 -- ---- until it is idle
 
-pub whole_made : (x y : Whole) (k : ℕ) → 1 ≤ k → HasMade (Repeats (IsUpdateEvent x.plan x.modules) k) x y
-    → IsIdle y.stage.world → HasMade (IsWhole x.plan x.modules) x y
+pub whole_made : (x y : Whole) (k : ℕ) → 1 ≤ k → HasMadeWithin (Repeats (IsUpdateEvent x.plan x.modules) k) x y
+    → IsIdle y.stage.world → HasMadeWithin (IsWholeUpdate x.plan x.modules) x y
 whole_made x y zero some made idle = absurd (omega (arith, some))
 whole_made x y (suc more) some made idle =
     let all = made.done.event in
@@ -196,7 +198,7 @@ whole_made x y (suc more) some made idle =
 
 -- an event of a guest passes no limit where one is left
 pub goes_made : (y z : Whole) (guest : ℕ) → y.stage.events < MAX_EVENTS → (went : Bool) → went ≡ true
-    → GoesBy guest y z went → HasMade (IsGuestEvent y.plan guest) y z
+    → GoesBy guest y z went → HasMadeWithin (IsGuestEvent y.plan guest) y z
 goes_made y z guest few true is has =
     let one = guest_counts y.plan guest y.stage z.stage has.event in
     record {
@@ -211,7 +213,7 @@ goes_none y z guest true is has = absurd (cc)
 goes_none y z guest false is has = has
 
 pub advance_made : (y z : Whole) (made : Bool) → made ≡ true → AdvancesBy y z made
-    → HasMade (IsUpdateEvent y.plan y.modules) y z
+    → HasMadeWithin (IsUpdateEvent y.plan y.modules) y z
 advance_made y z true is has = has
 advance_made y z false is has = absurd (cc)
 
@@ -221,15 +223,15 @@ advance_none y z false is has = has
 
 -- so many were made
 pub all_made : (P : (old new : Stage) → Type 0) (x y : Whole) (n count : ℕ) → n ≤ count → count ≤ n
-    → HasMade (Repeats P n) x y → HasMade (Repeats P count) x y
+    → HasMadeWithin (Repeats P n) x y → HasMadeWithin (Repeats P count) x y
 all_made P x y n count most least made =
     let same : n ≡ count = omega (arith, most, least) in
-    subst (λ (m : ℕ). HasMade (Repeats P m) x y) same made
+    subst (λ (m : ℕ). HasMadeWithin (Repeats P m) x y) same made
 
 -- ---- all accesses that are left
 
 -- the first one
-pub first_advanced : (x y : Whole) → IsUnderWay x → IsWithin x.stage → (made : Bool) → made ≡ true
+pub first_advanced : (x y : Whole) → IsUnderWay x → PassesNoLimit x.stage → (made : Bool) → made ≡ true
     → AdvancesBy x y made → HasAdvanced x y
 first_advanced x y under within made is has = record {
   count = 0 + 1;
@@ -258,14 +260,15 @@ fewer_left y z made is has =
     omega (arith, one, most)
 
 -- none could be made
-pub first_stuck : (x y : Whole) → IsUnderWay x → IsWithin x.stage → (made : Bool) → made ≡ false → AdvancesBy x y made
-    → Cannot (IsWhole x.plan x.modules) x
+pub first_stuck : (x y : Whole) → IsUnderWay x → PassesNoLimit x.stage → (made : Bool) → made ≡ false
+    → AdvancesBy x y made
+    → Cannot (IsWholeUpdate x.plan x.modules) x
 first_stuck x y under within made is has =
     whole_stuck x x 0 (none_made (IsUpdateEvent x.plan x.modules) x under within) (inl refl)
     (advance_none x y made is has)
 
 pub more_stuck : (x y z : Whole) → HasAdvanced x y → is_idle (phase_of y.stage.world.tables) ≡ false → (made : Bool)
-    → made ≡ false → AdvancesBy y z made → Cannot (IsWhole x.plan x.modules) x
+    → made ≡ false → AdvancesBy y z made → Cannot (IsWholeUpdate x.plan x.modules) x
 more_stuck x y z so_far going made is has =
     whole_stuck x y so_far.count so_far.made
     (inr (λ idle. busy (phase_of y.stage.world.tables) going idle)) (advance_none y z made is has)
@@ -279,6 +282,6 @@ idle_of phases.Epoch test = absurd (cc)
 idle_of (phases.Bary next) test = absurd (cc)
 
 pub finished : (x y : Whole) → HasAdvanced x y → is_idle (phase_of y.stage.world.tables) ≡ true
-    → HasMade (IsWhole x.plan x.modules) x y
+    → HasMadeWithin (IsWholeUpdate x.plan x.modules) x y
 finished x y so_far idle =
     whole_made x y so_far.count so_far.some so_far.made (idle_of (phase_of y.stage.world.tables) idle)

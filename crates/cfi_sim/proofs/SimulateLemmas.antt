@@ -8,7 +8,7 @@ use Rattle.cfi_plan.specs.declared.plan.Plan.{Plan}
 use Rattle.cfi_series.specs.Series.{CanBeTaken}
 use Rattle.cfi_sim.specs.Faults.{IsBadLine, IsSimFault}
 use Rattle.cfi_sim.specs.Schedule.{LinesMake, ScheduleMakes}
-use Rattle.cfi_sim.specs.Told.{IsTold}
+use Rattle.cfi_sim.specs.Told.{IsToldSim}
 use Rattle.cfi_sim.specs.Valid.{IsValidSim}
 use Rattle.cfi_sim.specs.declared.fault.SimFault.{SimFault}
 use Rattle.cfi_sim.specs.declared.fault.SimFault.TheVariants.{Open, BadEvent, Memory}
@@ -41,7 +41,7 @@ module _ (plan : Plan) (modules : List Module) (schedule : List ℕ) (x : Whole)
 
   -- all lines lead on
   pub schedule_valid : IsPlan plan → All CanBeTaken modules → (y : Whole) → FollowsTo schedule [] x y
-      → (sim : SimReport) → IsTold y.plan y.stage sim → IsValidSim plan modules schedule sim
+      → (sim : SimReport) → IsToldSim y.plan y.stage sim → IsValidSim plan modules schedule sim
   schedule_valid is taken y follows sim told =
       let lines : follows.before ≡ numbered_lines schedule =
       sym (append-nil follows.before) ∙ sym follows.lines in
@@ -51,4 +51,4 @@ module _ (plan : Plan) (modules : List Module) (schedule : List ℕ) (x : Whole)
       let makes : ScheduleMakes plan modules schedule x.stage y.stage =
       subst (λ (ls : List (ℕ × List ℕ)). LinesMake plan modules ls x.stage y.stage) lines own in
       valid plan modules schedule x.stage y.stage sim is (all_sound modules taken) opened.starts makes
-      (subst (λ (p : Plan). IsTold p y.stage sim) (follows.plan ∙ opened.plan_is) told)
+      (subst (λ (p : Plan). IsToldSim p y.stage sim) (follows.plan ∙ opened.plan_is) told)

@@ -29,7 +29,7 @@ use Rattle.cfi_series.proofs.ImageLemmas.{closed, entry_start}
 use Rattle.cfi_series.proofs.PrefixLemmas.{data_lies}
 use Rattle.cfi_series.proofs.SeriesLemmas.{item_at}
 use Rattle.cfi_sim.specs.declared.limits.TheConstants.{MAX_UPDATES}
-use Rattle.cfi_sim.specs.Agrees.{AreApart, IsPolicyOf, IsOfPlan, HasFound, HasEntry, coming, TablesAgree, GuestsAgree, WorldAgrees}
+use Rattle.cfi_sim.specs.Agrees.{NumbersAreApart, IsPolicyOf, IsOfPlan, HasFound, HasComingEntry, coming, TablesAgree, GuestsAgree, WorldAgrees}
 use Rattle.cfi_sim.specs.declared.aim.Aim.{Aim}
 use Rattle.cfi_sim.specs.Stage.{Stage}
 use Rattle.cfi_sim.specs.Valid.{IsStart}
@@ -156,7 +156,7 @@ module _ (plan : Plan) (modules : List Module) (is : IsPlan plan) (sound : All I
       (policy_of_all plan.code_words loaded (first_entry image) (low 0) are starts.of_starts)
 
   -- the numbers of start modules
-  numbers_apart : AreApart loaded
+  numbers_apart : NumbersAreApart loaded
   numbers_apart = starts_apart plan.modules loaded 0 starts.opens.starts
 
   tables_agree : (aim : Option Aim) → aim ≡ None → TablesAgree plan modules s.state aim t
@@ -171,9 +171,9 @@ module _ (plan : Plan) (modules : List Module) (is : IsPlan plan) (sound : All I
     low = low s.state.policy;
     few = omega (arith, starts.opens.policy);
     entries = entries;
-    aims = subst (λ (a : Option Aim). HasEntry plan modules s.state (entry_at t (in_force t)) a (coming t))
+    aims = subst (λ (a : Option Aim). HasComingEntry plan modules s.state (entry_at t (in_force t)) a (coming t))
         (sym none)
-        (subst (HasEntry plan modules s.state (entry_at t (in_force t)) None) (sym comes_none) tt);
+        (subst (HasComingEntry plan modules s.state (entry_at t (in_force t)) None) (sym comes_none) tt);
   }
 
   -- ---- the guests

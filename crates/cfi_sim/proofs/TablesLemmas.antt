@@ -1,6 +1,6 @@
 -- What the steps of an update before its EPOCH store leave of the agreement of the tables with the journal.
 use Rattle.std.proofs.Common.{◌≡◌, ◌≢◌, ℕ, ◌<◌, ◌≤◌, ◌==◌, ◌++◌, List, [], ◌∷◌, length, Option, Some, None, refl, sym, ◌∙◌, ap, subst, arith}
-use Rattle.cfi_sim.specs.Agrees.{IsPolicyOf, IsEntryFor, coming_by, coming, HasEntry, TablesAgree}
+use Rattle.cfi_sim.specs.Agrees.{IsPolicyOf, IsEntryFor, coming_by, coming, HasComingEntry, TablesAgree}
 use Rattle.cfi_sim.proofs.ComingLemmas.{none_comes, storing_comes, asked_comes}
 use Rattle.cfi_model.specs.Tables.{IsTables, IsRefresh}
 use Rattle.cfi_word.specs.Rank.{stores_of}
@@ -74,7 +74,7 @@ module _ (plan : Plan) (modules : List Module) (state : JournalState) where
     low = agrees.low;
     few = agrees.few;
     entries = agrees.entries;
-    aims = subst (HasEntry plan modules state (entry_at t (in_force t)) None)
+    aims = subst (HasComingEntry plan modules state (entry_at t (in_force t)) None)
         (sym (none_comes (in_force t) (newest t) (entry_at t (newest t)) (force_newest t all))) tt;
   }
 
@@ -95,7 +95,7 @@ module _ (plan : Plan) (modules : List Module) (state : JournalState) where
     few = agrees.few;
     entries = λ number most. agrees.entries number (omega (arith, most, same));
     aims = subst
-        (λ (k : ℕ). HasEntry plan modules state (entry_at t k) aim
+        (λ (k : ℕ). HasComingEntry plan modules state (entry_at t k) aim
         (coming_by t.asked (k == newest t) (entry_at t (newest t)))) (sym same) agrees.aims;
   }
 
@@ -130,7 +130,8 @@ module _ (plan : Plan) (modules : List Module) (state : JournalState) where
             subst (IsPolicyOf plan.code_words state.loaded)
             (sym (updates.old_entry t is e asked number (omega (arith, most, same, within))))
             (agrees.entries number (omega (arith, most, same)));
-        aims = subst (λ (x : Entry). HasEntry plan modules state x aim (coming u)) (sym now)
-            (subst (HasEntry plan modules state (entry_at t (in_force t)) aim) (sym comes)
-            (subst (HasEntry plan modules state (entry_at t (in_force t)) aim) (asked_comes t e asked) agrees.aims));
+        aims = subst (λ (x : Entry). HasComingEntry plan modules state x aim (coming u)) (sym now)
+            (subst (HasComingEntry plan modules state (entry_at t (in_force t)) aim) (sym comes)
+            (subst (HasComingEntry plan modules state (entry_at t (in_force t)) aim) (asked_comes t e asked)
+            agrees.aims));
       }

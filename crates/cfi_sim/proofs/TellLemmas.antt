@@ -1,6 +1,6 @@
 -- A world that agrees with the journal says of epochs and versions what the journal does.
 use Rattle.std.proofs.Common.{◌≡◌, ◌≢◌, ℕ, ◌+◌, ◌<◌, ◌≤◌, ◌==◌, cond, Bool, true, false, List, Option, Some, None, refl, subst, arith}
-use Rattle.std.proofs.lemmas.Bool.Decides.{nat_tests}
+use Rattle.std.proofs.lemmas.Bool.{eqb-false}
 use Rattle.cfi_aux.specs.declared.modules.Module.{Module}
 use Rattle.cfi_model.specs.declared.history.Entry.{Entry}
 use Rattle.cfi_model.specs.declared.phase.Phase.TheVariants as phases
@@ -40,9 +40,6 @@ did_by w image true true is = absurd (cc)
 did_by w image true false is = (refl, refl)
 did_by w image false b is = absurd (cc)
 
-test_not : (n m : ℕ) → (n == m) ≡ false → n ≢ m
-test_not n m e = grind (arith, nat_tests)
-
 -- where all stores were made, the epoch in force is the one before the next
 force_is : (t : Tables) → IsTables t → stores_of t.code_words ≤ t.stored → epoch_in_force t + 1 ≡ next_epoch t
 force_is t is idle = omega (arith, is.some, force_epoch t is, force_newest t idle)
@@ -52,7 +49,7 @@ begins : (w : World) (image : Option Image) → IsWorld w → (turn_of w (events
 begins w image is happens =
     let may = did_by w image (is_idle (phase_of w.tables)) (epoch_in_force w.tables == MAX_EPOCH) happens in
     let idle : AreIdle w.tables = idle_is w.tables may.0 in
-    let left : epoch_in_force w.tables ≢ MAX_EPOCH = test_not (epoch_in_force w.tables) MAX_EPOCH may.1 in
+    let left : epoch_in_force w.tables ≢ MAX_EPOCH = eqb-false (epoch_in_force w.tables) MAX_EPOCH may.1 in
     omega (arith, is.tables.epochs_fit, force_is w.tables is.tables idle.stored, left)
 
 -- while a test is under way all stores were made, and there is a next epoch

@@ -21,8 +21,8 @@ use Rattle.cfi_sim.specs.Reach.{OfUpdate}
 use Rattle.cfi_sim.specs.Stage.{Stage, IsMade, after_event, loaded_as}
 use Rattle.cfi_sim.specs.Stands.{LoadFits}
 use Rattle.cfi_sim.specs.inner.Loaded.{loaded_of}
-use Rattle.cfi_sim.specs.inner.Making.{FitsAim, HasCome, HasMade, NotesBy, with_dropped, with_told}
-use Rattle.cfi_sim.specs.inner.Standing.{Whole, IsKept, IsUnderWay, whole_of}
+use Rattle.cfi_sim.specs.inner.Making.{FitsAim, HasCome, HasMadeWithin, NotesBy, with_dropped, with_told}
+use Rattle.cfi_sim.specs.inner.Standing.{Whole, SeriesFits, IsUnderWay, whole_inside}
 use Rattle.cfi_sim.proofs.BeginLemmas.{under_after, updates_few, done_so}
 use Rattle.cfi_sim.proofs.NotedLemmas.{not_spent, busy, update_counts}
 use Rattle.cfi_sim.proofs.LoadLemmas.{loaded_more, series_is}
@@ -36,11 +36,11 @@ use Rattle.cfi_world.specs.Updates.{is_idle}
 
 -- ---- a module enters
 
-module _ (a : Inside) (kept : IsKept a) (x : Whole) (is : whole_of a ≡ x) (number : ℕ)
+module _ (a : Inside) (kept : SeriesFits a) (x : Whole) (is : whole_inside a ≡ x) (number : ℕ)
     (fits : LoadFits x.plan x.modules x.stage.state number) (m : Module) (m_is : m ≡ get_or a.modules.now number m)
   where
     abbrev here : Whole
-    here = whole_of a
+    here = whole_inside a
 
     clean_here : IsClean here.plan here.modules here.stage.state number
     clean_here = subst (λ (w : Whole). IsClean w.plan w.modules w.stage.state number) (sym is) fits.clean
@@ -120,18 +120,18 @@ fits_aim x under w events = record {
 
 -- ---- it is made
 
-module _ (a : Inside) (x : Whole) (is : whole_of a ≡ x) (under : IsUnderWay x) (few : a.events < MAX_EVENTS)
+module _ (a : Inside) (x : Whole) (is : whole_inside a ≡ x) (under : IsUnderWay x) (few : a.events < MAX_EVENTS)
     (phase : Phase) (phase_is : phase ≡ phase_of a.world.tables) (going : is_idle phase ≡ false) (mid : World)
     (turned : Turned) (turns : Turns a.world events.Update mid turned) where
   abbrev now : Whole
-  now = whole_of a
+  now = whole_inside a
 
   abbrev turned_now : Whole
   turned_now = record now { stage = record now.stage { world = mid; events = a.events + 1 } }
 
   advanced : (y : Whole) → y ≡ record now { stage = y.stage }
       → IsNoted now.plan now.modules phase turned turned_now.stage y.stage
-      → HasMade (IsUpdateEvent x.plan x.modules) x y
+      → HasMadeWithin (IsUpdateEvent x.plan x.modules) x y
   advanced y y_is noted =
       let under_now : IsUnderWay now = subst IsUnderWay (sym is) under in
       let turn = turn_of a.world events.Update in
@@ -147,7 +147,7 @@ module _ (a : Inside) (x : Whole) (is : whole_of a ≡ x) (under : IsUnderWay x)
       let after : IsUnderWay (record now { stage = y.stage }) =
       under_after now under_now OfUpdate y.stage event tt in
       let counts = update_counts now.plan now.modules now.stage y.stage event in
-      subst (λ (w : Whole). HasMade (IsUpdateEvent w.plan w.modules) w y) is
+      subst (λ (w : Whole). HasMadeWithin (IsUpdateEvent w.plan w.modules) w y) is
       (record {
         done = done_so (IsUpdateEvent now.plan now.modules) now y y_is event after;
         within = record {
@@ -158,7 +158,7 @@ module _ (a : Inside) (x : Whole) (is : whole_of a ≡ x) (under : IsUnderWay x)
 
   -- the update is not made
   pub dropped_advance : (guest quiet : ℕ) → turned ≡ VersionsSpent guest quiet → (y : Whole)
-      → y ≡ with_dropped guest quiet turned_now → HasMade (IsUpdateEvent x.plan x.modules) x y
+      → y ≡ with_dropped guest quiet turned_now → HasMadeWithin (IsUpdateEvent x.plan x.modules) x y
   dropped_advance guest quiet spent y y_is =
       advanced y (y_is ∙ ap (λ (s : Stage). record now { stage = s }) (ap (λ (w : Whole). w.stage) (sym y_is)))
       (subst (λ (t : Turned). IsNoted now.plan now.modules phase t turned_now.stage y.stage) (sym spent)
@@ -179,9 +179,6 @@ module _ (a : Inside) (x : Whole) (is : whole_of a ≡ x) (under : IsUnderWay x)
       notes ∙ ap (λ (s : Stage). record now { stage = s }) (ap (λ (w : Whole). w.stage) (sym notes))
 
   pub noted_advance : ((guest quiet : ℕ) → turned ≡ VersionsSpent guest quiet → ⊥) → (y : Whole)
-      → NotesBy phase turned_now y → HasMade (IsUpdateEvent x.plan x.modules) x y
+      → NotesBy phase turned_now y → HasMadeWithin (IsUpdateEvent x.plan x.modules) x y
   noted_advance other y notes =
       advanced y (notes_is phase y notes) (not_spent phase turned other turned_now y notes)
-
-  pub fits_now : FitsAim turned_now
-  fits_now = fits_aim now (subst IsUnderWay (sym is) under) mid (a.events + 1)

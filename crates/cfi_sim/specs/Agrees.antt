@@ -57,15 +57,15 @@ abbrev pub coming : Tables → Option Entry
 coming t = coming_by t.asked (in_force t == newest t) (entry_at t (newest t))
 
 -- an update has an aim exactly while its entry is coming
-abbrev pub HasEntry : Plan → List Module → JournalState → (now : Entry) → Option Aim → Option Entry → Type 0
-HasEntry plan modules state now None None = ⊤
-HasEntry plan modules state now (Some aim) (Some e) = IsEntryFor plan modules state now aim e
-HasEntry plan modules state now None (Some e) = ⊥
-HasEntry plan modules state now (Some aim) None = ⊥
+abbrev pub HasComingEntry : Plan → List Module → JournalState → (now : Entry) → Option Aim → Option Entry → Type 0
+HasComingEntry plan modules state now None None = ⊤
+HasComingEntry plan modules state now (Some aim) (Some e) = IsEntryFor plan modules state now aim e
+HasComingEntry plan modules state now None (Some e) = ⊥
+HasComingEntry plan modules state now (Some aim) None = ⊥
 
 -- a number of the plan is that of one loaded module at most
-abbrev pub AreApart : List LoadedModule → Type 0
-AreApart loaded =
+abbrev pub NumbersAreApart : List LoadedModule → Type 0
+NumbersAreApart loaded =
     (j k : ℕ) (l m : LoadedModule) → slice_get loaded j ≡ Some l → slice_get loaded k ≡ Some m → l.number ≡ m.number →
     j ≡ k
 
@@ -78,11 +78,11 @@ pub record TablesAgree (plan : Plan) (modules : List Module) (state : JournalSta
   pub epoch : state.epoch ≡ plan.first + in_force t
   pub policy : state.policy ≡ (entry_at t (in_force t)).policy
   pub series : IsSeries plan.code_words (placed_modules state.loaded)
-  pub apart : AreApart state.loaded
+  pub apart : NumbersAreApart state.loaded
   pub low : AllByRecursion (λ (l : LoadedModule). l.policy ≤ state.policy) state.loaded
   pub few : state.policy ≤ length state.loaded
   pub entries : (number : ℕ) → number ≤ in_force t → IsPolicyOf plan.code_words state.loaded (entry_at t number)
-  pub aims : HasEntry plan modules state (entry_at t (in_force t)) aim (coming t)
+  pub aims : HasComingEntry plan modules state (entry_at t (in_force t)) aim (coming t)
 
 -- ---- the guests
 

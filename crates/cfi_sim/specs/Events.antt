@@ -1,7 +1,7 @@
 -- What each event of a schedule makes of its stage. An event is one whose turn is not `Nothing`.
 use Rattle.cfi_sim.specs.declared.aim.Aim.{Aim}
 use Rattle.cfi_sim.specs.declared.aim.Aim.TheVariants.{Loading, Refreshing}
-use Rattle.cfi_sim.specs.Stage.{Stage, with_line, dropped, IsMade, after_event}
+use Rattle.cfi_sim.specs.Stage.{Stage, with_journal_line, dropped, IsMade, after_event}
 use Rattle.std.specs.Prelude.{◌≡◌, ◌≢◌, ◌⊎◌, ℕ, ◌≤◌, ◌<◌, List, [], ◌∷◌, ◌++◌, length, slice_get, Option, Some, None}
 use Rattle.cfi_aux.specs.declared.modules.Module.{Module}
 use Rattle.cfi_graph.specs.Direct.{DirectEdge}
@@ -115,7 +115,7 @@ pub record IsUpdateEvent (plan : Plan) (modules : List Module) (old new : Stage)
 -- it does, or no epoch is left
 abbrev pub Begins : Aim → JournalLine → (old new : Stage) → Option Image → Turned → World → Type 0
 Begins aim spent old new image Did world = new ≡ record (after_event world old) { aim = Some aim }
-Begins aim spent old new image EpochsSpent world = new ≡ with_line spent (after_event world old)
+Begins aim spent old new image EpochsSpent world = new ≡ with_journal_line spent (after_event world old)
 Begins aim spent old new image answer world = ⊥
 
 abbrev pub IsBeginning : Aim → (spent : JournalLine) → Option Image → (old new : Stage) → Type 0
@@ -128,19 +128,19 @@ IsRefreshEvent old new = IsBeginning Refreshing lines.RefreshEpochs None old new
 -- ---- a load
 
 -- lines of a load that is told at once, without an event
-abbrev pub IsTold : JournalLine → (number : ℕ) → Type 0
-IsTold (lines.LoadAgain asked policy) number = asked ≡ number
-IsTold (lines.LoadFull asked) number = asked ≡ number
-IsTold (lines.LoadPlace asked fault) number = asked ≡ number
-IsTold (lines.LoadVerify asked fault place) number = asked ≡ number
-IsTold line number = ⊥
+abbrev pub TellsLoad : JournalLine → (number : ℕ) → Type 0
+TellsLoad (lines.LoadAgain asked policy) number = asked ≡ number
+TellsLoad (lines.LoadFull asked) number = asked ≡ number
+TellsLoad (lines.LoadPlace asked fault) number = asked ≡ number
+TellsLoad (lines.LoadVerify asked fault place) number = asked ≡ number
+TellsLoad line number = ⊥
 
 -- the journal has such a line more, which is legal
 pub record IsToldLoad (plan : Plan) (modules : List Module) (number : ℕ) (old new : Stage) : Type 0 where
   pub line : JournalLine
-  pub told : IsTold line number
+  pub told : TellsLoad line number
   pub legal : LineLeads plan modules old.state line old.state
-  pub is : new ≡ with_line line old
+  pub is : new ≡ with_journal_line line old
 
 -- or the module has no fault, and an update to the image of all begins
 pub record IsBegunLoad (plan : Plan) (modules : List Module) (number : ℕ) (old new : Stage) : Type 0 where

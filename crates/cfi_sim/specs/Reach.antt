@@ -34,13 +34,13 @@ abbrev pub IsNext : Plan → List Module → (old new : Stage) → Type 0
 IsNext plan modules old new = (happening : Happening) × Happens plan modules old new happening
 
 -- some events lead from one stage to another
-abbrev pub Reaches : Plan → List Module → (old new : Stage) → Type 0
-Reaches plan modules old new = (count : ℕ) × Repeats (IsNext plan modules) count old new
+abbrev pub EventsReach : Plan → List Module → (old new : Stage) → Type 0
+EventsReach plan modules old new = (count : ℕ) × Repeats (IsNext plan modules) count old new
 
 -- what a schedule makes comes of events
 abbrev pub SchedulesReach : Type 0
 SchedulesReach = (plan : Plan) (modules : List Module) (schedule : List ℕ) (old new : Stage) →
-    ScheduleMakes plan modules schedule old new → Reaches plan modules old new
+    ScheduleMakes plan modules schedule old new → EventsReach plan modules old new
 
 -- ---- the journal
 

@@ -17,7 +17,7 @@ Repeats Happens zero old new = new ≡ old
 Repeats Happens (suc count) old new = (mid : Stage) × Repeats Happens count old mid × Happens mid new
 
 -- events of the updater up to the first after which no update is under way; there is one
-pub record IsWhole (plan : Plan) (modules : List Module) (old new : Stage) : Type 0 where
+pub record IsWholeUpdate (plan : Plan) (modules : List Module) (old new : Stage) : Type 0 where
   pub more : ℕ
   pub before : Stage
   pub events : Repeats (IsUpdateEvent plan modules) more old before
@@ -31,11 +31,11 @@ Makes plan modules (Guest guest count) old new = Repeats (IsGuestEvent plan gues
 Makes plan modules (Load number) old new = IsLoadEvent plan modules number old new
 Makes plan modules Refresh old new = IsRefreshEvent old new
 Makes plan modules (Update count) old new = Repeats (IsUpdateEvent plan modules) count old new
-Makes plan modules UpdateAll old new = IsWhole plan modules old new
+Makes plan modules UpdateAll old new = IsWholeUpdate plan modules old new
 Makes plan modules (Release guest) old new = IsReleaseEvent guest old new
 
 -- no limit is passed
-pub record IsWithin (s : Stage) : Type 0 where
+pub record PassesNoLimit (s : Stage) : Type 0 where
   pub events : s.events ≤ MAX_EVENTS
   pub updates : s.world.updates ≤ MAX_UPDATES
 
@@ -44,7 +44,7 @@ pub record LineMakes (plan : Plan) (modules : List Module) (text : List ℕ) (ol
   pub line : Line
   pub says : Says plan (words_in (statement_of text)) line
   pub makes : Makes plan modules line old new
-  pub within : IsWithin new
+  pub within : PassesNoLimit new
 
 -- lines with their numbers do, one after the other
 abbrev pub LinesMake : Plan → List Module → (texts : List (ℕ × List ℕ)) → (old new : Stage) → Type 0

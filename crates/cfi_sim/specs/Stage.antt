@@ -22,30 +22,30 @@ pub record Stage : Type 0 where
   pub events : ℕ
 
 -- with a line of the journal more, for which the schedule stands as the script
-abbrev pub with_line : JournalLine → Stage → Stage
-with_line line s = record s { journal = s.journal ++ record { who = Script; what = line } ∷ [] }
+abbrev pub with_journal_line : JournalLine → Stage → Stage
+with_journal_line line s = record s { journal = s.journal ++ record { who = Script; what = line } ∷ [] }
 
 -- what came of an update that was not made
-abbrev pub refusal_of : Aim → (guest quiet : ℕ) → JournalLine
-refusal_of (Loading number) guest quiet = lines.LoadVersions number guest quiet
-refusal_of Refreshing guest quiet = lines.RefreshVersions guest quiet
+abbrev pub versions_line : Aim → (guest quiet : ℕ) → JournalLine
+versions_line (Loading number) guest quiet = lines.LoadVersions number guest quiet
+versions_line Refreshing guest quiet = lines.RefreshVersions guest quiet
 
 abbrev pub dropped : Option Aim → (guest quiet : ℕ) → Stage → Stage
 dropped None guest quiet s = s
-dropped (Some aim) guest quiet s = with_line (refusal_of aim guest quiet) (record s { aim = None })
+dropped (Some aim) guest quiet s = with_journal_line (versions_line aim guest quiet) (record s { aim = None })
 
 -- what comes of one with its EPOCH store: the module is loaded as it is placed, or the epoch is the next one
 abbrev pub loaded_as : (number : ℕ) → Placed → Stage → Stage
 loaded_as number placed s =
     let epoch = s.state.epoch + 1 in
     let policy = s.state.policy + 1 in
-    with_line (lines.LoadOk number epoch policy)
+    with_journal_line (lines.LoadOk number epoch policy)
     (record s { state = with_loaded number epoch policy placed s.state; aim = None })
 
 abbrev pub refreshed : Stage → Stage
 refreshed s =
     let epoch = s.state.epoch + 1 in
-    with_line (lines.RefreshOk epoch) (record s { state = record s.state { epoch = epoch }; aim = None })
+    with_journal_line (lines.RefreshOk epoch) (record s { state = record s.state { epoch = epoch }; aim = None })
 
 abbrev pub IsMade : Plan → List Module → Option Aim → (old new : Stage) → Type 0
 IsMade plan modules None old new = new ≡ old

@@ -20,12 +20,12 @@ AimFits plan modules state (Some (Loading number)) = LoadFits plan modules state
 AimFits plan modules state (Some Refreshing) = state.epoch < MAX_EPOCH
 
 -- the journal leads from the opening to the stage's state
-pub record Stands (plan : Plan) (modules : List Module) (opening : JournalState) (s : Stage) : Type 0 where
+pub record JournalStands (plan : Plan) (modules : List Module) (opening : JournalState) (s : Stage) : Type 0 where
   pub leads : EntriesLead plan modules opening s.journal s.state
   pub aim : AimFits plan modules s.state s.aim
 
 pub record Holds (plan : Plan) (modules : List Module) (opening : JournalState) (s : Stage) : Type 0 where
-  pub stands : Stands plan modules opening s
+  pub stands : JournalStands plan modules opening s
   pub agrees : WorldAgrees plan modules s
 
 -- so it holds from some opening on

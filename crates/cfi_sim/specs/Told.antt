@@ -5,13 +5,14 @@ use Rattle.cfi_aux.specs.Sound.{IsSoundModule}
 use Rattle.cfi_model.specs.Phases.{phase_of}
 use Rattle.cfi_model.specs.Raw.{Raw}
 use Rattle.cfi_model.specs.World.{World}
+use Rattle.cfi_part.specs.Part.{part_of}
 use Rattle.cfi_plan.specs.declared.plan.Plan.{Plan}
 use Rattle.cfi_plan.specs.Plan.{IsPlan}
 use Rattle.cfi_report.specs.declared.report.GuestPart.{GuestPart}
 use Rattle.cfi_sim.specs.declared.report.SimReport.{SimReport}
 use Rattle.cfi_sim.specs.Schedule.{ScheduleMakes}
 use Rattle.cfi_sim.specs.Stage.{Stage}
-use Rattle.cfi_sim.specs.Valid.{part_of, IsStart, IsValidSim}
+use Rattle.cfi_sim.specs.Valid.{IsStart, IsValidSim}
 use Rattle.cfi_valid.specs.Loaded.{module_line_of}
 
 -- what the world has of a guest
@@ -22,7 +23,7 @@ pub record IsToldGuest (plan : Plan) (w : World) (number : ℕ) (part : GuestPar
   pub told : part ≡ part_of number part.entry r
 
 -- how far the updater has come, the journal, what is in force and loaded, and each guest
-pub record IsTold (plan : Plan) (end : Stage) (sim : SimReport) : Type 0 where
+pub record IsToldSim (plan : Plan) (end : Stage) (sim : SimReport) : Type 0 where
   pub phase : sim.phase ≡ phase_of end.world.tables
   pub journal : sim.report.journal ≡ end.journal
   pub epoch : sim.report.epoch ≡ end.state.epoch
@@ -36,4 +37,4 @@ pub record IsTold (plan : Plan) (end : Stage) (sim : SimReport) : Type 0 where
 abbrev pub SchedulesAreValid : Type 0
 SchedulesAreValid = (plan : Plan) (modules : List Module) (schedule : List ℕ) (start end : Stage) (sim : SimReport) →
     IsPlan plan → All IsSoundModule modules → IsStart plan modules start →
-    ScheduleMakes plan modules schedule start end → IsTold plan end sim → IsValidSim plan modules schedule sim
+    ScheduleMakes plan modules schedule start end → IsToldSim plan end sim → IsValidSim plan modules schedule sim

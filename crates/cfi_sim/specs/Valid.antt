@@ -6,6 +6,7 @@ use Rattle.cfi_graph.specs.Direct.{DirectEdge}
 use Rattle.cfi_model.specs.Phases.{phase_of}
 use Rattle.cfi_model.specs.Raw.{Raw, raw_opened}
 use Rattle.cfi_model.specs.World.{World, opened_world}
+use Rattle.cfi_part.specs.Part.{part_of}
 use Rattle.cfi_plan.specs.declared.plan.Plan.{Plan}
 use Rattle.cfi_policy.specs.Image.{IsImage}
 use Rattle.cfi_report.specs.declared.report.GuestPart.{GuestPart}
@@ -47,18 +48,6 @@ pub record IsStart (plan : Plan) (modules : List Module) (s : Stage) : Type 0 wh
   pub events : s.events ≡ 0
 
 -- ---- the end
-
--- what a part says of a guest of the world
-abbrev pub part_of : (number : ℕ) → (entry : List ℕ) → Raw → GuestPart
-part_of number entry r = record {
-  number = number;
-  entry = entry;
-  log = r.base.log;
-  out = r.base.output;
-  stop = r.base.stop;
-  units = r.base.units;
-  steps = r.base.steps;
-}
 
 -- the causes that an open can have: the plan lacks the module, the module has no function, or opens load nothing
 abbrev pub IsSimCause : Course → List Log → (at number cause : ℕ) → Why → Type 0

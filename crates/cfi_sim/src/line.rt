@@ -7,7 +7,7 @@ ghost use Rattle.cfi_word.specs.declared.limits.TheConstants.{MAX_MODULES};
 ghost use Rattle.cfi_plan.specs.declared.plan.Plan.{Plan as PlanValue};
 ghost use Rattle.cfi_sim.specs.Line.{IsKnown, Says, guest_in, count_in};
 ghost use Rattle.cfi_sim.specs.declared.line.Line.{Line as LineValue};
-ghost use Rattle.cfi_sim.specs.inner.Forms.{form_of, alone_form, pair_form, guest_form, updates_form};
+ghost use Rattle.cfi_sim.specs.inner.Forms.{schedule_form, alone_form, two_words_form, guest_form, updates_form};
 
 use cfi_plan::{Plan, PlanModule};
 use cfi_text::{next_word, read_small_dec};
@@ -52,7 +52,7 @@ pub fn read_line(plan: &Plan, statement: &[u8]) -> Option<Line>
 // The line that the statement says, by the number of its words.
 fn line_in(plan: &Plan, statement: &[u8]) -> Option<Line>
     requires { length plan.now.modules ≤ MAX_MODULES }
-    ensures line { result ≡ form_of plan.now (words_in statement.now) }
+    ensures line { result ≡ schedule_form plan.now (words_in statement.now) }
     ensures known { IfSome result (IsKnown plan.now) }
 {
     let Some((keyword, rest)) = next_word(statement) else {
@@ -62,7 +62,7 @@ fn line_in(plan: &Plan, statement: &[u8]) -> Option<Line>
         return alone(keyword);
     };
     let Some((second, rest)) = next_word(rest) else {
-        return pair(plan, keyword, first);
+        return two_words(plan, keyword, first);
     };
     if next_word(rest).is_some() || keyword != b"guest".as_slice() {
         return None;
@@ -84,10 +84,10 @@ fn alone(keyword: &[u8]) -> Option<Line>
     None
 }
 
-#[tactic(auto, unfolding(crate::specs::inner::Forms::pair_form))]
-fn pair(plan: &Plan, keyword: &[u8], word: &[u8]) -> Option<Line>
+#[tactic(auto, unfolding(crate::specs::inner::Forms::two_words_form))]
+fn two_words(plan: &Plan, keyword: &[u8], word: &[u8]) -> Option<Line>
     requires { length plan.now.modules ≤ MAX_MODULES }
-    ensures line { result ≡ pair_form plan.now keyword.now word.now }
+    ensures line { result ≡ two_words_form plan.now keyword.now word.now }
     ensures known { IfSome result (IsKnown plan.now) }
 {
     if keyword == b"guest".as_slice() {

@@ -3,7 +3,7 @@
 ghost use Rattle.std.specs.Prelude.{◌≡◌, ◌<◌, ◌++◌, length, IfOk, OnOk, IfSome, IfNone};
 ghost use Rattle.cfi_series.specs.Entry.{HasAddresses};
 ghost use Rattle.cfi_series.specs.Fills.{fill_of};
-ghost use Rattle.cfi_sim.specs.Agrees.{AreApart};
+ghost use Rattle.cfi_sim.specs.Agrees.{NumbersAreApart};
 ghost use Rattle.cfi_sim.specs.Events.{IsFound, IsIdle, address_in, cause_in};
 ghost use Rattle.cfi_sim.specs.inner.Loaded.{due_of, loaded_of, SpotHas, NoSpotHas, FindsIn};
 ghost use Rattle.cfi_valid.specs.Loaded.{fills_between};
@@ -126,7 +126,7 @@ pub fn place_of(spots: &[Spot], number: u32) -> Option<usize>
 /// What an open of a module finds.
 pub fn find(plan: &Plan, world: &World, series: &Series, spots: &[Spot], number: u32) -> Found
     requires count { length spots.now ≡ length series.now.placed }
-    requires apart { AreApart (loaded_of spots.now series.now.placed) }
+    requires apart { NumbersAreApart (loaded_of spots.now series.now.placed) }
     ensures { IsFound plan.now world.now (loaded_of spots.now series.now.placed) number result }
 {
     if number as usize >= plan.modules.len() {

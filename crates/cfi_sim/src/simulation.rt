@@ -4,10 +4,10 @@ ghost use Rattle.std.specs.Prelude.{◌≡◌, ◌<◌, ◌^◌, [], All, IfOk, 
 ghost use Rattle.cfi_plan.specs.Plan.{IsPlan};
 ghost use Rattle.cfi_series.specs.Series.{CanBeTaken};
 ghost use Rattle.cfi_sim.specs.Faults.{IsSimFault};
-ghost use Rattle.cfi_sim.specs.Schedule.{IsWithin, LineMakes};
+ghost use Rattle.cfi_sim.specs.Schedule.{PassesNoLimit, LineMakes};
 ghost use Rattle.cfi_sim.specs.Valid.{IsValidSim};
 ghost use Rattle.cfi_sim.specs.inner.Following.{FollowsTo, IsLineFault, IsScheduleFault};
-ghost use Rattle.cfi_sim.specs.inner.Making.{HasMade};
+ghost use Rattle.cfi_sim.specs.inner.Making.{HasMadeWithin};
 ghost use Rattle.cfi_sim.specs.inner.Standing.{IsUnderWay};
 
 use crate::fault::SimFault;
@@ -28,9 +28,10 @@ fn follow_line(
     text: &[u8],
 ) -> Result<(), SimFault>
     requires under_way { IsUnderWay standing.old }
-    requires within { IsWithin standing.old.stage }
+    requires within { PassesNoLimit standing.old.stage }
     ensures ok { OnOk result
-        (HasMade (LineMakes standing.old.plan standing.old.modules text.now) standing.old standing.new) }
+        (HasMadeWithin (LineMakes standing.old.plan standing.old.modules text.now)
+            standing.old standing.new) }
     ensures fault { IfErr result (IsLineFault standing.old number text.now) }
 {
     let Some(line) = standing.read(text) else {
@@ -46,7 +47,7 @@ fn follow_line(
 // Makes the lines of a schedule, one after the other, as far as they lead.
 fn follow(alloc: Global, standing: &mut Standing<'_>, schedule: &[u8]) -> Result<(), SimFault>
     requires under_way { IsUnderWay standing.old }
-    requires within { IsWithin standing.old.stage }
+    requires within { PassesNoLimit standing.old.stage }
     requires short { length schedule.now < 2 ^ 32 }
     ensures ok { OnOk result (FollowsTo schedule.now [] standing.old standing.new) }
     ensures fault { IfErr result (IsScheduleFault standing.old schedule.now) }

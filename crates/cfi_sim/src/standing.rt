@@ -35,13 +35,13 @@ pub struct Standing<'a> {
 }
 
 impl<'a> Model for Standing<'a> {
-    ghost use Rattle.cfi_sim.specs.inner.Standing.{Whole, whole_of, IsKept};
+    ghost use Rattle.cfi_sim.specs.inner.Standing.{Whole, whole_inside, SeriesFits};
 
     ghost Value = { Whole };
 
-    ghost view = { whole_of };
+    ghost view = { whole_inside };
 
-    ghost invariant = { IsKept };
+    ghost invariant = { SeriesFits };
 }
 
 impl<'a> Standing<'a> {

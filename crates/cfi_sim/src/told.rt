@@ -1,7 +1,6 @@
 //! What a simulation tells of the end of its schedule.
 
 ghost use Rattle.std.specs.Prelude.{◌≡◌, ◌≤◌, IfOk, length, map};
-ghost use Rattle.cfi_sim.specs.Valid.{part_of};
 ghost use Rattle.cfi_sim.specs.inner.Loaded.{loaded_of, module_at};
 ghost use Rattle.cfi_sim.specs.inner.Parts.{ArePartsOf};
 ghost use Rattle.cfi_valid.specs.Loaded.{module_line_of, planned_name};
@@ -9,9 +8,10 @@ ghost use Rattle.cfi_word.specs.declared.limits.TheConstants.{GUESTS};
 
 use crate::spot::Spot;
 use cfi_aux::Placed;
+use cfi_part::part_of;
 use cfi_plan::{ModuleLine, Plan};
 use cfi_report::GuestPart;
-use cfi_values::{Items, Text};
+use cfi_values::Text;
 use rv_guest::Guest;
 use std::alloc::{AllocError, Global};
 
@@ -69,21 +69,6 @@ pub(crate) fn lines_of(
         lines.push(line_of(alloc, plan, spots[k], &placed[k])?)?;
     }
     Ok(lines)
-}
-
-// What a report says of a guest.
-fn part_of(alloc: Global, number: u32, entry: &str, guest: &Guest) -> Result<GuestPart, AllocError>
-    ensures { IfOk result (λ part. part ≡ part_of number entry.now guest.now) }
-{
-    Ok(GuestPart {
-        number,
-        entry: text_of(alloc, entry)?,
-        log: Items::from_vec(Vec::from_slice(alloc, guest.log())?),
-        out: Items::from_vec(Vec::from_slice(alloc, guest.output())?),
-        stop: guest.stop(),
-        units: guest.units(),
-        steps: guest.steps(),
-    })
 }
 
 /// What a report says of the guests of a plan, by number.

@@ -20,9 +20,9 @@ use Rattle.cfi_valid.specs.Growth.{IsLater, Continues, FitsEntry}
 use Rattle.cfi_valid.specs.Joining.{IsFull, HasFault, HasNoFault}
 use Rattle.cfi_valid.specs.Journal.{JournalState, IsOutOfEpochs}
 use Rattle.cfi_valid.specs.Loaded.{LoadedModule, loaded_by}
-use Rattle.cfi_valid.specs.Log.{next_policy, IsInSpan, HoldsInSpan, HasFunctionAt, HasNoFunction, is_versions, is_too_old, Why, NoModule, ModulesFull, NotPlaced, NotVerified, VersionsSpent, EpochsSpent, NoFunction, Unlogged, why_of, IsCaused, NeverFall, IsLogged}
+use Rattle.cfi_valid.specs.Log.{next_policy, IsInSpan, HoldsInSpan, HasFunctionAt, HasNoFunction, is_versions, is_too_old, Why, NoModule, ModulesFull, NotPlaced, NotVerified, VersionsSpent, EpochsSpent, NoFunction, Unlogged, why_of, IsCaused, NeverFall, FitsCauses, IsLogged}
 use Rattle.cfi_valid.proofs.GrowthLemmas.{along_later, loaded_stays, spent_stays}
-use Rattle.cfi_valid.proofs.LogGrowth.{old as earlier, new as current, span_low, opens_stays}
+use Rattle.cfi_valid.proofs.LogGrowth.{old as earlier, new as current, Before as before_of, span_low, opens_stays}
 
 -- ---- policies
 
@@ -39,6 +39,81 @@ next_more low high [] entry closes = closes
 next_more low high (Pick policy count ∷ later) entry closes = omega arith
 next_more low high (Open number address policy ∷ later) entry closes = omega arith
 next_more low high (Cause number cause ∷ later) entry closes = next_more low high later entry closes
+
+-- ---- what fits up to its causes
+
+module _ (old new : Course) (later : IsLater old.end new.end) (Before : (at number cause : ℕ) → Type 0) (log : List Log)
+    (fits : FitsCauses old Before log) (entry : Log)
+    (closes : old.end.policy ≤ next_policy new.end.policy (entry ∷ [])) where
+  abbrev longer : List Log
+  longer = log ++ entry ∷ []
+
+  span_closes : (at policy : ℕ) → at < length log → IsInSpan old.end.policy log at policy
+      → IsInSpan new.end.policy longer at policy
+  span_closes at policy within span =
+      let front : take at longer ≡ take at log = take-append-le at log (entry ∷ []) (omega (arith, within)) in
+      let back : drop (at + 1) longer ≡ drop (at + 1) log ++ entry ∷ [] =
+      drop-append-le (at + 1) log (entry ∷ []) (omega (arith, within)) in
+      let next = next_more old.end.policy new.end.policy (drop (at + 1) log) entry closes in
+      record {
+        least = subst (λ (xs : List Log). last_policy xs ≤ policy) (sym front) span.least;
+        most = subst (λ (xs : List Log). policy ≤ next_policy new.end.policy xs) (sym back)
+            (omega (arith, span.most, next));
+      }
+
+  pub holds_closes : (at : ℕ) → at < length log → (P : List LoadedModule → Type 0) → HoldsInSpan old log at P
+      → HoldsInSpan new longer at P
+  holds_closes at within P holds =
+      let low = span_low old new later Before log fits at holds.0 holds.1 in (
+        holds.0,
+        span_closes at holds.0 within holds.1,
+        subst P (sym (loaded_stays old.end new.end later holds.0 low)) holds.2,
+      )
+
+  at_end : (at : ℕ) (e : Log) → slice_get longer at ≡ Some e → length log ≤ at → at ≡ length log
+  at_end at e is past =
+      let within = slice_get_within longer at e is in omega (arith, within, past, length-append log (entry ∷ []))
+
+  module _ (After : (at number cause : ℕ) → Type 0) (rises : last_policy log ≤ policy_after (last_policy log) entry)
+      (most : policy_after (last_policy log) entry ≤ new.end.policy)
+      (opened : (number address policy : ℕ) → entry ≡ Open number address policy
+      → HasFunctionAt (loaded_by policy new.end.loaded) number address)
+      (before : (at number cause : ℕ) → at < length log → Before at number cause → After at number cause)
+      (caused : (number cause : ℕ) → entry ≡ Cause number cause → After (length log) number cause) where
+    opens_all : (at number address policy : ℕ) → slice_get longer at ≡ Some (Open number address policy)
+        → HasFunctionAt (loaded_by policy new.end.loaded) number address
+    opens_all at number address policy is = ⊎_elim
+        (λ (within : at < length log).
+        opens_stays old new later Before log fits at number address policy
+        (left log (entry ∷ []) at (Open number address policy) within is))
+        (λ (past : length log ≤ at).
+        opened number address policy
+        (last log entry at (Open number address policy) (at_end at (Open number address policy) is past) is))
+        (cases_lt at (length log))
+
+    causes_all : (at number cause : ℕ) → slice_get longer at ≡ Some (Cause number cause) → After at number cause
+    causes_all at number cause is = ⊎_elim
+        (λ (within : at < length log).
+        before at number cause within
+        (fits.causes at number cause (left log (entry ∷ []) at (Cause number cause) within is)))
+        (λ (past : length log ≤ at).
+        let end_is = at_end at (Cause number cause) is past in
+        subst (λ (n : ℕ). After n number cause) (sym end_is)
+        (caused number cause (last log entry at (Cause number cause) end_is is)))
+        (cases_lt at (length log))
+
+    pub fits_grow : FitsCauses new After longer
+    fits_grow =
+        let whole : last_policy longer ≡ policy_after (last_policy log) entry =
+        fold-append policy_after 0 log (entry ∷ []) in
+        record {
+          rises = never_more 0 log entry fits.rises rises;
+          most = subst (λ (n : ℕ). n ≤ new.end.policy) (sym whole) most;
+          opens = opens_all;
+          causes = causes_all;
+        }
+
+-- ---- the log of a run
 
 module _ (plan : Plan) (modules : List Module) (journal more : List Entry) (end after : JournalState)
     (later : IsLater end after) (kept : IsOutOfEpochs end → after ≡ end) (guest : ℕ) (log : List Log)
@@ -73,27 +148,17 @@ module _ (plan : Plan) (modules : List Module) (journal more : List Entry) (end 
 
   -- ---- what was logged before it
 
-  span_closes : (at policy : ℕ) → at < length log → IsInSpan end.policy log at policy
-      → IsInSpan after.policy all at policy
-  span_closes at policy within span =
-      let front : take at all ≡ take at log = take-append-le at log (entry ∷ []) (omega (arith, within)) in
-      let back : drop (at + 1) all ≡ drop (at + 1) log ++ entry ∷ [] =
-      drop-append-le (at + 1) log (entry ∷ []) (omega (arith, within)) in
-      let next = next_more end.policy after.policy (drop (at + 1) log) entry (entry_closes entry fits) in
-      record {
-        least = subst (λ (xs : List Log). last_policy xs ≤ policy) (sym front) span.least;
-        most = subst (λ (xs : List Log). policy ≤ next_policy after.policy xs) (sym back)
-            (omega (arith, span.most, next));
-      }
+  abbrev Before : (at number cause : ℕ) → Type 0
+  Before = before_of plan modules journal more end after later kept guest log logged
 
-  holds_closes : (at : ℕ) → at < length log → (P : List LoadedModule → Type 0) → HoldsInSpan old log at P
+  inside : (at policy : ℕ) → at < length log → IsInSpan end.policy log at policy → IsInSpan after.policy all at policy
+  inside at policy within span =
+      span_closes old new later Before log logged entry (entry_closes entry fits) at policy within span
+
+  close : (at : ℕ) → at < length log → (P : List LoadedModule → Type 0) → HoldsInSpan old log at P
       → HoldsInSpan new all at P
-  holds_closes at within P holds =
-      let low = span_low plan modules journal more end after later kept guest log logged at holds.0 holds.1 in (
-        holds.0,
-        span_closes at holds.0 within holds.1,
-        subst P (sym (loaded_stays end after later holds.0 low)) holds.2,
-      )
+  close at within P holds =
+      holds_closes old new later Before log logged entry (entry_closes entry fits) at within P holds
 
   -- how many versions were too old
   counts_by : (number : ℕ) (late : Bool) → is_too_old number entry ≡ late
@@ -127,20 +192,20 @@ module _ (plan : Plan) (modules : List Module) (journal more : List Entry) (end 
       → IsCaused new guest all at number why
   caused_closes at number within NoModule caused = caused
   caused_closes at number within ModulesFull caused =
-      holds_closes at within (λ (loaded : List LoadedModule). IsFull modules loaded number) caused
+      close at within (λ (loaded : List LoadedModule). IsFull modules loaded number) caused
   caused_closes at number within NotPlaced caused =
-      holds_closes at within
+      close at within
       (λ (loaded : List LoadedModule).
       (fault : ℕ) × HasFault plan.code_words modules loaded number (Place fault)) caused
   caused_closes at number within NotVerified caused =
-      holds_closes at within
+      close at within
       (λ (loaded : List LoadedModule).
       (fault : ℕ) × (place : ℕ) × HasFault plan.code_words modules loaded number (Verify fault place)) caused
   caused_closes at number within VersionsSpent caused =
       counts_by number (is_too_old number entry) refl caused
   caused_closes at number within EpochsSpent caused =
       let same = kept caused.1 in
-      let span : IsInSpan after.policy all at end.policy = span_closes at end.policy within caused.0 in
+      let span : IsInSpan after.policy all at end.policy = inside at end.policy within caused.0 in
       let here : IsInSpan after.policy all at after.policy =
       subst (IsInSpan after.policy all at) (ap (λ (s : JournalState). s.policy) (sym same)) span in (
         here,
@@ -148,7 +213,7 @@ module _ (plan : Plan) (modules : List Module) (journal more : List Entry) (end 
         subst (λ (s : JournalState). HasNoFault plan.code_words modules s.loaded number) (sym same) caused.2,
       )
   caused_closes at number within NoFunction caused =
-      holds_closes at within (λ (loaded : List LoadedModule). HasNoFunction loaded number) caused
+      close at within (λ (loaded : List LoadedModule). HasNoFunction loaded number) caused
   caused_closes at number within Unlogged caused = absurd caused
 
   -- ---- the entry itself
@@ -163,45 +228,12 @@ module _ (plan : Plan) (modules : List Module) (journal more : List Entry) (end 
       subst (λ (e : Log). IsCaused new guest (log ++ e ∷ []) (length log) number (why_of cause)) (sym same)
       (subst (FitsEntry old new guest log) same fits)
 
-  -- ---- both
-
-  at_end : (at : ℕ) (e : Log) → slice_get all at ≡ Some e → length log ≤ at → at ≡ length log
-  at_end at e is past =
-      let within = slice_get_within all at e is in omega (arith, within, past, length-append log (entry ∷ []))
-
-  opens_all : (at number address policy : ℕ) → slice_get all at ≡ Some (Open number address policy)
-      → HasFunctionAt (loaded_by policy after.loaded) number address
-  opens_all at number address policy is = ⊎_elim
-      (λ (before : at < length log).
-      opens_stays plan modules journal more end after later kept guest log logged at number address policy
-      (left log (entry ∷ []) at (Open number address policy) before is))
-      (λ (past : length log ≤ at).
-      entry_opens number address policy
-      (last log entry at (Open number address policy) (at_end at (Open number address policy) is past) is))
-      (cases_lt at (length log))
-
-  causes_all : (at number cause : ℕ) → slice_get all at ≡ Some (Cause number cause)
-      → IsCaused new guest all at number (why_of cause)
-  causes_all at number cause is = ⊎_elim
-      (λ (before : at < length log).
-      caused_closes at number before (why_of cause)
-      (logged.causes at number cause (left log (entry ∷ []) at (Cause number cause) before is)))
-      (λ (past : length log ≤ at).
-      let end_is = at_end at (Cause number cause) is past in
-      subst (λ (n : ℕ). IsCaused new guest all n number (why_of cause)) (sym end_is)
-      (entry_caused number cause (last log entry at (Cause number cause) end_is is)))
-      (cases_lt at (length log))
-
   grows : IsLogged new guest all
   grows =
-      let whole : last_policy all ≡ policy_after (last_policy log) entry =
-      fold-append policy_after 0 log (entry ∷ []) in
-      record {
-        rises = never_more 0 log entry logged.rises (entry_rises entry fits);
-        most = subst (λ (n : ℕ). n ≤ after.policy) (sym whole) (entry_most entry fits);
-        opens = opens_all;
-        causes = causes_all;
-      }
+      fits_grow old new later Before log logged entry (entry_closes entry fits)
+      (λ at number cause. IsCaused new guest all at number (why_of cause)) (entry_rises entry fits)
+      (entry_most entry fits) entry_opens
+      (λ at number cause within caused. caused_closes at number within (why_of cause) caused) entry_caused
 
 -- ---- between two courses
 

@@ -25,7 +25,7 @@ is_code_at code_words ms words same loaded =
     ap (λ (ws : List ℕ). (replicate FIRST_BASE 0 ++ ws) ++ replicate (code_words - FIRST_BASE - length ws) 0) same in
     subst (IsCodeOf ms code_words) code (code_is code_words ms loaded)
 
-length-copies : (count value : ℕ) → length (copies count value) ≡ count
+pub length-copies : (count value : ℕ) → length (copies count value) ≡ count
 unfolding copies
 length-copies count value = length-replicate count value
 

@@ -15,7 +15,7 @@ use Rattle.cfi_valid.specs.Growth.{IsLater, Continues}
 use Rattle.cfi_valid.specs.Joining.{IsFull, HasFault, HasNoFault}
 use Rattle.cfi_valid.specs.Journal.{JournalState, IsOutOfEpochs}
 use Rattle.cfi_valid.specs.Loaded.{LoadedModule, loaded_by}
-use Rattle.cfi_valid.specs.Log.{IsInSpan, HoldsInSpan, HasFunctionAt, HasNoFunction, is_versions, Why, NoModule, ModulesFull, NotPlaced, NotVerified, VersionsSpent, EpochsSpent, NoFunction, Unlogged, why_of, IsCaused, NeverFall, IsLogged}
+use Rattle.cfi_valid.specs.Log.{IsInSpan, HoldsInSpan, HasFunctionAt, HasNoFunction, is_versions, Why, NoModule, ModulesFull, NotPlaced, NotVerified, VersionsSpent, EpochsSpent, NoFunction, Unlogged, why_of, IsCaused, NeverFall, FitsCauses, IsLogged}
 use Rattle.cfi_valid.proofs.GrowthLemmas.{along_later, loaded_stays, spent_stays}
 use Rattle.cfi_valid.proofs.SpanLemmas.{fall_least, fall_behind, last_behind, next_most, next_rises}
 
@@ -31,6 +31,51 @@ open_low before (entry ∷ log) never zero number address policy is =
 open_low before (entry ∷ log) never (suc at) number address policy is =
     open_low (policy_after before entry) log never.1 at number address policy is
 
+-- what fits up to its causes
+module _ (old new : Course) (later : IsLater old.end new.end) (Before : (at number cause : ℕ) → Type 0) (log : List Log)
+    (fits : FitsCauses old Before log) where
+  pub span_low : (at policy : ℕ) → IsInSpan old.end.policy log at policy → policy ≤ old.end.policy
+  span_low at policy span =
+      let never = fall_behind (at + 1) 0 log fits.rises in
+      let last : fold policy_after (last_policy (take (at + 1) log)) (drop (at + 1) log) ≡ last_policy log =
+      last_behind (at + 1) 0 log in
+      let most = next_most old.end.policy (last_policy (take (at + 1) log)) (drop (at + 1) log) never
+      (omega (arith, last, fits.most)) in
+      omega (arith, span.most, most)
+
+  span_stays : (at policy : ℕ) → IsInSpan old.end.policy log at policy → IsInSpan new.end.policy log at policy
+  span_stays at policy span = record {
+    least = span.least;
+    most = (
+        let rises = next_rises old.end.policy new.end.policy (drop (at + 1) log) later.policy in
+        omega (arith, span.most, rises)
+        );
+  }
+
+  pub holds_stays : (at : ℕ) (P : List LoadedModule → Type 0) → HoldsInSpan old log at P → HoldsInSpan new log at P
+  holds_stays at P holds = (
+    holds.0,
+    span_stays at holds.0 holds.1,
+    subst P (sym (loaded_stays old.end new.end later holds.0 (span_low at holds.0 holds.1))) holds.2,
+  )
+
+  pub opens_stays : (at number address policy : ℕ) → slice_get log at ≡ Some (Open number address policy)
+      → HasFunctionAt (loaded_by policy new.end.loaded) number address
+  opens_stays at number address policy is =
+      let low = open_low 0 log fits.rises at number address policy is in
+      subst (λ (loaded : List LoadedModule). HasFunctionAt loaded number address)
+      (sym (loaded_stays old.end new.end later policy (omega (arith, low, fits.most))))
+      (fits.opens at number address policy is)
+
+  pub fits_stays : (After : (at number cause : ℕ) → Type 0)
+      → ((at number cause : ℕ) → Before at number cause → After at number cause) → FitsCauses new After log
+  fits_stays After caused = record {
+    rises = fits.rises;
+    most = omega (arith, fits.most, later.policy);
+    opens = opens_stays;
+    causes = λ at number cause is. caused at number cause (fits.causes at number cause is);
+  }
+
 -- the course that goes on
 module _ (plan : Plan) (modules : List Module) (journal more : List Entry) (end after : JournalState)
     (later : IsLater end after) (kept : IsOutOfEpochs end → after ≡ end) where
@@ -41,42 +86,23 @@ module _ (plan : Plan) (modules : List Module) (journal more : List Entry) (end 
   new = record { plan = plan; modules = modules; journal = journal ++ more; end = after }
 
   module _ (guest : ℕ) (log : List Log) (logged : IsLogged old guest log) where
-    pub span_low : (at policy : ℕ) → IsInSpan end.policy log at policy → policy ≤ end.policy
-    span_low at policy span =
-        let never = fall_behind (at + 1) 0 log logged.rises in
-        let last : fold policy_after (last_policy (take (at + 1) log)) (drop (at + 1) log) ≡ last_policy log =
-        last_behind (at + 1) 0 log in
-        let most = next_most end.policy (last_policy (take (at + 1) log)) (drop (at + 1) log) never
-        (omega (arith, last, logged.most)) in
-        omega (arith, span.most, most)
+    abbrev pub Before : (at number cause : ℕ) → Type 0
+    Before at number cause = IsCaused old guest log at number (why_of cause)
 
-    span_stays : (at policy : ℕ) → IsInSpan end.policy log at policy → IsInSpan after.policy log at policy
-    span_stays at policy span = record {
-      least = span.least;
-      most = (
-          let rises = next_rises end.policy after.policy (drop (at + 1) log) later.policy in
-          omega (arith, span.most, rises)
-          );
-    }
-
-    holds_stays : (at : ℕ) (P : List LoadedModule → Type 0) → HoldsInSpan old log at P → HoldsInSpan new log at P
-    holds_stays at P holds = (
-      holds.0,
-      span_stays at holds.0 holds.1,
-      subst P (sym (loaded_stays end after later holds.0 (span_low at holds.0 holds.1))) holds.2,
-    )
+    stay : (at : ℕ) (P : List LoadedModule → Type 0) → HoldsInSpan old log at P → HoldsInSpan new log at P
+    stay at P holds = holds_stays old new later Before log logged at P holds
 
     caused_stays : (at number : ℕ) (why : Why) → IsCaused old guest log at number why
         → IsCaused new guest log at number why
     caused_stays at number NoModule caused = caused
     caused_stays at number ModulesFull caused =
-        holds_stays at (λ (loaded : List LoadedModule). IsFull modules loaded number) caused
+        stay at (λ (loaded : List LoadedModule). IsFull modules loaded number) caused
     caused_stays at number NotPlaced caused =
-        holds_stays at
+        stay at
         (λ (loaded : List LoadedModule).
         (fault : ℕ) × HasFault plan.code_words modules loaded number (Place fault)) caused
     caused_stays at number NotVerified caused =
-        holds_stays at
+        stay at
         (λ (loaded : List LoadedModule).
         (fault : ℕ) × (place : ℕ) × HasFault plan.code_words modules loaded number (Verify fault place)) caused
     caused_stays at number VersionsSpent caused =
@@ -89,24 +115,13 @@ module _ (plan : Plan) (modules : List Module) (journal more : List Entry) (end 
         IsInSpan s.policy log at s.policy × IsOutOfEpochs s × HasNoFault plan.code_words modules s.loaded number)
         (sym same) caused
     caused_stays at number NoFunction caused =
-        holds_stays at (λ (loaded : List LoadedModule). HasNoFunction loaded number) caused
+        stay at (λ (loaded : List LoadedModule). HasNoFunction loaded number) caused
     caused_stays at number Unlogged caused = absurd caused
 
-    pub opens_stays : (at number address policy : ℕ) → slice_get log at ≡ Some (Open number address policy)
-        → HasFunctionAt (loaded_by policy after.loaded) number address
-    opens_stays at number address policy is =
-        let low = open_low 0 log logged.rises at number address policy is in
-        subst (λ (loaded : List LoadedModule). HasFunctionAt loaded number address)
-        (sym (loaded_stays end after later policy (omega (arith, low, logged.most))))
-        (logged.opens at number address policy is)
-
     stays : IsLogged new guest log
-    stays = record {
-      rises = logged.rises;
-      most = omega (arith, logged.most, later.policy);
-      opens = opens_stays;
-      causes = λ at number cause is. caused_stays at number (why_of cause) (logged.causes at number cause is);
-    }
+    stays =
+        fits_stays old new later Before log logged (λ at number cause. IsCaused new guest log at number (why_of cause))
+        (λ at number cause caused. caused_stays at number (why_of cause) caused)
 
 pub log_stays : (old new : Course) → Continues old new → (guest : ℕ) (log : List Log) → IsLogged old guest log
     → IsLogged new guest log

@@ -13,7 +13,7 @@ use Rattle.cfi_valid.specs.Course.{Course}
 use Rattle.cfi_valid.specs.Growth.{Continues}
 use Rattle.cfi_valid.specs.Joining.{IsFull, HasFault}
 use Rattle.cfi_valid.specs.Loaded.{LoadedModule}
-use Rattle.cfi_valid.specs.Log.{next_policy, IsInSpan, HoldsInSpan, HasNoFunction, is_versions, is_too_old, Why, NoModule, ModulesFull, NotPlaced, NotVerified, VersionsSpent, EpochsSpent, NoFunction, Unlogged, why_of, IsCaused, NeverFall, IsLogged}
+use Rattle.cfi_valid.specs.Log.{next_policy, IsInSpan, HoldsInSpan, HasNoFunction, is_versions, is_too_old, Why, NoModule, ModulesFull, NotPlaced, NotVerified, VersionsSpent, EpochsSpent, NoFunction, Unlogged, why_of, IsCaused, NeverFall, FitsCauses, IsLogged}
 use Rattle.cfi_valid.proofs.EntryGrowth.{log_grows}
 use Rattle.cfi_valid.proofs.LogGrowth.{log_stays}
 
@@ -61,78 +61,89 @@ module _ (policy count other : ℕ) where
   cause_same (entry ∷ front) zero number cause is = is
   cause_same (entry ∷ front) (suc at) number cause is = cause_same front at number cause is
 
-  module _ (c : Course) (guest : ℕ) (front : List Log) where
+  module _ (front : List Log) where
     abbrev old : List Log
     old = counting front count
 
     abbrev new : List Log
     new = counting front other
 
-    span_same : (at p : ℕ) → IsInSpan c.end.policy old at p → IsInSpan c.end.policy new at p
-    span_same at p span = record {
+    pub span_same : (force at p : ℕ) → IsInSpan force old at p → IsInSpan force new at p
+    span_same force at p span = record {
       least = subst (λ (n : ℕ). n ≤ p) (take_same at 0 front) span.least;
-      most = subst (λ (n : ℕ). p ≤ n) (next_same (at + 1) c.end.policy front) span.most;
+      most = subst (λ (n : ℕ). p ≤ n) (next_same (at + 1) force front) span.most;
     }
 
-    holds_same : (at : ℕ) (P : List LoadedModule → Type 0) → HoldsInSpan c old at P → HoldsInSpan c new at P
-    holds_same at P holds = (holds.0, span_same at holds.0 holds.1, holds.2)
-
-    counts_same : (number : ℕ) → count_by (is_too_old number) old ≡ count_by (is_too_old number) new
-    counts_same number =
-        let one : Log → ℕ = λ e. cond (is_too_old number e) 1 0 in
-        sum_by-append one front (Pick policy count ∷ []) ∙ sym (sum_by-append one front (Pick policy other ∷ []))
-
-    caused_same : (at number : ℕ) (why : Why) → IsCaused c guest old at number why → IsCaused c guest new at number why
-    caused_same at number NoModule caused = caused
-    caused_same at number ModulesFull caused =
-        holds_same at (λ (loaded : List LoadedModule). IsFull c.modules loaded number) caused
-    caused_same at number NotPlaced caused =
-        holds_same at
-        (λ (loaded : List LoadedModule).
-        (fault : ℕ) × HasFault c.plan.code_words c.modules loaded number (Place fault)) caused
-    caused_same at number NotVerified caused =
-        holds_same at
-        (λ (loaded : List LoadedModule).
-        (fault : ℕ) × (place : ℕ) × HasFault c.plan.code_words c.modules loaded number (Verify fault place)) caused
-    caused_same at number VersionsSpent caused =
-        subst (λ (n : ℕ). n ≤ count_by (is_versions guest number) c.journal) (counts_same number) caused
-    caused_same at number EpochsSpent caused = (span_same at c.end.policy caused.0, caused.1, caused.2)
-    caused_same at number NoFunction caused =
-        holds_same at (λ (loaded : List LoadedModule). HasNoFunction loaded number) caused
-    caused_same at number Unlogged caused = absurd caused
-
-    logged_same : IsLogged c guest old → IsLogged c guest new
-    logged_same logged = record {
-      rises = never_same 0 front logged.rises;
+    -- so one fits where the other does, as far as its causes do
+    pub fits_same : (c : Course) (Before After : (at number cause : ℕ) → Type 0)
+        → ((at number cause : ℕ) → Before at number cause → After at number cause) → FitsCauses c Before old
+        → FitsCauses c After new
+    fits_same c Before After caused fits = record {
+      rises = never_same 0 front fits.rises;
       most = (
           let last = fold-append policy_after 0 front (Pick policy count ∷ []) in
           let again = fold-append policy_after 0 front (Pick policy other ∷ []) in
-          omega (arith, last, again, logged.most)
+          omega (arith, last, again, fits.most)
           );
-      opens = λ at number address p is. logged.opens at number address p (open_same front at number address p is);
+      opens = λ at number address p is. fits.opens at number address p (open_same front at number address p is);
       causes = λ at number cause is.
-          caused_same at number (why_of cause) (logged.causes at number cause (cause_same front at number cause is));
+          caused at number cause (fits.causes at number cause (cause_same front at number cause is));
     }
+
+    -- ---- the log of a run
+
+    module _ (c : Course) (guest : ℕ) where
+      holds_same : (at : ℕ) (P : List LoadedModule → Type 0) → HoldsInSpan c old at P → HoldsInSpan c new at P
+      holds_same at P holds = (holds.0, span_same c.end.policy at holds.0 holds.1, holds.2)
+
+      counts_same : (number : ℕ) → count_by (is_too_old number) old ≡ count_by (is_too_old number) new
+      counts_same number =
+          let one : Log → ℕ = λ e. cond (is_too_old number e) 1 0 in
+          sum_by-append one front (Pick policy count ∷ []) ∙ sym (sum_by-append one front (Pick policy other ∷ []))
+
+      caused_same : (at number : ℕ) (why : Why) → IsCaused c guest old at number why
+          → IsCaused c guest new at number why
+      caused_same at number NoModule caused = caused
+      caused_same at number ModulesFull caused =
+          holds_same at (λ (loaded : List LoadedModule). IsFull c.modules loaded number) caused
+      caused_same at number NotPlaced caused =
+          holds_same at
+          (λ (loaded : List LoadedModule).
+          (fault : ℕ) × HasFault c.plan.code_words c.modules loaded number (Place fault)) caused
+      caused_same at number NotVerified caused =
+          holds_same at
+          (λ (loaded : List LoadedModule).
+          (fault : ℕ) × (place : ℕ) × HasFault c.plan.code_words c.modules loaded number (Verify fault place)) caused
+      caused_same at number VersionsSpent caused =
+          subst (λ (n : ℕ). n ≤ count_by (is_versions guest number) c.journal) (counts_same number) caused
+      caused_same at number EpochsSpent caused = (span_same c.end.policy at c.end.policy caused.0, caused.1, caused.2)
+      caused_same at number NoFunction caused =
+          holds_same at (λ (loaded : List LoadedModule). HasNoFunction loaded number) caused
+      caused_same at number Unlogged caused = absurd caused
+
+      logged_same : IsLogged c guest old → IsLogged c guest new
+      logged_same logged =
+          fits_same c (λ at number cause. IsCaused c guest old at number (why_of cause))
+          (λ at number cause. IsCaused c guest new at number (why_of cause))
+          (λ at number cause caused. caused_same at number (why_of cause) caused) logged
 
 -- ---- one pick more
 
-module _ (old new : Course) (goes : Continues old new) (guest : ℕ) (log : List Log) (logged : IsLogged old guest log)
-    (policy : ℕ) (least : old.end.policy ≤ policy) (most : policy ≤ new.end.policy) where
-  pushed : IsLogged new guest (log ++ Pick policy 1 ∷ [])
-  pushed = log_grows old new goes guest log logged (Pick policy 1) (least, most)
-
+-- where a log fits, and does with a pick of its own behind it, and the count of its last pick is nothing to it
+module _ (Fits : List Log → Type 0) (policy : ℕ) (log : List Log) (stays : Fits log)
+    (pushed : Fits (log ++ Pick policy 1 ∷ []))
+    (same : (count other : ℕ) (front : List Log) → Fits (front ++ Pick policy count ∷ [])
+    → Fits (front ++ Pick policy other ∷ [])) where
   counted : (count : ℕ) → last_of log ≡ Some (Pick policy count)
-      → IsLogged new guest (slice_set log (length log - 1) (Pick policy (count + 1)))
+      → Fits (slice_set log (length log - 1) (Pick policy (count + 1)))
   counted count is =
       let front : List Log = take (length log - 1) log in
       let before = ends_with log (Pick policy count) is in
       let now = set_last log (Pick policy (count + 1)) (within log (Pick policy count) is) in
-      let stays = log_stays old new goes guest log logged in
-      subst (IsLogged new guest) (sym now)
-      (logged_same policy count (count + 1) new guest front (subst (IsLogged new guest) before stays))
+      subst Fits (sym now) (same count (count + 1) front (subst Fits before stays))
 
   by_last : (entry : Option Log) → last_of log ≡ entry
-      → IsLogged new guest (cond (is_pick_of policy entry)
+      → Fits (cond (is_pick_of policy entry)
       (slice_set log (length log - 1) (Pick policy (picks_of policy entry + 1)))
       (log ++ Pick policy 1 ∷ []))
   by_last None is = pushed
@@ -140,14 +151,21 @@ module _ (old new : Course) (goes : Continues old new) (guest : ℕ) (log : List
   by_last (Some (Cause number cause)) is = pushed
   by_last (Some (Pick other count)) is = by_policy (other == policy) refl
     where
-      by_policy : (same : Bool) → other == policy ≡ same
-          → IsLogged new guest (cond same
-          (slice_set log (length log - 1) (Pick policy (cond same count 0 + 1)))
+      by_policy : (equal : Bool) → other == policy ≡ equal
+          → Fits (cond equal
+          (slice_set log (length log - 1) (Pick policy (cond equal count 0 + 1)))
           (log ++ Pick policy 1 ∷ []))
       by_policy true equal =
           let one : other ≡ policy = eqb-true other policy equal in
           counted count (is ∙ ap (λ (n : ℕ). Some (Pick n count)) one)
       by_policy false equal = pushed
 
-  pub picks_grow : IsLogged new guest (picked policy log)
-  picks_grow = by_last (last_of log) refl
+  pub fits_picked : Fits (picked policy log)
+  fits_picked = by_last (last_of log) refl
+
+pub picks_grow : (old new : Course) → Continues old new → (guest : ℕ) (log : List Log) → IsLogged old guest log
+    → (policy : ℕ) → old.end.policy ≤ policy → policy ≤ new.end.policy → IsLogged new guest (picked policy log)
+picks_grow old new goes guest log logged policy least most =
+    fits_picked (IsLogged new guest) policy log (log_stays old new goes guest log logged)
+    (log_grows old new goes guest log logged (Pick policy 1) (least, most))
+    (λ count other front fits. logged_same policy count other front new guest fits)

@@ -1,7 +1,7 @@
 -- Lines of a schedule, one after the other, as a simulation under way makes them.
 use Rattle.std.specs.Prelude.{◌≡◌, ℕ, List, ◌++◌, ⊤}
 use Rattle.cfi_sim.specs.Faults.{IsBadLine}
-use Rattle.cfi_sim.specs.Schedule.{IsWithin, LineMakes, LinesMake}
+use Rattle.cfi_sim.specs.Schedule.{PassesNoLimit, LineMakes, LinesMake}
 use Rattle.cfi_sim.specs.Stage.{Stage}
 use Rattle.cfi_sim.specs.declared.fault.SimFault.{SimFault}
 use Rattle.cfi_sim.specs.declared.fault.SimFault.TheVariants.{Open, BadEvent, Memory}
@@ -16,7 +16,7 @@ pub record FollowsTo (schedule : List ℕ) (left : List (ℕ × List ℕ)) (old 
   pub plan : new.plan ≡ old.plan
   pub modules : new.modules ≡ old.modules
   pub under_way : IsUnderWay new
-  pub within : IsWithin new.stage
+  pub within : PassesNoLimit new.stage
 
 -- a line leads nowhere, or memory ran out
 abbrev pub IsLineFault : Whole → (number : ℕ) → (text : List ℕ) → SimFault → Type 0

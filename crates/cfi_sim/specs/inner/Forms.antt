@@ -27,8 +27,8 @@ alone_form keyword =
     else (if bytes_eq keyword (codes "update") then Some (Update 1) else None)
 
 -- and one of two
-unfoldable pub pair_form : Plan → (keyword word : List ℕ) → Option Line
-pair_form plan keyword word =
+unfoldable pub two_words_form : Plan → (keyword word : List ℕ) → Option Line
+two_words_form plan keyword word =
     if bytes_eq keyword (codes "guest") then option_map (λ guest. Guest guest 1) (guest_in plan word)
     else (if bytes_eq keyword (codes "load") then option_map Load (module_of plan.modules word)
     else (if bytes_eq keyword (codes "release") then option_map Release (guest_in plan word)
@@ -36,10 +36,10 @@ pair_form plan keyword word =
     else None)))
 
 -- the line that the words say
-abbrev pub form_of : Plan → (words : List (List ℕ)) → Option Line
-form_of plan [] = Some Blank
-form_of plan (keyword ∷ []) = alone_form keyword
-form_of plan (keyword ∷ word ∷ []) = pair_form plan keyword word
-form_of plan (keyword ∷ number ∷ count ∷ []) =
+abbrev pub schedule_form : Plan → (words : List (List ℕ)) → Option Line
+schedule_form plan [] = Some Blank
+schedule_form plan (keyword ∷ []) = alone_form keyword
+schedule_form plan (keyword ∷ word ∷ []) = two_words_form plan keyword word
+schedule_form plan (keyword ∷ number ∷ count ∷ []) =
     if bytes_eq keyword (codes "guest") then guest_form plan number count else None
-form_of plan (keyword ∷ number ∷ count ∷ word ∷ words) = None
+schedule_form plan (keyword ∷ number ∷ count ∷ word ∷ words) = None

@@ -16,8 +16,8 @@ use Rattle.cfi_series.specs.Series.{Series, CanBeTaken, JoinsTo}
 use Rattle.cfi_sim.specs.declared.aim.Aim.{Aim}
 use Rattle.cfi_sim.specs.declared.limits.TheConstants.{MAX_EVENTS, MAX_UPDATES}
 use Rattle.cfi_sim.specs.Events.{IsBeginning, IsUpdateEvent, IsIdle}
-use Rattle.cfi_sim.specs.Schedule.{Repeats, IsWithin}
-use Rattle.cfi_sim.specs.Stage.{Stage, with_line, dropped, IsMade}
+use Rattle.cfi_sim.specs.Schedule.{Repeats, PassesNoLimit}
+use Rattle.cfi_sim.specs.Stage.{Stage, with_journal_line, dropped, IsMade}
 use Rattle.cfi_sim.specs.Stands.{AimFits}
 use Rattle.cfi_sim.specs.inner.Standing.{Whole, HasDone}
 use Rattle.cfi_word.specs.declared.lists.Image.{Image}
@@ -27,23 +27,23 @@ use Rattle.cfi_world.specs.Updates.{is_idle}
 -- ---- within the limits
 
 -- something has happened, and no limit is passed
-pub record HasMade (Happens : (old new : Stage) → Type 0) (old new : Whole) : Type 0 where
+pub record HasMadeWithin (Happens : (old new : Stage) → Type 0) (old new : Whole) : Type 0 where
   pub done : HasDone Happens old new
-  pub within : IsWithin new.stage
+  pub within : PassesNoLimit new.stage
 
 -- nothing of the kind happens but passes a limit
 abbrev pub Cannot : (Happens : (old new : Stage) → Type 0) → Whole → Type 0
-Cannot Happens old = (s : Stage) → Happens old.stage s → IsWithin s → ⊥
+Cannot Happens old = (s : Stage) → Happens old.stage s → PassesNoLimit s → ⊥
 
 abbrev pub MakesBy : (Happens : (old new : Stage) → Type 0) → (old new : Whole) → (happened : Bool) → Type 0
-MakesBy Happens old new true = HasMade Happens old new
+MakesBy Happens old new true = HasMadeWithin Happens old new
 MakesBy Happens old new false = Cannot Happens old
 
 -- ---- the journal
 
 -- a line more
 abbrev pub with_told : JournalLine → Whole → Whole
-with_told line x = record x { stage = with_line line x.stage }
+with_told line x = record x { stage = with_journal_line line x.stage }
 
 -- the line of a fault
 abbrev pub fault_line : (number : ℕ) → FaultNumbers → JournalLine
@@ -60,7 +60,7 @@ CanBegin w image = is_idle (phase_of w.tables) ≡ true → w.updates < MAX_UPDA
 pub record HasBegun (aim : Aim) (spent : JournalLine) (image : Option Image) (old new : Whole) : Type 0 where
   pub begins : IsBeginning aim spent image old.stage new.stage
   pub is : new ≡ record old { stage = new.stage }
-  pub within : IsWithin new.stage
+  pub within : PassesNoLimit new.stage
 
 abbrev pub BeginsBy : Aim → (spent : JournalLine) → Option Image → (old new : Whole) → (happened : Bool) → Type 0
 BeginsBy aim spent image old new true = HasBegun aim spent image old new
@@ -81,14 +81,14 @@ abbrev pub IsAtRest : Stage → Type 0
 IsAtRest s = IsIdle s.world ⊎ MAX_EVENTS ≤ s.events
 
 abbrev pub AdvancesBy : (old new : Whole) → (happened : Bool) → Type 0
-AdvancesBy old new true = HasMade (IsUpdateEvent old.plan old.modules) old new
+AdvancesBy old new true = HasMadeWithin (IsUpdateEvent old.plan old.modules) old new
 AdvancesBy old new false = IsAtRest old.stage
 
 -- some accesses were made
 pub record HasAdvanced (old new : Whole) : Type 0 where
   pub count : ℕ
   pub some : 1 ≤ count
-  pub made : HasMade (Repeats (IsUpdateEvent old.plan old.modules) count) old new
+  pub made : HasMadeWithin (Repeats (IsUpdateEvent old.plan old.modules) count) old new
 
 -- an update was not made
 abbrev pub with_dropped : (guest quiet : ℕ) → Whole → Whole

@@ -1,9 +1,9 @@
 -- Parts of a report, guest by guest.
 use Rattle.std.specs.Prelude.{◌≡◌, ℕ, List, length, slice_get, Some}
 use Rattle.cfi_model.specs.Raw.{Raw}
+use Rattle.cfi_part.specs.Part.{part_of}
 use Rattle.cfi_plan.specs.declared.plan.Plan.{Plan}
 use Rattle.cfi_report.specs.declared.report.GuestPart.{GuestPart}
-use Rattle.cfi_sim.specs.Valid.{part_of}
 
 -- a guest of the plan says this
 pub record IsPartOf (plan : Plan) (guests : List Raw) (number : ℕ) (part : GuestPart) : Type 0 where

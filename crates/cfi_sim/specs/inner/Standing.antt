@@ -23,8 +23,8 @@ pub record Whole : Type 0 where
   pub modules : List Module
   pub stage : Stage
 
-abbrev pub whole_of : Inside → Whole
-whole_of a = record {
+abbrev pub whole_inside : Inside → Whole
+whole_inside a = record {
   plan = a.plan.now;
   modules = a.modules.now;
   stage = record {
@@ -50,7 +50,8 @@ whole_at plan modules world placed spots = record {
   };
 }
 
-pub record IsKept (a : Inside) : Type 0 where
+-- the series has a place for each spot, and the plan's code words
+pub record SeriesFits (a : Inside) : Type 0 where
   pub count : length a.spots.items ≡ length a.series.placed
   pub size : a.series.code_words ≡ a.plan.now.code_words
 

@@ -2,7 +2,7 @@
 
 ghost use Rattle.std.specs.Prelude.{◌≡◌, ◌≤◌, ◌<◌, IfOk, OnOk, Some, All, length};
 ghost use Rattle.cfi_series.specs.Series.{CanBeTaken};
-ghost use Rattle.cfi_sim.specs.Stage.{refusal_of};
+ghost use Rattle.cfi_sim.specs.Stage.{versions_line};
 ghost use Rattle.cfi_sim.specs.Stands.{LoadFits};
 ghost use Rattle.cfi_sim.specs.declared.aim.Aim.TheVariants.{Loading, Refreshing};
 ghost use Rattle.cfi_sim.specs.inner.Making.{with_dropped, AdvancesBy, FitsAim, HasCome, NotesBy};
@@ -21,8 +21,8 @@ use cfi_world::{Event, Turned};
 use std::alloc::AllocError;
 
 // The line that tells why an update was not made.
-fn refusal_of(aim: Aim, guest: u32, quiet: u32) -> JournalLine
-    ensures { result ≡ refusal_of aim guest quiet }
+fn versions_line(aim: Aim, guest: u32, quiet: u32) -> JournalLine
+    ensures { result ≡ versions_line aim guest quiet }
 {
     match aim {
         Aim::Loading(module) => JournalLine::LoadVersions {
@@ -43,7 +43,7 @@ impl<'a> Standing<'a> {
             return Ok(());
         };
         self.aim = None;
-        self.tell(refusal_of(aim, guest, quiet))?;
+        self.tell(versions_line(aim, guest, quiet))?;
         Ok(())
     }
 

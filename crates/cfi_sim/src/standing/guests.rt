@@ -4,7 +4,7 @@ ghost use Rattle.std.specs.Prelude.{◌≡◌, ◌<◌, IfOk, OnOk};
 ghost use Rattle.std.specs.List.{All};
 ghost use Rattle.cfi_model.specs.Data.{LiesInData};
 ghost use Rattle.cfi_model.specs.Words.{policy_in_force};
-ghost use Rattle.cfi_sim.specs.Agrees.{AreApart};
+ghost use Rattle.cfi_sim.specs.Agrees.{NumbersAreApart};
 ghost use Rattle.cfi_sim.specs.Events.{fills_in};
 ghost use Rattle.cfi_sim.specs.declared.limits.TheConstants.{MAX_EVENTS};
 ghost use Rattle.cfi_sim.specs.inner.Standing.{AnswersOpen, GoesBy, ReleasesBy, IsThere, IsUnderWay};
@@ -37,7 +37,7 @@ impl<'a> Standing<'a> {
     // Answers the open of a guest that waits for it.
     fn answer(&mut self, alloc: Global, guest: u32, number: u32) -> Result<(), AllocError>
         requires policy { policy_in_force self.old.stage.world.tables ≡ self.old.stage.state.policy }
-        requires apart { AreApart self.old.stage.state.loaded }
+        requires apart { NumbersAreApart self.old.stage.state.loaded }
         requires there { IsThere self.old.stage.world guest }
         ensures { OnOk result (AnswersOpen self.old self.new guest number) }
     {

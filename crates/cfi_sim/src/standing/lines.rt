@@ -3,7 +3,7 @@
 ghost use Rattle.std.specs.Prelude.{◌≡◌, IfOk, IfSome, Some};
 ghost use Rattle.cfi_sim.specs.Line.{IsKnown, Says};
 ghost use Rattle.cfi_sim.specs.Events.{IsGuestEvent, IsReleaseEvent, IsUpdateEvent};
-ghost use Rattle.cfi_sim.specs.Schedule.{IsWhole, IsWithin, Makes, Repeats};
+ghost use Rattle.cfi_sim.specs.Schedule.{IsWholeUpdate, PassesNoLimit, Makes, Repeats};
 ghost use Rattle.cfi_sim.specs.declared.line.Line.{Line as LineValue};
 ghost use Rattle.cfi_sim.specs.inner.Making.{MakesBy};
 ghost use Rattle.cfi_sim.specs.inner.Standing.{IsUnderWay};
@@ -21,7 +21,7 @@ impl<'a> Standing<'a> {
     // So many events of a guest. False where it has fewer, or a limit would be passed.
     fn go_on(&mut self, alloc: Global, guest: u32, count: u32) -> Result<bool, AllocError>
         requires under_way { IsUnderWay self.old }
-        requires within { IsWithin self.old.stage }
+        requires within { PassesNoLimit self.old.stage }
         ensures { IfOk result
             (MakesBy (Repeats (IsGuestEvent self.old.plan guest) count) self.old self.new) }
     {
@@ -40,7 +40,7 @@ impl<'a> Standing<'a> {
     // So many accesses of the updater. False where there are fewer, or a limit would be passed.
     fn advance_by(&mut self, count: u32) -> Result<bool, AllocError>
         requires under_way { IsUnderWay self.old }
-        requires within { IsWithin self.old.stage }
+        requires within { PassesNoLimit self.old.stage }
         ensures { IfOk result
             (MakesBy (Repeats (IsUpdateEvent self.old.plan self.old.modules) count) self.old self.new) }
     {
@@ -56,8 +56,9 @@ impl<'a> Standing<'a> {
     // All accesses that are left of an update. False where none is under way, or a limit would be passed.
     fn finish(&mut self) -> Result<bool, AllocError>
         requires under_way { IsUnderWay self.old }
-        requires within { IsWithin self.old.stage }
-        ensures { IfOk result (MakesBy (IsWhole self.old.plan self.old.modules) self.old self.new) }
+        requires within { PassesNoLimit self.old.stage }
+        ensures { IfOk result
+            (MakesBy (IsWholeUpdate self.old.plan self.old.modules) self.old self.new) }
     {
         let begun = self.advance()?;
         if !begun {
@@ -98,7 +99,7 @@ impl<'a> Standing<'a> {
     /// Makes what a line says. False where that makes nothing, or a limit would be passed.
     pub(crate) fn make_line(&mut self, alloc: Global, line: Line) -> Result<bool, AllocError>
         requires under_way { IsUnderWay self.old }
-        requires within { IsWithin self.old.stage }
+        requires within { PassesNoLimit self.old.stage }
         requires known { IsKnown self.old.plan line }
         ensures { IfOk result
             (MakesBy (Makes self.old.plan self.old.modules line) self.old self.new) }

@@ -4,7 +4,7 @@ ghost use Rattle.std.specs.Prelude.{◌≡◌, ◌<◌, IfOk, IfErr, length};
 ghost use Rattle.cfi_series.specs.Order.{IsJoinFault};
 ghost use Rattle.cfi_series.specs.Series.{CanBeTaken};
 ghost use Rattle.cfi_sim.specs.Events.{IsLoadEvent};
-ghost use Rattle.cfi_sim.specs.Schedule.{IsWithin};
+ghost use Rattle.cfi_sim.specs.Schedule.{PassesNoLimit};
 ghost use Rattle.cfi_sim.specs.inner.Making.{fault_line, IsImageWith, MakesBy};
 ghost use Rattle.cfi_sim.specs.inner.Standing.{IsUnderWay};
 ghost use Rattle.cfi_valid.specs.Loaded.{IsLoaded};
@@ -88,7 +88,7 @@ impl<'a> Standing<'a> {
     // Loads a module that is not loaded, where there is room for it.
     fn join(&mut self, alloc: Global, number: u32) -> Result<bool, AllocError>
         requires under_way { IsUnderWay self.old }
-        requires within { IsWithin self.old.stage }
+        requires within { PassesNoLimit self.old.stage }
         requires known { number < length self.old.plan.modules }
         requires absent { IsLoaded self.old.stage.state.loaded number → ⊥ }
         requires room { length self.old.stage.state.loaded < MAX_LOADED }
@@ -119,7 +119,7 @@ impl<'a> Standing<'a> {
     /// A load that is refused before its update is told at once, by the modules that are loaded, and is no event.
     pub(super) fn load(&mut self, alloc: Global, number: u32) -> Result<bool, AllocError>
         requires under_way { IsUnderWay self.old }
-        requires within { IsWithin self.old.stage }
+        requires within { PassesNoLimit self.old.stage }
         requires known { number < length self.old.plan.modules }
         ensures { IfOk result
             (MakesBy (IsLoadEvent self.old.plan self.old.modules number) self.old self.new) }

@@ -1,7 +1,7 @@
 // The end of a schedule.
 
 ghost use Rattle.std.specs.Prelude.{IfOk};
-ghost use Rattle.cfi_sim.specs.Told.{IsTold};
+ghost use Rattle.cfi_sim.specs.Told.{IsToldSim};
 ghost use Rattle.cfi_sim.specs.inner.Standing.{IsUnderWay};
 
 use crate::report::SimReport;
@@ -16,7 +16,7 @@ impl<'a> Standing<'a> {
     /// guest.
     pub(crate) fn into_report(self, alloc: Global) -> Result<SimReport, AllocError>
         requires { IsUnderWay self }
-        ensures { IfOk result (IsTold self.entry.plan self.entry.stage) }
+        ensures { IfOk result (IsToldSim self.entry.plan self.entry.stage) }
     {
         let guests = parts_of(alloc, self.plan, self.world.guests())?;
         let modules = lines_of(alloc, self.plan, &self.spots, self.series.modules())?;

@@ -1,20 +1,20 @@
 use Rattle.std.proofs.Common.{◌≡◌, ℕ, List, Some, slice_get, sym, subst, refl, ap, ◌∙◌}
 use Rattle.std.proofs.lemmas.Option.{slice_get-get_or, slice_get_within}
 use Rattle.cfi_model.specs.Raw.{Raw}
-use Rattle.cfi_sim.specs.Agrees.{AreApart}
+use Rattle.cfi_sim.specs.Agrees.{NumbersAreApart}
 use Rattle.cfi_sim.specs.Events.{IsFound, fills_in}
 use Rattle.cfi_unit.specs.declared.log.Log.{Log}
 use Rattle.cfi_valid.specs.Replay.{given_by}
 use Rattle.cfi_sim.specs.declared.spot.Spot.{Spot}
 use Rattle.cfi_sim.specs.inner.Loaded.{loaded_of}
-use Rattle.cfi_sim.specs.inner.Standing.{Whole, AnswersOpen, whole_of}
+use Rattle.cfi_sim.specs.inner.Standing.{Whole, AnswersOpen, whole_inside}
 use Rattle.cfi_sim.proofs.DueLemmas.{answers_open}
 use Rattle.cfi_sim.proofs.standing.Standing.answer.Goals as goal
 
 pub find-found-requires-clause-apart : goal.find-found-requires-clause-apart
 find-found-requires-clause-apart c =
-    subst (λ (ss : List Spot). AreApart (loaded_of ss c.self.inside.series.placed)) (sym c.deref.ensures.value)
-    (subst (λ (x : Whole). AreApart x.stage.state.loaded) (sym c.self.view_is) c.requires.apart)
+    subst (λ (ss : List Spot). NumbersAreApart (loaded_of ss c.self.inside.series.placed)) (sym c.deref.ensures.value)
+    (subst (λ (x : Whole). NumbersAreApart x.stage.state.loaded) (sym c.self.view_is) c.requires.apart)
 
 pub bounds-guests-guest : goal.bounds-guests-guest
 bounds-guests-guest c = let (r, there) = c.requires.there in
@@ -26,7 +26,7 @@ bounds-guests-guest c = let (r, there) = c.requires.there in
 pub returns : goal.returns
 returns c =
     let inside = c.self.inside in
-    let x = whole_of inside in
+    let x = whole_inside inside in
     let new = c.turn.new.self in
     let r = c.index-guests-guest.result in
     let found = c.find-found.result in

@@ -1,7 +1,7 @@
 use Rattle.std.proofs.Common.{sym, ap, ◌∙◌}
 use Rattle.cfi_plan.specs.declared.journal.JournalLine.{JournalLine}
 use Rattle.cfi_sim.specs.inner.Making.{with_told}
-use Rattle.cfi_sim.specs.inner.Standing.{whole_of}
+use Rattle.cfi_sim.specs.inner.Standing.{whole_inside}
 use Rattle.cfi_sim.proofs.LoadLemmas.{may_load, begun_load, refused_load}
 use Rattle.cfi_sim.proofs.standing.Standing.join.Goals as goal
 
@@ -27,5 +27,6 @@ returns-in_ok-tell-in-Err c =
     c.image_with.new.series
     c.in-Err.ensures.same c.tell.new.self
     (c.in_ok-tell-in-Err.ensures
-    ∙ ap (λ (line : JournalLine). with_told line (whole_of (record c.self.inside { series = c.image_with.new.series })))
+    ∙ ap (λ (line : JournalLine).
+    with_told line (whole_inside (record c.self.inside { series = c.image_with.new.series })))
     c.fault_line.ensures)
