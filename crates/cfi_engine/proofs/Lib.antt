@@ -2,3 +2,4 @@ pub mod ScriptLemmas
 pub mod SeatLemmas
 pub mod StartLemmas
 pub mod NumberLemmas
+pub mod CodeLemmas

@@ -1,9 +1,9 @@
 -- Where the guests of a plan start, and with which data.
-use Rattle.std.proofs.Common.{◌≡◌, ℕ, ◌-◌, ◌*◌, ◌<◌, Bool, true, false, cond, List, [], ◌∷◌, length, map, Option, Some, All, refl, sym, ap, subst, ◌∙◌, arith}
+use Rattle.std.proofs.Common.{◌≡◌, ◌≢◌, ℕ, ◌-◌, ◌*◌, ◌<◌, Bool, true, false, cond, List, [], ◌∷◌, length, map, Option, Some, All, refl, sym, ap, subst, ◌∙◌, arith}
 use Rattle.std.specs.List.{slice_get, cons_option, Contains}
 use Rattle.std.proofs.Math.Seq.{take-length}
 use Rattle.std.proofs.lemmas.List.{length-map, take_all}
-use Rattle.std.proofs.lemmas.Option.{none-some, same_Some}
+use Rattle.std.proofs.lemmas.Option.{get_or_from_slice_get, none-some, same_Some, slice_get_within}
 use Rattle.cfi_aux.specs.Sound.{IsSoundModule}
 use Rattle.cfi_aux.specs.declared.modules.Module.{Module}
 use Rattle.cfi_aux.specs.declared.placed.Placed.{Placed}
@@ -22,7 +22,10 @@ use Rattle.cfi_plan.specs.declared.plan.PlanModule.{PlanModule}
 use Rattle.cfi_series.specs.Entry.{IsEntryIn}
 use Rattle.cfi_series.specs.Fills.{fills_of}
 use Rattle.cfi_series.specs.Loaded.{AreLoaded, IsLoadedImage}
+use Rattle.cfi_series.specs.Order.{Joins, names_of}
+use Rattle.cfi_series.specs.Room.{room_after}
 use Rattle.cfi_series.proofs.ImageLemmas.{entry_start, function_start}
+use Rattle.cfi_series.proofs.PlacedLemmas.{fits}
 use Rattle.cfi_series.proofs.PrefixLemmas.{data_lies}
 use Rattle.cfi_tables.specs.Keeping.{last_of}
 use Rattle.cfi_tables.specs.Key.{Key}
@@ -71,6 +74,18 @@ first_of (x ∷ xs) some = (x, refl)
 -- and what is made of each of some are some
 mapped_some : {X Y : Type 0} (xs : List X) (ys : List Y) (f : X → Y) → ys ≡ map f xs → 0 < length xs → 0 < length ys
 mapped_some xs ys f same some = omega (arith, ap length same, length-map xs f, some)
+
+-- ---- a module that joins has text
+
+words_some : (xs : List ℕ) → xs ≢ [] → 0 < length xs
+words_some [] apart = absurd (apart refl)
+words_some (x ∷ xs) apart = omega arith
+
+text_some : (code_words : ℕ) (before : List Placed) (m : Module) (p : Placed) → IsSoundModule m
+    → Joins code_words before m p → 0 < length m.object.text
+text_some code_words before m p sound joins =
+    let f = fits m (room_after code_words before) (names_of before) p sound.object_sound.relocs joins.behind in
+    omega (arith, f.words, words_some p.words joins.verified.1.laid.some)
 
 module _ (k : Key) (plan : Plan) (modules : List Module) (l : Ledger) (is : IsLedger k plan modules l)
     (opens : IsOpeningState plan modules l.course.end) where
@@ -124,6 +139,14 @@ module _ (k : Key) (plan : Plan) (modules : List Module) (l : Ledger) (is : IsLe
       starts_first l.course.plan l.course.end is.policies
       ∙ take_all (starts l.course.plan.modules) loaded (omega (arith, is.policies.count, opens.policy))
 
+  first_sound : (has : HasFirst plan modules) → IsSoundModule has.first
+  first_sound has =
+      let there : slice_get l.course.modules 0 ≡ Some has.first =
+      ap (λ (ms : List Module). slice_get ms 0) is.modules_are ∙ has.first_is in
+      let same = get_or_from_slice_get l.course.modules 0 has.first has.first there in
+      let many = slice_get_within l.course.modules 0 has.first there in
+      subst IsSoundModule same (is.can_start.taken 0 has.first many).sound
+
   bare_start : HasFirst plan modules → IsStartIn image (4 * FIRST_BASE)
   bare_start has =
       let number = first_number plan.modules has.line has.line_is has.starts in
@@ -132,8 +155,10 @@ module _ (k : Key) (plan : Plan) (modules : List Module) (l : Ledger) (is : IsLe
       omega (arith, opens.order.count, within (modules_at modules (starts_from 0 plan.modules)) has.first there) in
       let one = first_of (placed_modules loaded) some in
       let joins = opens.order.joins 0 has.first one.0 there one.1 in
+      let sound = first_sound has in
+      let text = text_some plan.code_words [] has.first one.0 sound joins in
       let function = first_of one.0.functions
-      (mapped_some has.first.records.functions one.0.functions _ joins.behind.functions has.some) in
+      (mapped_some has.first.records.functions one.0.functions _ joins.behind.functions (has.some text)) in
       let has_one : Contains first one.0 =
       subst (λ (ls : List LoadedModule). Contains (placed_modules ls) one.0) (sym all_first)
       (contains_at (placed_modules loaded) 0 one.0 one.1) in

@@ -9,14 +9,14 @@ use Rattle.cfi_valid.specs.Bare.{is_bare_plan}
 use Rattle.cfi_valid.specs.Journal.{IsOpeningState}
 use Rattle.cfi_word.specs.declared.limits.TheConstants.{GUESTS}
 
--- the plan's first module is there from the start, and has a function
+-- the plan's first module is there from the start, and where it has text it has a function
 pub record HasFirst (plan : Plan) (modules : List Module) : Type 0 where
   pub line : PlanModule
   pub line_is : slice_get plan.modules 0 ≡ Some line
   pub starts : line.start ≡ true
   pub first : Module
   pub first_is : slice_get modules 0 ≡ Some first
-  pub some : 0 < length first.records.functions
+  pub some : 0 < length first.object.text → 0 < length first.records.functions
 
 -- where a plan stands for a bare file, there is code for its guest to begin in
 abbrev pub HasCode : Plan → List Module → Type 0

@@ -3,50 +3,19 @@
 ghost use Rattle.std.specs.Prelude.{◌≡◌, ◌≢◌, ◌+◌, ◌<◌, ℕ, true, None, Some, All, IfOk, OnOk, length, slice_get};
 ghost use Rattle.cfi_drive.specs.Concluded.{IsEndedRun};
 ghost use Rattle.cfi_drive.specs.Runner.{Ran};
-ghost use Rattle.cfi_valid.specs.Bare.{has_no_file, is_bare_plan};
 ghost use Rattle.cfi_engine.specs.Guests.{HasCode, IsOpenedTo};
 ghost use Rattle.cfi_engine.specs.inner.Guests.{IsWaiting};
 
-use cfi_aux::Module;
 use cfi_drive::{Runner, drive};
 use cfi_io::Gate;
 use cfi_loader::{Loader, LoaderName};
-use cfi_plan::{Plan, PlanModule};
+use cfi_plan::Plan;
 use cfi_tables::Tables;
 use rv_guest::Guest;
 use std::alloc::{AllocError, Global};
 use std::sync::{Mutex, Wait};
 use std::thread;
 use std::thread::Threads;
-
-// The file of a module has no name.
-fn has_no_file(one: &PlanModule) -> bool
-    ensures { result ≡ has_no_file one.now }
-{
-    one.file.as_str().is_empty()
-}
-
-// The plan stands for a bare file.
-fn is_bare(plan: &Plan) -> bool
-    ensures { result ≡ is_bare_plan plan.now }
-{
-    plan.modules.as_slice().iter().any(has_no_file)
-}
-
-/// Whether there is code for the guests to begin in: a plan that stands for a bare file has a first module with a
-/// function, and each other has entries by name.
-pub fn has_code(plan: &Plan, modules: &[Module]) -> bool
-    ensures { result ≡ true → HasCode plan.now modules.now }
-{
-    if !is_bare(plan) {
-        return true;
-    }
-    let lines = plan.modules.as_slice();
-    if lines.is_empty() || modules.is_empty() {
-        return false;
-    }
-    lines[0].start && modules[0].records.functions.len() > 0
-}
 
 // The entry of the guest of this number.
 fn entry_of(plan: &Plan, number: usize) -> &str

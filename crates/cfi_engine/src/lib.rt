@@ -12,5 +12,5 @@ mod script;
 
 pub use cfi_drive::{Concluded, Runner, conclude, drive, serve};
 pub use fault::RunFault;
-pub use guests::{has_code, open_guests};
+pub use guests::open_guests;
 pub use run::run_plan;

@@ -8,7 +8,7 @@ ghost use Rattle.cfi_engine.specs.Fault.{IsRunFault};
 ghost use Rattle.cfi_engine.specs.Guests.{HasCode};
 
 use crate::fault::RunFault;
-use crate::guests::{has_code, have_ended, open_guests, run_guests};
+use crate::guests::{have_ended, open_guests, run_guests};
 use crate::script::{count_calls, make_calls, make_rest};
 use cfi_aux::Module;
 use cfi_drive::{Concluded, Runner, conclude};
@@ -98,9 +98,8 @@ fn run_named<N: LoaderName + Send + Sync, G: Gate, R: Threads + Wait + Sync>(
 /// Runs a plan: places and verifies its start modules, runs each guest on a thread of its own beside the script, and
 /// makes the report.
 ///
-/// `modules` are those of the plan, one a line. `Open` is the first fault of opening it; `Memory` comes also where a load
-/// that a guest or the script asked for found no memory. A plan that stands for a bare file has a first module, from the
-/// start, with a function; of one that has none nothing is told, and `Memory` comes.
+/// `modules` are those of the plan, one a line; of a plan that stands for a bare file the first is that file's. `Open` is
+/// the first fault of opening it; `Memory` comes also where a load that a guest or the script asked for found no memory.
 pub fn run_plan<G: Gate, R: Threads + Wait + Sync>(
     rt: &R,
     alloc: Global,
@@ -108,19 +107,16 @@ pub fn run_plan<G: Gate, R: Threads + Wait + Sync>(
     modules: Items<Module>,
     gate: &G,
 ) -> Result<Concluded, RunFault>
-    requires { CanStart plan.now modules }
+    requires can { CanStart plan.now modules }
+    requires code { HasCode plan.now modules }
     ensures plan { IfOk result (λ run. run.plan ≡ plan.now) }
     ensures modules { IfOk result (λ run. run.modules ≡ modules) }
     ensures fault { IfErr result (IsRunFault plan.now modules) }
 {
-    let coded = has_code(plan, modules.as_slice());
     let start = match Start::new(alloc, plan, modules) {
         Ok(start) => start,
         Err(OpenFault::Memory) => return Err(RunFault::Memory),
         Err(fault) => return Err(RunFault::Open(fault)),
     };
-    if !coded {
-        return Err(RunFault::Memory);
-    }
     Ok(run_named::<Brand, G, R>(rt, alloc, start, gate)?)
 }

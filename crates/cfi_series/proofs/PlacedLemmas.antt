@@ -69,6 +69,7 @@ pub record Fits (m : Module) (room : Room) (placed : Placed) : Type 0 where
   pub code : placed.base + length placed.words ≤ room.code_words
   pub ends : placed.data_base + length placed.static_data ≤ DATA_END
   pub functions : length placed.functions ≡ length m.records.functions
+  pub words : length placed.words ≡ length m.object.text / 4
 
 pub fits : (m : Module) (room : Room) (names : Names) (placed : Placed) → All (IsSoundReloc m.object) m.object.relocs
     → IsPlaced m room names placed → Fits m room placed
@@ -93,6 +94,7 @@ fits m room names placed sound is =
       ends = omega (arith, leb-true (room.data_base + length object.static_data) DATA_END last.0, end, is.data_base);
       functions = ap length is.functions
           ∙ length-map m.records.functions (λ (f : Function). make_function (is_global object.symbols f) f);
+      words = words ∙ quarter;
     }
 
 -- ---- one placed module

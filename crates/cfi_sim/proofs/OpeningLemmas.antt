@@ -29,7 +29,7 @@ use Rattle.cfi_sim.specs.inner.Standing.{Whole, IsUnderWay, whole_at}
 use Rattle.cfi_sim.proofs.ComingLemmas.{all_loaded}
 use Rattle.cfi_sim.proofs.FoundLemmas.{placed_are}
 use Rattle.cfi_sim.proofs.GoLemmas.{all_sound}
-use Rattle.cfi_sim.proofs.StartLemmas.{can, low_first, not_bare, start_holds}
+use Rattle.cfi_sim.proofs.StartLemmas.{can, low_first, start_holds}
 use Rattle.cfi_sim.proofs.StartedLemmas.{opened_state, started_all}
 use Rattle.cfi_unit.specs.declared.fill.Fill.{Fill}
 use Rattle.cfi_valid.specs.Guests.{EntersAt, GuestBegins}

@@ -1,12 +1,10 @@
 -- The world before the first line agrees with the journal.
-use Rattle.std.proofs.Common.{◌≡◌, ℕ, ◌-◌, ◌<◌, ◌≤◌, ◌==◌, Bool, true, false, List, [], ◌∷◌, length, take, get_or, replicate, slice_get, Option, Some, None, refl, sym, ◌∙◌, ap, subst, arith, inl, inr}
-use Rattle.std.specs.Prelude.{nat_le, ◌&&◌}
+use Rattle.std.proofs.Common.{◌≡◌, ℕ, ◌-◌, ◌<◌, ◌≤◌, Bool, true, false, List, [], ◌∷◌, length, take, get_or, replicate, slice_get, Option, Some, None, refl, sym, ◌∙◌, ap, subst, arith, inl, inr}
 use Rattle.std.specs.List.{All, AllByRecursion}
 use Rattle.std.proofs.Math.Seq.{take-length}
-use Rattle.std.proofs.lemmas.Bool.{cases_lt, and_parts, leb-true, ne_eqb}
+use Rattle.std.proofs.lemmas.Bool.{cases_lt}
 use Rattle.std.proofs.lemmas.List.{get_or-replicate, get_or_append_left, get_or-append_right, get_or_past, length-replicate}
 use Rattle.std.proofs.lemmas.List.Elements.{recursion_from_All}
-use Rattle.std.proofs.lemmas.List.Folds.{list_any_none}
 use Rattle.cfi_aux.specs.declared.modules.Module.{Module}
 use Rattle.cfi_aux.specs.declared.placed.Placed.{Placed}
 use Rattle.cfi_aux.specs.Sound.{IsSoundModule}
@@ -19,8 +17,7 @@ use Rattle.cfi_model.specs.Raw.{Raw}
 use Rattle.cfi_model.specs.Words.{Tables, entry_at}
 use Rattle.cfi_model.specs.World.{World, first_entry, opened_world, quiet_of, point_of}
 use Rattle.cfi_plan.specs.declared.plan.Plan.{Plan}
-use Rattle.cfi_plan.specs.declared.plan.PlanModule.{PlanModule}
-use Rattle.cfi_plan.specs.Plan.{IsNamed, IsPlan}
+use Rattle.cfi_plan.specs.Plan.{IsPlan}
 use Rattle.cfi_series.specs.Entry.{IsEntryIn}
 use Rattle.cfi_series.specs.Loaded.{AreLoaded}
 use Rattle.cfi_series.specs.Series.{IsSeries}
@@ -38,34 +35,16 @@ use Rattle.cfi_sim.proofs.BegunLemmas.{some_fills}
 use Rattle.cfi_sim.proofs.NumbersLemmas.{starts_apart}
 use Rattle.cfi_sim.proofs.LegalLemmas.{start_stands}
 use Rattle.cfi_sim.proofs.ComingLemmas.{idle_comes, all_loaded, among, policy_of_all}
-use Rattle.cfi_text.specs.Names.{is_file}
-use Rattle.cfi_valid.specs.Bare.{has_no_file, is_bare_plan}
 use Rattle.cfi_valid.specs.Guests.{EntersAt}
 use Rattle.cfi_valid.specs.Loaded.{LoadedModule, placed_modules, loaded_by, start_fills}
+use Rattle.cfi_valid.proofs.BareLemmas.{not_bare}
 use Rattle.cfi_valid.proofs.SeriesLemmas.{journal_series}
-use Rattle.cfi_word.specs.declared.limits.TheConstants.{GUESTS, MAX_NAME}
+use Rattle.cfi_word.specs.declared.limits.TheConstants.{GUESTS}
 use Rattle.cfi_word.specs.declared.lists.Image.{Image}
 use Rattle.cfi_world.specs.Premises.{IsOpened, CanOpen}
 use Rattle.cfi_world.specs.Worlds.{IsWorld}
 use Rattle.cfi_world.proofs.OpeningLemmas.{opened_is}
 use Rattle.cfi_world.proofs.StoringLemmas.{force_newest}
-
--- ---- no plan that is read stands for a bare file
-
-file_some : (file : List ℕ) → is_file file ≡ true → (length file == 0) ≡ false
-unfolding is_file
-file_some file is =
-    let front = and_parts (nat_le 1 (length file) && nat_le (length file) MAX_NAME) _ is in
-    let some = leb-true 1 (length file) (and_parts (nat_le 1 (length file)) (nat_le (length file) MAX_NAME) front.0).0 in
-    ne_eqb (length file) 0 (λ none. omega (arith, some, none))
-
-pub not_bare : (plan : Plan) → IsPlan plan → is_bare_plan plan ≡ false
-not_bare plan is =
-    list_any_none has_no_file plan.modules
-    (λ k d within.
-    let one : PlanModule = get_or plan.modules k d in
-    let named : IsNamed one = is.modules.named k d within in
-    file_some one.file named.1)
 
 -- ---- lists
 

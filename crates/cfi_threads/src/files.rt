@@ -2,6 +2,7 @@
 
 ghost use Rattle.std.specs.Prelude.{◌≡◌, ◌∷◌, [], true, IfSome};
 ghost use Rattle.cfi_aux.specs.Sound.{IsSoundModule};
+ghost use Rattle.cfi_engine.specs.Guests.{HasCode};
 ghost use Rattle.cfi_loader.specs.Plans.{CanStart};
 ghost use Rattle.cfi_plan.specs.Plan.{IsPlan};
 ghost use Rattle.cfi_series.specs.Series.{CanBeTaken};
@@ -72,7 +73,8 @@ fn list_of(alloc: Global, one: Module) -> Option<Items<Module>>
 
 /// The plan that a text says, of one module, with that of a source; None where they are not so.
 pub fn planned(alloc: Global, text: &[u8], source: &[u8]) -> Option<(Plan, Items<Module>)>
-    ensures { IfSome result (λ found. CanStart found.0 found.1) }
+    ensures can { IfSome result (λ found. CanStart found.0 found.1) }
+    ensures code { IfSome result (λ found. HasCode found.0 found.1) }
 {
     let plan = plan_of(alloc, text)?;
     let one = module_of(alloc, source)?;

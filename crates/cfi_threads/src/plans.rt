@@ -9,7 +9,7 @@ use crate::files::planned;
 use crate::gates::{Meeting, Weaving};
 use crate::marks::Mark;
 use cfi_aux::Module;
-use cfi_engine::{Runner, drive, has_code, open_guests, run_plan};
+use cfi_engine::{Runner, drive, open_guests, run_plan};
 use cfi_io::{Gate, QuietGate};
 use cfi_loader::{Loader, LoaderName, Start};
 use cfi_plan::Plan;
@@ -40,7 +40,8 @@ fn has_report<G: Gate, R: Threads + Wait + Sync>(
     gate: &G,
     report: &[u8],
 ) -> bool
-    requires { CanStart plan.now modules }
+    requires can { CanStart plan.now modules }
+    requires code { HasCode plan.now modules }
 {
     let Ok(run) = run_plan(rt, alloc, plan, modules, gate) else {
         return false;
@@ -167,12 +168,8 @@ pub fn a_guest_beside_a_held_lock<R: Threads + Wait + Sync>(
     let Some((plan, modules)) = planned(alloc, &texts.plan, &texts.source) else {
         return false;
     };
-    let coded = has_code(&plan, modules.as_slice());
     let Ok(start) = Start::new(alloc, &plan, modules) else {
         return false;
     };
-    if !coded {
-        return false;
-    }
     driven::<Brand, R>(rt, alloc, start)
 }

@@ -1,5 +1,6 @@
 pub mod OrderLemmas
 pub mod CodeLemmas
+pub mod BareLemmas
 pub mod EntryLemmas
 pub mod JournalLemmas
 pub mod ReplayLemmas
