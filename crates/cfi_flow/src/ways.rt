@@ -125,7 +125,7 @@ fn add_tied(
 //
 // Each node has one address that comes back to what gets there, and one branch that returns from where it leads. These
 // two stand for all others: an arrow ties those of its ends, a site its address, a return its branch.
-pub(crate) fn add_ways(
+fn add_some_ways(
     alloc: Global,
     edges: &mut Vec<Edge>,
     nodes: u32,
@@ -147,4 +147,25 @@ pub(crate) fn add_ways(
     let (places, slots) = (places.as_slice(), slots.as_slice());
     add_tied(edges, arrows, sites, returns, places, slots)?;
     Ok(())
+}
+
+// Adds such edges, without a look at the nodes where nothing enters one or nothing returns.
+pub(crate) fn add_ways(
+    alloc: Global,
+    edges: &mut Vec<Edge>,
+    nodes: u32,
+    arrows: &[Link],
+    sites: &[Link],
+    returns: &[Link],
+) -> Result<(), AllocError>
+    requires arrows { AreBelow nodes arrows.now }
+    requires sites { BeginBelow nodes sites.now }
+    requires returns { BeginBelow nodes returns.now }
+    ensures { OnOk result
+        (AddsWays arrows.now sites.now returns.now edges.old.items edges.new.items) }
+{
+    if sites.is_empty() || returns.is_empty() {
+        return Ok(());
+    }
+    add_some_ways(alloc, edges, nodes, arrows, sites, returns)
 }

@@ -10,7 +10,7 @@ ghost use Rattle.cfi_word.specs.declared.map.TheConstants.{DATA_START, DATA_BYTE
 ghost use Rattle.rv_guest.specs.Guest.{MayLoad};
 
 use crate::guest::Guest;
-use crate::guest::compute::is_own;
+use crate::guest::compute::is_one_own;
 use cfi_model::{Act, Wait, load_width, store_width};
 use cfi_unit::Stop;
 use cfi_word::Word;
@@ -28,24 +28,29 @@ impl Guest {
         ensures act { result ≡ act_by (row_of opcodes.LOAD word) self.old }
     {
         let f = fields_of(word);
+        let address = self.regs.read(f.rs1).wrapping_add(imm_i(word));
+        // The row is looked up where it is needed: a table is loaded by one kind alone.
+        if DATA_START <= address && address < DATA_START + DATA_BYTES {
+            let Some(kind) = load_of(f.funct3) else {
+                return Act::Done;
+            };
+            return self.load_data(kind, f.rd, address - DATA_START);
+        }
         let Some(kind) = load_of(f.funct3) else {
             return Act::Done;
         };
-        let address = self.regs.read(f.rs1).wrapping_add(imm_i(word));
-        self.load_from(kind, f.rd, address, is_own(f.rd) || is_own(f.rs1))
+        self.load_outside(kind, f.rd, address, is_one_own(f.rd, f.rs1))
     }
 
-    // Loads from an address of private data or of a table.
+    // Loads from an address outside private data.
     #[inline(always)]
-    fn load_from(&mut self, kind: LoadKind, rd: u32, address: u32, reserved: bool) -> Act
+    fn load_outside(&mut self, kind: LoadKind, rd: u32, address: u32, reserved: bool) -> Act
         requires steps { self.old.base.steps + 1 < 2 ^ 32 }
         requires rd { rd < 32 }
+        requires apart { is_in_range DATA_START DATA_BYTES address ≡ false }
         ensures state { self.new ≡ load_at (area_of address) kind rd (units_of reserved) self.old }
         ensures act { result ≡ load_act (area_of address) kind }
     {
-        if DATA_START <= address && address < DATA_START + DATA_BYTES {
-            return self.load_data(kind, rd, address - DATA_START);
-        }
         match kind {
             LoadKind::Lw => self.load_table(rd, address, reserved),
             _ => Act::Done,
@@ -69,7 +74,7 @@ impl Guest {
         Act::Done
     }
 
-    // Loads a word from an address outside private data.
+    // Loads a word from there.
     #[inline(always)]
     fn load_table(&mut self, rd: u32, address: u32, reserved: bool) -> Act
         requires steps { self.old.base.steps + 1 < 2 ^ 32 }

@@ -3,7 +3,7 @@ use Rattle.cfi_flow.specs.Flow.{AreBelow, BeginBelow}
 use Rattle.cfi_flow.specs.Rows.{AreRows}
 use Rattle.cfi_flow.specs.inner.Ways.{flipped, tied}
 use Rattle.cfi_flow.proofs.WayLemmas.{ways, flipped_below, inside}
-use Rattle.cfi_flow.proofs.ways.add_ways.Goals as goal
+use Rattle.cfi_flow.proofs.ways.add_some_ways.Goals as goal
 
 pub spread-requires-clause-arrows : goal.spread-requires-clause-arrows
 spread-requires-clause-arrows c =
