@@ -16,7 +16,8 @@ fn shift(alloc: Global, node: &TypeNode, start: u32) -> Result<TypeNode, AllocEr
     ensures { IfOk result (λ x. x ≡ shifted start node.now) }
 {
     let (numbers, named) = node.parts();
-    let mut fields = Vec::from_slice(alloc, numbers)?;
+    let mut fields = Vec::with_capacity(alloc, numbers.len() + named.len())?;
+    fields.extend_from_slice(numbers)?;
     for k in named {
         fields.push(start + *k)?;
     }

@@ -56,6 +56,29 @@ fn count(
     Ok(())
 }
 
+// Whether all nodes of each part are counted, so that none is divided.
+fn are_whole(plan: &Plan, counts: &[u32], touched: &[u32]) -> bool
+    requires plan { vec_len plan.now.sizes ≡ length counts.now }
+    requires touched { All (λ k. k < length counts.now) touched.now }
+{
+    for part in touched {
+        if plan.size(*part) != counts[*part as usize] {
+            return false;
+        }
+    }
+    true
+}
+
+// Leaves no node counted in these parts.
+fn clear_counts(counts: &mut Vec<u32>, touched: &[u32])
+    requires { All (λ k. k < vec_len counts.old) touched.now }
+    ensures { vec_len counts.new ≡ vec_len counts.old }
+{
+    for part in touched {
+        counts[*part as usize] = 0;
+    }
+}
+
 // Finds out to which part the nodes come that are counted in each part.
 fn aim(
     plan: &mut Plan,
@@ -122,6 +145,17 @@ fn put(
         }
     }
     Ok(())
+}
+
+// The list after the one of a place, empty after the last.
+fn row_after(lists: &Lists<u32>, place: u32) -> &[u32]
+    requires len { length lists.now ≡ MAX_FIELDS }
+    requires place { place < MAX_FIELDS }
+{
+    if place + 1 == MAX_FIELDS {
+        return &[];
+    }
+    lists.row(place + 1)
 }
 
 // The nodes of each part.
@@ -197,6 +231,10 @@ impl Parts {
             self.parts.as_slice(),
             nodes,
         )?;
+        if are_whole(&self.plan, self.counts.as_slice(), self.touched.as_slice()) {
+            clear_counts(&mut self.counts, self.touched.as_slice());
+            return Ok(());
+        }
         aim(
             &mut self.plan,
             &mut self.counts,
@@ -212,15 +250,23 @@ impl Parts {
         )
     }
 
-    // The same, at little cost where it changes nothing.
-    fn divide(&mut self, nodes: &[u32]) -> Result<(), AllocError>
+    // Whether the nodes need not be taken out: `next`, which is taken out after them, has the same, or each is alone.
+    fn are_settled(&self, nodes: &[u32], next: &[u32]) -> bool
+        requires whole { IsWhole self.now }
+        requires nodes { All (λ a. a < length self.now.parts.items) nodes.now }
+    {
+        nodes == next || self.are_alone(nodes)
+    }
+
+    // The same, at little cost where it changes nothing. `next` are the nodes that are taken out after these.
+    fn divide(&mut self, nodes: &[u32], next: &[u32]) -> Result<(), AllocError>
         requires whole { IsWhole self.old }
         requires nodes { All (λ a. a < length self.old.parts.items) nodes.now }
         ensures whole { OnOk result (IsWhole self.new) }
         ensures divided { OnOk result
             (IsDivided self.old.parts.items nodes.now self.new.parts.items) }
     {
-        if self.are_alone(nodes) {
+        if self.are_settled(nodes, next) {
             return Ok(());
         }
         self.take_out(nodes)
@@ -237,7 +283,7 @@ impl Parts {
             All (TellEqual nodes) lists.old → OnOk result (KeepTogether nodes self.new.parts.items) }
     {
         for place in 0..MAX_FIELDS {
-            self.divide(lists.row(place))?;
+            self.divide(lists.row(place), row_after(lists, place))?;
             lists.clear(place);
         }
         Ok(())

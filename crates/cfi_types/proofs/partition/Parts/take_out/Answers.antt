@@ -1,0 +1,6 @@
+use Rattle.cfi_types.proofs.KeepLemmas.{all_stay}
+use Rattle.cfi_types.proofs.partition.Parts.take_out.Goals as goal
+
+pub returns-then-are_whole-clause-divided : goal.returns-then-are_whole-clause-divided
+returns-then-are_whole-clause-divided c =
+    all_stay c.args.self.now.parts.items c.args.nodes.now c.requires.whole.below
