@@ -1,7 +1,7 @@
 -- Which units stop a guest with Halt.
 use Rattle.std.proofs.Common.{◌≡◌, ℕ, ◌&&◌, Bool, true, false, cond, List, Option, Some, None, refl, sym, ◌∙◌, ap, subst}
 use Rattle.std.proofs.lemmas.Bool.{eqb-false}
-use Rattle.std.proofs.lemmas.Option.{none-some}
+use Rattle.std.proofs.lemmas.Option.{none-some, same_Some}
 use Rattle.cfi_unit.specs.declared.log.Stop.{Stop}
 use Rattle.cfi_unit.specs.declared.log.Stop.TheVariants as stops
 use Rattle.cfi_unit.specs.declared.unit.Unit.{Unit as CodeUnit}
@@ -9,7 +9,7 @@ use Rattle.cfi_unit.specs.declared.unit.Unit.TheVariants as units
 use Rattle.cfi_model.specs.Effect.{effect, is_in_code}
 use Rattle.cfi_model.specs.History.{History, IsEpoch, slot_class, target_class, allows_at}
 use Rattle.cfi_model.specs.Running.{HasApartClasses, IsForbidden}
-use Rattle.cfi_model.specs.Service.{Reply, Service, Ends, Puts, Quiets, Opens, Unknown, service_of, asked, served_stop}
+use Rattle.cfi_model.specs.Service.{Reply, Service, Ends, Puts, Quiets, Opens, Unknown, argument, service_of, asked, served_stop}
 use Rattle.cfi_model.specs.Shows.{Stands, End, AsksUnder, IsStep}
 use Rattle.cfi_model.specs.State.{State, register, displaced}
 
@@ -19,13 +19,19 @@ access_halts : (fits : Bool) (stop : Option Stop) (address target : ℕ) → sto
 access_halts true stop address target none some = absurd (cc)
 access_halts false stop address target none some = absurd (cc)
 
+-- a service stops with Exit alone
+pub served_exits : (service : Service) (s : State) (stop : Stop) → s.stop ≡ None
+    → served_stop service s ≡ Some stop → stop ≡ stops.Exit (argument s)
+served_exits Ends s stop none some = sym (same_Some (stops.Exit (argument s)) stop some)
+served_exits Puts s stop none some = absurd (none-some stop (sym none ∙ some))
+served_exits Quiets s stop none some = absurd (none-some stop (sym none ∙ some))
+served_exits Opens s stop none some = absurd (none-some stop (sym none ∙ some))
+served_exits Unknown s stop none some = absurd (none-some stop (sym none ∙ some))
+
 served_halts : (service : Service) (s : State) (target : ℕ) → s.stop ≡ None
     → served_stop service s ≡ Some (stops.Halt target) → ⊥
-served_halts Ends s target none some = absurd (cc)
-served_halts Puts s target none some = none-some (stops.Halt target) (sym none ∙ some)
-served_halts Quiets s target none some = none-some (stops.Halt target) (sym none ∙ some)
-served_halts Opens s target none some = none-some (stops.Halt target) (sym none ∙ some)
-served_halts Unknown s target none some = none-some (stops.Halt target) (sym none ∙ some)
+served_halts service s target none some =
+    let exits = served_exits service s (stops.Halt target) none some in absurd (cc)
 
 -- a check that goes on does not stop
 check_halts : (goes : Bool) (stop : Option Stop) (to target : ℕ) → stop ≡ None

@@ -6,12 +6,12 @@ use Rattle.cfi_model.specs.Raw.{Raw}
 use Rattle.cfi_model.specs.Running.{IsSpent}
 use Rattle.cfi_model.specs.Shows.{IsReady, Shows}
 use Rattle.cfi_model.specs.State.{State}
-use Rattle.cfi_model.proofs.ShownLemmas.{shows_units}
+use Rattle.cfi_model.proofs.ShownLemmas.{shown_log, shown_output, shown_stop, shows_units}
 use Rattle.cfi_unit.specs.declared.log.Stop.TheVariants as stops
 use Rattle.cfi_valid.specs.Replay.{shown_stop as stop_shown}
 use Rattle.cfi_valid.specs.Steps.{HasBegun, HasSteps}
 use Rattle.cfi_part.specs.Part.{IsEndOf, IsWithin, part_of}
-use Rattle.cfi_part.proofs.StepsLemmas.{HasShown, running_steps, shown_log, shown_output, shown_stop, spent_steps, stop_same}
+use Rattle.cfi_part.proofs.StepsLemmas.{HasShown, running_steps, spent_steps, stop_same}
 
 module _ (h : History) (code : List ℕ) (known : IsHistory h code) (retries : ℕ) (s : State) (ready : IsReady h s)
     (picked : pick_entries s.log ≡ 0 → retries ≡ 0) (single : h.count + h.ahead ≡ 1 → retries ≡ 0)

@@ -1,6 +1,5 @@
 pub mod PushLemmas
 pub mod ApartLemmas
-pub mod RetriedLemmas
 pub mod StepsLemmas
 pub mod EndLemmas
 pub mod RanLemmas

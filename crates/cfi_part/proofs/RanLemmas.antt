@@ -9,7 +9,7 @@ use Rattle.cfi_model.specs.Shows.{End, IsReady, IsShown, Runs, end_of, ends_alon
 use Rattle.cfi_model.specs.State.{State}
 use Rattle.cfi_model.proofs.AdvanceLemmas.{Running}
 use Rattle.cfi_model.proofs.EndLemmas.{effect_units}
-use Rattle.cfi_model.proofs.ShownLemmas.{reached, shows_running}
+use Rattle.cfi_model.proofs.ShownLemmas.{reached, shown_log, shows_running}
 use Rattle.cfi_unit.specs.declared.log.Log.{Log}
 use Rattle.cfi_valid.specs.FromLaw.{BringsDue, HasPolicies}
 use Rattle.cfi_valid.specs.Loaded.{LoadedModule, fills_between}
@@ -18,7 +18,6 @@ use Rattle.cfi_valid.specs.Running.{HasReplayed}
 use Rattle.cfi_valid.proofs.LawLemmas.{step_unit}
 use Rattle.cfi_valid.proofs.RunningLemmas.{replay_goes_on}
 use Rattle.cfi_part.specs.Ran.{AreBrought}
-use Rattle.cfi_part.proofs.StepsLemmas.{shown_log}
 
 -- an answer looks at the log alone
 brings_same : (loaded : List LoadedModule) (reply : Option Reply) (a b : State) → a.log ≡ b.log

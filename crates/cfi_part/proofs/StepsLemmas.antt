@@ -15,28 +15,13 @@ use Rattle.cfi_model.specs.Raw.{Raw}
 use Rattle.cfi_model.specs.Shows.{IsReady, IsPlaceIn, IsRetried, IsBetween, IsInside, Shows, few_of}
 use Rattle.cfi_model.specs.State.{State}
 use Rattle.cfi_model.proofs.AfterLemmas.{effect_unspent}
+use Rattle.cfi_model.proofs.ShownLemmas.{never_retried, shown_stop}
 use Rattle.cfi_model.proofs.StartLemmas.{started}
-use Rattle.cfi_part.proofs.RetriedLemmas.{never_retried}
 use Rattle.cfi_valid.specs.Loaded.{LoadedModule}
 use Rattle.cfi_valid.specs.Replay.{Replays, shown_stop as stop_shown}
 use Rattle.cfi_valid.specs.Steps.{begun_most, HasBegun, is_check, MeetsCheck}
 
--- ---- what is shown
-
-pub shown_output : (h : History) (code : List ℕ) (retries : ℕ) (s : State) (r : Raw) → Shows h code retries s r
-    → r.base.output ≡ s.output
-shown_output h code retries s r (inl between) = ap (λ (b : State). b.output) between.base
-shown_output h code retries s r (inr inside) = ap (λ (b : State). b.output) inside.base
-
-pub shown_log : (h : History) (code : List ℕ) (retries : ℕ) (s : State) (r : Raw) → Shows h code retries s r
-    → r.base.log ≡ s.log
-shown_log h code retries s r (inl between) = ap (λ (b : State). b.log) between.base
-shown_log h code retries s r (inr inside) = ap (λ (b : State). b.log) inside.base
-
-pub shown_stop : (h : History) (code : List ℕ) (retries : ℕ) (s : State) (r : Raw) → Shows h code retries s r
-    → r.base.stop ≡ s.stop
-shown_stop h code retries s r (inl between) = ap (λ (b : State). b.stop) between.base
-shown_stop h code retries s r (inr inside) = ap (λ (b : State). b.stop) inside.base
+-- ---- stops
 
 -- the fuel stops no replay
 pub replay_unspent : (code : List ℕ) (loaded : List LoadedModule) (log : List Log) (count : ℕ) (old new : State)

@@ -91,7 +91,7 @@ set_some (x ∷ xs) (suc i) value fits (suc k) all = set_some xs i value fits k 
 set_held : (xs : List ℕ) (i value k : ℕ) → slice_index (slice_set xs i value) k ≢ 0 → k ≢ i → slice_index xs k ≢ 0
 set_held xs i value k held apart none = held (get_or-set_other xs i k value 0 apart ∙ none)
 
-no_class : (count k : ℕ) → slice_index (replicate count 0) k ≡ 0
+pub no_class : (count k : ℕ) → slice_index (replicate count 0) k ≡ 0
 no_class zero k = refl
 no_class (suc count) zero = refl
 no_class (suc count) (suc k) = no_class count k

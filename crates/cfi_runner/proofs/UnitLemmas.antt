@@ -11,10 +11,10 @@ use Rattle.cfi_model.specs.Data.{load_width, store_width, is_aligned}
 use Rattle.cfi_model.specs.Effect.{effect, masked_at}
 use Rattle.cfi_model.specs.History.{History, allows_at}
 use Rattle.cfi_model.specs.Raw.{Raw}
-use Rattle.cfi_model.specs.Service.{Reply, Service, Ends, Puts, Quiets, Opens, Unknown, service_of, asked, served_stop}
+use Rattle.cfi_model.specs.Service.{Reply, Service, service_of, asked, served_stop}
 use Rattle.cfi_model.specs.Shows.{End, IsStep, MayWait, Runs, Shows, Stands}
 use Rattle.cfi_model.specs.State.{State}
-use Rattle.cfi_model.proofs.HaltLemmas.{only_checks_halt}
+use Rattle.cfi_model.proofs.HaltLemmas.{only_checks_halt, served_exits}
 use Rattle.cfi_model.proofs.ShownLemmas.{shown_stop}
 use Rattle.cfi_runner.specs.Shown.{AsksIn, IsLast, IsMisaligned, IsPausedIn}
 use Rattle.cfi_runner.specs.Run.{PausesAt}
@@ -59,11 +59,8 @@ check_aligns false stop to address none some = absurd (cc)
 
 served_aligns : (service : Service) (s : State) (address : ℕ) → s.stop ≡ None
     → served_stop service s ≡ Some (stops.Align address) → ⊥
-served_aligns Ends s address none some = absurd (cc)
-served_aligns Puts s address none some = none-some (stops.Align address) (sym none ∙ some)
-served_aligns Quiets s address none some = none-some (stops.Align address) (sym none ∙ some)
-served_aligns Opens s address none some = none-some (stops.Align address) (sym none ∙ some)
-served_aligns Unknown s address none some = none-some (stops.Align address) (sym none ∙ some)
+served_aligns service s address none some =
+    let exits = served_exits service s (stops.Align address) none some in absurd (cc)
 
 module _ (code : List ℕ) (s : State) (going : s.stop ≡ None) (pick : ℕ) (allows : ℕ → ℕ → Bool) (reply : Reply)
     (address : ℕ) where

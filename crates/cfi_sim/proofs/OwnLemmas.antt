@@ -16,7 +16,6 @@ use Rattle.cfi_valid.specs.Journal.{JournalState}
 use Rattle.cfi_valid.specs.Loaded.{placed_modules, loaded_by, live_at, start_fills, fills_between}
 use Rattle.cfi_valid.proofs.LawLemmas.{step_unit}
 use Rattle.cfi_model.proofs.InForceLemmas.{history_is, force_within, epoch_within}
-use Rattle.cfi_part.proofs.RetriedLemmas.{never_retried}
 use Rattle.cfi_model.specs.InForce.{in_force, history_of, code_in_force}
 use Rattle.cfi_model.specs.State.{State, opened}
 use Rattle.cfi_model.specs.World.{World}
@@ -27,7 +26,7 @@ use Rattle.cfi_model.proofs.EndLemmas.{effect_units}
 use Rattle.cfi_model.specs.Running.{IsGuest}
 use Rattle.cfi_world.specs.Laws.{IsBrought, IsStepped}
 use Rattle.cfi_aux.specs.declared.modules.Module.{Module}
-use Rattle.cfi_model.proofs.ShownLemmas.{shown_stop}
+use Rattle.cfi_model.proofs.ShownLemmas.{never_retried, shown_stop}
 use Rattle.cfi_world.proofs.RestLemmas.{going_runs}
 use Rattle.cfi_plan.specs.declared.plan.Plan.{Plan}
 use Rattle.cfi_sim.specs.declared.aim.Aim.{Aim}

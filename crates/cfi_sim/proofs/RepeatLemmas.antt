@@ -2,8 +2,6 @@
 use Rattle.std.proofs.Common.{◌≡◌, ℕ, zero, suc, ◌+◌, ◌-◌, ◌<◌, ◌≤◌, ◌⊎◌, Bool, true, false, List, add-one, refl, sym, ◌∙◌, ap, subst, arith, inl, inr}
 use Rattle.std.proofs.lemmas.Bool.{cases_lt}
 use Rattle.cfi_aux.specs.declared.modules.Module.{Module}
-use Rattle.cfi_model.specs.declared.phase.Phase.{Phase}
-use Rattle.cfi_model.specs.declared.phase.Phase.TheVariants as phases
 use Rattle.cfi_model.specs.Phases.{phase_of}
 use Rattle.cfi_model.specs.World.{World}
 use Rattle.cfi_plan.specs.declared.plan.Plan.{Plan}
@@ -21,6 +19,7 @@ use Rattle.cfi_world.specs.Updates.{is_idle}
 use Rattle.cfi_world.specs.declared.event.Event.TheVariants as events
 use Rattle.cfi_world.specs.declared.event.Turned.{Turned}
 use Rattle.cfi_world.specs.declared.event.Turned.TheVariants.{Nothing}
+use Rattle.cfi_world.proofs.AskLemmas.{idle_phase}
 
 -- an earlier event of some
 pub record IsEarlier (P : (old new : Stage) → Type 0) (k : ℕ) (old new : Stage) : Type 0 where
@@ -273,15 +272,7 @@ more_stuck x y z so_far going made is has =
     whole_stuck x y so_far.count so_far.made
     (inr (λ idle. busy (phase_of y.stage.world.tables) going idle)) (advance_none y z made is has)
 
-idle_of : (phase : Phase) → is_idle phase ≡ true → phase ≡ phases.Idle
-idle_of phases.Idle test = refl
-idle_of (phases.Testing guest) test = absurd (cc)
-idle_of (phases.Code next) test = absurd (cc)
-idle_of (phases.Tary next) test = absurd (cc)
-idle_of phases.Epoch test = absurd (cc)
-idle_of (phases.Bary next) test = absurd (cc)
-
 pub finished : (x y : Whole) → HasAdvanced x y → is_idle (phase_of y.stage.world.tables) ≡ true
     → HasMadeWithin (IsWholeUpdate x.plan x.modules) x y
 finished x y so_far idle =
-    whole_made x y so_far.count so_far.some so_far.made (idle_of (phase_of y.stage.world.tables) idle)
+    whole_made x y so_far.count so_far.some so_far.made (idle_phase (phase_of y.stage.world.tables) idle)

@@ -18,23 +18,18 @@ use Rattle.cfi_word.specs.declared.limits.TheConstants.{MAX_EPOCH}
 use Rattle.cfi_word.specs.declared.lists.Image.{Image}
 use Rattle.cfi_word.specs.Rank.{stores_of}
 use Rattle.cfi_world.specs.declared.event.Event.TheVariants as events
-use Rattle.cfi_world.specs.declared.event.Turned.TheVariants.{Did, EpochsSpent}
+use Rattle.cfi_world.specs.declared.event.Turned.TheVariants.{Did}
 use Rattle.cfi_world.specs.Outcomes.{IsRefusal}
-use Rattle.cfi_world.specs.Turns.{Turn, did, nothing, turn_of}
-use Rattle.cfi_world.specs.Updates.{is_idle, begun}
+use Rattle.cfi_world.specs.Turns.{turn_of}
+use Rattle.cfi_world.specs.Updates.{is_idle}
 use Rattle.cfi_world.specs.Worlds.{IsWorld, IsQuietSince, QuietFits}
-use Rattle.cfi_world.proofs.AskLemmas.{epochs_only}
+use Rattle.cfi_world.proofs.AskLemmas.{begin_by, epochs_only}
 use Rattle.cfi_world.proofs.ChoiceLemmas.{row_none}
 use Rattle.cfi_world.proofs.RefusalLemmas.{refusal_only}
 use Rattle.cfi_world.proofs.StoringLemmas.{AreIdle, idle_is, force_newest}
 
-abbrev begin_as : World → Option Image → (a b : Bool) → Turn
-begin_as w image a b =
-    cond a (cond b (record { world = w; answer = EpochsSpent })
-    (did (record w { tables = begun image w.tables; updates = w.updates + 1 }))) (nothing w)
-
 -- an update begins where none is under way, and the epoch in force is not the greatest
-did_by : (w : World) (image : Option Image) (a b : Bool) → (begin_as w image a b).answer ≡ Did
+did_by : (w : World) (image : Option Image) (a b : Bool) → (begin_by w image a b).answer ≡ Did
     → (a ≡ true) × (b ≡ false)
 did_by w image true true is = absurd (cc)
 did_by w image true false is = (refl, refl)

@@ -12,6 +12,7 @@ use Rattle.cfi_word.specs.declared.limits.TheConstants.{MIN_CODE_WORDS}
 use Rattle.cfi_word.specs.Table.{IsSize, slots_of}
 use Rattle.cfi_model.specs.Closed.{idle, StandsIn, StaysInside, IsReadAs, HasClasses, IsClosed}
 use Rattle.cfi_model.proofs.ClosedLemmas.{closed}
+use Rattle.cfi_runner.proofs.CallLemmas.{no_class}
 
 abbrev jump : CodeUnit
 jump = units.Jump false (pos 0)
@@ -29,11 +30,6 @@ jumps_image code_words next = record {
   bary = replicate (slots_of code_words) FIELD_MAX;
   code = jumps code_words next;
 }
-
-zeros : (count k : ℕ) → slice_index (replicate count 0) k ≡ 0
-zeros zero k = refl
-zeros (suc count) zero = refl
-zeros (suc count) (suc k) = zeros count k
 
 -- ---- two words
 
@@ -91,7 +87,7 @@ two_closed code_words size = (
     zeros = code_words - 18;
     code = read_as code_words;
     inside = stays (length (jumps_image code_words 111).bary);
-    targets = λ k held. absurd (held (zeros code_words k));
+    targets = λ k held. absurd (held (no_class code_words k));
   },
 )
 

@@ -30,15 +30,17 @@ stop_none : (stop : Option Stop) (b : Bool) → (is_some stop || b) ≡ false �
 stop_none None b test = refl
 stop_none (Some stop) b test = absurd (cc)
 
-idle_is : (phase : Phase) → is_idle phase ≡ true → phase ≡ phases.Idle
-idle_is phases.Idle test = refl
-idle_is (phases.Testing guest) test = absurd (cc)
-idle_is (phases.Code next) test = absurd (cc)
-idle_is (phases.Tary next) test = absurd (cc)
-idle_is phases.Epoch test = absurd (cc)
-idle_is (phases.Bary next) test = absurd (cc)
+-- the phase of a test that holds
+pub idle_phase : (phase : Phase) → is_idle phase ≡ true → phase ≡ phases.Idle
+idle_phase phases.Idle test = refl
+idle_phase (phases.Testing guest) test = absurd (cc)
+idle_phase (phases.Code next) test = absurd (cc)
+idle_phase (phases.Tary next) test = absurd (cc)
+idle_phase phases.Epoch test = absurd (cc)
+idle_phase (phases.Bary next) test = absurd (cc)
 
-abbrev begin_by : World → Option Image → (a b : Bool) → Turn
+-- what the begin of an update makes of a world
+abbrev pub begin_by : World → Option Image → (a b : Bool) → Turn
 begin_by w image a b =
     cond a (cond b (record { world = w; answer = EpochsSpent })
     (did (record w { tables = begun image w.tables; updates = w.updates + 1 }))) (nothing w)
@@ -54,7 +56,7 @@ spent_by : (w : World) (image : Option Image) (a b : Bool) → is_idle (phase_of
     → (epoch_in_force w.tables == MAX_EPOCH) ≡ b → (begin_by w image a b).answer ≡ EpochsSpent
     → (phase_of w.tables ≡ phases.Idle) × (epoch_in_force w.tables ≡ MAX_EPOCH)
 spent_by w image true true idle last is =
-    (idle_is (phase_of w.tables) idle, eqb-true (epoch_in_force w.tables) MAX_EPOCH last)
+    (idle_phase (phase_of w.tables) idle, eqb-true (epoch_in_force w.tables) MAX_EPOCH last)
 spent_by w image true false idle last is = absurd (cc)
 spent_by w image false b idle last is = absurd (cc)
 
