@@ -39,7 +39,7 @@ use Rattle.cfi_word.specs.declared.limits.TheConstants.{MAX_OPENS, MAX_POLICY}
 use Rattle.cfi_word.specs.declared.services.TheConstants.{NO_FUNCTION, OPEN, TOO_MANY}
 use Rattle.cfi_drive.specs.Path.{IsDueWith}
 use Rattle.cfi_drive.specs.Runner.{HasAsked, IsRunner, IsRunnerBy, SeesOn}
-use Rattle.cfi_drive.specs.Serving.{IsTold}
+use Rattle.cfi_drive.specs.Serving.{IsPassTold}
 use Rattle.cfi_drive.proofs.CauseLemmas.{fits_no_function, fits_open}
 use Rattle.cfi_drive.proofs.NoteLemmas.{told_fits, told_policy, told_settled}
 use Rattle.cfi_drive.proofs.SeesLemmas.{on_noted}
@@ -68,7 +68,7 @@ module _ (k : Key) (plan : Plan) (modules : List Module) (p : PassView) (r : Raw
     (at : IsRunnerBy k plan modules p r first) (asked : HasAsked k plan.fuel p r OPEN)
     (few : opens r.base.log < MAX_OPENS) (logged : IsLogged first.course p.guest r.base.log) (line : JournalLine)
     (l : Ledger) (told : HasTold k (asked_by (Guest p.guest) line) first l) (is : IsLedger k plan modules l)
-    (note : IsTold k plan modules l p (noted k l.keeping p)) where
+    (note : IsPassTold k plan modules l p (noted k l.keeping p)) where
   abbrev n : PassView
   n = noted k l.keeping p
 

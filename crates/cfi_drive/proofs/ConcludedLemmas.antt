@@ -17,7 +17,7 @@ use Rattle.cfi_valid.specs.Course.{Course, IsCourse}
 use Rattle.cfi_valid.specs.Loaded.{module_line_of}
 use Rattle.cfi_valid.specs.Script.{made_by_script, script_calls}
 use Rattle.cfi_valid.specs.Valid.{IsEnded, IsValidReport, course_of}
-use Rattle.cfi_drive.specs.Concluded.{HasNames, IsConcluded, conclusion_of}
+use Rattle.cfi_drive.specs.Concluded.{HasReadableNames, IsConcluded, conclusion_of}
 use Rattle.cfi_drive.specs.Ending.{code_by, history_by}
 use Rattle.cfi_drive.specs.inner.Ending.{ArePartsAt, HasNumbers}
 use Rattle.cfi_drive.proofs.HistoryLemmas.{history_is}
@@ -68,13 +68,13 @@ module _ (k : Key) (plan : Plan) (modules : List Module) (l : Ledger) (is : IsLe
       subst (λ (c : Course). IsRunOf c (history_by k l) (code_by k l) number part) same (parts.each number part there).run
 
   -- the report can be read
-  entry_named : HasNames plan → (number : ℕ) (entry : List ℕ) → slice_get plan.guests number ≡ Some entry
+  entry_named : HasReadableNames plan → (number : ℕ) (entry : List ℕ) → slice_get plan.guests number ≡ Some entry
       → is_name entry ≡ true
   entry_named names number entry there =
       subst (λ (name : List ℕ). is_name name ≡ true) (get_or_from_slice_get plan.guests number entry entry there)
       (names.guests number entry (slice_get_within plan.guests number entry there))
 
-  can_be_read : HasNames plan → (number : ℕ) (part : GuestPart) → slice_get report.guests number ≡ Some part
+  can_be_read : HasReadableNames plan → (number : ℕ) (part : GuestPart) → slice_get report.guests number ≡ Some part
       → CanBeRead part
   can_be_read names number part there =
       let ended = valid.guests number part there in
@@ -89,7 +89,7 @@ module _ (k : Key) (plan : Plan) (modules : List Module) (l : Ledger) (is : IsLe
       sym (ap (λ (ms : List Module). length ms) is.modules_are)
       ∙ (is.can_start.count ∙ ap (λ (p : Plan). length p.modules) is.plan_is)
 
-  read : HasNames plan → IsReport report
+  read : HasReadableNames plan → IsReport report
   read names =
       report_read report numbers
       (subst (AllByRecursion (λ (m : ModuleLine). is_name m.name ≡ true)) (sym lines)

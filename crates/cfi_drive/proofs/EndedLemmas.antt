@@ -19,7 +19,7 @@ use Rattle.cfi_valid.specs.Journal.{JournalState}
 use Rattle.cfi_drive.specs.Ending.{IsPartAt, code_by, history_by, part_by}
 use Rattle.cfi_drive.specs.Path.{AreDue}
 use Rattle.cfi_drive.specs.Runner.{IsRunner, IsRunnerBy}
-use Rattle.cfi_drive.specs.Serving.{IsTold}
+use Rattle.cfi_drive.specs.Serving.{IsPassTold}
 use Rattle.cfi_drive.proofs.HistoryLemmas.{history_is}
 use Rattle.cfi_drive.proofs.NoteLemmas.{logged_now, runner_told}
 
@@ -36,7 +36,7 @@ module _ (k : Key) (plan : Plan) (modules : List Module) (l : Ledger) (is : IsLe
     abbrev n : PassView
     n = noted k l.keeping p
 
-    told : IsTold k plan modules l p n
+    told : IsPassTold k plan modules l p n
     told = record { ledger = is; agrees = agrees; is = refl }
 
     at : IsRunnerBy k plan modules n r l

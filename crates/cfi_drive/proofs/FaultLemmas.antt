@@ -29,14 +29,14 @@ use Rattle.cfi_verify.specs.declared.fault.VerifyFault.TheVariants as verifying
 use Rattle.cfi_word.specs.declared.limits.TheConstants.{MAX_OPENS}
 use Rattle.cfi_word.specs.declared.services.TheConstants.{OPEN}
 use Rattle.cfi_drive.specs.Runner.{HasAsked, IsRunner, IsRunnerBy}
-use Rattle.cfi_drive.specs.Serving.{IsTold, cause_by}
+use Rattle.cfi_drive.specs.Serving.{IsPassTold, cause_by}
 use Rattle.cfi_drive.proofs.CauseLemmas.{fits_epochs, fits_full, fits_place, fits_verify, fits_versions}
 use Rattle.cfi_drive.proofs.AnswerLemmas.{refused, served_log_is}
 
 module _ (k : Key) (plan : Plan) (modules : List Module) (p : PassView) (r : Raw) (first : Ledger)
     (at : IsRunnerBy k plan modules p r first) (asked : HasAsked k plan.fuel p r OPEN)
     (few : opens r.base.log < MAX_OPENS) (logged : IsLogged first.course p.guest r.base.log)
-    (l : Ledger) (is : IsLedger k plan modules l) (note : IsTold k plan modules l p (noted k l.keeping p)) where
+    (l : Ledger) (is : IsLedger k plan modules l) (note : IsPassTold k plan modules l p (noted k l.keeping p)) where
   abbrev number : ℕ
   number = argument r.base
 

@@ -12,7 +12,7 @@ use Rattle.cfi_tables.specs.Key.{Key}
 use Rattle.cfi_tables.specs.Loads.{IsQuiet}
 use Rattle.cfi_tables.specs.declared.view.PassView.{PassView}
 use Rattle.cfi_tables.proofs.Prefixes.{prefix_same, prefix_trans}
-use Rattle.cfi_drive.specs.Serving.{IsTold, KeepsPass}
+use Rattle.cfi_drive.specs.Serving.{IsPassTold, KeepsPass}
 
 pub keeps_same : (p : PassView) → KeepsPass p p
 keeps_same p = record { guest = refl; accesses = prefix_same p.sight.accesses }
@@ -25,7 +25,7 @@ keeps_trans p q n one other = record {
 
 -- with a note
 pub keeps_told : (k : Key) (plan : Plan) (modules : List Module) (l : Ledger) (p q : PassView)
-    → IsTold k plan modules l p q → KeepsPass p q
+    → IsPassTold k plan modules l p q → KeepsPass p q
 keeps_told k plan modules l p q told = record {
   guest = ap (λ (v : PassView). v.guest) told.is;
   accesses = subst (IsPrefix p.sight.accesses) (sym (ap (λ (v : PassView). v.sight.accesses) told.is))

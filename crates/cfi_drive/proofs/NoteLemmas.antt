@@ -19,7 +19,7 @@ use Rattle.cfi_valid.specs.Log.{IsLogged}
 use Rattle.cfi_word.specs.declared.limits.TheConstants.{GUESTS}
 use Rattle.cfi_part.specs.Ran.{IsOpenedAs}
 use Rattle.cfi_drive.specs.Runner.{IsRunnerBy, SeesOn}
-use Rattle.cfi_drive.specs.Serving.{IsTold}
+use Rattle.cfi_drive.specs.Serving.{IsPassTold}
 use Rattle.cfi_drive.specs.Settled.{FitsSettled, IsSettled}
 use Rattle.cfi_drive.proofs.PathLemmas.{due_later}
 use Rattle.cfi_drive.proofs.SeesLemmas.{on_noted, runner_on}
@@ -57,7 +57,7 @@ module _ (k : Key) (plan : Plan) (modules : List Module) (l : Ledger) (p : PassV
 
 module _ (k : Key) (plan : Plan) (modules : List Module) (p : PassView) (r : Raw) (l m : Ledger)
     (was : IsRunnerBy k plan modules p r l) (seen : IsSight k p.sight) (is : IsLedger k plan modules m)
-    (told : IsTold k plan modules m p (noted k m.keeping p)) where
+    (told : IsPassTold k plan modules m p (noted k m.keeping p)) where
   abbrev n : PassView
   n = noted k m.keeping p
 

@@ -13,7 +13,7 @@ use Rattle.cfi_plan.specs.declared.plan.PlanModule.{PlanModule}
 use Rattle.cfi_text.specs.Names.{is_name}
 use Rattle.cfi_valid.specs.Journal.{EntriesLead, IsJournal, JournalState, LineLeads, starts_from}
 use Rattle.cfi_valid.specs.Loaded.{LoadedModule, module_line_of, planned_name}
-use Rattle.cfi_drive.specs.Concluded.{HasNames}
+use Rattle.cfi_drive.specs.Concluded.{HasReadableNames}
 
 raised : (low high : ℕ) (numbers : List ℕ) → low ≤ high → AllByRecursion (λ (n : ℕ). n < low) numbers
     → AllByRecursion (λ (n : ℕ). n < high) numbers
@@ -90,7 +90,7 @@ module _ (plan : Plan) (modules : List Module) (many : length modules ≡ length
 no_module : PlanModule
 no_module = record { name = []; file = []; start = false }
 
-module_named : (plan : Plan) → HasNames plan → (number : ℕ) → number < length plan.modules
+module_named : (plan : Plan) → HasReadableNames plan → (number : ℕ) → number < length plan.modules
     → is_name (planned_name plan.modules number) ≡ true
 module_named plan names number within =
     let one : PlanModule = get_or plan.modules number no_module in
@@ -98,7 +98,8 @@ module_named plan names number within =
     (slice_get-get_or plan.modules number no_module within) in
     subst (λ (name : List ℕ). is_name name ≡ true) (sym found) (names.modules number no_module within)
 
-pub lines_named : (plan : Plan) → HasNames plan → (loaded : List LoadedModule) → AreKnown (length plan.modules) loaded
+pub lines_named : (plan : Plan) → HasReadableNames plan → (loaded : List LoadedModule)
+    → AreKnown (length plan.modules) loaded
     → AllByRecursion (λ (l : ModuleLine). is_name l.name ≡ true) (map (module_line_of plan.modules) loaded)
 lines_named plan names [] known = tt
 lines_named plan names (l ∷ loaded) known =

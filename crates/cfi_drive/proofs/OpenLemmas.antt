@@ -23,7 +23,7 @@ use Rattle.cfi_valid.specs.Log.{IsLogged}
 use Rattle.cfi_word.specs.declared.limits.TheConstants.{MAX_OPENS}
 use Rattle.cfi_word.specs.declared.services.TheConstants.{OPEN}
 use Rattle.cfi_drive.specs.Runner.{HasAsked, IsRunner, IsRunnerBy}
-use Rattle.cfi_drive.specs.Serving.{IsTold, cause_by}
+use Rattle.cfi_drive.specs.Serving.{IsPassTold, cause_by}
 use Rattle.cfi_drive.proofs.AnswerLemmas.{given, policy_fits}
 use Rattle.cfi_drive.proofs.FaultLemmas.{refused_by}
 use Rattle.cfi_drive.proofs.NoteLemmas.{logged_now, planned, runner_told}
@@ -42,10 +42,10 @@ pub record IsToldOf (k : Key) (plan : Plan) (modules : List Module) (n : PassVie
   pub planned : n.guest < length plan.guests
 
 pub told_of : (k : Key) (plan : Plan) (modules : List Module) (p n : PassView) (r : Raw) (l : Ledger)
-    → IsRunner k plan modules p r → HasAsked k plan.fuel p r OPEN → IsTold k plan modules l p n
+    → IsRunner k plan modules p r → HasAsked k plan.fuel p r OPEN → IsPassTold k plan modules l p n
     → IsToldOf k plan modules n r l
 told_of k plan modules p n r l was asked told =
-    let note : IsTold k plan modules l p (noted k l.keeping p) = record {
+    let note : IsPassTold k plan modules l p (noted k l.keeping p) = record {
       ledger = told.ledger;
       agrees = told.agrees;
       is = refl;
@@ -61,8 +61,8 @@ told_of k plan modules p n r l was asked told =
 
 module _ (k : Key) (plan : Plan) (modules : List Module) (p n : PassView) (r : Raw) (first l : Ledger)
     (of : IsToldOf k plan modules p r first) (few : opens r.base.log < MAX_OPENS)
-    (told : IsTold k plan modules l p n) where
-  note : IsTold k plan modules l p (noted k l.keeping p)
+    (told : IsPassTold k plan modules l p n) where
+  note : IsPassTold k plan modules l p (noted k l.keeping p)
   note = record { ledger = told.ledger; agrees = told.agrees; is = refl }
 
   -- its module is loaded

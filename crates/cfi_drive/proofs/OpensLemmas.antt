@@ -13,11 +13,11 @@ use Rattle.cfi_plan.specs.declared.plan.Plan.{Plan}
 use Rattle.cfi_tables.specs.Key.{Key}
 use Rattle.cfi_tables.specs.declared.view.PassView.{PassView}
 use Rattle.cfi_drive.specs.Opens.{HasAskedLoader}
-use Rattle.cfi_drive.specs.Serving.{IsTold, cause_by}
+use Rattle.cfi_drive.specs.Serving.{IsPassTold, cause_by}
 
 -- a refused load, of the guest that was told before it
 pub asked_refused : (k : Key) (plan : Plan) (modules : List Module) (p mid q : PassView) (r new : Raw)
-    (before after : Ledger) → IsTold k plan modules before p mid → IsTold k plan modules after mid q
+    (before after : Ledger) → IsPassTold k plan modules before p mid → IsPassTold k plan modules after mid q
     → (fault : LoadFault) (cause policy : ℕ) → cause_by fault ≡ Some cause
     → IsLoadFault k (Guest mid.guest) (argument r.base) fault before after → policy ≡ after.course.end.policy
     → new ≡ serve_of r (reply_of 0 cause policy []) → HasAskedLoader k plan modules p q r new

@@ -13,6 +13,7 @@ use Rattle.cfi_runner.proofs.TakenLemmas.{first_code}
 use Rattle.cfi_series.specs.Fills.{fills_of}
 use Rattle.cfi_valid.specs.Growth.{IsLater}
 use Rattle.cfi_valid.specs.Journal.{JournalState}
+use Rattle.cfi_loader.proofs.SuffixLemmas.{came_between}
 use Rattle.cfi_valid.specs.Loaded.{LoadedModule, fills_between, placed_modules}
 use Rattle.cfi_valid.specs.Replay.{given_by}
 use Rattle.cfi_drive.specs.Path.{AreDue, AreFound, IsDueWith, word_found, word_in}
@@ -47,34 +48,32 @@ pub due_words : (end : JournalState) (accesses : List Access) (r : Raw) → AreD
 due_words end [] r = tt
 due_words end (access ∷ later) r = (tt, due_words end later (take_one r (Word access.found)))
 
--- what came with a later policy is none of it
-abbrev came : (above upto : ℕ) → LoadedModule → Bool
-came above upto l = nat_lt above l.policy && nat_le l.policy upto
-
 and_false : (a b : Bool) → b ≡ false → (a && b) ≡ false
 and_false true b is = is
 and_false false b is = refl
 
+-- what came with a later policy is none of it
 none_more : (above upto policy : ℕ) (more : List LoadedModule) → upto ≤ policy
-    → AllByRecursion (λ (l : LoadedModule). policy < l.policy) more → filter (came above upto) more ≡ []
+    → AllByRecursion (λ (l : LoadedModule). policy < l.policy) more → filter (came_between above upto) more ≡ []
 none_more above upto policy [] low later = refl
 none_more above upto policy (l ∷ more) low later =
     let past : nat_le l.policy upto ≡ false = lt-leb l.policy upto (omega (arith, low, later.0)) in
-    ap (λ (b : Bool). cond b (l ∷ filter (came above upto) more) (filter (came above upto) more))
+    ap (λ (b : Bool). cond b (l ∷ filter (came_between above upto) more) (filter (came_between above upto) more))
     (and_false (nat_lt above l.policy) (nat_le l.policy upto) past)
     ∙ none_more above upto policy more low later.1
 
-filter_more : (above upto : ℕ) (xs more : List LoadedModule) → filter (came above upto) more ≡ []
-    → filter (came above upto) (xs ++ more) ≡ filter (came above upto) xs
+filter_more : (above upto : ℕ) (xs more : List LoadedModule) → filter (came_between above upto) more ≡ []
+    → filter (came_between above upto) (xs ++ more) ≡ filter (came_between above upto) xs
 filter_more above upto [] more none = none
 filter_more above upto (x ∷ xs) more none =
-    ap (λ (rest : List LoadedModule). cond (came above upto x) (x ∷ rest) rest) (filter_more above upto xs more none)
+    ap (λ (rest : List LoadedModule). cond (came_between above upto x) (x ∷ rest) rest)
+    (filter_more above upto xs more none)
 
 pub fills_stay : (old new : JournalState) → IsLater old new → (above upto : ℕ) → upto ≤ old.policy
     → fills_between above upto new.loaded ≡ fills_between above upto old.loaded
 fills_stay old new later above upto low =
     ap (λ (ls : List LoadedModule). fills_of (placed_modules ls))
-    (ap (filter (came above upto)) later.is
+    (ap (filter (came_between above upto)) later.is
     ∙ filter_more above upto old.loaded later.more
     (none_more above upto old.policy later.more low later.above))
 

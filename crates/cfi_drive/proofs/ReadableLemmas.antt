@@ -13,9 +13,9 @@ use Rattle.cfi_report.proofs.ClosingLemmas.{end-IsLine, title-IsLine}
 use Rattle.cfi_report.proofs.ReachedLemmas.{AllByRecursion-append}
 use Rattle.cfi_text.specs.Names.{is_name}
 use Rattle.cfi_drive.specs.inner.Ending.{HasNumbers}
-use Rattle.cfi_drive.specs.inner.Lines.{HasEntry, HasModule}
+use Rattle.cfi_drive.specs.inner.Lines.{HasEntryFields, HasModuleFields}
 
-modules_lines : (ms : List ModuleLine) → AllByRecursion HasModule ms
+modules_lines : (ms : List ModuleLine) → AllByRecursion HasModuleFields ms
     → AllByRecursion (λ (l : ModuleLine). is_name l.name ≡ true) ms → AllByRecursion IsLine (map line.Module ms)
 modules_lines [] has named = tt
 modules_lines (m ∷ ms) has named =
@@ -24,7 +24,7 @@ modules_lines (m ∷ ms) has named =
       modules_lines ms has.1 named.1,
     )
 
-journal_lines : (entries : List Entry) → AllByRecursion HasEntry entries
+journal_lines : (entries : List Entry) → AllByRecursion HasEntryFields entries
     → AllByRecursion IsLine (map line.Journal entries)
 journal_lines [] has = tt
 journal_lines (entry ∷ entries) has = (((tt, (has.0.who, has.0.what)), tt), journal_lines entries has.1)

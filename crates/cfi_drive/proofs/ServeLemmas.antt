@@ -1,5 +1,5 @@
 -- A runner after a service of its guest.
-use Rattle.std.proofs.Common.{◌≡◌, ◌≤◌, ℕ, Bool, true, false, Some, None, List, [], ◌∷◌, ◌++◌, refl, sym, ap, subst, ◌∙◌, arith, inl, append-nil}
+use Rattle.std.proofs.Common.{◌≡◌, ◌≤◌, ℕ, Some, None, List, [], ◌∷◌, ◌++◌, refl, sym, ap, subst, ◌∙◌, arith, inl, append-nil}
 use Rattle.std.specs.Prelude.{filter_map}
 use Rattle.std.proofs.lemmas.List.Elements.{filter_map-append}
 use Rattle.cfi_aux.specs.declared.modules.Module.{Module}
@@ -19,7 +19,6 @@ use Rattle.cfi_runner.specs.Laws.{MayServe}
 use Rattle.cfi_runner.specs.Seen.{SeesMore, history_seen, code_seen, policy_seen}
 use Rattle.cfi_runner.proofs.HandLemmas.{hands_on}
 use Rattle.cfi_runner.proofs.SeenLemmas.{sees_trans, start_later}
-use Rattle.cfi_series.specs.Entry.{IsEntryIn}
 use Rattle.cfi_series.specs.Fills.{fills_of}
 use Rattle.cfi_loader.specs.Ledger.{Ledger}
 use Rattle.cfi_tables.specs.Key.{Key}
@@ -28,11 +27,10 @@ use Rattle.cfi_tables.specs.declared.view.Sight.{Sight}
 use Rattle.cfi_unit.specs.declared.log.Log.{Log}
 use Rattle.cfi_unit.specs.declared.log.Log.TheVariants.{Pick, Open, Cause}
 use Rattle.cfi_unit.specs.declared.log.Stop.TheVariants as stops
-use Rattle.cfi_valid.specs.Bare.{is_bare_plan}
 use Rattle.cfi_valid.specs.Growth.{IsLater}
-use Rattle.cfi_valid.specs.Guests.{EntersAt}
 use Rattle.cfi_valid.specs.Journal.{JournalState}
-use Rattle.cfi_valid.specs.Loaded.{LoadedModule, loaded_by, placed_modules}
+use Rattle.cfi_valid.specs.Loaded.{LoadedModule, placed_modules}
+use Rattle.cfi_valid.proofs.GuestLemmas.{guest_begins_later}
 use Rattle.cfi_valid.proofs.GrowthLemmas.{loaded_stays}
 use Rattle.cfi_model.specs.Raw.{raw_opened}
 use Rattle.cfi_part.specs.Ran.{IsOpenedAs}
@@ -44,12 +42,6 @@ use Rattle.cfi_drive.proofs.RunLemmas.{end_going}
 
 -- ---- where a guest begins
 
-enters_later : (bare : Bool) (old new : List LoadedModule) (entry : List ℕ) (address : ℕ)
-    → loaded_by 0 new ≡ loaded_by 0 old → EntersAt bare old entry address → EntersAt bare new entry address
-enters_later true old new entry address same enters = enters
-enters_later false old new entry address same enters =
-    subst (λ (ls : List LoadedModule). IsEntryIn (placed_modules ls) entry address) (sym same) enters
-
 pub opened_later : (plan : Plan) (old new : JournalState) → IsLater old new → (number : ℕ) (start : Raw)
     → IsOpenedAs plan old.loaded number start → IsOpenedAs plan new.loaded number start
 opened_later plan old new later number start opened =
@@ -58,7 +50,7 @@ opened_later plan old new later number start opened =
       entry = opened.entry;
       entry_is = opened.entry_is;
       address = opened.address;
-      begins = enters_later (is_bare_plan plan) old.loaded new.loaded opened.entry opened.address same opened.begins;
+      begins = guest_begins_later plan old.loaded new.loaded same opened.entry opened.address opened.begins;
       is = opened.is
           ∙ ap (λ (ls : List LoadedModule). raw_opened number opened.address (fills_of (placed_modules ls))) (sym same);
     }

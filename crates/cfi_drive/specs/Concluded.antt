@@ -22,7 +22,7 @@ abbrev pub conclusion_of : Plan → List Module → Report → Conclusion
 conclusion_of plan modules report = record { plan = plan; modules = modules; report = report }
 
 -- the names of a plan are names
-pub record HasNames (plan : Plan) : Type 0 where
+pub record HasReadableNames (plan : Plan) : Type 0 where
   pub modules : All (λ (one : PlanModule). is_name one.name ≡ true) plan.modules
   pub guests : All (λ entry. is_name entry ≡ true) plan.guests
 
@@ -35,7 +35,7 @@ pub record IsConcluded (c : Conclusion) : Type 0 where
   pub of : IsHistoryOf (course_of c.plan c.modules c.report valid.end) history code
   pub runs : (number : ℕ) (part : GuestPart) → slice_get c.report.guests number ≡ Some part
       → IsRunOf (course_of c.plan c.modules c.report valid.end) history code number part
-  pub readable : HasNames c.plan → IsReport c.report
+  pub readable : HasReadableNames c.plan → IsReport c.report
 
 -- the runner of this number is that of the guest of this number, which has stopped
 abbrev pub IsEndedRun : (number : ℕ) → Option Ran → Type 0

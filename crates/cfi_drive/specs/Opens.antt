@@ -17,7 +17,7 @@ use Rattle.cfi_tables.specs.Loads.{IsQuiet}
 use Rattle.cfi_tables.specs.declared.view.PassView.{PassView}
 use Rattle.cfi_word.specs.declared.limits.TheConstants.{MAX_OPENS}
 use Rattle.cfi_word.specs.declared.services.TheConstants.{NO_MODULE, TOO_MANY}
-use Rattle.cfi_drive.specs.Serving.{IsTold, cause_by}
+use Rattle.cfi_drive.specs.Serving.{IsPassTold, cause_by}
 
 -- the load of the guest's module came through, and that is the answer
 pub record IsAnsweredBy (k : Key) (guest : ℕ) (before after : Ledger) (r new : Raw) : Type 0 where
@@ -37,9 +37,9 @@ pub record IsRefusedBy (k : Key) (guest : ℕ) (before after : Ledger) (r new : 
 pub record HasAskedLoader (k : Key) (plan : Plan) (modules : List Module) (p q : PassView) (r new : Raw) : Type 0 where
   pub before : Ledger
   pub mid : PassView
-  pub told : IsTold k plan modules before p mid
+  pub told : IsPassTold k plan modules before p mid
   pub after : Ledger
-  pub then : IsTold k plan modules after mid q
+  pub then : IsPassTold k plan modules after mid q
   pub answer : IsAnsweredBy k p.guest before after r new ⊎ IsRefusedBy k p.guest before after r new
 
 -- the loader was not asked: the answer is this cause, with the policy that the guest has logged last

@@ -18,7 +18,7 @@ use Rattle.cfi_valid.specs.declared.causes.TheConstants as causes
 use Rattle.cfi_verify.specs.declared.fault.VerifyFault.TheVariants as verifying
 
 -- a loader has told a pass all that its keeper has seen
-pub record IsTold (k : Key) (plan : Plan) (modules : List Module) (l : Ledger) (old new : PassView) : Type 0 where
+pub record IsPassTold (k : Key) (plan : Plan) (modules : List Module) (l : Ledger) (old new : PassView) : Type 0 where
   pub ledger : IsLedger k plan modules l
   pub agrees : AgreesWith k l.keeping.entries l.keeping.refusals old.sight
   pub is : new ≡ noted k l.keeping old

@@ -5,7 +5,7 @@ ghost use Rattle.std.specs.List.{AllByRecursion};
 ghost use Rattle.cfi_drive.specs.Concluded.{IsConcluded, IsEndedRun};
 ghost use Rattle.cfi_drive.specs.Ending.{IsPartAt, part_by};
 ghost use Rattle.cfi_drive.specs.inner.Ending.{AreTaken, HasNumbers};
-ghost use Rattle.cfi_drive.specs.inner.Lines.{HasEntry, HasModule};
+ghost use Rattle.cfi_drive.specs.inner.Lines.{HasEntryFields, HasModuleFields};
 ghost use Rattle.cfi_loader.specs.Passes.{with_keeping};
 ghost use Rattle.cfi_part.specs.Part.{HasFields};
 ghost use Rattle.cfi_tables.specs.Keeping.{let_in};
@@ -119,8 +119,8 @@ fn report_of(
     journal: Vec<Entry>,
     guests: Vec<GuestPart>,
 ) -> Report
-    requires modules { AllByRecursion HasModule modules.items }
-    requires journal { AllByRecursion HasEntry journal.items }
+    requires modules { AllByRecursion HasModuleFields modules.items }
+    requires journal { AllByRecursion HasEntryFields journal.items }
     ensures is { result ≡ record {
       epoch = force.epoch;
       policy = force.policy;

@@ -2,7 +2,7 @@
 
 ghost use Rattle.std.specs.Prelude.{◌≡◌, IfOk};
 ghost use Rattle.std.specs.List.{AllByRecursion};
-ghost use Rattle.cfi_drive.specs.inner.Lines.{HasEntry, HasModule, HasWhat, HasWho};
+ghost use Rattle.cfi_drive.specs.inner.Lines.{HasEntryFields, HasModuleFields, HasWhat, HasWho};
 
 use cfi_plan::{Entry, JournalLine, ModuleLine, Who};
 use cfi_values::Text;
@@ -68,7 +68,7 @@ fn what_of(what: JournalLine) -> JournalLine
 // A line of the journal.
 fn entry_of(entry: Entry) -> Entry
     ensures same { result ≡ entry }
-    ensures fields { HasEntry result }
+    ensures fields { HasEntryFields result }
 {
     Entry {
         who: who_of(entry.who),
@@ -80,7 +80,7 @@ fn entry_of(entry: Entry) -> Entry
 #[tactic(auto, using(crate::proofs::LineLemmas::entries_push))]
 pub(crate) fn journal_of(alloc: Global, journal: &[Entry]) -> Result<Vec<Entry>, AllocError>
     ensures same { IfOk result (λ copy. copy.items ≡ journal.now) }
-    ensures fields { IfOk result (λ copy. AllByRecursion HasEntry copy.items) }
+    ensures fields { IfOk result (λ copy. AllByRecursion HasEntryFields copy.items) }
 {
     let mut copy = Vec::with_capacity(alloc, journal.len())?;
     for entry in journal {
@@ -92,7 +92,7 @@ pub(crate) fn journal_of(alloc: Global, journal: &[Entry]) -> Result<Vec<Entry>,
 // What is said of a loaded module.
 fn module_of(alloc: Global, line: &ModuleLine) -> Result<ModuleLine, AllocError>
     ensures same { IfOk result (λ copy. copy ≡ line.now) }
-    ensures fields { IfOk result HasModule }
+    ensures fields { IfOk result HasModuleFields }
 {
     let name = Text::from_string(String::from_str(alloc, line.name.as_str())?);
     let (number, base, slot) = (line.number, line.base, line.slot);
@@ -111,7 +111,7 @@ fn module_of(alloc: Global, line: &ModuleLine) -> Result<ModuleLine, AllocError>
 #[tactic(auto, using(crate::proofs::LineLemmas::modules_push))]
 pub(crate) fn modules_of(alloc: Global, lines: &[ModuleLine]) -> Result<Vec<ModuleLine>, AllocError>
     ensures same { IfOk result (λ copy. copy.items ≡ lines.now) }
-    ensures fields { IfOk result (λ copy. AllByRecursion HasModule copy.items) }
+    ensures fields { IfOk result (λ copy. AllByRecursion HasModuleFields copy.items) }
 {
     let mut copy = Vec::with_capacity(alloc, lines.len())?;
     for line in lines {

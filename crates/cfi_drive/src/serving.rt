@@ -10,7 +10,7 @@ ghost use Rattle.cfi_word.specs.declared.limits.TheConstants.{MAX_OPENS};
 ghost use Rattle.cfi_word.specs.declared.services.TheConstants.{OPEN};
 ghost use Rattle.cfi_drive.specs.Runner.{HasAsked, IsRunner};
 ghost use Rattle.cfi_drive.specs.Opens.{HasAskedLoader, HasOpened, HasServedElse, HasServedOpen};
-ghost use Rattle.cfi_drive.specs.Serving.{HasServed, IsTold, KeepsPass};
+ghost use Rattle.cfi_drive.specs.Serving.{HasServed, IsPassTold, KeepsPass};
 
 use crate::causes::{cause_by, last_policy};
 use cfi_io::Gate;
@@ -38,7 +38,7 @@ fn refuse(guest: &mut Guest, cause: u32, policy: u32)
 
 // Tells a pass all that the keeper has seen.
 fn tell<N: LoaderName>(desk: &mut Loader<N>, tables: &Tables<N>, pass: &mut Pass<N>)
-    ensures told { IsTold N.key N.plan N.modules desk.old pass.old pass.new }
+    ensures told { IsPassTold N.key N.plan N.modules desk.old pass.old pass.new }
     ensures same { desk.new ≡ desk.old }
 {
     let _ = desk.journal();

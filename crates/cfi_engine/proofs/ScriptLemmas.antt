@@ -19,7 +19,8 @@ use Rattle.cfi_plan.specs.declared.journal.Who.{Who}
 use Rattle.cfi_plan.specs.declared.journal.Who.TheVariants.{Script}
 use Rattle.cfi_loader.specs.Calls.{calls_after}
 use Rattle.cfi_loader.specs.Ledger.{Ledger, IsLedger}
-use Rattle.cfi_loader.specs.Results.{asked_by, fault_line, loaded_line, numbered_line, refused_refresh, HasLoaded, IsLoadFault, RefusesBy}
+use Rattle.cfi_valid.specs.NumberedLine.{numbered_line}
+use Rattle.cfi_loader.specs.Results.{asked_by, fault_line, loaded_line, refused_refresh, HasLoaded, IsLoadFault, RefusesBy}
 use Rattle.cfi_loader.specs.Told.{HasTold}
 use Rattle.cfi_loader.specs.declared.fault.LoadFault.{LoadFault}
 use Rattle.cfi_loader.specs.declared.fault.LoadFault.TheVariants.{ModulesFull, Place, Verify, EpochsSpent, VersionsSpent, Memory}

@@ -19,6 +19,7 @@ use Rattle.cfi_tables.specs.Key.{Key}
 use Rattle.cfi_tables.specs.declared.fault.UpdateFault.{UpdateFault}
 use Rattle.cfi_tables.specs.declared.fault.UpdateFault.TheVariants.{EpochsSpent, VersionsSpent}
 use Rattle.cfi_valid.specs.Joining.{IsFull, HasFault}
+use Rattle.cfi_valid.specs.NumberedLine.{numbered_line}
 use Rattle.cfi_valid.specs.Loaded.{placed_modules, planned_name}
 use Rattle.cfi_valid.specs.Script.{Load}
 use Rattle.cfi_word.specs.declared.limits.TheConstants.{MAX_EPOCH}
@@ -27,11 +28,11 @@ use Rattle.cfi_loader.specs.declared.books.Books.{Books}
 use Rattle.cfi_loader.specs.declared.fault.LoadFault.TheVariants as loads
 use Rattle.cfi_loader.specs.declared.loaded.Loaded.{Loaded}
 use Rattle.cfi_loader.specs.Marks.{mark_by}
-use Rattle.cfi_loader.specs.Results.{asked_by, numbered_line, fault_line, IsAddressOf, SaysOf, RefusesBy}
+use Rattle.cfi_loader.specs.Results.{asked_by, fault_line, IsAddressOf, SaysOf, RefusesBy}
 use Rattle.cfi_loader.specs.Told.{MayAskFor}
-use Rattle.cfi_loader.specs.inner.Books.{course_in, ledger_of, loaded_in, AreKept, IsAfter}
+use Rattle.cfi_loader.specs.inner.Books.{course_in, ledger_of, loaded_in, BooksAgree, IsAfter}
 use Rattle.cfi_loader.specs.inner.Journal.{Minutes, HasLine}
-use Rattle.cfi_loader.specs.inner.Loads.{HasPrepared, IsAbsent, IsFirstGlobal, IsListed, IsUnprepared, LoadsTo, Refuses, refusal_of, refusal_by, update_line}
+use Rattle.cfi_loader.specs.inner.Loads.{HasPrepared, IsAbsent, IsFirstGlobal, IsListed, IsUnprepared, LoadsTo, Refuses, load_fault_of, load_fault_by, update_line}
 use Rattle.cfi_loader.specs.inner.Roster.{Roster, IsImageOfRoster, line_by, without_last}
 use Rattle.cfi_loader.proofs.BooksLemmas.{after_same}
 use Rattle.cfi_loader.proofs.LineLemmas.{line_again, line_new, line_refused}
@@ -41,7 +42,7 @@ use Rattle.cfi_loader.proofs.ReserveLemmas.{reserved_kept}
 use Rattle.cfi_loader.proofs.RosterLemmas.{listed_address, listed_loaded}
 use Rattle.cfi_loader.proofs.UpdateLemmas.{IsRight, may_ask, after_load_refused}
 
-module _ (k : Key) (b : Books) (keeping : Keeping) (kept : AreKept k b keeping) (who : Who) (number : ℕ)
+module _ (k : Key) (b : Books) (keeping : Keeping) (kept : BooksAgree k b keeping) (who : Who) (number : ℕ)
     (asks : MayAskFor (ledger_of b keeping) who (Load number)) where
   -- ---- a module that is loaded
 
@@ -118,7 +119,7 @@ module _ (k : Key) (b : Books) (keeping : Keeping) (kept : AreKept k b keeping) 
         (may, (refused_by_line fault (numbers.Verify kind place) unprepared is, refl)) refl refl refl
 
     says_of : (fault : JoinFault) → IsUnprepared b number fault
-        → SaysOf (course_in b) number (refusal_of fault)
+        → SaysOf (course_in b) number (load_fault_of fault)
     says_of (Place fault) unprepared = record {
       unplaced = unprepared.unplaced;
       is = unprepared.is;
@@ -132,7 +133,7 @@ module _ (k : Key) (b : Books) (keeping : Keeping) (kept : AreKept k b keeping) 
     says_of Memory unprepared = tt
 
     line_is : (fault : JoinFault)
-        → fault_line number (refusal_of fault) ≡ option_map (numbered_line number) (numbers_of fault)
+        → fault_line number (load_fault_of fault) ≡ option_map (numbered_line number) (numbers_of fault)
     line_is (Place fault) = refl
     line_is (Verify fault) = refl
     line_is Memory = refl
@@ -140,29 +141,29 @@ module _ (k : Key) (b : Books) (keeping : Keeping) (kept : AreKept k b keeping) 
     -- the line tells its numbers
     pub told_refuses : (fault : JoinFault) (told : FaultNumbers) → IsUnprepared b number fault
         → numbers_of fault ≡ Some told → HasLine (asked_by who (numbered_line number told)) b.journal new.journal
-        → new ≡ record b { journal = new.journal } → Refuses k who number (refusal_of fault) b new keeping keeping
+        → new ≡ record b { journal = new.journal } → Refuses k who number (load_fault_of fault) b new keeping keeping
     told_refuses fault told unprepared is has same =
         let all = after_numbers fault told unprepared is has in
-        let line : fault_line number (refusal_of fault) ≡ Some (numbered_line number told) =
+        let line : fault_line number (load_fault_of fault) ≡ Some (numbered_line number told) =
         line_is fault ∙ ap (option_map (numbered_line number)) is in
         let books : Books = record b { journal = new.journal } in
-        subst (λ (nb : Books). Refuses k who number (refusal_of fault) b nb keeping keeping) (sym same) (record {
+        subst (λ (nb : Books). Refuses k who number (load_fault_of fault) b nb keeping keeping) (sym same) (record {
           kept = all.kept;
-          fault_is = subst (λ (o : Option JournalLine). RefusesBy k who number (refusal_of fault) o
+          fault_is = subst (λ (o : Option JournalLine). RefusesBy k who number (load_fault_of fault) o
               (ledger_of b keeping) (ledger_of books keeping)) (sym line)
               (record { told = all.told; says = says_of fault unprepared });
         })
 
     -- or memory was missing
     pub starved_refuses : (fault : JoinFault) → numbers_of fault ≡ None → new ≡ record b { starved = true }
-        → Refuses k who number (refusal_of fault) b new keeping keeping
+        → Refuses k who number (load_fault_of fault) b new keeping keeping
     starved_refuses fault none same =
-        let line : fault_line number (refusal_of fault) ≡ None =
+        let line : fault_line number (load_fault_of fault) ≡ None =
         line_is fault ∙ ap (option_map (numbered_line number)) none in
         let books : Books = record b { starved = true } in
-        subst (λ (nb : Books). Refuses k who number (refusal_of fault) b nb keeping keeping) (sym same) (record {
+        subst (λ (nb : Books). Refuses k who number (load_fault_of fault) b nb keeping keeping) (sym same) (record {
           kept = reserved_kept k b keeping b.journal true kept refl refl;
-          fault_is = subst (λ (o : Option JournalLine). RefusesBy k who number (refusal_of fault) o
+          fault_is = subst (λ (o : Option JournalLine). RefusesBy k who number (load_fault_of fault) o
               (ledger_of b keeping) (ledger_of books keeping)) (sym line) refl;
         })
 
@@ -252,7 +253,7 @@ module _ (k : Key) (b : Books) (keeping : Keeping) (kept : AreKept k b keeping) 
         → FaultIs k (mark_by who (Load number)) keeping after fault
         → HasLine (asked_by who (update_line number fault)) mid.journal new.journal
         → new ≡ record mid { journal = new.journal; roster = without_last roster }
-        → Refuses k who number (refusal_by fault) b new keeping after
+        → Refuses k who number (load_fault_by fault) b new keeping after
     unmade_refuses fault right is has same =
         let there : Books = record b { journal = new.journal } in
         let new_is : new ≡ there =
@@ -262,13 +263,13 @@ module _ (k : Key) (b : Books) (keeping : Keeping) (kept : AreKept k b keeping) 
         (taken_back k b keeping kept number roster prepared absent) in
         let all = after_load_refused k b keeping kept new.journal after who number fault right is
         (lines_there (update_line number fault) has) asks (clean k b keeping kept number roster prepared absent) in
-        subst (λ (nb : Books). Refuses k who number (refusal_by fault) b nb keeping after) (sym new_is) (record {
+        subst (λ (nb : Books). Refuses k who number (load_fault_by fault) b nb keeping after) (sym new_is) (record {
           kept = all.kept;
-          fault_is = subst (λ (o : Option JournalLine). RefusesBy k who number (refusal_by fault) o
+          fault_is = subst (λ (o : Option JournalLine). RefusesBy k who number (load_fault_by fault) o
               (ledger_of b keeping) (ledger_of there after)) (sym (line_refused number fault))
               (record { told = all.told; says = says_nothing fault });
         })
       where
-        says_nothing : (fault : UpdateFault) → SaysOf (course_in b) number (refusal_by fault)
+        says_nothing : (fault : UpdateFault) → SaysOf (course_in b) number (load_fault_by fault)
         says_nothing EpochsSpent = tt
         says_nothing (VersionsSpent guest quiet) = tt

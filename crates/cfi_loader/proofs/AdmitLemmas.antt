@@ -19,7 +19,7 @@ use Rattle.cfi_valid.specs.Loaded.{LoadedModule, placed_modules, loaded_by, fill
 use Rattle.cfi_word.specs.declared.limits.TheConstants.{GUESTS}
 use Rattle.cfi_loader.specs.declared.books.Books.{Books}
 use Rattle.cfi_loader.specs.Ledger.{HavePolicies}
-use Rattle.cfi_loader.specs.inner.Books.{AreKept, IsLoader}
+use Rattle.cfi_loader.specs.inner.Books.{BooksAgree, IsLoader}
 use Rattle.cfi_loader.proofs.PolicyLemmas.{policies_below}
 use Rattle.cfi_loader.proofs.SuffixLemmas.{Rise, AllUpTo, first_loaded, later_loaded}
 
@@ -109,8 +109,8 @@ out_other out guest other b n before here there = ⊎_elim
     (cases_lt other guest)
 
 -- the books agree with a keeper that has another pass out
-pub passes_kept : (k : Key) (b : Books) (keeping : Keeping) (out : List Bool) → AreKept k b keeping
-    → ((one : ℕ) → is_out out one ≡ true → one < length b.plan.guests) → AreKept k b (record keeping { out = out })
+pub passes_kept : (k : Key) (b : Books) (keeping : Keeping) (out : List Bool) → BooksAgree k b keeping
+    → ((one : ℕ) → is_out out one ≡ true → one < length b.plan.guests) → BooksAgree k b (record keeping { out = out })
 passes_kept k b keeping out kept guests =
     let is = kept.ledger in
     let told = is.told in
@@ -140,8 +140,8 @@ passes_kept k b keeping out kept guests =
       starts_are = kept.starts_are;
     }
 
-pub out_kept : (k : Key) (b : Books) (keeping : Keeping) (guest : ℕ) → AreKept k b keeping
-    → guest < length b.plan.guests → AreKept k b (let_out guest keeping)
+pub out_kept : (k : Key) (b : Books) (keeping : Keeping) (guest : ℕ) → BooksAgree k b keeping
+    → guest < length b.plan.guests → BooksAgree k b (let_out guest keeping)
 out_kept k b keeping guest kept known =
     passes_kept k b keeping (slice_set keeping.out guest true) kept
     (λ one there.
@@ -157,7 +157,7 @@ admission_kept k plan modules b old new (Ok pass) is few free out same =
     subst (λ (p : Plan). pass.guest < length p.guests) (sym is.plan_is)
     (free_below old.out pass.guest (length plan.guests) free few) in
     record {
-      kept = subst (AreKept k b) (sym out) (out_kept k b old pass.guest is.kept known);
+      kept = subst (BooksAgree k b) (sym out) (out_kept k b old pass.guest is.kept known);
       plan_is = is.plan_is;
       modules_are = is.modules_are;
     }

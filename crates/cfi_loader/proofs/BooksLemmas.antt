@@ -21,14 +21,14 @@ use Rattle.cfi_loader.specs.Ledger.{HavePolicies, TellsOf, IsEntryOf}
 use Rattle.cfi_loader.specs.Marks.{mark_of, is_made, spent_in}
 use Rattle.cfi_loader.specs.Results.{asked_by}
 use Rattle.cfi_loader.specs.Told.{GoesOnBy, MayAskFor, HasTold, KeepsAfter}
-use Rattle.cfi_loader.specs.inner.Books.{course_in, end_of, ledger_of, IsRosterOf, AreKept, IsAfter}
+use Rattle.cfi_loader.specs.inner.Books.{course_in, end_of_books, ledger_of, IsRosterOf, BooksAgree, IsAfter}
 use Rattle.cfi_loader.specs.inner.Journal.{Minutes, HasLine}
 use Rattle.cfi_loader.proofs.EntryLemmas.{entry_again, entry_stays}
 use Rattle.cfi_loader.proofs.LedgerLemmas.{goes_later, ledger_more}
 use Rattle.cfi_loader.proofs.PolicyLemmas.{policies_same}
 use Rattle.cfi_loader.proofs.TellLemmas.{tells_same, tells_refused, tells_grown, last_more}
 
-module _ (k : Key) (b : Books) (j : Minutes) (keeping : Keeping) (kept : AreKept k b keeping) (who : Who)
+module _ (k : Key) (b : Books) (j : Minutes) (keeping : Keeping) (kept : BooksAgree k b keeping) (who : Who)
     (what : JournalLine) (has : HasLine (asked_by who what) b.journal j)
     (asks : MayAskFor (ledger_of b keeping) who (call_of what)) where
   abbrev entry : Entry
@@ -37,7 +37,8 @@ module _ (k : Key) (b : Books) (j : Minutes) (keeping : Keeping) (kept : AreKept
   abbrev told_there : Books
   told_there = record b { journal = j }
 
-  goes : EntryLeads b.plan b.modules (end_of b) entry (end_of b) → GoesOnBy entry (course_in b) (course_in told_there)
+  goes : EntryLeads b.plan b.modules (end_of_books b) entry (end_of_books b)
+      → GoesOnBy entry (course_in b) (course_in told_there)
   goes leads = record { plan_is = refl; modules_are = refl; journal_is = has.lines_are; leads = leads }
 
   roster_there : IsRosterOf told_there
@@ -47,11 +48,11 @@ module _ (k : Key) (b : Books) (j : Minutes) (keeping : Keeping) (kept : AreKept
     lines_are = kept.roster_is.lines_are;
   }
 
-  policies_there : HavePolicies b.plan (end_of told_there)
-  policies_there = policies_same b.plan (end_of b) kept.ledger.policies (end_of told_there) refl refl
+  policies_there : HavePolicies b.plan (end_of_books told_there)
+  policies_there = policies_same b.plan (end_of_books b) kept.ledger.policies (end_of_books told_there) refl refl
 
   -- the line tells of nothing that has changed
-  pub after_same : EntryLeads b.plan b.modules (end_of b) entry (end_of b)
+  pub after_same : EntryLeads b.plan b.modules (end_of_books b) entry (end_of_books b)
       → KeepsAfter k (mark_of entry) what keeping keeping → is_made what ≡ false → spent_in entry ≡ None
       → IsAfter k entry b told_there keeping keeping
   after_same leads keeps made spent =
@@ -73,7 +74,8 @@ module _ (k : Key) (b : Books) (j : Minutes) (keeping : Keeping) (kept : AreKept
       }
 
   -- the line tells of an update that was not admitted
-  pub after_refused : (guest quiet : ℕ) (new : Keeping) → EntryLeads b.plan b.modules (end_of b) entry (end_of b)
+  pub after_refused : (guest quiet : ℕ) (new : Keeping)
+      → EntryLeads b.plan b.modules (end_of_books b) entry (end_of_books b)
       → new ≡ refused_by (record {
         guest = guest;
         quiet = quiet;
@@ -107,7 +109,7 @@ module _ (k : Key) (b : Books) (j : Minutes) (keeping : Keeping) (kept : AreKept
       }
 
 -- an entry of the tables' history, and the last one is one
-module _ (k : Key) (b : Books) (keeping : Keeping) (kept : AreKept k b keeping) where
+module _ (k : Key) (b : Books) (keeping : Keeping) (kept : BooksAgree k b keeping) where
   pub last_entry : IsEntryOf (course_in b) (last_of keeping.entries)
   last_entry =
       let told = kept.ledger.told in
@@ -119,7 +121,7 @@ module _ (k : Key) (b : Books) (keeping : Keeping) (kept : AreKept k b keeping) 
 
 -- ---- a refresh that was made
 
-module _ (k : Key) (b : Books) (j : Minutes) (keeping : Keeping) (kept : AreKept k b keeping) (who : Who)
+module _ (k : Key) (b : Books) (j : Minutes) (keeping : Keeping) (kept : BooksAgree k b keeping) (who : Who)
     (quiets : List ℕ) where
   abbrev last : TableEntry
   last = last_of keeping.entries
@@ -158,7 +160,7 @@ module _ (k : Key) (b : Books) (j : Minutes) (keeping : Keeping) (kept : AreKept
         kept = record {
           ledger = ledger_more k b.plan b.modules who (RefreshOk (b.epoch + 1)) (ledger_of b keeping)
               (ledger_of refreshed (grown_by again quiets keeping)) kept.ledger asks told
-              (policies_same b.plan (end_of b) kept.ledger.policies (end_of refreshed) refl refl) tells;
+              (policies_same b.plan (end_of_books b) kept.ledger.policies (end_of_books refreshed) refl refl) tells;
           roster_is = record {
             code_words_are = kept.roster_is.code_words_are;
             many = kept.roster_is.many;

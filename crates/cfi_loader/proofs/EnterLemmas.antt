@@ -5,7 +5,8 @@ use Rattle.std.proofs.lemmas.Bool.{cases_lt}
 use Rattle.std.proofs.lemmas.Option.{slice_get-get_or, slice_get_within}
 use Rattle.cfi_aux.specs.declared.placed.Placed.{Placed}
 use Rattle.cfi_plan.specs.declared.plan.Plan.{Plan}
-use Rattle.cfi_loader.specs.inner.Entries.{EntersIn, EnterBelow, AllEnter, IsFirstOut}
+use Rattle.cfi_valid.specs.Guests.{EntersIn}
+use Rattle.cfi_loader.specs.inner.Entries.{EnterBelow, AllEnter, IsFirstOut}
 
 module _ (plan : Plan) (starts : List Placed) (guests : List (List ℕ)) (same : guests ≡ plan.guests) (number : ℕ)
     (entry : List ℕ) (within : number < length guests) (is : entry ≡ get_or guests number entry)

@@ -7,8 +7,9 @@ use Rattle.cfi_series.specs.declared.numbers.FaultNumbers.{FaultNumbers}
 use Rattle.cfi_tables.specs.declared.fault.UpdateFault.{UpdateFault}
 use Rattle.cfi_tables.specs.declared.fault.UpdateFault.TheVariants.{EpochsSpent, VersionsSpent}
 use Rattle.cfi_loader.specs.declared.loaded.Loaded.{Loaded}
-use Rattle.cfi_loader.specs.Results.{loaded_line, numbered_line, fault_line}
-use Rattle.cfi_loader.specs.inner.Loads.{refusal_by, update_line}
+use Rattle.cfi_valid.specs.NumberedLine.{numbered_line}
+use Rattle.cfi_loader.specs.Results.{loaded_line, fault_line}
+use Rattle.cfi_loader.specs.inner.Loads.{load_fault_by, update_line}
 
 -- the line of an answer
 pub line_new : (number : ℕ) (answer : Loaded) (epoch policy : ℕ) → answer.again ≡ false → answer.epoch ≡ epoch
@@ -26,7 +27,7 @@ line_again number answer policy again policy_is =
 
 -- a refused update says as much of a load
 pub line_refused : (number : ℕ) (fault : UpdateFault)
-    → fault_line number (refusal_by fault) ≡ Some (update_line number fault)
+    → fault_line number (load_fault_by fault) ≡ Some (update_line number fault)
 line_refused number EpochsSpent = refl
 line_refused number (VersionsSpent guest quiet) = refl
 

@@ -40,7 +40,7 @@ use Rattle.cfi_loader.specs.Ledger.{HavePolicies, TellsOf, IsEntryOf}
 use Rattle.cfi_loader.specs.Marks.{mark_of}
 use Rattle.cfi_loader.specs.Results.{asked_by}
 use Rattle.cfi_loader.specs.Told.{GoesOnBy, MayAskFor, HasTold}
-use Rattle.cfi_loader.specs.inner.Books.{course_in, end_of, ledger_of, loaded_in, AreKept, IsAfter}
+use Rattle.cfi_loader.specs.inner.Books.{course_in, end_of_books, ledger_of, loaded_in, BooksAgree, IsAfter}
 use Rattle.cfi_loader.specs.inner.Journal.{Minutes, HasLine}
 use Rattle.cfi_loader.specs.inner.Roster.{Roster, line_by}
 use Rattle.cfi_loader.proofs.BooksLemmas.{last_entry, one_left}
@@ -52,7 +52,7 @@ use Rattle.cfi_loader.proofs.TellLemmas.{tells_grown, last_more}
 
 -- ---- the modules that are loaded
 
-module _ (k : Key) (b : Books) (keeping : Keeping) (kept : AreKept k b keeping) where
+module _ (k : Key) (b : Books) (keeping : Keeping) (kept : BooksAgree k b keeping) where
   pub places : placed_modules (loaded_in b) ≡ b.roster.placed
   places = places_are b.roster.lines b.roster.placed kept.roster_is.many
 
@@ -62,7 +62,7 @@ module _ (k : Key) (b : Books) (keeping : Keeping) (kept : AreKept k b keeping) 
   pub series : IsSeries b.plan.code_words b.roster.placed
   series =
       subst (IsSeries b.plan.code_words) places
-      (journal_series b.plan b.modules b.journal.lines (end_of b) kept.ledger.can_start.code_words sound
+      (journal_series b.plan b.modules b.journal.lines (end_of_books b) kept.ledger.can_start.code_words sound
       kept.ledger.course)
 
   -- the image in force has the code of all
@@ -71,7 +71,7 @@ module _ (k : Key) (b : Books) (keeping : Keeping) (kept : AreKept k b keeping) 
       let last = last_of keeping.entries in
       let all : loaded_by last.policy (loaded_in b) ≡ loaded_in b =
       ap (λ (n : ℕ). loaded_by n (loaded_in b)) (sym kept.ledger.told.policy)
-      ∙ loaded_all b.policy (loaded_in b) (policies_below b.plan (end_of b) kept.ledger.policies) in
+      ∙ loaded_all b.policy (loaded_in b) (policies_below b.plan (end_of_books b) kept.ledger.policies) in
       subst (λ (ps : List Placed). IsCodeOf ps b.plan.code_words last.image.code)
       (ap placed_modules all ∙ places) (last_entry k b keeping kept).image_is.1.code
 
@@ -111,7 +111,7 @@ module _ (k : Key) (b : Books) (keeping : Keeping) (kept : AreKept k b keeping) 
 
 -- ---- the line of a load
 
-module _ (k : Key) (b : Books) (j : Minutes) (keeping : Keeping) (kept : AreKept k b keeping) (who : Who)
+module _ (k : Key) (b : Books) (j : Minutes) (keeping : Keeping) (kept : BooksAgree k b keeping) (who : Who)
     (number : ℕ) (unplaced : Module) (one : Placed) (image : Image) (quiets : List ℕ) where
   abbrev what : JournalLine
   what = LoadOk number (b.epoch + 1) (b.policy + 1)
@@ -147,9 +147,9 @@ module _ (k : Key) (b : Books) (j : Minutes) (keeping : Keeping) (kept : AreKept
       let all : List Placed = b.roster.placed ++ one ∷ [] in
       let many = kept.roster_is.many in
       let there = loaded_more b.roster.lines b.roster.placed line one many in
-      let end : end_of loaded_books ≡ with_loaded number (b.epoch + 1) (b.policy + 1) one (end_of b) =
+      let end : end_of_books loaded_books ≡ with_loaded number (b.epoch + 1) (b.policy + 1) one (end_of_books b) =
       ap (λ (ls : List LoadedModule). record { epoch = b.epoch + 1; policy = b.policy + 1; loaded = ls }) there in
-      let clean : IsClean b.plan b.modules (end_of b) number = record {
+      let clean : IsClean b.plan b.modules (end_of_books b) number = record {
         absent = record { unplaced = unplaced; is = is; absent = absent; room = room };
         placed = one;
         joins = subst (λ (ps : List Placed). Joins b.plan.code_words ps unplaced one)
@@ -168,15 +168,15 @@ module _ (k : Key) (b : Books) (j : Minutes) (keeping : Keeping) (kept : AreKept
       grown_are k keeping new quiets kept.ledger.told.tables
       (inr (load_follows k b keeping kept unplaced one image is_sound joins of (mark_of entry) room))
       (one_left k b keeping kept left) in
-      let policies : HavePolicies b.plan (end_of loaded_books) =
+      let policies : HavePolicies b.plan (end_of_books loaded_books) =
       subst (HavePolicies b.plan) (sym end)
-      (policies_more b.plan (end_of b) kept.ledger.policies number (b.epoch + 1) (b.policy + 1) one refl room) in
+      (policies_more b.plan (end_of_books b) kept.ledger.policies number (b.epoch + 1) (b.policy + 1) one refl room) in
       let longer : length (b.roster.lines ++ line ∷ []) ≡ length all =
       omega (arith, length-append b.roster.lines (line ∷ []), length-append b.roster.placed (one ∷ []), many) in
       let places_there : placed_modules (loaded_in loaded_books) ≡ all =
       places_are (b.roster.lines ++ line ∷ []) all longer in
       let is_entry : IsEntryOf (course_in loaded_books) new =
-      entry_of_all (course_in loaded_books) new refl (policies_below b.plan (end_of loaded_books) policies)
+      entry_of_all (course_in loaded_books) new refl (policies_below b.plan (end_of_books loaded_books) policies)
       (subst (AreLoaded b.plan.code_words) (sym places_there)
       (loaded_there k b keeping kept unplaced one image is_sound joins of))
       (subst (λ (ps : List Placed). IsImage (DirectEdge ps) ps b.plan.code_words image) (sym places_there) of) in

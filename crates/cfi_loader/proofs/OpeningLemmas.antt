@@ -1,5 +1,5 @@
 -- What a loader has at the start agrees.
-use Rattle.std.proofs.Common.{◌≡◌, ℕ, ◌<◌, ◌≤◌, ◌++◌, Bool, true, false, List, [], length, All, refl, sym, ap, subst, ◌∙◌, ⊎_elim, arith, replicate}
+use Rattle.std.proofs.Common.{◌≡◌, ℕ, ◌<◌, ◌≤◌, ◌++◌, true, false, List, [], length, All, refl, sym, ap, subst, ◌∙◌, ⊎_elim, arith, replicate}
 use Rattle.std.proofs.lemmas.Bool.{false≢true, cases_lt}
 use Rattle.std.proofs.lemmas.List.{get_or-replicate, get_or_past, length-replicate}
 use Rattle.std.proofs.lemmas.List.Elements.{All-nil, All-cons}
@@ -14,14 +14,12 @@ use Rattle.cfi_model.proofs.TableLemmas.{opened_are}
 use Rattle.cfi_plan.specs.declared.journal.Entry.{Entry}
 use Rattle.cfi_plan.specs.declared.plan.Plan.{Plan}
 use Rattle.cfi_policy.specs.Image.{IsImage}
-use Rattle.cfi_series.specs.Entry.{IsEntryIn}
 use Rattle.cfi_series.specs.Loaded.{AreLoaded}
 use Rattle.cfi_series.proofs.GraphLemmas.{are_loaded}
 use Rattle.cfi_series.proofs.ImageLemmas.{closed}
 use Rattle.cfi_tables.specs.Key.{Key, Named, key_by}
 use Rattle.cfi_tables.specs.Keeping.{is_out, opened_keeping}
-use Rattle.cfi_valid.specs.Bare.{is_bare_plan}
-use Rattle.cfi_valid.specs.Guests.{EntersAt, GuestBegins}
+use Rattle.cfi_valid.specs.Guests.{EntersIn, GuestBegins}
 use Rattle.cfi_valid.specs.Journal.{IsOpeningState, IsJournal}
 use Rattle.cfi_valid.specs.Loaded.{LoadedModule, placed_modules, loaded_by}
 use Rattle.cfi_valid.specs.Script.{script_calls, made_by_script}
@@ -34,10 +32,10 @@ use Rattle.cfi_loader.specs.Marks.{AreMade, AreRefused}
 use Rattle.cfi_loader.specs.Plans.{CanStart}
 use Rattle.cfi_valid.specs.Opening.{IsFirstLost}
 use Rattle.cfi_loader.specs.Starting.{IsStarted}
-use Rattle.cfi_loader.specs.inner.Books.{course_in, end_of, ledger_of, AreKept}
-use Rattle.cfi_loader.specs.inner.Entries.{EntersBy, EntersIn, AllEnter, IsFirstOut}
+use Rattle.cfi_loader.specs.inner.Books.{course_in, end_of_books, ledger_of, BooksAgree}
+use Rattle.cfi_loader.specs.inner.Entries.{AllEnter, IsFirstOut}
 use Rattle.cfi_loader.specs.inner.Journal.{Minutes}
-use Rattle.cfi_loader.specs.inner.Opening.{books_at, IsFirst}
+use Rattle.cfi_loader.specs.inner.Opening.{books_at, AreOpeningBooks}
 use Rattle.cfi_loader.specs.inner.Roster.{Roster, IsImageOfRoster}
 use Rattle.cfi_loader.specs.inner.Starts.{AreStarted, loaded_in, opened_state}
 use Rattle.cfi_loader.proofs.EntryLemmas.{among_self, entry_of_all, loaded_all}
@@ -47,27 +45,16 @@ use Rattle.cfi_loader.proofs.StartLemmas.{started_all, started_count}
 
 -- ---- where guests begin
 
-enters_from : (bare : Bool) (loaded : List LoadedModule) (ms : List Placed) (entry : List ℕ) (address : ℕ)
-    → placed_modules (loaded_by 0 loaded) ≡ ms → EntersBy bare ms entry address → EntersAt bare loaded entry address
-enters_from true loaded ms entry address same enters = enters
-enters_from false loaded ms entry address same enters =
-    subst (λ (xs : List Placed). IsEntryIn xs entry address) (sym same) enters
-
-enters_to : (bare : Bool) (loaded : List LoadedModule) (ms : List Placed) (entry : List ℕ) (address : ℕ)
-    → placed_modules (loaded_by 0 loaded) ≡ ms → EntersAt bare loaded entry address → EntersBy bare ms entry address
-enters_to true loaded ms entry address same enters = enters
-enters_to false loaded ms entry address same enters =
-    subst (λ (xs : List Placed). IsEntryIn xs entry address) same enters
-
 module _ (plan : Plan) (loaded : List LoadedModule) (ms : List Placed)
     (same : placed_modules (loaded_by 0 loaded) ≡ ms) where
   pub begins_from : (entry : List ℕ) (address : ℕ) → EntersIn plan ms entry address
       → GuestBegins plan loaded entry address
-  begins_from entry address enters = enters_from (is_bare_plan plan) loaded ms entry address same enters
+  begins_from entry address enters =
+      subst (λ (xs : List Placed). EntersIn plan xs entry address) (sym same) enters
 
   pub begins_to : (entry : List ℕ) (address : ℕ) → GuestBegins plan loaded entry address
       → EntersIn plan ms entry address
-  begins_to entry address enters = enters_to (is_bare_plan plan) loaded ms entry address same enters
+  begins_to entry address begins = subst (λ (xs : List Placed). EntersIn plan xs entry address) same begins
 
 -- ---- the start
 
@@ -171,7 +158,7 @@ module _ (plan : Plan) (modules : List Module) (can : CanStart plan modules) (r 
         guests = none_out;
       }
 
-      pub start_kept : AreKept k first (opened_keeping k)
+      pub start_kept : BooksAgree k first (opened_keeping k)
       start_kept = record {
         ledger = record {
           plan_is = refl;
@@ -200,15 +187,15 @@ module _ (plan : Plan) (modules : List Module) (can : CanStart plan modules) (r 
 -- ---- the books of a start
 
 module _ (plan : Plan) (modules : List Module) (can : CanStart plan modules) (r : Roster)
-    (all : AreStarted plan modules (length plan.modules) r) (b : Books) (is : IsFirst plan modules r b) where
+    (all : AreStarted plan modules (length plan.modules) r) (b : Books) (is : AreOpeningBooks plan modules r b) where
   pub first_kept : (k : Key) → k ≡ key_by plan.code_words plan.versions plan.first b.image → AllEnter plan r.placed
-      → AreKept k b (opened_keeping k)
+      → BooksAgree k b (opened_keeping k)
   first_kept k k_is enter =
       let key : Key = key_by plan.code_words plan.versions plan.first b.image in
-      let kept : AreKept key (books_at plan modules r b.image b.journal b) (opened_keeping key) =
+      let kept : BooksAgree key (books_at plan modules r b.image b.journal b) (opened_keeping key) =
       start_kept plan modules can r all b.image is.image_is b.journal is.lines_are is.left_are enter b in
-      subst (λ (x : Key). AreKept x b (opened_keeping x)) (sym k_is)
-      (subst (λ (nb : Books). AreKept key nb (opened_keeping key)) (sym is.is) kept)
+      subst (λ (x : Key). BooksAgree x b (opened_keeping x)) (sym k_is)
+      (subst (λ (nb : Books). BooksAgree key nb (opened_keeping key)) (sym is.is) kept)
 
   pub first_started : (named : Named)
       → IsStarted plan modules (record { named = named; ledger = ledger_of b (opened_keeping named.key) })
@@ -216,7 +203,7 @@ module _ (plan : Plan) (modules : List Module) (can : CanStart plan modules) (r 
     plan_is = ap (λ (x : Books). x.plan) is.is;
     modules_are = ap (λ (x : Books). x.modules) is.is;
     journal_is = is.lines_are;
-    opens = subst (IsOpeningState plan modules) (sym (ap end_of is.is)) (started_all plan modules r all);
+    opens = subst (IsOpeningState plan modules) (sym (ap end_of_books is.is)) (started_all plan modules r all);
     keeping_is = refl;
     left_is = is.left_are;
     not_starved = ap (λ (x : Books). x.starved) is.is;

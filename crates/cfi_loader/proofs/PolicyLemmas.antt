@@ -1,5 +1,5 @@
 -- The policies of the loaded modules, and where guests begin, with a module more.
-use Rattle.std.proofs.Common.{◌≡◌, ℕ, ◌+◌, ◌<◌, ◌≤◌, ◌++◌, Bool, true, false, List, [], ◌∷◌, length, get_or, All, sym, ap, subst, ◌∙◌, ⊎_elim, arith, length-append}
+use Rattle.std.proofs.Common.{◌≡◌, ℕ, ◌+◌, ◌<◌, ◌≤◌, ◌++◌, List, [], ◌∷◌, length, get_or, All, sym, ap, ◌∙◌, ⊎_elim, arith, length-append}
 use Rattle.std.specs.List.{slice_get}
 use Rattle.std.proofs.lemmas.Bool.{cases_lt}
 use Rattle.std.proofs.lemmas.Option.{slice_get-get_or, slice_get_within}
@@ -7,13 +7,11 @@ use Rattle.cfi_aux.specs.declared.placed.Placed.{Placed}
 use Rattle.cfi_plan.specs.Draft.{starts}
 use Rattle.cfi_plan.specs.declared.plan.Plan.{Plan}
 use Rattle.cfi_series.proofs.OrderLemmas.{left, last}
-use Rattle.cfi_series.specs.Entry.{IsEntryIn}
-use Rattle.cfi_valid.specs.Bare.{is_bare_plan}
 use Rattle.cfi_valid.specs.Growth.{IsLater}
-use Rattle.cfi_valid.specs.Guests.{EntersAt}
 use Rattle.cfi_valid.specs.Journal.{JournalState, with_loaded}
-use Rattle.cfi_valid.specs.Loaded.{LoadedModule, placed_modules, loaded_by}
+use Rattle.cfi_valid.specs.Loaded.{LoadedModule}
 use Rattle.cfi_valid.specs.declared.limits.TheConstants.{MAX_LOADED}
+use Rattle.cfi_valid.proofs.GuestLemmas.{guest_begins_later}
 use Rattle.cfi_valid.proofs.GrowthLemmas.{loaded_stays}
 use Rattle.cfi_loader.specs.Ledger.{HavePolicies, HaveEntries}
 
@@ -52,17 +50,11 @@ module _ (plan : Plan) (s : JournalState) (have : HavePolicies plan s) where
 
 -- ---- entries
 
-enters_stays : (bare : Bool) (old new : List LoadedModule) (entry : List ℕ) (address : ℕ)
-    → loaded_by 0 new ≡ loaded_by 0 old → EntersAt bare old entry address → EntersAt bare new entry address
-enters_stays true old new entry address same enters = enters
-enters_stays false old new entry address same enters =
-    subst (λ (ls : List LoadedModule). IsEntryIn (placed_modules ls) entry address) (sym same) enters
-
 pub entries_stay : (plan : Plan) (old new : JournalState) → IsLater old new → HaveEntries plan old.loaded
     → HaveEntries plan new.loaded
 entries_stay plan old new later have = λ guest entry is.
     let found = have guest entry is in (
       found.0,
-      enters_stays (is_bare_plan plan) old.loaded new.loaded entry found.0
-          (loaded_stays old new later 0 (omega arith)) found.1,
+      guest_begins_later plan old.loaded new.loaded (loaded_stays old new later 0 (omega arith)) entry found.0
+          found.1,
     )

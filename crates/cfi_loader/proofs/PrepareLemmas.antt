@@ -24,7 +24,7 @@ use Rattle.cfi_loader.specs.declared.books.Books.{Books}
 use Rattle.cfi_loader.specs.Marks.{mark_by}
 use Rattle.cfi_loader.specs.Results.{asked_by}
 use Rattle.cfi_loader.specs.Told.{MayAskFor}
-use Rattle.cfi_loader.specs.inner.Books.{end_of, ledger_of, AreKept, IsAfter}
+use Rattle.cfi_loader.specs.inner.Books.{end_of_books, ledger_of, BooksAgree, IsAfter}
 use Rattle.cfi_loader.specs.inner.Journal.{Minutes, HasLine}
 use Rattle.cfi_loader.specs.inner.Loads.{HasPrepared, IsAbsent}
 use Rattle.cfi_loader.specs.inner.Roster.{Roster, IsImageOfRoster, line_by, without_last}
@@ -39,7 +39,7 @@ init_of xs x =
     ∙ take-append-le (length xs) xs (x ∷ []) (omega arith)
     ∙ take-length xs
 
-module _ (k : Key) (b : Books) (keeping : Keeping) (kept : AreKept k b keeping) (number : ℕ) (roster : Roster)
+module _ (k : Key) (b : Books) (keeping : Keeping) (kept : BooksAgree k b keeping) (number : ℕ) (roster : Roster)
     (prepared : HasPrepared b number roster) (absent : IsAbsent b number) where
   abbrev one : Placed
   one = prepared.joined.one
@@ -55,7 +55,7 @@ module _ (k : Key) (b : Books) (keeping : Keeping) (kept : AreKept k b keeping) 
       subst IsSoundModule (get_or_from_slice_get b.modules number prepared.unplaced prepared.unplaced prepared.is)
       (kept.ledger.can_start.taken number prepared.unplaced within).sound
 
-  pub clean : IsClean b.plan b.modules (end_of b) number
+  pub clean : IsClean b.plan b.modules (end_of_books b) number
   clean = record {
     absent = record {
       unplaced = prepared.unplaced;

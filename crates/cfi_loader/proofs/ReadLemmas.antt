@@ -9,21 +9,20 @@ use Rattle.cfi_series.specs.Fills.{fills_of}
 use Rattle.cfi_series.proofs.PrefixLemmas.{data_lies}
 use Rattle.cfi_tables.specs.Keeping.{Keeping}
 use Rattle.cfi_tables.specs.Key.{Key}
-use Rattle.cfi_valid.specs.Guests.{GuestBegins}
+use Rattle.cfi_valid.specs.Guests.{EntersIn, GuestBegins}
 use Rattle.cfi_valid.specs.Loaded.{LoadedModule, placed_modules, loaded_by, fills_between}
 use Rattle.cfi_word.specs.declared.limits.TheConstants.{MAX_POLICY}
 use Rattle.cfi_loader.specs.declared.books.Books.{Books}
-use Rattle.cfi_loader.specs.inner.Books.{end_of, loaded_in, AreKept}
-use Rattle.cfi_loader.specs.inner.Entries.{EntersIn}
+use Rattle.cfi_loader.specs.inner.Books.{end_of_books, loaded_in, BooksAgree}
 use Rattle.cfi_loader.proofs.AdmitLemmas.{starts_first, later_fills}
 use Rattle.cfi_loader.proofs.LoadLemmas.{places, series}
 use Rattle.cfi_loader.proofs.OpeningLemmas.{begins_from, begins_to}
 
-module _ (k : Key) (b : Books) (keeping : Keeping) (kept : AreKept k b keeping) where
+module _ (k : Key) (b : Books) (keeping : Keeping) (kept : BooksAgree k b keeping) where
   -- the start modules are the first ones
   pub starts_placed : placed_modules (loaded_by 0 (loaded_in b)) ≡ take b.starts b.roster.placed
   starts_placed =
-      ap placed_modules (starts_first b.plan (end_of b) kept.ledger.policies)
+      ap placed_modules (starts_first b.plan (end_of_books b) kept.ledger.policies)
       ∙ ap (λ (n : ℕ). placed_modules (take n (loaded_in b))) (sym kept.starts_are)
       ∙ sym (take-map (λ (l : LoadedModule). l.placed) b.starts (loaded_in b))
       ∙ ap (take b.starts) (places k b keeping kept)
@@ -57,6 +56,6 @@ module _ (k : Key) (b : Books) (keeping : Keeping) (kept : AreKept k b keeping) 
   pub fills_due : (above : ℕ)
       → fills_between above b.policy (loaded_in b) ≡ drop (b.starts + above) (fills_of b.roster.placed)
   fills_due above =
-      later_fills b.plan (end_of b) kept.ledger.policies above
+      later_fills b.plan (end_of_books b) kept.ledger.policies above
       ∙ ap (λ (n : ℕ). drop (n + above) (fills_of (placed_modules (loaded_in b)))) (sym kept.starts_are)
       ∙ ap (λ (ps : List Placed). drop (b.starts + above) (fills_of ps)) (places k b keeping kept)

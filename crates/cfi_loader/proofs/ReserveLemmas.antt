@@ -13,7 +13,7 @@ use Rattle.cfi_loader.specs.declared.loaded.Loaded.{Loaded}
 use Rattle.cfi_loader.specs.Ledger.{Ledger, IsLedger}
 use Rattle.cfi_loader.specs.Results.{asked_by, loaded_line, IsLoadFault}
 use Rattle.cfi_loader.specs.Told.{HasTold}
-use Rattle.cfi_loader.specs.inner.Books.{course_in, end_of, ledger_of, AreKept, IsAfter}
+use Rattle.cfi_loader.specs.inner.Books.{course_in, end_of_books, ledger_of, BooksAgree, IsAfter}
 use Rattle.cfi_loader.specs.inner.Journal.{Minutes}
 use Rattle.cfi_loader.specs.inner.Loads.{LoadsTo, Refuses}
 
@@ -41,7 +41,7 @@ module _ (k : Key) (b : Books) (keeping : Keeping) (j : Minutes) (starved : Bool
       → ledger_of there keeping ≡ record (ledger_of b keeping) { starved = starved }
   reserved_ledger lines left =
       ap (λ (ls : List Entry). record {
-        course = record { plan = b.plan; modules = b.modules; journal = ls; end = end_of b };
+        course = record { plan = b.plan; modules = b.modules; journal = ls; end = end_of_books b };
         keeping = keeping;
         left = j.left;
         starved = starved;
@@ -53,8 +53,8 @@ module _ (k : Key) (b : Books) (keeping : Keeping) (j : Minutes) (starved : Bool
         starved = starved;
       }) left
 
-  pub reserved_kept : AreKept k b keeping → j.lines ≡ b.journal.lines → j.left ≡ b.journal.left
-      → AreKept k there keeping
+  pub reserved_kept : BooksAgree k b keeping → j.lines ≡ b.journal.lines → j.left ≡ b.journal.left
+      → BooksAgree k there keeping
   reserved_kept kept lines left = record {
     ledger = subst (IsLedger k b.plan b.modules) (sym (reserved_ledger lines left))
         (starved_ledger k b.plan b.modules (ledger_of b keeping) starved kept.ledger);
@@ -70,13 +70,13 @@ module _ (k : Key) (b : Books) (keeping : Keeping) (j : Minutes) (starved : Bool
 
 -- ---- room for the line of a load
 
-module _ (k : Key) (b mid : Books) (keeping : Keeping) (kept : AreKept k b keeping)
+module _ (k : Key) (b mid : Books) (keeping : Keeping) (kept : BooksAgree k b keeping)
     (lines : mid.journal.lines ≡ b.journal.lines) (left : mid.journal.left ≡ b.journal.left) where
   -- there is some
   module _ (same : mid ≡ record b { journal = mid.journal; starved = b.starved }) where
-    pub reserved : AreKept k mid keeping
+    pub reserved : BooksAgree k mid keeping
     reserved =
-        subst (λ (m : Books). AreKept k m keeping) (sym same)
+        subst (λ (m : Books). BooksAgree k m keeping) (sym same)
         (reserved_kept k b keeping mid.journal b.starved kept lines left)
 
     pub ledger_same : ledger_of mid keeping ≡ ledger_of b keeping

@@ -1,4 +1,4 @@
--- The modules that a policy finds loaded are the first ones, and those that came later are the others.
+-- The modules that a policy finds loaded are the first ones, and those that came_between later are the others.
 use Rattle.std.proofs.Common.{◌≡◌, ℕ, zero, suc, ◌+◌, ◌-◌, ◌<◌, ◌≤◌, Bool, true, false, cond, List, [], ◌∷◌, take, drop, Some, refl, sym, ap, ◌∙◌, ⊎_elim, arith}
 use Rattle.std.specs.Prelude.{nat_le, nat_lt, ◌&&◌, filter}
 use Rattle.std.specs.List.{slice_get}
@@ -46,15 +46,15 @@ first_loaded policy past starts (l ∷ loaded) rise =
     (cases_lt policy l.policy)
 
 -- a module came above one policy, and with another or before it
-abbrev came : (above upto : ℕ) → LoadedModule → Bool
-came above upto l = nat_lt above l.policy && nat_le l.policy upto
+abbrev pub came_between : (above upto : ℕ) → LoadedModule → Bool
+came_between above upto l = nat_lt above l.policy && nat_le l.policy upto
 
 abbrev pub AllUpTo : (upto : ℕ) → List LoadedModule → Type 0
 AllUpTo upto [] = Unit {0}
 AllUpTo upto (l ∷ loaded) = (l.policy ≤ upto) × AllUpTo upto loaded
 
 pub later_loaded : (above upto past starts : ℕ) (loaded : List LoadedModule) → Rise past starts loaded
-    → AllUpTo upto loaded → filter (came above upto) loaded ≡ drop (starts + above - past) loaded
+    → AllUpTo upto loaded → filter (came_between above upto) loaded ≡ drop (starts + above - past) loaded
 later_loaded above upto past starts [] rise most = nil_drop (starts + above - past)
 later_loaded above upto past starts (l ∷ loaded) rise most =
     let here = rise_first past starts l loaded rise in
@@ -63,16 +63,18 @@ later_loaded above upto past starts (l ∷ loaded) rise most =
     (λ (later : above < l.policy).
     let none : starts + above - past ≡ 0 = omega (arith, later, here) in
     let less : starts + above - (past + 1) ≡ 0 = omega (arith, later, here) in
-    let in_it : came above upto l ≡ true =
+    let in_it : came_between above upto l ≡ true =
     ap (λ (b : Bool). b && nat_le l.policy upto) (lt-ltb above l.policy later) ∙ le-leb l.policy upto most.0 in
-    ap (λ (b : Bool). cond b (l ∷ filter (came above upto) loaded) (filter (came above upto) loaded)) in_it
+    ap (λ (b : Bool). cond b (l ∷ filter (came_between above upto) loaded)
+    (filter (came_between above upto) loaded)) in_it
     ∙ ap (λ (ls : List LoadedModule). l ∷ ls) (rest ∙ ap (λ (n : ℕ). drop n loaded) less)
     ∙ sym (ap (λ (n : ℕ). drop n (l ∷ loaded)) none))
     (λ (early : l.policy ≤ above).
     let more : starts + above - past ≡ suc (starts + above - (past + 1)) = omega (arith, early, here) in
-    let out : came above upto l ≡ false =
+    let out : came_between above upto l ≡ false =
     ap (λ (b : Bool). b && nat_le l.policy upto) (le-ltb above l.policy early) in
-    ap (λ (b : Bool). cond b (l ∷ filter (came above upto) loaded) (filter (came above upto) loaded)) out
+    ap (λ (b : Bool). cond b (l ∷ filter (came_between above upto) loaded)
+    (filter (came_between above upto) loaded)) out
     ∙ rest
     ∙ sym (ap (λ (n : ℕ). drop n (l ∷ loaded)) more))
     (cases_lt above l.policy)

@@ -20,7 +20,7 @@ use Rattle.cfi_loader.specs.Ledger.{Ledger}
 use Rattle.cfi_loader.specs.Marks.{mark_by}
 use Rattle.cfi_loader.specs.Results.{asked_by, refused_refresh}
 use Rattle.cfi_loader.specs.Told.{MayAskFor}
-use Rattle.cfi_loader.specs.inner.Books.{end_of, ledger_of, AreKept, IsAfter}
+use Rattle.cfi_loader.specs.inner.Books.{end_of_books, ledger_of, BooksAgree, IsAfter}
 use Rattle.cfi_loader.specs.inner.Journal.{Minutes, HasLine}
 use Rattle.cfi_loader.specs.inner.Loads.{update_line}
 use Rattle.cfi_loader.proofs.BooksLemmas.{after_same, after_refused, after_refreshed}
@@ -35,7 +35,7 @@ may_ask l (Guest number) call line asks load = (asks, load)
 abbrev pub IsRight : Key → Keeping → UpdateFault → Type 0
 IsRight k keeping fault = epoch_after k keeping ≡ MAX_EPOCH + 1 → fault ≡ EpochsSpent
 
-module _ (k : Key) (b : Books) (keeping : Keeping) (kept : AreKept k b keeping) where
+module _ (k : Key) (b : Books) (keeping : Keeping) (kept : BooksAgree k b keeping) where
   pub epoch_left : (epoch_after k keeping ≢ MAX_EPOCH + 1) → b.epoch < MAX_EPOCH
   epoch_left some = ⊎_elim
       (λ (left : b.epoch < MAX_EPOCH). left)
@@ -43,7 +43,7 @@ module _ (k : Key) (b : Books) (keeping : Keeping) (kept : AreKept k b keeping) 
       absurd (some (omega (arith, spent, kept.ledger.told.epoch, kept.ledger.told.tables.epochs_fit))))
       (cases_lt b.epoch MAX_EPOCH)
 
-  none_left : epoch_after k keeping ≡ MAX_EPOCH + 1 → IsOutOfEpochs (end_of b)
+  none_left : epoch_after k keeping ≡ MAX_EPOCH + 1 → IsOutOfEpochs (end_of_books b)
   none_left spent = omega (arith, spent, kept.ledger.told.epoch)
 
   versions_left : (guest quiet : ℕ) → IsRight k keeping (VersionsSpent guest quiet) → b.epoch < MAX_EPOCH
@@ -53,7 +53,7 @@ module _ (k : Key) (b : Books) (keeping : Keeping) (kept : AreKept k b keeping) 
       other same = cc
 
   too_old : (guest quiet : ℕ) → IsFarBehind k keeping guest quiet → b.epoch < MAX_EPOCH
-      → IsTooOld b.plan (end_of b) guest quiet
+      → IsTooOld b.plan (end_of_books b) guest quiet
   too_old guest quiet behind left =
       let tables = kept.ledger.tables_are in
       let epoch = kept.ledger.told.epoch in
@@ -85,7 +85,7 @@ module _ (k : Key) (b : Books) (keeping : Keeping) (kept : AreKept k b keeping) 
     pub after_load_refused : (who : Who) (number : ℕ) (fault : UpdateFault) → IsRight k keeping fault
         → FaultIs k (mark_by who (Load number)) keeping new fault
         → HasLine (asked_by who (update_line number fault)) b.journal j
-        → MayAskFor (ledger_of b keeping) who (Load number) → IsClean b.plan b.modules (end_of b) number
+        → MayAskFor (ledger_of b keeping) who (Load number) → IsClean b.plan b.modules (end_of_books b) number
         → IsAfter k (asked_by who (update_line number fault)) b told_there keeping new
     after_load_refused who number EpochsSpent right is has asks clean =
         let may = may_ask (ledger_of b keeping) who (Load number) (LoadEpochs number) asks refl in
@@ -99,7 +99,7 @@ module _ (k : Key) (b : Books) (keeping : Keeping) (kept : AreKept k b keeping) 
 
 -- ---- a refresh that the keeper has made
 
-module _ (k : Key) (b : Books) (keeping : Keeping) (kept : AreKept k b keeping) where
+module _ (k : Key) (b : Books) (keeping : Keeping) (kept : BooksAgree k b keeping) where
   -- the image and the policy in force follow themselves
   pub refresh_follows : (mark : ℕ)
       → IsUpdate k.code_words (last_of keeping.entries) (entry_by b.policy b.image mark)

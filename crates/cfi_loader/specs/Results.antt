@@ -7,14 +7,13 @@ use Rattle.cfi_plan.specs.declared.journal.JournalLine.TheVariants as lines
 use Rattle.cfi_plan.specs.declared.journal.Who.{Who}
 use Rattle.cfi_series.specs.declared.fault.JoinFault.{JoinFault}
 use Rattle.cfi_series.specs.declared.fault.JoinFault.TheVariants as joins
-use Rattle.cfi_series.specs.declared.numbers.FaultNumbers.{FaultNumbers}
-use Rattle.cfi_series.specs.declared.numbers.FaultNumbers.TheVariants as numbers
 use Rattle.cfi_series.specs.Numbers.{place_numbers, verify_numbers}
 use Rattle.cfi_series.specs.Order.{IsJoinFault}
 use Rattle.cfi_tables.specs.Key.{Key}
 use Rattle.cfi_tables.specs.declared.fault.UpdateFault.{UpdateFault}
 use Rattle.cfi_tables.specs.declared.fault.UpdateFault.TheVariants as updates
 use Rattle.cfi_valid.specs.Course.{Course}
+use Rattle.cfi_valid.specs.NumberedLine.{numbered_line}
 use Rattle.cfi_valid.specs.Loaded.{LoadedModule, placed_modules}
 use Rattle.cfi_valid.specs.Log.{HasFunctionAt, HasNoFunction}
 use Rattle.cfi_loader.specs.declared.fault.LoadFault.{LoadFault}
@@ -45,11 +44,6 @@ pub record HasLoaded (k : Key) (who : Who) (number : ℕ) (answer : Loaded) (old
   pub address_is : IsAddressOf new.course.end.loaded number answer.address
 
 -- ---- a load that was refused
-
--- the line that tells these numbers of a fault
-abbrev pub numbered_line : (number : ℕ) → FaultNumbers → JournalLine
-numbered_line number (numbers.Place fault) = lines.LoadPlace number fault
-numbered_line number (numbers.Verify fault place) = lines.LoadVerify number fault place
 
 -- the line that tells of a fault; want of memory has none
 abbrev pub fault_line : (number : ℕ) → LoadFault → Option JournalLine

@@ -3,8 +3,9 @@
 ghost use Rattle.std.specs.Prelude.{◌≡◌, ◌≤◌, ℕ, Some, All, IfSome, IfNone, length};
 ghost use Rattle.cfi_series.specs.Entry.{HasAddresses};
 ghost use Rattle.cfi_valid.specs.Bare.{is_bare_plan, has_no_file};
+ghost use Rattle.cfi_valid.specs.Guests.{EntersIn};
 ghost use Rattle.cfi_word.specs.declared.limits.TheConstants.{GUESTS};
-ghost use Rattle.cfi_loader.specs.inner.Entries.{EntersIn, AllEnter, IsFirstOut};
+ghost use Rattle.cfi_loader.specs.inner.Entries.{AllEnter, IsFirstOut};
 
 use cfi_aux::Placed;
 use cfi_plan::{Plan, PlanModule};

@@ -21,13 +21,13 @@ pub(crate) struct Journal {
 }
 
 impl Model for Journal {
-    ghost use Rattle.cfi_loader.specs.inner.Journal.{Minutes, minutes_of, HasRoom};
+    ghost use Rattle.cfi_loader.specs.inner.Journal.{Minutes, minutes_of, HasScriptRoom};
 
     ghost Value = { Minutes };
 
     ghost view = { minutes_of };
 
-    ghost invariant = { HasRoom };
+    ghost invariant = { HasScriptRoom };
 }
 
 // Adds so many refreshes.

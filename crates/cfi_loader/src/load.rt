@@ -7,12 +7,13 @@ ghost use Rattle.cfi_series.specs.Numbers.{numbers_of};
 ghost use Rattle.cfi_tables.specs.Keeping.{Keeping};
 ghost use Rattle.cfi_tables.specs.Key.{Key};
 ghost use Rattle.cfi_valid.specs.Script.{Load};
-ghost use Rattle.cfi_loader.specs.Results.{asked_by, fault_line, numbered_line, HasLoaded, IsLoadFault};
+ghost use Rattle.cfi_valid.specs.NumberedLine.{numbered_line};
+ghost use Rattle.cfi_loader.specs.Results.{asked_by, fault_line, HasLoaded, IsLoadFault};
 ghost use Rattle.cfi_loader.specs.Told.{MayAskFor};
-ghost use Rattle.cfi_loader.specs.inner.Books.{AreKept, ledger_of};
+ghost use Rattle.cfi_loader.specs.inner.Books.{BooksAgree, ledger_of};
 ghost use Rattle.cfi_loader.specs.inner.Journal.{HasLine, HasRoomFor};
 ghost use Rattle.cfi_valid.specs.declared.limits.TheConstants.{MAX_LOADED};
-ghost use Rattle.cfi_loader.specs.inner.Loads.{IsAbsent, IsFirstGlobal, IsListed, IsSamePlan, IsUnprepared, LoadsTo, Refuses, refusal_of, refusal_by, update_line};
+ghost use Rattle.cfi_loader.specs.inner.Loads.{IsAbsent, IsFirstGlobal, IsListed, IsSamePlan, IsUnprepared, LoadsTo, Refuses, load_fault_of, load_fault_by, update_line};
 ghost use Rattle.cfi_loader.specs.inner.Roster.{without_last};
 
 use crate::books::Books;
@@ -49,8 +50,8 @@ fn join_line(number: u32, fault: &JoinFault) -> Option<JournalLine>
 }
 
 // The fault of joining as one of loading.
-fn refusal_of(fault: JoinFault) -> LoadFault
-    ensures { result ≡ refusal_of fault }
+fn load_fault_of(fault: JoinFault) -> LoadFault
+    ensures { result ≡ load_fault_of fault }
 {
     match fault {
         JoinFault::Place(fault) => LoadFault::Place(fault),
@@ -60,8 +61,8 @@ fn refusal_of(fault: JoinFault) -> LoadFault
 }
 
 // The fault of an update as one of loading.
-fn refusal_by(fault: UpdateFault) -> LoadFault
-    ensures { result ≡ refusal_by fault }
+fn load_fault_by(fault: UpdateFault) -> LoadFault
+    ensures { result ≡ load_fault_by fault }
 {
     match fault {
         UpdateFault::EpochsSpent => LoadFault::EpochsSpent,
@@ -87,7 +88,7 @@ fn update_line(number: u32, fault: UpdateFault) -> JournalLine
 fn again(books: &mut Books, who: Who, number: u32, at: usize) -> Loaded
     requires room { HasRoomFor who books.old.journal }
     requires listed { IsListed books.old.roster number at }
-    ensures after { (k : Key) (keeping : Keeping) → AreKept k books.old keeping →
+    ensures after { (k : Key) (keeping : Keeping) → BooksAgree k books.old keeping →
         MayAskFor (ledger_of books.old keeping) who (Load number) →
         LoadsTo k who number result books.old books.new keeping keeping }
     ensures same { IsSamePlan books.old books.new }
@@ -112,7 +113,7 @@ fn again(books: &mut Books, who: Who, number: u32, at: usize) -> Loaded
 fn refuse(books: &mut Books, who: Who, number: u32, fault: JoinFault) -> LoadFault
     requires room { HasRoomFor who books.old.journal }
     requires unprepared { IsUnprepared books.old number fault }
-    ensures after { (k : Key) (keeping : Keeping) → AreKept k books.old keeping →
+    ensures after { (k : Key) (keeping : Keeping) → BooksAgree k books.old keeping →
         MayAskFor (ledger_of books.old keeping) who (Load number) → IsAbsent books.old number →
         Refuses k who number result books.old books.new keeping keeping }
     ensures same { IsSamePlan books.old books.new }
@@ -121,7 +122,7 @@ fn refuse(books: &mut Books, who: Who, number: u32, fault: JoinFault) -> LoadFau
         Some(line) => books.tell(who, line),
         None => books.starved = true,
     }
-    refusal_of(fault)
+    load_fault_of(fault)
 }
 
 // Tells why the module is not put in force, and takes it back.
@@ -138,11 +139,11 @@ fn turn_down(
       journal = books.new.journal;
       roster = without_last candidate.roster;
     } }
-    ensures fault { result ≡ refusal_by fault }
+    ensures fault { result ≡ load_fault_by fault }
 {
     books.roster = candidate.discard();
     books.tell(who, update_line(number, fault));
-    refusal_by(fault)
+    load_fault_by(fault)
 }
 
 // Puts the module in force, with its line, and answers.
@@ -184,7 +185,7 @@ fn add<N: TableName>(
     who: Who,
 ) -> Result<Loaded, LoadFault>
     requires known { number < length books.old.plan.modules }
-    requires kept { AreKept N.key books.old keeper.old }
+    requires kept { BooksAgree N.key books.old keeper.old }
     requires asks { MayAskFor (ledger_of books.old keeper.old) who (Load number) }
     requires room { HasRoomFor who books.old.journal }
     requires absent { IsAbsent books.old number }
@@ -214,7 +215,7 @@ fn load<N: TableName>(
     who: Who,
 ) -> Result<Loaded, LoadFault>
     requires known { number < length books.old.plan.modules }
-    requires kept { AreKept N.key books.old keeper.old }
+    requires kept { BooksAgree N.key books.old keeper.old }
     requires asks { MayAskFor (ledger_of books.old keeper.old) who (Load number) }
     ensures ok { IfOk result (λ loaded.
         LoadsTo N.key who number loaded books.old books.new keeper.old keeper.new) }

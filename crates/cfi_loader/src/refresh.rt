@@ -6,7 +6,7 @@ ghost use Rattle.cfi_plan.specs.declared.journal.Who.TheVariants.{Script};
 ghost use Rattle.cfi_valid.specs.Script.{Refresh};
 ghost use Rattle.cfi_loader.specs.Results.{asked_by, refused_refresh};
 ghost use Rattle.cfi_loader.specs.Told.{HasTold, MayAskFor};
-ghost use Rattle.cfi_loader.specs.inner.Books.{IsAfter, AreKept, ledger_of};
+ghost use Rattle.cfi_loader.specs.inner.Books.{IsAfter, BooksAgree, ledger_of};
 ghost use Rattle.cfi_loader.specs.inner.Journal.{HasLine, HasRoomFor};
 
 use crate::books::Books;
@@ -36,7 +36,7 @@ fn refresh<N: TableName>(
     who: Who,
 ) -> Result<u32, UpdateFault>
     requires script { who ≡ Script }
-    requires kept { AreKept N.key books.old keeper.old }
+    requires kept { BooksAgree N.key books.old keeper.old }
     requires due { MayAskFor (ledger_of books.old keeper.old) Script Refresh }
     ensures ok { IfOk result (λ epoch.
         IsAfter N.key (asked_by who (RefreshOk epoch)) books.old books.new keeper.old keeper.new) }

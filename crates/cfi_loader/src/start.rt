@@ -4,8 +4,8 @@ ghost use Rattle.std.specs.Prelude.{◌≡◌, ◌<◌, ◌^◌, IfOk, IfErr, le
 ghost use Rattle.cfi_loader.specs.Plans.{CanStart};
 ghost use Rattle.cfi_loader.specs.Starting.{IsStarted, IsOpenFault};
 ghost use Rattle.cfi_loader.specs.declared.fault.OpenFault.TheVariants.{Memory};
-ghost use Rattle.cfi_loader.specs.inner.Opening.{IsFirst};
-ghost use Rattle.cfi_loader.specs.inner.Starts.{AreStarted, fault_at};
+ghost use Rattle.cfi_loader.specs.inner.Opening.{AreOpeningBooks};
+ghost use Rattle.cfi_loader.specs.inner.Starts.{AreStarted, open_fault_of};
 
 use crate::books::Books;
 use crate::copies::plan_copy;
@@ -32,19 +32,19 @@ pub struct Start {
 
 impl Model for Start {
     ghost use Rattle.cfi_loader.specs.Starting.{Started};
-    ghost use Rattle.cfi_loader.specs.inner.Opening.{started_of, IsReady};
+    ghost use Rattle.cfi_loader.specs.inner.Opening.{started_of, IsReadyStart};
 
     ghost Value = { Started };
 
     ghost view = { started_of };
 
-    ghost invariant = { IsReady };
+    ghost invariant = { IsReadyStart };
 }
 
 // The fault of the module of a number.
-fn fault_at(number: usize, fault: JoinFault) -> OpenFault
+fn open_fault_of(number: usize, fault: JoinFault) -> OpenFault
     requires { number < 2 ^ 32 }
-    ensures { result ≡ fault_at number fault }
+    ensures { result ≡ open_fault_of number fault }
 {
     match fault {
         JoinFault::Place(fault) => OpenFault::Place(number as u32, fault),
@@ -75,7 +75,7 @@ fn start_modules(
             };
             roster = match roster.add(&entrant, &modules[number]) {
                 Ok(roster) => roster,
-                Err(fault) => return Err(fault_at(number, fault)),
+                Err(fault) => return Err(open_fault_of(number, fault)),
             };
         }
     }
@@ -91,7 +91,7 @@ fn first_books(
     roster: Roster,
 ) -> Result<Books, OpenFault>
     requires { layout ≡ plan.now.code_words }
-    ensures books { IfOk result (λ books. IsFirst plan.now modules roster books) }
+    ensures books { IfOk result (λ books. AreOpeningBooks plan.now modules roster books) }
     ensures fault { IfErr result (λ fault. fault ≡ Memory) }
 {
     let image = roster.image()?;

@@ -22,7 +22,7 @@ use Rattle.cfi_sim.specs.Reach.{OfLoad}
 use Rattle.cfi_sim.specs.Schedule.{PassesNoLimit}
 use Rattle.cfi_sim.specs.Stage.{Stage, with_journal_line}
 use Rattle.cfi_sim.specs.inner.Loaded.{loaded_of, SpotHas, NoSpotHas}
-use Rattle.cfi_sim.specs.inner.Making.{HasMadeWithin, MakesBy, CanBegin, BeginsBy, IsImageWith, with_told, fault_line}
+use Rattle.cfi_sim.specs.inner.Making.{HasMadeWithin, MakesBy, CanBegin, BeginsBy, IsImageWith, with_told}
 use Rattle.cfi_sim.specs.declared.standing.Standing.TheInside.{Inside}
 use Rattle.cfi_sim.specs.inner.Standing.{Whole, SeriesFits, IsUnderWay, whole_inside}
 use Rattle.cfi_sim.proofs.BeginLemmas.{under_after, updates_few, done_so}
@@ -32,6 +32,7 @@ use Rattle.cfi_sim.proofs.GoLemmas.{all_sound}
 use Rattle.cfi_valid.specs.Joining.{IsUnloaded}
 use Rattle.cfi_valid.specs.Journal.{IsClean, LineLeads}
 use Rattle.cfi_valid.specs.Loaded.{LoadedModule, placed_modules, IsLoaded}
+use Rattle.cfi_valid.specs.NumberedLine.{numbered_line}
 use Rattle.cfi_valid.specs.declared.limits.TheConstants.{MAX_LOADED}
 use Rattle.cfi_word.specs.declared.lists.Image.{Image}
 use Rattle.cfi_world.proofs.StoringLemmas.{idle_is}
@@ -65,7 +66,7 @@ module _ (x : Whole) (under : IsUnderWay x) (within : PassesNoLimit x.stage) (nu
     -- a fault is told at once
     pub fault_load : (fault : JoinFault) (told : FaultNumbers)
         → IsJoinFault x.plan.code_words (placed_modules x.stage.state.loaded) absent.unplaced fault
-        → numbers_of fault ≡ Some told → (y : Whole) → y ≡ with_told (fault_line number told) x
+        → numbers_of fault ≡ Some told → (y : Whole) → y ≡ with_told (numbered_line number told) x
         → HasMadeWithin (IsLoadEvent x.plan x.modules number) x y
     fault_load fault (numbers.Place kind) stands told y is =
         told_load (lines.LoadPlace number kind) refl
@@ -264,9 +265,9 @@ module _ (a : Inside) (kept : SeriesFits a) (x : Whole) (is : whole_inside a ≡
 
     pub refused_load : (fault : JoinFault) (told : FaultNumbers)
         → IsJoinFault a.series.code_words a.series.placed m fault → numbers_of fault ≡ Some told → (s : Series)
-        → s ≡ a.series → (y : Whole) → y ≡ with_told (fault_line number told) (whole_inside (record a { series = s }))
+        → s ≡ a.series → (y : Whole) → y ≡ with_told (numbered_line number told) (whole_inside (record a { series = s }))
         → HasMadeWithin (IsLoadEvent x.plan x.modules number) x y
     refused_load fault told why is_told s same y y_is =
         back y (fault_load here under_here within_here number unloaded fault told
         (subst (λ (t : Series). IsJoinFault t.code_words t.placed m fault) (series_is a kept) why) is_told y
-        (y_is ∙ ap (λ (t : Series). with_told (fault_line number told) (whole_inside (record a { series = t }))) same))
+        (y_is ∙ ap (λ (t : Series). with_told (numbered_line number told) (whole_inside (record a { series = t }))) same))

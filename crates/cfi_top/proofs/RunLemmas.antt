@@ -15,7 +15,7 @@ use Rattle.cfi_plan.specs.Plan.{IsPlan, IsNamed}
 use Rattle.cfi_plan.specs.Reading.{plan_in}
 use Rattle.cfi_commands.specs.declared.refusal.Refusal.{Refusal}
 use Rattle.cfi_commands.specs.declared.refusal.Refusal.TheVariants as refusals
-use Rattle.cfi_drive.specs.Concluded.{Conclusion, HasNames, IsConcluded}
+use Rattle.cfi_drive.specs.Concluded.{Conclusion, HasReadableNames, IsConcluded}
 use Rattle.cfi_loader.specs.Starting.{IsOpenFault}
 use Rattle.cfi_outside.specs.declared.command.Command.TheVariants as commands
 use Rattle.cfi_outside.specs.Plans.{begins_as_plan, files_of}
@@ -48,14 +48,14 @@ in_words plan modules fault told same first = subst (IsOpenFault plan modules) (
 
 -- ---- names
 
-plan_names : (plan : Plan) → IsPlan plan → HasNames plan
+plan_names : (plan : Plan) → IsPlan plan → HasReadableNames plan
 plan_names plan is = record {
   modules = All-weaker IsNamed (λ (one : PlanModule). is_name one.name ≡ true) (λ one named. named.0) plan.modules
       is.modules.named;
   guests = is.guests.named;
 }
 
-bare_names : HasNames bare_plan
+bare_names : HasReadableNames bare_plan
 unfolding is_name
 bare_names = record {
   modules = All-cons (λ (one : PlanModule). is_name one.name ≡ true) bare_one [] refl
@@ -63,8 +63,9 @@ bare_names = record {
   guests = All-cons (λ entry. is_name entry ≡ true) (codes "bare") [] refl (All-nil (λ entry. is_name entry ≡ true));
 }
 
-readable : (run : Conclusion) (plan : Plan) → IsConcluded run → run.plan ≡ plan → HasNames plan → IsReport run.report
-readable run plan concluded same names = concluded.readable (subst HasNames (sym same) names)
+readable : (run : Conclusion) (plan : Plan) → IsConcluded run → run.plan ≡ plan → HasReadableNames plan
+    → IsReport run.report
+readable run plan concluded same names = concluded.readable (subst HasReadableNames (sym same) names)
 
 -- ---- a plan
 

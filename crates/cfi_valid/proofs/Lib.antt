@@ -2,6 +2,7 @@ pub mod OrderLemmas
 pub mod CodeLemmas
 pub mod BareLemmas
 pub mod EntryLemmas
+pub mod GuestLemmas
 pub mod JournalLemmas
 pub mod ReplayLemmas
 pub mod ValidLemmas
@@ -12,6 +13,7 @@ pub mod EntryGrowth
 pub mod PickGrowth
 pub mod PolicyLemmas
 pub mod SeriesLemmas
+pub mod StartLemmas
 pub mod SinglesLemmas
 pub mod LongerLemmas
 pub mod AnswerLemmas

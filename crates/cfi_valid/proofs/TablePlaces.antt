@@ -16,7 +16,7 @@ use Rattle.cfi_unit.specs.declared.unit.Unit.{Unit as CodeUnit}
 use Rattle.cfi_unit.specs.declared.unit.Unit.TheVariants.{Plain, Load, Jump, Check, Service}
 use Rattle.cfi_unit.proofs.CodeLemmas.{BeginsAt-within}
 use Rattle.cfi_unit.proofs.UnitLemmas.{size_pos}
-use Rattle.cfi_valid.specs.TableExample.{bytes_in, lib_words, lib_module, main_words, main_module, plug_words, plug_module}
+use Rattle.cfi_valid.specs.TableExample.{bytes_of_word, lib_words, lib_module, main_words, main_module, plug_words, plug_module}
 use Rattle.cfi_valid.proofs.TablePlaced.{lib_placed, main_placed, plug_placed}
 use Rattle.cfi_word.specs.declared.limits.TheConstants.{MAX_CODE_WORDS}
 
@@ -118,7 +118,7 @@ lib_moved =
 pub lib_is : IsPlacedBehind MAX_CODE_WORDS [] lib_module lib_placed
 unfolding relocated_from word_at with_word with_number rule_of insn_of
 lib_is = record {
-  bytes = areas_of (flat_map bytes_in lib_moved)
+  bytes = areas_of (flat_map bytes_of_word lib_moved)
       (64 ∷ 0 ∷ 0 ∷ 0 ∷ 124 ∷ 0 ∷ 0 ∷ 0 ∷ 124 ∷ 1 ∷ 0 ∷ 0 ∷ 184 ∷ 1 ∷ 0 ∷ 0 ∷ []);
   is_placed = refl;
   base = refl;
@@ -217,7 +217,7 @@ main_moved =
 pub main_is : IsPlacedBehind MAX_CODE_WORDS (lib_placed ∷ []) main_module main_placed
 unfolding relocated_from word_at with_word with_number rule_of insn_of
 main_is = record {
-  bytes = areas_of (flat_map bytes_in main_moved) ([]);
+  bytes = areas_of (flat_map bytes_of_word main_moved) ([]);
   is_placed = refl;
   base = refl;
   slot_base = refl;
@@ -253,7 +253,7 @@ plug_moved =
 pub plug_is : IsPlacedBehind MAX_CODE_WORDS (lib_placed ∷ main_placed ∷ []) plug_module plug_placed
 unfolding relocated_from word_at with_word with_number rule_of insn_of
 plug_is = record {
-  bytes = areas_of (flat_map bytes_in plug_moved) ([]);
+  bytes = areas_of (flat_map bytes_of_word plug_moved) ([]);
   is_placed = refl;
   base = refl;
   slot_base = refl;

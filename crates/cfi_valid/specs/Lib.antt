@@ -1,6 +1,7 @@
 pub mod Loaded
 pub mod Bare
 pub mod Joining
+pub mod NumberedLine
 pub mod Journal
 pub mod Script
 pub mod Course

@@ -29,25 +29,25 @@ use Rattle.elf_read.specs.declared.object.Symbol.{Symbol}
 -- ---- parts of modules
 
 -- the bytes of a word, the lowest first
-abbrev pub bytes_in : ℕ → List ℕ
-bytes_in word = word % 2 ^ 8 ∷ word / 2 ^ 8 % 2 ^ 8 ∷ word / 2 ^ 16 % 2 ^ 8 ∷ word / 2 ^ 24 ∷ []
+abbrev pub bytes_of_word : ℕ → List ℕ
+bytes_of_word word = word % 2 ^ 8 ∷ word / 2 ^ 8 % 2 ^ 8 ∷ word / 2 ^ 16 % 2 ^ 8 ∷ word / 2 ^ 24 ∷ []
 
-abbrev pub symbol_at : (name : List ℕ) → Binding → Place → (value : ℕ) → Symbol
-symbol_at name binding place value = record { name = name; binding = binding; place = place; value = value }
+abbrev pub symbol_with : (name : List ℕ) → Binding → Place → (value : ℕ) → Symbol
+symbol_with name binding place value = record { name = name; binding = binding; place = place; value = value }
 
-abbrev pub reloc_at : Area → (offset kind symbol : ℕ) → Reloc
-reloc_at area offset kind symbol =
+abbrev pub reloc_with : Area → (offset kind symbol : ℕ) → Reloc
+reloc_with area offset kind symbol =
     record { area = area; offset = offset; kind = kind; symbol = Some symbol; addend = pos 0 }
 
-abbrev pub function_at : (name : List ℕ) → (offset size ty : ℕ) → (taken : Bool) → Function
-function_at name offset size ty taken =
+abbrev pub function_with : (name : List ℕ) → (offset size ty : ℕ) → (taken : Bool) → Function
+function_with name offset size ty taken =
     record { offset = offset; length = size; ty = ty; taken = taken; name = name }
 
 abbrev pub module_with : (words static_data : List ℕ) → List Symbol → List Reloc → List Node → List Function → List Kind
     → Module
 module_with words static_data symbols relocs types functions branches = record {
   object = record {
-    text = flat_map bytes_in words;
+    text = flat_map bytes_of_word words;
     static_data = static_data;
     symbols = symbols;
     relocs = relocs;
@@ -86,29 +86,29 @@ lib_branches = Return ∷ Return ∷ Tail 1 ∷ Switch (316 ∷ 376 ∷ []) ∷ 
 abbrev pub lib_module : Module
 lib_module =
     module_with lib_words (replicate 16 0)
-    (symbol_at (codes "twice") bindings.Local places.Text 0
-    ∷ symbol_at (codes "incr") bindings.Local places.Text 60
-    ∷ symbol_at (codes ".Lpc0") bindings.Local places.Text 120
-    ∷ symbol_at (codes "table") bindings.Local places.Data 0
-    ∷ symbol_at (codes ".Lpc1") bindings.Local places.Text 220
-    ∷ symbol_at (codes "jt") bindings.Local places.Data 8
-    ∷ symbol_at (codes "L0") bindings.Local places.Text 316
-    ∷ symbol_at (codes "L1") bindings.Local places.Text 376
-    ∷ symbol_at (codes "sel") bindings.Global places.Text 120
-    ∷ symbol_at (codes "choose") bindings.Global places.Text 220 ∷ [])
-    (reloc_at areas.Text 120 23 3
-    ∷ reloc_at areas.Text 124 24 2
-    ∷ reloc_at areas.Text 220 23 5
-    ∷ reloc_at areas.Text 224 24 4
-    ∷ reloc_at areas.Data 0 1 0
-    ∷ reloc_at areas.Data 4 1 1
-    ∷ reloc_at areas.Data 8 1 6
-    ∷ reloc_at areas.Data 12 1 7 ∷ [])
+    (symbol_with (codes "twice") bindings.Local places.Text 0
+    ∷ symbol_with (codes "incr") bindings.Local places.Text 60
+    ∷ symbol_with (codes ".Lpc0") bindings.Local places.Text 120
+    ∷ symbol_with (codes "table") bindings.Local places.Data 0
+    ∷ symbol_with (codes ".Lpc1") bindings.Local places.Text 220
+    ∷ symbol_with (codes "jt") bindings.Local places.Data 8
+    ∷ symbol_with (codes "L0") bindings.Local places.Text 316
+    ∷ symbol_with (codes "L1") bindings.Local places.Text 376
+    ∷ symbol_with (codes "sel") bindings.Global places.Text 120
+    ∷ symbol_with (codes "choose") bindings.Global places.Text 220 ∷ [])
+    (reloc_with areas.Text 120 23 3
+    ∷ reloc_with areas.Text 124 24 2
+    ∷ reloc_with areas.Text 220 23 5
+    ∷ reloc_with areas.Text 224 24 4
+    ∷ reloc_with areas.Data 0 1 0
+    ∷ reloc_with areas.Data 4 1 1
+    ∷ reloc_with areas.Data 8 1 6
+    ∷ reloc_with areas.Data 12 1 7 ∷ [])
     lib_types
-    (function_at (codes "twice") 0 60 1 true
-    ∷ function_at (codes "incr") 60 60 1 true
-    ∷ function_at (codes "sel") 120 100 1 false
-    ∷ function_at (codes "choose") 220 216 1 false ∷ [])
+    (function_with (codes "twice") 0 60 1 true
+    ∷ function_with (codes "incr") 60 60 1 true
+    ∷ function_with (codes "sel") 120 100 1 false
+    ∷ function_with (codes "choose") 220 216 1 false ∷ [])
     lib_branches
 
 -- ---- `main`
@@ -130,13 +130,13 @@ main_branches = Call 1 ∷ []
 abbrev pub main_module : Module
 main_module =
     module_with main_words []
-    (symbol_at (codes "_start") bindings.Global places.Text 0
-    ∷ symbol_at (codes "sel") bindings.Global places.Undefined 0
-    ∷ symbol_at (codes "choose") bindings.Global places.Undefined 0 ∷ [])
-    (reloc_at areas.Text 4 17 1
-    ∷ reloc_at areas.Text 20 17 2 ∷ [])
+    (symbol_with (codes "_start") bindings.Global places.Text 0
+    ∷ symbol_with (codes "sel") bindings.Global places.Undefined 0
+    ∷ symbol_with (codes "choose") bindings.Global places.Undefined 0 ∷ [])
+    (reloc_with areas.Text 4 17 1
+    ∷ reloc_with areas.Text 20 17 2 ∷ [])
     main_types
-    (function_at (codes "_start") 0 132 3 false ∷ [])
+    (function_with (codes "_start") 0 132 3 false ∷ [])
     main_branches
 
 -- ---- `plug`
@@ -155,10 +155,10 @@ plug_branches = Return ∷ []
 abbrev pub plug_module : Module
 plug_module =
     module_with plug_words []
-    (symbol_at (codes "plus60") bindings.Global places.Text 0 ∷ [])
+    (symbol_with (codes "plus60") bindings.Global places.Text 0 ∷ [])
     []
     plug_types
-    (function_at (codes "plus60") 0 60 1 true ∷ [])
+    (function_with (codes "plus60") 0 60 1 true ∷ [])
     plug_branches
 
 -- ---- the plan and the report, where the guest put these bytes

@@ -9,7 +9,7 @@ use Rattle.cfi_report.specs.declared.report.Report.{Report}
 use Rattle.cfi_tables.specs.Key.{Key}
 use Rattle.cfi_drive.specs.Ending.{IsPartAt, part_by}
 use Rattle.cfi_drive.specs.Runner.{Ran}
-use Rattle.cfi_drive.specs.inner.Lines.{HasEntry, HasModule}
+use Rattle.cfi_drive.specs.inner.Lines.{HasEntryFields, HasModuleFields}
 
 -- the part at each place is that of the guest of this number, in numbers of 32 bits
 pub record ArePartsAt (k : Key) (l : Ledger) (parts : List GuestPart) : Type 0 where
@@ -32,5 +32,5 @@ pub record AreTaken (k : Key) (plan : Plan) (old new : Ledger) (runners : List R
 pub record HasNumbers (report : Report) : Type 0 where
   pub epoch : report.epoch < 2 ^ 32
   pub policy : report.policy < 2 ^ 32
-  pub modules : AllByRecursion HasModule report.modules
-  pub journal : AllByRecursion HasEntry report.journal
+  pub modules : AllByRecursion HasModuleFields report.modules
+  pub journal : AllByRecursion HasEntryFields report.journal

@@ -14,11 +14,11 @@ HasWho who = IsField (who_field who)
 abbrev pub HasWhat : JournalLine → Type 0
 HasWhat what = AllByRecursion IsField (what_fields what)
 
-pub record HasEntry (entry : Entry) : Type 0 where
+pub record HasEntryFields (entry : Entry) : Type 0 where
   pub who : HasWho entry.who
   pub what : HasWhat entry.what
 
-pub record HasModule (line : ModuleLine) : Type 0 where
+pub record HasModuleFields (line : ModuleLine) : Type 0 where
   pub number : line.number < 2 ^ 32
   pub base : line.base < 2 ^ 32
   pub slot : line.slot < 2 ^ 32

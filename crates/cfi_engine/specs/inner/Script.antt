@@ -9,7 +9,7 @@ use Rattle.cfi_tables.specs.Key.{Key}
 use Rattle.cfi_valid.specs.Script.{Call, call_of, made_by_script, script_calls}
 
 -- the script has made the call, and it was told
-pub record HasMade (k : Key) (call : Call) (old new : Ledger) : Type 0 where
+pub record HasMadeCall (k : Key) (call : Call) (old new : Ledger) : Type 0 where
   pub entry : Entry
   pub by_script : entry.who ≡ Script
   pub is : call_of entry.what ≡ call
@@ -17,13 +17,13 @@ pub record HasMade (k : Key) (call : Call) (old new : Ledger) : Type 0 where
 
 -- it has, unless memory was missing
 abbrev pub Makes : Key → Call → (old new : Ledger) → Type 0
-Makes k call old new = HasMade k call old new ⊎ HasStarved old new
+Makes k call old new = HasMadeCall k call old new ⊎ HasStarved old new
 
 -- it has made the call that was due
 pub record HasMadeNext (k : Key) (old new : Ledger) : Type 0 where
   pub call : Call
   pub due : slice_get old.left 0 ≡ Some call
-  pub made : HasMade k call old new
+  pub made : HasMadeCall k call old new
 
 -- it has made all calls of the plan
 abbrev pub IsScriptMade : Plan → Ledger → Type 0

@@ -19,11 +19,11 @@ abbrev pub loaded_in : Books → List LoadedModule
 loaded_in b = loaded_of b.roster.lines b.roster.placed
 
 -- the state to which the journal leads, and the course
-abbrev pub end_of : Books → JournalState
-end_of b = record { epoch = b.epoch; policy = b.policy; loaded = loaded_in b }
+abbrev pub end_of_books : Books → JournalState
+end_of_books b = record { epoch = b.epoch; policy = b.policy; loaded = loaded_in b }
 
 abbrev pub course_in : Books → Course
-course_in b = record { plan = b.plan; modules = b.modules; journal = b.journal.lines; end = end_of b }
+course_in b = record { plan = b.plan; modules = b.modules; journal = b.journal.lines; end = end_of_books b }
 
 abbrev pub ledger_of : Books → Keeping → Ledger
 ledger_of b keeping = record {
@@ -40,7 +40,7 @@ pub record IsRosterOf (b : Books) : Type 0 where
   pub lines_are : b.roster.lines ≡ map (module_line_of b.plan.modules) (loaded_in b)
 
 -- all of it agrees
-pub record AreKept (k : Key) (b : Books) (keeping : Keeping) : Type 0 where
+pub record BooksAgree (k : Key) (b : Books) (keeping : Keeping) : Type 0 where
   pub ledger : IsLedger k b.plan b.modules (ledger_of b keeping)
   pub roster_is : IsRosterOf b
   pub layout_is : b.layout ≡ b.plan.code_words
@@ -49,11 +49,11 @@ pub record AreKept (k : Key) (b : Books) (keeping : Keeping) : Type 0 where
 
 -- a line more, and all of it agrees again
 pub record IsAfter (k : Key) (entry : Entry) (old new : Books) (before after : Keeping) : Type 0 where
-  pub kept : AreKept k new after
+  pub kept : BooksAgree k new after
   pub told : HasTold k entry (ledger_of old before) (ledger_of new after)
 
 -- and it is the plan's and the modules' of a name
 pub record IsLoader (k : Key) (plan : Plan) (modules : List Module) (b : Books) (keeping : Keeping) : Type 0 where
-  pub kept : AreKept k b keeping
+  pub kept : BooksAgree k b keeping
   pub plan_is : b.plan ≡ plan
   pub modules_are : b.modules ≡ modules

@@ -23,7 +23,7 @@ minutes_of a = record {
   spare = vec_capacity a.lines - (vec_len a.lines + (vec_len a.calls - a.made));
 }
 
-pub record HasRoom (a : Inside) : Type 0 where
+pub record HasScriptRoom (a : Inside) : Type 0 where
   pub made_most : a.made ≤ vec_len a.calls
   pub room : vec_len a.lines + (vec_len a.calls - a.made) ≤ vec_capacity a.lines
 

@@ -21,21 +21,21 @@ use Rattle.cfi_loader.specs.declared.fault.LoadFault.{LoadFault}
 use Rattle.cfi_loader.specs.declared.fault.LoadFault.TheVariants.{Place, Verify, EpochsSpent, VersionsSpent, Memory}
 use Rattle.cfi_loader.specs.declared.loaded.Loaded.{Loaded}
 use Rattle.cfi_loader.specs.Results.{asked_by, loaded_line, IsAddressOf, IsLoadFault}
-use Rattle.cfi_loader.specs.inner.Books.{loaded_in, ledger_of, AreKept, IsAfter}
+use Rattle.cfi_loader.specs.inner.Books.{loaded_in, ledger_of, BooksAgree, IsAfter}
 use Rattle.cfi_loader.specs.inner.Roster.{Roster, HasJoined}
 
 -- ---- faults
 
 -- a fault of joining as one of loading
-abbrev pub refusal_of : JoinFault → LoadFault
-refusal_of (joins.Place fault) = Place fault
-refusal_of (joins.Verify fault) = Verify fault
-refusal_of joins.Memory = Memory
+abbrev pub load_fault_of : JoinFault → LoadFault
+load_fault_of (joins.Place fault) = Place fault
+load_fault_of (joins.Verify fault) = Verify fault
+load_fault_of joins.Memory = Memory
 
 -- a fault of an update, and the line that tells of it
-abbrev pub refusal_by : UpdateFault → LoadFault
-refusal_by updates.EpochsSpent = EpochsSpent
-refusal_by (updates.VersionsSpent guest quiet) = VersionsSpent guest quiet
+abbrev pub load_fault_by : UpdateFault → LoadFault
+load_fault_by updates.EpochsSpent = EpochsSpent
+load_fault_by (updates.VersionsSpent guest quiet) = VersionsSpent guest quiet
 
 abbrev pub update_line : (number : ℕ) → UpdateFault → JournalLine
 update_line number updates.EpochsSpent = lines.LoadEpochs number
@@ -92,5 +92,5 @@ pub record LoadsTo (k : Key) (who : Who) (number : ℕ) (answer : Loaded) (old n
 -- one that was refused
 pub record Refuses (k : Key) (who : Who) (number : ℕ) (fault : LoadFault) (old new : Books) (before after : Keeping)
     : Type 0 where
-  pub kept : AreKept k new after
+  pub kept : BooksAgree k new after
   pub fault_is : IsLoadFault k who number fault (ledger_of old before) (ledger_of new after)

@@ -8,15 +8,15 @@ use Rattle.cfi_loader.specs.declared.books.Books.{Books}
 use Rattle.cfi_word.specs.declared.lists.Image.{Image}
 use Rattle.cfi_loader.specs.declared.start.Start.TheInside.{Inside}
 use Rattle.cfi_loader.specs.Starting.{Started}
-use Rattle.cfi_loader.specs.inner.Books.{ledger_of, AreKept}
+use Rattle.cfi_loader.specs.inner.Books.{ledger_of, BooksAgree}
 use Rattle.cfi_loader.specs.inner.Journal.{Minutes}
 use Rattle.cfi_loader.specs.inner.Roster.{Roster, IsImageOfRoster}
 
 abbrev pub started_of : Inside → Started
 started_of a = record { named = a.blank; ledger = ledger_of a.books (opened_keeping a.blank.key) }
 
-abbrev pub IsReady : Inside → Type 0
-IsReady a = AreKept a.blank.key a.books (opened_keeping a.blank.key)
+abbrev pub IsReadyStart : Inside → Type 0
+IsReadyStart a = BooksAgree a.blank.key a.books (opened_keeping a.blank.key)
 
 -- what a loader has at the start beside its keeper; its memory is that of another
 abbrev pub books_at : Plan → List Module → Roster → Image → Minutes → Books → Books
@@ -33,7 +33,7 @@ books_at plan modules roster image journal b = record b {
   starved = false;
 }
 
-pub record IsFirst (plan : Plan) (modules : List Module) (roster : Roster) (b : Books) : Type 0 where
+pub record AreOpeningBooks (plan : Plan) (modules : List Module) (roster : Roster) (b : Books) : Type 0 where
   pub is : b ≡ books_at plan modules roster b.image b.journal b
   pub image_is : IsImageOfRoster roster b.image
   pub lines_are : b.journal.lines ≡ []

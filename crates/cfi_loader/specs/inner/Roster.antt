@@ -5,10 +5,10 @@ use Rattle.cfi_aux.specs.declared.placed.Placed.{Placed}
 use Rattle.cfi_plan.specs.declared.journal.ModuleLine.{ModuleLine}
 use Rattle.cfi_series.specs.Fills.{fills_of}
 use Rattle.cfi_series.specs.Order.{Joins}
+use Rattle.cfi_series.specs.Prepared.{IsImageOfSeries}
+use Rattle.cfi_series.specs.Series.{Series}
 use Rattle.cfi_valid.specs.Loaded.{LoadedModule}
 use Rattle.cfi_word.specs.declared.lists.Image.{Image}
-use Rattle.cfi_graph.specs.Direct.{DirectEdge}
-use Rattle.cfi_policy.specs.Image.{IsImage}
 use Rattle.cfi_loader.specs.declared.roster.Roster.TheInside.{Inside}
 use Rattle.cfi_loader.specs.declared.roster.Candidate.TheInside.{Inside as CandidateInside}
 
@@ -17,6 +17,9 @@ pub record Roster : Type 0 where
   pub code_words : ℕ
   pub lines : List ModuleLine
   pub placed : List Placed
+
+abbrev pub series_of : Roster → Series
+series_of roster = record { code_words = roster.code_words; placed = roster.placed }
 
 abbrev pub roster_of : Inside → Roster
 roster_of a = record { code_words = a.series.code_words; lines = a.lines.items; placed = a.series.placed }
@@ -78,7 +81,7 @@ pub record IsCandidate (a : CandidateInside) : Type 0 where
 
 -- the image is that of all modules of a roster, under their own policy
 abbrev pub IsImageOfRoster : Roster → Image → Type 0
-IsImageOfRoster roster image = IsImage (DirectEdge roster.placed) roster.placed roster.code_words image
+IsImageOfRoster roster image = IsImageOfSeries (series_of roster) image
 
 -- a roster without its last module
 abbrev pub without_last : Roster → Roster

@@ -28,7 +28,7 @@ abbrev pub opened_state : Plan → Roster → JournalState
 opened_state plan r = record { epoch = plan.first; policy = 0; loaded = loaded_in r }
 
 -- the fault of the module of a number
-abbrev pub fault_at : (number : ℕ) → JoinFault → OpenFault
-fault_at number (joins.Place fault) = Place number fault
-fault_at number (joins.Verify fault) = Verify number fault
-fault_at number joins.Memory = Memory
+abbrev pub open_fault_of : (number : ℕ) → JoinFault → OpenFault
+open_fault_of number (joins.Place fault) = Place number fault
+open_fault_of number (joins.Verify fault) = Verify number fault
+open_fault_of number joins.Memory = Memory

@@ -8,10 +8,7 @@ use Rattle.cfi_model.specs.declared.phase.Phase.TheVariants as phases
 use Rattle.cfi_model.specs.Phases.{phase_of}
 use Rattle.cfi_model.specs.World.{World}
 use Rattle.cfi_plan.specs.declared.journal.JournalLine.{JournalLine}
-use Rattle.cfi_plan.specs.declared.journal.JournalLine.TheVariants as lines
 use Rattle.cfi_policy.specs.Image.{IsImage}
-use Rattle.cfi_series.specs.declared.numbers.FaultNumbers.{FaultNumbers}
-use Rattle.cfi_series.specs.declared.numbers.FaultNumbers.TheVariants as numbers
 use Rattle.cfi_series.specs.Series.{Series, CanBeTaken, JoinsTo}
 use Rattle.cfi_sim.specs.declared.aim.Aim.{Aim}
 use Rattle.cfi_sim.specs.declared.limits.TheConstants.{MAX_EVENTS, MAX_UPDATES}
@@ -44,11 +41,6 @@ MakesBy Happens old new false = Cannot Happens old
 -- a line more
 abbrev pub with_told : JournalLine → Whole → Whole
 with_told line x = record x { stage = with_journal_line line x.stage }
-
--- the line of a fault
-abbrev pub fault_line : (number : ℕ) → FaultNumbers → JournalLine
-fault_line number (numbers.Place fault) = lines.LoadPlace number fault
-fault_line number (numbers.Verify fault place) = lines.LoadVerify number fault place
 
 -- ---- an update that begins
 

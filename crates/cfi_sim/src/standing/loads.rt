@@ -5,8 +5,9 @@ ghost use Rattle.cfi_series.specs.Order.{IsJoinFault};
 ghost use Rattle.cfi_series.specs.Series.{CanBeTaken};
 ghost use Rattle.cfi_sim.specs.Events.{IsLoadEvent};
 ghost use Rattle.cfi_sim.specs.Schedule.{PassesNoLimit};
-ghost use Rattle.cfi_sim.specs.inner.Making.{fault_line, IsImageWith, MakesBy};
+ghost use Rattle.cfi_sim.specs.inner.Making.{IsImageWith, MakesBy};
 ghost use Rattle.cfi_sim.specs.inner.Standing.{IsUnderWay};
+ghost use Rattle.cfi_valid.specs.NumberedLine.{numbered_line};
 ghost use Rattle.cfi_valid.specs.Loaded.{IsLoaded};
 ghost use Rattle.cfi_valid.specs.declared.limits.TheConstants.{MAX_LOADED};
 
@@ -22,9 +23,9 @@ use cfi_word::{Image, Layout};
 use std::alloc::{AllocError, Global};
 use std::mem;
 
-// The line that tells of a fault.
-fn fault_line(loading: u32, fault: FaultNumbers) -> JournalLine
-    ensures { result ≡ fault_line loading fault }
+// The line that tells these numbers of a fault.
+fn numbered_line(loading: u32, fault: FaultNumbers) -> JournalLine
+    ensures { result ≡ numbered_line loading fault }
 {
     match fault {
         FaultNumbers::Place { number } => JournalLine::LoadPlace {
@@ -107,7 +108,7 @@ impl<'a> Standing<'a> {
                 let Some(numbers) = fault.numbers() else {
                     return Err(AllocError);
                 };
-                self.tell(fault_line(number, numbers))?;
+                self.tell(numbered_line(number, numbers))?;
                 Ok(true)
             }
         }

@@ -8,7 +8,7 @@ use Rattle.cfi_word.specs.declared.lists.Image.{Image}
 use Rattle.cfi_loader.specs.declared.books.Books.{Books}
 use Rattle.cfi_loader.specs.declared.fault.LoadFault.{LoadFault}
 use Rattle.cfi_loader.specs.Told.{MayAskFor}
-use Rattle.cfi_loader.specs.inner.Books.{AreKept, ledger_of}
+use Rattle.cfi_loader.specs.inner.Books.{BooksAgree, ledger_of}
 use Rattle.cfi_loader.specs.inner.Loads.{IsAbsent, Refuses}
 use Rattle.cfi_loader.proofs.AddLemmas.{made_answers, unmade_refuses}
 use Rattle.cfi_loader.proofs.PrepareLemmas.{load_update}
@@ -24,7 +24,7 @@ pub returns-in-Err-clause-fault : goal.returns-in-Err-clause-fault
 returns-in-Err-clause-fault g c =
     let k = g.N.TableName.key in
     let keeping = c.args.keeper.now in
-    subst (λ (nb : Books). AreKept k nb keeping → MayAskFor (ledger_of nb keeping) c.args.who (Load c.args.number)
+    subst (λ (nb : Books). BooksAgree k nb keeping → MayAskFor (ledger_of nb keeping) c.args.who (Load c.args.number)
     → IsAbsent nb c.args.number
     → Refuses k c.args.who c.args.number c.refuse.result nb c.refuse.new.books keeping keeping)
     c.in-Err.ensures.same (c.refuse.ensures.after k keeping) c.requires.kept c.requires.asks c.requires.absent

@@ -22,7 +22,7 @@ returns-in-Err-clause-fault c =
     let is = c.one-item.is ∙ ap (λ (ms : List PlanModule). get_or ms n one) all in
     let there = slice_get-get_or modules n unplaced (omega (arith, within, c.requires.can.count))
     ∙ ap (λ (m : Module). Some m) (sym c.index-modules-number.is) in
-    subst (IsOpenFault plan modules) (sym c.fault_at.ensures)
+    subst (IsOpenFault plan modules) (sym c.open_fault_of.ensures)
     (started_fault plan modules n one within is c.loop-number.roster c.loop-number.invariant c.if-one.true unplaced
     there c.in-Err.fault c.in-Err.ensures.fault)
 

@@ -29,4 +29,4 @@ returns-in_ok-tell-in-Err c =
     (c.in_ok-tell-in-Err.ensures
     ∙ ap (λ (line : JournalLine).
     with_told line (whole_inside (record c.self.inside { series = c.image_with.new.series })))
-    c.fault_line.ensures)
+    c.numbered_line.ensures)
