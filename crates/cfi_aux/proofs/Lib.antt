@@ -14,3 +14,4 @@ pub mod SoundNames
 pub mod SoundSymbols
 pub mod SoundRelocs
 pub mod NothingLemmas
+pub mod SplitLemmas

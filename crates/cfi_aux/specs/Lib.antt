@@ -6,3 +6,4 @@ pub mod Module
 pub mod Sound
 pub mod Placed
 pub mod Extent
+pub mod Splits

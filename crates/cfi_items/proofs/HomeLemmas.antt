@@ -7,10 +7,11 @@ use Rattle.std.proofs.lemmas.Option.{slice_get-get_or, get_or_from_slice_get, sl
 use Rattle.elf_read.specs.Lists.{Each}
 use Rattle.cfi_aux.specs.declared.records.Function.{Function}
 use Rattle.cfi_aux.specs.Extent.{byte_end, Covers}
+use Rattle.cfi_aux.specs.Splits.{SplitsBelow, SplitsUpTo}
 use Rattle.cfi_items.specs.Words.{Words}
 use Rattle.cfi_items.specs.Functions.{byte_end_in, byte_end_before, IsFormedBehind}
 use Rattle.cfi_items.specs.inner.Functions.{covers, are_together, is_entry}
-use Rattle.cfi_items.specs.inner.Homes.{AreApart, SplitsEnds, SplitsStarts, has_both, begins_at}
+use Rattle.cfi_items.specs.inner.Homes.{AreApart, has_both, begins_at}
 use Rattle.cfi_items.proofs.DecideLemmas.{some-from, from-some}
 use Rattle.cfi_items.proofs.FunctionTests.{covers-holds}
 
@@ -96,7 +97,7 @@ begins-any functions n a (Some f) is begins =
 
 module _ (functions : List Function) (order : AreApart functions) (a n : ℕ) where
   -- the one function that has the offset is that of the number
-  pub home-found : SplitsEnds functions a n → (f : Function) → Contains functions f → Covers f a
+  pub home-found : SplitsUpTo byte_end functions a n → (f : Function) → Contains functions f → Covers f a
       → slice_get functions n ≡ Some f
   home-found split f has lies =
       let k : ℕ = has.0 in
@@ -121,7 +122,7 @@ module _ (functions : List Function) (order : AreApart functions) (a n : ℕ) wh
       let same : n ≡ k = omega (arith, late, early) in
       ap (slice_get functions) same ∙ slice_get-get_or functions k f has.1 ∙ ap (λ (g : Function). Some g) has.2
 
-  pub together-found : SplitsEnds functions a n → (b : ℕ)
+  pub together-found : SplitsUpTo byte_end functions a n → (b : ℕ)
       → has_both (slice_get functions n) a b ≡ are_together functions a b
   together-found split b =
       bools-same (has_both (slice_get functions n) a b) (are_together functions a b)
@@ -133,7 +134,8 @@ module _ (functions : List Function) (order : AreApart functions) (a n : ℕ) wh
       ap (λ (found : Option Function). has_both found a b) is ∙ some.2)
 
   -- some function begins at the offset exactly where that of the number does
-  pub entry-found : SplitsStarts functions a n → begins_at (slice_get functions n) a ≡ is_entry functions a
+  pub entry-found : SplitsBelow (λ (f : Function). f.offset) functions a n
+      → begins_at (slice_get functions n) a ≡ is_entry functions a
   entry-found split =
       bools-same (begins_at (slice_get functions n) a) (is_entry functions a)
       (λ begins. begins-any functions n a (slice_get functions n) refl begins)

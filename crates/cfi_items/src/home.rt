@@ -2,8 +2,10 @@
 
 ghost use Rattle.std.specs.Prelude.{◌≡◌};
 ghost use Rattle.std.specs.List.{slice_get};
+ghost use Rattle.cfi_aux.specs.Extent.{byte_end};
+ghost use Rattle.cfi_aux.specs.Splits.{SplitsBelow, SplitsUpTo};
 ghost use Rattle.cfi_items.specs.inner.Functions.{are_together, is_entry};
-ghost use Rattle.cfi_items.specs.inner.Homes.{AreApart, SplitsEnds, SplitsStarts, has_both, begins_at};
+ghost use Rattle.cfi_items.specs.inner.Homes.{AreApart, has_both, begins_at};
 
 use crate::functions::covers;
 use cfi_aux::Function;
@@ -11,7 +13,7 @@ use cfi_aux::Function;
 // The number of the first function that ends after the offset; their number where none does.
 fn number_ending(functions: &[Function], offset: usize) -> usize
     requires { AreApart functions.now }
-    ensures { SplitsEnds functions.now offset result }
+    ensures { SplitsUpTo byte_end functions.now offset result }
 {
     functions.partition_point(|f| f.offset as usize + f.length as usize <= offset)
 }
@@ -19,7 +21,7 @@ fn number_ending(functions: &[Function], offset: usize) -> usize
 // The number of the first function that begins at the offset or after it; their number where none does.
 fn number_beginning(functions: &[Function], offset: usize) -> usize
     requires { AreApart functions.now }
-    ensures { SplitsStarts functions.now offset result }
+    ensures { SplitsBelow (λ f. f.offset) functions.now offset result }
 {
     functions.partition_point(|f| (f.offset as usize) < offset)
 }

@@ -9,18 +9,6 @@ use Rattle.cfi_items.specs.inner.Functions.{covers}
 abbrev pub AreApart : List Function → Type 0
 AreApart functions = AllPairs (λ f g. byte_end f ≤ g.offset) functions
 
--- the functions before the number n, and no others, end before the offset or there
-pub record SplitsEnds (functions : List Function) (offset n : ℕ) : Type 0 where
-  pub within : n ≤ length functions
-  pub below : AllWithin (λ (f : Function). byte_end f ≤ offset) functions 0 n
-  pub above : AllWithin (λ (f : Function). offset < byte_end f) functions n (length functions)
-
--- the functions before the number n, and no others, begin before the offset
-pub record SplitsStarts (functions : List Function) (offset n : ℕ) : Type 0 where
-  pub within : n ≤ length functions
-  pub below : AllWithin (λ (f : Function). f.offset < offset) functions 0 n
-  pub above : AllWithin (λ (f : Function). offset ≤ f.offset) functions n (length functions)
-
 -- there is a function, and it has both offsets
 abbrev pub has_both : Option Function → (a b : ℕ) → Bool
 has_both None a b = false
