@@ -13,7 +13,8 @@ use Rattle.elf_read.specs.Lists.{Each}
 use Rattle.cfi_verify.specs.Functions.{end_in, end_before, IsIdle, FitsBehind}
 use Rattle.cfi_aux.specs.Extent.{end_of, LiesIn}
 use Rattle.cfi_verify.specs.Target.{IsAtHome}
-use Rattle.cfi_verify.specs.inner.Places.{AreFunctionsApart, AreInRange, IsHome, SplitsEnds}
+use Rattle.cfi_aux.specs.Splits.{SplitsUpTo}
+use Rattle.cfi_verify.specs.inner.Places.{AreFunctionsApart, AreInRange, IsHome}
 
 -- where the function of a number ends
 pub end_before-next : (functions : List PlacedFunction) (k : ℕ) (f : PlacedFunction) →
@@ -71,7 +72,7 @@ ends_rise functions order = λ i j d up within.
     let same : i ≡ j = omega arith in omega (arith, ap (λ (k : ℕ). end_of (get_or functions k d)) same))
     (cases_lt i j)
 
-module _ (functions : List PlacedFunction) (at n : ℕ) (split : SplitsEnds functions at n) where
+module _ (functions : List PlacedFunction) (at n : ℕ) (split : SplitsUpTo end_of functions at n) where
   -- a function in which the word lies is not before the number
   home_from : (f : PlacedFunction) → (has : Contains functions f) → LiesIn f at → n ≤ has.0
   home_from f has lies =

@@ -10,7 +10,8 @@ use Rattle.cfi_unit.specs.declared.spot.Spot.{Spot}
 use Rattle.cfi_unit.specs.Spots.{BeginsUnit}
 use Rattle.cfi_verify.specs.Functions.{may_be_last, EndsWell}
 use Rattle.cfi_aux.specs.Extent.{end_of, LiesIn}
-use Rattle.cfi_verify.specs.inner.Places.{AreRising, Splits}
+use Rattle.cfi_aux.specs.Splits.{SplitsBelow}
+use Rattle.cfi_verify.specs.inner.Places.{AreRising}
 
 pub at_rises : (spots : List Spot) → AreRising spots → IsNonDecreasingBy (λ (s : Spot). s.at) spots
 at_rises spots rise = λ i j d order within.
@@ -20,14 +21,16 @@ at_rises spots rise = λ i j d order within.
     (cases_lt i j)
 
 -- a unit that begins before the word is one of those before the number
-number_below : (spots : List Spot) (at n : ℕ) → Splits spots at n → (k : ℕ) (d : Spot) → k < length spots →
+number_below : (spots : List Spot) (at n : ℕ) → SplitsBelow (λ (s : Spot). s.at) spots at n →
+    (k : ℕ) (d : Spot) → k < length spots →
     (get_or spots k d).at < at → k < n
 number_below spots at n split k d within less =
     ⊎_elim (λ (low : k < n). low)
     (λ (high : n ≤ k). absurd (omega (arith, split.above k d high within, less)))
     (cases_lt k n)
 
-number_above : (spots : List Spot) (at n : ℕ) → Splits spots at n → (k : ℕ) (d : Spot) →
+number_above : (spots : List Spot) (at n : ℕ) → SplitsBelow (λ (s : Spot). s.at) spots at n →
+    (k : ℕ) (d : Spot) →
     at ≤ (get_or spots k d).at → n ≤ k
 number_above spots at n split k d more =
     ⊎_elim (λ (low : k < n). absurd (omega (arith, split.below k d (omega arith) low, more)))
@@ -35,7 +38,8 @@ number_above spots at n split k d more =
     (cases_lt k n)
 
 -- where no unit is left, none begins
-pub none_begins : (spots : List Spot) (at n : ℕ) → Splits spots at n → n ≡ length spots → ¬ BeginsUnit spots at
+pub none_begins : (spots : List Spot) (at n : ℕ) → SplitsBelow (λ (s : Spot). s.at) spots at n
+    → n ≡ length spots → ¬ BeginsUnit spots at
 none_begins spots at n split whole = λ b.
     let k : ℕ = b.1.0 in
     let is : get_or spots k b.0 ≡ b.0 = b.1.2 in
@@ -44,7 +48,8 @@ none_begins spots at n split whole = λ b.
     absurd (omega (arith, split.below k b.0 (omega arith) low, ap (λ (s : Spot). s.at) is, b.2))
 
 -- the first one that is left begins at the word, or none does
-pub begins_first : (spots : List Spot) → AreRising spots → (at n : ℕ) (d : Spot) → Splits spots at n →
+pub begins_first : (spots : List Spot) → AreRising spots → (at n : ℕ) (d : Spot) →
+    SplitsBelow (λ (s : Spot). s.at) spots at n →
     n < length spots → BeginsUnit spots at ↔ ((get_or spots n d).at ≡ at)
 begins_first spots rise at n d split within = (
   λ b.
@@ -62,7 +67,7 @@ begins_first spots rise at n d split within = (
 
 -- the last unit before the end of a function
 module _ (spots : List Spot) (rise : AreRising spots) (f : PlacedFunction) (n : ℕ)
-    (split : Splits spots (end_of f) n) where
+    (split : SplitsBelow (λ (s : Spot). s.at) spots (end_of f) n) where
   -- the number of a unit of the function is below n
   of_function : (spot : Spot) → (has : Contains spots spot) → LiesIn f spot.at → has.0 < n
   of_function spot has lies =

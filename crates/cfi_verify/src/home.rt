@@ -4,8 +4,9 @@ ghost use Rattle.std.specs.Prelude.{◌≡◌, Some, IfSome, IsTrue, ◌↔◌};
 ghost use Rattle.std.specs.List.{Contains};
 ghost use Rattle.cfi_aux.specs.declared.placed.PlacedFunction.{PlacedFunction as Function};
 ghost use Rattle.cfi_aux.specs.Extent.{end_of, LiesIn};
+ghost use Rattle.cfi_aux.specs.Splits.{SplitsUpTo};
 ghost use Rattle.cfi_verify.specs.Target.{IsAtHome};
-ghost use Rattle.cfi_verify.specs.inner.Places.{AreRising, AreFunctionsApart, AreInRange, IsHome, SplitsEnds};
+ghost use Rattle.cfi_verify.specs.inner.Places.{AreRising, AreFunctionsApart, AreInRange, IsHome};
 
 use crate::search::begins_at;
 use cfi_aux::PlacedFunction;
@@ -14,7 +15,7 @@ use cfi_unit::Spot;
 // The number of the first function that ends after the word; their number where none does.
 fn number_ending(functions: &[PlacedFunction], at: u32) -> usize
     requires { AreFunctionsApart functions.now }
-    ensures { SplitsEnds functions.now at result }
+    ensures { SplitsUpTo end_of functions.now at result }
 {
     functions.partition_point(|f| u64::from(f.first) + u64::from(f.count) <= u64::from(at))
 }

@@ -1,6 +1,6 @@
 -- What the passes over units, functions and checks know and find.
 use Rattle.std.specs.Prelude.{◌≡◌, ◌⊎◌, ℕ, ◌*◌, ◌^◌, ◌<◌, ◌≤◌, List, ◌∷◌, length, All}
-use Rattle.std.specs.List.{Contains, AllPairs, AllWithin}
+use Rattle.std.specs.List.{Contains, AllPairs}
 use Rattle.std.specs.List.Sorted.{IsPermutation}
 use Rattle.cfi_aux.specs.declared.placed.Placed.{Placed}
 use Rattle.cfi_aux.specs.declared.placed.PlacedFunction.{PlacedFunction}
@@ -16,18 +16,6 @@ use Rattle.cfi_verify.specs.Faults.{check_place}
 -- each unit begins after those before it
 abbrev pub AreRising : List Spot → Type 0
 AreRising spots = AllPairs (λ s t. s.at < t.at) spots
-
--- the units before the number n, and no others, begin before the word
-pub record Splits (spots : List Spot) (at n : ℕ) : Type 0 where
-  pub within : n ≤ length spots
-  pub below : AllWithin (λ (spot : Spot). spot.at < at) spots 0 n
-  pub above : AllWithin (λ (spot : Spot). at ≤ spot.at) spots n (length spots)
-
--- the functions before the number n, and no others, end before the word or at it
-pub record SplitsEnds (functions : List PlacedFunction) (at n : ℕ) : Type 0 where
-  pub within : n ≤ length functions
-  pub below : AllWithin (λ (f : PlacedFunction). end_of f ≤ at) functions 0 n
-  pub above : AllWithin (λ (f : PlacedFunction). at < end_of f) functions n (length functions)
 
 -- the places of units and of checks in bytes are 32-bit numbers
 abbrev pub AreSmall : List Spot → Type 0
