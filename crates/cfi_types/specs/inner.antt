@@ -1,6 +1,5 @@
 -- What only private clauses cite.
 pub mod Joined
-pub mod Kept
 pub mod Leader
 pub mod Splitting
 pub mod Refining

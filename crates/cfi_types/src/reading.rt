@@ -126,7 +126,7 @@ fn all_of(alloc: Global, bytes: &[u8]) -> Result<TypeTable, TypeFault>
     }
     match first_stray(nodes.as_slice(), count) {
         Some(number) => Err(TypeFault::BadIndex(number)),
-        None => Ok(TypeTable::shared(alloc, nodes)?),
+        None => Ok(TypeTable::from_vec(nodes)),
     }
 }
 
