@@ -22,7 +22,7 @@ use cfi_word::limits::MAX_OPENS;
 use cfi_word::services::{EXIT, OPEN, PUT, TOO_MANY};
 use rv_guest::{Guest, Wait};
 
-// Stops a guest that would fetch next and has no fuel.
+/// Stops a guest that would fetch next and has had as many instructions as the fuel.
 #[inline(always)]
 pub fn rest(guest: &mut Guest, fuel: u32)
     ensures { guest.new ≡ rested fuel guest.old }

@@ -86,12 +86,12 @@ impl World {
         })
     }
 
+    // It is inlined, so that where the kind of event is known nothing is made of it and looked at again.
     /// Makes an event happen, and says what came of it. It takes no memory.
     ///
     /// A Begin comes while fewer updates than there is room for have begun; its image is closed, agrees with the one
     /// in force at each code word that is not 0 there, and the policy in force is below 255. An answer has the policy
     /// in force, and its fills lie inside private data.
-    // Where the kind of event is known, nothing is made of it and looked at again.
     #[inline(always)]
     pub fn turn(&mut self, event: Event<'_>) -> Turned
         requires { MayTurn self.old event }
