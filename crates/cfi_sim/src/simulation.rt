@@ -31,7 +31,7 @@ fn follow_line(
     requires within { PassesNoLimit standing.old.stage }
     ensures ok { OnOk result
         (HasMadeWithin (LineMakes standing.old.plan standing.old.modules text.now)
-            standing.old standing.new) }
+        standing.old standing.new) }
     ensures fault { IfErr result (IsLineFault standing.old number text.now) }
 {
     let Some(line) = standing.read(text) else {
