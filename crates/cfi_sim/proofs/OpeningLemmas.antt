@@ -34,6 +34,7 @@ use Rattle.cfi_sim.proofs.StartedLemmas.{opened_state, started_all}
 use Rattle.cfi_unit.specs.declared.fill.Fill.{Fill}
 use Rattle.cfi_valid.specs.Guests.{EntersAt, GuestBegins}
 use Rattle.cfi_valid.specs.Loaded.{LoadedModule, placed_modules, loaded_by, start_fills}
+use Rattle.cfi_valid.proofs.BareLemmas.{not_bare}
 use Rattle.cfi_word.specs.declared.lists.Image.{Image}
 use Rattle.cfi_world.specs.Premises.{CanOpen}
 

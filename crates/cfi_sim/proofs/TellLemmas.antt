@@ -1,5 +1,5 @@
 -- A world that agrees with the journal says of epochs and versions what the journal does.
-use Rattle.std.proofs.Common.{◌≡◌, ◌≢◌, ℕ, ◌+◌, ◌<◌, ◌≤◌, Bool, true, false, List, Option, Some, None, refl, subst, arith}
+use Rattle.std.proofs.Common.{◌≡◌, ◌≢◌, ℕ, ◌+◌, ◌<◌, ◌≤◌, ◌==◌, Bool, true, false, List, Option, Some, None, refl, subst, arith}
 use Rattle.std.proofs.lemmas.Bool.{eqb-false}
 use Rattle.cfi_aux.specs.declared.modules.Module.{Module}
 use Rattle.cfi_model.specs.declared.history.Entry.{Entry}
