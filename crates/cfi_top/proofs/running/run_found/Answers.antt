@@ -2,6 +2,7 @@ use Rattle.std.proofs.Common.{◌∙◌, subst}
 use Rattle.std.proofs.lemmas.Result.{IfOk-weaker}
 use Rattle.cfi_commands.proofs.ModulesLemmas.{same_count}
 use Rattle.cfi_engine.specs.Fault.{IsRunFault}
+use Rattle.cfi_engine.proofs.CodeLemmas.{plan_code}
 use Rattle.cfi_loader.proofs.PlanLemmas.{plan_starts}
 use Rattle.cfi_loader.specs.Starting.{IsOpenFault}
 use Rattle.cfi_outside.specs.Plans.{files_of}
@@ -25,10 +26,14 @@ returns-in-Err g c =
     c.module_refused.ensures
 
 -- what was read can be started
-pub run_plan-requires-after_bounds : goal.run_plan-requires-after_bounds
-run_plan-requires-after_bounds g c κs within =
+pub run_plan-requires-clause-can : goal.run_plan-requires-clause-can
+run_plan-requires-clause-can g c κs within =
     plan_starts c.args.found.now c.in-Ok.modules c.requires.plan
     (same_count c.args.files.now c.in-Ok.modules c.in-Ok.ensures.ok ∙ c.requires.count) c.in-Ok.ensures.taken
+
+-- and has entries by name
+pub run_plan-requires-clause-code : goal.run_plan-requires-clause-code
+run_plan-requires-clause-code g c κs within = plan_code c.args.found.now c.in-Ok.modules c.requires.plan
 
 -- the fault is of one of the plan's modules
 pub opening_refused-requires : goal.opening_refused-requires
