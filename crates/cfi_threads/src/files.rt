@@ -1,6 +1,6 @@
 //! Plans and modules of the program's files.
 
-ghost use Rattle.std.specs.Prelude.{◌≡◌, ◌∷◌, [], true, IfSome};
+ghost use Rattle.std.specs.Prelude.{◌≡◌, true, All, IfSome};
 ghost use Rattle.cfi_aux.specs.Sound.{IsSoundModule};
 ghost use Rattle.cfi_engine.specs.Guests.{HasCode};
 ghost use Rattle.cfi_loader.specs.Plans.{CanStart};
@@ -60,26 +60,26 @@ fn plan_of(alloc: Global, text: &[u8]) -> Option<Plan>
     }
 }
 
-// A list of one module.
-fn list_of(alloc: Global, one: Module) -> Option<Items<Module>>
-    ensures { IfSome result (λ modules. modules ≡ one ∷ []) }
+// The instrumented modules of sources, in order.
+fn modules_of(alloc: Global, sources: &[Vec<u8>]) -> Option<Items<Module>>
+    ensures { IfSome result (All CanBeTaken) }
 {
     let mut modules = Vec::new(alloc);
-    match modules.push(one) {
-        Ok(()) => Some(Items::from_vec(modules)),
-        Err(_) => None,
+    for source in sources {
+        let one = module_of(alloc, source.as_slice())?;
+        modules.push(one).ok()?;
     }
+    Some(Items::from_vec(modules))
 }
 
-/// The plan that a text says, of one module, with that of a source; None where they are not so.
-pub fn planned(alloc: Global, text: &[u8], source: &[u8]) -> Option<(Plan, Items<Module>)>
+/// The plan that a text says, with the modules of these sources; None where they are not so many.
+pub fn planned(alloc: Global, text: &[u8], sources: &[Vec<u8>]) -> Option<(Plan, Items<Module>)>
     ensures can { IfSome result (λ found. CanStart found.0 found.1) }
     ensures code { IfSome result (λ found. HasCode found.0 found.1) }
 {
     let plan = plan_of(alloc, text)?;
-    let one = module_of(alloc, source)?;
-    let modules = list_of(alloc, one)?;
-    if plan.modules.len() != 1 {
+    let modules = modules_of(alloc, sources)?;
+    if plan.modules.len() != modules.len() {
         return None;
     }
     plans_can_start();

@@ -2,7 +2,7 @@
 
 use crate::marks::Mark;
 use cfi_io::Gate;
-use cfi_word::services::{EXIT, QUIET};
+use cfi_word::services::{EXIT, OPEN, QUIET};
 
 /// Holds each of two guests in its quiet service until the other has come to it.
 #[derive(Drop)]
@@ -94,6 +94,55 @@ impl Gate for Weaving {
             0 => self.hold(&self.quiet),
             1 => self.second.put(),
             _ => {}
+        }
+    }
+}
+
+/// Holds guest 0 in its open until the script has made its first call, and the script's second call until that guest has
+/// come to its exit.
+#[derive(Drop)]
+pub struct Crossing {
+    second: Mark,
+    exit: Mark,
+    late: Mark,
+}
+
+impl Crossing {
+    /// Neither has come.
+    pub fn new() -> Crossing {
+        Crossing {
+            second: Mark::new(),
+            exit: Mark::new(),
+            late: Mark::new(),
+        }
+    }
+
+    /// Whether nobody has waited in vain.
+    pub fn is_kept(&self) -> bool {
+        !self.late.is_put()
+    }
+
+    // Waits for a mark.
+    fn hold(&self, mark: &Mark) {
+        if !mark.came() {
+            self.late.put();
+        }
+    }
+}
+
+impl Gate for Crossing {
+    fn pass(&self, guest: u32, service: u32) {
+        match (guest, service) {
+            (0, OPEN) => self.hold(&self.second),
+            (0, EXIT) => self.exit.put(),
+            _ => {}
+        }
+    }
+
+    fn line(&self, call: u32) {
+        if call == 1 {
+            self.second.put();
+            self.hold(&self.exit);
         }
     }
 }

@@ -5,8 +5,8 @@
 //! are run, their sources and their reports. Proved: that each keeps what the calls take for granted. Tested: two guests
 //! load and fetch beside 100 updates, a guest fetches beside an update that adds code, and one without quiescent points
 //! hinders an update; guests run beside refreshes, one of them repeats a try, and each pause comes; two guests of a plan
-//! are in their services at once, its script goes on beside a guest, and a guest runs to its end while the loader's lock
-//! is held. Open: nothing.
+//! are in their services at once, its script goes on beside a guest, the script and a guest load one module in both
+//! orders, and a guest runs to its end while the loader's lock is held. Open: nothing.
 #![tactic(auto)]
 
 mod files;
@@ -29,11 +29,15 @@ fn tell(rt: &HostRuntime, name: &str, is_right: bool) -> io::Result<()> {
     )
 }
 
-// The texts of a plan and of its one source.
-fn texts(rt: &HostRuntime, plan: &str, source: &str) -> io::Result<Texts> {
+// The texts of a plan and of the sources of its modules.
+fn texts(rt: &HostRuntime, plan: &str, names: &[&str]) -> io::Result<Texts> {
+    let mut sources = Vec::new(rt.alloc());
+    for name in names {
+        sources.push(fs::read(rt, *name)?)?;
+    }
     Ok(Texts {
         plan: fs::read(rt, plan)?,
-        source: fs::read(rt, source)?,
+        sources,
     })
 }
 
@@ -65,21 +69,34 @@ fn main(rt: HostRuntime) -> io::Result<()> {
     )?;
     tell(&rt, "each pause", runs::each_pause(rt.alloc())?)?;
     tell(&rt, "each fuel", runs::each_fuel(rt.alloc())?)?;
-    let two = texts(&rt, "two.plan", "quiet.s")?;
+    let two = texts(&rt, "two.plan", &["quiet.s"])?;
     let two_report = fs::read(&rt, "two.report")?;
     tell(
         &rt,
         "two guests at once",
         plans::two_guests_at_once(&rt, rt.alloc(), &two, &two_report),
     )?;
-    let script = texts(&rt, "script.plan", "quiet.s")?;
+    let script = texts(&rt, "script.plan", &["quiet.s"])?;
     let script_report = fs::read(&rt, "script.report")?;
     tell(
         &rt,
         "a script beside a guest",
         plans::a_script_beside_a_guest(&rt, rt.alloc(), &script, &script_report),
     )?;
-    let call = texts(&rt, "call.plan", "call.s")?;
+    let load = texts(&rt, "load.plan", &["open.s", "plug.s"])?;
+    let guest_report = fs::read(&rt, "load.report")?;
+    tell(
+        &rt,
+        "a guest's load before the script's",
+        plans::a_script_beside_a_guest(&rt, rt.alloc(), &load, &guest_report),
+    )?;
+    let load_report = fs::read(&rt, "loaded.report")?;
+    tell(
+        &rt,
+        "the script's load before a guest's",
+        plans::a_load_before_a_guests(&rt, rt.alloc(), &load, &load_report),
+    )?;
+    let call = texts(&rt, "call.plan", &["call.s"])?;
     tell(
         &rt,
         "a guest beside a held lock",

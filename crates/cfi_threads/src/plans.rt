@@ -6,7 +6,7 @@ ghost use Rattle.cfi_loader.specs.Plans.{CanStart};
 ghost use Rattle.cfi_loader.specs.Starting.{IsStarted};
 
 use crate::files::planned;
-use crate::gates::{Meeting, Weaving};
+use crate::gates::{Crossing, Meeting, Weaving};
 use crate::marks::Mark;
 use cfi_aux::Module;
 use cfi_engine::{Runner, drive, open_guests, run_plan};
@@ -22,13 +22,13 @@ use std::marker::Brand;
 use std::sync::{Mutex, Wait};
 use std::thread::{Threads, join};
 
-/// The texts of a plan of one module and of its source.
+/// The texts of a plan and of the sources of its modules.
 #[derive(Debug, Drop)]
 pub struct Texts {
     /// The plan.
     pub plan: Vec<u8>,
-    /// The source.
-    pub source: Vec<u8>,
+    /// The sources, one a module line.
+    pub sources: Vec<Vec<u8>>,
 }
 
 // Whether a run of the plan under the gate has this report.
@@ -59,7 +59,7 @@ pub fn two_guests_at_once<R: Threads + Wait + Sync>(
     texts: &Texts,
     report: &[u8],
 ) -> bool {
-    let Some((plan, modules)) = planned(alloc, &texts.plan, &texts.source) else {
+    let Some((plan, modules)) = planned(alloc, &texts.plan, texts.sources.as_slice()) else {
         return false;
     };
     let gate = Meeting::new();
@@ -74,10 +74,24 @@ pub fn a_script_beside_a_guest<R: Threads + Wait + Sync>(
     texts: &Texts,
     report: &[u8],
 ) -> bool {
-    let Some((plan, modules)) = planned(alloc, &texts.plan, &texts.source) else {
+    let Some((plan, modules)) = planned(alloc, &texts.plan, texts.sources.as_slice()) else {
         return false;
     };
     let gate = Weaving::new();
+    has_report(rt, alloc, &plan, modules, &gate, report) && gate.is_kept()
+}
+
+/// The script loads a module before a guest asks for it, and again when the guest has gone on; the run has this report.
+pub fn a_load_before_a_guests<R: Threads + Wait + Sync>(
+    rt: &R,
+    alloc: Global,
+    texts: &Texts,
+    report: &[u8],
+) -> bool {
+    let Some((plan, modules)) = planned(alloc, &texts.plan, texts.sources.as_slice()) else {
+        return false;
+    };
+    let gate = Crossing::new();
     has_report(rt, alloc, &plan, modules, &gate, report) && gate.is_kept()
 }
 
@@ -165,7 +179,7 @@ pub fn a_guest_beside_a_held_lock<R: Threads + Wait + Sync>(
     alloc: Global,
     texts: &Texts,
 ) -> bool {
-    let Some((plan, modules)) = planned(alloc, &texts.plan, &texts.source) else {
+    let Some((plan, modules)) = planned(alloc, &texts.plan, texts.sources.as_slice()) else {
         return false;
     };
     let Ok(start) = Start::new(alloc, &plan, modules) else {
