@@ -16,6 +16,9 @@ use std::alloc::AllocError;
 use std::marker::Model;
 use std::sync::{Mutex, Wait};
 
+// How many words keep two cache lines between guests.
+const APART: usize = 16;
+
 /// A guest of a plan, with its pass.
 ///
 /// Its type keeps that the guest is where the raw machine is after what the pass has loaded and what its opens were
@@ -25,6 +28,9 @@ use std::sync::{Mutex, Wait};
 pub struct Runner<N: LoaderName> {
     guest: Guest,
     pass: Pass<N>,
+    // Runners lie side by side, each with a thread of its own: what one stores in a step shares no cache line with the
+    // next one, and so takes none away from it.
+    apart: [u64; APART],
 }
 
 impl<N: LoaderName> Model for Runner<N> {
@@ -44,7 +50,11 @@ impl<N: LoaderName> Runner<N> {
         requires { IsOpening N.key N.plan N.modules pass guest }
         ensures { result ≡ record { guest = guest; pass = pass } }
     {
-        Runner { guest, pass }
+        Runner {
+            guest,
+            pass,
+            apart: [0; APART],
+        }
     }
 
     /// The guest.
@@ -65,7 +75,7 @@ impl<N: LoaderName> Runner<N> {
         ensures pass { result.1 ≡ self.pass }
         ensures law { IsRunner N.key N.plan N.modules self.pass self.guest }
     {
-        let Runner { guest, pass } = self;
+        let Runner { guest, pass, .. } = self;
         (guest, pass)
     }
 }
