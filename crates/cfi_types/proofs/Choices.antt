@@ -47,9 +47,3 @@ below_more P j q =
             rw (now, before, apart) refl
       ]
     ]
-
--- tests that are true together are one
-pub one_test : (a b : Bool) → (a ≡ true → b ≡ true) → (b ≡ true → a ≡ true) → a ≡ b
-one_test true b f g = sym (f refl)
-one_test false true f g = g refl
-one_test false false f g = refl

@@ -2,6 +2,7 @@
 use Rattle.std.proofs.Common.{◌≡◌, ◌∙◌, ℕ, ◌<◌, Bool, true, false, ltb, eqb, min, List, [], length, get_or, All, refl, sym, ap, subst, arith, inl, inr}
 use Rattle.std.specs.Prelude.{◌||◌, ◌&&◌}
 use Rattle.std.proofs.lemmas.Bool.{cases_lt, and_parts, and_from, ltb-true, lt-ltb, le-ltb, eqb-true, eq-eqb}
+use Rattle.std.proofs.lemmas.Bool.Decides.{same_from_decides}
 use Rattle.std.proofs.lemmas.List.{get_or_default}
 use Rattle.std.proofs.lemmas.List.Elements.{All-get_or, All-from_get_or, length_all_zip, AllZip-get_or}
 use Rattle.std.proofs.lemmas.List.Folds.{Any-from_list_any, list_any_at}
@@ -14,7 +15,6 @@ use Rattle.cfi_types.specs.inner.Splitting.{IsClosed}
 use Rattle.cfi_types.specs.inner.Parents.{lists_name, names_at, AreParents}
 use Rattle.cfi_types.specs.inner.Hits.{has, is_hit, hits_one, GathersHits}
 use Rattle.cfi_types.specs.inner.Division.{AreListed, AreClear, KeepTogether, TellEqual}
-use Rattle.cfi_types.proofs.Choices.{one_test}
 use Rattle.cfi_types.proofs.Steps.{names_below, named_equal}
 
 -- each number of a list is one that the list has
@@ -131,8 +131,8 @@ module _ (nodes : List Node) (parents : List (List Name)) (parts : List ℕ) (me
         gathers.each place node (omega (arith, gathers.len, within))
         ∙ ap (λ (l : List ℕ). has l node || hits_one parents (get_or members part []) parts part place node)
         (clear.none place (omega (arith, count, within)))
-        ∙ one_test (hits_one parents (get_or members part []) parts part place node) (leads place node)
-        (ahead place node) (back place node)
+        ∙ same_from_decides (hits_one parents (get_or members part []) parts part place node) (leads place node)
+        (ahead place node, back place node) (λ e. e, λ e. e)
 
     pub all_tell : All (TellEqual nodes) new
     all_tell = All-from_get_or (TellEqual nodes) new [] (λ place within a b la lb h.
