@@ -1,8 +1,8 @@
 -- Reading from the front of bytes: the value and the bytes after it, or the fault that is met first.
-use Rattle.std.specs.Prelude.{◌≡◌, ℕ, zero, suc, List, [], ◌∷◌, length, take, drop, Bool, nat_lt, if◌then◌else◌, Result, Ok, Err}
-use Rattle.std.specs.Int.{w32, from_le_bytes}
+use Rattle.std.specs.Prelude.{◌≡◌, ℕ, zero, suc, List, [], ◌∷◌, Bool, Result, Ok, Err}
 use Rattle.cfi_aux.specs.declared.fault.AuxFault.{AuxFault}
 use Rattle.cfi_aux.specs.declared.fault.AuxFault.TheVariants.{NoRecords, Types, Version, Short, BadRecord, Memory}
+use Rattle.cfi_types.specs.Reading.{word_or}
 use Rattle.cfi_values.specs.Then.{◌>>=◌, unless_bad}
 
 -- ---- what a call gives
@@ -28,7 +28,7 @@ Reader X = List ℕ → Result (X × List ℕ) AuxFault
 
 -- a word
 abbrev pub next_word : Reader ℕ
-next_word bytes = if nat_lt (length bytes) 4 then Err Short else Ok (from_le_bytes w32 (take 4 bytes), drop 4 bytes)
+next_word bytes = word_or Short bytes
 
 -- a word that passes a test
 unfoldable pub word_where : (test : ℕ → Bool) → AuxFault → Reader ℕ

@@ -2,7 +2,7 @@
 
 ghost use Rattle.std.specs.Prelude.{◌≤◌, nat_le, IfOk};
 ghost use Rattle.cfi_aux.specs.declared.fault.AuxFault.TheVariants.{BadRecord};
-ghost use Rattle.cfi_aux.specs.Reading.{ReadingGives, next_word, word_where};
+ghost use Rattle.cfi_aux.specs.Reading.{ReadingGives, word_where};
 ghost use Rattle.cfi_aux.specs.Format.{is_whole, is_length, is_flag, is_name_length, is_func, has_count};
 ghost use Rattle.cfi_aux.specs.Faults.{count_at, version_at};
 
@@ -11,15 +11,6 @@ use crate::format::{
     SWITCH, VERSION, has_count, is_flag, is_func, is_length, is_name_length, is_whole,
 };
 use cfi_types::{TypeTable, split_word};
-
-fn word_from(bytes: &[u8]) -> Result<(u32, &[u8]), AuxFault>
-    ensures { ReadingGives (λ x. (x.0, x.1.now)) result (next_word bytes.now) }
-{
-    match split_word(bytes) {
-        Some(found) => Ok(found),
-        None => Err(AuxFault::Short),
-    }
-}
 
 /// The bytes after the word of the version, which stands first.
 #[tactic(auto, unfolding(crate::specs::Faults::version_at))]
@@ -42,7 +33,7 @@ pub fn count_from(limit: u32, bytes: &[u8]) -> Result<(u32, &[u8]), AuxFault>
     ensures read { ReadingGives (λ x. (x.0, x.1.now)) result (count_at limit bytes.now) }
     ensures within { IfOk result (λ x. x.0 ≤ limit) }
 {
-    let (count, rest) = word_from(bytes)?;
+    let (count, rest) = split_word(bytes).ok_or(AuxFault::Short)?;
     if count > limit {
         return Err(AuxFault::BadRecord(limit));
     }
@@ -55,7 +46,7 @@ pub fn place_from(number: u32, bytes: &[u8]) -> Result<(u32, &[u8]), AuxFault>
     ensures { ReadingGives (λ x. (x.0, x.1.now)) result
         (word_where is_whole (BadRecord number) bytes.now) }
 {
-    let (word, rest) = word_from(bytes)?;
+    let (word, rest) = split_word(bytes).ok_or(AuxFault::Short)?;
     if !is_whole(word) {
         return Err(AuxFault::BadRecord(number));
     }
@@ -68,7 +59,7 @@ pub fn length_from(number: u32, bytes: &[u8]) -> Result<(u32, &[u8]), AuxFault>
     ensures { ReadingGives (λ x. (x.0, x.1.now)) result
         (word_where is_length (BadRecord number) bytes.now) }
 {
-    let (word, rest) = word_from(bytes)?;
+    let (word, rest) = split_word(bytes).ok_or(AuxFault::Short)?;
     if !is_length(word) {
         return Err(AuxFault::BadRecord(number));
     }
@@ -85,7 +76,7 @@ pub fn func_from<'a>(
     ensures { ReadingGives (λ x. (x.0, x.1.now)) result
         (word_where (is_func types.now) (BadRecord number) bytes.now) }
 {
-    let (word, rest) = word_from(bytes)?;
+    let (word, rest) = split_word(bytes).ok_or(AuxFault::Short)?;
     if !is_func(types, word) {
         return Err(AuxFault::BadRecord(number));
     }
@@ -97,7 +88,7 @@ pub fn func_from<'a>(
 pub fn flags_from(number: u32, bytes: &[u8]) -> Result<(u32, &[u8]), AuxFault>
     ensures { ReadingGives (λ x. (x.0, x.1.now)) result (word_where is_flag (BadRecord number) bytes.now) }
 {
-    let (word, rest) = word_from(bytes)?;
+    let (word, rest) = split_word(bytes).ok_or(AuxFault::Short)?;
     if !is_flag(word) {
         return Err(AuxFault::BadRecord(number));
     }
@@ -110,7 +101,7 @@ pub fn name_length_from(number: u32, bytes: &[u8]) -> Result<(u32, &[u8]), AuxFa
     ensures { ReadingGives (λ x. (x.0, x.1.now)) result
         (word_where is_name_length (BadRecord number) bytes.now) }
 {
-    let (word, rest) = word_from(bytes)?;
+    let (word, rest) = split_word(bytes).ok_or(AuxFault::Short)?;
     if !is_name_length(word) {
         return Err(AuxFault::BadRecord(number));
     }
@@ -123,7 +114,7 @@ pub fn kind_from(number: u32, bytes: &[u8]) -> Result<(u32, &[u8]), AuxFault>
     ensures { ReadingGives (λ x. (x.0, x.1.now)) result
         (word_where (λ kind. nat_le kind SWITCH) (BadRecord number) bytes.now) }
 {
-    let (word, rest) = word_from(bytes)?;
+    let (word, rest) = split_word(bytes).ok_or(AuxFault::Short)?;
     if word > SWITCH {
         return Err(AuxFault::BadRecord(number));
     }
@@ -136,7 +127,7 @@ pub fn word_count_from(kind: u32, number: u32, bytes: &[u8]) -> Result<(u32, &[u
     ensures { ReadingGives (λ x. (x.0, x.1.now)) result
         (word_where (has_count kind) (BadRecord number) bytes.now) }
 {
-    let (word, rest) = word_from(bytes)?;
+    let (word, rest) = split_word(bytes).ok_or(AuxFault::Short)?;
     if !has_count(kind, word) {
         return Err(AuxFault::BadRecord(number));
     }

@@ -21,9 +21,12 @@ abbrev pub ReadingGives : {X Y : Type 0} → (X → Y) → Result X TypeFault �
 ReadingGives view (Ok x) read = read ≡ Ok (view x)
 ReadingGives view (Err e) read = ReadingFails e read
 
--- a word, and the bytes after it
+-- a word, and the bytes after it; the fault where there are fewer than four
+abbrev pub word_or : {E : Type 0} → (short : E) → List ℕ → Result (ℕ × List ℕ) E
+word_or short bytes = if nat_lt (length bytes) 4 then Err short else Ok (from_le_bytes w32 (take 4 bytes), drop 4 bytes)
+
 abbrev pub next_word : List ℕ → Result (ℕ × List ℕ) TypeFault
-next_word bytes = if nat_lt (length bytes) 4 then Err Short else Ok (from_le_bytes w32 (take 4 bytes), drop 4 bytes)
+next_word bytes = word_or Short bytes
 
 -- the fields of node number k from this place on, of which `count` are left
 unfoldable pub fields_at : (k kind place count : ℕ) → List ℕ → Result (List ℕ × List ℕ) TypeFault
