@@ -10,7 +10,7 @@ use Rattle.cfi_items.specs.Insns.{is_linked}
 use Rattle.cfi_values.specs.Some.{holds}
 use Rattle.cfi_items.specs.Items.{is_indirect}
 use Rattle.cfi_items.specs.Functions.{IsOwnItem}
-use Rattle.cfi_aux.specs.Records.{AllEntries, AllEntriesIn}
+use Rattle.cfi_aux.specs.Records.{AllEntriesIn}
 
 -- the number of an indirect jump: how many are before it
 abbrev pub ordinal_of : Words → (w : ℕ) → ℕ
@@ -37,11 +37,7 @@ HasRecord t branches w insn =
 abbrev pub AreUsed : Words → List Kind → Type 0
 AreUsed t branches = length branches ≤ ordinal_of t (count_of t)
 
--- each entry of a switch is an item of the function that has the jump at the offset
-abbrev pub AreOwnItems : Words → List Function → (at : ℕ) → Kind → Type 0
-AreOwnItems t functions at kind = AllEntries (IsOwnItem t functions at) kind
-
--- the word's record, where it is an indirect jump, has such entries
+-- each entry of the word's record, where it is an indirect jump and its record a switch, is an item of its function
 abbrev pub SwitchFits : Words → List Function → List Kind → (w : ℕ) → Option Insn → Type 0
 SwitchFits t functions branches w insn =
     is_indirect t w ≡ true → AllEntriesIn (IsOwnItem t functions (4 * w)) (slice_get branches (ordinal_of t w))
