@@ -2,9 +2,10 @@
 use Rattle.std.proofs.Common.{◌≡◌, ◌⊎◌, ℕ, ◌+◌, ◌-◌, ◌*◌, ◌/◌, ◌<◌, ◌≤◌, ◌∙◌, ◌&&◌, not, Bool, true, List, length, get_or, replicate, refl, ap, sym, subst, inl, inr, ⊎_elim, arith}
 use Rattle.std.specs.List.{Contains}
 use Rattle.std.proofs.lemmas.Bool.{cases_lt, ltb-true, lt-ltb}
+use Rattle.std.proofs.lemmas.Bool.Decides.{same_from_decides}
 use Rattle.std.proofs.lemmas.List.{get_or_default, get_or_past, length-replicate, get_or-replicate}
 use Rattle.cfi_aux.specs.declared.records.Function.{Function}
-use Rattle.cfi_aux.specs.Extent.{byte_end}
+use Rattle.cfi_aux.specs.Extent.{byte_end, IsCovered}
 use Rattle.elf_read.specs.declared.object.Reloc.{Reloc}
 use Rattle.cfi_items.specs.Words.{Words, count_of}
 use Rattle.cfi_items.specs.Items.{item_of}
@@ -12,7 +13,6 @@ use Rattle.cfi_items.specs.inner.Functions.{is_covered}
 use Rattle.cfi_items.specs.inner.Misplaced.{fits_on, sits_by}
 use Rattle.cfi_items.specs.inner.Ends.{first_word, Raises, AreCarried, is_before_end, AreEnds}
 use Rattle.cfi_items.proofs.FunctionTests.{covered-holds, covered-clear}
-use Rattle.cfi_items.proofs.HomeLemmas.{bools-same}
 use Rattle.cfi_items.proofs.RelocTests.{item-below, fits-within}
 
 -- the end at each word is that of some function that begins by then, or none; and none of the first n functions ends
@@ -63,27 +63,28 @@ pub ends-are : (functions : List Function) (count : ℕ) (ends final : List ℕ)
     → AreEnds functions count final
 ends-are functions count ends final raised carried w inside =
     let within : w < length ends = omega (arith, inside, raised.size) in
-    bools-same (is_before_end final w) (is_covered functions (4 * w))
-    (λ before.
-    let less : 4 * w < get_or final w 0 = ltb-true (4 * w) (get_or final w 0) before in
-    let from = carried.known w within in
-    ⊎_elim
-    (λ (none : get_or ends from.0 0 ≡ 0). absurd (omega (arith, less, from.2, none)))
-    (λ (some : (f : Function) × Contains functions f × (f.offset ≤ 4 * from.0) × (get_or ends from.0 0 ≡ byte_end f)).
-    covered-clear functions (4 * w)
-    (some.0, some.1, (omega (arith, some.2, from.1), omega (arith, less, from.2, some.3))))
-    (raised.known from.0))
-    (λ covered.
-    let home = covered-holds functions (4 * w) covered in
-    let f = home.0 in
-    let k : ℕ = home.1.0 in
-    let is : get_or functions k f ≡ f = home.1.2 in
-    let first : first_word f ≤ w = omega (arith, home.2.0) in
-    let reach : byte_end f ≤ get_or ends (first_word f) 0 =
-    subst (λ (g : Function). byte_end g ≤ get_or ends (first_word g) 0) is
-    (raised.reaches k f home.1.1 (omega (arith, first, inside, ap first_word is))) in
-    lt-ltb (4 * w) (get_or final w 0)
-    (omega (arith, reach, carried.reaches (first_word f) w first within, home.2.1)))
+    same_from_decides {P = IsCovered functions (4 * w)} (is_before_end final w) (is_covered functions (4 * w)) (
+      λ before.
+          let less : 4 * w < get_or final w 0 = ltb-true (4 * w) (get_or final w 0) before in
+          let from = carried.known w within in
+          ⊎_elim
+          (λ (none : get_or ends from.0 0 ≡ 0). absurd (omega (arith, less, from.2, none)))
+          (λ (some : (f : Function) × Contains functions f × (f.offset ≤ 4 * from.0)
+          × (get_or ends from.0 0 ≡ byte_end f)).
+          (some.0, some.1, (omega (arith, some.2, from.1), omega (arith, less, from.2, some.3))))
+          (raised.known from.0),
+      λ home.
+          let f = home.0 in
+          let k : ℕ = home.1.0 in
+          let is : get_or functions k f ≡ f = home.1.2 in
+          let first : first_word f ≤ w = omega (arith, home.2.0) in
+          let reach : byte_end f ≤ get_or ends (first_word f) 0 =
+          subst (λ (g : Function). byte_end g ≤ get_or ends (first_word g) 0) is
+          (raised.reaches k f home.1.1 (omega (arith, first, inside, ap first_word is))) in
+          lt-ltb (4 * w) (get_or final w 0)
+          (omega (arith, reach, carried.reaches (first_word f) w first within, home.2.1)),
+    )
+    (covered-holds functions (4 * w), covered-clear functions (4 * w))
 
 zeroes-at : (count k : ℕ) → ◌≡◌ {A = ℕ} (get_or (replicate count 0) k 0) 0
 zeroes-at count k =

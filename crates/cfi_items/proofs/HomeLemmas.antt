@@ -1,8 +1,9 @@
 -- Functions in order, and what a search among them finds.
-use Rattle.std.proofs.Common.{◌≡◌, ℕ, zero, suc, ◌+◌, ◌-◌, ◌<◌, ◌≤◌, ◌∙◌, ◌&&◌, Bool, true, false, eqb, List, length, get_or, Option, Some, None, refl, ap, sym, subst, ⊎_elim, add-one, arith}
+use Rattle.std.proofs.Common.{◌≡◌, ℕ, zero, suc, ◌+◌, ◌-◌, ◌<◌, ◌≤◌, ◌∙◌, ◌&&◌, true, false, eqb, List, length, get_or, Option, Some, None, refl, ap, sym, subst, ⊎_elim, add-one, arith}
 use Rattle.std.specs.List.{Contains, slice_get}
 use Rattle.std.specs.List.Sorted.{IsNonDecreasingBy}
 use Rattle.std.proofs.lemmas.Bool.{cases_lt, false≢true, and_parts, eqb-true, eq-eqb, ne_eqb}
+use Rattle.std.proofs.lemmas.Bool.Decides.{same_from_decides}
 use Rattle.std.proofs.lemmas.Option.{slice_get-get_or, get_or_from_slice_get, slice_get_within}
 use Rattle.elf_read.specs.Lists.{Each}
 use Rattle.cfi_aux.specs.declared.records.Function.{Function}
@@ -74,11 +75,6 @@ module _ (functions : List Function) (order : AreApart functions) where
 
 -- ---- what is found
 
-pub bools-same : (a b : Bool) → (a ≡ true → b ≡ true) → (b ≡ true → a ≡ true) → a ≡ b
-bools-same true b to from = sym (to refl)
-bools-same false true to from = from refl
-bools-same false false to from = refl
-
 -- the item of a number that is there
 found-has : {T : Type 0} (xs : List T) (n : ℕ) (x : T) → slice_get xs n ≡ Some x → Contains xs x
 found-has xs n x is = (n, slice_get_within xs n x is, get_or_from_slice_get xs n x x is)
@@ -125,35 +121,37 @@ module _ (functions : List Function) (order : AreApart functions) (a n : ℕ) wh
   pub together-found : SplitsUpTo byte_end functions a n → (b : ℕ)
       → has_both (slice_get functions n) a b ≡ are_together functions a b
   together-found split b =
-      bools-same (has_both (slice_get functions n) a b) (are_together functions a b)
-      (λ both. both-any functions n a b (slice_get functions n) refl both)
-      (λ any.
-      let some = some-from (λ (f : Function). covers a f && covers b f) functions any in
-      let first = and_parts (covers a some.0) (covers b some.0) some.2 in
-      let is = home-found split some.0 some.1 (covers-holds a some.0 first.0) in
-      ap (λ (found : Option Function). has_both found a b) is ∙ some.2)
+      same_from_decides (has_both (slice_get functions n) a b) (are_together functions a b) (
+        λ both. both-any functions n a b (slice_get functions n) refl both,
+        λ any.
+            let some = some-from (λ (f : Function). covers a f && covers b f) functions any in
+            let first = and_parts (covers a some.0) (covers b some.0) some.2 in
+            let is = home-found split some.0 some.1 (covers-holds a some.0 first.0) in
+            ap (λ (found : Option Function). has_both found a b) is ∙ some.2,
+      ) (λ e. e, λ e. e)
 
   -- some function begins at the offset exactly where that of the number does
   pub entry-found : SplitsBelow (λ (f : Function). f.offset) functions a n
       → begins_at (slice_get functions n) a ≡ is_entry functions a
   entry-found split =
-      bools-same (begins_at (slice_get functions n) a) (is_entry functions a)
-      (λ begins. begins-any functions n a (slice_get functions n) refl begins)
-      (λ any.
-      let some = some-from (λ (f : Function). eqb f.offset a) functions any in
-      let f = some.0 in
-      let k : ℕ = some.1.0 in
-      let at : (get_or functions k f).offset ≡ a =
-      ap (λ (g : Function). g.offset) some.1.2 ∙ eqb-true f.offset a some.2 in
-      let late : n ≤ k =
-      ⊎_elim
-      (λ (low : k < n). absurd (omega (arith, split.below k f (omega arith) low, at)))
-      (λ (high : n ≤ k). high)
-      (cases_lt k n) in
-      let inside : n < length functions = omega (arith, late, some.1.1) in
-      let above : a ≤ (get_or functions n f).offset = split.above n f (omega arith) inside in
-      let below : (get_or functions n f).offset ≤ (get_or functions k f).offset =
-      starts_rise functions order n k f late some.1.1 in
-      let is = slice_get-get_or functions n f inside in
-      ap (λ (found : Option Function). begins_at found a) is
-      ∙ eq-eqb (get_or functions n f).offset a (omega (arith, above, below, at)))
+      same_from_decides (begins_at (slice_get functions n) a) (is_entry functions a) (
+        λ begins. begins-any functions n a (slice_get functions n) refl begins,
+        λ any.
+            let some = some-from (λ (f : Function). eqb f.offset a) functions any in
+            let f = some.0 in
+            let k : ℕ = some.1.0 in
+            let at : (get_or functions k f).offset ≡ a =
+            ap (λ (g : Function). g.offset) some.1.2 ∙ eqb-true f.offset a some.2 in
+            let late : n ≤ k =
+            ⊎_elim
+            (λ (low : k < n). absurd (omega (arith, split.below k f (omega arith) low, at)))
+            (λ (high : n ≤ k). high)
+            (cases_lt k n) in
+            let inside : n < length functions = omega (arith, late, some.1.1) in
+            let above : a ≤ (get_or functions n f).offset = split.above n f (omega arith) inside in
+            let below : (get_or functions n f).offset ≤ (get_or functions k f).offset =
+            starts_rise functions order n k f late some.1.1 in
+            let is = slice_get-get_or functions n f inside in
+            ap (λ (found : Option Function). begins_at found a) is
+            ∙ eq-eqb (get_or functions n f).offset a (omega (arith, above, below, at)),
+      ) (λ e. e, λ e. e)
