@@ -1,10 +1,9 @@
 -- Where functions lie: those of a module's records in bytes, from the start of its text, and those of a placed module in
 -- words, from its first.
-use Rattle.std.specs.Prelude.{◌≡◌, ℕ, ◌+◌, ◌<◌, ◌≤◌, List}
+use Rattle.std.specs.Prelude.{ℕ, ◌+◌, ◌<◌, ◌≤◌, List}
 use Rattle.std.specs.List.{Contains}
 use Rattle.cfi_aux.specs.declared.records.Function.{Function}
 use Rattle.cfi_aux.specs.declared.placed.PlacedFunction.{PlacedFunction}
-use Rattle.cfi_values.specs.Lists.{HasWith}
 
 -- where a function ends
 abbrev pub byte_end : Function → ℕ
@@ -17,10 +16,6 @@ Covers f offset = (f.offset ≤ offset) × (offset < byte_end f)
 -- some function has the offset
 abbrev pub IsCovered : List Function → (offset : ℕ) → Type 0
 IsCovered functions offset = (f : Function) × Contains functions f × Covers f offset
-
--- some function begins there
-abbrev pub BeginsFunction : List Function → (offset : ℕ) → Type 0
-BeginsFunction functions offset = HasWith (λ f. f.offset) functions offset
 
 -- the word after the last of a placed function
 abbrev pub end_of : PlacedFunction → ℕ

@@ -9,7 +9,8 @@ use Rattle.rv_insn.specs.declared.insn.Insn.{Insn}
 use Rattle.rv_insn.specs.declared.insn.Insn.TheVariants as insns
 use Rattle.rv_insn.specs.declared.insn.ImmOp.TheVariants as ops
 use Rattle.cfi_aux.specs.declared.records.Function.{Function}
-use Rattle.cfi_aux.specs.Extent.{byte_end, Covers, IsCovered, BeginsFunction}
+use Rattle.cfi_aux.specs.Extent.{byte_end, Covers, IsCovered}
+use Rattle.cfi_values.specs.Lists.{HasWith}
 use Rattle.cfi_items.specs.Words.{Words, insn_at, count_of}
 use Rattle.cfi_items.specs.Insns.{is_unlinked}
 use Rattle.cfi_values.specs.Some.{holds}
@@ -69,12 +70,12 @@ module _ (functions : List Function) (offset : ℕ) where
   pub covered-clear : IsCovered functions offset → is_covered functions offset ≡ true
   covered-clear c = from-some (covers offset) functions c.0 c.1 (covers-clear offset c.0 c.2)
 
-  pub entry-holds : is_entry functions offset ≡ true → BeginsFunction functions offset
+  pub entry-holds : is_entry functions offset ≡ true → HasWith (λ (f : Function). f.offset) functions offset
   entry-holds h =
       let some = some-from (λ (f : Function). eqb f.offset offset) functions h in
       (some.0, some.1, eqb-true some.0.offset offset some.2)
 
-  pub entry-clear : BeginsFunction functions offset → is_entry functions offset ≡ true
+  pub entry-clear : HasWith (λ (f : Function). f.offset) functions offset → is_entry functions offset ≡ true
   entry-clear b = from-some (λ (f : Function). eqb f.offset offset) functions b.0 b.1 (eq-eqb b.0.offset offset b.2)
 
 module _ (t : Words) (functions : List Function) (at offset : ℕ) where

@@ -5,7 +5,7 @@ use Rattle.elf_read.specs.declared.object.Symbol.{Symbol}
 use Rattle.rv_insn.specs.declared.insn.Insn.{Insn}
 use Rattle.rv_insn.specs.declared.insn.Insn.TheVariants as insns
 use Rattle.cfi_aux.specs.declared.records.Function.{Function}
-use Rattle.cfi_aux.specs.Extent.{BeginsFunction}
+use Rattle.cfi_values.specs.Lists.{HasWith}
 use Rattle.cfi_items.specs.declared.target.Aim.{Aim}
 use Rattle.cfi_items.specs.declared.target.Aim.TheVariants as aims
 use Rattle.cfi_items.specs.Words.{Words, insn_at}
@@ -47,7 +47,7 @@ module _ (t : Words) (functions : List Function) (at : ℕ) where
       → jumps_well t functions at unlinked aim ≡ true
   jump-clear unlinked (aims.Offset offset) good =
       ⊎_elim
-      (λ (entry : BeginsFunction functions offset).
+      (λ (entry : HasWith (λ (f : Function). f.offset) functions offset).
       or_left (is_entry functions offset) (unlinked && is_own_item t functions at offset)
       (entry-clear functions offset entry))
       (λ (own : (unlinked ≡ true) × IsOwnItem t functions at offset).

@@ -4,7 +4,7 @@ use Rattle.elf_read.specs.declared.object.Symbol.{Symbol}
 use Rattle.rv_insn.specs.declared.insn.Insn.{Insn}
 use Rattle.rv_insn.specs.declared.insn.Insn.TheVariants as insns
 use Rattle.cfi_aux.specs.declared.records.Function.{Function}
-use Rattle.cfi_aux.specs.Extent.{BeginsFunction}
+use Rattle.cfi_values.specs.Lists.{HasWith}
 use Rattle.cfi_items.specs.declared.target.Aim.{Aim}
 use Rattle.cfi_items.specs.declared.target.Aim.TheVariants as aims
 use Rattle.cfi_items.specs.Words.{Words, insn_at}
@@ -23,7 +23,7 @@ BranchMayLead t functions at aims.Astray = ⊥
 -- a jump leads to where a function begins, or without link to an item of its own function; or it calls a name
 abbrev pub JumpMayLead : Words → List Function → (at : ℕ) → (unlinked : Bool) → Aim → Type 0
 JumpMayLead t functions at unlinked (aims.Offset offset) =
-    BeginsFunction functions offset ⊎ ((unlinked ≡ true) × IsOwnItem t functions at offset)
+    HasWith (λ f. f.offset) functions offset ⊎ ((unlinked ≡ true) × IsOwnItem t functions at offset)
 JumpMayLead t functions at unlinked aims.Name = ⊤
 JumpMayLead t functions at unlinked aims.Astray = ⊥
 
