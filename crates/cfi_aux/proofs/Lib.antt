@@ -15,3 +15,4 @@ pub mod SoundSymbols
 pub mod SoundRelocs
 pub mod NothingLemmas
 pub mod SplitLemmas
+pub mod OverlapLemmas

@@ -1,7 +1,7 @@
 -- Where functions lie: those of a module's records in bytes, from the start of its text, and those of a placed module in
 -- words, from its first.
 use Rattle.std.specs.Prelude.{ℕ, ◌+◌, ◌<◌, ◌≤◌, List}
-use Rattle.std.specs.List.{Contains}
+use Rattle.std.specs.List.{Contains, AllPairs}
 use Rattle.cfi_aux.specs.declared.records.Function.{Function}
 use Rattle.cfi_aux.specs.declared.placed.PlacedFunction.{PlacedFunction}
 
@@ -24,3 +24,7 @@ end_of f = f.first + f.count
 -- the word is one of the function's
 abbrev pub LiesIn : PlacedFunction → (at : ℕ) → Type 0
 LiesIn f at = (f.first ≤ at) × (at < end_of f)
+
+-- items of a list in order: each ends before those after it begin, or there
+abbrev pub DoNotOverlap : {T : Type 0} → (start end : T → ℕ) → List T → Type 0
+DoNotOverlap start end xs = AllPairs (λ x y. end x ≤ start y) xs

@@ -1,5 +1,5 @@
 -- Functions in order, and what a search among them finds.
-use Rattle.std.proofs.Common.{◌≡◌, ℕ, zero, suc, ◌+◌, ◌-◌, ◌<◌, ◌≤◌, ◌∙◌, ◌&&◌, true, false, eqb, List, length, get_or, Option, Some, None, refl, ap, sym, subst, ⊎_elim, add-one, arith}
+use Rattle.std.proofs.Common.{◌≡◌, ℕ, suc, ◌+◌, ◌-◌, ◌<◌, ◌≤◌, ◌∙◌, ◌&&◌, true, false, eqb, List, length, get_or, Option, Some, None, refl, ap, ⊎_elim, add-one, arith}
 use Rattle.std.specs.List.{Contains, slice_get}
 use Rattle.std.specs.List.Sorted.{IsNonDecreasingBy}
 use Rattle.std.proofs.lemmas.Bool.{cases_lt, false≢true, and_parts, eqb-true, eq-eqb, ne_eqb}
@@ -9,6 +9,7 @@ use Rattle.elf_read.specs.Lists.{Each}
 use Rattle.cfi_aux.specs.declared.records.Function.{Function}
 use Rattle.cfi_aux.specs.Extent.{byte_end, Covers}
 use Rattle.cfi_aux.specs.Splits.{SplitsBelow, SplitsUpTo}
+use Rattle.cfi_aux.proofs.OverlapLemmas.{in_order_by_next, ends_rise as ends_rise_by, starts_rise as starts_rise_by}
 use Rattle.cfi_items.specs.Words.{Words}
 use Rattle.cfi_items.specs.Functions.{byte_end_in, byte_end_before, IsFormedBehind}
 use Rattle.cfi_items.specs.inner.Functions.{covers, are_together, is_entry}
@@ -35,43 +36,17 @@ module _ (t : Words) (functions : List Function) (formed : Each functions (IsFor
       ap (byte_end_before functions) (add-one k) ∙ end-before functions k ∙ ap byte_end_in here in
       omega (arith, (formed (k + 1) (get_or functions (k + 1) d) next).order, before)
 
-  later : (i more : ℕ) (d : Function) → i + more + 1 < length functions
-      → byte_end (get_or functions i d) ≤ (get_or functions (i + more + 1) d).offset
-  later i zero d within =
-      let same : i + 0 + 1 ≡ i + 1 = omega arith in
-      subst (λ (j : ℕ). byte_end (get_or functions i d) ≤ (get_or functions j d).offset) (sym same)
-      (next_after i d (omega (arith, within)))
-  later i (suc more) d within =
-      let same : i + suc more + 1 ≡ i + more + 1 + 1 = omega arith in
-      subst (λ (j : ℕ). byte_end (get_or functions i d) ≤ (get_or functions j d).offset) (sym same)
-      (omega (
-        arith,
-        later i more d (omega (arith, within)),
-        next_after (i + more + 1) d (omega (arith, within)),
-      ))
-
   pub in_order : AreApart functions
-  in_order = λ i j d less within.
-      let same : i + (j - i - 1) + 1 ≡ j = omega (arith, less) in
-      subst (λ (k : ℕ). byte_end (get_or functions i d) ≤ (get_or functions k d).offset) same
-      (later i (j - i - 1) d (omega (arith, less, within)))
+  in_order = in_order_by_next (λ (f : Function). f.offset) byte_end (λ f. omega arith) functions next_after
 
 -- ---- what rises
 
 module _ (functions : List Function) (order : AreApart functions) where
   pub ends_rise : IsNonDecreasingBy byte_end functions
-  ends_rise = λ i j d up within.
-      ⊎_elim (λ (less : i < j). omega (arith, order i j d less within))
-      (λ (more : j ≤ i).
-      let same : i ≡ j = omega arith in omega (arith, ap (λ (k : ℕ). byte_end (get_or functions k d)) same))
-      (cases_lt i j)
+  ends_rise = ends_rise_by (λ (f : Function). f.offset) byte_end (λ f. omega arith) functions order
 
   pub starts_rise : IsNonDecreasingBy (λ (f : Function). f.offset) functions
-  starts_rise = λ i j d up within.
-      ⊎_elim (λ (less : i < j). omega (arith, order i j d less within))
-      (λ (more : j ≤ i).
-      let same : i ≡ j = omega arith in omega (arith, ap (λ (k : ℕ). (get_or functions k d).offset) same))
-      (cases_lt i j)
+  starts_rise = starts_rise_by (λ (f : Function). f.offset) byte_end (λ f. omega arith) functions order
 
 -- ---- what is found
 

@@ -1,5 +1,5 @@
 -- Functions in order, and the one in which a word lies.
-use Rattle.std.proofs.Common.{◌≡◌, ◌⊎◌, ℕ, zero, suc, ◌+◌, ◌-◌, ◌*◌, ◌^◌, ◌<◌, ◌≤◌, List, length, get_or, Option, Some, refl, ap, sym, subst, ◌∙◌, ⊎_elim, add-one, arith}
+use Rattle.std.proofs.Common.{◌≡◌, ◌⊎◌, ℕ, ◌+◌, ◌-◌, ◌*◌, ◌^◌, ◌<◌, ◌≤◌, List, length, get_or, Option, Some, refl, ap, sym, subst, ◌∙◌, ⊎_elim, add-one, arith}
 use Rattle.std.specs.List.{Contains, slice_get}
 use Rattle.std.specs.List.Sorted.{IsNonDecreasingBy}
 use Rattle.std.proofs.lemmas.Bool.{cases_lt}
@@ -8,6 +8,7 @@ use Rattle.std.proofs.lemmas.List.Elements.{Contains-get_or}
 use Rattle.std.proofs.lemmas.Option.{slice_get-get_or, some_pair_parts}
 use Rattle.cfi_aux.specs.declared.placed.Placed.{Placed}
 use Rattle.cfi_aux.specs.declared.placed.PlacedFunction.{PlacedFunction}
+use Rattle.cfi_aux.proofs.OverlapLemmas.{in_order_by_next, ends_rise as ends_rise_by}
 use Rattle.cfi_unit.specs.declared.spot.Spot.{Spot}
 use Rattle.elf_read.specs.Lists.{Each}
 use Rattle.cfi_verify.specs.Functions.{end_in, end_before, IsIdle, FitsBehind}
@@ -39,26 +40,8 @@ module _ (m : Placed) (spots : List Spot) (fit : Each m.functions (FitsBehind m 
         end_before-next m.functions k (get_or m.functions k d) here,
       )
 
-  later : (i more : ℕ) (d : PlacedFunction) → i + more + 1 < length m.functions →
-      end_of (get_or m.functions i d) ≤ (get_or m.functions (i + more + 1) d).first
-  later i zero d within =
-      let same : i + 0 + 1 ≡ i + 1 = omega arith in
-      subst (λ (j : ℕ). end_of (get_or m.functions i d) ≤ (get_or m.functions j d).first) (sym same)
-      (next_after i d (omega (arith, within)))
-  later i (suc more) d within =
-      let same : i + suc more + 1 ≡ i + more + 1 + 1 = omega arith in
-      subst (λ (j : ℕ). end_of (get_or m.functions i d) ≤ (get_or m.functions j d).first) (sym same)
-      (omega (
-        arith,
-        later i more d (omega (arith, within)),
-        next_after (i + more + 1) d (omega (arith, within)),
-      ))
-
   pub in_order : AreFunctionsApart m.functions
-  in_order = λ i j d less within.
-      let same : i + (j - i - 1) + 1 ≡ j = omega (arith, less) in
-      subst (λ (k : ℕ). end_of (get_or m.functions i d) ≤ (get_or m.functions k d).first) same
-      (later i (j - i - 1) d (omega (arith, less, within)))
+  in_order = in_order_by_next (λ (f : PlacedFunction). f.first) end_of (λ f. omega arith) m.functions next_after
 
   pub in_range : 4 * length m.words < 2 ^ 32 → AreInRange m.functions
   in_range small = λ k d within.
@@ -66,11 +49,7 @@ module _ (m : Placed) (spots : List Spot) (fit : Each m.functions (FitsBehind m 
       omega (arith, fits.within, small)
 
 pub ends_rise : (functions : List PlacedFunction) → AreFunctionsApart functions → IsNonDecreasingBy end_of functions
-ends_rise functions order = λ i j d up within.
-    ⊎_elim (λ (less : i < j). omega (arith, order i j d less within))
-    (λ (more : j ≤ i).
-    let same : i ≡ j = omega arith in omega (arith, ap (λ (k : ℕ). end_of (get_or functions k d)) same))
-    (cases_lt i j)
+ends_rise functions order = ends_rise_by (λ (f : PlacedFunction). f.first) end_of (λ f. omega arith) functions order
 
 module _ (functions : List PlacedFunction) (at n : ℕ) (split : SplitsUpTo end_of functions at n) where
   -- a function in which the word lies is not before the number

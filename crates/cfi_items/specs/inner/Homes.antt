@@ -1,13 +1,12 @@
 -- Functions in order, and what a search among them finds. Offsets are in bytes.
-use Rattle.std.specs.Prelude.{ℕ, ◌<◌, ◌≤◌, Bool, false, ◌&&◌, ◌==◌, List, length, Option, Some, None}
-use Rattle.std.specs.List.{AllPairs, AllWithin}
+use Rattle.std.specs.Prelude.{ℕ, Bool, false, ◌&&◌, ◌==◌, List, Option, Some, None}
 use Rattle.cfi_aux.specs.declared.records.Function.{Function}
-use Rattle.cfi_aux.specs.Extent.{byte_end}
+use Rattle.cfi_aux.specs.Extent.{byte_end, DoNotOverlap}
 use Rattle.cfi_items.specs.inner.Functions.{covers}
 
 -- each function ends before those after it begin, or there
 abbrev pub AreApart : List Function → Type 0
-AreApart functions = AllPairs (λ f g. byte_end f ≤ g.offset) functions
+AreApart functions = DoNotOverlap (λ f. f.offset) byte_end functions
 
 -- there is a function, and it has both offsets
 abbrev pub has_both : Option Function → (a b : ℕ) → Bool

@@ -8,7 +8,7 @@ use Rattle.cfi_unit.specs.declared.spot.Spot.{Spot}
 use Rattle.cfi_verify.specs.declared.checks.CheckSpot.{CheckSpot}
 use Rattle.elf_read.specs.Lists.{Each, IsFirstBreak, own_number}
 use Rattle.cfi_verify.specs.Functions.{FitsBehind, IsIdleBehind}
-use Rattle.cfi_aux.specs.Extent.{end_of, LiesIn}
+use Rattle.cfi_aux.specs.Extent.{end_of, LiesIn, DoNotOverlap}
 use Rattle.cfi_verify.specs.Target.{entries_of}
 use Rattle.cfi_verify.specs.Branches.{KindFits}
 use Rattle.cfi_verify.specs.Faults.{check_place}
@@ -26,7 +26,7 @@ AreSmallChecks checks = All (λ c. 4 * c.at < 2 ^ 32) checks
 
 -- each function ends before those after it begin
 abbrev pub AreFunctionsApart : List PlacedFunction → Type 0
-AreFunctionsApart functions = AllPairs (λ f g. end_of f ≤ g.first) functions
+AreFunctionsApart functions = DoNotOverlap (λ f. f.first) end_of functions
 
 -- the ends of functions are 32-bit numbers
 abbrev pub AreInRange : List PlacedFunction → Type 0
