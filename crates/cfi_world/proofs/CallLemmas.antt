@@ -11,11 +11,14 @@ use Rattle.cfi_word.specs.declared.map.TheConstants.{FIRST_BASE}
 use Rattle.cfi_model.specs.Closed.{IsReadAs, IsStartOf, IsStartIn, StandsIn, StaysInside, IsClosed, unit_address}
 use Rattle.cfi_model.specs.Tables.{KeepsCode}
 use Rattle.cfi_world.specs.Retry.{call_code, more_code, call_image, more_image}
-use Rattle.cfi_world.proofs.ClassLemmas.{AreMost, repeated_most, repeated_zero, repeated_is}
+use Rattle.cfi_world.proofs.ClassLemmas.{repeated_most, repeated_zero, repeated_is}
+
+-- no element is above the limit
+abbrev AreAtMost : (most : ℕ) → List ℕ → Type 0
+AreAtMost most xs = (k : ℕ) → slice_index xs k ≤ most
 
 -- elements of lists, one after the other
-front_most : (xs ys : List ℕ) (most : ℕ) → ((k : ℕ) → slice_index xs k ≤ most) → ((k : ℕ) → slice_index ys k ≤ most)
-    → (k : ℕ) → slice_index (xs ++ ys) k ≤ most
+front_most : (xs ys : List ℕ) (most : ℕ) → AreAtMost most xs → AreAtMost most ys → AreAtMost most (xs ++ ys)
 front_most [] ys most one other k = other k
 front_most (x ∷ xs) ys most one other zero = one 0
 front_most (x ∷ xs) ys most one other (suc k) = front_most xs ys most (λ j. one (suc j)) other k
@@ -89,11 +92,11 @@ module _ (later : List CodeUnit) (slots : ℕ) (two : 2 ≤ slots) where
   inside rest address unit (number, there, at) =
       subst (λ a. StaysInside (body later) slots a unit) (sym at) (leads rest number unit there)
 
-one_more : (x : ℕ) (xs : List ℕ) → x ≤ FIELD_MAX → AreMost xs → AreMost (x ∷ xs)
+one_more : (x : ℕ) (xs : List ℕ) → x ≤ FIELD_MAX → AreAtMost FIELD_MAX xs → AreAtMost FIELD_MAX (x ∷ xs)
 one_more x xs fits rest zero = fits
 one_more x xs fits rest (suc k) = rest k
 
-zeros_more : (n : ℕ) (xs : List ℕ) → AreMost xs → AreMost (replicate n 0 ++ xs)
+zeros_more : (n : ℕ) (xs : List ℕ) → AreAtMost FIELD_MAX xs → AreAtMost FIELD_MAX (replicate n 0 ++ xs)
 zeros_more n xs rest = front_most (replicate n 0) xs FIELD_MAX (λ k. repeated_most n k FIELD_MAX 0 (omega arith)) rest
 
 -- the classes of targets: the place after the call, the function, and later ones
@@ -101,7 +104,7 @@ module _ (later : List CodeUnit) (slots : ℕ) (two : 2 ≤ slots) (classes : Li
   abbrev targets_of : List ℕ
   targets_of = replicate 32 0 ++ (2 ∷ (replicate 4 0 ++ (1 ∷ classes)))
 
-  targets_most : AreMost classes → AreMost targets_of
+  targets_most : AreAtMost FIELD_MAX classes → AreAtMost FIELD_MAX targets_of
   targets_most rest =
       zeros_more 32 (2 ∷ (replicate 4 0 ++ (1 ∷ classes)))
       (one_more 2 (replicate 4 0 ++ (1 ∷ classes)) (omega arith)
@@ -129,7 +132,7 @@ module _ (later : List CodeUnit) (slots : ℕ) (two : 2 ≤ slots) (classes : Li
       middle rest k past.0 past.1 past.2
 
 -- the classes of slots: the last ones have no branch
-slots_most : (n : ℕ) → AreMost (replicate n FIELD_MAX)
+slots_most : (n : ℕ) → AreAtMost FIELD_MAX (replicate n FIELD_MAX)
 slots_most n k = repeated_most n k FIELD_MAX FIELD_MAX (omega arith)
 
 slots_least : (n k : ℕ) → k < n → slice_index (replicate n FIELD_MAX) k ≢ 0

@@ -1,6 +1,5 @@
--- Elements of lists that are filled up with one number, and classes within the limit.
-use Rattle.std.proofs.Common.{◌≡◌, ℕ, zero, suc, ◌<◌, ◌≤◌, List, replicate, slice_index, refl, arith}
-use Rattle.cfi_word.specs.declared.ids.TheConstants.{FIELD_MAX}
+-- Elements of lists that are filled up with one number.
+use Rattle.std.proofs.Common.{◌≡◌, ℕ, zero, suc, ◌<◌, ◌≤◌, replicate, slice_index, refl, arith}
 
 -- an element of a list of one number
 pub repeated_most : (n k most x : ℕ) → x ≤ most → slice_index (replicate n x) k ≤ most
@@ -15,7 +14,3 @@ pub repeated_is : (n k x : ℕ) → k < n → slice_index (replicate n x) k ≡ 
 repeated_is zero k x within = absurd (omega (arith, within))
 repeated_is (suc n) zero x within = refl
 repeated_is (suc n) (suc k) x within = repeated_is n k x (omega (arith, within))
-
--- classes are within the limit
-abbrev pub AreMost : (classes : List ℕ) → Type 0
-AreMost classes = (k : ℕ) → slice_index classes k ≤ FIELD_MAX
