@@ -26,6 +26,7 @@ use Rattle.rv_asm.specs.Relocs.{reloc_by, relocs_of}
 use Rattle.rv_asm.specs.Words.{word_bytes, low_word, words_of}
 use Rattle.rv_asm.specs.Made.{listed, bytes_of, text_in, data_in, relocs_in, nodes_in, begun, opened, ended, functions_in, value_in, values_in, kind_set}
 use Rattle.rv_asm.specs.Fault.{is_bare, Found, is_misplaced, Totals, relocs_fit, words_fit, data_fits, statement_fits}
+use Rattle.rv_asm.proofs.PlacedLemmas.{spot_by}
 
 -- a draft by its parts
 abbrev pub draft_by : (text bytes : List ℕ) (text_relocs data_relocs : List Reloc) (nodes : List Node)
@@ -139,71 +140,72 @@ module _ (names : List Entry) (kinds : List NodeKind) (t d p : ℕ) (dr : Draft)
   abbrev file : Bool → File
   file records = record { names = names; kinds = kinds; records = records }
 
-  abbrev spot : Area → Spot
-  spot area = record { area = area; text_end = t; data_end = d; pairs = p }
-
   -- an instruction or a word of text
   code : (records : Bool) (s : Statement) →
-      grown (file records) (spot areas.Text) dr (Some s)
-      ≡ text_grown dr (words_of names t s) (relocs_of names (spot areas.Text) s) →
-      with_code (file records) (spot areas.Text) dr s
-      ≡ (if words_fit (spot areas.Text) (totals_by dr count) (length (relocs_of names (spot areas.Text) s))
-      (words_of names t s)
-      then Some (grown (file records) (spot areas.Text) dr (Some s)) else None)
+      grown (file records) (spot_by areas.Text t d p) dr (Some s)
+      ≡ text_grown dr (words_of names t s) (relocs_of names (spot_by areas.Text t d p) s) →
+      with_code (file records) (spot_by areas.Text t d p) dr s
+      ≡ (if words_fit (spot_by areas.Text t d p) (totals_by dr count)
+      (length (relocs_of names (spot_by areas.Text t d p) s)) (words_of names t s)
+      then Some (grown (file records) (spot_by areas.Text t d p) dr (Some s)) else None)
   code records s same =
-      rw same (words-step (spot areas.Text) dr count (relocs_of names (spot areas.Text) s) (words_of names t s))
+      rw same (words-step (spot_by areas.Text t d p) dr count (relocs_of names (spot_by areas.Text t d p) s)
+      (words_of names t s))
 
   -- data
   datum : (records : Bool) (s : Statement) (word : ℕ) (added : List Reloc) →
-      grown (file records) (spot areas.Data) dr (Some s) ≡ data_grown dr (word_bytes word) added →
-      with_data (spot areas.Data) dr word added
-      ≡ (if data_fits (spot areas.Data) 4
+      grown (file records) (spot_by areas.Data t d p) dr (Some s) ≡ data_grown dr (word_bytes word) added →
+      with_data (spot_by areas.Data t d p) dr word added
+      ≡ (if data_fits (spot_by areas.Data t d p) 4
       && relocs_fit (totals_by dr count) (length added)
-      then Some (grown (file records) (spot areas.Data) dr (Some s)) else None)
+      then Some (grown (file records) (spot_by areas.Data t d p) dr (Some s)) else None)
   datum records s word added same = rw same refl
 
   zeros : (records : Bool) (s : Statement) (n : ℕ) →
-      grown (file records) (spot areas.Data) dr (Some s) ≡ record dr { data_bytes = dr.data_bytes ++ replicate n 0 } →
-      with_zeros (spot areas.Data) dr (pos n)
-      ≡ (if data_fits (spot areas.Data) n
-      then Some (grown (file records) (spot areas.Data) dr (Some s)) else None)
+      grown (file records) (spot_by areas.Data t d p) dr (Some s)
+      ≡ record dr { data_bytes = dr.data_bytes ++ replicate n 0 } →
+      with_zeros (spot_by areas.Data t d p) dr (pos n)
+      ≡ (if data_fits (spot_by areas.Data t d p) n
+      then Some (grown (file records) (spot_by areas.Data t d p) dr (Some s)) else None)
   zeros records s n same = rw same refl
 
   -- the records
   node : (records : Bool) (area : Area) (s : Statement) (o : Option Node) →
-      grown (file records) (spot area) dr (Some s) ≡ record dr { nodes = dr.nodes ++ listed o } →
+      grown (file records) (spot_by area t d p) dr (Some s) ≡ record dr { nodes = dr.nodes ++ listed o } →
       with_node dr o
       ≡ (if is_some o && nat_lt (length dr.nodes) MAX_NODES
-      then Some (grown (file records) (spot area) dr (Some s)) else None)
-  node records area s o same = rw same (node-step (spot area) dr o)
+      then Some (grown (file records) (spot_by area t d p) dr (Some s)) else None)
+  node records area s o same = rw same (node-step (spot_by area t d p) dr o)
 
   func : (records : Bool) (s : Statement) (name : List ℕ) (taken : Bool) (o : Option ℕ) → is_none o ≡ false →
-      grown (file records) (spot areas.Text) dr (Some s) ≡ record dr {
+      grown (file records) (spot_by areas.Text t d p) dr (Some s) ≡ record dr {
         function = option_map (begun t name taken) o;
       } →
       (o >>= λ ty. if nat_lt (length dr.functions) MAX_FUNCTIONS && nat_le (length name) MAX_NAME
       then Some (record dr { function = Some (begun t name taken ty) }) else None)
       ≡ (if nat_lt (length dr.functions) MAX_FUNCTIONS && nat_le (length name) MAX_NAME
-      then Some (grown (file records) (spot areas.Text) dr (Some s)) else None)
+      then Some (grown (file records) (spot_by areas.Text t d p) dr (Some s)) else None)
   func records s name taken o is same = rw same (func-step dr t name taken o is)
 
   close : (records : Bool) (area : Area) → is_bare t dr.function ≡ false →
-      grown (file records) (spot area) dr (Some statements.EndFunc)
+      grown (file records) (spot_by area t d p) dr (Some statements.EndFunc)
       ≡ record dr { functions = dr.functions ++ listed (option_map (ended t) dr.function); function = None } →
-      Some (closed (spot area) dr dr.function) ≡ Some (grown (file records) (spot area) dr (Some statements.EndFunc))
-  close records area is same = ap (λ (x : Draft). Some x) (close-step (spot area) dr dr.function is ∙ sym same)
+      Some (closed (spot_by area t d p) dr dr.function)
+      ≡ Some (grown (file records) (spot_by area t d p) dr (Some statements.EndFunc))
+  close records area is same = ap (λ (x : Draft). Some x) (close-step (spot_by area t d p) dr dr.function is ∙ sym same)
 
   kind : (records : Bool) (area : Area) (s : Statement) (make : ℕ → Kind) (o : Option ℕ) → is_none o ≡ false →
-      grown (file records) (spot area) dr (Some s) ≡ record dr { kind = option_map make o } →
-      with_kind dr (option_map make o) ≡ Some (grown (file records) (spot area) dr (Some s))
+      grown (file records) (spot_by area t d p) dr (Some s) ≡ record dr { kind = option_map make o } →
+      with_kind dr (option_map make o) ≡ Some (grown (file records) (spot_by area t d p) dr (Some s))
   kind records area s make o is same = kind-step dr make o is ∙ ap (λ (x : Draft). Some x) (sym same)
 
   switch : (records : Bool) (area : Area) (s : Statement) (names_of : List (List ℕ)) →
-      grown (file records) (spot area) dr (Some s) ≡ record dr {
+      grown (file records) (spot_by area t d p) dr (Some s) ≡ record dr {
         kind = Some (branches.Switch (values_in names names_of));
       } →
       with_switch dr (values_in names names_of)
-      ≡ (if nat_lt (length names_of) (2 ^ 32) then Some (grown (file records) (spot area) dr (Some s)) else None)
+      ≡ (if nat_lt (length names_of) (2 ^ 32)
+      then Some (grown (file records) (spot_by area t d p) dr (Some s)) else None)
   switch records area s names_of same = rw (same, length-map names_of (value_in names)) refl
 
   -- an indirect jump
@@ -211,17 +213,18 @@ module _ (names : List Entry) (kinds : List NodeKind) (t d p : ℕ) (dr : Draft)
   jumped = record dr { branches = dr.branches ++ unwrap_or dr.kind branches.Return ∷ []; kind = None }
 
   jump_on : (v : Bool) (s : Statement) →
-      grown (file true) (spot areas.Text) dr (Some s)
-      ≡ text_grown jumped (words_of names t s) (relocs_of names (spot areas.Text) s) →
-      ((if v then Some jumped else None) >>= λ next. with_code (file true) (spot areas.Text) next s)
-      ≡ (if v && words_fit (spot areas.Text) (totals_by dr count) (length (relocs_of names (spot areas.Text) s))
-      (words_of names t s)
-      then Some (grown (file true) (spot areas.Text) dr (Some s)) else None)
+      grown (file true) (spot_by areas.Text t d p) dr (Some s)
+      ≡ text_grown jumped (words_of names t s) (relocs_of names (spot_by areas.Text t d p) s) →
+      ((if v then Some jumped else None) >>= λ next. with_code (file true) (spot_by areas.Text t d p) next s)
+      ≡ (if v && words_fit (spot_by areas.Text t d p) (totals_by dr count)
+      (length (relocs_of names (spot_by areas.Text t d p) s)) (words_of names t s)
+      then Some (grown (file true) (spot_by areas.Text t d p) dr (Some s)) else None)
   jump_on true s same =
-      rw same (words-step (spot areas.Text) jumped count (relocs_of names (spot areas.Text) s) (words_of names t s))
+      rw same (words-step (spot_by areas.Text t d p) jumped count (relocs_of names (spot_by areas.Text t d p) s)
+      (words_of names t s))
   jump_on false s same = refl
 
-  pub grows : (records : Bool) (area : Area) (s : Statement) → Grows (file records) (spot area) dr jump count s
+  pub grows : (records : Bool) (area : Area) (s : Statement) → Grows (file records) (spot_by area t d p) dr jump count s
   grows records areas.Text statements.Blank is = ap (λ (x : Draft). Some x) (simp append-nil)
   grows records areas.Data statements.Blank is = ap (λ (x : Draft). Some x) (simp append-nil)
   grows records areas.Text statements.Text is = ap (λ (x : Draft). Some x) (simp append-nil)

@@ -22,7 +22,7 @@ use Rattle.rv_asm.specs.Placed.{area_after, size_in, end_after, spot_after}
 use Rattle.rv_asm.specs.Relocs.{relocs_of}
 use Rattle.rv_asm.specs.Spot.{text_size}
 use Rattle.rv_asm.specs.Words.{imm_field, low_field, high_field, offset_field, offset_of, size_of, words_of}
-use Rattle.rv_asm.proofs.PlacedLemmas.{at_line, end-push}
+use Rattle.rv_asm.proofs.PlacedLemmas.{spot_by, at_line, end-push}
 
 -- words, if there are any, have this size
 abbrev pub IsSize : ℕ → Option Words → Type 0
@@ -74,10 +74,7 @@ code-within file spot totals s fits =
     (words_of file.names spot.text_end s) (words-size file.names spot.text_end s) fits
 
 module _ (file : File) (t d p : ℕ) (totals : Totals) (near : t ≤ 4 * MAX_WORDS) (close : d ≤ MAX_DATA) where
-  abbrev spot : Area → Spot
-  spot area = record { area = area; text_end = t; data_end = d; pairs = p }
-
-  text-within : (area : Area) (s : Statement) → statement_fits file (spot area) totals s ≡ true →
+  text-within : (area : Area) (s : Statement) → statement_fits file (spot_by area t d p) totals s ≡ true →
       t + size_in areas.Text area (Some s) ≤ 4 * MAX_WORDS
   text-within areas.Data s fits = omega (arith, near)
   text-within areas.Text statements.Blank fits = omega (arith, near)
@@ -85,7 +82,7 @@ module _ (file : File) (t d p : ℕ) (totals : Totals) (near : t ≤ 4 * MAX_WOR
   text-within areas.Text statements.Data fits = omega (arith, near)
   text-within areas.Text (statements.Globl name) fits = omega (arith, near)
   text-within areas.Text (statements.Word datum) fits =
-      code-within file (spot areas.Text) totals (statements.Word datum) fits
+      code-within file (spot_by areas.Text t d p) totals (statements.Word datum) fits
   text-within areas.Text (statements.Zero number) fits = omega (arith, near)
   text-within areas.Text (statements.Node kind fields) fits = omega (arith, near)
   text-within areas.Text (statements.Func name node taken) fits = omega (arith, near)
@@ -95,17 +92,18 @@ module _ (file : File) (t d p : ℕ) (totals : Totals) (near : t ≤ 4 * MAX_WOR
   text-within areas.Text statements.KindReturn fits = omega (arith, near)
   text-within areas.Text (statements.KindSwitch places) fits = omega (arith, near)
   text-within areas.Text (statements.Jalr rd rs1 imm) fits =
-      code-within file (spot areas.Text) totals (statements.Jalr rd rs1 imm)
+      code-within file (spot_by areas.Text t d p) totals (statements.Jalr rd rs1 imm)
       (and_parts (jump_fits file.records totals) _ fits).1
   text-within areas.Text statements.Ret fits =
-      code-within file (spot areas.Text) totals statements.Ret (and_parts (jump_fits file.records totals) _ fits).1
-  text-within areas.Text s fits = code-within file (spot areas.Text) totals s fits
+      code-within file (spot_by areas.Text t d p) totals statements.Ret
+      (and_parts (jump_fits file.records totals) _ fits).1
+  text-within areas.Text s fits = code-within file (spot_by areas.Text t d p) totals s fits
 
-  data-within : (area : Area) (s : Statement) → statement_fits file (spot area) totals s ≡ true →
+  data-within : (area : Area) (s : Statement) → statement_fits file (spot_by area t d p) totals s ≡ true →
       d + size_in areas.Data area (Some s) ≤ MAX_DATA
   data-within areas.Text s fits = omega (arith, close)
   data-within areas.Data (statements.Word datum) fits =
-      leb-true _ _ (and_parts (data_fits (spot areas.Data) 4) _ fits).0
+      leb-true _ _ (and_parts (data_fits (spot_by areas.Data t d p) 4) _ fits).0
   data-within areas.Data (statements.Zero (pos n)) fits = leb-true _ _ fits
   data-within areas.Data (statements.Zero (negsuc n)) fits = absurd (cc)
   data-within areas.Data s fits = omega (arith, close)
@@ -121,11 +119,11 @@ module _ (file : File) (t d p : ℕ) (totals : Totals) (near : t ≤ 4 * MAX_WOR
   fits_on number false false false false false none = absurd (cc)
 
   line-within : (area : Area) (found : Found) (number : ℕ) (label : Option (List ℕ)) (o : Option Statement) →
-      found.spot ≡ spot area → line_fault file found totals number label o ≡ None →
+      found.spot ≡ spot_by area t d p → line_fault file found totals number label o ≡ None →
       (t + size_in areas.Text area o ≤ 4 * MAX_WORDS) × (d + size_in areas.Data area o ≤ MAX_DATA)
   line-within area found number label None is none = absurd (cc)
   line-within area found number label (Some s) is none =
-      let fits : statement_fits file (spot area) totals s ≡ true =
+      let fits : statement_fits file (spot_by area t d p) totals s ≡ true =
       ap (λ (x : Spot). statement_fits file x totals s) (sym is)
       ∙ fits_on number (is_misplaced file found s) (is_unknown file.names s) (is_twice file.names number label s)
       (nat_lt MAX_SYMBOLS totals.names) (statement_fits file found.spot totals s) none in

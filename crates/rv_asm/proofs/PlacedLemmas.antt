@@ -95,13 +95,17 @@ capped spot = record {
   pairs = at_most spot.pairs;
 }
 
-spot-eq : {a b : Area} {t u d e p q : ℕ} → a ≡ b → t ≡ u → d ≡ e → p ≡ q →
-    ◌≡◌ {A = Spot} (record { area = a; text_end = t; data_end = d; pairs = p })
-    (record { area = b; text_end = u; data_end = e; pairs = q })
-spot-eq area text data_end pairs = rw (area, text, data_end, pairs) refl
+-- a spot by its parts
+abbrev pub spot_by : Area → (text_end data_end pairs : ℕ) → Spot
+spot_by area text_end data_end pairs = record {
+  area = area;
+  text_end = text_end;
+  data_end = data_end;
+  pairs = pairs;
+}
 
-abbrev spot_by : Area → (t d p : ℕ) → Spot
-spot_by a t d p = record { area = a; text_end = t; data_end = d; pairs = p }
+spot-eq : {a b : Area} {t u d e p q : ℕ} → a ≡ b → t ≡ u → d ≡ e → p ≡ q → spot_by a t d p ≡ spot_by b u e q
+spot-eq area text data_end pairs = rw (area, text, data_end, pairs) refl
 
 stays : (n : ℕ) → at_most (n + 0) ≡ at_most n
 stays n = omega arith
