@@ -17,7 +17,7 @@ use Rattle.cfi_graph.specs.Shaped.{slot_of}
 use Rattle.cfi_graph.specs.Calls.{HasKind}
 use Rattle.cfi_graph.specs.Facts.{type_node, function_node, listed_fact, IsBranchFact, IsUnitFact, IsFunctionFact, Adds}
 use Rattle.cfi_graph.proofs.AddsLemmas.{adds_two, adds_list, adds_as}
-use Rattle.cfi_graph.proofs.FactLemmas.{link, link_is}
+use Rattle.cfi_flow.proofs.RowLemmas.{make_link, link_is}
 
 -- ---- a switch
 
@@ -26,7 +26,7 @@ module _ (classes : List (List ℕ)) (number : ℕ) (m : Placed) (at slot : ℕ)
       → Contains (map (listed_fact m.base slot) entries) fact
   listed_back (facts.Listed l) (from, (entry, has, to)) =
       subst (λ f. Contains (map (listed_fact m.base slot) entries) f)
-      (ap facts.Listed (link_is l slot (4 * m.base + entry) from to))
+      (ap facts.Listed (sym (link_is l slot (4 * m.base + entry) from to)))
       (member_map (listed_fact m.base slot) entries entry has)
   listed_back (facts.Arrow l) told = absurd told
   listed_back (facts.Site l) told = absurd told
@@ -96,12 +96,12 @@ module _ (classes : List (List ℕ)) (number : ℕ) (m : Placed) (at slot : ℕ)
 
 module _ (classes : List (List ℕ)) (number : ℕ) (m : Placed) (f : PlacedFunction) where
   two_of_function : (fact : Fact) → IsFunctionFact classes number m f fact
-      → (facts.Arrow (link (type_node classes number f.ty) (function_node m f)) ≡ fact)
-      ⊎ (facts.Entry (link (type_node classes number f.ty) (entry_of m f)) ≡ fact)
+      → (facts.Arrow (make_link (type_node classes number f.ty) (function_node m f)) ≡ fact)
+      ⊎ (facts.Entry (make_link (type_node classes number f.ty) (entry_of m f)) ≡ fact)
   two_of_function (facts.Arrow l) told =
-      inl (ap facts.Arrow (link_is l (type_node classes number f.ty) (function_node m f) told.1 told.2))
+      inl (ap facts.Arrow (sym (link_is l (type_node classes number f.ty) (function_node m f) told.1 told.2)))
   two_of_function (facts.Entry l) told =
-      inr (ap facts.Entry (link_is l (type_node classes number f.ty) (entry_of m f) told.1 told.2))
+      inr (ap facts.Entry (sym (link_is l (type_node classes number f.ty) (entry_of m f) told.1 told.2)))
   two_of_function (facts.Site l) told = absurd told
   two_of_function (facts.Return l) told = absurd told
   two_of_function (facts.Pointer l) told = absurd told
@@ -109,13 +109,16 @@ module _ (classes : List (List ℕ)) (number : ℕ) (m : Placed) (f : PlacedFunc
 
   pub function_adds : (from to : ℕ) (old : List Fact) → f.taken ≡ true → from ≡ type_node classes number f.ty
       → to ≡ entry_of m f
-      → Adds old ((old ++ facts.Arrow (link from (function_node m f)) ∷ []) ++ facts.Entry (link from to) ∷ [])
+      → Adds old
+      ((old ++ facts.Arrow (make_link from (function_node m f)) ∷ []) ++ facts.Entry (make_link from to) ∷ [])
       (IsFunctionFact classes number m f)
   function_adds from to old taken is after =
-      subst (λ k. Adds old ((old ++ facts.Arrow (link k (function_node m f)) ∷ []) ++ facts.Entry (link k to) ∷ [])
+      subst (λ k. Adds old
+      ((old ++ facts.Arrow (make_link k (function_node m f)) ∷ []) ++ facts.Entry (make_link k to) ∷ [])
       (IsFunctionFact classes number m f)) (sym is)
-      (subst (λ t. Adds old ((old ++ facts.Arrow (link (type_node classes number f.ty) (function_node m f)) ∷ [])
-      ++ facts.Entry (link (type_node classes number f.ty) t) ∷ []) (IsFunctionFact classes number m f)) (sym after)
-      (adds_two old (facts.Arrow (link (type_node classes number f.ty) (function_node m f)))
-      (facts.Entry (link (type_node classes number f.ty) (entry_of m f)))
+      (subst (λ t. Adds old ((old ++ facts.Arrow (make_link (type_node classes number f.ty) (function_node m f)) ∷ [])
+      ++ facts.Entry (make_link (type_node classes number f.ty) t) ∷ [])
+      (IsFunctionFact classes number m f)) (sym after)
+      (adds_two old (facts.Arrow (make_link (type_node classes number f.ty) (function_node m f)))
+      (facts.Entry (make_link (type_node classes number f.ty) (entry_of m f)))
       (IsFunctionFact classes number m f) (taken, refl, refl) (taken, refl, refl) two_of_function))

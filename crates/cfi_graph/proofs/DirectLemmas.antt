@@ -21,7 +21,7 @@ use Rattle.cfi_aux.specs.Extent.{LiesIn}
 use Rattle.cfi_graph.specs.Direct.{IsPointee, IsReturnTarget, GoesTo, DirectEdge}
 use Rattle.cfi_graph.specs.Facts.{type_node, function_node, LeadsToWord, LiesInNode, IsUnitFact, IsTold}
 use Rattle.cfi_graph.specs.Reading.{tables_of}
-use Rattle.cfi_graph.proofs.FactLemmas.{link}
+use Rattle.cfi_flow.proofs.RowLemmas.{make_link}
 use Rattle.cfi_graph.proofs.BoundLemmas.{at_contains, inside, branch_names}
 use Rattle.cfi_graph.proofs.NodeLemmas.{StandsAt, same_types, shaped_at, node_low}
 use Rattle.cfi_graph.proofs.ReadLemmas.{TellsFlow}
@@ -81,7 +81,7 @@ module _ (ms : List Placed) (classes : List (List ℕ)) (apart : AreApart ms)
   tail_step i m f m_at j n g n_at at lies (units.Jump false off) stands call to rest =
       step (function_node m f) (function_node n g) to
       ((tells.arrows (function_node m f) (function_node n g)).1 (by_unit i m m_at.is at (units.Jump false off) stands
-      (facts.Arrow (link (function_node m f) (function_node n g)))
+      (facts.Arrow (make_link (function_node m f) (function_node n g)))
       (lies_node m f at m_at.has lies, leads_word m at off j n g n_at call))) rest
   tail_step i m f m_at j n g n_at at lies (units.Check linked rs1 imm slot) stands (type, has, may) to rest =
       let within = branch_names m (shaped_at ms apart i m m_at.is) slot (kinds.Tail type) has in
@@ -89,7 +89,8 @@ module _ (ms : List Placed) (classes : List (List ℕ)) (apart : AreApart ms)
       let node = type_node classes i type in
       step (function_node m f) node to
       ((tells.arrows (function_node m f) node).1 (by_unit i m m_at.is at (units.Check linked rs1 imm slot) stands
-      (facts.Arrow (link (function_node m f) node)) (kinds.Tail type, has, (lies_node m f at m_at.has lies, refl))))
+      (facts.Arrow (make_link (function_node m f) node))
+      (kinds.Tail type, has, (lies_node m f at m_at.has lies, refl))))
       (step node (function_node n g) to
       (subst (λ a. Links flow.arrows.items a (function_node n g)) (sym same) (type_arrow j n g n_at may.taken)) rest)
   tail_step i m f m_at j n g n_at at lies (units.Jump true off) stands call to rest = absurd call
@@ -123,7 +124,7 @@ module _ (ms : List Placed) (classes : List (List ℕ)) (apart : AreApart ms)
     function_node n g,
     (
       (tells.sites (function_node n g) address).1 (by_unit i m is at (units.Jump true off) stands
-          (facts.Site (link (function_node n g) address)) (leads_word m at off j n g n_at call, after)),
+          (facts.Site (make_link (function_node n g) address)) (leads_word m at off j n g n_at call, after)),
       rest,
     ),
   )
@@ -134,7 +135,7 @@ module _ (ms : List Placed) (classes : List (List ℕ)) (apart : AreApart ms)
         node,
         (
           (tells.sites node address).1 (by_unit i m is at (units.Check linked rs1 imm slot) stands
-              (facts.Site (link node address)) (kinds.Call type, has, (refl, after))),
+              (facts.Site (make_link node address)) (kinds.Call type, has, (refl, after))),
           step node (function_node n g) to
               (subst (λ a. Links flow.arrows.items a (function_node n g)) (sym same) (type_arrow j n g n_at may.taken))
               rest,
@@ -150,7 +151,7 @@ module _ (ms : List Placed) (classes : List (List ℕ)) (apart : AreApart ms)
   -- ---- edges
 
   pointee_goes : (i : ℕ) (m : Placed) → slice_get ms i ≡ Some m → (type slot address : ℕ) → type < length m.types
-      → IsTold ms classes (facts.Pointer (link (type_node classes i type) slot)) → IsPointee ms m type address
+      → IsTold ms classes (facts.Pointer (make_link (type_node classes i type) slot)) → IsPointee ms m type address
       → Goes flow slot address
   pointee_goes i m is type slot address within told p =
       let n_at = number_of ms p.owner p.function p.is in
@@ -177,8 +178,8 @@ module _ (ms : List Placed) (classes : List (List ℕ)) (apart : AreApart ms)
       let to = function_node m r.returning in
       let path = tail_path r.steps entered.0 r.owner r.entered entered.1 m r.returning r.reached in
       let call = r.returns in
-      let site = call_site call.placed.0 call.caller (at_contains ms call.caller call.placed) entered.0 r.owner r.entered
-      entered.1 call.at call.unit call.stands call.call address call.after to path in
+      let site = call_site call.placed.0 call.caller (at_contains ms call.caller call.placed) entered.0 r.owner
+      r.entered entered.1 call.at call.unit call.stands call.call address call.after to path in
       inr (
         site.0,
         inr (record {
@@ -186,7 +187,7 @@ module _ (ms : List Placed) (classes : List (List ℕ)) (apart : AreApart ms)
           returning = to;
           reached = site.1.1;
           back = (tells.returns to slot).1 (by_unit i m is at (units.Check linked rs1 imm slot) stands
-              (facts.Return (link to slot)) (kinds.Return, has, (lies_node m r.returning at r.has r.lies, refl)));
+              (facts.Return (make_link to slot)) (kinds.Return, has, (lies_node m r.returning at r.has r.lies, refl)));
         }),
       )
 
@@ -197,17 +198,17 @@ module _ (ms : List Placed) (classes : List (List ℕ)) (apart : AreApart ms)
       pointee_goes i m is type slot address
       (branch_names m (shaped_at ms apart i m is) slot (kinds.Call type) has)
       (by_unit i m is at (units.Check linked rs1 imm slot) stands
-      (facts.Pointer (link (type_node classes i type) slot)) (kinds.Call type, has, (refl, refl))) goes
+      (facts.Pointer (make_link (type_node classes i type) slot)) (kinds.Call type, has, (refl, refl))) goes
   kind_goes i m is at linked rs1 imm slot stands (kinds.Tail type) has address goes =
       pointee_goes i m is type slot address
       (branch_names m (shaped_at ms apart i m is) slot (kinds.Tail type) has)
       (by_unit i m is at (units.Check linked rs1 imm slot) stands
-      (facts.Pointer (link (type_node classes i type) slot)) (kinds.Tail type, has, (refl, refl))) goes
+      (facts.Pointer (make_link (type_node classes i type) slot)) (kinds.Tail type, has, (refl, refl))) goes
   kind_goes i m is at linked rs1 imm slot stands kinds.Return has address goes =
       return_goes i m is at linked rs1 imm slot stands has address goes
   kind_goes i m is at linked rs1 imm slot stands (kinds.Switch entries) has address goes =
       inl ((tells.listed slot address).1 (by_unit i m is at (units.Check linked rs1 imm slot) stands
-      (facts.Listed (link slot address)) (kinds.Switch entries, has, (refl, goes))))
+      (facts.Listed (make_link slot address)) (kinds.Switch entries, has, (refl, goes))))
 
   -- where there is a direct edge control goes
   pub direct_goes : (slot address : ℕ) → DirectEdge ms slot address → Goes flow slot address

@@ -1,7 +1,7 @@
 -- What jumps, branches and functions tell, as the facts that are added for them.
 use Rattle.std.proofs.Common.{◌≡◌, ◌⊎◌, ◌∙◌, ℕ, ◌+◌, Bool, false, ℤ, List, [], ◌∷◌, ◌++◌, refl, sym, ap, subst, inl, inr}
 use Rattle.std.specs.List.{AllPairs}
-use Rattle.cfi_flow.specs.declared.links.Link.{Link}
+use Rattle.cfi_flow.proofs.RowLemmas.{make_link, link_is}
 use Rattle.cfi_aux.specs.declared.placed.Placed.{Placed}
 use Rattle.cfi_aux.specs.declared.records.Kind.TheVariants as kinds
 use Rattle.cfi_graph.specs.declared.fact.Fact.{Fact}
@@ -10,13 +10,6 @@ use Rattle.cfi_graph.specs.Shaped.{FunctionPrecedes}
 use Rattle.cfi_graph.specs.Facts.{type_node, LeadsToWord, IsFirst, LiesInNode, IsJumpFact, IsBranchFact, Adds}
 use Rattle.cfi_graph.proofs.AddsLemmas.{adds_one, adds_two}
 use Rattle.cfi_graph.proofs.PlaceLemmas.{word_one, first_one}
-
-abbrev pub link : (a b : ℕ) → Link
-link a b = record { from = a; to = b }
-
--- a link of these ends
-pub link_is : (l : Link) (a b : ℕ) → l.from ≡ a → l.to ≡ b → link a b ≡ l
-link_is l a b from to = ap (λ x. link x b) (sym from) ∙ ap (λ y. link l.from y) (sym to)
 
 -- ---- jumps
 
@@ -46,9 +39,9 @@ module _ (m : Placed) (at : ℕ) (no_first : (first : ℕ) → IsFirst m.functio
 
   nowhere_tail : (classes : List (List ℕ)) (number slot node : ℕ) (fact : Fact)
       → IsBranchFact classes number m at slot (kinds.Tail node) fact
-      → facts.Pointer (link (type_node classes number node) slot) ≡ fact
+      → facts.Pointer (make_link (type_node classes number node) slot) ≡ fact
   nowhere_tail classes number slot node (facts.Pointer l) told =
-      ap facts.Pointer (link_is l (type_node classes number node) slot told.0 told.1)
+      ap facts.Pointer (sym (link_is l (type_node classes number node) slot told.0 told.1))
   nowhere_tail classes number slot node (facts.Arrow l) told = absurd (no_first told.0.0 told.0.1)
   nowhere_tail classes number slot node (facts.Site l) told = absurd told
   nowhere_tail classes number slot node (facts.Return l) told = absurd told
@@ -57,11 +50,12 @@ module _ (m : Placed) (at : ℕ) (no_first : (first : ℕ) → IsFirst m.functio
 
   pub tail_adds_one : (classes : List (List ℕ)) (number slot node to : ℕ) (old : List Fact)
       → to ≡ type_node classes number node
-      → Adds old (old ++ facts.Pointer (link to slot) ∷ []) (IsBranchFact classes number m at slot (kinds.Tail node))
+      → Adds old (old ++ facts.Pointer (make_link to slot) ∷ [])
+      (IsBranchFact classes number m at slot (kinds.Tail node))
   tail_adds_one classes number slot node to old is =
-      subst (λ t. Adds old (old ++ facts.Pointer (link t slot) ∷ [])
+      subst (λ t. Adds old (old ++ facts.Pointer (make_link t slot) ∷ [])
       (IsBranchFact classes number m at slot (kinds.Tail node))) (sym is)
-      (adds_one old (facts.Pointer (link (type_node classes number node) slot))
+      (adds_one old (facts.Pointer (make_link (type_node classes number node) slot))
       (IsBranchFact classes number m at slot (kinds.Tail node)) (refl, refl)
       (nowhere_tail classes number slot node))
 
@@ -76,10 +70,10 @@ module _ (m : Placed) (order : AllPairs FunctionPrecedes m.functions) (at first 
       e ∙ ap (λ k. m.base + k) (first_one m.functions order at one first is is_first)
 
   one_arrow : (off : ℤ) (word : ℕ) → LeadsToWord (m.base + at) off word → (fact : Fact)
-      → IsJumpFact m at false off fact → facts.Arrow (link (m.base + first) word) ≡ fact
+      → IsJumpFact m at false off fact → facts.Arrow (make_link (m.base + first) word) ≡ fact
   one_arrow off word leads (facts.Arrow l) told =
-      ap facts.Arrow (link_is l (m.base + first) word (same_node l.from told.0)
-      (word_one (m.base + at) off l.to word told.1 leads))
+      ap facts.Arrow (sym (link_is l (m.base + first) word (same_node l.from told.0)
+      (word_one (m.base + at) off l.to word told.1 leads)))
   one_arrow off word leads (facts.Site l) told = absurd told
   one_arrow off word leads (facts.Return l) told = absurd told
   one_arrow off word leads (facts.Pointer l) told = absurd told
@@ -88,16 +82,16 @@ module _ (m : Placed) (order : AllPairs FunctionPrecedes m.functions) (at first 
 
   pub arrow_adds : (linked : Bool) (off : ℤ) (word : ℕ) (old : List Fact) → linked ≡ false
       → LeadsToWord (m.base + at) off word
-      → Adds old (old ++ facts.Arrow (link (m.base + first) word) ∷ []) (IsJumpFact m at linked off)
+      → Adds old (old ++ facts.Arrow (make_link (m.base + first) word) ∷ []) (IsJumpFact m at linked off)
   arrow_adds linked off word old is leads =
-      subst (λ l. Adds old (old ++ facts.Arrow (link (m.base + first) word) ∷ []) (IsJumpFact m at l off)) (sym is)
-      (adds_one old (facts.Arrow (link (m.base + first) word)) (IsJumpFact m at false off) (lies, leads)
+      subst (λ l. Adds old (old ++ facts.Arrow (make_link (m.base + first) word) ∷ []) (IsJumpFact m at l off)) (sym is)
+      (adds_one old (facts.Arrow (make_link (m.base + first) word)) (IsJumpFact m at false off) (lies, leads)
       (one_arrow off word leads))
 
   one_return : (classes : List (List ℕ)) (number slot : ℕ) (fact : Fact)
-      → IsBranchFact classes number m at slot kinds.Return fact → facts.Return (link (m.base + first) slot) ≡ fact
+      → IsBranchFact classes number m at slot kinds.Return fact → facts.Return (make_link (m.base + first) slot) ≡ fact
   one_return classes number slot (facts.Return l) told =
-      ap facts.Return (link_is l (m.base + first) slot (same_node l.from told.0) told.1)
+      ap facts.Return (sym (link_is l (m.base + first) slot (same_node l.from told.0) told.1))
   one_return classes number slot (facts.Arrow l) told = absurd told
   one_return classes number slot (facts.Site l) told = absurd told
   one_return classes number slot (facts.Pointer l) told = absurd told
@@ -105,20 +99,21 @@ module _ (m : Placed) (order : AllPairs FunctionPrecedes m.functions) (at first 
   one_return classes number slot (facts.Listed l) told = absurd told
 
   pub return_adds : (classes : List (List ℕ)) (number slot : ℕ) (old : List Fact)
-      → Adds old (old ++ facts.Return (link (m.base + first) slot) ∷ [])
+      → Adds old (old ++ facts.Return (make_link (m.base + first) slot) ∷ [])
       (IsBranchFact classes number m at slot kinds.Return)
   return_adds classes number slot old =
-      adds_one old (facts.Return (link (m.base + first) slot)) (IsBranchFact classes number m at slot kinds.Return)
+      adds_one old (facts.Return (make_link (m.base + first) slot)) (IsBranchFact classes number m at slot kinds.Return)
       (lies, refl) (one_return classes number slot)
 
   two_of_tail : (classes : List (List ℕ)) (number slot node : ℕ) (fact : Fact)
       → IsBranchFact classes number m at slot (kinds.Tail node) fact
-      → (facts.Pointer (link (type_node classes number node) slot) ≡ fact)
-      ⊎ (facts.Arrow (link (m.base + first) (type_node classes number node)) ≡ fact)
+      → (facts.Pointer (make_link (type_node classes number node) slot) ≡ fact)
+      ⊎ (facts.Arrow (make_link (m.base + first) (type_node classes number node)) ≡ fact)
   two_of_tail classes number slot node (facts.Pointer l) told =
-      inl (ap facts.Pointer (link_is l (type_node classes number node) slot told.0 told.1))
+      inl (ap facts.Pointer (sym (link_is l (type_node classes number node) slot told.0 told.1)))
   two_of_tail classes number slot node (facts.Arrow l) told =
-      inr (ap facts.Arrow (link_is l (m.base + first) (type_node classes number node) (same_node l.from told.0) told.1))
+      inr (ap facts.Arrow (sym (link_is l (m.base + first) (type_node classes number node)
+      (same_node l.from told.0) told.1)))
   two_of_tail classes number slot node (facts.Site l) told = absurd told
   two_of_tail classes number slot node (facts.Return l) told = absurd told
   two_of_tail classes number slot node (facts.Entry l) told = absurd told
@@ -126,12 +121,13 @@ module _ (m : Placed) (order : AllPairs FunctionPrecedes m.functions) (at first 
 
   pub tail_adds_two : (classes : List (List ℕ)) (number slot node to : ℕ) (old : List Fact)
       → to ≡ type_node classes number node
-      → Adds old ((old ++ facts.Pointer (link to slot) ∷ []) ++ facts.Arrow (link (m.base + first) to) ∷ [])
+      → Adds old ((old ++ facts.Pointer (make_link to slot) ∷ []) ++ facts.Arrow (make_link (m.base + first) to) ∷ [])
       (IsBranchFact classes number m at slot (kinds.Tail node))
   tail_adds_two classes number slot node to old is =
-      subst (λ t. Adds old ((old ++ facts.Pointer (link t slot) ∷ []) ++ facts.Arrow (link (m.base + first) t) ∷ [])
+      subst (λ t. Adds old
+      ((old ++ facts.Pointer (make_link t slot) ∷ []) ++ facts.Arrow (make_link (m.base + first) t) ∷ [])
       (IsBranchFact classes number m at slot (kinds.Tail node))) (sym is)
-      (adds_two old (facts.Pointer (link (type_node classes number node) slot))
-      (facts.Arrow (link (m.base + first) (type_node classes number node)))
+      (adds_two old (facts.Pointer (make_link (type_node classes number node) slot))
+      (facts.Arrow (make_link (m.base + first) (type_node classes number node)))
       (IsBranchFact classes number m at slot (kinds.Tail node)) (refl, refl) (lies, refl)
       (two_of_tail classes number slot node))

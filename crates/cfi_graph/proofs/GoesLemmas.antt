@@ -17,7 +17,7 @@ use Rattle.cfi_graph.specs.Calls.{HasKind, IsFunction, MayPoint, TailCalls, IsRe
 use Rattle.cfi_aux.specs.Extent.{LiesIn}
 use Rattle.cfi_graph.specs.Facts.{type_node, function_node, LeadsToWord, LiesInNode, IsJumpFact, IsBranchFact, IsTold}
 use Rattle.cfi_graph.specs.Reading.{tables_of}
-use Rattle.cfi_graph.proofs.FactLemmas.{link}
+use Rattle.cfi_flow.proofs.RowLemmas.{make_link}
 use Rattle.cfi_graph.proofs.BoundLemmas.{contains_at, inside, branch_names}
 use Rattle.cfi_graph.proofs.NodeLemmas.{StandsAt, same_types, shaped_at, node_low, same_numbers, same_functions}
 use Rattle.cfi_graph.proofs.ReadLemmas.{TellsFlow, unit_cases}
@@ -171,15 +171,16 @@ module _ (ms : List Placed) (classes : List (List ℕ)) (apart : AreApart ms)
 
     jump_arrow : (number : ℕ) (o : Placed) → slice_get ms number ≡ Some o → (at : ℕ) (linked : Bool) (off : ℤ)
         → Stands o at (units.Jump linked off) → (node next : ℕ)
-        → IsJumpFact o at linked off (facts.Arrow (link node next)) → IsEntered ms classes m f next
+        → IsJumpFact o at linked off (facts.Arrow (make_link node next)) → IsEntered ms classes m f next
         → IsEntered ms classes m f node
     jump_arrow number o is at true off stands node next told e = absurd told
     jump_arrow number o is at false off stands node next told e =
         jump_step number o is at off stands node next told.0 told.1 e
 
-    check_arrow : (number : ℕ) (o : Placed) → slice_get ms number ≡ Some o → (at : ℕ) (linked : Bool) (rs1 : ℕ) (imm : ℤ)
-        (slot : ℕ) → Stands o at (units.Check linked rs1 imm slot) → (kind : Kind) → HasKind o slot kind
-        → (node next : ℕ) → IsBranchFact classes number o at slot kind (facts.Arrow (link node next))
+    check_arrow : (number : ℕ) (o : Placed) → slice_get ms number ≡ Some o
+        → (at : ℕ) (linked : Bool) (rs1 : ℕ) (imm : ℤ) (slot : ℕ) → Stands o at (units.Check linked rs1 imm slot)
+        → (kind : Kind) → HasKind o slot kind
+        → (node next : ℕ) → IsBranchFact classes number o at slot kind (facts.Arrow (make_link node next))
         → IsEntered ms classes m f next → IsEntered ms classes m f node
     check_arrow number o is at linked rs1 imm slot stands (kinds.Tail type) has node next told e =
         tail_step number o is at linked rs1 imm slot stands type has node next told.0 told.1 e
@@ -187,16 +188,17 @@ module _ (ms : List Placed) (classes : List (List ℕ)) (apart : AreApart ms)
     check_arrow number o is at linked rs1 imm slot stands kinds.Return has node next told e = absurd told
     check_arrow number o is at linked rs1 imm slot stands (kinds.Switch entries) has node next told e = absurd told
 
-    arrow_step : (node next : ℕ) → IsTold ms classes (facts.Arrow (link node next)) → IsEntered ms classes m f next
+    arrow_step : (node next : ℕ) → IsTold ms classes (facts.Arrow (make_link node next)) → IsEntered ms classes m f next
         → IsEntered ms classes m f node
     arrow_step node next told e =
         elim told.tells [
-          | inl unit ↦ elim (unit_cases classes told.number told.owner (facts.Arrow (link node next)) unit) [
+          | inl unit ↦ elim (unit_cases classes told.number told.owner (facts.Arrow (make_link node next)) unit) [
             | inl check ↦
                 check_arrow told.number told.owner told.is check.at check.linked check.rs1 check.imm check.slot
                 check.stands check.kind check.has node next check.tells e
             | inr jump ↦
-                jump_arrow told.number told.owner told.is jump.at jump.linked jump.off jump.stands node next jump.tells e
+                jump_arrow told.number told.owner told.is jump.at jump.linked jump.off jump.stands node next
+                jump.tells e
           ]
           | inr function ↦
               let at : StandsAt ms told.number told.owner function.function =

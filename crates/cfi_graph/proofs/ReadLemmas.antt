@@ -16,7 +16,7 @@ use Rattle.cfi_graph.specs.Code.{Stands}
 use Rattle.cfi_graph.specs.Calls.{HasKind}
 use Rattle.cfi_graph.specs.Facts.{IsJumpFact, IsBranchFact, IsUnitFact, UnitTells, IsTold, AreFacts}
 use Rattle.cfi_graph.specs.inner.Flows.{arrow_in, site_in, return_in, pointer_in, entry_in, listed_in, IsFlowOf}
-use Rattle.cfi_graph.proofs.FactLemmas.{link}
+use Rattle.cfi_flow.proofs.RowLemmas.{make_link}
 
 -- ---- members of what a function picks
 
@@ -107,7 +107,7 @@ listed_only (facts.Entry k) l is = absurd (none-some l is)
 
 -- the links of the list are those that the modules tell so
 abbrev pub Tell : (ms : List Placed) → (classes : List (List ℕ)) → (Link → Fact) → List Link → Type 0
-Tell ms classes make links = (a b : ℕ) → Links links a b ↔ IsTold ms classes (make (link a b))
+Tell ms classes make links = (a b : ℕ) → Links links a b ↔ IsTold ms classes (make (make_link a b))
 
 -- a flow that says what the modules tell
 pub record TellsFlow (ms : List Placed) (classes : List (List ℕ)) (flow : Flow) : Type 0 where
@@ -124,11 +124,13 @@ module _ (ms : List Placed) (classes : List (List ℕ)) (list : List Fact) (are 
       → ((fact : Fact) (l : Link) → pick fact ≡ Some l → make l ≡ fact) → Tell ms classes make links
   told_by make pick links is gives only a b = (
     λ has.
-        let found = from_picked pick list (link a b) (subst (λ ls. Contains ls (link a b)) is has) in
-        subst (IsTold ms classes) (sym (only found.0 (link a b) found.2)) (are.sound found.0 found.1),
+        let link = make_link a b in
+        let found = from_picked pick list link (subst (λ ls. Contains ls link) is has) in
+        subst (IsTold ms classes) (sym (only found.0 link found.2)) (are.sound found.0 found.1),
     λ told.
-        subst (λ ls. Contains ls (link a b)) (sym is)
-        (member_picked pick list (make (link a b)) (link a b) (are.whole (make (link a b)) told) (gives (link a b))),
+        let link = make_link a b in
+        subst (λ ls. Contains ls link) (sym is)
+        (member_picked pick list (make link) link (are.whole (make link) told) (gives link)),
   )
 
   pub tells_flow : (nodes : ℕ) (flow : Flow) → IsFlowOf list nodes flow → TellsFlow ms classes flow

@@ -17,7 +17,7 @@ use Rattle.cfi_graph.specs.Calls.{HasKind, ReturnsTo}
 use Rattle.cfi_graph.specs.Direct.{DirectEdge}
 use Rattle.cfi_graph.specs.Facts.{IsJumpFact, IsBranchFact, IsTold}
 use Rattle.cfi_graph.specs.Reading.{tables_of}
-use Rattle.cfi_graph.proofs.FactLemmas.{link}
+use Rattle.cfi_flow.proofs.RowLemmas.{make_link}
 use Rattle.cfi_graph.proofs.BoundLemmas.{contains_at, branch_names}
 use Rattle.cfi_graph.proofs.NodeLemmas.{shaped_at}
 use Rattle.cfi_graph.proofs.ReadLemmas.{TellsFlow, unit_cases}
@@ -28,7 +28,7 @@ module _ (ms : List Placed) (classes : List (List ℕ)) (apart : AreApart ms)
   module _ (m : Placed) (f : PlacedFunction) where
     site_jump : (caller : Placed) → Contains ms caller → (at : ℕ) (linked : Bool) (off : ℤ)
         → Stands caller at (units.Jump linked off) → (node address : ℕ)
-        → IsJumpFact caller at linked off (facts.Site (link node address)) → (e : IsEntered ms classes m f node)
+        → IsJumpFact caller at linked off (facts.Site (make_link node address)) → (e : IsEntered ms classes m f node)
         → ReturnsTo ms e.owner e.entered address
     site_jump caller placed at false off stands node address told e = absurd told
     site_jump caller placed at true off stands node address told e =
@@ -49,9 +49,10 @@ module _ (ms : List Placed) (classes : List (List ℕ)) (apart : AreApart ms)
               absurd (omega (arith, low, high))
         ]
 
-    site_check : (number : ℕ) (caller : Placed) → slice_get ms number ≡ Some caller → (at : ℕ) (linked : Bool) (rs1 : ℕ)
-        (imm : ℤ) (own : ℕ) → Stands caller at (units.Check linked rs1 imm own) → (kind : Kind) → HasKind caller own kind
-        → (node address : ℕ) → IsBranchFact classes number caller at own kind (facts.Site (link node address))
+    site_check : (number : ℕ) (caller : Placed) → slice_get ms number ≡ Some caller
+        → (at : ℕ) (linked : Bool) (rs1 : ℕ) (imm : ℤ) (own : ℕ)
+        → Stands caller at (units.Check linked rs1 imm own) → (kind : Kind) → HasKind caller own kind
+        → (node address : ℕ) → IsBranchFact classes number caller at own kind (facts.Site (make_link node address))
         → (e : IsEntered ms classes m f node) → ReturnsTo ms e.owner e.entered address
     site_check number caller is at linked rs1 imm own stands (kinds.Call type) has node address told e =
         elim e.enters [
@@ -78,11 +79,11 @@ module _ (ms : List Placed) (classes : List (List ℕ)) (apart : AreApart ms)
     site_check number caller is at linked rs1 imm own stands (kinds.Switch entries) has node address told e =
         absurd told
 
-    site_returns : (node address : ℕ) → IsTold ms classes (facts.Site (link node address))
+    site_returns : (node address : ℕ) → IsTold ms classes (facts.Site (make_link node address))
         → (e : IsEntered ms classes m f node) → ReturnsTo ms e.owner e.entered address
     site_returns node address told e =
         elim told.tells [
-          | inl unit ↦ elim (unit_cases classes told.number told.owner (facts.Site (link node address)) unit) [
+          | inl unit ↦ elim (unit_cases classes told.number told.owner (facts.Site (make_link node address)) unit) [
             | inl check ↦
                 site_check told.number told.owner told.is check.at check.linked check.rs1 check.imm check.slot
                 check.stands check.kind check.has node address check.tells e
@@ -96,7 +97,8 @@ module _ (ms : List Placed) (classes : List (List ℕ)) (apart : AreApart ms)
   return_edge : (flow : Flow) → TellsFlow ms classes flow → (number : ℕ) (m : Placed) → slice_get ms number ≡ Some m
       → (at : ℕ) (linked : Bool) (rs1 : ℕ) (imm : ℤ) (own : ℕ) → Stands m at (units.Check linked rs1 imm own)
       → (kind : Kind) → HasKind m own kind → (node slot address : ℕ) → (r : ReturnsAt flow node slot address)
-      → IsBranchFact classes number m at own kind (facts.Return (link r.returning slot)) → DirectEdge ms slot address
+      → IsBranchFact classes number m at own kind (facts.Return (make_link r.returning slot))
+      → DirectEdge ms slot address
   return_edge flow tells number m is at linked rs1 imm own stands kinds.Return has node slot address r told =
       let there = lies_there m at r.returning told.0 in
       let f = there.function in
@@ -133,7 +135,7 @@ module _ (ms : List Placed) (classes : List (List ℕ)) (apart : AreApart ms)
       absurd told
 
   no_return_jump : (m : Placed) (at : ℕ) (linked : Bool) (off : ℤ) (node slot : ℕ)
-      → IsJumpFact m at linked off (facts.Return (link node slot)) → ⊥
+      → IsJumpFact m at linked off (facts.Return (make_link node slot)) → ⊥
   no_return_jump m at true off node slot told = told
   no_return_jump m at false off node slot told = told
 
@@ -143,7 +145,7 @@ module _ (ms : List Placed) (classes : List (List ℕ)) (apart : AreApart ms)
   returned_edge flow tells node slot address r =
       let told = (tells.returns r.returning slot).0 r.back in
       elim told.tells [
-        | inl unit ↦ elim (unit_cases classes told.number told.owner (facts.Return (link r.returning slot)) unit) [
+        | inl unit ↦ elim (unit_cases classes told.number told.owner (facts.Return (make_link r.returning slot)) unit) [
           | inl check ↦
               return_edge flow tells told.number told.owner told.is check.at check.linked check.rs1 check.imm check.slot
               check.stands check.kind check.has node slot address r check.tells

@@ -17,7 +17,7 @@ use Rattle.cfi_graph.specs.Calls.{HasKind}
 use Rattle.cfi_graph.specs.Direct.{IsPointee, DirectEdge}
 use Rattle.cfi_graph.specs.Facts.{type_node, IsJumpFact, IsBranchFact, IsTold}
 use Rattle.cfi_graph.specs.Reading.{tables_of}
-use Rattle.cfi_graph.proofs.FactLemmas.{link}
+use Rattle.cfi_flow.proofs.RowLemmas.{make_link}
 use Rattle.cfi_graph.proofs.BoundLemmas.{contains_at, branch_names}
 use Rattle.cfi_graph.proofs.NodeLemmas.{StandsAt, shaped_at}
 use Rattle.cfi_graph.proofs.ReadLemmas.{TellsFlow, unit_cases}
@@ -40,7 +40,7 @@ module _ (ms : List Placed) (classes : List (List ℕ)) (apart : AreApart ms)
 
   listed_check : (m : Placed) → Contains ms m → (number at : ℕ) (linked : Bool) (rs1 : ℕ) (imm : ℤ) (own : ℕ)
       → Stands m at (units.Check linked rs1 imm own) → (kind : Kind) → HasKind m own kind → (slot address : ℕ)
-      → IsBranchFact classes number m at own kind (facts.Listed (link slot address)) → DirectEdge ms slot address
+      → IsBranchFact classes number m at own kind (facts.Listed (make_link slot address)) → DirectEdge ms slot address
   listed_check m placed number at linked rs1 imm own stands (kinds.Switch entries) has slot address told = record {
     owner = m;
     placed = placed;
@@ -58,15 +58,15 @@ module _ (ms : List Placed) (classes : List (List ℕ)) (apart : AreApart ms)
   listed_check m placed number at linked rs1 imm own stands kinds.Return has slot address told = absurd told
 
   no_listed_jump : (m : Placed) (at : ℕ) (linked : Bool) (off : ℤ) (slot address : ℕ)
-      → IsJumpFact m at linked off (facts.Listed (link slot address)) → ⊥
+      → IsJumpFact m at linked off (facts.Listed (make_link slot address)) → ⊥
   no_listed_jump m at true off slot address told = told
   no_listed_jump m at false off slot address told = told
 
-  listed_edge : (slot address : ℕ) → IsTold ms classes (facts.Listed (link slot address))
+  listed_edge : (slot address : ℕ) → IsTold ms classes (facts.Listed (make_link slot address))
       → DirectEdge ms slot address
   listed_edge slot address told =
       elim told.tells [
-        | inl unit ↦ elim (unit_cases classes told.number told.owner (facts.Listed (link slot address)) unit) [
+        | inl unit ↦ elim (unit_cases classes told.number told.owner (facts.Listed (make_link slot address)) unit) [
           | inl check ↦
               listed_check told.owner (contains_at ms told.number told.owner told.is) told.number check.at check.linked
               check.rs1 check.imm check.slot check.stands check.kind check.has slot address check.tells
@@ -78,22 +78,22 @@ module _ (ms : List Placed) (classes : List (List ℕ)) (apart : AreApart ms)
   -- ---- pointers
 
   entry_jump : (m : Placed) (at : ℕ) (linked : Bool) (off : ℤ) (node address : ℕ)
-      → IsJumpFact m at linked off (facts.Entry (link node address)) → ⊥
+      → IsJumpFact m at linked off (facts.Entry (make_link node address)) → ⊥
   entry_jump m at true off node address told = told
   entry_jump m at false off node address told = told
 
   entry_check : (number : ℕ) (m : Placed) (at slot : ℕ) (kind : Kind) (node address : ℕ)
-      → IsBranchFact classes number m at slot kind (facts.Entry (link node address)) → ⊥
+      → IsBranchFact classes number m at slot kind (facts.Entry (make_link node address)) → ⊥
   entry_check number m at slot (kinds.Call type) node address told = told
   entry_check number m at slot (kinds.Tail type) node address told = told
   entry_check number m at slot kinds.Return node address told = told
   entry_check number m at slot (kinds.Switch entries) node address told = told
 
-  entry_told : (node address : ℕ) → IsTold ms classes (facts.Entry (link node address))
+  entry_told : (node address : ℕ) → IsTold ms classes (facts.Entry (make_link node address))
       → IsEntry ms classes node address
   entry_told node address told =
       elim told.tells [
-        | inl unit ↦ elim (unit_cases classes told.number told.owner (facts.Entry (link node address)) unit) [
+        | inl unit ↦ elim (unit_cases classes told.number told.owner (facts.Entry (make_link node address)) unit) [
           | inl check ↦
               absurd (entry_check told.number told.owner check.at check.slot check.kind node address check.tells)
           | inr jump ↦ absurd (entry_jump told.owner jump.at jump.linked jump.off node address jump.tells)
@@ -123,9 +123,10 @@ module _ (ms : List Placed) (classes : List (List ℕ)) (apart : AreApart ms)
     entry = e.entry;
   }
 
-  pointer_check : (number : ℕ) (m : Placed) → slice_get ms number ≡ Some m → (at : ℕ) (linked : Bool) (rs1 : ℕ) (imm : ℤ)
-      (own : ℕ) → Stands m at (units.Check linked rs1 imm own) → (kind : Kind) → HasKind m own kind
-      → (node slot address : ℕ) → IsBranchFact classes number m at own kind (facts.Pointer (link node slot))
+  pointer_check : (number : ℕ) (m : Placed) → slice_get ms number ≡ Some m
+      → (at : ℕ) (linked : Bool) (rs1 : ℕ) (imm : ℤ) (own : ℕ) → Stands m at (units.Check linked rs1 imm own)
+      → (kind : Kind) → HasKind m own kind
+      → (node slot address : ℕ) → IsBranchFact classes number m at own kind (facts.Pointer (make_link node slot))
       → IsEntry ms classes node address → DirectEdge ms slot address
   pointer_check number m is at linked rs1 imm own stands (kinds.Call type) has node slot address told e = record {
     owner = m;
@@ -158,15 +159,15 @@ module _ (ms : List Placed) (classes : List (List ℕ)) (apart : AreApart ms)
       absurd told
 
   pointer_jump : (m : Placed) (at : ℕ) (linked : Bool) (off : ℤ) (node slot : ℕ)
-      → IsJumpFact m at linked off (facts.Pointer (link node slot)) → ⊥
+      → IsJumpFact m at linked off (facts.Pointer (make_link node slot)) → ⊥
   pointer_jump m at true off node slot told = told
   pointer_jump m at false off node slot told = told
 
-  pointer_edge : (node slot address : ℕ) → IsTold ms classes (facts.Pointer (link node slot))
-      → IsTold ms classes (facts.Entry (link node address)) → DirectEdge ms slot address
+  pointer_edge : (node slot address : ℕ) → IsTold ms classes (facts.Pointer (make_link node slot))
+      → IsTold ms classes (facts.Entry (make_link node address)) → DirectEdge ms slot address
   pointer_edge node slot address told entry =
       elim told.tells [
-        | inl unit ↦ elim (unit_cases classes told.number told.owner (facts.Pointer (link node slot)) unit) [
+        | inl unit ↦ elim (unit_cases classes told.number told.owner (facts.Pointer (make_link node slot)) unit) [
           | inl check ↦
               pointer_check told.number told.owner told.is check.at check.linked check.rs1 check.imm check.slot
               check.stands check.kind check.has node slot address check.tells (entry_told node address entry)
