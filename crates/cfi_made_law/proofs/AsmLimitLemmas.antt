@@ -23,7 +23,7 @@ use Rattle.rv_asm.specs.Relocs.{relocs_of}
 use Rattle.rv_asm.specs.Spot.{text_size}
 use Rattle.rv_asm.specs.Symbols.{names_in}
 use Rattle.rv_asm.specs.Words.{words_of}
-use Rattle.rv_asm.proofs.PlacedLemmas.{at_line, made-push, end-push}
+use Rattle.rv_asm.proofs.PlacedLemmas.{spot_by, at_line, made-push, end-push}
 use Rattle.rv_asm.proofs.LimitLemmas.{IsSize, words-size, AreWithin, within-push}
 
 -- ---- lines without a fault, one after the other
@@ -142,17 +142,14 @@ code-relocs file spot totals s fits =
     words-relocs spot totals (length (relocs_of file.names spot s)) (words_of file.names spot.text_end s) fits
 
 module _ (file : File) (t d p : ℕ) (totals : Totals) (near : totals.relocs ≤ MAX_RELOCS) where
-  abbrev spot : Area → Spot
-  spot area = record { area = area; text_end = t; data_end = d; pairs = p }
-
-  text-relocs : (s : Statement) → statement_fits file (spot areas.Text) totals s ≡ true
-      → totals.relocs + length (relocs_of file.names (spot areas.Text) s) ≤ MAX_RELOCS
+  text-relocs : (s : Statement) → statement_fits file (spot_by areas.Text t d p) totals s ≡ true
+      → totals.relocs + length (relocs_of file.names (spot_by areas.Text t d p) s) ≤ MAX_RELOCS
   text-relocs statements.Blank fits = omega (arith, near)
   text-relocs statements.Text fits = omega (arith, near)
   text-relocs statements.Data fits = omega (arith, near)
   text-relocs (statements.Globl name) fits = omega (arith, near)
   text-relocs (statements.Word datum) fits =
-      code-relocs file (spot areas.Text) totals (statements.Word datum) fits
+      code-relocs file (spot_by areas.Text t d p) totals (statements.Word datum) fits
   text-relocs (statements.Zero number) fits = omega (arith, near)
   text-relocs (statements.Node kind fields) fits = omega (arith, near)
   text-relocs (statements.Func name node taken) fits = omega (arith, near)
@@ -162,21 +159,23 @@ module _ (file : File) (t d p : ℕ) (totals : Totals) (near : totals.relocs ≤
   text-relocs statements.KindReturn fits = omega (arith, near)
   text-relocs (statements.KindSwitch places) fits = omega (arith, near)
   text-relocs (statements.Jalr rd rs1 imm) fits =
-      code-relocs file (spot areas.Text) totals (statements.Jalr rd rs1 imm)
+      code-relocs file (spot_by areas.Text t d p) totals (statements.Jalr rd rs1 imm)
       (and_parts (jump_fits file.records totals) _ fits).1
   text-relocs statements.Ret fits =
-      code-relocs file (spot areas.Text) totals statements.Ret (and_parts (jump_fits file.records totals) _ fits).1
-  text-relocs s fits = code-relocs file (spot areas.Text) totals s fits
+      code-relocs file (spot_by areas.Text t d p) totals statements.Ret
+      (and_parts (jump_fits file.records totals) _ fits).1
+  text-relocs s fits = code-relocs file (spot_by areas.Text t d p) totals s fits
 
-  data-relocs : (found : Found) (s : Statement) → found.spot ≡ spot areas.Data → is_misplaced file found s ≡ false
-      → statement_fits file (spot areas.Data) totals s ≡ true
-      → totals.relocs + length (relocs_of file.names (spot areas.Data) s) ≤ MAX_RELOCS
+  data-relocs : (found : Found) (s : Statement) → found.spot ≡ spot_by areas.Data t d p
+      → is_misplaced file found s ≡ false → statement_fits file (spot_by areas.Data t d p) totals s ≡ true
+      → totals.relocs + length (relocs_of file.names (spot_by areas.Data t d p) s) ≤ MAX_RELOCS
   data-relocs found statements.Blank at placed fits = omega (arith, near)
   data-relocs found statements.Text at placed fits = omega (arith, near)
   data-relocs found statements.Data at placed fits = omega (arith, near)
   data-relocs found (statements.Globl name) at placed fits = omega (arith, near)
   data-relocs found (statements.Word datum) at placed fits =
-      leb-true _ _ (and_parts _ (relocs_fit totals (length (relocs_of file.names (spot areas.Data) (statements.Word datum)))) fits).1
+      let added = relocs_of file.names (spot_by areas.Data t d p) (statements.Word datum) in
+      leb-true _ _ (and_parts _ (relocs_fit totals (length added)) fits).1
   data-relocs found (statements.Zero number) at placed fits = omega (arith, near)
   data-relocs found (statements.Node kind fields) at placed fits = omega (arith, near)
   data-relocs found (statements.Func name node taken) at placed fits = omega (arith, near)
@@ -188,9 +187,9 @@ module _ (file : File) (t d p : ℕ) (totals : Totals) (near : totals.relocs ≤
   data-relocs found s at placed fits = let never : is_misplaced file found s ≡ true = rw at refl in absurd (cc)
 
   line-relocs : (area : Area) (found : Found) (number : ℕ) (label : Option (List ℕ)) (o : Option Statement)
-      → found.spot ≡ spot area → line_fault file found totals number label o ≡ None
-      → totals.relocs + length (relocs_in areas.Text area file (spot area) o)
-      + length (relocs_in areas.Data area file (spot area) o) ≤ MAX_RELOCS
+      → found.spot ≡ spot_by area t d p → line_fault file found totals number label o ≡ None
+      → totals.relocs + length (relocs_in areas.Text area file (spot_by area t d p) o)
+      + length (relocs_in areas.Data area file (spot_by area t d p) o) ≤ MAX_RELOCS
   line-relocs area found number label None at none = absurd (cc)
   line-relocs areas.Text found number label (Some s) at none =
       let clear = clear-said file found totals number label s none in

@@ -1,5 +1,5 @@
 -- An instrumented module breaks no rule of objects.
-use Rattle.std.proofs.Common.{◌≡◌, ℕ, ◌+◌, ◌-◌, ◌*◌, ◌/◌, ◌%◌, ◌<◌, ◌≤◌, ◌^◌, ◌||◌, ◌==◌, Bool, true, false, ℤ, pos, negsuc, List, map, All, length, get_or, Option, Some, None, refl, ap, sym, subst, ◌∙◌, inl, inr, arith}
+use Rattle.std.proofs.Common.{◌≡◌, ℕ, ◌+◌, ◌-◌, ◌*◌, ◌/◌, ◌<◌, ◌≤◌, ◌^◌, ◌||◌, ◌==◌, Bool, true, false, ℤ, pos, negsuc, List, map, All, length, get_or, Option, Some, None, refl, ap, sym, subst, ◌∙◌, inl, inr, arith}
 use Rattle.std.specs.Prelude.{FitsSigned, nat_le}
 use Rattle.std.specs.Int.{w32}
 use Rattle.std.specs.List.{AllPairs}
@@ -114,26 +114,29 @@ module _ (source out : Module) (made : IsInstrumented source out) where
   pub grows : (v w : ℕ) → v ≤ w → words_before t long v ≤ words_before t long w
   grows v w le = total-grows (size_at t long) v w le
 
-  -- where an offset goes is a word of the text, or its end
-  pub record IsPlace (n : ℕ) : Type 0 where
-    pub whole : n % 4 ≡ 0
-    pub within : n ≤ 4 * end
+  -- the offset is that of a word of the text, or its end
+  pub record HasWord (n : ℕ) : Type 0 where
+    pub word : ℕ
+    pub is : n ≡ 4 * word
+    pub within : word ≤ end
 
-  read-place : (w : ℕ) → IsPlace (get_or offsets w 0)
-  read-place w = elim (cases_lt w (count_of t + 1)) [
+  -- so is where each offset goes
+  read-word : (w : ℕ) → HasWord (get_or offsets w 0)
+  read-word w = elim (cases_lt w (count_of t + 1)) [
     | inl below ↦
-        let read = offset-read t long w below in
         record {
-          whole = omega (arith, read);
-          within = omega (arith, read, grows w (count_of t) (omega (arith, below)));
+          word = words_before t long w;
+          is = offset-read t long w below;
+          within = grows w (count_of t) (omega (arith, below));
         }
-    | inr above ↦
-        let read = offset-past t long w above in
-        record { whole = omega (arith, read); within = omega (arith, read) }
+    | inr above ↦ record { word = 0; is = offset-past t long w above; within = omega arith }
   ]
 
-  pub moved-place : (offset : ℕ) → IsPlace (moved t offsets offset)
-  moved-place offset = read-place (item_of t (offset / 4))
+  pub moved-word : (offset : ℕ) → HasWord (moved t offsets offset)
+  moved-word offset = read-word (item_of t (offset / 4))
+
+  moved-within : (offset : ℕ) → moved t offsets offset ≤ 4 * end
+  moved-within offset = let at = moved-word offset in omega (arith, at.is, at.within)
 
   -- ---- symbols
 
@@ -154,7 +157,7 @@ module _ (source out : Module) (made : IsInstrumented source out) where
       → IsInsideArea out.object place (moved_value t offsets place value)
   value-inside places.Undefined value inside = tt
   value-inside places.Absolute value inside = tt
-  value-inside places.Text value inside = omega (arith, text-length, (moved-place value).within)
+  value-inside places.Text value inside = omega (arith, text-length, moved-within value)
   value-inside places.Data value inside = omega (arith, inside, data-length)
 
   symbol-sound : (s : Symbol) → IsSoundSymbol source.object s → IsSoundSymbol out.object (moves s)
@@ -177,7 +180,7 @@ module _ (source out : Module) (made : IsInstrumented source out) where
       rw (one, other) (all i j d less within)
 
   value-small : (place : Place) (value : ℕ) → value < 2 ^ 32 → moved_value t offsets place value < 2 ^ 32
-  value-small places.Text value small = omega (arith, (moved-place value).within, made.fits)
+  value-small places.Text value small = omega (arith, moved-within value, made.fits)
   value-small places.Undefined value small = small
   value-small places.Absolute value small = small
   value-small places.Data value small = small
@@ -199,7 +202,8 @@ module _ (source out : Module) (made : IsInstrumented source out) where
   -- a relocation of the area goes to a field of the output
   reloc-by : (reloc : Reloc) (addend : ℤ) (area : Area) → reloc.area ≡ area → IsSoundReloc source.object reloc
       → HasField source.object area reloc.kind reloc.offset
-      → (area ≡ areas.Text → (at : ℕ) × (offset_in t offsets (is_of_long long reloc) reloc.offset ≡ 4 * at) × (at < end))
+      → (area ≡ areas.Text → (at : ℕ)
+      × (offset_in t offsets (is_of_long long reloc) reloc.offset ≡ 4 * at) × (at < end))
       → IsSoundReloc out.object (moved_by area t long offsets addend reloc)
   reloc-by reloc addend areas.Text is sound field goes =
       let kind = kind-one (is_of_long long reloc) reloc.kind sound.known sound.kept field.2 in
@@ -265,8 +269,7 @@ module _ (source out : Module) (made : IsInstrumented source out) where
       → FitsSigned w32 (addend_to t offsets value target addend)
   addend-target value None addend fits = fits
   addend-target value (Some target) addend fits =
-      distance-fits (moved t offsets value) (moved t offsets target) (moved-place value).within
-      (moved-place target).within
+      distance-fits (moved t offsets value) (moved t offsets target) (moved-within value) (moved-within target)
 
   addend-place : (place : Place) (value : ℕ) (addend : ℤ) → FitsSigned w32 addend
       → FitsSigned w32 (addend_in t offsets place value addend)

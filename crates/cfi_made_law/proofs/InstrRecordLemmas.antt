@@ -23,7 +23,7 @@ use Rattle.cfi_instr.specs.Moves.{moved_function, moved_kind}
 use Rattle.cfi_instr.specs.Output.{IsInstrumented}
 use Rattle.cfi_instr_law.proofs.ItemLemmas.{item-some}
 use Rattle.cfi_instr_law.proofs.BoundLemmas.{bound-moved, IsFormed, formed-at}
-use Rattle.cfi_made_law.proofs.InstrLemmas.{t, long, offsets, sound, same, grows, IsPlace, moved-place}
+use Rattle.cfi_made_law.proofs.InstrLemmas.{t, long, offsets, sound, same, grows, HasWord, moved-word}
 
 module _ (source out : Module) (made : IsInstrumented source out) where
   abbrev words : Words
@@ -32,11 +32,11 @@ module _ (source out : Module) (made : IsInstrumented source out) where
   abbrev to : ℕ → ℕ
   to offset = moved words (offsets source out made) offset
 
-  is-place : (offset : ℕ) → IsPlace source out made (to offset)
-  is-place offset = moved-place source out made offset
+  has-word : (offset : ℕ) → HasWord source out made (to offset)
+  has-word offset = moved-word source out made offset
 
-  whole-place : (n : ℕ) → IsPlace source out made n → (n < 2 ^ 32) × IsTrue (is_whole n)
-  whole-place n is = (omega (arith, is.within, made.fits), eq-eqb (n % 4) 0 is.whole)
+  whole-place : (n : ℕ) → HasWord source out made n → (n < 2 ^ 32) × IsTrue (is_whole n)
+  whole-place n at = (omega (arith, at.is, at.within, made.fits), eq-eqb (n % 4) 0 (omega (arith, at.is)))
 
   -- ---- functions
 
@@ -56,20 +56,20 @@ module _ (source out : Module) (made : IsInstrumented source out) where
   length-good : (f : Function) (before : ℕ) → IsFormed words before f
       → ((moves f).length < 2 ^ 32) × IsTrue (is_length (moves f).length)
   length-good f before is =
-      let begin = is-place f.offset in
-      let last = is-place (byte_end f) in
+      let begin = has-word f.offset in
+      let last = has-word (byte_end f) in
       let more = longer f before is in
       let n : ℕ = to (byte_end f) - to f.offset in
-      let four : n % 4 ≡ 0 = omega (arith, more, begin.whole, last.whole) in
+      let four : n % 4 ≡ 0 = omega (arith, more, begin.is, last.is) in
       let some : (n == 0) ≡ false = ne_eqb n 0 (λ e. absurd (omega (arith, more, e))) in (
-        omega (arith, last.within, made.fits),
+        omega (arith, last.is, last.within, made.fits),
         and_from (n % 4 == 0) (not (n == 0)) (eq-eqb (n % 4) 0 four) (rw some refl),
       )
 
   function-good : (types : List Node) (f : Function) (before : ℕ) → IsFormed words before f → IsFunction types f
       → IsFunction types (moves f)
   function-good types f before is good = record {
-    offset = whole-place (to f.offset) (is-place f.offset);
+    offset = whole-place (to f.offset) (has-word f.offset);
     length = length-good f before is;
     ty = good.ty;
     name = good.name;
@@ -97,7 +97,7 @@ module _ (source out : Module) (made : IsInstrumented source out) where
     count = subst (λ (n : ℕ). IsTrue (has_count SWITCH n)) (sym (length-map entries to)) good.count;
     words = recursion_from_All (λ n. (n < 2 ^ 32) × IsTrue (is_whole n)) (map to entries)
         (All-map (λ n. (n < 2 ^ 32) × IsTrue (is_whole n)) to entries
-        (λ k d inside. whole-place _ (is-place (get_or entries k d))));
+        (λ k d inside. whole-place _ (has-word (get_or entries k d))));
   }
 
   branches-good : (types : List Node) → All (IsBranch types) source.records.branches
