@@ -1,5 +1,5 @@
 ghost use Rattle.std.specs.Prelude.{◌≡◌, OnOk};
-ghost use Rattle.cfi_report.specs.inner.Draft.{ReportSoFar as Said, no_lines, report_of, with_report_line};
+ghost use Rattle.cfi_report.specs.inner.Draft.{ReportSoFar as Said, no_lines, is_whole, report_of, with_report_line};
 
 use crate::line::Line;
 use crate::report::{GuestPart, Report};
@@ -65,6 +65,13 @@ impl Draft {
         ensures { result ≡ self.now.stage }
     {
         self.stage
+    }
+
+    /// Whether the last line was read.
+    pub fn is_whole(&self) -> bool
+        ensures { result ≡ is_whole self.now.stage }
+    {
+        matches!(self.stage, Stage::Ended)
     }
 
     /// Adds what the line says.

@@ -7,7 +7,7 @@ use crate::fault::ReportFault;
 use crate::form::read_form;
 use crate::line::Line;
 use crate::report::Report;
-use crate::stage::{Stage, is_whole, may_follow};
+use crate::stage::{Stage, may_follow};
 use crate::words::cut;
 use std::alloc::{AllocError, Global};
 
@@ -25,7 +25,7 @@ pub fn read_report(alloc: Global, text: &[u8]) -> Result<Report, ReportFault>
     let mut draft = Draft::new(alloc);
     let mut rest = text;
     let mut number = 1;
-    while !is_whole(draft.stage()) {
+    while !draft.is_whole() {
         let Some((line, after)) = next_line(alloc, draft.stage(), rest)? else {
             return Err(ReportFault::Syntax(number));
         };

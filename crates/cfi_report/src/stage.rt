@@ -1,5 +1,5 @@
 ghost use Rattle.std.specs.Prelude.{◌≡◌};
-ghost use Rattle.cfi_report.specs.inner.Draft.{takes_journal, takes_guests, takes_log, is_whole, may_follow};
+ghost use Rattle.cfi_report.specs.inner.Draft.{takes_journal, takes_guests, takes_log, may_follow};
 ghost use Rattle.cfi_report.specs.Report.{differ};
 
 use crate::line::Line;
@@ -78,11 +78,4 @@ fn differ(entry: Log, next: Log) -> bool
         (Log::Pick { policy, .. }, Log::Pick { policy: other, .. }) => policy != other,
         _ => true,
     }
-}
-
-/// Whether the last line was read.
-pub fn is_whole(stage: Stage) -> bool
-    ensures { result ≡ is_whole stage }
-{
-    matches!(stage, Stage::Ended)
 }
