@@ -100,7 +100,8 @@ module _ (k : Key) (plan : Plan) (modules : List Module) (p : PassView) (r : Raw
   on = on_noted k l.keeping p is.told.tables note.agrees asked.sees.sees.is
 
   -- the log with the entry of the answer fits the run
-  logged_more : (one : Log) → FitsEntry old new p.guest r.base.log one → IsLogged l.course p.guest (r.base.log ++ one ∷ [])
+  logged_more : (one : Log) → FitsEntry old new p.guest r.base.log one
+      → IsLogged l.course p.guest (r.base.log ++ one ∷ [])
   logged_more one fits =
       subst (λ (z : (Plan × List Module) × List Entry). IsLogged
       (record { plan = z.0.0; modules = z.0.1; journal = z.1; end = l.course.end }) p.guest (r.base.log ++ one ∷ []))
@@ -121,7 +122,8 @@ module _ (k : Key) (plan : Plan) (modules : List Module) (p : PassView) (r : Raw
   -- ---- a refusal
 
   pub refused : (cause : ℕ) → cause ≢ 0 → cause ≢ TOO_MANY
-      → (serve_of r (reply_of 0 cause l.course.end.policy [])).base.log ≡ r.base.log ++ Cause (argument r.base) cause ∷ []
+      → (serve_of r (reply_of 0 cause l.course.end.policy [])).base.log
+      ≡ r.base.log ++ Cause (argument r.base) cause ∷ []
       → FitsEntry old new p.guest r.base.log (Cause (argument r.base) cause)
       → IsRunner k plan modules n (serve_of r (reply_of 0 cause l.course.end.policy []))
   refused cause some known is_log fits =

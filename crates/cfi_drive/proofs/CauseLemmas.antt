@@ -164,7 +164,8 @@ module _ (old : Course) (guest : ℕ) (log : List Log) (logged : IsLogged old gu
 
     pub fits_verify : (fault place : ℕ)
         → HasFault old.plan.code_words old.modules old.end.loaded number (numbers.Verify fault place)
-        → FitsEntry old (after (line_of (LoadVerify number fault place)) still) guest log (Cause number causes.NOT_VERIFIED)
+        → FitsEntry old (after (line_of (LoadVerify number fault place)) still) guest log
+        (Cause number causes.NOT_VERIFIED)
     fits_verify fault place has =
         holds_now still (omega arith) below number causes.NOT_VERIFIED (line_of (LoadVerify number fault place))
         (λ (loaded : List LoadedModule).
@@ -185,7 +186,8 @@ module _ (old : Course) (guest : ℕ) (log : List Log) (logged : IsLogged old gu
         let lines = sum_by-append some old.journal (line ∷ []) in
         let entries = sum_by-append one log (Cause number causes.VERSIONS_SPENT ∷ []) in
         let told : some line ≡ 1 =
-        ap {B = ℕ} (λ (b : Bool). cond b 1 0) (both (guest == guest) (number == number) (same_too guest) (same_too number)) in
+        ap {B = ℕ} (λ (b : Bool). cond b 1 0)
+        (both (guest == guest) (number == number) (same_too guest) (same_too number)) in
         let logged_one : one (Cause number causes.VERSIONS_SPENT) ≡ 1 =
         ap {B = ℕ} (λ (b : Bool). cond b 1 0) (both (number == number) true (same_too number) refl) in
         omega (arith, lines, entries, told, logged_one, as_many_lines old guest log logged number)

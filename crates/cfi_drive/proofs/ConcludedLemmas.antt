@@ -59,13 +59,15 @@ module _ (k : Key) (plan : Plan) (modules : List Module) (l : Ledger) (is : IsLe
     lines = lines;
     script = ap made_by_script journal ∙ made;
     count = count;
-    guests = λ number part there. subst (λ (c : Course). IsEnded c number part) same (parts.each number part there).ended;
+    guests = λ number part there.
+        subst (λ (c : Course). IsEnded c number part) same (parts.each number part there).ended;
   }
 
   ran : (number : ℕ) (part : GuestPart) → slice_get report.guests number ≡ Some part
       → IsRunOf course (history_by k l) (code_by k l) number part
   ran number part there =
-      subst (λ (c : Course). IsRunOf c (history_by k l) (code_by k l) number part) same (parts.each number part there).run
+      subst (λ (c : Course). IsRunOf c (history_by k l) (code_by k l) number part) same
+      (parts.each number part there).run
 
   -- the report can be read
   entry_named : HasReadableNames plan → (number : ℕ) (entry : List ℕ) → slice_get plan.guests number ≡ Some entry

@@ -56,8 +56,8 @@ module _ (k : Key) (plan : Plan) (modules : List Module) (l : Ledger) (is : IsLe
     pub runner_part : r.base.stop ≢ None → (entry : List ℕ) → slice_get plan.guests p.guest ≡ Some entry
         → IsPartAt k l p.guest (part_of p.guest entry r)
     runner_part stopped entry named =
-        let made = part_made l.course (history_by k l) (code_by k l) (history_is k plan modules l is) p.guest r run stopped
-        (subst (λ (a : Plan). IsWithin a.fuel r) (sym is.plan_is) at.within)
+        let made = part_made l.course (history_by k l) (code_by k l) (history_is k plan modules l is) p.guest r run
+        stopped (subst (λ (a : Plan). IsWithin a.fuel r) (sym is.plan_is) at.within)
         (logged_now k plan modules p r was.0 l was.1 was.1.sight is told) entry
         (ap (λ (a : Plan). slice_get a.guests p.guest) is.plan_is ∙ named) in
         record { ended = made.0; run = made.1 }
@@ -101,5 +101,5 @@ module _ (k : Key) (plan : Plan) (modules : List Module) (l : Ledger) (is : IsLe
     taken_back agrees =
         subst (IsPartAt k l p.guest) (sym whole)
         (runner_part k plan modules l is p r was
-        (subst (λ (v : PassView). AgreesWith k l.keeping.entries l.keeping.refusals v.sight) pass_is agrees) stopped item
-        named)
+        (subst (λ (v : PassView). AgreesWith k l.keeping.entries l.keeping.refusals v.sight) pass_is agrees) stopped
+        item named)

@@ -43,7 +43,8 @@ let_in_more old mid new guest before is = record {
 pub part_same : (k : Key) (old new : Ledger) → HasLetIn old new → (number : ℕ) (part : GuestPart)
     → IsPartAt k new number part → IsPartAt k old number part
 part_same k old new same number part at =
-    let Ledged : Course × List TableEntry → Ledger = λ z. record old { course = z.0; keeping = record old.keeping { entries = z.1 } } in
+    let Ledged : Course × List TableEntry → Ledger = λ z.
+    record old { course = z.0; keeping = record old.keeping { entries = z.1 } } in
     subst (λ (z : Course × List TableEntry). IsPartAt k (Ledged z) number part)
     (λ i. (same.course i, same.entries i))
     (record { ended = at.ended; run = at.run })
@@ -64,7 +65,9 @@ module _ (k : Key) (l : Ledger) (parts : List GuestPart) (part : GuestPart) (are
             let within = slice_get_within (parts ++ part ∷ []) number x there in
             let last : number ≡ length parts = omega (arith, within, past, length-append parts (part ∷ [])) in
             let same : x ≡ part =
-            sym found ∙ ap (λ (n : ℕ). get_or (parts ++ part ∷ []) n part) last ∙ get_or-append_seam parts part [] part in
+            sym found
+            ∙ ap (λ (n : ℕ). get_or (parts ++ part ∷ []) n part) last
+            ∙ get_or-append_seam parts part [] part in
             subst (λ (z : ℕ × GuestPart). IsPartAt k l z.0 z.1) (λ i. (sym last i, sym same i)) one
       ]
 
@@ -81,9 +84,10 @@ no_parts k l = record { each = λ number part there. absurd (nothing number part
 
 module _ (k : Key) (plan : Plan) (first now after : Ledger) (runners : List Ran)
     (all_ended : (number : ℕ) → IsEndedRun number (slice_get runners number)) (taken : List Ran) (ran : Ran)
-    (within : length taken < length runners) (is : ran ≡ get_or runners (length taken) ran) (parts more : List GuestPart)
-    (part : GuestPart) (say : parts ≡ map (part_by plan) taken) (are : ArePartsAt k first parts)
-    (same : HasLetIn first now) (says : part ≡ part_by plan ran) (at : IsPartAt k now ran.pass.guest part)
+    (within : length taken < length runners) (is : ran ≡ get_or runners (length taken) ran)
+    (parts more : List GuestPart) (part : GuestPart) (say : parts ≡ map (part_by plan) taken)
+    (are : ArePartsAt k first parts) (same : HasLetIn first now) (says : part ≡ part_by plan ran)
+    (at : IsPartAt k now ran.pass.guest part)
     (fields : HasFields part) (pushed : more ≡ parts ++ part ∷ [])
     (out : after ≡ with_keeping (let_in ran.pass.guest now.keeping) now) where
   many : length taken ≡ length parts

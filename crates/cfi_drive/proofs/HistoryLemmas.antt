@@ -43,7 +43,8 @@ module _ (k : Key) (plan : Plan) (modules : List Module) (l : Ledger) (is : IsLe
   }
 
   -- the last entry has the code of all
-  last_code : IsCodeOf (placed_modules loaded) l.course.plan.code_words (entry_of (length l.keeping.entries - 1)).image.code
+  last_code : IsCodeOf (placed_modules loaded) l.course.plan.code_words
+      (entry_of (length l.keeping.entries - 1)).image.code
   last_code =
       let last = is.told.images (length l.keeping.entries - 1) no_entry (omega (arith, is.told.tables.some)) in
       let all : loaded_by (entry_of (length l.keeping.entries - 1)).policy loaded ≡ loaded =

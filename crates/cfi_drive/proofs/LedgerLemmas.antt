@@ -196,7 +196,8 @@ module _ (k : Key) (plan : Plan) (modules : List Module) (l m : Ledger) (is : Is
 
   marks_begin : made_marks l.course.journal ++ map mark_in begins.0 ≡ made_marks m.course.journal
   marks_begin =
-      let all : map mark_in (l.keeping.entries ++ begins.0) ≡ map mark_in m.keeping.entries = ap (map mark_in) begins.1 in
+      let all : map mark_in (l.keeping.entries ++ begins.0) ≡ map mark_in m.keeping.entries =
+      ap (map mark_in) begins.1 in
       let two : map mark_in (l.keeping.entries ++ begins.0) ≡ map mark_in l.keeping.entries ++ map mark_in begins.0 =
       map-append mark_in l.keeping.entries begins.0 in
       let one : map mark_in l.keeping.entries ≡ 0 ∷ made_marks l.course.journal = is.told.marks in

@@ -30,7 +30,8 @@ same_number : (first len : ℕ) → first + (len - 1) - first ≡ len - 1
 same_number first len = omega arith
 
 -- a pass that was told of a ledger
-module _ (k : Key) (plan : Plan) (modules : List Module) (l : Ledger) (p : PassView) (is : IsLedger k plan modules l) where
+module _ (k : Key) (plan : Plan) (modules : List Module) (l : Ledger) (p : PassView)
+    (is : IsLedger k plan modules l) where
   pub told_policy : policy_seen k (noted k l.keeping p).sight ≡ l.course.end.policy
   told_policy =
       ap (λ n. (slice_index_or l.keeping.entries n no_entry).policy) (same_number k.first (length l.keeping.entries))

@@ -84,8 +84,9 @@ served_unspent Quiets s going same = absurd (cc)
 served_unspent Opens s going same = absurd (cc)
 served_unspent Unknown s going same = absurd (cc)
 
-fits_served : (h : History) (code : List ℕ) (number : ℕ) (reply : Reply) (r : Raw) → r.waits ≡ Some (waits.Service number)
-    → FitsReply (Some (waits.Service number)) r reply → Fits h code r (Served reply)
+fits_served : (h : History) (code : List ℕ) (number : ℕ) (reply : Reply) (r : Raw)
+    → r.waits ≡ Some (waits.Service number) → FitsReply (Some (waits.Service number)) r reply
+    → Fits h code r (Served reply)
 fits_served h code number reply r wait fits = subst (λ w. FitsReply w r reply) (sym wait) fits
 
 module _ (k : Key) (plan : Plan) (modules : List Module) (q n : PassView) (r : Raw) (number : ℕ)

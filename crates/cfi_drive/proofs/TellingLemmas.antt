@@ -152,7 +152,8 @@ logs_between (Cause number cause ∷ more) c to goes guest least most log low hi
 -- ---- another journal
 
 module _ (c : Course) (journal : List Entry) (guest : ℕ) (log : List Log)
-    (as_many : (number : ℕ) → count_by (is_versions guest number) c.journal ≤ count_by (is_versions guest number) journal) where
+    (as_many : (number : ℕ)
+    → count_by (is_versions guest number) c.journal ≤ count_by (is_versions guest number) journal) where
   abbrev other : Course
   other = record { plan = c.plan; modules = c.modules; journal = journal; end = c.end }
 

@@ -94,8 +94,8 @@ module _ (k : Key) (plan : Plan) (modules : List Module) (l m : Ledger) (is : Is
     pub logged_later : (s : Sight) (log : List Log) → FitsSettled k s guest l log
         → policy_seen k s ≤ m.course.end.policy → IsLogged m.course guest log
     logged_later s log fits most =
-        let grown_fits = logs_between fits.more l.course grown goes guest l.course.end.policy (policy_seen k s) fits.told
-        (omega arith) most fits.between fits.logged in
+        let grown_fits = logs_between fits.more l.course grown goes guest l.course.end.policy (policy_seen k s)
+        fits.told (omega arith) most fits.between fits.logged in
         let told_fits = logged_as grown m.course.journal guest log as_many_grown
         (subst (IsLogged grown guest) (sym fits.is) grown_fits) in
         subst (λ (z : Plan × List Module). IsLogged

@@ -59,7 +59,8 @@ ServicesKeep =
 -- course, and tells how the guest has run over the whole history
 abbrev pub RunnersMakeParts : Type 0
 RunnersMakeParts =
-    (k : Key) (plan : Plan) (modules : List Module) (l : Ledger) → IsLedger k plan modules l → (p : PassView) (r : Raw) →
-    IsRunner k plan modules p r → AgreesWith k l.keeping.entries l.keeping.refusals p.sight → r.base.stop ≢ None →
+    (k : Key) (plan : Plan) (modules : List Module) (l : Ledger) → IsLedger k plan modules l →
+    (p : PassView) (r : Raw) → IsRunner k plan modules p r →
+    AgreesWith k l.keeping.entries l.keeping.refusals p.sight → r.base.stop ≢ None →
     (entry : List ℕ) → slice_get plan.guests p.guest ≡ Some entry →
     IsPartAt k l p.guest (part_of p.guest entry r)

@@ -33,7 +33,8 @@ pub record IsRefusedBy (k : Key) (guest : ℕ) (before after : Ledger) (r new : 
   pub why : cause_by fault ≡ Some cause
   pub is : new ≡ serve_of r (reply_of 0 cause after.course.end.policy [])
 
--- the loader was asked: the pass has seen all that its keeper had seen before the load, and all that it had by the answer
+-- the loader was asked: the pass has seen all that its keeper had seen before the load, and all that it had by the
+-- answer
 pub record HasAskedLoader (k : Key) (plan : Plan) (modules : List Module) (p q : PassView) (r new : Raw) : Type 0 where
   pub before : Ledger
   pub mid : PassView

@@ -25,9 +25,9 @@ pub record Ran : Type 0 where
   pub pass : PassView
 
 -- the five facts, by the ledger of which the guest was last told: the guest is where the raw machine is after what its
--- pass has loaded and what its opens were answered; its log fits what its pass has settled; it has logged no policy above
--- the latest one that this has seen in force; its steps are within the fuel; and where it has not stopped and waits for
--- nothing it can run on from a start of an image that was seen
+-- pass has loaded and what its opens were answered; its log fits what its pass has settled; it has logged no policy
+-- above the latest one that this has seen in force; its steps are within the fuel; and where it has not stopped and
+-- waits for nothing it can run on from a start of an image that was seen
 pub record IsRunnerBy (k : Key) (plan : Plan) (modules : List Module) (p : PassView) (r : Raw) (l : Ledger)
     : Type 0 where
   pub sight : IsSight k p.sight

@@ -45,8 +45,8 @@ ComeBetween plan least most (Open number address policy ∷ later) = ⊥
 ComeBetween plan least most (Cause number cause ∷ later) =
     IsUnplanned plan number cause × ComeBetween plan least most later
 
--- what was logged when the guest was last told of the run fits it as it was then; since then came what needs no telling,
--- under policies that its pass has seen in force
+-- what was logged when the guest was last told of the run fits it as it was then; since then came what needs no
+-- telling, under policies that its pass has seen in force
 pub record FitsSettled (k : Key) (s : Sight) (guest : ℕ) (l : Ledger) (log : List Log) : Type 0 where
   pub told : List Log
   pub logged : IsLogged l.course guest told

@@ -56,7 +56,8 @@ returns-in-Ok-clause-runner g c =
     opens_loaded k plan modules c.tell.new.pass c.tell-in-Ok.new.pass guest c.args.desk.now c.load.new.self of
     c.requires.few c.tell-in-Ok.ensures.told c.in-Ok.loaded has c.give.new.guest
     (c.give.ensures
-    ∙ ap (λ (l : Ledger). serve_of guest (reply_with l guest.base.log c.in-Ok.loaded.address)) c.tell-in-Ok.ensures.same)
+    ∙ ap (λ (l : Ledger). serve_of guest (reply_with l guest.base.log c.in-Ok.loaded.address))
+    c.tell-in-Ok.ensures.same)
 
 -- or it was refused
 pub returns-in-Some-clause-runner : goal.returns-in-Some-clause-runner
@@ -68,7 +69,8 @@ returns-in-Some-clause-runner g c =
     let of = told_of k plan modules c.args.pass.now c.tell.new.pass guest c.args.desk.now c.requires.runner
     c.requires.asked c.tell.ensures.told in
     let has = refused_as k c.guest.result c.argument.result c.tell.new.desk c.load.new.self c.args.desk.now
-    c.tell.new.pass guest c.in-Err.fault c.guest.ensures c.argument.ensures c.tell.ensures.same c.in-Err.ensures.fault in
+    c.tell.new.pass guest c.in-Err.fault c.guest.ensures c.argument.ensures c.tell.ensures.same
+    c.in-Err.ensures.fault in
     opens_refused k plan modules c.tell.new.pass c.tell-in-Err.new.pass guest c.args.desk.now c.load.new.self of
     c.requires.few c.tell-in-Err.ensures.told c.in-Err.fault c.in-Some.cause c.force.result.policy
     (sym c.cause_by.ensures ∙ c.in-Some.is) has
@@ -84,8 +86,9 @@ returns-in-Some-clause-answer g c =
     c.in-Err.ensures.fault in
     asked_refused g.N.TableName.key g.N.LoaderName.plan g.N.LoaderName.modules c.args.pass.now c.tell.new.pass
     c.tell-in-Err.new.pass guest c.refuse.new.guest c.args.desk.now c.load.new.self c.tell.ensures.told
-    c.tell-in-Err.ensures.told c.in-Err.fault c.in-Some.cause c.force.result.policy (sym c.cause_by.ensures ∙ c.in-Some.is)
-    has (c.force.ensures.policy ∙ ap (λ (l : Ledger). l.course.end.policy) c.tell-in-Err.ensures.same) c.refuse.ensures
+    c.tell-in-Err.ensures.told c.in-Err.fault c.in-Some.cause c.force.result.policy
+    (sym c.cause_by.ensures ∙ c.in-Some.is) has
+    (c.force.ensures.policy ∙ ap (λ (l : Ledger). l.course.end.policy) c.tell-in-Err.ensures.same) c.refuse.ensures
 
 -- ---- the pass goes on with each note
 
