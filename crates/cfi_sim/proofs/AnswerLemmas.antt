@@ -42,7 +42,8 @@ use Rattle.cfi_sim.specs.Stands.{Holds}
 use Rattle.cfi_sim.proofs.SeatsLemmas.{set_one}
 
 module _ (plan : Plan) (modules : List Module) (sound : All IsSoundModule modules) (opening : JournalState) where
-  module _ (old : Stage) (holds : Holds plan modules opening old) (runs : AllRun plan modules sound opening old.state old.world) where
+  module _ (old : Stage) (holds : Holds plan modules opening old)
+      (runs : AllRun plan modules sound opening old.state old.world) where
     abbrev w : World
     w = old.world
 
@@ -57,8 +58,9 @@ module _ (plan : Plan) (modules : List Module) (sound : All IsSoundModule module
 
     -- ---- an answer
 
-    module _ (mid : World) (mid_is : IsWorld mid) (tables : mid.tables ≡ t) (all : AllRun plan modules sound opening old.state mid) (guest : ℕ)
-        (number : ℕ) (r : Raw) (here : slice_get mid.guests guest ≡ Some r) (asks : number ≡ argument r.base)
+    module _ (mid : World) (mid_is : IsWorld mid) (tables : mid.tables ≡ t)
+        (all : AllRun plan modules sound opening old.state mid) (guest : ℕ) (number : ℕ) (r : Raw)
+        (here : slice_get mid.guests guest ≡ Some r) (asks : number ≡ argument r.base)
         (found : Found) (is_found : IsFound plan mid old.state.loaded number found) where
       abbrev reply : Reply
       reply = reply_by old.state r.base found
@@ -97,7 +99,8 @@ module _ (plan : Plan) (modules : List Module) (sound : All IsSoundModule module
           (history_is mid.tables mid_is.tables) run.retries run.shown r running in
           record {
             number = number;
-            asks = asks ∙ shown_argument (history_of mid.tables) (code_in_force mid.tables) run.retries run.shown r shows;
+            asks = asks
+                ∙ shown_argument (history_of mid.tables) (code_in_force mid.tables) run.retries run.shown r shows;
             found = found;
             is_found = is_found;
             is = reply_same old.state r.base run.shown found
@@ -141,8 +144,8 @@ module _ (plan : Plan) (modules : List Module) (sound : All IsSoundModule module
                   absurd (kept_none word at (ap (λ (x : Raw). x.tary) (sym now_is) ∙ kept));
             }
             | inr moved ↦
-                stepped plan modules old.state old.aim mid.tables mid_is.tables agrees_mid mid guest r now run (going at)
-                (Some reply) (is_given at) refined.more refined.after
+                stepped plan modules old.state old.aim mid.tables mid_is.tables agrees_mid mid guest r now run
+                (going at) (Some reply) (is_given at) refined.more refined.after
                 (subst
                 (λ (x : Raw). IsStepped (history_of mid.tables) (code_in_force mid.tables) (Some reply) run.retries
                 run.shown r x refined.more refined.after) same moved) shows

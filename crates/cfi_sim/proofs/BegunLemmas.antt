@@ -118,8 +118,8 @@ module _ (plan : Plan) (modules : List Module) (sound : All IsSoundModule module
     begun_agrees aim image room idle left entry = record {
       world = begun_kept w is image room idle left;
       tables = begins plan modules old.state aim image t
-          (subst (λ (a : Option Aim). TablesAgree plan modules old.state a t) (no_aim (idle_is t idle)) holds.agrees.tables)
-          entry;
+          (subst (λ (a : Option Aim). TablesAgree plan modules old.state a t) (no_aim (idle_is t idle))
+          holds.agrees.tables) entry;
       guests = guests_on plan w (begun image t) (w.updates + 1) holds.agrees.guests;
     }
 

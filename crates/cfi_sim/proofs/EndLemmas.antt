@@ -182,7 +182,8 @@ entry_same a b e = cc
 pub valid : SchedulesAreValid
 valid = λ plan modules schedule start end sim is sound starts makes told.
     let kept = lines_keep plan modules (Keeps plan modules sound start.state)
-    (λ old keeps happening new event room. keeps_after plan modules sound start.state old keeps happening new event room)
+    (λ old keeps happening new event room.
+    keeps_after plan modules sound start.state old keeps happening new event room)
     (numbered_lines schedule) start end makes
     (record {
       holds = start_holds plan modules is sound start starts;

@@ -30,7 +30,7 @@ use Rattle.cfi_world.specs.declared.event.Event.{Event}
 use Rattle.cfi_sim.proofs.HappensLemmas.{turned_beside}
 use Rattle.cfi_word.specs.declared.lists.Image.{Image}
 use Rattle.cfi_world.specs.Worlds.{IsWorld}
-use Rattle.cfi_world.specs.Seats.{seat_of, seat_after, is_asking}
+use Rattle.cfi_world.specs.Seats.{Seat, seat_of, seat_after, is_asking}
 use Rattle.cfi_sim.specs.Reach.{Happening, OfGuest, OfUpdate, OfLoad, OfRefresh, OfRelease, Happens}
 use Rattle.cfi_world.specs.Turns.{nothing, seated, guest_turn, turn_of}
 use Rattle.cfi_aux.specs.Sound.{IsSoundModule}
@@ -42,7 +42,8 @@ use Rattle.cfi_model.specs.Tables.{IsTables}
 use Rattle.cfi_sim.proofs.SeatsLemmas.{set_one}
 
 module _ (plan : Plan) (modules : List Module) (sound : All IsSoundModule modules) (opening : JournalState) where
-  module _ (old : Stage) (holds : Holds plan modules opening old) (runs : AllRun plan modules sound opening old.state old.world) where
+  module _ (old : Stage) (holds : Holds plan modules opening old)
+      (runs : AllRun plan modules sound opening old.state old.world) where
     abbrev w : World
     w = old.world
 
@@ -64,31 +65,39 @@ module _ (plan : Plan) (modules : List Module) (sound : All IsSoundModule module
     asked_as guest other number (Some first) here answer r there =
         by_still (is_some first.base.stop || is_asking (point_of w guest)) answer there
       where
-        by_still : (still : Bool) → (cond still (nothing w) (seated w guest (seat_after t w.fuel (seat_of w guest first)))).answer ≡ Asks other number
-            → slice_get (cond still (nothing w) (seated w guest (seat_after t w.fuel (seat_of w guest first)))).world.guests guest ≡ Some r
+        seat : Seat
+        seat = seat_after t w.fuel (seat_of w guest first)
+
+        by_still : (still : Bool) → (cond still (nothing w) (seated w guest seat)).answer ≡ Asks other number
+            → slice_get (cond still (nothing w) (seated w guest seat)).world.guests guest ≡ Some r
             → number ≡ argument r.base
         by_still true answer there = absurd (cc)
         by_still false answer there =
-            asks_number (is_asking (seat_after t w.fuel (seat_of w guest first)).point) guest other number (argument (seat_after t w.fuel (seat_of w guest first)).guest.base) answer
+            asks_number (is_asking seat.point) guest other number (argument seat.guest.base) answer
             ∙ ap (λ (x : Raw). argument x.base)
-            (some_same (seat_after t w.fuel (seat_of w guest first)).guest r (sym (set_one w.guests guest first (seat_after t w.fuel (seat_of w guest first)).guest here) ∙ there))
+            (some_same seat.guest r (sym (set_one w.guests guest first seat.guest here) ∙ there))
 
     guest_runs_by : (guest : ℕ) (new : World) (answer : Turned)
         → (turn_of w (events.Guest guest)).answer ≡ answer
-        → GuestTurns plan old.state (turn_of w (events.Guest guest)).world new guest answer → AllRun plan modules sound opening old.state new
-    guest_runs_by guest new Did is_answer turns = subst (AllRun plan modules sound opening old.state) (sym turns) (turn_runs plan modules sound opening old holds runs guest)
+        → GuestTurns plan old.state (turn_of w (events.Guest guest)).world new guest answer
+        → AllRun plan modules sound opening old.state new
+    guest_runs_by guest new Did is_answer turns =
+        subst (AllRun plan modules sound opening old.state) (sym turns)
+        (turn_runs plan modules sound opening old holds runs guest)
     guest_runs_by guest new (Asks other number) is_answer turns =
         let beside = turned_beside plan modules sound opening old holds guest in
         let mid : World = (turn_of w (events.Guest guest)).world in
         let asks = asked_as guest other number (slice_get w.guests guest) refl is_answer turns.r turns.there in
         subst (AllRun plan modules sound opening old.state) (sym turns.is)
-        (answer_runs plan modules sound opening old holds runs mid beside.world beside.tables (turn_runs plan modules sound opening old holds runs guest) guest number turns.r turns.there asks turns.found
+        (answer_runs plan modules sound opening old holds runs mid beside.world beside.tables
+        (turn_runs plan modules sound opening old holds runs guest) guest number turns.r turns.there asks turns.found
         turns.is_found)
     guest_runs_by guest new (VersionsSpent other quiet) is_answer turns = absurd turns
     guest_runs_by guest new EpochsSpent is_answer turns = absurd turns
     guest_runs_by guest new Nothing is_answer turns = absurd turns
 
-    guest_runs : (guest : ℕ) (new : Stage) → IsGuestEvent plan guest old new → AllRun plan modules sound opening new.state new.world
+    guest_runs : (guest : ℕ) (new : Stage) → IsGuestEvent plan guest old new
+        → AllRun plan modules sound opening new.state new.world
     guest_runs guest new event =
         subst (λ (s : Stage). AllRun plan modules sound opening s.state s.world) (sym event.is)
         (guest_runs_by guest event.world (turn_of w (events.Guest guest)).answer refl event.turns)
@@ -142,7 +151,8 @@ module _ (plan : Plan) (modules : List Module) (sound : All IsSoundModule module
         } in
         subst (IsLater old.state) (sym same) later
 
-    refresh_later : (new : JournalState) → new ≡ record old.state { epoch = old.state.epoch + 1 } → IsLater old.state new
+    refresh_later : (new : JournalState) → new ≡ record old.state { epoch = old.state.epoch + 1 }
+        → IsLater old.state new
     refresh_later new same =
         let state : JournalState = record old.state { epoch = old.state.epoch + 1 } in
         let later : IsLater old.state state = record {
@@ -191,19 +201,23 @@ module _ (plan : Plan) (modules : List Module) (sound : All IsSoundModule module
     noted_on phases.Idle EpochsSpent new noted = same_on events.Update new moved refl refl noted update_stays
     noted_on phases.Idle Nothing new noted = same_on events.Update new moved refl refl noted update_stays
     noted_on (phases.Testing k) Did new noted = same_on events.Update new moved refl refl noted update_stays
-    noted_on (phases.Testing k) (Asks guest number) new noted = same_on events.Update new moved refl refl noted update_stays
+    noted_on (phases.Testing k) (Asks guest number) new noted =
+        same_on events.Update new moved refl refl noted update_stays
     noted_on (phases.Testing k) EpochsSpent new noted = same_on events.Update new moved refl refl noted update_stays
     noted_on (phases.Testing k) Nothing new noted = same_on events.Update new moved refl refl noted update_stays
     noted_on (phases.Code k) Did new noted = same_on events.Update new moved refl refl noted update_stays
-    noted_on (phases.Code k) (Asks guest number) new noted = same_on events.Update new moved refl refl noted update_stays
+    noted_on (phases.Code k) (Asks guest number) new noted =
+        same_on events.Update new moved refl refl noted update_stays
     noted_on (phases.Code k) EpochsSpent new noted = same_on events.Update new moved refl refl noted update_stays
     noted_on (phases.Code k) Nothing new noted = same_on events.Update new moved refl refl noted update_stays
     noted_on (phases.Tary k) Did new noted = same_on events.Update new moved refl refl noted update_stays
-    noted_on (phases.Tary k) (Asks guest number) new noted = same_on events.Update new moved refl refl noted update_stays
+    noted_on (phases.Tary k) (Asks guest number) new noted =
+        same_on events.Update new moved refl refl noted update_stays
     noted_on (phases.Tary k) EpochsSpent new noted = same_on events.Update new moved refl refl noted update_stays
     noted_on (phases.Tary k) Nothing new noted = same_on events.Update new moved refl refl noted update_stays
     noted_on (phases.Bary k) Did new noted = same_on events.Update new moved refl refl noted update_stays
-    noted_on (phases.Bary k) (Asks guest number) new noted = same_on events.Update new moved refl refl noted update_stays
+    noted_on (phases.Bary k) (Asks guest number) new noted =
+        same_on events.Update new moved refl refl noted update_stays
     noted_on (phases.Bary k) EpochsSpent new noted = same_on events.Update new moved refl refl noted update_stays
     noted_on (phases.Bary k) Nothing new noted = same_on events.Update new moved refl refl noted update_stays
 
@@ -239,5 +253,5 @@ module _ (plan : Plan) (modules : List Module) (sound : All IsSoundModule module
         (begun_on Refreshing _ None new _ (turn_of w (events.Begin None)).world refl event)
     runs_after (OfRelease guest) new event then =
         others_run (events.Release guest) new then
-        (same_on (events.Release guest) new (after_event (turn_of w (events.Release guest)).world old) refl refl event.is
-        (λ number. others_stay w (events.Release guest) number tt))
+        (same_on (events.Release guest) new (after_event (turn_of w (events.Release guest)).world old) refl refl
+        event.is (λ number. others_stay w (events.Release guest) number tt))

@@ -67,14 +67,17 @@ module _ (plan : Plan) (modules : List Module) (sound : All IsSoundModule module
     -- ---- a guest
 
     force_least : plan.first ≤ epoch_in_force t
-    force_least = (let epoch = epoch_is plan modules old holds.agrees in omega (arith, epoch, holds.agrees.tables.epoch))
+    force_least =
+        let epoch = epoch_is plan modules old holds.agrees in
+        omega (arith, epoch, holds.agrees.tables.epoch)
 
     -- what a guest is answered fits the world
     reply_inside : (s : Raw) (found : Found) → All LiesInData (reply_by old.state s.base found).fills
     reply_inside s Unknown = All-nil LiesInData
     reply_inside s Functionless = All-nil LiesInData
     reply_inside s (Opened address) =
-        some_fills _ old.state.loaded (data_lies plan.code_words (placed_modules old.state.loaded) holds.agrees.tables.series)
+        some_fills _ old.state.loaded
+        (data_lies plan.code_words (placed_modules old.state.loaded) holds.agrees.tables.series)
     reply_inside s Unloaded = All-nil LiesInData
 
     reply_few : (s : Raw) (found : Found) → (reply_by old.state s.base found).cause ≢ TOO_MANY
@@ -214,19 +217,23 @@ module _ (plan : Plan) (modules : List Module) (sound : All IsSoundModule module
     agrees_after : (happening : Happening) (new : Stage) → Happens plan modules old new happening
         → HasRoomFor happening new → WorldAgrees plan modules new
     agrees_after (OfGuest guest) new event few = guest_agrees guest new event
-    agrees_after OfUpdate new event few = update_agrees plan modules old holds.agrees (comes plan modules sound opening old holds) new event
+    agrees_after OfUpdate new event few =
+        update_agrees plan modules old holds.agrees (comes plan modules sound opening old holds) new event
     agrees_after (OfLoad number) new (inl told) few =
         subst (WorldAgrees plan modules) (sym told.is)
         (record { world = is; tables = holds.agrees.tables; guests = holds.agrees.guests })
     agrees_after (OfLoad number) new (inr load) few =
         begin_agrees plan modules sound opening old holds (Loading number) _ (Some load.image) new
         (load_may plan modules sound opening old holds number load.clean load.image load.of_all) few load.begins
-    agrees_after OfRefresh new event few = begin_agrees plan modules sound opening old holds Refreshing _ None new (refresh_may plan modules sound opening old holds) few event
+    agrees_after OfRefresh new event few =
+        begin_agrees plan modules sound opening old holds Refreshing _ None new
+        (refresh_may plan modules sound opening old holds) few event
     agrees_after (OfRelease guest) new event few = release_agree guest new event
 
     pub holds_after : (happening : Happening) (new : Stage) → Happens plan modules old new happening
         → HasRoomFor happening new → Holds plan modules opening new
     holds_after happening new event few = record {
-      stands = event_stands plan modules opening happening old new holds.stands (tell plan modules old holds.agrees) event;
+      stands = event_stands plan modules opening happening old new holds.stands (tell plan modules old holds.agrees)
+          event;
       agrees = agrees_after happening new event few;
     }

@@ -108,7 +108,8 @@ module _ (old new : JournalState) (later : IsLater old new) where
   module _ (code more : List ℕ) (keeps : Keeps code more) (log : List Log)
       (low : AllByRecursion (IsLow old.policy) log) where
     next_low : (s : State) (entry : Log) → next_in log s ≡ Some entry → IsLow old.policy entry
-    next_low s entry is = low_at old.policy (singles log) (length (singles s.log)) entry (low_singles old.policy log low) is
+    next_low s entry is =
+        low_at old.policy (singles log) (length (singles s.log)) entry (low_singles old.policy log low) is
 
     picks_stay : (s : State) (slot target pick : ℕ) (allowed inside : Bool)
         → TakesPick inside old.loaded (next_in log s) slot target pick allowed

@@ -63,7 +63,8 @@ pub end_holds : (plan : Plan) (modules : List Module) (schedule : List ℕ) (sta
     → Holds plan modules start.state end
 end_holds plan modules schedule start end is sound starts makes =
     lines_keep plan modules (Holds plan modules start.state)
-    (λ old holds happening new event room. holds_after plan modules sound start.state old holds happening new event room)
+    (λ old holds happening new event room.
+    holds_after plan modules sound start.state old holds happening new event room)
     (numbered_lines schedule) start end makes (start_holds plan modules is sound start starts)
 
 pub journal : SchedulesJournal

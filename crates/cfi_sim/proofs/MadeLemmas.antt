@@ -111,8 +111,9 @@ module _ (plan : Plan) (modules : List Module) (state : JournalState) (t : Table
       | inr last ↦ (let end : newest t ≡ number = omega (arith, last, most, same) in subst P end new)
     ]
 
-  pub made_refresh : (agrees : TablesAgree plan modules state (Some Refreshing) t) → t.asked ≡ None → in_force t + 1 ≡ newest t
-      → in_force after ≡ newest t → TablesAgree plan modules (refreshed_state state) None after
+  pub made_refresh : (agrees : TablesAgree plan modules state (Some Refreshing) t) → t.asked ≡ None
+      → in_force t + 1 ≡ newest t → in_force after ≡ newest t
+      → TablesAgree plan modules (refreshed_state state) None after
   made_refresh agrees asked goes same =
       let refresh = fits Refreshing agrees asked goes same in
       let now = agrees.entries (in_force t) (omega arith) in

@@ -70,7 +70,8 @@ module _ (plan : Plan) (modules : List Module) where
   course_at state = record { plan = plan; modules = modules; journal = []; end = state }
 
   -- the guest of the number has replayed what it has logged, which fits; tries were repeated only where picks were
-  -- logged and there were two epochs; the Tary word that it keeps is of no policy before the last one that it has settled
+  -- logged and there were two epochs; the Tary word that it keeps is of no policy before the last one that it has
+  -- settled
   pub record HasRun (state : JournalState) (t : Tables) (number : ℕ) (r : Raw) : Type 0 where
     pub entry : List ℕ
     pub named : slice_get plan.guests number ≡ Some entry

@@ -24,7 +24,8 @@ published_same a b e = cc
 never_published : (quiet : ℕ) → Unregistered ≡ Published quiet → ⊥
 never_published quiet e = absurd (cc)
 
-pub set_one : {X : Type 0} (xs : List X) (k : ℕ) (x v : X) → slice_get xs k ≡ Some x → slice_get (slice_set xs k v) k ≡ Some v
+pub set_one : {X : Type 0} (xs : List X) (k : ℕ) (x v : X) → slice_get xs k ≡ Some x
+    → slice_get (slice_set xs k v) k ≡ Some v
 set_one xs k x v there =
     let inside = slice_get_within xs k x there in
     slice_get-get_or (slice_set xs k v) k v (omega (arith, inside, length-set xs k v))
@@ -108,7 +109,8 @@ module _ (plan : Plan) (w : World) (is : IsWorld w) (agrees : GuestsAgree plan w
         let same = published_same epoch quiet published in
         subst (λ (n : ℕ). plan.first ≤ n) same (subst (HasFound plan.first) at (agrees.points guest)))
         (either_found (needs_answer number r))
-    served_by number Asking at = seat_agrees (serves Asking w.tables w.fuel number seat) least_before (agrees.points guest)
+    served_by number Asking at =
+        seat_agrees (serves Asking w.tables w.fuel number seat) least_before (agrees.points guest)
 
     pub turned_by : (wait : Option Wait) → GuestsAgree plan (with_seat w guest (seat_by wait w.tables w.fuel seat))
     turned_by (Some (waits.Service number)) = served_by number seat.point refl

@@ -207,8 +207,8 @@ module _ (plan : Plan) (modules : List Module) (is : IsPlan plan) (sound : All I
     | inl less ↦ subst (HasFound plan.first) (sym (get_or-replicate GUESTS guest Outside Outside less)) tt
     | inr past ↦
         subst (HasFound plan.first)
-        (sym (get_or_past (replicate GUESTS Outside) guest Outside (omega (arith, past, length-replicate GUESTS Outside))))
-        tt
+        (sym (get_or_past (replicate GUESTS Outside) guest Outside
+        (omega (arith, past, length-replicate GUESTS Outside)))) tt
   ]
 
   guests_agree : GuestsAgree plan world

@@ -58,12 +58,13 @@ tests t guest is (Some entry) same at =
     let fits : IsAsked t entry = subst (MayBeAsked t) same is.asked_fits in (fits.idle, fits.fits)
 
 -- the epoch in force is that of the journal
-pub epoch_is : (plan : Plan) (modules : List Module) (s : Stage) → WorldAgrees plan modules s → epoch_in_force s.world.tables ≡ s.state.epoch
+pub epoch_is : (plan : Plan) (modules : List Module) (s : Stage) → WorldAgrees plan modules s
+    → epoch_in_force s.world.tables ≡ s.state.epoch
 epoch_is plan modules s agrees =
     omega (arith, force_epoch s.world.tables agrees.world.tables, agrees.tables.first, agrees.tables.epoch)
 
-late : (plan : Plan) (modules : List Module) (s : Stage) → WorldAgrees plan modules s → (guest quiet : ℕ) → IsRefusal s.world guest quiet
-    → IsTooOld plan s.state guest quiet
+late : (plan : Plan) (modules : List Module) (s : Stage) → WorldAgrees plan modules s → (guest quiet : ℕ)
+    → IsRefusal s.world guest quiet → IsTooOld plan s.state guest quiet
 late plan modules s agrees guest quiet refusal =
     let w : World = s.world in
     let epoch = epoch_is plan modules s agrees in

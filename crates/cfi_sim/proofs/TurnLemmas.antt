@@ -74,8 +74,8 @@ waits_on (Some stop) wait w stopped is =
 pub none_some : (word : ℕ) → None ≡ Some word → ⊥
 none_some word e = absurd (cc)
 
-pub asks_number : (asking : Bool) (guest other number asked : ℕ) → cond asking (Asks guest asked) Did ≡ Asks other number
-    → number ≡ asked
+pub asks_number : (asking : Bool) (guest other number asked : ℕ)
+    → cond asking (Asks guest asked) Did ≡ Asks other number → number ≡ asked
 asks_number true guest other number asked e = cc
 asks_number false guest other number asked e = absurd (cc)
 
@@ -152,7 +152,8 @@ module _ (plan : Plan) (modules : List Module) (sound : All IsSoundModule module
     turned_by_still : (guest : ℕ) (r : Raw) → slice_get w.guests guest ≡ Some r → (still : Bool)
         → is_some r.base.stop || is_asking (point_of w guest) ≡ still → (now : Raw)
         → slice_get
-        (cond still (nothing w) (seated w guest (seat_after t w.fuel (seat_of w guest r)))).world.guests guest ≡ Some now
+        (cond still (nothing w) (seated w guest (seat_after t w.fuel (seat_of w guest r)))).world.guests guest
+        ≡ Some now
         → (turn_of w (events.Guest guest)).world
         ≡ (cond still (nothing w) (seated w guest (seat_after t w.fuel (seat_of w guest r)))).world
         → HasRun plan modules old.state t guest now

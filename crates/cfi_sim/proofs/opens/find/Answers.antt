@@ -21,6 +21,7 @@ returns-in-Some c =
     (let inside = slice_get_within c.args.spots.now at spot.0 spot.1 in omega (arith, inside, c.requires.count)) in
     let there : slice_get placed at ≡ Some one =
     slice_get-get_or placed at one within
-    ∙ ap (λ x. Some x) (ap (λ xs. slice_index_or xs at one) (sym c.modules.ensures.value) ∙ sym c.index-modules-at.is) in
+    ∙ ap (λ x. Some x)
+    (ap (λ xs. slice_index_or xs at one) (sym c.modules.ensures.value) ∙ sym c.index-modules-at.is) in
     one_found c.args.plan.now c.args.world.now c.args.spots.now placed c.args.number (search rules)
     c.requires.apart at spot.0 one spot.1 spot.2 there c.found_in.result c.found_in.ensures
