@@ -264,10 +264,12 @@ module _ (a : Inside) (kept : SeriesFits a) (x : Whole) (is : whole_inside a ≡
           (whole_inside (record a { series = t })) y happened) same begins))
 
     pub refused_load : (fault : JoinFault) (told : FaultNumbers)
-        → IsJoinFault a.series.code_words a.series.placed m fault → numbers_of fault ≡ Some told → (s : Series)
-        → s ≡ a.series → (y : Whole) → y ≡ with_told (numbered_line number told) (whole_inside (record a { series = s }))
+        → IsJoinFault a.series.code_words a.series.placed m fault → numbers_of fault ≡ Some told
+        → (s : Series) → s ≡ a.series
+        → (y : Whole) → y ≡ with_told (numbered_line number told) (whole_inside (record a { series = s }))
         → HasMadeWithin (IsLoadEvent x.plan x.modules number) x y
     refused_load fault told why is_told s same y y_is =
         back y (fault_load here under_here within_here number unloaded fault told
         (subst (λ (t : Series). IsJoinFault t.code_words t.placed m fault) (series_is a kept) why) is_told y
-        (y_is ∙ ap (λ (t : Series). with_told (numbered_line number told) (whole_inside (record a { series = t }))) same))
+        (y_is
+        ∙ ap (λ (t : Series). with_told (numbered_line number told) (whole_inside (record a { series = t }))) same))
