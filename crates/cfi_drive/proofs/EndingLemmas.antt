@@ -43,8 +43,8 @@ let_in_more old mid new guest before is = record {
 pub part_same : (k : Key) (old new : Ledger) → HasLetIn old new → (number : ℕ) (part : GuestPart)
     → IsPartAt k new number part → IsPartAt k old number part
 part_same k old new same number part at =
-    let Ledged : Course × List TableEntry → Ledger = λ z.
-    record old { course = z.0; keeping = record old.keeping { entries = z.1 } } in
+    let Ledged : Course × List TableEntry → Ledger =
+    λ z. record old { course = z.0; keeping = record old.keeping { entries = z.1 } } in
     subst (λ (z : Course × List TableEntry). IsPartAt k (Ledged z) number part)
     (λ i. (same.course i, same.entries i))
     (record { ended = at.ended; run = at.run })
@@ -87,8 +87,7 @@ module _ (k : Key) (plan : Plan) (first now after : Ledger) (runners : List Ran)
     (within : length taken < length runners) (is : ran ≡ get_or runners (length taken) ran)
     (parts more : List GuestPart) (part : GuestPart) (say : parts ≡ map (part_by plan) taken)
     (are : ArePartsAt k first parts) (same : HasLetIn first now) (says : part ≡ part_by plan ran)
-    (at : IsPartAt k now ran.pass.guest part)
-    (fields : HasFields part) (pushed : more ≡ parts ++ part ∷ [])
+    (at : IsPartAt k now ran.pass.guest part) (fields : HasFields part) (pushed : more ≡ parts ++ part ∷ [])
     (out : after ≡ with_keeping (let_in ran.pass.guest now.keeping) now) where
   many : length taken ≡ length parts
   many = sym (ap (λ (xs : List GuestPart). length xs) say ∙ length-map taken (part_by plan))
