@@ -208,4 +208,5 @@ pub fills_lie : (k : Key) (plan : Plan) (modules : List Module) (l : Ledger) →
 fills_lie k plan modules l is =
     let sound : All IsSoundModule l.course.modules = λ at d within. (is.can_start.taken at d within).sound in
     data_lies l.course.plan.code_words (placed_modules l.course.end.loaded)
-    (journal_series l.course.plan l.course.modules l.course.journal l.course.end is.can_start.code_words sound is.course)
+    (journal_series l.course.plan l.course.modules l.course.journal l.course.end is.can_start.code_words sound
+    is.course)
