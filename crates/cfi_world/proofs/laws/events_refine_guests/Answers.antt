@@ -9,17 +9,16 @@ returns-clause-refines c = λ w is event may guest r here retries s runs.
     refines w is guest r here retries s runs event may
 
 pub returns-clause-others : goal.returns-clause-others
-returns-clause-others c = λ w event guest apart. others_stay w event guest apart
+returns-clause-others c = others_stay
 
 pub returns-clause-stores : goal.returns-clause-stores
-returns-clause-stores c = λ w event other. only_updates w event other
+returns-clause-stores c = only_updates
 
 pub returns-clause-force : goal.returns-clause-force
 returns-clause-force c = force_stays
 
 pub returns-clause-halts : goal.returns-clause-halts
-returns-clause-halts c = λ w is event may guest r now here there going retries s runs target halts.
-    halted w is event may guest r now here there going retries s runs target halts
+returns-clause-halts c = halted
 
 pub returns-clause-units : goal.returns-clause-units
-returns-clause-units c = λ w is guest r here. placed w is guest r here
+returns-clause-units c = placed
