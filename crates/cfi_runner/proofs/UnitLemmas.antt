@@ -11,7 +11,7 @@ use Rattle.cfi_model.specs.Data.{load_width, store_width, is_aligned}
 use Rattle.cfi_model.specs.Effect.{effect, masked_at}
 use Rattle.cfi_model.specs.History.{History, allows_at}
 use Rattle.cfi_model.specs.Raw.{Raw}
-use Rattle.cfi_model.specs.Service.{Reply, Service, service_of, asked, served_stop}
+use Rattle.cfi_model.specs.Service.{Reply, service_of, asked}
 use Rattle.cfi_model.specs.Shows.{End, IsStep, MayWait, Runs, Shows, Stands}
 use Rattle.cfi_model.specs.State.{State}
 use Rattle.cfi_model.proofs.HaltLemmas.{only_checks_halt, served_exits}
@@ -57,11 +57,6 @@ check_aligns : (goes : Bool) (stop : Option Stop) (to address : ℕ) → stop �
 check_aligns true stop to address none some = none-some (stops.Align address) (sym none ∙ some)
 check_aligns false stop to address none some = absurd (cc)
 
-served_aligns : (service : Service) (s : State) (address : ℕ) → s.stop ≡ None
-    → served_stop service s ≡ Some (stops.Align address) → ⊥
-served_aligns service s address none some =
-    let exits = served_exits service s (stops.Align address) none some in absurd (cc)
-
 module _ (code : List ℕ) (s : State) (going : s.stop ≡ None) (pick : ℕ) (allows : ℕ → ℕ → Bool) (reply : Reply)
     (address : ℕ) where
   aligns_by : (unit : CodeUnit) → Stands code s.pc unit
@@ -83,7 +78,8 @@ module _ (code : List ℕ) (s : State) (going : s.stop ≡ None) (pick : ℕ) (a
       absurd (none-some (stops.Align address) (sym going ∙ aligns))
   aligns_by (units.Jump link off) stands aligns = absurd (none-some (stops.Align address) (sym going ∙ aligns))
   aligns_by (units.Check link rs1 imm slot) stands aligns = absurd (check_aligns _ s.stop _ address going aligns)
-  aligns_by units.Service stands aligns = absurd (served_aligns (service_of (asked s)) s address going aligns)
+  aligns_by units.Service stands aligns =
+      let exits = served_exits (service_of (asked s)) s (stops.Align address) going aligns in absurd (cc)
 
 only_accesses_align : (h : History) (code : List ℕ) (end : End) (old new : State) → IsStep h code end old new
     → (address : ℕ) → new.stop ≡ Some (stops.Align address) → IsMisaligned code old address
