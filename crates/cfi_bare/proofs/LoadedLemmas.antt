@@ -8,6 +8,7 @@ use Rattle.cfi_aux.specs.declared.placed.Placed.{Placed}
 use Rattle.cfi_graph.specs.Shaped.{Follows}
 use Rattle.cfi_verify.specs.Faults.{IsVerified}
 use Rattle.cfi_series.specs.Loaded.{IsVerifiedAmong, AreLoaded}
+use Rattle.cfi_series.proofs.LoadedLemmas.{begins}
 use Rattle.cfi_aux.specs.declared.placed.PlacedFunction.{PlacedFunction}
 use Rattle.cfi_aux.specs.declared.records.Kind.{Kind}
 use Rattle.cfi_place.specs.declared.room.Room.{Room}
@@ -42,11 +43,6 @@ pub record IsWhole (m : Placed) (words : List ℕ) : Type 0 where
 
 module _ (m : Placed) (words : List ℕ) (whole : IsWhole m words) (fits : length words ≤ MAX_CODE_WORDS - FIRST_BASE)
     (verified : IsVerified m []) where
-  first : (n : Placed) → slice_get (m ∷ []) 0 ≡ Some n → (n.base ≡ FIRST_BASE) × (n.slot_base ≡ 0)
-  first n is =
-      let same : m ≡ n = cc in
-      subst (λ (p : Placed). (p.base ≡ FIRST_BASE) × (p.slot_base ≡ 0)) same (whole.base, whole.slot_base)
-
   next : (k : ℕ) (a b : Placed) → slice_get (m ∷ []) k ≡ Some a → slice_get (m ∷ []) (k + 1) ≡ Some b → Follows a b
   next k a b here there =
       let none : slice_get (m ∷ []) (suc k) ≡ Some b = ap (slice_get (m ∷ [])) (sym (add-one k)) ∙ there in absurd (cc)
@@ -60,7 +56,7 @@ module _ (m : Placed) (words : List ℕ) (whole : IsWhole m words) (fits : lengt
   pub loaded : AreLoaded MAX_CODE_WORDS (m ∷ [])
   loaded = record {
     size = record { multiple = refl; least = omega arith; most = omega arith };
-    first = first;
+    first = begins m [] (whole.base, whole.slot_base);
     next = next;
     ends = All-cons (λ (n : Placed). n.base + length n.words ≤ MAX_CODE_WORDS) m []
         (omega (arith, whole.base, fits, ap length whole.same))

@@ -1,5 +1,6 @@
 pub mod SlotLemmas
 pub mod ShapedLemmas
+pub mod LoadedLemmas
 pub mod OneLemmas
 pub mod ExampleLemmas
 pub mod LengthLemmas

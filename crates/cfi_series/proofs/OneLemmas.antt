@@ -2,7 +2,6 @@
 use Rattle.std.proofs.Common.{◌≡◌, ℕ, zero, suc, ◌+◌, ◌≤◌, List, [], ◌∷◌, length, take, Some, refl, ap, subst, ◌∙◌, sym, add-one, arith}
 use Rattle.std.specs.List.{Contains, slice_get}
 use Rattle.std.proofs.lemmas.List.Elements.{All-nil, All-cons}
-use Rattle.cfi_word.specs.declared.map.TheConstants.{FIRST_BASE}
 use Rattle.cfi_word.specs.declared.limits.TheConstants.{MIN_CODE_WORDS}
 use Rattle.cfi_aux.specs.declared.placed.Placed.{Placed}
 use Rattle.cfi_graph.specs.Shaped.{Follows}
@@ -10,14 +9,10 @@ use Rattle.cfi_verify.specs.Example.{loop_module}
 use Rattle.cfi_verify.specs.Faults.{IsVerified}
 use Rattle.cfi_verify.proofs.ExampleLemmas.{verified}
 use Rattle.cfi_series.specs.Loaded.{IsVerifiedAmong, AreLoaded}
+use Rattle.cfi_series.proofs.LoadedLemmas.{begins}
 
 abbrev modules : List Placed
 modules = loop_module ∷ []
-
-first : (m : Placed) → slice_get modules 0 ≡ Some m → (m.base ≡ FIRST_BASE) × (m.slot_base ≡ 0)
-first m is =
-    let same : loop_module ≡ m = cc in
-    subst (λ (n : Placed). (n.base ≡ FIRST_BASE) × (n.slot_base ≡ 0)) same (refl, refl)
 
 next : (k : ℕ) (m n : Placed) → slice_get modules k ≡ Some m → slice_get modules (k + 1) ≡ Some n → Follows m n
 next k m n here there =
@@ -32,7 +27,7 @@ each (suc k) m is = absurd (cc)
 pub one : AreLoaded MIN_CODE_WORDS modules
 one = record {
   size = record { multiple = refl; least = omega arith; most = omega arith };
-  first = first;
+  first = begins loop_module [] (refl, refl);
   next = next;
   ends = All-cons (λ (m : Placed). m.base + length m.words ≤ MIN_CODE_WORDS) loop_module [] (omega arith)
       (All-nil (λ (m : Placed). m.base + length m.words ≤ MIN_CODE_WORDS));

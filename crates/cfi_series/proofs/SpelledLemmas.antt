@@ -31,9 +31,9 @@ zeros_are (x ∷ xs) none =
     let rest = zeros_are xs (λ k less. none (suc k) (omega (arith, less))) in
     ap (λ (y : ℕ). y ∷ xs) first ∙ ap (λ (ys : List ℕ). 0 ∷ ys) rest
 
--- where the modules end
+-- the words of modules, one after the other
 abbrev pub words_of_all : List Placed → List ℕ
-words_of_all ms = flat_map (λ (m : Placed). m.words) ms
+words_of_all ms = flat_map (λ m. m.words) ms
 
 module _ (code : List ℕ) where
   spelled_from : (base slot : ℕ) (ms : List Placed) → IsChain base slot ms → All (HasWords code) ms

@@ -14,6 +14,7 @@ use Rattle.cfi_verify.proofs.ExampleLemmas.{loop_verified}
 use Rattle.cfi_series.specs.Growth.{IsHistoryOf, HasNumbers}
 use Rattle.cfi_series.specs.Loaded.{IsVerifiedAmong, AreLoaded}
 use Rattle.cfi_series.proofs.GrowthLemmas.{loaded_some}
+use Rattle.cfi_series.proofs.LoadedLemmas.{begins}
 use Rattle.cfi_series.proofs.MadeLemmas.{image_for, image_is}
 
 -- the same module again, behind the first
@@ -25,11 +26,6 @@ modules = loop_module ∷ second ∷ []
 
 alone : (base : ℕ) → IsVerified (record loop_module { base = base }) []
 alone base = loop_verified base _ _ _ _ _ refl
-
-first : (m : Placed) → slice_get modules 0 ≡ Some m → (m.base ≡ FIRST_BASE) × (m.slot_base ≡ 0)
-first m is =
-    let same : loop_module ≡ m = cc in
-    subst (λ (n : Placed). (n.base ≡ FIRST_BASE) × (n.slot_base ≡ 0)) same (refl, refl)
 
 next_of : (k : ℕ) (m n : Placed) → slice_get modules k ≡ Some m → slice_get modules (suc k) ≡ Some n → Follows m n
 next_of zero m n here there =
@@ -53,7 +49,7 @@ two =
     let P : Placed → Type 0 = λ m. m.base + length m.words ≤ MIN_CODE_WORDS in
     record {
       size = record { multiple = refl; least = omega arith; most = omega arith };
-      first = first;
+      first = begins loop_module (second ∷ []) (refl, refl);
       next = λ k m n is there. next_of k m n is (ap (slice_get modules) (sym (add-one k)) ∙ there);
       ends = All-cons P loop_module (second ∷ []) (omega arith) (All-cons P second [] (omega arith) (All-nil P));
       verified = each;

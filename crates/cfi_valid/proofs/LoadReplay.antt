@@ -12,6 +12,7 @@ use Rattle.cfi_model.specs.Shows.{Stands}
 use Rattle.cfi_model.specs.State.{State, opened}
 use Rattle.cfi_policy.specs.Code.{IsCodeOf}
 use Rattle.cfi_series.specs.Loaded.{IsVerifiedAmong, AreLoaded}
+use Rattle.cfi_series.proofs.LoadedLemmas.{begins}
 use Rattle.cfi_unit.specs.declared.log.Log.{Log}
 use Rattle.cfi_unit.specs.declared.log.Log.TheVariants.{Pick, Open}
 use Rattle.cfi_unit.specs.declared.unit.Unit.{Unit as CodeUnit}
@@ -38,12 +39,6 @@ follows zero m n here there =
 follows (suc zero) m n here there = absurd (cc)
 follows (suc (suc k)) m n here there = absurd (cc)
 
-begins : (m : Placed) → slice_get (opener_placed ∷ plug_placed ∷ []) 0 ≡ Some m
-    → (m.base ≡ FIRST_BASE) × (m.slot_base ≡ 0)
-begins m is =
-    let same : opener_placed ≡ m = cc in
-    subst (λ (n : Placed). (n.base ≡ FIRST_BASE) × (n.slot_base ≡ 0)) same (refl, refl)
-
 verify : (k : ℕ) (m : Placed) → slice_get (opener_placed ∷ plug_placed ∷ []) k ≡ Some m
     → IsVerifiedAmong (take k (opener_placed ∷ plug_placed ∷ [])) m
 verify zero m is =
@@ -61,7 +56,7 @@ all_loaded =
     let P : Placed → Type 0 = λ m. m.base + length m.words ≤ MIN_CODE_WORDS in
     record {
       size = record { multiple = refl; least = omega arith; most = omega arith };
-      first = begins;
+      first = begins opener_placed (plug_placed ∷ []) (refl, refl);
       next = λ k m n is there.
           follows k m n is (ap (slice_get (opener_placed ∷ plug_placed ∷ [])) (sym (add-one k)) ∙ there);
       ends = All-cons P opener_placed (plug_placed ∷ []) (omega arith)

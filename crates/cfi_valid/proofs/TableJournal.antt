@@ -8,6 +8,7 @@ use Rattle.cfi_flow.proofs.Members.{member_cases, member_of_one}
 use Rattle.cfi_graph.specs.Shaped.{Follows}
 use Rattle.cfi_policy.specs.Code.{IsCodeOf}
 use Rattle.cfi_series.specs.Loaded.{IsVerifiedAmong, AreLoaded}
+use Rattle.cfi_series.proofs.LoadedLemmas.{begins}
 use Rattle.cfi_series.specs.Order.{Joins}
 use Rattle.cfi_verify.specs.Faults.{IsVerified}
 use Rattle.cfi_valid.specs.Joining.{HasNoFault}
@@ -21,7 +22,6 @@ use Rattle.cfi_valid.proofs.TablePolicy.{before, all}
 use Rattle.cfi_valid.proofs.LibVerified.{lib_verified}
 use Rattle.cfi_valid.proofs.MainVerified.{main_verified, plug_verified}
 use Rattle.cfi_word.specs.declared.limits.TheConstants.{MAX_CODE_WORDS}
-use Rattle.cfi_word.specs.declared.map.TheConstants.{FIRST_BASE}
 
 abbrev pub modules : List Module
 modules = lib_module ∷ main_module ∷ plug_module ∷ []
@@ -114,11 +114,6 @@ follows (suc zero) m n here there =
 follows (suc (suc zero)) m n here there = absurd (cc)
 follows (suc (suc (suc k))) m n here there = absurd (cc)
 
-begins : (m : Placed) → slice_get all 0 ≡ Some m → (m.base ≡ FIRST_BASE) × (m.slot_base ≡ 0)
-begins m is =
-    let same : lib_placed ≡ m = cc in
-    subst (λ (n : Placed). (n.base ≡ FIRST_BASE) × (n.slot_base ≡ 0)) same (refl, refl)
-
 -- each verifies against all before it
 against : (live : List Placed) (m n : Placed) → m ≡ n → IsVerified m live → IsVerifiedAmong live n
 against live m n same verified =
@@ -141,7 +136,7 @@ all_loaded =
     let P : Placed → Type 0 = λ m. m.base + length m.words ≤ MAX_CODE_WORDS in
     record {
       size = record { multiple = refl; least = omega arith; most = omega arith };
-      first = begins;
+      first = begins lib_placed (main_placed ∷ plug_placed ∷ []) (refl, refl);
       next = λ k m n is there. follows k m n is (ap (slice_get all) (sym (add-one k)) ∙ there);
       ends = All-cons P lib_placed (main_placed ∷ plug_placed ∷ []) (omega arith)
           (All-cons P main_placed (plug_placed ∷ []) (omega arith)
