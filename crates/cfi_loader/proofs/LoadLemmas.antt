@@ -42,19 +42,19 @@ use Rattle.cfi_loader.specs.Results.{asked_by}
 use Rattle.cfi_loader.specs.Told.{GoesOnBy, MayAskFor, HasTold}
 use Rattle.cfi_loader.specs.inner.Books.{course_in, end_of_books, ledger_of, loaded_in, BooksAgree, IsAfter}
 use Rattle.cfi_loader.specs.inner.Journal.{Minutes, HasLine}
-use Rattle.cfi_loader.specs.inner.Roster.{Roster, line_by}
+use Rattle.cfi_loader.specs.inner.Roster.{Roster, line_by, origin_of}
 use Rattle.cfi_loader.proofs.BooksLemmas.{last_entry, one_left}
 use Rattle.cfi_loader.proofs.EntryLemmas.{among_self, entry_of_all, loaded_all}
 use Rattle.cfi_loader.proofs.LedgerLemmas.{goes_later, ledger_more}
 use Rattle.cfi_loader.proofs.PolicyLemmas.{policies_below, policies_more}
-use Rattle.cfi_loader.proofs.RosterLemmas.{places_are, loaded_more}
+use Rattle.cfi_valid.proofs.KeptLemmas.{places_are, loaded_more}
 use Rattle.cfi_loader.proofs.TellLemmas.{tells_grown, last_more}
 
 -- ---- the modules that are loaded
 
 module _ (k : Key) (b : Books) (keeping : Keeping) (kept : BooksAgree k b keeping) where
   pub places : placed_modules (loaded_in b) ≡ b.roster.placed
-  places = places_are b.roster.lines b.roster.placed kept.roster_is.many
+  places = places_are origin_of b.roster.lines b.roster.placed kept.roster_is.many
 
   sound : All IsSoundModule b.modules
   sound = λ at d within. (kept.ledger.can_start.taken at d within).sound
@@ -146,7 +146,7 @@ module _ (k : Key) (b : Books) (j : Minutes) (keeping : Keeping) (kept : BooksAg
   after_load has asks may left is is_sound absent room joins of =
       let all : List Placed = b.roster.placed ++ one ∷ [] in
       let many = kept.roster_is.many in
-      let there = loaded_more b.roster.lines b.roster.placed line one many in
+      let there = loaded_more origin_of b.roster.lines b.roster.placed line one many in
       let end : end_of_books loaded_books ≡ with_loaded number (b.epoch + 1) (b.policy + 1) one (end_of_books b) =
       ap (λ (ls : List LoadedModule). record { epoch = b.epoch + 1; policy = b.policy + 1; loaded = ls }) there in
       let clean : IsClean b.plan b.modules (end_of_books b) number = record {
@@ -174,7 +174,7 @@ module _ (k : Key) (b : Books) (j : Minutes) (keeping : Keeping) (kept : BooksAg
       let longer : length (b.roster.lines ++ line ∷ []) ≡ length all =
       omega (arith, length-append b.roster.lines (line ∷ []), length-append b.roster.placed (one ∷ []), many) in
       let places_there : placed_modules (loaded_in loaded_books) ≡ all =
-      places_are (b.roster.lines ++ line ∷ []) all longer in
+      places_are origin_of (b.roster.lines ++ line ∷ []) all longer in
       let is_entry : IsEntryOf (course_in loaded_books) new =
       entry_of_all (course_in loaded_books) new refl (policies_below b.plan (end_of_books loaded_books) policies)
       (subst (AreLoaded b.plan.code_words) (sym places_there)

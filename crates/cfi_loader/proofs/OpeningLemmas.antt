@@ -36,11 +36,11 @@ use Rattle.cfi_loader.specs.inner.Books.{course_in, end_of_books, ledger_of, Boo
 use Rattle.cfi_loader.specs.inner.Entries.{AllEnter, IsFirstOut}
 use Rattle.cfi_loader.specs.inner.Journal.{Minutes}
 use Rattle.cfi_loader.specs.inner.Opening.{books_at, AreOpeningBooks}
-use Rattle.cfi_loader.specs.inner.Roster.{Roster, IsImageOfRoster}
+use Rattle.cfi_loader.specs.inner.Roster.{Roster, IsImageOfRoster, origin_of}
 use Rattle.cfi_loader.specs.inner.Starts.{AreStarted, loaded_in, opened_state}
 use Rattle.cfi_loader.proofs.EntryLemmas.{among_self, entry_of_all, loaded_all}
 use Rattle.cfi_loader.proofs.PolicyLemmas.{policies_below}
-use Rattle.cfi_loader.proofs.RosterLemmas.{places_are, many_are}
+use Rattle.cfi_valid.proofs.KeptLemmas.{places_are, many_are}
 use Rattle.cfi_loader.proofs.StartLemmas.{started_all, started_count}
 
 -- ---- where guests begin
@@ -61,7 +61,7 @@ module _ (plan : Plan) (loaded : List LoadedModule) (ms : List Placed)
 module _ (plan : Plan) (modules : List Module) (can : CanStart plan modules) (r : Roster)
     (all : AreStarted plan modules (length plan.modules) r) where
   places : placed_modules (loaded_in r) ≡ r.placed
-  places = places_are r.lines r.placed all.many
+  places = places_are origin_of r.lines r.placed all.many
 
   pub start_places : placed_modules (loaded_by 0 (loaded_in r)) ≡ r.placed
   start_places =
@@ -181,7 +181,7 @@ module _ (plan : Plan) (modules : List Module) (can : CanStart plan modules) (r 
         layout_is = refl;
         image_is = refl;
         starts_are =
-            all.many ∙ sym (many_are r.lines r.placed all.many) ∙ started_count plan modules r all;
+            all.many ∙ sym (many_are origin_of r.lines r.placed all.many) ∙ started_count plan modules r all;
       }
 
 -- ---- the books of a start

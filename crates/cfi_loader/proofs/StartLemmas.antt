@@ -18,9 +18,9 @@ use Rattle.cfi_valid.specs.Journal.{IsOpeningState, starts_from}
 use Rattle.cfi_valid.specs.Loaded.{LoadedModule, module_line_of, planned_name}
 use Rattle.cfi_valid.proofs.StartLemmas.{StartsAreLoaded, one_of, starts_cons, starts_same, starts_more, starts_all, unjoined}
 use Rattle.cfi_loader.specs.Starting.{IsOpenFault}
-use Rattle.cfi_loader.specs.inner.Roster.{Roster, HasJoined, line_by, loaded_of}
+use Rattle.cfi_loader.specs.inner.Roster.{Roster, HasJoined, line_by, loaded_of, origin_of}
 use Rattle.cfi_loader.specs.inner.Starts.{AreStarted, loaded_in, opened_state, open_fault_of}
-use Rattle.cfi_loader.proofs.RosterLemmas.{loaded_more, places_are}
+use Rattle.cfi_valid.proofs.KeptLemmas.{loaded_more, places_are}
 
 -- ---- the numbers of start modules
 
@@ -76,7 +76,7 @@ module _ (plan : Plan) (modules : List Module) where
           let line : ModuleLine = line_by number one.name 0 p in
           let l : LoadedModule = record { number = number; placed = p; policy = 0 } in
           let there : loaded_of (r.lines ++ line ∷ []) (r.placed ++ p ∷ []) ≡ loaded_in r ++ l ∷ [] =
-          loaded_more r.lines r.placed line p so_far.many in
+          loaded_more origin_of r.lines r.placed line p so_far.many in
           let joins : Joins plan.code_words r.placed unplaced p =
           subst (λ (n : ℕ). Joins n r.placed unplaced p) so_far.code_words_are joined.joins in
           let name : one.name ≡ planned_name plan.modules number =
@@ -115,7 +115,7 @@ module _ (plan : Plan) (modules : List Module) where
   pub started_all : (r : Roster) → AreStarted plan modules (length plan.modules) r
       → IsOpeningState plan modules (opened_state plan r)
   started_all r all =
-      starts_all plan modules (loaded_in r) r.placed (places_are r.lines r.placed all.many)
+      starts_all plan modules (loaded_in r) r.placed (places_are origin_of r.lines r.placed all.many)
       (starts_are plan modules (length plan.modules) r all)
 
   pub started_count : (r : Roster) → AreStarted plan modules (length plan.modules) r

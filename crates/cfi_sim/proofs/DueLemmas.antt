@@ -17,9 +17,9 @@ use Rattle.cfi_world.specs.declared.event.Event.TheVariants as events
 use Rattle.cfi_sim.specs.declared.found.Found.{Found}
 use Rattle.cfi_sim.specs.declared.found.Found.TheVariants.{Unknown, Functionless, Opened, Unloaded}
 use Rattle.cfi_sim.specs.declared.spot.Spot.{Spot}
-use Rattle.cfi_sim.specs.inner.Loaded.{loaded_of}
+use Rattle.cfi_sim.specs.inner.Loaded.{loaded_of, origin_of}
 use Rattle.cfi_sim.proofs.BegunLemmas.{some_fills}
-use Rattle.cfi_sim.proofs.FoundLemmas.{placed_are}
+use Rattle.cfi_valid.proofs.KeptLemmas.{places_are}
 use Rattle.cfi_valid.specs.Loaded.{fills_between}
 use Rattle.cfi_word.specs.declared.services.TheConstants.{TOO_MANY}
 
@@ -28,7 +28,7 @@ pub between_lies : (code_words above upto : ℕ) (spots : List Spot) (placed : L
     → All LiesInData (fills_between above upto (loaded_of spots placed))
 between_lies code_words above upto spots placed same series =
     some_fills _ (loaded_of spots placed)
-    (subst (λ (ps : List Placed). All LiesInData (fills_of ps)) (sym (placed_are spots placed same))
+    (subst (λ (ps : List Placed). All LiesInData (fills_of ps)) (sym (places_are origin_of spots placed same))
     (data_lies code_words placed series))
 
 pub cause_few : (found : Found) → cause_in found ≢ TOO_MANY

@@ -1,10 +1,8 @@
 -- What an open finds, by the places of loaded modules.
-use Rattle.std.proofs.Common.{◌≡◌, ℕ, zero, suc, ◌<◌, ◌&&◌, ◌++◌, cond, Bool, true, false, take, List, [], ◌∷◌, length, slice_get, Some, refl, sym, ◌∙◌, ap, subst, arith}
+use Rattle.std.proofs.Common.{◌≡◌, ℕ, zero, suc, ◌<◌, ◌&&◌, ◌++◌, cond, Bool, true, false, take, List, [], ◌∷◌, length, slice_get, Some, refl, sym, ◌∙◌, ap, subst}
 use Rattle.std.specs.Prelude.{filter, nat_lt, nat_le}
-use Rattle.std.specs.List.{Contains}
-use Rattle.std.proofs.lemmas.Option.{slice_get-get_or}
 use Rattle.cfi_aux.specs.declared.placed.Placed.{Placed}
-use Rattle.cfi_graph.proofs.BoundLemmas.{contains_at}
+use Rattle.cfi_graph.proofs.BoundLemmas.{contains_at, at_contains}
 use Rattle.cfi_model.specs.World.{World}
 use Rattle.cfi_plan.specs.declared.plan.Plan.{Plan}
 use Rattle.cfi_series.specs.Entry.{IsGlobal, HasNoneOf}
@@ -13,62 +11,12 @@ use Rattle.cfi_sim.specs.Events.{IsFound}
 use Rattle.cfi_sim.specs.declared.found.Found.{Found}
 use Rattle.cfi_sim.specs.declared.found.Found.TheVariants.{Unknown, Functionless, Opened, Unloaded}
 use Rattle.cfi_sim.specs.declared.spot.Spot.{Spot}
-use Rattle.cfi_sim.specs.inner.Loaded.{due_of, loaded_of, NoSpotHas, FindsIn}
+use Rattle.cfi_sim.specs.inner.Loaded.{due_of, loaded_of, module_at, origin_of, NoSpotHas, FindsIn}
 use Rattle.cfi_series.specs.Fills.{fill_of, fills_of}
 use Rattle.cfi_unit.specs.declared.fill.Fill.{Fill}
+use Rattle.cfi_valid.proofs.KeptLemmas.{kept_at, loaded_at}
 use Rattle.cfi_valid.specs.Loaded.{LoadedModule, IsLoaded, placed_modules, fills_between}
 use Rattle.cfi_valid.specs.Log.{HasNoFunction}
-
-abbrev pub module_of : Spot → Placed → LoadedModule
-module_of spot one = record { number = spot.number; placed = one; policy = spot.policy }
-
--- a spot and a place make a loaded module
-pub loaded_at : (spots : List Spot) (placed : List Placed) (at : ℕ) (spot : Spot) (one : Placed)
-    → slice_get spots at ≡ Some spot → slice_get placed at ≡ Some one
-    → slice_get (loaded_of spots placed) at ≡ Some (module_of spot one)
-loaded_at [] placed at spot one a b = absurd (cc)
-loaded_at (s ∷ spots) [] at spot one a b = absurd (cc)
-loaded_at (s ∷ spots) (p ∷ placed) zero spot one a b =
-    let spot_is : s ≡ spot = cc in
-    let one_is : p ≡ one = cc in
-    ap (λ (x : Spot). Some (module_of x p)) spot_is ∙ ap (λ (x : Placed). Some (module_of spot x)) one_is
-loaded_at (s ∷ spots) (p ∷ placed) (suc at) spot one a b = loaded_at spots placed at spot one a b
-
--- and a loaded module has a spot
-pub spot_of : (spots : List Spot) (placed : List Placed) (at : ℕ) (l : LoadedModule)
-    → slice_get (loaded_of spots placed) at ≡ Some l
-    → (spot : Spot) × (slice_get spots at ≡ Some spot) × (spot.number ≡ l.number)
-spot_of [] placed at l is = absurd (cc)
-spot_of (s ∷ spots) [] at l is = absurd (cc)
-spot_of (s ∷ spots) (p ∷ placed) zero l is =
-    let same : module_of s p ≡ l = cc in
-    (s, refl, ap (λ (m : LoadedModule). m.number) same)
-spot_of (s ∷ spots) (p ∷ placed) (suc at) l is = spot_of spots placed at l is
-
--- their places are those that are kept
-pub placed_are : (spots : List Spot) (placed : List Placed) → length spots ≡ length placed
-    → placed_modules (loaded_of spots placed) ≡ placed
-placed_are [] [] same = refl
-placed_are [] (p ∷ placed) same = absurd (omega (arith, same))
-placed_are (s ∷ spots) [] same = absurd (omega (arith, same))
-placed_are (s ∷ spots) (p ∷ placed) same =
-    ap (λ (ps : List Placed). p ∷ ps) (placed_are spots placed (omega (arith, same)))
-
-pub loaded_many : (spots : List Spot) (placed : List Placed) → length spots ≡ length placed
-    → length (loaded_of spots placed) ≡ length spots
-loaded_many [] [] same = refl
-loaded_many [] (p ∷ placed) same = absurd (omega (arith, same))
-loaded_many (s ∷ spots) [] same = absurd (omega (arith, same))
-loaded_many (s ∷ spots) (p ∷ placed) same =
-    let rest = loaded_many spots placed (omega (arith, same)) in omega (arith, rest)
-
--- a module that is contained stands at a place
-pub place_in : (loaded : List LoadedModule) (l : LoadedModule) → Contains loaded l
-    → (at : ℕ) × (slice_get loaded at ≡ Some l)
-place_in loaded l has = (
-  has.0,
-  slice_get-get_or loaded has.0 l has.1 ∙ ap (λ (m : LoadedModule). Some m) has.2,
-)
 
 module _ (plan : Plan) (world : World) (spots : List Spot) (placed : List Placed) (number : ℕ)
     (known : number < length plan.modules) where
@@ -78,9 +26,8 @@ module _ (plan : Plan) (world : World) (spots : List Spot) (placed : List Placed
   -- no module has the number
   pub none_loaded : NoSpotHas spots number → ¬ IsLoaded loaded number
   none_loaded none has =
-      let at = place_in loaded has.0 has.1 in
-      let spot = spot_of spots placed at.0 has.0 at.1 in
-      none at.0 spot.0 spot.1 (spot.2 ∙ has.2)
+      let spot = kept_at origin_of spots placed has.1.0 has.0 (at_contains loaded has.0 has.1) in
+      none has.1.0 spot.0 spot.1 (spot.2 ∙ has.2)
 
   pub none_found : NoSpotHas spots number → IsFound plan world loaded number Unloaded
   none_found none = (
@@ -93,31 +40,31 @@ module _ (plan : Plan) (world : World) (spots : List Spot) (placed : List Placed
   module _ (apart : NumbersAreApart loaded) (at : ℕ) (spot : Spot) (one : Placed)
       (here : slice_get spots at ≡ Some spot)
       (same : spot.number ≡ number) (there : slice_get placed at ≡ Some one) where
-    stands : slice_get loaded at ≡ Some (module_of spot one)
-    stands = loaded_at spots placed at spot one here there
+    stands : slice_get loaded at ≡ Some (module_at spot one)
+    stands = loaded_at origin_of spots placed at spot one here there
 
     none_in : HasNoFunction loaded number → HasNoneOf IsGlobal one
     none_in found =
-        let other = place_in loaded found.one found.has in
-        let one_place : at ≡ other.0 =
-        apart at other.0 (module_of spot one) found.one stands other.1 (same ∙ sym found.is) in
-        let both : Some (module_of spot one) ≡ Some found.one =
-        sym stands ∙ ap (λ (k : ℕ). slice_get loaded k) one_place ∙ other.1 in
-        let is : module_of spot one ≡ found.one = cc in
+        let other = at_contains loaded found.one found.has in
+        let one_place : at ≡ found.has.0 =
+        apart at found.has.0 (module_at spot one) found.one stands other (same ∙ sym found.is) in
+        let both : Some (module_at spot one) ≡ Some found.one =
+        sym stands ∙ ap (λ (k : ℕ). slice_get loaded k) one_place ∙ other in
+        let is : module_at spot one ≡ found.one = cc in
         subst (λ (m : LoadedModule). HasNoneOf IsGlobal m.placed) (sym is) found.none
 
     pub one_found : (found : Found) → FindsIn world one found → IsFound plan world loaded number found
     one_found Unknown finds = absurd finds
     one_found Functionless finds = (
       known,
-      record { one = module_of spot one; has = contains_at loaded at (module_of spot one) stands; is = same; none = finds },
+      record { one = module_at spot one; has = contains_at loaded at (module_at spot one) stands; is = same; none = finds },
     )
     one_found (Opened address) finds = (
       known,
       record {
         opened = record {
-          one = module_of spot one;
-          has = contains_at loaded at (module_of spot one) stands;
+          one = module_at spot one;
+          has = contains_at loaded at (module_at spot one) stands;
           is = same;
           first = finds.0;
         };
@@ -165,7 +112,7 @@ pub between_more : (above upto : ℕ) (spots : List Spot) (placed : List Placed)
     ≡ fills_between above upto (take k (loaded_of spots placed)) ++ due_of above upto spot one
 between_more above upto spots placed k spot one here there =
     let test : LoadedModule → Bool = λ l. nat_lt above l.policy && nat_le l.policy upto in
-    let l : LoadedModule = module_of spot one in
+    let l : LoadedModule = module_at spot one in
     ap (λ (ls : List LoadedModule). fills_between above upto ls)
-    (take_more (loaded_of spots placed) k l (loaded_at spots placed k spot one here there))
+    (take_more (loaded_of spots placed) k l (loaded_at origin_of spots placed k spot one here there))
     ∙ filter_more test (take k (loaded_of spots placed)) l

@@ -1,8 +1,8 @@
 -- Loads, as a simulation under way makes them.
-use Rattle.std.proofs.Common.{◌≡◌, ℕ, ◌<◌, ◌≤◌, ◌++◌, Bool, true, false, List, [], ◌∷◌, length, get_or, slice_get, Some, None, refl, sym, ◌∙◌, ap, subst, arith, inl, inr}
+use Rattle.std.proofs.Common.{◌≡◌, ℕ, ◌<◌, ◌≤◌, Bool, true, false, List, length, get_or, slice_get, Some, None, refl, sym, ◌∙◌, ap, subst, arith, inl, inr}
 use Rattle.cfi_aux.specs.declared.modules.Module.{Module}
 use Rattle.cfi_aux.specs.declared.placed.Placed.{Placed}
-use Rattle.cfi_graph.proofs.BoundLemmas.{contains_at}
+use Rattle.cfi_graph.proofs.BoundLemmas.{contains_at, at_contains}
 use Rattle.cfi_plan.specs.declared.journal.JournalLine.{JournalLine}
 use Rattle.cfi_plan.specs.declared.journal.JournalLine.TheVariants as lines
 use Rattle.cfi_series.proofs.OrderLemmas.{joins_or_refused}
@@ -21,14 +21,14 @@ use Rattle.cfi_sim.specs.Events.{TellsLoad, IsLoadEvent}
 use Rattle.cfi_sim.specs.Reach.{OfLoad}
 use Rattle.cfi_sim.specs.Schedule.{PassesNoLimit}
 use Rattle.cfi_sim.specs.Stage.{Stage, with_journal_line}
-use Rattle.cfi_sim.specs.inner.Loaded.{loaded_of, SpotHas, NoSpotHas}
+use Rattle.cfi_sim.specs.inner.Loaded.{loaded_of, module_at, origin_of, SpotHas, NoSpotHas}
 use Rattle.cfi_sim.specs.inner.Making.{HasMadeWithin, MakesBy, CanBegin, BeginsBy, IsImageWith, with_told}
 use Rattle.cfi_sim.specs.declared.standing.Standing.TheInside.{Inside}
 use Rattle.cfi_sim.specs.inner.Standing.{Whole, SeriesFits, IsUnderWay, whole_inside}
 use Rattle.cfi_sim.proofs.BeginLemmas.{under_after, updates_few, done_so}
 use Rattle.cfi_sim.proofs.BegunLemmas.{load_may}
-use Rattle.cfi_sim.proofs.FoundLemmas.{module_of, loaded_at, loaded_many, place_in, placed_are, spot_of}
 use Rattle.cfi_sim.proofs.GoLemmas.{all_sound}
+use Rattle.cfi_valid.proofs.KeptLemmas.{kept_at, loaded_at, many_are, places_are}
 use Rattle.cfi_valid.specs.Joining.{IsUnloaded}
 use Rattle.cfi_valid.specs.Journal.{IsClean, LineLeads}
 use Rattle.cfi_valid.specs.Loaded.{LoadedModule, placed_modules, IsLoaded}
@@ -42,8 +42,8 @@ pub spot_loaded : (spots : List Spot) (placed : List Placed) → length spots �
     → SpotHas spots number at → (one : Placed) → slice_get placed at ≡ Some one
     → IsLoaded (loaded_of spots placed) number
 spot_loaded spots placed same number at has one there =
-    let l : LoadedModule = module_of has.0 one in
-    (l, contains_at (loaded_of spots placed) at l (loaded_at spots placed at has.0 one has.1 there), has.2)
+    let l : LoadedModule = module_at has.0 one in
+    (l, contains_at (loaded_of spots placed) at l (loaded_at origin_of spots placed at has.0 one has.1 there), has.2)
 
 module _ (x : Whole) (under : IsUnderWay x) (within : PassesNoLimit x.stage) (number : ℕ) where
   -- a line that is told at once
@@ -141,16 +141,6 @@ module _ (x : Whole) (under : IsUnderWay x) (within : PassesNoLimit x.stage) (nu
 
 -- ---- as it is kept
 
--- a spot and a place more make a loaded module more
-pub loaded_more : (spots : List Spot) (placed : List Placed) (spot : Spot) (one : Placed)
-    → length spots ≡ length placed
-    → loaded_of (spots ++ spot ∷ []) (placed ++ one ∷ []) ≡ loaded_of spots placed ++ module_of spot one ∷ []
-loaded_more [] [] spot one same = refl
-loaded_more [] (p ∷ placed) spot one same = absurd (omega (arith, same))
-loaded_more (s ∷ spots) [] spot one same = absurd (omega (arith, same))
-loaded_more (s ∷ spots) (p ∷ placed) spot one same =
-    ap (λ (ls : List LoadedModule). module_of s p ∷ ls) (loaded_more spots placed spot one (omega (arith, same)))
-
 -- the series is that of the loaded modules
 pub series_is : (a : Inside) → SeriesFits a
     → a.series ≡ record {
@@ -159,7 +149,7 @@ pub series_is : (a : Inside) → SeriesFits a
     }
 series_is a kept =
     let words = kept.size in
-    let placed = placed_are a.spots.items a.series.placed kept.count in
+    let placed = places_are origin_of a.spots.items a.series.placed kept.count in
     ap (λ (n : ℕ). record { code_words = n; placed = a.series.placed }) words
     ∙ ap (λ (ps : List Placed). record { code_words = a.plan.now.code_words; placed = ps }) (sym placed)
 
@@ -202,9 +192,9 @@ module _ (a : Inside) (kept : SeriesFits a) (x : Whole) (is : whole_inside a ≡
       → IsLoaded here.stage.state.loaded number → ⊥
   absent_here spots same none has =
       let own = subst (λ (ss : List Spot). NoSpotHas ss number) same none in
-      let at = place_in here.stage.state.loaded has.0 has.1 in
-      let spot = spot_of a.spots.items a.series.placed at.0 has.0 at.1 in
-      own at.0 spot.0 spot.1 (spot.2 ∙ has.2)
+      let there = at_contains here.stage.state.loaded has.0 has.1 in
+      let spot = kept_at origin_of a.spots.items a.series.placed has.1.0 has.0 there in
+      own has.1.0 spot.0 spot.1 (spot.2 ∙ has.2)
 
   pub absent_load : (spots : List Spot) → spots ≡ a.spots.items → NoSpotHas spots number
       → IsLoaded x.stage.state.loaded number → ⊥
@@ -216,20 +206,20 @@ module _ (a : Inside) (kept : SeriesFits a) (x : Whole) (is : whole_inside a ≡
       → MAX_LOADED ≤ length a.spots.items → (y : Whole) → y ≡ with_told (lines.LoadFull number) here
       → HasMadeWithin (IsLoadEvent x.plan x.modules number) x y
   full_load spots same none full y y_is =
-      let many = loaded_many a.spots.items a.series.placed kept.count in
+      let many = many_are origin_of a.spots.items a.series.placed kept.count in
       back y (told_load here under_here within_here number (lines.LoadFull number) refl (
         record {
           known = known_here;
           absent = absent_here spots same none;
-          full = omega (arith, many, full);
+          full = omega (arith, many, kept.count, full);
         },
         refl,
       ) y y_is)
 
   pub room_load : length a.spots.items < MAX_LOADED → length x.stage.state.loaded < MAX_LOADED
   room_load few =
-      let many = loaded_many a.spots.items a.series.placed kept.count in
-      subst (λ (w : Whole). length w.stage.state.loaded < MAX_LOADED) is (omega (arith, many, few))
+      let many = many_are origin_of a.spots.items a.series.placed kept.count in
+      subst (λ (w : Whole). length w.stage.state.loaded < MAX_LOADED) is (omega (arith, many, kept.count, few))
 
   -- one that is not loaded
   module _ (absent : IsLoaded x.stage.state.loaded number → ⊥) (room : length x.stage.state.loaded < MAX_LOADED)

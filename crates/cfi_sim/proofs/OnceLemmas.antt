@@ -16,7 +16,7 @@ use Rattle.cfi_sim.specs.declared.found.Found.{Found}
 use Rattle.cfi_sim.specs.declared.found.Found.TheVariants.{Unknown, Functionless, Opened, Unloaded}
 use Rattle.cfi_sim.specs.Schedule.{Repeats}
 use Rattle.cfi_sim.specs.Stage.{Stage, after_event}
-use Rattle.cfi_sim.proofs.FoundLemmas.{place_in}
+use Rattle.cfi_graph.proofs.BoundLemmas.{at_contains}
 use Rattle.cfi_sim.proofs.NotedLemmas.{update_world}
 use Rattle.cfi_valid.specs.Journal.{JournalState}
 use Rattle.cfi_valid.specs.Loaded.{LoadedModule}
@@ -48,10 +48,10 @@ first_once m a b p q =
 module _ (loaded : List LoadedModule) (apart : NumbersAreApart loaded) where
   one_module : (l m : LoadedModule) → Contains loaded l → Contains loaded m → l.number ≡ m.number → l ≡ m
   one_module l m has has' same =
-      let at = place_in loaded l has in
-      let at' = place_in loaded m has' in
-      let place : at.0 ≡ at'.0 = apart at.0 at'.0 l m at.1 at'.1 same in
-      let both : Some l ≡ Some m = sym at.1 ∙ ap (λ (k : ℕ). slice_get loaded k) place ∙ at'.1 in
+      let at = at_contains loaded l has in
+      let at' = at_contains loaded m has' in
+      let place : has.0 ≡ has'.0 = apart has.0 has'.0 l m at at' same in
+      let both : Some l ≡ Some m = sym at ∙ ap (λ (k : ℕ). slice_get loaded k) place ∙ at' in
       cc
 
   opened_once : (number a b : ℕ) → HasFunctionAt loaded number a → HasFunctionAt loaded number b → a ≡ b

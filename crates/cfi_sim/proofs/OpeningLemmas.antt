@@ -23,11 +23,11 @@ use Rattle.cfi_sim.specs.declared.limits.TheConstants.{MAX_UPDATES}
 use Rattle.cfi_sim.specs.declared.spot.Spot.{Spot}
 use Rattle.cfi_sim.specs.Stage.{Stage}
 use Rattle.cfi_sim.specs.Valid.{IsStart}
-use Rattle.cfi_sim.specs.inner.Loaded.{loaded_of}
+use Rattle.cfi_sim.specs.inner.Loaded.{loaded_of, origin_of}
 use Rattle.cfi_sim.specs.inner.Opening.{AreGuestsIn, AreStarted, IsFirstLostIn, IsFirstOut, IsGuestIn, IsLostIn, IsOpened, IsOpeningFault}
 use Rattle.cfi_sim.specs.inner.Standing.{Whole, IsUnderWay, whole_at}
 use Rattle.cfi_sim.proofs.ComingLemmas.{all_loaded}
-use Rattle.cfi_sim.proofs.FoundLemmas.{placed_are}
+use Rattle.cfi_valid.proofs.KeptLemmas.{places_are}
 use Rattle.cfi_sim.proofs.GoLemmas.{all_sound}
 use Rattle.cfi_sim.proofs.StartLemmas.{can, low_first, start_holds}
 use Rattle.cfi_sim.proofs.StartedLemmas.{opened_state, started_all}
@@ -111,7 +111,7 @@ module _ (plan : Plan) (modules : List Module) (is : IsPlan plan) (taken : All C
       ap placed_modules
       (all_loaded 0 loaded
       (low_first 0 loaded (recursion_from_All (λ (l : LoadedModule). l.policy ≡ 0) loaded all.policies)))
-      ∙ placed_are spots series.placed all.many
+      ∙ places_are origin_of spots series.placed all.many
 
   begins : (entry : List ℕ) (address : ℕ) → IsEntryIn series.placed entry address
       → GuestBegins plan loaded entry address
@@ -163,7 +163,7 @@ module _ (plan : Plan) (modules : List Module) (is : IsPlan plan) (taken : All C
     image_is : (let ms = placed_modules loaded in IsImage (DirectEdge ms) ms plan.code_words image)
     image_is =
         subst (λ (ms : List Placed). IsImage (DirectEdge ms) ms plan.code_words image)
-        (sym (placed_are spots series.placed all.many))
+        (sym (places_are origin_of spots series.placed all.many))
         (subst (λ (n : ℕ). IsImage (DirectEdge series.placed) series.placed n image) all.code_words_are of)
 
     abbrev starts_here : IsStart plan modules stage_at

@@ -12,9 +12,10 @@ use Rattle.cfi_sim.specs.Told.{IsToldSim}
 use Rattle.cfi_sim.specs.declared.standing.Standing.TheInside.{Inside}
 use Rattle.cfi_sim.specs.inner.Standing.{Whole, whole_inside}
 use Rattle.cfi_sim.specs.declared.spot.Spot.{Spot}
-use Rattle.cfi_sim.specs.inner.Loaded.{loaded_of, module_at}
+use Rattle.cfi_sim.specs.inner.Loaded.{loaded_of, module_at, origin_of}
 use Rattle.cfi_sim.specs.inner.Parts.{ArePartsOf}
-use Rattle.cfi_sim.proofs.FoundLemmas.{loaded_at, take_more}
+use Rattle.cfi_sim.proofs.FoundLemmas.{take_more}
+use Rattle.cfi_valid.proofs.KeptLemmas.{loaded_at}
 use Rattle.cfi_valid.specs.Loaded.{LoadedModule, module_line_of}
 
 -- ---- the loaded modules
@@ -28,7 +29,7 @@ pub lines_push : (named : List PlanModule) (spots : List Spot) (placed : List Pl
 lines_push named spots placed k spot one here there lines new so_far new_is =
     let l : LoadedModule = module_at spot one in
     let more : take (suc k) (loaded_of spots placed) ≡ take k (loaded_of spots placed) ++ l ∷ [] =
-    take_more (loaded_of spots placed) k l (loaded_at spots placed k spot one here there) in
+    take_more (loaded_of spots placed) k l (loaded_at origin_of spots placed k spot one here there) in
     new_is
     ∙ ap (λ (ls : List ModuleLine). ls ++ module_line_of named l ∷ []) so_far
     ∙ sym (ap (λ (n : ℕ). map (module_line_of named) (take n (loaded_of spots placed))) (add-one k)

@@ -11,10 +11,9 @@ use Rattle.cfi_series.specs.declared.fault.JoinFault.{JoinFault}
 use Rattle.cfi_series.specs.declared.fault.JoinFault.TheVariants as joins
 use Rattle.cfi_sim.specs.declared.fault.SimFault.{SimFault}
 use Rattle.cfi_sim.specs.declared.spot.Spot.{Spot}
-use Rattle.cfi_sim.specs.inner.Loaded.{loaded_of}
+use Rattle.cfi_sim.specs.inner.Loaded.{loaded_of, origin_of}
 use Rattle.cfi_sim.specs.inner.Opening.{fault_at, AreStarted, HasStarted, IsOpeningFault, IsUnstarted}
-use Rattle.cfi_sim.proofs.FoundLemmas.{placed_are}
-use Rattle.cfi_sim.proofs.LoadLemmas.{loaded_more}
+use Rattle.cfi_valid.proofs.KeptLemmas.{loaded_more, places_are}
 use Rattle.cfi_valid.specs.Journal.{JournalState, IsOpeningState}
 use Rattle.cfi_valid.specs.Loaded.{LoadedModule}
 use Rattle.cfi_valid.proofs.StartLemmas.{StartsAreLoaded, starts_same, starts_more, starts_all, unjoined}
@@ -60,7 +59,7 @@ module _ (plan : Plan) (modules : List Module) where
           let spot : Spot = record { number = number; policy = 0 } in
           let l : LoadedModule = record { number = number; placed = p; policy = 0 } in
           let all : List LoadedModule = loaded_of (spots ++ spot ∷ []) (series.placed ++ p ∷ []) in
-          let there : all ≡ loaded ++ l ∷ [] = loaded_more spots series.placed spot p so_far.many in
+          let there : all ≡ loaded ++ l ∷ [] = loaded_more origin_of spots series.placed spot p so_far.many in
           let joins : Joins plan.code_words series.placed unplaced p =
           subst (λ (n : ℕ). Joins n series.placed unplaced p) so_far.code_words_are has.joined.1 in
           let more = starts_more plan modules number one within is loaded series.placed these start unplaced is_there
@@ -97,5 +96,5 @@ module _ (plan : Plan) (modules : List Module) where
       → IsOpeningState plan modules (opened_state plan series spots)
   started_all series spots all =
       starts_all plan modules (loaded_of spots series.placed) series.placed
-      (placed_are spots series.placed all.many)
+      (places_are origin_of spots series.placed all.many)
       (starts_are plan modules (length plan.modules) series spots all)

@@ -20,12 +20,13 @@ use Rattle.cfi_sim.specs.Events.{IsNoted, IsUpdateEvent}
 use Rattle.cfi_sim.specs.Reach.{OfUpdate}
 use Rattle.cfi_sim.specs.Stage.{Stage, IsMade, after_event, loaded_as}
 use Rattle.cfi_sim.specs.Stands.{LoadFits}
-use Rattle.cfi_sim.specs.inner.Loaded.{loaded_of}
+use Rattle.cfi_sim.specs.inner.Loaded.{loaded_of, origin_of}
 use Rattle.cfi_sim.specs.inner.Making.{FitsAim, HasCome, HasMadeWithin, NotesBy, with_dropped, with_told}
 use Rattle.cfi_sim.specs.inner.Standing.{Whole, SeriesFits, IsUnderWay, whole_inside}
 use Rattle.cfi_sim.proofs.BeginLemmas.{under_after, updates_few, done_so}
 use Rattle.cfi_sim.proofs.NotedLemmas.{not_spent, busy, update_counts}
-use Rattle.cfi_sim.proofs.LoadLemmas.{loaded_more, series_is}
+use Rattle.cfi_sim.proofs.LoadLemmas.{series_is}
+use Rattle.cfi_valid.proofs.KeptLemmas.{loaded_more}
 use Rattle.cfi_valid.specs.Journal.{JournalState, IsClean}
 use Rattle.cfi_valid.specs.Loaded.{LoadedModule, placed_modules}
 use Rattle.cfi_world.specs.declared.event.Event.TheVariants as events
@@ -83,7 +84,7 @@ module _ (a : Inside) (kept : SeriesFits a) (x : Whole) (is : whole_inside a ≡
       loaded_now =
           ap (λ (ss : List Spot). loaded_of ss s.placed) spots_are
           ∙ ap (λ (t : Series). loaded_of (a.spots.items ++ spot ∷ []) t.placed) joined.2
-          ∙ loaded_more a.spots.items a.series.placed spot joined.0 kept.count
+          ∙ loaded_more origin_of a.spots.items a.series.placed spot joined.0 kept.count
 
       abbrev state_of : List LoadedModule → JournalState
       state_of loaded = record { epoch = a.epoch + 1; policy = a.policy + 1; loaded = loaded }

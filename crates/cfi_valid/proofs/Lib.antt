@@ -1,3 +1,4 @@
+pub mod KeptLemmas
 pub mod OrderLemmas
 pub mod CodeLemmas
 pub mod BareLemmas

@@ -7,6 +7,7 @@ use Rattle.cfi_series.specs.Fills.{fills_of}
 use Rattle.cfi_series.specs.Order.{Joins}
 use Rattle.cfi_series.specs.Prepared.{IsImageOfSeries}
 use Rattle.cfi_series.specs.Series.{Series}
+use Rattle.cfi_valid.specs.Kept.{Origin, loaded_from}
 use Rattle.cfi_valid.specs.Loaded.{LoadedModule}
 use Rattle.cfi_word.specs.declared.lists.Image.{Image}
 use Rattle.cfi_loader.specs.declared.roster.Roster.TheInside.{Inside}
@@ -40,12 +41,13 @@ line_by number name policy placed = record {
   policy = policy;
 }
 
+-- where the module of a line comes from
+abbrev pub origin_of : ModuleLine → Origin
+origin_of line = record { number = line.number; policy = line.policy }
+
 -- the loaded modules, of the lines and the places
 abbrev pub loaded_of : List ModuleLine → List Placed → List LoadedModule
-loaded_of [] placed = []
-loaded_of (line ∷ lines) [] = []
-loaded_of (line ∷ lines) (one ∷ placed) =
-    record { number = line.number; placed = one; policy = line.policy } ∷ loaded_of lines placed
+loaded_of lines placed = loaded_from origin_of lines placed
 
 -- a roster has a module more, which joins those before it
 pub record HasJoined (number : ℕ) (name : List ℕ) (policy : ℕ) (unplaced : Module) (old new : Roster) : Type 0 where

@@ -9,17 +9,20 @@ use Rattle.cfi_sim.specs.declared.found.Found.{Found}
 use Rattle.cfi_sim.specs.declared.found.Found.TheVariants.{Unknown, Functionless, Opened, Unloaded}
 use Rattle.cfi_sim.specs.declared.spot.Spot.{Spot}
 use Rattle.cfi_unit.specs.declared.fill.Fill.{Fill}
+use Rattle.cfi_valid.specs.Kept.{Origin, module_from, loaded_from}
 use Rattle.cfi_valid.specs.Loaded.{LoadedModule}
 
--- a module at a spot
-abbrev pub module_at : Spot → Placed → LoadedModule
-module_at spot one = record { number = spot.number; placed = one; policy = spot.policy }
+-- where the module of a spot comes from
+abbrev pub origin_of : Spot → Origin
+origin_of spot = record { number = spot.number; policy = spot.policy }
 
+-- the module of a spot, at its place
+abbrev pub module_at : Spot → Placed → LoadedModule
+module_at spot one = module_from (origin_of spot) one
+
+-- the loaded modules, of the spots and the places
 abbrev pub loaded_of : List Spot → List Placed → List LoadedModule
-loaded_of [] placed = []
-loaded_of (spot ∷ spots) [] = []
-loaded_of (spot ∷ spots) (one ∷ placed) =
-    record { number = spot.number; placed = one; policy = spot.policy } ∷ loaded_of spots placed
+loaded_of spots placed = loaded_from origin_of spots placed
 
 -- the data of one that came with a policy above one and up to another
 abbrev pub due_of : (above upto : ℕ) → Spot → Placed → List Fill

@@ -6,9 +6,11 @@ use Rattle.cfi_loader.specs.declared.books.Books.{Books}
 use Rattle.cfi_loader.specs.declared.fault.LoadFault.TheVariants.{ModulesFull}
 use Rattle.cfi_loader.specs.Ledger.{Ledger}
 use Rattle.cfi_loader.specs.Told.{MayAskFor}
+use Rattle.cfi_loader.specs.inner.Roster.{origin_of}
 use Rattle.cfi_loader.proofs.AddLemmas.{full_refuses}
 use Rattle.cfi_loader.proofs.ReserveLemmas.{reserved, ledger_same, loads_from, refuses_from}
-use Rattle.cfi_loader.proofs.RosterLemmas.{many_are, unlisted_absent}
+use Rattle.cfi_loader.proofs.RosterLemmas.{unlisted_absent}
+use Rattle.cfi_valid.proofs.KeptLemmas.{many_are}
 use Rattle.cfi_loader.proofs.load.load.Goals as goal
 
 -- it is loaded already
@@ -50,7 +52,7 @@ returns-then-is_full-clause-fault g c =
         ap (λ (m : Books). length m.plan.modules) r.same,
       );
       absent = unlisted_absent mid.roster many c.args.number c.in_default.ensures.none;
-      full = omega (arith, long, many, many_are mid.roster.lines mid.roster.placed many);
+      full = omega (arith, long, many, many_are origin_of mid.roster.lines mid.roster.placed many);
     }))
 
 -- it is not loaded, and there is room
@@ -65,5 +67,5 @@ add-requires-clause-absent g c =
     let short = leb-false MAX_LOADED (length mid.roster.lines) (sym c.if-is_full.ensures) in
     record {
       absent = unlisted_absent mid.roster many c.args.number c.in_default.ensures.none;
-      room = omega (arith, short, many, many_are mid.roster.lines mid.roster.placed many);
+      room = omega (arith, short, many, many_are origin_of mid.roster.lines mid.roster.placed many);
     }

@@ -2,9 +2,10 @@ use Rattle.std.proofs.Common.{◌≡◌, ◌<◌, ◌++◌, ℕ, List, length, t
 use Rattle.std.proofs.Math.Seq.{take-length}
 use Rattle.std.proofs.lemmas.Option.{slice_get-get_or}
 use Rattle.cfi_sim.specs.declared.spot.Spot.{Spot}
-use Rattle.cfi_sim.specs.inner.Loaded.{due_of, loaded_of}
+use Rattle.cfi_sim.specs.inner.Loaded.{due_of, loaded_of, origin_of}
+use Rattle.cfi_valid.proofs.KeptLemmas.{many_are}
 use Rattle.cfi_valid.specs.Loaded.{LoadedModule, fills_between}
-use Rattle.cfi_sim.proofs.FoundLemmas.{between_more, loaded_many}
+use Rattle.cfi_sim.proofs.FoundLemmas.{between_more}
 use Rattle.cfi_sim.proofs.opens.fills_between.Goals as goal
 
 -- the data of one module more
@@ -27,7 +28,7 @@ loop-k-preserved c =
 pub returns : goal.returns
 returns c =
     let loaded : List LoadedModule = loaded_of c.args.spots.now c.args.placed.now in
-    let many = loaded_many c.args.spots.now c.args.placed.now c.requires in
+    let many = many_are origin_of c.args.spots.now c.args.placed.now c.requires in
     let end : c.loop-k.k ≡ length loaded =
     omega (arith, many, c.requires, c.loop-k-test.false, c.loop-k.auto.k-end) in
     c.loop-k.invariant

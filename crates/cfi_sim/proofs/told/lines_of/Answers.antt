@@ -4,9 +4,9 @@ use Rattle.std.proofs.lemmas.Option.{slice_get-get_or}
 use Rattle.cfi_aux.specs.declared.placed.Placed.{Placed}
 use Rattle.cfi_plan.specs.declared.journal.ModuleLine.{ModuleLine}
 use Rattle.cfi_sim.specs.declared.spot.Spot.{Spot}
-use Rattle.cfi_sim.specs.inner.Loaded.{loaded_of}
-use Rattle.cfi_sim.proofs.FoundLemmas.{loaded_many}
+use Rattle.cfi_sim.specs.inner.Loaded.{loaded_of, origin_of}
 use Rattle.cfi_sim.proofs.PartsLemmas.{lines_push}
+use Rattle.cfi_valid.proofs.KeptLemmas.{many_are}
 use Rattle.cfi_valid.specs.Loaded.{LoadedModule, module_line_of}
 use Rattle.cfi_sim.proofs.told.lines_of.Goals as goal
 
@@ -33,7 +33,7 @@ pub returns : goal.returns
 returns c =
     let named = c.args.plan.now.modules in
     let loaded : List LoadedModule = loaded_of c.args.spots.now c.args.placed.now in
-    let many = loaded_many c.args.spots.now c.args.placed.now c.requires in
+    let many = many_are origin_of c.args.spots.now c.args.placed.now c.requires in
     let end : c.loop-k.k ≡ length loaded =
     omega (arith, many, c.requires, c.loop-k-test.false, c.loop-k.auto.k-end) in
     c.loop-k.invariant
