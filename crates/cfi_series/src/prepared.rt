@@ -100,4 +100,12 @@ impl Prepared {
     {
         self.series.without_last()
     }
+
+    /// The series without the module, and the image of all with it: a load that is made later. It takes no memory.
+    pub fn withdraw(self) -> (Series, Image)
+        ensures value { result ≡ (without_last self.series, self.image) }
+        ensures image { IsImageOfSeries self.series self.image }
+    {
+        (self.series.without_last(), self.image)
+    }
 }

@@ -18,7 +18,6 @@ use cfi_aux::Module;
 use cfi_plan::JournalLine;
 use cfi_series::{FaultNumbers, JoinFault, Series};
 use cfi_valid::MAX_LOADED;
-use cfi_values::Numbers;
 use cfi_word::{Image, Layout};
 use std::alloc::{AllocError, Global};
 use std::mem;
@@ -40,24 +39,6 @@ fn numbered_line(loading: u32, fault: FaultNumbers) -> JournalLine
     }
 }
 
-// The same numbers.
-fn numbers_copy(alloc: Global, numbers: &Numbers) -> Result<Numbers, AllocError>
-    ensures { IfOk result (λ copy. copy ≡ numbers.now) }
-{
-    Ok(Numbers::from_vec(Vec::from_slice(alloc, numbers.as_slice())?))
-}
-
-// The same image.
-fn image_copy(alloc: Global, image: &Image) -> Result<Image, AllocError>
-    ensures { IfOk result (λ copy. copy ≡ image.now) }
-{
-    Ok(Image {
-        tary: numbers_copy(alloc, &image.tary)?,
-        bary: numbers_copy(alloc, &image.bary)?,
-        code: numbers_copy(alloc, &image.code)?,
-    })
-}
-
 // The image of the modules of a series and one more; or why that does not join them. The series stays as it was.
 fn image_with(
     alloc: Global,
@@ -74,9 +55,9 @@ fn image_with(
     let own = mem::replace(series, Series::new(alloc, layout));
     match own.prepare(unplaced) {
         Ok(prepared) => {
-            let copy = image_copy(alloc, prepared.image());
-            *series = prepared.discard();
-            Ok(copy?)
+            let (without, image) = prepared.withdraw();
+            *series = without;
+            Ok(image)
         }
         Err(refused) => {
             *series = refused.series;
