@@ -24,7 +24,7 @@ use Rattle.cfi_tables.proofs.FairLemmas.{fair_at, fair_snoc, kept_snoc}
 use Rattle.cfi_tables.proofs.KeptLemmas.{IsOut, pass_goes}
 use Rattle.cfi_tables.proofs.PlaceLemmas.{same_place}
 use Rattle.cfi_tables.proofs.Prefixes.{prefix_item}
-use Rattle.cfi_tables.proofs.LoadLemmas.{each_snoc}
+use Rattle.cfi_tables.proofs.MoreLemmas.{each_snoc}
 use Rattle.cfi_tables.proofs.ShowLemmas.{word_old}
 use Rattle.cfi_tables.proofs.StepLemmas.{keeper_moves, words_stay}
 

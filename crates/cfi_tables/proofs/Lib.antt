@@ -4,6 +4,7 @@ pub mod TablesLemmas
 pub mod ShowLemmas
 pub mod FairLemmas
 pub mod SeenLemmas
+pub mod MoreLemmas
 pub mod LoadLemmas
 pub mod KeptLemmas
 pub mod OpeningLemmas
@@ -15,6 +16,7 @@ pub mod HoldLemmas
 pub mod SeatLemmas
 pub mod StoringLemmas
 pub mod ViewLemmas
+pub mod WordTestLemmas
 pub mod AdmissionLemmas
 pub mod KeeperLemmas
 pub mod CodeLemmas

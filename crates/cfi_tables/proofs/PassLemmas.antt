@@ -22,7 +22,8 @@ use Rattle.cfi_tables.specs.declared.view.PassView.{PassView}
 use Rattle.cfi_tables.specs.declared.view.View.TheVariants.{Pass}
 use Rattle.cfi_tables.proofs.FairLemmas.{kept_snoc}
 use Rattle.cfi_tables.proofs.PlaceLemmas.{place_within, quiet_apart, same_place}
-use Rattle.cfi_tables.proofs.LoadLemmas.{load_is, loaded, loaded_registered, published_registered, tells_store}
+use Rattle.cfi_tables.proofs.LoadLemmas.{load_is, loaded_registered, published_registered}
+use Rattle.cfi_tables.proofs.MoreLemmas.{loaded, tells_store}
 use Rattle.cfi_tables.proofs.KeptLemmas.{pass_goes, with}
 use Rattle.cfi_tables.proofs.StepLemmas.{words_stay}
 

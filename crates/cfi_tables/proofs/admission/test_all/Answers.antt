@@ -2,7 +2,8 @@ use Rattle.std.proofs.Common.{rules, sym, ap, ◌∙◌, arith}
 use Rattle.cfi_model.specs.declared.history.Entry.{Entry}
 use Rattle.cfi_tables.specs.Keeping.{Keeping}
 use Rattle.cfi_tables.specs.inner.Stores.{keeping_at}
-use Rattle.cfi_tables.proofs.AdmissionLemmas.{ready_before, test_fails, test_goes_on, testing_allowed}
+use Rattle.cfi_tables.proofs.AdmissionLemmas.{ready_before, test_fails, test_goes_on}
+use Rattle.cfi_tables.proofs.WordTestLemmas.{testing_allowed}
 use Rattle.cfi_tables.proofs.admission.test_all.Goals as goal
 
 pub load-found-requires : goal.load-found-requires
