@@ -28,7 +28,7 @@ use Rattle.cfi_world.specs.Updates.{is_idle, passed_by}
 use Rattle.cfi_world.specs.Worlds.{IsWorld, QuietFits}
 use Rattle.cfi_world.specs.declared.event.Event.{Event}
 use Rattle.cfi_world.specs.declared.event.Event.TheVariants as events
-use Rattle.cfi_world.proofs.SeatLemmas.{fair_word}
+use Rattle.cfi_world.proofs.FitLemmas.{fair_word}
 use Rattle.cfi_world.proofs.UpdateLemmas.{begun_on, dropped_on, stored_on, tested_on, begins_on}
 use Rattle.cfi_world.proofs.WorldLemmas.{turn_kept}
 

@@ -1,5 +1,6 @@
 pub mod RestLemmas
 pub mod VersionLemmas
+pub mod FitLemmas
 pub mod SeatLemmas
 pub mod ServiceLemmas
 pub mod LaterLemmas

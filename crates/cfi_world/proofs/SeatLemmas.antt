@@ -1,9 +1,8 @@
 -- A seat after one access of its guest.
-use Rattle.std.proofs.Common.{◌≡◌, ◌≢◌, ℕ, ◌+◌, ◌-◌, ◌/◌, ◌%◌, ◌<◌, ◌≤◌, List, slice_index, Option, Some, None, refl, sym, ◌∙◌, ap, subst, arith, ◌⊎◌, inl, inr}
+use Rattle.std.proofs.Common.{◌≡◌, ◌≢◌, ℕ, ◌+◌, ◌-◌, ◌/◌, ◌≤◌, List, Option, Some, None, refl, sym, ◌∙◌, ap, subst, arith, ◌⊎◌, inl, inr}
 use Rattle.rv_insn.specs.InsnOf.{insn_of}
 use Rattle.cfi_unit.specs.declared.log.Stop.TheVariants.{Fuel}
 use Rattle.cfi_word.specs.Table.{Code, Tary, Bary}
-use Rattle.cfi_word.specs.Word.{epoch_in}
 use Rattle.cfi_model.specs.declared.act.Wait.{Wait}
 use Rattle.cfi_model.specs.declared.act.Wait.TheVariants as waits
 use Rattle.cfi_model.specs.declared.quiet.Point.{Point}
@@ -12,8 +11,8 @@ use Rattle.cfi_model.specs.declared.quiet.Quiet.{Quiet}
 use Rattle.cfi_model.specs.declared.quiet.Quiet.TheVariants.{Unregistered, Published}
 use Rattle.cfi_model.specs.Begin.{begin_of}
 use Rattle.cfi_model.specs.InForce.{in_force, history_of, code_in_force, tary_index}
-use Rattle.cfi_model.specs.Fits.{Fits, FitsWord}
-use Rattle.cfi_model.specs.History.{History, IsEpoch, IsFair, allows_at}
+use Rattle.cfi_model.specs.Fits.{Fits}
+use Rattle.cfi_model.specs.History.{History, IsEpoch, allows_at}
 use Rattle.cfi_model.specs.Log.{last_policy}
 use Rattle.cfi_model.specs.Raw.{Raw}
 use Rattle.cfi_model.specs.Run.{Take, Word, take_one, take_word, finish_as, finish_of}
@@ -22,21 +21,20 @@ use Rattle.cfi_model.specs.Service.{Reply}
 use Rattle.cfi_model.specs.Shows.{end_of, reply_in}
 use Rattle.cfi_model.specs.State.{State}
 use Rattle.cfi_model.specs.Tables.{IsTables}
-use Rattle.cfi_model.specs.Words.{Tables, next_epoch, epoch_in_force, policy_in_force, word_at}
+use Rattle.cfi_model.specs.Words.{Tables, policy_in_force, word_at}
 use Rattle.cfi_model.proofs.AfterLemmas.{effect_logs, effect_unspent, begin_counts}
 use Rattle.cfi_model.proofs.BeginLemmas.{begin_keeps_bary}
-use Rattle.cfi_model.proofs.GrowLemmas.{no_step}
 use Rattle.cfi_model.proofs.AdvanceLemmas.{Running, advance}
 use Rattle.cfi_model.proofs.EndLemmas.{effect_units}
 use Rattle.cfi_model.proofs.RunningLemmas.{rests_run, goes_on, running_is, running_shows, running_steps}
 use Rattle.cfi_model.proofs.ShownLemmas.{shows_running, shows_units, shown_log, shown_stop}
 use Rattle.cfi_model.proofs.TableLemmas.{force_policy}
-use Rattle.cfi_model.proofs.InForceLemmas.{history_is, force_within, later_rises, epoch_within, bary_is, bary_epoch, tary_is, tary_epoch, tary_policy, index_within, code_is}
+use Rattle.cfi_model.proofs.InForceLemmas.{history_is, force_within, later_rises, epoch_within}
 use Rattle.cfi_world.specs.Laws.{IsBrought, IsStepped}
 use Rattle.cfi_world.specs.Seats.{Seat, rested}
 use Rattle.cfi_world.specs.Worlds.{IsServing, IsQuietSince, IsKeptSince, QuietFits, FoundFits, FitsPoint, IsSeat, IsRunningSeat}
 use Rattle.cfi_world.proofs.RestLemmas.{fuel_not, fuel_rests, going_runs, guest_rests, same_bary, same_tary, same_log, came}
-use Rattle.cfi_world.proofs.VersionLemmas.{one_turn}
+use Rattle.cfi_world.proofs.FitLemmas.{fetch_fits, bary_fits, bary_since, tary_fits}
 
 module _ (t : Tables) (is : IsTables t) where
   abbrev h : History
@@ -143,61 +141,6 @@ module _ (t : Tables) (is : IsTables t) where
             }
       ]
 
-  -- ---- what comes fits
-
-  -- the code word at the guest's address
-  pub fetch_fits : (retries : ℕ) (s : State) (r : Raw) → IsRunning h code retries s r → r.base.stop ≡ None
-      → r.waits ≡ None → Fits h code r (Word (word_at t (Code (r.base.pc / 4))))
-  fetch_fits retries s r runs going idle =
-      let place : ℕ = r.base.pc / 4 in
-      let word : ℕ = slice_index code place in
-      let fits : Fits h code r (Word word) = subst (λ w. FitsWord h code w r word) (sym idle) (going, refl) in
-      let has = running_steps h code (history_is t is) retries s r runs idle word fits in
-      subst (λ w. Fits h code r (Word w)) (sym (code_is t is place (no_step r word has))) fits
-
-  -- the word of a branch slot
-  bary_fits : (r : Raw) (slot rd : ℕ) → r.waits ≡ Some (waits.Bary slot rd)
-      → Fits h code r (Word (word_at t (Bary slot)))
-  bary_fits r slot rd wait =
-      subst (λ w. FitsWord h code w r (word_at t (Bary slot))) (sym wait) (bary_is t is slot)
-
-  -- its epoch is the one in force or the one before
-  bary_since : (guest : ℕ) (r : Raw) (quiet slot : ℕ) → IsQuietSince t guest r quiet
-      → IsKeptSince t quiet (word_at t (Bary slot))
-  bary_since guest r quiet slot since =
-      let epoch = bary_epoch t is slot in
-      record { least = omega (arith, epoch.1, since.published); most = epoch.0 }
-
-  -- equal versions are equal epochs, since no version has come again since the guest's quiescent point
-  pub fair_word : (guest : ℕ) (r : Raw) (quiet kept word : ℕ) → IsQuietSince t guest r quiet → IsKeptSince t quiet kept
-      → epoch_in_force t ≤ epoch_in word → epoch_in word < next_epoch t
-      → epoch_in kept % t.versions ≡ epoch_in word % t.versions → epoch_in kept ≡ epoch_in word
-  fair_word guest r quiet kept word since keeps least most same =
-      one_turn (epoch_in kept) (epoch_in word) t.versions (omega (arith, keeps.most, least))
-      (omega (arith, keeps.least, since.newest, most)) same
-
-  fair_to : (guest : ℕ) (r : Raw) (quiet : Quiet) → QuietFits t guest r quiet → r.base.stop ≡ None
-      → (kept : Option ℕ) → r.bary ≡ kept → (word : ℕ) → epoch_in_force t ≤ epoch_in word
-      → epoch_in word < next_epoch t → IsFair h kept word
-  fair_to guest r quiet fits going None is_kept word least most = tt
-  fair_to guest r Unregistered fits going (Some kept) is_kept word least most = absurd (fits going)
-  fair_to guest r (Published quiet) fits going (Some kept) is_kept word least most =
-      fair_word guest r quiet kept word fits (fits.kept kept is_kept) least most
-
-  tary_fits : (guest : ℕ) (r : Raw) (quiet : Quiet) (at rd : ℕ) → QuietFits t guest r quiet → r.base.stop ≡ None
-      → last_policy r.base.log ≤ force → r.waits ≡ Some (waits.Tary at rd)
-      → Fits h code r (Word (word_at t (Tary (tary_index t.code_words at))))
-  tary_fits guest r quiet at rd fits going low wait =
-      let index : ℕ = tary_index t.code_words at in
-      let word : ℕ = word_at t (Tary index) in
-      let inside = index_within t is at in
-      let epoch = tary_epoch t is index inside in
-      subst (λ w. FitsWord h code w r word) (sym wait) (record {
-        found = tary_is t is at;
-        fair = fair_to guest r quiet fits going r.bary refl word epoch.0 epoch.1;
-        rises = omega (arith, low, tary_policy t is index inside);
-      })
-
   -- ---- the seat after an event of its guest
 
   pub record AreSeated (fuel guest : ℕ) (s : Seat) : Type 0 where
@@ -297,7 +240,7 @@ module _ (t : Tables) (is : IsTables t) where
     fetched idle =
         let word : ℕ = word_at t (Code (r.base.pc / 4)) in
         let runs = going_runs h code both.running.retries both.running.shown r both.running.runs going in
-        let fits = fetch_fits both.running.retries both.running.shown r runs going idle in
+        let fits = fetch_fits t is both.running.retries both.running.shown r runs going idle in
         let has =
         running_steps h code (history_is t is) both.running.retries both.running.shown r runs idle word fits in
         let steps = begin_counts r (insn_of word) has in
@@ -334,8 +277,9 @@ module _ (t : Tables) (is : IsTables t) where
         → HasGone None fuel guest s both (record s { guest = rested fuel (finish_of r (word_at t (Bary slot))) })
     found_bary slot rd waits_is =
         let word : ℕ = word_at t (Bary slot) in
-        found_word (waits.Bary slot rd) (λ serving. serving) waits_is word (bary_fits r slot rd waits_is) refl
-        (λ q since found e. subst (IsKeptSince t q) (sym (same_word word found e)) (bary_since guest r q slot since))
+        found_word (waits.Bary slot rd) (λ serving. serving) waits_is word (bary_fits t is r slot rd waits_is) refl
+        (λ q since found e.
+        subst (IsKeptSince t q) (sym (same_word word found e)) (bary_since t is guest r q slot since))
 
     pub found_tary : (at rd : ℕ) → r.waits ≡ Some (waits.Tary at rd)
         → HasGone None fuel guest s both
@@ -343,5 +287,5 @@ module _ (t : Tables) (is : IsTables t) where
     found_tary at rd waits_is =
         let word : ℕ = word_at t (Tary (tary_index t.code_words at)) in
         found_word (waits.Tary at rd) (λ serving. serving) waits_is word
-        (tary_fits guest r s.quiet at rd both.running.quiet going both.seat.logged waits_is) refl
+        (tary_fits t is guest r s.quiet at rd both.running.quiet going both.seat.logged waits_is) refl
         (λ q since found e. since.kept found e)

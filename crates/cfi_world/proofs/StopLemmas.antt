@@ -20,7 +20,7 @@ use Rattle.cfi_world.specs.Worlds.{IsWorld}
 use Rattle.cfi_world.specs.declared.event.Event.{Event}
 use Rattle.cfi_world.proofs.RefineLemmas.{refines}
 use Rattle.cfi_model.proofs.ShownLemmas.{shown_stop}
-use Rattle.cfi_world.proofs.SeatLemmas.{fetch_fits}
+use Rattle.cfi_world.proofs.FitLemmas.{fetch_fits}
 use Rattle.cfi_world.proofs.WorldLemmas.{turn_kept}
 
 some_same : (x y : Raw) → Some x ≡ Some y → x ≡ y
