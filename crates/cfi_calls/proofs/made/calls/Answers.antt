@@ -1,0 +1,18 @@
+use Rattle.std.proofs.Common.{◌≡◌, ◌∙◌, [], ◌∷◌, sym, ap, subst}
+use Rattle.cfi_graph.specs.HandMade.{placed_of, void_and_function}
+use Rattle.cfi_graph.proofs.CallRows.{call_code, call_rows, call_kinds, call_modules, call_graph}
+use Rattle.cfi_policy.specs.Image.{HaveImage}
+use Rattle.cfi_calls.proofs.HandMadeLemmas.{calls_end, calls_slots}
+use Rattle.cfi_calls.proofs.made.calls.Goals as goal
+
+pub returns : goal.returns
+returns c =
+    let node = c.args.node in
+    let types = c.in_ok-types.types in
+    let is : c.in_ok-module.module ≡ placed_of 16 0 call_code call_rows (call_kinds node) void_and_function =
+    c.in_ok-module.ensures
+    ∙ ap (λ kinds. placed_of 16 0 call_code call_rows kinds types) c.in_ok-kinds.ensures.items
+    ∙ ap (placed_of 16 0 call_code call_rows (call_kinds node)) c.in_ok-types.ensures in
+    subst (λ modules. HaveImage modules 1024) (sym (c.in_ok-vec.ensures.items ∙ ap (λ m. m ∷ []) is))
+    (c.low_modules_have_image.ensures (call_modules node) 1024 (call_graph node c.requires) (calls_end node)
+    (calls_slots node))

@@ -1,0 +1,92 @@
+//! Calls of the lower crates, beside values from outside: assemblers, a linker, the manual, MCFI, or a hand.
+//!
+//! Stands on the crates up to `cfi_policy` and `cfi_world`; nothing stands on it. It is a program of its own, so that
+//! those crates are proved once; `stdout` has what it must print. Each function has its values and says where they come
+//! from, and answers whether the calls agree. Proved: that each keeps what the calls take for granted. Open: nothing.
+#![tactic(auto)]
+
+mod classes;
+mod flows;
+mod guests;
+mod instructions;
+mod machines;
+mod made;
+mod policies;
+mod relocations;
+mod types;
+mod units;
+mod words;
+mod worlds;
+
+use std::alloc::Global;
+use std::io;
+
+// Prints whether calls agree with the values beside them.
+fn tell(rt: &HostRuntime, name: &str, is_right: bool) -> io::Result<()> {
+    println!(rt; "{name}: {}", if is_right { "ok" } else { "differs" })
+}
+
+// Words: of instructions, tables, units and relocations.
+fn tell_words(rt: &HostRuntime, alloc: Global) -> io::Result<()> {
+    tell(rt, "readers of instruction words", instructions::readers())?;
+    tell(rt, "IDs", words::ids())?;
+    tell(rt, "packed words", words::packed_words())?;
+    tell(rt, "layouts of tables", words::layouts(alloc)?)?;
+    tell(rt, "lists", words::lists(alloc)?)?;
+    tell(rt, "checks", units::checks())?;
+    tell(rt, "a spelled check", units::spelled_check(alloc)?)?;
+    tell(rt, "spellings", units::spellings(alloc)?)?;
+    tell(rt, "logs and answers", units::answers(alloc)?)?;
+    tell(rt, "relocated words", relocations::words())?;
+    tell(rt, "relocated calls", relocations::pairs())
+}
+
+// The policy machine.
+fn tell_machines(rt: &HostRuntime, alloc: Global) -> io::Result<()> {
+    let checks = machines::checks::a_check_passes(alloc)?;
+    tell(rt, "a check passes", checks)?;
+    let picks = machines::checks::picks_are_counted(alloc)?;
+    tell(rt, "picks are counted", picks)?;
+    let halts = machines::checks::a_check_halts(alloc)?;
+    tell(rt, "a check halts", halts)?;
+    let before = machines::checks::a_check_halts_before_the_tables(alloc)?;
+    tell(rt, "a check halts before the tables", before)?;
+    tell(rt, "an open", machines::services::open(alloc)?)
+}
+
+// Guests of the raw machine.
+fn tell_guests(rt: &HostRuntime, alloc: Global) -> io::Result<()> {
+    let passes = guests::checks::a_check_passes(alloc)?;
+    tell(rt, "a guest's check passes", passes)?;
+    let again = guests::checks::a_check_tries_again_and_halts(alloc)?;
+    tell(rt, "a guest's check tries again and halts", again)?;
+    let misaligned = guests::checks::a_misaligned_check_halts(alloc)?;
+    tell(rt, "a guest's misaligned check halts", misaligned)?;
+    let past = guests::checks::a_check_past_the_code_halts(alloc)?;
+    tell(rt, "a guest's check past the code halts", past)?;
+    tell(rt, "a guest's jumps", guests::instructions::jumps(alloc)?)?;
+    tell(rt, "a guest's counts", guests::instructions::counts(alloc)?)?;
+    tell(rt, "a guest's open", guests::services::open(alloc)?)
+}
+
+// Types, classes, flows, policies and a world.
+fn tell_policies(rt: &HostRuntime, alloc: Global) -> io::Result<()> {
+    tell(rt, "equal types", types::equal_types(alloc)?)?;
+    tell(rt, "labels", classes::labels(alloc)?)?;
+    tell(rt, "joined by chains", classes::joined(alloc)?)?;
+    tell(
+        rt,
+        "edges of tail calls",
+        flows::edges_of_tail_calls(alloc)?,
+    )?;
+    tell(rt, "an image", policies::image(alloc)?)?;
+    tell(rt, "policies", policies::policies(alloc)?)?;
+    tell(rt, "turns of a world", worlds::turns(alloc)?)
+}
+
+fn main(rt: HostRuntime) -> io::Result<()> {
+    tell_words(&rt, rt.alloc())?;
+    tell_machines(&rt, rt.alloc())?;
+    tell_guests(&rt, rt.alloc())?;
+    tell_policies(&rt, rt.alloc())
+}

@@ -1,0 +1,70 @@
+//! Which types of two tables are equal.
+
+ghost use Rattle.std.specs.Prelude.{IfOk, IfSome};
+ghost use Rattle.cfi_types.specs.Spelling.{AreTypes};
+
+use cfi_types::{TypeBook, TypeTable, read_types};
+use std::alloc::{AllocError, Global};
+
+// The table of these words.
+fn table(alloc: Global, words: &[u32]) -> Result<Option<TypeTable>, AllocError>
+    ensures { IfOk result (λ found. IfSome found (λ xs. AreTypes xs)) }
+{
+    let mut bytes = Vec::new(alloc);
+    for word in words {
+        bytes.extend_from_slice(&word.to_le_bytes())?;
+    }
+    Ok(read_types(alloc, bytes.as_slice()).ok())
+}
+
+// The classes of the nodes of two tables, one table after the other.
+fn classes(alloc: Global, first: &TypeTable, second: &TypeTable) -> Result<Vec<u32>, AllocError>
+    requires first { AreTypes first.now }
+    requires second { AreTypes second.now }
+{
+    let mut book = TypeBook::new(alloc);
+    book.add(first)?;
+    book.add(second)?;
+    let classes = book.classes()?;
+    let mut all = Vec::new(alloc);
+    for node in 0..first.nodes().len() {
+        all.push(classes.of(0, node as u32))?;
+    }
+    for node in 0..second.nodes().len() {
+        all.push(classes.of(1, node as u32))?;
+    }
+    Ok(all)
+}
+
+// Whether the nodes of two tables have these classes.
+fn are_classes(
+    alloc: Global,
+    first: &[u32],
+    second: &[u32],
+    wanted: &[u32],
+) -> Result<bool, AllocError> {
+    let Some(one) = table(alloc, first)? else {
+        return Ok(false);
+    };
+    let Some(other) = table(alloc, second)? else {
+        return Ok(false);
+    };
+    let found = classes(alloc, &one, &other)?;
+    Ok(found.as_slice() == wanted)
+}
+
+/// Types of two tables that are equal, and types that are not.
+pub fn equal_types(alloc: Global) -> Result<bool, AllocError> {
+    // Ptr(1), Struct(0, 2), Int(32, 1), and the same in another order.
+    let list = [3, 3, 1, 1, 5, 2, 0, 2, 1, 2, 32, 1];
+    let same = [3, 1, 2, 32, 1, 5, 2, 2, 0, 3, 1, 1];
+    let longer = [3, 1, 2, 32, 1, 5, 3, 2, 0, 0, 3, 1, 1];
+    // Numbers come in order of first occurrence, and not in the order of kinds.
+    let function = [2, 7, 1, 1, 0, 0];
+    let pointer = [2, 0, 0, 3, 1, 0];
+    Ok(
+        are_classes(alloc, &list, &same, &[0, 1, 2, 2, 1, 0])?
+            && are_classes(alloc, &list, &longer, &[0, 1, 2, 2, 3, 4])?
+            && are_classes(alloc, &function, &pointer, &[0, 1, 1, 2])?,
+    )
+}
