@@ -2,7 +2,8 @@
 //!
 //! Stands on the crates up to `cfi_policy` and `cfi_world`; nothing stands on it. It is a program of its own, so that
 //! those crates are proved once; `stdout` has what it must print. Each function has its values and says where they come
-//! from, and answers whether the calls agree. Proved: that each keeps what the calls take for granted. Open: nothing.
+//! from, and answers whether the calls agree. The outside is called too, in the folder where the program runs. Proved:
+//! that each keeps what the calls take for granted. Open: nothing.
 #![tactic(auto)]
 
 mod classes;
@@ -11,6 +12,7 @@ mod guests;
 mod instructions;
 mod machines;
 mod made;
+mod outside;
 mod policies;
 mod relocations;
 mod types;
@@ -84,9 +86,21 @@ fn tell_policies(rt: &HostRuntime, alloc: Global) -> io::Result<()> {
     tell(rt, "turns of a world", worlds::turns(alloc)?)
 }
 
+// The outside, in memory and real.
+fn tell_outside(rt: HostRuntime) -> io::Result<()> {
+    let later = outside::a_later_pair_counts(rt.alloc())?;
+    tell(&rt, "a later pair counts", later)?;
+    let files = outside::files_of_the_current_folder(rt)?;
+    tell(&rt, "files of the current folder", files)?;
+    let failed = outside::a_failed_save_leaves_what_stood(rt)?;
+    tell(&rt, "a failed save leaves what stood", failed)?;
+    tell(&rt, "standard output", outside::standard_output(rt))
+}
+
 fn main(rt: HostRuntime) -> io::Result<()> {
     tell_words(&rt, rt.alloc())?;
     tell_machines(&rt, rt.alloc())?;
     tell_guests(&rt, rt.alloc())?;
-    tell_policies(&rt, rt.alloc())
+    tell_policies(&rt, rt.alloc())?;
+    tell_outside(rt)
 }
