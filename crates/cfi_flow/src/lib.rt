@@ -3,7 +3,7 @@
 //! A node is what may be entered: a function, or all functions that pointers of one type may lead to. Stands on
 //! `cfi_word`. Proved: the edges of a flow are exactly those that it states, in order, each once; some of them have
 //! chains that join what any edge joins, and are at most two for each link; the rows of links are where the links from
-//! each number lead. Only tested: that ample memory is enough. Open: nothing.
+//! each number lead. Only tested, by `cfi_calls`: that ample memory is enough. Open: nothing.
 #![tactic(auto)]
 
 mod edges;
@@ -13,8 +13,6 @@ mod links;
 mod reach;
 mod rows;
 mod spread;
-#[cfg(test)]
-mod tests;
 mod ways;
 
 pub use edges::{all_edges, few_edges};

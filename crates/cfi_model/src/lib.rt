@@ -1,8 +1,9 @@
 //! The policy machine, which runs code unit by unit, and the states and steps of the raw machine.
 //!
-//! Stands on `cfi_unit`, `cfi_word`, `rv_insn` and `rv_alu`. Proved: `Plain` is the machine of `specs/Effect.antt`,
-//! and private data, log and output are what `specs/` says; over a closed image the raw machine shows the policy
-//! machine (`raw_shows_policy`); some image is closed. Tested: each kind of unit, by the manual. Open: nothing.
+//! Stands on `cfi_unit`, `cfi_word`, `rv_insn` and `rv_alu`. Proved: `Plain` is the machine of `specs/Effect.antt`, and
+//! private data, log and output are what `specs/` says; over a closed image the raw machine shows the policy machine
+//! (`raw_shows_policy`); some image is closed. Tested, by `cfi_calls` and `cfi_cases`: each kind of unit, by the
+//! manual. Open: nothing.
 #![tactic(auto)]
 
 mod accesses;
@@ -17,8 +18,6 @@ mod plain;
 mod quiet;
 mod shows;
 mod step;
-#[cfg(test)]
-mod tests;
 mod words;
 
 pub use accesses::accesses_are_taken;

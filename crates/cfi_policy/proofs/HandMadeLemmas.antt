@@ -1,32 +1,13 @@
--- What modules written by hand, and an empty list of edges, are.
+-- What modules written by hand are.
 use Rattle.std.proofs.Common.{◌≡◌, ℕ, ◌+◌, ◌<◌, ◌≤◌, [], ◌∷◌, length, get_or, sym, subst, arith}
 use Rattle.cfi_aux.specs.declared.placed.Placed.{Placed}
 use Rattle.cfi_word.specs.Table.{slots_of}
-use Rattle.cfi_class.specs.Labels.{CanBeLabelled}
 use Rattle.cfi_graph.specs.HandMade.{placed_of, void_and_function}
 use Rattle.cfi_graph.specs.Reading.{HaveGraph}
 use Rattle.cfi_graph.proofs.HandMadeLemmas.{all_none, all_more}
 use Rattle.cfi_graph.proofs.CallRows.{call_code, call_rows, call_kinds, call_modules, call_graph}
-use Rattle.cfi_policy.specs.Code.{LieApart}
 use Rattle.cfi_policy.specs.Image.{HaveImage}
 use Rattle.cfi_policy.proofs.WithinLemmas.{have_image}
-
--- one module lies apart where it ends within the code
-pub one_apart : (placed : Placed) (code_words : ℕ) → placed.base + length placed.words ≤ code_words
-    → LieApart (placed ∷ []) code_words
-one_apart placed code_words within = record {
-  order = λ i j d lower there. absurd (omega arith);
-  within = λ k d there.
-      let first : k ≡ 0 = omega arith in
-      subst (λ n. (get_or (placed ∷ []) n d).base + length (get_or (placed ∷ []) n d).words ≤ code_words) (sym first)
-      within;
-}
-
--- no edges can always be labelled
-pub none_labelled : (slots code_words : ℕ) → slots ≤ slots_of code_words → CanBeLabelled [] slots code_words
-none_labelled slots code_words room = record { room = room; within = λ k d there. absurd (omega arith) }
-
--- ---- modules that are written by hand
 
 -- one module that ends before the last of 1,024 code words
 one_image : (m : Placed) → HaveGraph (m ∷ []) → m.base + length m.words < 1024 → m.slot_base + length m.branches ≤ 74

@@ -1,10 +1,11 @@
 //! Images of placed modules, and the policy that their direct edges make: classes and groups of branches and addresses.
 //!
-//! Stands on `cfi_aux`, `cfi_word`, `cfi_class`, `cfi_flow`, `cfi_graph`, `cfi_values`, `cfi_unit`, `elf_read` and
-//! `cfi_types`. Proved: the image of modules has exactly the labels of their direct edges, classes in the order of their
-//! least slots, each module's words at its place, and 0 elsewhere; whether the policy lets a branch go to an address is told exactly, for any two numbers; the
-//! groups of modules are exactly the sets of branches that may go to the same addresses, with these, in order. Only
-//! tested: direct edges, groups, images and policies of modules that are written by hand. Open: nothing.
+//! Stands on `cfi_aux`, `cfi_word`, `cfi_class`, `cfi_flow`, `cfi_graph`, `cfi_values` and `cfi_unit`. Proved: the
+//! image of modules has exactly the labels of their direct edges, classes in the order of their least slots, each
+//! module's words at its place, and 0 elsewhere; whether the policy lets a branch go to an address is told exactly, for
+//! any two numbers; the groups of modules are exactly the sets of branches that may go to the same addresses, with
+//! these, in order. Only tested, by `cfi_calls`: direct edges, groups, images and policies of modules that are written
+//! by hand. Open: nothing.
 #![tactic(auto)]
 
 mod by_class;
@@ -14,10 +15,6 @@ mod idle;
 mod image;
 mod joins;
 mod laws;
-#[cfg(test)]
-mod made;
-#[cfg(test)]
-mod tests;
 
 pub use code::code_of;
 pub use group::{Group, groups};

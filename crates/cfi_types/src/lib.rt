@@ -34,6 +34,3 @@ pub use node::TypeNode;
 pub use reading::{read_types, split_word};
 pub use table::TypeTable;
 pub use writing::{read_can_be_written, write_types, written_is_read};
-
-#[cfg(test)]
-mod tests;

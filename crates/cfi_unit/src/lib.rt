@@ -1,14 +1,12 @@
 //! The units of instrumented code, the words that spell them, and what machines that run units log and are answered.
 //!
 //! Stands on `rv_insn`, `cfi_values` and `cfi_word`. Proved: `next_unit` and `spell` are the spellings of
-//! `specs/Unit.antt` both ways, a list of words is the code of at most one list of units, and `read_units` gives them or
-//! the word at which reading stops, by `specs/Spots.antt`. Only tested, also by the cases of `cfi_cases`: the spellings
-//! against an assembler. Open: nothing.
+//! `specs/Unit.antt` both ways, a list of words is the code of at most one list of units, and `read_units` gives them
+//! or the word at which reading stops, by `specs/Spots.antt`. Only tested, by `cfi_calls` and the cases of `cfi_cases`:
+//! the spellings against an assembler. Open: nothing.
 #![tactic(auto)]
 
 mod check;
-#[cfg(test)]
-mod check_tests;
 mod fill;
 mod free;
 pub mod laws;
@@ -18,8 +16,6 @@ mod reader;
 mod reading;
 mod spelling;
 mod spot;
-#[cfg(test)]
-mod tests;
 mod unit;
 
 pub use fill::{Answer, Fill};

@@ -1,7 +1,8 @@
 //! The words of the tables: IDs, packed table words, and the number of each word of the shared table.
 //!
 //! Stands on `thiserror`. Proved: each call answers exactly what `specs/` says, fields read back, word numbers are
-//! distinct, and ranks follow the order of an update's stores. Only tested: the text of a fault. Open: nothing.
+//! distinct, and ranks follow the order of an update's stores. Only tested, by `cfi_calls`: the text of a fault. Open:
+//! nothing.
 #![tactic(auto)]
 
 mod ids;
@@ -12,8 +13,6 @@ mod lists;
 pub mod map;
 pub mod services;
 pub mod sizes;
-#[cfg(test)]
-mod tests;
 mod word;
 
 pub use ids::{FIELD_MAX, class_of, id, version_of};

@@ -12,8 +12,6 @@ mod insn;
 pub mod laws;
 pub mod opcode;
 pub mod rows;
-#[cfg(test)]
-mod tests;
 
 pub use decoder::decode;
 pub use encoder::encode;

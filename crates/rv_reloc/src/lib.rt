@@ -1,8 +1,8 @@
 //! Relocations of RISC-V: the field of one, filled with its value.
 //!
 //! Stands on `rv_insn`, `elf_read` and `thiserror`. Proved: `apply` writes exactly what `specs/Applied.antt` says, or
-//! refuses for its first fault and writes nothing. Only tested: the words against GNU ld; the cases of `cfi_cases` show
-//! jumps, branches and each fault. Open: the texts of faults.
+//! refuses for its first fault and writes nothing. Only tested: the words against GNU ld, by `cfi_calls`; the cases of
+//! `cfi_cases` show jumps, branches and each fault. Open: the texts of faults.
 #![tactic(auto)]
 
 mod applied;
@@ -12,8 +12,6 @@ mod field;
 mod form;
 mod formula;
 mod table;
-#[cfg(test)]
-mod tests;
 
 pub use applied::apply;
 pub use bytes::word_at;
