@@ -1,8 +1,8 @@
 //! The outside of the program: a shelf of files, a sink for its text, and a gate between its steps.
 //!
-//! Stands on `cfi_values`, `cfi_word` and `thiserror`. Proved: the clauses of the traits at the objects in memory and at the edge, and what the
-//! objects in memory hold. Only tested: that the edge reaches real files and standard output. Open: what those hold,
-//! since the edge tells no content.
+//! Stands on `cfi_values`, `cfi_word` and `thiserror`. Proved: the clauses of the traits at the objects in memory and
+//! at the edge, and what the objects in memory hold. Only tested, by `cfi_calls`: that the edge reaches real files and
+//! standard output. Open: what those hold, since the edge tells no content.
 #![tactic(auto)]
 
 mod count;
@@ -27,6 +27,3 @@ pub use shelf::Shelf;
 pub use sink::Sink;
 pub use std_sink::StdSink;
 pub use undone::Undone;
-
-#[cfg(test)]
-mod tests;
