@@ -12,11 +12,6 @@ pub fn one_first_fault()
         IsFirstFault m loaded a → IsFirstFault m loaded b → a ≡ b }
 {}
 
-/// No fault stands against a module that is verified.
-pub fn verified_has_no_fault()
-    ensures { (m : Placed) (loaded : List Placed) → IsVerified m loaded → Verifies m loaded }
-{}
-
 /// Some module verifies: the one function `j .`, of a type of functions, at any place.
 pub fn some_module_verifies()
     ensures { IsVerified loop_module [] }

@@ -20,5 +20,5 @@ mod verifier;
 
 pub use checks::CheckSpot;
 pub use fault::VerifyFault;
-pub use laws::{one_first_fault, some_module_verifies, verified_has_no_fault};
+pub use laws::{one_first_fault, some_module_verifies};
 pub use verifier::verify;

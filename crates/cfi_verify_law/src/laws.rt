@@ -5,11 +5,10 @@ ghost use Rattle.cfi_aux.specs.declared.placed.Placed.{Placed};
 ghost use Rattle.cfi_verify.specs.Faults.{IsFirstFault, IsVerified, Verifies};
 ghost use Rattle.cfi_verify.specs.declared.fault.VerifyFault.{VerifyFault};
 
-/// A module against which no fault stands is verified: its words are units, and each row holds of them.
-///
-/// With `verified_has_no_fault` of `cfi_verify` the two are the same.
+/// No fault stands against a module exactly where it is verified: its words are units, and each row holds of them.
 pub fn no_fault_is_verified()
-    ensures { (m : Placed) (loaded : List Placed) → Verifies m loaded → IsVerified m loaded }
+    ensures verified { (m : Placed) (loaded : List Placed) → Verifies m loaded → IsVerified m loaded }
+    ensures no_fault { (m : Placed) (loaded : List Placed) → IsVerified m loaded → Verifies m loaded }
 {}
 
 /// Each module is verified, or some fault is its first: with `one_first_fault` of `cfi_verify`, exactly one is.
