@@ -1,6 +1,7 @@
 pub mod Members
 pub mod ReachLemmas
 pub mod RowLemmas
+pub mod ListLemmas
 pub mod FanLemmas
 pub mod EdgeLemmas
 pub mod OrderLemmas

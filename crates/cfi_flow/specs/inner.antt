@@ -3,3 +3,4 @@ pub mod Reach
 pub mod FlowRows
 pub mod Spread
 pub mod Ways
+pub mod Lists

@@ -9,17 +9,24 @@ use std::alloc::{AllocError, Global};
 use std::marker::Model;
 
 /// For each number from 0 a list of numbers.
+///
+/// Only rows that hold something take a list: most hold nothing.
 #[derive(Debug, Drop)]
 pub struct Rows {
-    rows: Vec<Vec<u32>>,
+    // For each row one more than the place of its list, or 0.
+    places: Vec<usize>,
+    lists: Vec<Vec<u32>>,
 }
 
 impl Model for Rows {
-    ghost use Rattle.std.specs.Prelude.{ℕ, List, map};
+    ghost use Rattle.std.specs.Prelude.{ℕ, List, map, length};
+    ghost use Rattle.cfi_flow.specs.inner.Lists.{HaveOwnLists, row_in};
 
     ghost Value = { List (List ℕ) };
 
-    ghost view = { λ r. map (λ row. row.items) r.rows.items };
+    ghost view = { λ r. map (row_in (map (λ list. list.items) r.lists.items)) r.places.items };
+
+    ghost invariant = { λ r. HaveOwnLists r.places.items (length r.lists.items) };
 }
 
 impl Rows {
@@ -27,21 +34,29 @@ impl Rows {
     fn empty(alloc: Global, count: u32) -> Result<Rows, AllocError>
         ensures { IfOk result (λ rows. rows ≡ replicate count []) }
     {
-        let mut rows = Vec::with_capacity(alloc, count as usize)?;
-        for _ in 0..count {
-            rows.push(Vec::new(alloc))?;
-        }
-        Ok(Rows { rows })
+        let places = vec![in alloc; 0; count as usize]?;
+        Ok(Rows {
+            places,
+            lists: Vec::new(alloc),
+        })
     }
 
     // Adds a number at the end of a row.
-    fn add(&mut self, row: u32, number: u32) -> Result<(), AllocError>
+    fn add(&mut self, alloc: Global, row: u32, number: u32) -> Result<(), AllocError>
         requires { row < length self.old }
         ensures { OnOk result
             (self.new ≡ slice_set self.old row (slice_index_or self.old row [] ++ number ∷ [])) }
     {
-        let list = &mut self.rows[row as usize];
+        let place = self.places[row as usize];
+        if place > 0 {
+            let list = &mut self.lists[place - 1];
+            list.push(number)?;
+            return Ok(());
+        }
+        let mut list = Vec::new(alloc);
         list.push(number)?;
+        self.lists.push(list)?;
+        self.places[row as usize] = self.lists.len();
         Ok(())
     }
 
@@ -49,7 +64,7 @@ impl Rows {
     pub fn count(&self) -> usize
         ensures { result ≡ length self.now }
     {
-        self.rows.len()
+        self.places.len()
     }
 
     /// The numbers of a row.
@@ -57,7 +72,10 @@ impl Rows {
         requires { row < length self.now }
         ensures { result.now ≡ slice_index_or self.now row [] }
     {
-        self.rows[row as usize].as_slice()
+        match self.places[row as usize] {
+            0 => &[],
+            place => self.lists[place - 1].as_slice(),
+        }
     }
 }
 
@@ -68,7 +86,7 @@ pub fn rows_of(alloc: Global, count: u32, links: &[Link]) -> Result<Rows, AllocE
 {
     let mut rows = Rows::empty(alloc, count)?;
     for link in links {
-        rows.add(link.from, link.to)?;
+        rows.add(alloc, link.from, link.to)?;
     }
     Ok(rows)
 }
