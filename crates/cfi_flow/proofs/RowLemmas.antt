@@ -2,7 +2,7 @@
 use Rattle.std.proofs.Common.{◌≡◌, ◌∙◌, ℕ, ◌<◌, ◌==◌, true, false, cond, List, [], ◌∷◌, ◌++◌, length, map, filter, set, get_or, slice_index_or, replicate, refl, sym, ap, subst, inl, inr, arith}
 use Rattle.std.specs.List.{Contains}
 use Rattle.std.proofs.lemmas.Bool.{cases_eq, eq-eqb, ne_eqb, eqb-true}
-use Rattle.std.proofs.lemmas.List.{length-set, length-replicate, get_or-set_same, get_or-set_other, get_or-replicate, length-map, map-set, get_or-map}
+use Rattle.std.proofs.lemmas.List.{length-set, length-replicate, get_or-set_same, get_or-set_other, get_or-replicate}
 use Rattle.cfi_flow.specs.declared.links.Link.{Link}
 use Rattle.cfi_flow.specs.Rows.{ends_from, AreRows}
 use Rattle.cfi_flow.specs.Flow.{Links}
@@ -89,15 +89,3 @@ pub to_row : (k : ℕ) (links : List Link) (end : ℕ) → Links links k end →
 to_row k links end h =
     member_map (λ link. link.to) (filter (λ link. link.from == k) links) (make_link k end)
     (member_filter (λ link. link.from == k) links (make_link k end) h (own k))
-
--- one number more in a row
-pub row_added : {V : Type 0} (f : V → List ℕ) (vs : List V) (rows : List (List ℕ)) (k n : ℕ) (old new : V)
-    → map f vs ≡ rows → k < length rows → old ≡ get_or vs k old → f new ≡ f old ++ n ∷ []
-    → map f (set vs k new) ≡ set rows k (get_or rows k [] ++ n ∷ [])
-row_added f vs rows k n old new shown h is pushed =
-    let len : length vs ≡ length rows = sym (length-map vs f) ∙ ap length shown in
-    let lt : k < length vs = omega (arith, h, len) in
-    let was : get_or rows k [] ≡ f old =
-    ap (λ r. get_or r k []) (sym shown) ∙ get_or-map f vs k old [] lt ∙ ap f (sym is) in
-    map-set f vs k new ∙ ap (λ r. set r k (f new)) shown
-    ∙ ap (λ ys. set rows k ys) (pushed ∙ ap (λ ys. ys ++ n ∷ []) (sym was))
