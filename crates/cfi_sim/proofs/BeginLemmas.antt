@@ -9,7 +9,7 @@ use Rattle.cfi_sim.specs.Stage.{Stage}
 use Rattle.cfi_sim.specs.inner.Making.{MakesBy, BeginsBy}
 use Rattle.cfi_sim.specs.inner.Standing.{Whole, HasDone, IsUnderWay}
 use Rattle.cfi_sim.proofs.GoLemmas.{all_sound}
-use Rattle.cfi_sim.proofs.HappensLemmas.{HasRoomFor, holds_after}
+use Rattle.cfi_sim.proofs.journal.HappensLemmas.{HasRoomFor, holds_after}
 
 -- ---- what goes on
 

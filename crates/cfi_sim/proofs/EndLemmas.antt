@@ -26,15 +26,15 @@ use Rattle.cfi_sim.specs.Stage.{Stage}
 use Rattle.cfi_sim.specs.Stands.{Holds}
 use Rattle.cfi_sim.specs.Told.{SchedulesAreValid}
 use Rattle.cfi_sim.specs.Valid.{IsSimulated, IsSimLogged}
-use Rattle.cfi_sim.proofs.CausesLemmas.{log_stays}
-use Rattle.cfi_sim.proofs.GuestsLemmas.{runs_after}
-use Rattle.cfi_sim.proofs.TurnLemmas.{AllRun}
-use Rattle.cfi_sim.proofs.HappensLemmas.{HasRoomFor, holds_after}
+use Rattle.cfi_sim.proofs.guests.CausesLemmas.{log_stays}
+use Rattle.cfi_sim.proofs.guests.GuestsLemmas.{runs_after}
+use Rattle.cfi_sim.proofs.guests.TurnLemmas.{AllRun}
+use Rattle.cfi_sim.proofs.journal.HappensLemmas.{HasRoomFor, holds_after}
 use Rattle.cfi_sim.proofs.LinesLemmas.{lines_keep}
-use Rattle.cfi_sim.proofs.OpenedLemmas.{start_runs}
-use Rattle.cfi_sim.proofs.RunsLemmas.{HasRun}
-use Rattle.cfi_sim.proofs.StartLemmas.{start_holds}
-use Rattle.cfi_sim.proofs.ComingLemmas.{all_loaded}
+use Rattle.cfi_sim.proofs.guests.OpenedLemmas.{start_runs}
+use Rattle.cfi_sim.proofs.guests.RunsLemmas.{HasRun}
+use Rattle.cfi_sim.proofs.journal.StartLemmas.{start_holds}
+use Rattle.cfi_sim.proofs.journal.ComingLemmas.{all_loaded}
 use Rattle.cfi_text.specs.Lines.{numbered_lines}
 use Rattle.cfi_unit.specs.declared.log.Log.{Log}
 use Rattle.cfi_unit.specs.declared.log.Stop.TheVariants as stops

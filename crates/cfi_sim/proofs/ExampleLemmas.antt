@@ -21,9 +21,9 @@ use Rattle.cfi_valid.specs.Course.{Course}
 use Rattle.cfi_valid.specs.Example.{hello_module}
 use Rattle.cfi_valid.specs.Loaded.{start_fills}
 use Rattle.cfi_valid.specs.Valid.{IsGuestPart, course_of}
-use Rattle.cfi_valid.proofs.ExampleCode.{length-copies, stands}
-use Rattle.cfi_valid.proofs.ExampleLemmas.{hello_words, sets, hello_placed, fit}
-use Rattle.cfi_valid.proofs.ExampleReplay.{one, end, opening, code, is_code, s0}
+use Rattle.cfi_valid.proofs.example.ExampleCode.{length-copies, stands}
+use Rattle.cfi_valid.proofs.example.ExampleLemmas.{hello_words, sets, hello_placed, fit}
+use Rattle.cfi_valid.proofs.example.ExampleReplay.{one, end, opening, code, is_code, s0}
 use Rattle.cfi_word.specs.Table.{slots_of}
 use Rattle.cfi_word.specs.declared.ids.TheConstants.{FIELD_MAX}
 use Rattle.cfi_word.specs.declared.limits.TheConstants.{MAX_CODE_WORDS, MAX_VERSIONS, FUEL}

@@ -12,8 +12,8 @@ use Rattle.cfi_sim.specs.Schedule.{Repeats, Makes, LineMakes, LinesMake, Schedul
 use Rattle.cfi_sim.specs.Stage.{Stage}
 use Rattle.cfi_sim.specs.Stands.{Holds}
 use Rattle.cfi_sim.specs.Valid.{IsStart}
-use Rattle.cfi_sim.proofs.HappensLemmas.{HasRoomFor, holds_after}
-use Rattle.cfi_sim.proofs.StartLemmas.{start_holds}
+use Rattle.cfi_sim.proofs.journal.HappensLemmas.{HasRoomFor, holds_after}
+use Rattle.cfi_sim.proofs.journal.StartLemmas.{start_holds}
 use Rattle.cfi_text.specs.Lines.{numbered_lines}
 
 module _ (plan : Plan) (modules : List Module) (P : Stage → Type 0)

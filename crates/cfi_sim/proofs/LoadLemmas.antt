@@ -26,7 +26,7 @@ use Rattle.cfi_sim.specs.inner.Making.{HasMadeWithin, MakesBy, CanBegin, BeginsB
 use Rattle.cfi_sim.specs.declared.standing.Standing.TheInside.{Inside}
 use Rattle.cfi_sim.specs.inner.Standing.{Whole, SeriesFits, IsUnderWay, whole_inside}
 use Rattle.cfi_sim.proofs.BeginLemmas.{under_after, updates_few, done_so}
-use Rattle.cfi_sim.proofs.BegunLemmas.{load_may}
+use Rattle.cfi_sim.proofs.journal.BegunLemmas.{load_may}
 use Rattle.cfi_sim.proofs.GoLemmas.{all_sound}
 use Rattle.cfi_valid.proofs.KeptLemmas.{kept_at, loaded_at, many_are, places_are}
 use Rattle.cfi_valid.specs.Joining.{IsUnloaded}

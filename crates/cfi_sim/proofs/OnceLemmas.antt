@@ -17,7 +17,7 @@ use Rattle.cfi_sim.specs.declared.found.Found.TheVariants.{Unknown, Functionless
 use Rattle.cfi_sim.specs.Schedule.{Repeats}
 use Rattle.cfi_sim.specs.Stage.{Stage, after_event}
 use Rattle.cfi_graph.proofs.BoundLemmas.{at_contains}
-use Rattle.cfi_sim.proofs.NotedLemmas.{update_world}
+use Rattle.cfi_sim.proofs.journal.NotedLemmas.{update_world}
 use Rattle.cfi_valid.specs.Journal.{JournalState}
 use Rattle.cfi_valid.specs.Loaded.{LoadedModule}
 use Rattle.cfi_valid.specs.Log.{HasFunctionAt, HasNoFunction}

@@ -26,10 +26,10 @@ use Rattle.cfi_sim.specs.Valid.{IsStart}
 use Rattle.cfi_sim.specs.inner.Loaded.{loaded_of, origin_of}
 use Rattle.cfi_sim.specs.inner.Opening.{AreGuestsIn, AreStarted, IsFirstLostIn, IsFirstOut, IsGuestIn, IsLostIn, IsOpened, IsOpeningFault}
 use Rattle.cfi_sim.specs.inner.Standing.{Whole, IsUnderWay, whole_at}
-use Rattle.cfi_sim.proofs.ComingLemmas.{all_loaded}
+use Rattle.cfi_sim.proofs.journal.ComingLemmas.{all_loaded}
 use Rattle.cfi_valid.proofs.KeptLemmas.{places_are}
 use Rattle.cfi_sim.proofs.GoLemmas.{all_sound}
-use Rattle.cfi_sim.proofs.StartLemmas.{can, low_first, start_holds}
+use Rattle.cfi_sim.proofs.journal.StartLemmas.{can, low_first, start_holds}
 use Rattle.cfi_sim.proofs.StartedLemmas.{opened_state, started_all}
 use Rattle.cfi_unit.specs.declared.fill.Fill.{Fill}
 use Rattle.cfi_valid.specs.Guests.{EntersAt, GuestBegins}

@@ -9,7 +9,7 @@ use Rattle.cfi_sim.specs.Reach.{OfRelease}
 use Rattle.cfi_sim.specs.Stage.{after_event}
 use Rattle.cfi_sim.specs.inner.Standing.{Whole, HasDone, IsUnderWay}
 use Rattle.cfi_sim.proofs.GoLemmas.{all_sound, with_world, one_event}
-use Rattle.cfi_sim.proofs.HappensLemmas.{holds_after}
+use Rattle.cfi_sim.proofs.journal.HappensLemmas.{holds_after}
 use Rattle.cfi_world.specs.Turns.{Turns, did, nothing, is_registered, release_turn}
 use Rattle.cfi_world.specs.Updates.{is_idle}
 use Rattle.cfi_world.specs.declared.event.Event.TheVariants as events

@@ -13,7 +13,7 @@ use Rattle.cfi_sim.specs.inner.Making.{AdvancesBy, Cannot, HasAdvanced, HasMadeW
 use Rattle.cfi_sim.specs.inner.Standing.{Whole, GoesBy, IsUnderWay}
 use Rattle.cfi_sim.proofs.BeginLemmas.{updates_few}
 use Rattle.cfi_sim.proofs.OnceLemmas.{guests_once, updates_once}
-use Rattle.cfi_sim.proofs.NotedLemmas.{busy, update_counts}
+use Rattle.cfi_sim.proofs.journal.NotedLemmas.{busy, update_counts}
 use Rattle.cfi_world.specs.Turns.{turn_of}
 use Rattle.cfi_world.specs.Updates.{is_idle}
 use Rattle.cfi_world.specs.declared.event.Event.TheVariants as events

@@ -24,7 +24,7 @@ use Rattle.cfi_sim.specs.inner.Loaded.{loaded_of, origin_of}
 use Rattle.cfi_sim.specs.inner.Making.{FitsAim, HasCome, HasMadeWithin, NotesBy, with_dropped, with_told}
 use Rattle.cfi_sim.specs.inner.Standing.{Whole, SeriesFits, IsUnderWay, whole_inside}
 use Rattle.cfi_sim.proofs.BeginLemmas.{under_after, updates_few, done_so}
-use Rattle.cfi_sim.proofs.NotedLemmas.{not_spent, busy, update_counts}
+use Rattle.cfi_sim.proofs.journal.NotedLemmas.{not_spent, busy, update_counts}
 use Rattle.cfi_sim.proofs.LoadLemmas.{series_is}
 use Rattle.cfi_valid.proofs.KeptLemmas.{loaded_more}
 use Rattle.cfi_valid.specs.Journal.{JournalState, IsClean}

@@ -18,7 +18,7 @@ use Rattle.cfi_series.specs.declared.fault.JoinFault.TheVariants as joins
 use Rattle.cfi_series.specs.Order.{Joins, IsJoinFault}
 use Rattle.cfi_series.proofs.OrderLemmas.{joins_or_refused}
 use Rattle.cfi_valid.specs.Example.{hello_bytes, hello_module}
-use Rattle.cfi_valid.proofs.ExampleLemmas.{hello_placed, is_placed, verified}
+use Rattle.cfi_valid.proofs.example.ExampleLemmas.{hello_placed, is_placed, verified}
 use Rattle.cfi_word.specs.declared.limits.TheConstants.{MAX_CODE_WORDS}
 use Rattle.cfi_top.specs.Outcome.{Refuses}
 use Rattle.cfi_top.specs.Running.{RefusesBareFile}

@@ -1,4 +1,4 @@
-use Rattle.cfi_valid.proofs.ExampleReplay.{no_more}
+use Rattle.cfi_valid.proofs.example.ExampleReplay.{no_more}
 use Rattle.cfi_valid.proofs.laws.more_output_is_not_valid.Goals as goal
 
 pub returns : goal.returns

@@ -1,4 +1,4 @@
-use Rattle.cfi_valid.proofs.ExampleReplay.{valid}
+use Rattle.cfi_valid.proofs.example.ExampleReplay.{valid}
 use Rattle.cfi_valid.proofs.laws.some_report_is_valid.Goals as goal
 
 pub returns : goal.returns

@@ -8,7 +8,7 @@ use Rattle.cfi_valid.specs.Replay.{given_by}
 use Rattle.cfi_sim.specs.declared.spot.Spot.{Spot}
 use Rattle.cfi_sim.specs.inner.Loaded.{loaded_of}
 use Rattle.cfi_sim.specs.inner.Standing.{Whole, AnswersOpen, whole_inside}
-use Rattle.cfi_sim.proofs.DueLemmas.{answers_open}
+use Rattle.cfi_sim.proofs.guests.DueLemmas.{answers_open}
 use Rattle.cfi_sim.proofs.standing.Standing.answer.Goals as goal
 
 pub find-found-requires-clause-apart : goal.find-found-requires-clause-apart

@@ -5,7 +5,7 @@ use Rattle.cfi_model.specs.Data.{LiesInData}
 use Rattle.cfi_series.specs.Series.{IsSeries}
 use Rattle.cfi_sim.specs.declared.spot.Spot.{Spot}
 use Rattle.cfi_unit.specs.declared.fill.Fill.{Fill}
-use Rattle.cfi_sim.proofs.DueLemmas.{between_lies}
+use Rattle.cfi_sim.proofs.guests.DueLemmas.{between_lies}
 use Rattle.cfi_sim.proofs.standing.Standing.due.Goals as goal
 
 -- the data of modules of a series lies inside private data

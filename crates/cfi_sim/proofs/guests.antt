@@ -1,0 +1,12 @@
+pub mod TaryLemmas
+pub mod CausesLemmas
+pub mod PicksLemmas
+pub mod LaterLemmas
+pub mod RunsLemmas
+pub mod SettledLemmas
+pub mod OwnLemmas
+pub mod TurnLemmas
+pub mod AnswerLemmas
+pub mod GuestsLemmas
+pub mod OpenedLemmas
+pub mod DueLemmas

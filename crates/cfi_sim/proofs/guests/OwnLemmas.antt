@@ -1,0 +1,161 @@
+-- What holds of a guest holds after an event of its own.
+use Rattle.std.proofs.Common.{◌≡◌, ℕ, ◌+◌, ◌-◌, List, length, Option, Some, None, refl, sym, ◌∙◌, ap, subst, arith, inl, inr}
+use Rattle.std.proofs.lemmas.Bool.{cases_eq}
+use Rattle.cfi_valid.specs.Running.{HasReplayed, RunsUnit}
+use Rattle.cfi_valid.proofs.RunningLemmas.{replay_goes_on}
+use Rattle.cfi_sim.specs.declared.found.Found.{Found}
+use Rattle.cfi_sim.specs.declared.found.Found.TheVariants.{Unknown as NoModuleFound, Functionless, Opened, Unloaded}
+use Rattle.cfi_sim.specs.Events.{reply_by}
+use Rattle.cfi_model.proofs.RunningLemmas.{running_shows}
+use Rattle.cfi_sim.specs.Agrees.{TablesAgree}
+use Rattle.cfi_sim.proofs.guests.SettledLemmas.{FitsGiven, is_settled}
+use Rattle.cfi_model.specs.Raw.{Raw}
+use Rattle.cfi_sim.proofs.guests.RunsLemmas.{HasRun}
+use Rattle.cfi_valid.specs.Replay.{given_by}
+use Rattle.cfi_valid.specs.Journal.{JournalState}
+use Rattle.cfi_valid.specs.Loaded.{placed_modules, loaded_by, live_at, start_fills, fills_between}
+use Rattle.cfi_valid.proofs.LawLemmas.{step_unit}
+use Rattle.cfi_model.proofs.InForceLemmas.{history_is, force_within, epoch_within}
+use Rattle.cfi_model.specs.InForce.{in_force, history_of, code_in_force}
+use Rattle.cfi_model.specs.State.{State, opened}
+use Rattle.cfi_model.specs.World.{World}
+use Rattle.cfi_model.specs.History.{History, IsHistory, allows_at}
+use Rattle.cfi_model.specs.Service.{Reply}
+use Rattle.cfi_unit.specs.declared.unit.Unit.{Unit as CodeUnit}
+use Rattle.cfi_model.proofs.EndLemmas.{effect_units}
+use Rattle.cfi_model.specs.Running.{IsGuest}
+use Rattle.cfi_world.specs.Laws.{IsBrought, IsStepped}
+use Rattle.cfi_aux.specs.declared.modules.Module.{Module}
+use Rattle.cfi_model.proofs.ShownLemmas.{never_retried, shown_stop}
+use Rattle.cfi_world.proofs.RestLemmas.{going_runs}
+use Rattle.cfi_plan.specs.declared.plan.Plan.{Plan}
+use Rattle.cfi_sim.specs.declared.aim.Aim.{Aim}
+use Rattle.cfi_model.specs.Log.{pick_entries}
+use Rattle.cfi_valid.specs.FromLaw.{HasPolicies, BringsDue}
+use Rattle.cfi_series.specs.Loaded.{AreLoaded, IsLoadedImage}
+use Rattle.cfi_model.specs.Tables.{IsTables}
+use Rattle.cfi_model.specs.Words.{Tables}
+use Rattle.cfi_model.specs.Shows.{IsReady}
+
+module _ (plan : Plan) (modules : List Module) (state : JournalState) (aim : Option Aim) (t : Tables)
+    (is : IsTables t) (agrees : TablesAgree plan modules state aim t) where
+  abbrev h : History
+  h = history_of t
+
+  abbrev code : List ℕ
+  code = code_in_force t
+
+  known : IsHistory h code
+  known = history_is t is
+
+  -- each epoch has the modules of its policy
+  pub policies : HasPolicies (length code) state.loaded h
+  policies =
+      let many = (is.closed (in_force t) (force_within t is)).1.classes.code_length in
+      let size : plan.code_words ≡ length code = sym (many ∙ agrees.code_words) in
+      record {
+        modules = λ epoch seen.
+            subst
+            (λ (n : ℕ). AreLoaded n (placed_modules (loaded_by (h.policy epoch) state.loaded))) size
+            (agrees.entries (epoch - t.first) (epoch_within t is epoch seen)).modules;
+        images = λ epoch seen.
+            subst
+            (λ (n : ℕ). IsLoadedImage n (placed_modules (loaded_by (h.policy epoch) state.loaded))
+            (placed_modules (live_at (h.policy epoch) state.loaded)) (h.image epoch)) size
+            (agrees.entries (epoch - t.first) (epoch_within t is epoch seen)).image;
+      }
+
+  -- ---- one unit more
+
+  module _ (mid : World) (number : ℕ) (r now : Raw) (run : HasRun plan modules state t number r)
+      (going : r.base.stop ≡ None) (given : Option Reply) (fits : FitsGiven plan state mid run.shown given) (more : ℕ)
+      (after : State) (p : IsStepped h code given run.retries run.shown r now more after) where
+    abbrev s : State
+    s = run.shown
+
+    abbrev unit : CodeUnit
+    unit = p.step.unit
+
+    ready : IsReady h s
+    ready = (going_runs h code run.retries s r run.runs going).rests.ready
+
+    -- an answer that succeeds brings what is due
+    due_by : (reply : Option Reply) → p.end.reply ≡ reply → BringsDue state.loaded s reply
+    due_by None came = tt
+    due_by (Some reply) came = by_given given fits (p.brings reply came)
+      where
+        opens_due : (found : Found) → (reply_by state s found).cause ≡ 0
+            → (reply_by state s found).fills
+            ≡ fills_between (given_by s.log) (reply_by state s found).policy state.loaded
+        opens_due NoModuleFound free = absurd (omega (arith, free))
+        opens_due Functionless free = absurd (omega (arith, free))
+        opens_due (Opened address) free = refl
+        opens_due Unloaded free = absurd (omega (arith, free))
+
+        by_given : (g : Option Reply) → FitsGiven plan state mid s g → IsBrought g reply → reply.cause ≡ 0
+            → reply.fills ≡ fills_between (given_by s.log) reply.policy state.loaded
+        by_given None none brought free = absurd (omega (arith, free, brought))
+        by_given (Some answer) given_is brought free =
+            let same : reply ≡ reply_by state s given_is.found = brought ∙ given_is.is in
+            subst (λ (x : Reply). x.fills ≡ fills_between (given_by s.log) x.policy state.loaded) (sym same)
+            (opens_due given_is.found (sym (ap (λ (x : Reply). x.cause) same) ∙ free))
+
+    runs_unit : RunsUnit code state.loaded s after
+    runs_unit =
+        step_unit h code state.loaded p.end s after known policies ready p.step (due_by p.end.reply refl)
+
+    counts : after.units ≡ s.units + 1
+    counts =
+        ap (λ (x : State). x.units) p.step.is
+        ∙ effect_units unit (h.policy p.step.epoch) (allows_at h p.step.epoch) p.step.reply s
+
+    replayed : HasReplayed code state.loaded after.units (opened number run.address (start_fills state.loaded)) after
+    replayed =
+        subst
+        (λ (n : ℕ). HasReplayed code state.loaded n (opened number run.address (start_fills state.loaded)) after)
+        (sym counts)
+        (replay_goes_on code state.loaded s.units (opened number run.address (start_fills state.loaded)) s after
+        run.replayed runs_unit)
+
+    no_retry : pick_entries after.log ≡ 0 → more ≡ 0
+    no_retry none = elim (cases_eq more run.retries) [
+      | inl same ↦ same ∙ run.picked (omega (arith, p.picks, none))
+      | inr apart ↦ (let some = p.logged apart in absurd (omega (arith, some, none)))
+    ]
+
+    one_only : length t.entries ≡ 1 → more ≡ 0
+    one_only one = elim (cases_eq more run.retries) [
+      | inl same ↦ same ∙ run.single one
+      | inr apart ↦
+          absurd (never_retried h code known unit s (omega (arith, one, force_within t is)) (p.retried apart))
+    ]
+
+    -- ---- the guest after it
+
+    now_going : IsGuest h code more after now → now.base.stop ≡ None → after.stop ≡ None
+    now_going runs stop =
+        let running = going_runs h code more after now runs stop in
+        sym (shown_stop h code more after now (running_shows h code known more after now running)) ∙ stop
+
+    none_kept : (word : ℕ) → now.tary ≡ None → now.tary ≡ Some word → ⊥
+    none_kept word none some = absurd (cc)
+
+    pub stepped : IsGuest h code more after now → HasRun plan modules state t number now
+    stepped runs =
+        let end = is_settled plan modules state aim t is agrees mid number r now run going given fits more after p in
+        record {
+          entry = run.entry;
+          named = run.named;
+          address = run.address;
+          begins = run.begins;
+          retries = more;
+          shown = after;
+          runs = runs;
+          replayed = replayed;
+          picked = no_retry;
+          single = one_only;
+          settled = end.settled;
+          later = end.later;
+          logged = end.logged;
+          kept = λ stop word kept. absurd (none_kept word (p.fresh (now_going runs stop)) kept);
+        }

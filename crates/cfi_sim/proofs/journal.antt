@@ -1,0 +1,11 @@
+pub mod LegalLemmas
+pub mod TellLemmas
+pub mod ComingLemmas
+pub mod TablesLemmas
+pub mod MadeLemmas
+pub mod AdvanceLemmas
+pub mod SeatsLemmas
+pub mod BegunLemmas
+pub mod HappensLemmas
+pub mod StartLemmas
+pub mod NotedLemmas
