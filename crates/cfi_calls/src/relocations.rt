@@ -3,8 +3,7 @@
 //! GNU ld 2.40: `riscv64-unknown-elf-ld -melf32lriscv --no-relax -Ttext=0x100000 -Tdata=0x400000`, with a `--defsym`
 //! for each value.
 
-use elf_read::relocation as kinds;
-use elf_read::{Area, Reloc};
+use elf_read::{Area, Reloc, relocation as kinds};
 use rv_reloc::{RelocFault, apply};
 
 // Applies a relocation at the start of the bytes; none where no such one fits there.
@@ -43,7 +42,12 @@ fn relative_words() -> bool {
     let near = Some(0x7e8);
     let far = Some(0x7fff_ffdf);
     makes((
-        kinds::PCREL_HI20, 0x00000297, 0x100028, 0x00100810, None, 0x00000297,
+        kinds::PCREL_HI20,
+        0x00000297,
+        0x100028,
+        0x00100810,
+        None,
+        0x00000297,
     )) && makes((
         kinds::PCREL_LO12_I,
         0x00028293,
@@ -66,7 +70,12 @@ fn relative_words() -> bool {
         near,
         0x7e62a423,
     )) && makes((
-        kinds::PCREL_HI20, 0x00000297, 0x100038, 0x80100017, None, 0x80000297,
+        kinds::PCREL_HI20,
+        0x00000297,
+        0x100038,
+        0x80100017,
+        None,
+        0x80000297,
     )) && makes((
         kinds::PCREL_LO12_I,
         0x00028293,
@@ -86,13 +95,56 @@ fn relative_words() -> bool {
 
 // Upper and lower parts of an address, whole words, sums and differences.
 fn absolute_words() -> bool {
-    makes((kinds::HI20, 0x000002b7, 0x100044, 0x40000800, None, 0x400012b7))
-        && makes((kinds::LO12_I, 0x00028293, 0x100048, 0x40000800, None, 0x80028293))
-        && makes((kinds::LO12_S, 0x0062a023, 0x10004c, 0x40000800, None, 0x8062a023))
-        && makes((kinds::WORD, 0x00000000, 0x400000, 0x40000800, None, 0x40000800))
-        && makes((kinds::ADD32, 0x00000100, 0x400008, 0x400007ff, None, 0x400008ff))
-        && makes((kinds::SUB32, 0x00000100, 0x40000c, 0x400007ff, None, 0xbffff901))
-        && makes((kinds::NONE, 0x00000100, 0x400010, 0x400007ff, None, 0x00000100))
+    makes((
+        kinds::HI20,
+        0x000002b7,
+        0x100044,
+        0x40000800,
+        None,
+        0x400012b7,
+    )) && makes((
+        kinds::LO12_I,
+        0x00028293,
+        0x100048,
+        0x40000800,
+        None,
+        0x80028293,
+    )) && makes((
+        kinds::LO12_S,
+        0x0062a023,
+        0x10004c,
+        0x40000800,
+        None,
+        0x8062a023,
+    )) && makes((
+        kinds::WORD,
+        0x00000000,
+        0x400000,
+        0x40000800,
+        None,
+        0x40000800,
+    )) && makes((
+        kinds::ADD32,
+        0x00000100,
+        0x400008,
+        0x400007ff,
+        None,
+        0x400008ff,
+    )) && makes((
+        kinds::SUB32,
+        0x00000100,
+        0x40000c,
+        0x400007ff,
+        None,
+        0xbffff901,
+    )) && makes((
+        kinds::NONE,
+        0x00000100,
+        0x400010,
+        0x400007ff,
+        None,
+        0x00000100,
+    ))
 }
 
 /// Relocations of one word.
@@ -113,6 +165,18 @@ fn makes_pair(kind: u32, value: u32, at: u32, high: u32, low: u32) -> bool {
 /// Relocations of a call's two words.
 pub fn pairs() -> bool {
     makes_pair(kinds::CALL, 0x00100810, 0x100010, 0x00001097, 0x800080e7)
-        && makes_pair(kinds::CALL_PLT, 0x80100017, 0x100018, 0x80000097, 0xfff080e7)
-        && makes_pair(kinds::CALL_PLT, 0x00000000, 0x100020, 0xfff00097, 0xfe0080e7)
+        && makes_pair(
+            kinds::CALL_PLT,
+            0x80100017,
+            0x100018,
+            0x80000097,
+            0xfff080e7,
+        )
+        && makes_pair(
+            kinds::CALL_PLT,
+            0x00000000,
+            0x100020,
+            0xfff00097,
+            0xfe0080e7,
+        )
 }
