@@ -108,7 +108,7 @@ fn is_word(field: i64) -> bool
 fn are_words(fields: &[i64]) -> bool
     ensures { result ≡ list_all is_word fields.now }
 {
-    fields.iter().all(|field| is_word(*field))
+    fields.iter().copied().all(is_word)
 }
 
 // Whether the words may be the fields of an integer: 8, 16, 32 or 64 bits, and 1 where it is signed.

@@ -95,12 +95,12 @@ pub fn reference_of(statement: &Statement) -> Option<Reference<'_>>
 pub fn is_leap(kind: u32) -> bool
     ensures { result ≡ is_leap kind }
 {
-    kind == BRANCH || kind == JAL
+    matches!(kind, BRANCH | JAL)
 }
 
 /// Whether the relocation's name is that of an `auipc`.
 pub fn is_partner(kind: u32) -> bool
     ensures { result ≡ is_partner kind }
 {
-    kind == PCREL_LO12_I || kind == PCREL_LO12_S
+    matches!(kind, PCREL_LO12_I | PCREL_LO12_S)
 }
