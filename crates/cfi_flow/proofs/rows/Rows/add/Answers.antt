@@ -7,7 +7,7 @@ items list = list.items
 
 pub returns-then-place-gt0 : goal.returns-then-place-gt0
 returns-then-place-gt0 c =
-    let at : c.index-place.result.now ≡ get_or c.self.inside.places.items c.args.row 0 =
+    let at : c.index-place.result.now ≡ get_or c.self.inside.places.items (c.args.row) 0 =
     place_of_row _ c.self.inside.places.items c.args.self.now c.args.row c.index-place.result.now c.self.view_is c.requires
     c.index-place.ensures in
     row_longer items c.self.inside.places.items c.self.inside.lists.items c.args.self.now c.args.row c.args.number
@@ -16,10 +16,10 @@ returns-then-place-gt0 c =
 
 pub returns : goal.returns
 returns c =
-    let at : c.index-place.result.now ≡ get_or c.self.inside.places.items c.args.row 0 =
+    let at : c.index-place.result.now ≡ get_or c.self.inside.places.items (c.args.row) 0 =
     place_of_row _ c.self.inside.places.items c.args.self.now c.args.row c.index-place.result.now c.self.view_is c.requires
     c.index-place.ensures in
-    let none : get_or c.self.inside.places.items c.args.row 0 ≡ 0 =
+    let none : get_or c.self.inside.places.items (c.args.row) 0 ≡ 0 =
     omega (arith, at, c.if-place-gt0.false) in
     let one : c.push-2.new.self.items ≡ c.args.number ∷ [] =
     c.in_ok-push-2.ensures.items ∙ ap (λ ys. ys ++ c.args.number ∷ []) c.new-list.ensures.items in

@@ -7,7 +7,7 @@ items list = list.items
 
 pub returns-in_default : goal.returns-in_default
 returns-in_default c =
-    let at : c.index.result.now ≡ get_or c.self.inside.places.items c.args.row 0 =
+    let at : c.index.result.now ≡ get_or c.self.inside.places.items (c.args.row) 0 =
     place_of_row _ c.self.inside.places.items c.args.self.now c.args.row c.index.result.now c.self.view_is c.requires
     c.index.ensures in
     let within : c.index.result.now ≤ length c.self.inside.lists.items =
