@@ -4,8 +4,8 @@ use Rattle.std.specs.List.{flat_map, AllByRecursion}
 use Rattle.std.proofs.lemmas.Bool.{eqb-true}
 use Rattle.std.proofs.lemmas.Bool.Decides.{nat_tests}
 use Rattle.std.proofs.lemmas.List.{append-nil}
-use Rattle.cfi_types.specs.Node.{Node}
-use Rattle.cfi_types.specs.Spelling.{word}
+use Rattle.cfi_type_table.specs.Node.{Node}
+use Rattle.cfi_type_table.specs.Spelling.{word}
 use Rattle.cfi_aux.specs.declared.format.TheConstants.{CALL, TAIL, RETURN, SWITCH}
 use Rattle.cfi_word.specs.declared.limits.TheConstants.{MAX_ENTRIES}
 use Rattle.cfi_aux.specs.declared.fault.AuxFault.TheVariants.{BadRecord}
@@ -15,7 +15,7 @@ use Rattle.cfi_aux.specs.Format.{is_whole, is_func, has_count}
 use Rattle.cfi_aux.specs.Records.{kind_number, kind_words, branch_bytes, IsBranchWord, IsBranch}
 use Rattle.cfi_aux.specs.Reading.{Reader, word_where, and_with, seen_as, each}
 use Rattle.cfi_aux.specs.Faults.{place_at, body_at, branch_at}
-use Rattle.cfi_types.proofs.Parts.{Takes}
+use Rattle.cfi_type_table.proofs.Parts.{Takes}
 use Rattle.cfi_aux.proofs.Formats.{Reads, Reads-with, Agree, Reads-as}
 use Rattle.cfi_values.proofs.ThenLemmas.{ok_is}
 use Rattle.cfi_aux.proofs.Words.{Passes, Reads-word}

@@ -5,7 +5,7 @@ use Rattle.cfi_aux.specs.declared.fault.AuxFault.{AuxFault}
 use Rattle.cfi_aux.specs.declared.fault.AuxFault.TheVariants.{NoRecords, Types, Version, Short, BadRecord, Memory}
 use Rattle.cfi_aux.specs.Reading.{Reader, ReadingFails, each}
 use Rattle.cfi_values.specs.Then.{◌>>=◌}
-use Rattle.cfi_types.proofs.Parts.{with_front, regroup, with_front_nil}
+use Rattle.cfi_type_table.proofs.Parts.{with_front, regroup, with_front_nil}
 
 -- a step's fault is the fault of the steps
 pub Fails-then : {A B : Type 0} (e : AuxFault) (r : Result A AuxFault) (f : A → Result B AuxFault) → ReadingFails e r

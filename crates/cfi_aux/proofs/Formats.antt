@@ -1,6 +1,6 @@
 -- What readers read is spelled so, and what is spelled so is read.
 use Rattle.std.proofs.Common.{◌≡◌, ℕ, Bool, true, false, List, ◌++◌, Result, Ok, Err, refl, sym, ap, subst, ◌∙◌, append_assoc}
-use Rattle.cfi_types.proofs.Parts.{IsBytes, Takes, Takes-then}
+use Rattle.cfi_type_table.proofs.Parts.{IsBytes, Takes, Takes-then}
 use Rattle.cfi_aux.specs.declared.fault.AuxFault.{AuxFault}
 use Rattle.cfi_aux.specs.Reading.{Reader, and_with, and_also, seen_as}
 use Rattle.cfi_values.specs.Then.{◌>>=◌, unless_bad}

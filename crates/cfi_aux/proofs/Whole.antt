@@ -5,8 +5,8 @@ use Rattle.std.specs.List.{flat_map}
 use Rattle.std.specs.Int.{w32, from_le_bytes}
 use Rattle.std.proofs.lemmas.Bool.{eqb-true, leb-true, le-leb, le-ltb}
 use Rattle.std.proofs.lemmas.List.{append-nil, nil_from_length, length-append}
-use Rattle.cfi_types.specs.Node.{Node}
-use Rattle.cfi_types.specs.Spelling.{word}
+use Rattle.cfi_type_table.specs.Node.{Node}
+use Rattle.cfi_type_table.specs.Spelling.{word}
 use Rattle.cfi_aux.specs.declared.format.TheConstants.{VERSION}
 use Rattle.cfi_word.specs.declared.limits.TheConstants.{MAX_FUNCTIONS, MAX_BRANCHES}
 use Rattle.cfi_aux.specs.declared.fault.AuxFault.{AuxFault}
@@ -18,7 +18,7 @@ use Rattle.cfi_aux.specs.Records.{function_bytes, branch_bytes, spelling, IsFunc
 use Rattle.cfi_aux.specs.Reading.{ReadingGives, next_word, and_with, and_also, each}
 use Rattle.cfi_values.specs.Then.{unless_bad}
 use Rattle.cfi_aux.specs.Faults.{function_at, branch_at, version_at, count_at, lists_at, records_of, records_at, records_in}
-use Rattle.cfi_types.proofs.Parts.{IsBytes, Takes}
+use Rattle.cfi_type_table.proofs.Parts.{IsBytes, Takes}
 use Rattle.cfi_aux.proofs.Formats.{Reads, Reads-with, Reads-also, Agree, Reads-as}
 use Rattle.cfi_values.proofs.ThenLemmas.{then_ok, unless_bad_ok, ok_is}
 use Rattle.cfi_aux.proofs.Words.{Passes, word_takes, Reads-word}

@@ -1,8 +1,8 @@
 -- Words are read exactly as they are spelled.
 use Rattle.std.proofs.Common.{◌≡◌, ℕ, ◌^◌, Bool, true, List, ◌++◌, Ok, IsTrue, refl, subst}
 use Rattle.std.specs.Int.{w32}
-use Rattle.cfi_types.specs.Spelling.{word}
-use Rattle.cfi_types.proofs.Parts.{IsBytes, Takes, wide32, number_takes, number_again}
+use Rattle.cfi_type_table.specs.Spelling.{word}
+use Rattle.cfi_type_table.proofs.Parts.{IsBytes, Takes, wide32, number_takes, number_again}
 use Rattle.cfi_aux.specs.declared.fault.AuxFault.{AuxFault}
 use Rattle.cfi_aux.specs.declared.fault.AuxFault.TheVariants.{Short}
 use Rattle.cfi_aux.specs.Records.{IsWordSized}

@@ -1,8 +1,7 @@
 -- Which words the records of functions and branches may have.
 use Rattle.std.specs.Prelude.{ℕ, Bool, false, not, ◌==◌, ◌&&◌, ◌||◌, ◌%◌, nat_le, nat_lt, if◌then◌else◌, List, length}
-use Rattle.cfi_types.specs.declared.kind.TheConstants.{FUNC}
-use Rattle.cfi_types.specs.Node.{Node}
-use Rattle.cfi_types.specs.Same.{node_of}
+use Rattle.cfi_type_table.specs.declared.kind.TheConstants.{FUNC}
+use Rattle.cfi_type_table.specs.Node.{Node, node_of}
 use Rattle.cfi_aux.specs.declared.format.TheConstants.{CALL, TAIL, RETURN, SWITCH}
 use Rattle.cfi_word.specs.declared.limits.TheConstants.{MAX_NAME, MAX_ENTRIES}
 

@@ -1,11 +1,11 @@
 -- Which module an object is: its records are read with its types, and both sections are used up.
 use Rattle.std.specs.Prelude.{◌≡◌, ℕ, List, Option, Some, None, Result, Ok, Err}
 use Rattle.elf_read.specs.declared.object.Object.{Object}
-use Rattle.cfi_types.specs.declared.fault.TypeFault.{TypeFault}
-use Rattle.cfi_types.specs.declared.fault.TypeFault.TheVariants as faults
-use Rattle.cfi_types.specs.Node.{Node}
-use Rattle.cfi_types.specs.Spelling as spelled
-use Rattle.cfi_types.specs.Reading.{types_in}
+use Rattle.cfi_type_table.specs.declared.fault.TypeFault.{TypeFault}
+use Rattle.cfi_type_table.specs.declared.fault.TypeFault.TheVariants as faults
+use Rattle.cfi_type_table.specs.Node.{Node}
+use Rattle.cfi_type_table.specs.Spelling as spelled
+use Rattle.cfi_type_table.specs.Reading.{types_in}
 use Rattle.cfi_aux.specs.declared.fault.AuxFault.{AuxFault}
 use Rattle.cfi_aux.specs.declared.fault.AuxFault.TheVariants.{NoRecords, Types, Memory}
 use Rattle.cfi_aux.specs.declared.modules.Module.{Module}

@@ -2,7 +2,7 @@
 use Rattle.std.specs.Prelude.{◌≡◌, ℕ, zero, suc, List, [], ◌∷◌, Bool, Result, Ok, Err}
 use Rattle.cfi_aux.specs.declared.fault.AuxFault.{AuxFault}
 use Rattle.cfi_aux.specs.declared.fault.AuxFault.TheVariants.{NoRecords, Types, Version, Short, BadRecord, Memory}
-use Rattle.cfi_types.specs.Reading.{word_or}
+use Rattle.cfi_type_table.specs.Reading.{word_or}
 use Rattle.cfi_values.specs.Then.{◌>>=◌, unless_bad}
 
 -- ---- what a call gives

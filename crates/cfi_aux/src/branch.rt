@@ -8,7 +8,7 @@ use crate::fault::AuxFault;
 use crate::format::{CALL, RETURN, TAIL};
 use crate::records::Kind;
 use crate::word::{func_from, kind_from, place_from, word_count_from};
-use cfi_types::TypeTable;
+use cfi_type_table::TypeTable;
 use cfi_values::Items;
 use cfi_word::limits::{MAX_BRANCHES, MAX_FUNCTIONS};
 use std::alloc::Global;

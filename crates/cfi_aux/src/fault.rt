@@ -3,7 +3,7 @@
 ghost use Rattle.std.specs.Prelude.{◌≡◌};
 ghost use Rattle.cfi_aux.specs.declared.fault.AuxFault.TheVariants.{Memory};
 
-use cfi_types::TypeFault;
+use cfi_type_table::TypeFault;
 use std::alloc::{AllocError, AllocFailed};
 use thiserror::Error;
 

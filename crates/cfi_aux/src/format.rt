@@ -3,7 +3,7 @@
 ghost use Rattle.std.specs.Prelude.{◌≡◌};
 ghost use Rattle.cfi_aux.specs.Format.{is_whole, is_length, is_flag, is_name_length, is_func, has_count};
 
-use cfi_types::{FUNC, TypeTable};
+use cfi_type_table::{FUNC, TypeTable};
 use cfi_word::limits::{MAX_ENTRIES, MAX_NAME};
 
 /// The first word of the section.

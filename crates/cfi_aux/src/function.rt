@@ -7,7 +7,7 @@ use crate::fault::AuxFault;
 use crate::name::name_from;
 use crate::records::Function;
 use crate::word::{flags_from, func_from, length_from, place_from};
-use cfi_types::TypeTable;
+use cfi_type_table::TypeTable;
 use std::alloc::Global;
 
 #[tactic(auto, unfolding(crate::specs::Faults::function_at, crate::specs::Reading::seen_as, crate::specs::Reading::and_also))]

@@ -1,10 +1,10 @@
 //! The records of functions and branches that a module carries, modules, and placed modules.
 //!
-//! Stands on `elf_read`, `cfi_types`, `cfi_values` and `thiserror`. Proved: records are read exactly where the bytes are
-//! their one spelling, and each other list of bytes has its first fault; what is written is read again; an object is a
-//! module exactly where its two sections are a type table and records; what is read of a file is a sound object; which
-//! functions are global, and what a module exports. Only tested, by the cases of `cfi_cases`: the texts of faults, and
-//! that ample memory is enough. Open: nothing.
+//! Stands on `elf_read`, `cfi_type_table`, `cfi_values` and `thiserror`. Proved: records are read exactly where the
+//! bytes are their one spelling, and each other list of bytes has its first fault; what is written is read again; an
+//! object is a module exactly where its two sections are a type table and records; what is read of a file is a sound
+//! object; which functions are global, and what a module exports. Only tested, by the cases of `cfi_cases`: the texts
+//! of faults, and that ample memory is enough. Open: nothing.
 #![tactic(auto)]
 
 mod branch;

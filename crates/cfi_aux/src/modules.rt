@@ -2,8 +2,8 @@
 
 ghost use Rattle.std.specs.Prelude.{◌≡◌, IfOk, Ok};
 ghost use Rattle.elf_read.specs.declared.object.Object.{Object};
-ghost use Rattle.cfi_types.specs.Spelling.{AreTypes, spelling};
-ghost use Rattle.cfi_types.specs.Reading.{types_in};
+ghost use Rattle.cfi_type_table.specs.Spelling.{AreTypes, spelling};
+ghost use Rattle.cfi_type_table.specs.Reading.{types_in};
 ghost use Rattle.cfi_aux.specs.declared.modules.Module.{Module};
 ghost use Rattle.cfi_aux.specs.Reading.{ReadingGives};
 ghost use Rattle.cfi_aux.specs.Sound.{IsSoundModule};
@@ -13,7 +13,7 @@ ghost use Rattle.cfi_aux.specs.Module.{AreSpelled, IsModuleOf, as_types, parts_i
 use crate::fault::AuxFault;
 use crate::reading::read_records;
 use crate::records::Records;
-use cfi_types::{TypeTable, read_types};
+use cfi_type_table::{TypeTable, read_types};
 use elf_read::Object;
 use std::alloc::Global;
 

@@ -4,7 +4,7 @@ ghost use Rattle.std.specs.Prelude.{◌≡◌, ◌<◌, ◌^◌, All, IfOk};
 ghost use Rattle.cfi_aux.specs.Placed.{names_function, is_global, is_export, address_of, exports_of};
 
 use crate::records::{Function, Kind};
-use cfi_types::TypeTable;
+use cfi_type_table::TypeTable;
 use cfi_values::{Bytes, Items};
 use elf_read::{Binding, Name, Place, Symbol, Symbols};
 use std::alloc::{AllocError, Global};

@@ -11,7 +11,7 @@ use crate::fault::AuxFault;
 use crate::function::functions_from;
 use crate::records::Records;
 use crate::word::{after_version, count_from};
-use cfi_types::TypeTable;
+use cfi_type_table::TypeTable;
 use cfi_values::Items;
 use cfi_word::limits::{MAX_BRANCHES, MAX_FUNCTIONS};
 use std::alloc::Global;

@@ -10,7 +10,7 @@ use crate::fault::AuxFault;
 use crate::format::{
     SWITCH, VERSION, has_count, is_flag, is_func, is_length, is_name_length, is_whole,
 };
-use cfi_types::{TypeTable, split_word};
+use cfi_type_table::{TypeTable, split_word};
 
 /// The bytes after the word of the version, which stands first.
 #[tactic(auto, unfolding(crate::specs::Faults::version_at))]

@@ -2,8 +2,8 @@
 
 ghost use Rattle.std.specs.Prelude.{◌≡◌, ◌<◌, ◌^◌, List, ◌++◌, length, All, OnOk, IfOk, Ok};
 ghost use Rattle.std.specs.List.{flat_map};
-ghost use Rattle.cfi_types.specs.Node.{Node};
-ghost use Rattle.cfi_types.specs.Spelling.{word};
+ghost use Rattle.cfi_type_table.specs.Node.{Node};
+ghost use Rattle.cfi_type_table.specs.Spelling.{word};
 ghost use Rattle.cfi_aux.specs.declared.records.Records.{Records};
 ghost use Rattle.cfi_aux.specs.Records.{AreRecords, CanBeWritten, kind_words, name_bytes, function_bytes, branch_bytes, spelling};
 ghost use Rattle.cfi_aux.specs.Faults.{records_in};

@@ -2,8 +2,8 @@
 -- data, no symbols and no relocations.
 use Rattle.std.specs.Prelude.{ℕ, List, [], ◌∷◌, length, codes, None, false}
 use Rattle.elf_read.specs.declared.object.Object.{Object}
-use Rattle.cfi_types.specs.Node.{Node, make_node}
-use Rattle.cfi_types.specs.declared.kind.TheConstants.{VOID, FUNC}
+use Rattle.cfi_type_table.specs.Node.{Node, make_node}
+use Rattle.cfi_type_table.specs.declared.kind.TheConstants.{VOID, FUNC}
 use Rattle.cfi_aux.specs.declared.records.Function.{Function}
 use Rattle.cfi_aux.specs.declared.records.Kind.{Kind}
 use Rattle.cfi_aux.specs.declared.modules.Module.{Module}

@@ -5,7 +5,7 @@ ghost use Rattle.cfi_bare.specs.Module.{bare_types, bare_functions, bare_object,
 ghost use Rattle.cfi_word.specs.declared.limits.TheConstants.{MAX_FILE_BYTES};
 
 use cfi_aux::{Function, Kind, Module, Records};
-use cfi_types::{FUNC, TypeNode, TypeTable, VOID};
+use cfi_type_table::{FUNC, TypeNode, TypeTable, VOID};
 use cfi_values::{Bytes, Items};
 use elf_read::{Name, Object, Relocs, Symbols};
 use std::alloc::{AllocError, Global};

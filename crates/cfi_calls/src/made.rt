@@ -8,7 +8,7 @@ ghost use Rattle.cfi_policy.specs.Image.{HaveImage};
 
 use cfi_aux::{Kind, Placed, PlacedFunction};
 use cfi_policy::low_modules_have_image;
-use cfi_types::{FUNC, TypeNode, TypeTable, VOID};
+use cfi_type_table::{FUNC, TypeNode, TypeTable, VOID};
 use cfi_unit::{Unit, spell};
 use cfi_values::{Bytes, Items};
 use elf_read::Name;

@@ -8,7 +8,7 @@ use crate::made::calls;
 use cfi_aux::Placed;
 use cfi_graph::edges;
 use cfi_policy::{Group, allowed, groups, image_from, image_of};
-use cfi_types::TypeTable;
+use cfi_type_table::TypeTable;
 use cfi_values::{Bytes, Items};
 use cfi_word::{Edge, Image, Layout};
 use std::alloc::{AllocError, Global};

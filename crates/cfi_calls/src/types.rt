@@ -1,9 +1,10 @@
 //! Which types of two tables are equal.
 
 ghost use Rattle.std.specs.Prelude.{IfOk, IfSome};
-ghost use Rattle.cfi_types.specs.Spelling.{AreTypes};
+ghost use Rattle.cfi_type_table.specs.Spelling.{AreTypes};
 
-use cfi_types::{TypeBook, TypeTable, read_types};
+use cfi_type_table::{TypeTable, read_types};
+use cfi_types::TypeBook;
 use std::alloc::{AllocError, Global};
 
 // The table of these words.

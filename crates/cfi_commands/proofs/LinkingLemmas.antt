@@ -1,6 +1,6 @@
 -- What modules that were read one by one have.
 use Rattle.std.proofs.Common.{◌<◌, ◌^◌, ℕ, List, length, All, arith}
-use Rattle.cfi_types.specs.Node.{Node}
+use Rattle.cfi_type_table.specs.Node.{Node}
 use Rattle.cfi_aux.specs.declared.modules.Module.{Module}
 use Rattle.cfi_aux.specs.declared.records.Records.{Records}
 use Rattle.cfi_aux.specs.Records.{AreRecords, CanBeWritten}

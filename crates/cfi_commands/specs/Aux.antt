@@ -1,8 +1,8 @@
 -- Why an object is no module, in words: the layer, the fault, and the number of the node or record.
 use Rattle.std.specs.Prelude.{ℕ, List, ◌++◌, codes}
 use Rattle.std.specs.Fmt.{decimal}
-use Rattle.cfi_types.specs.declared.fault.TypeFault.{TypeFault}
-use Rattle.cfi_types.specs.declared.fault.TypeFault.TheVariants as types
+use Rattle.cfi_type_table.specs.declared.fault.TypeFault.{TypeFault}
+use Rattle.cfi_type_table.specs.declared.fault.TypeFault.TheVariants as types
 use Rattle.cfi_aux.specs.declared.fault.AuxFault.{AuxFault}
 use Rattle.cfi_aux.specs.declared.fault.AuxFault.TheVariants.{NoRecords, Types, Version, Short, BadRecord, Memory}
 

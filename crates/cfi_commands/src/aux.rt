@@ -3,7 +3,7 @@ ghost use Rattle.cfi_commands.specs.Aux.{types_text, aux_text};
 
 use crate::words::{Numbers, put_words};
 use cfi_aux::AuxFault;
-use cfi_types::TypeFault;
+use cfi_type_table::TypeFault;
 use std::alloc::AllocError;
 
 // Appends the name and the field of a type table's fault.

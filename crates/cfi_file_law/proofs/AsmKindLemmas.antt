@@ -6,7 +6,7 @@ use Rattle.std.proofs.lemmas.Bool.{cases_Bool, and_from, eq-eqb, le-leb, ltb-tru
 use Rattle.std.proofs.lemmas.List.{length-map}
 use Rattle.std.proofs.lemmas.List.Elements.{All-nil, All-cons, All-head, All-tail, All-append}
 use Rattle.cfi_word.specs.declared.limits.TheConstants.{MAX_ENTRIES}
-use Rattle.cfi_types.specs.Node.{Node}
+use Rattle.cfi_type_table.specs.Node.{Node}
 use Rattle.cfi_aux.specs.Format.{is_whole}
 use Rattle.cfi_aux.specs.Records.{kind_words, IsBranchWord, IsBranch}
 use Rattle.cfi_aux.specs.declared.records.Kind.{Kind}

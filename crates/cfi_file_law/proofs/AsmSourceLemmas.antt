@@ -9,8 +9,8 @@ use Rattle.cfi_word.specs.declared.limits.TheConstants.{MAX_ENTRIES}
 use Rattle.cfi_text.specs.Lines.{lines_of}
 use Rattle.elf_read.specs.declared.object.Area.TheVariants as areas
 use Rattle.elf_read.specs.declared.object.Object.{Object}
-use Rattle.cfi_types.specs.Spelling.{AreTypes, spelling as types_spelling}
-use Rattle.cfi_types.proofs.Tables.{types_again}
+use Rattle.cfi_type_table.specs.Spelling.{AreTypes, spelling as types_spelling}
+use Rattle.cfi_type_table.proofs.Tables.{types_again}
 use Rattle.cfi_aux.specs.declared.fault.AuxFault.TheVariants.{NoRecords, BadRecord}
 use Rattle.cfi_aux.specs.declared.records.Kind.{Kind}
 use Rattle.cfi_aux.specs.declared.records.Kind.TheVariants as branches

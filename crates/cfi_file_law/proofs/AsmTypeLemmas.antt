@@ -6,10 +6,10 @@ use Rattle.std.proofs.lemmas.List.{map-append, length-map, get_or-map, drop-map}
 use Rattle.std.proofs.lemmas.List.Elements.{All-nil, All-cons, All-append, recursion_from_All, filter_map-append}
 use Rattle.std.proofs.lemmas.Option.{slice_get_within, get_or_from_slice_get}
 use Rattle.cfi_word.specs.declared.limits.TheConstants.{MAX_FIELDS, MAX_NODES}
-use Rattle.cfi_types.specs.declared.kind.TheConstants.{VOID, INT, REAL, PTR, ARRAY, STRUCT, UNION, FUNC}
-use Rattle.cfi_types.specs.Kind.{number_count, has_arity, field_fits}
-use Rattle.cfi_types.specs.Node.{Node, make_node}
-use Rattle.cfi_types.specs.Spelling.{AreFields, IsNode, NamesBelow, AreTypes}
+use Rattle.cfi_type_table.specs.declared.kind.TheConstants.{VOID, INT, REAL, PTR, ARRAY, STRUCT, UNION, FUNC}
+use Rattle.cfi_type_table.specs.Kind.{number_count, has_arity, field_fits}
+use Rattle.cfi_type_table.specs.Node.{Node, make_node}
+use Rattle.cfi_type_table.specs.Spelling.{AreFields, IsNode, NamesBelow, AreTypes}
 use Rattle.cfi_aux.specs.Format.{is_func as names_func}
 use Rattle.rv_line.specs.declared.line.Line.{Line}
 use Rattle.rv_line.specs.declared.statement.NodeKind.{NodeKind}

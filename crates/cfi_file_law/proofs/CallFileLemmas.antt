@@ -13,7 +13,7 @@ use Rattle.elf_read.specs.Sound.{IsSoundObject, IsSoundSymbol, IsSoundReloc}
 use Rattle.elf_read.specs.declared.object.Object.{Object}
 use Rattle.elf_write.specs.Contents.{name_table, symbol_entry, symbol_name_place, null_entry, symbol_table, rela_entry, relas_of}
 use Rattle.elf_write.specs.File.{padding, padded, section_place, part_header, file_header, bytes_of}
-use Rattle.cfi_types.specs.Spelling.{AreTypes}
+use Rattle.cfi_type_table.specs.Spelling.{AreTypes}
 use Rattle.cfi_aux.specs.Format.{is_length}
 use Rattle.cfi_aux.specs.Module.{AreSpelled}
 use Rattle.cfi_aux.specs.Sound.{IsSoundModule}

@@ -7,7 +7,7 @@ use Rattle.rv_insn.specs.InsnOf.{insn_of}
 use Rattle.rv_reloc.specs.Bytes.{word_at, with_word}
 use Rattle.rv_reloc.specs.Form.{with_number}
 use Rattle.rv_reloc.specs.Table.{rule_of}
-use Rattle.cfi_types.specs.Spelling.{word}
+use Rattle.cfi_type_table.specs.Spelling.{word}
 use Rattle.cfi_unit.specs.declared.unit.Unit.{Unit as CodeUnit}
 use Rattle.cfi_unit.specs.Unit.{words_of}
 use Rattle.cfi_unit.proofs.UnitLemmas.{size_pos}

@@ -3,7 +3,7 @@ use Rattle.std.proofs.Common.{◌≡◌, ◌∙◌, ℕ, ◌<◌, ◌^◌, List,
 use Rattle.std.proofs.lemmas.List.Elements.{All-nil, All-cons, All-head, All-tail}
 use Rattle.elf_read.specs.Sound.{IsSoundObject}
 use Rattle.elf_read.specs.declared.object.Reloc.{Reloc}
-use Rattle.cfi_types.specs.Node.{Node}
+use Rattle.cfi_type_table.specs.Node.{Node}
 use Rattle.cfi_aux.specs.Records.{AreRecords, CanBeWritten}
 use Rattle.cfi_aux.specs.Sound.{IsSoundModule}
 use Rattle.cfi_aux.specs.declared.modules.Module.{Module}

@@ -17,8 +17,8 @@ use Rattle.cfi_word.specs.declared.map.TheConstants.{FIRST_BASE, DATA_START}
 use Rattle.cfi_unit.specs.declared.unit.Unit.{Unit as CodeUnit}
 use Rattle.cfi_unit.specs.declared.unit.Unit.TheVariants.{Load, Jump, Check}
 use Rattle.cfi_unit.specs.Unit.{words_of}
-use Rattle.cfi_types.specs.Node.{Node}
-use Rattle.cfi_types.specs.Spelling as types
+use Rattle.cfi_type_table.specs.Node.{Node}
+use Rattle.cfi_type_table.specs.Spelling as types
 use Rattle.cfi_aux.specs.Records as records
 use Rattle.cfi_aux.specs.declared.modules.Module.{Module}
 use Rattle.cfi_aux.specs.declared.records.Kind.TheVariants.{Return}

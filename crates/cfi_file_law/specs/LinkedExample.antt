@@ -6,9 +6,9 @@ use Rattle.elf_read.specs.declared.object.Object.{Object}
 use Rattle.elf_write.specs.File.{bytes_of}
 use Rattle.cfi_unit.specs.declared.unit.Unit.{Unit as CodeUnit}
 use Rattle.cfi_unit.specs.Unit.{words_of}
-use Rattle.cfi_types.specs.Node.{Node, make_node}
-use Rattle.cfi_types.specs.Spelling as types
-use Rattle.cfi_types.specs.declared.kind.TheConstants.{VOID, FUNC}
+use Rattle.cfi_type_table.specs.Node.{Node, make_node}
+use Rattle.cfi_type_table.specs.Spelling as types
+use Rattle.cfi_type_table.specs.declared.kind.TheConstants.{VOID, FUNC}
 use Rattle.cfi_aux.specs.Records as records
 use Rattle.cfi_aux.specs.declared.modules.Module.{Module}
 use Rattle.cfi_aux.specs.declared.records.Function.{Function}

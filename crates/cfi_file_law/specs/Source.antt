@@ -3,7 +3,7 @@ use Rattle.std.specs.Prelude.{ℕ, ◌≤◌, Bool, List, length}
 use Rattle.cfi_word.specs.declared.limits.TheConstants.{MAX_ENTRIES}
 use Rattle.elf_read.specs.Lists.{IsFirstBreak, own_number}
 use Rattle.elf_read.specs.declared.object.Object.{Object}
-use Rattle.cfi_types.specs.Node.{Node}
+use Rattle.cfi_type_table.specs.Node.{Node}
 use Rattle.cfi_aux.specs.Records.{kind_words}
 use Rattle.cfi_aux.specs.declared.modules.Module.{Module}
 use Rattle.cfi_aux.specs.declared.records.Kind.{Kind}

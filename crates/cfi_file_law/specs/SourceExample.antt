@@ -6,7 +6,7 @@
 --     .endfunc
 use Rattle.std.specs.Prelude.{ℕ, false, List, [], ◌∷◌, ◌++◌, Some, codes}
 use Rattle.elf_read.specs.declared.object.Object.{Object}
-use Rattle.cfi_types.specs.Spelling as types
+use Rattle.cfi_type_table.specs.Spelling as types
 use Rattle.cfi_aux.specs.Records as records
 use Rattle.cfi_aux.specs.declared.records.Kind.TheVariants.{Return}
 use Rattle.cfi_aux.specs.declared.records.Records.{Records}

@@ -2,8 +2,8 @@
 use Rattle.std.specs.Prelude.{◌≡◌, ℕ, ◌+◌, ◌*◌, ◌<◌, ◌^◌, List, [], length, map, slice_get, slice_index_or, Some, All, ⊤}
 use Rattle.std.specs.List.{flat_map}
 use Rattle.cfi_word.specs.declared.limits.TheConstants.{MAX_CODE_WORDS}
-use Rattle.cfi_types.specs.Node.{Node}
-use Rattle.cfi_types.specs.Spelling.{AreTypes}
+use Rattle.cfi_type_table.specs.Node.{Node}
+use Rattle.cfi_type_table.specs.Spelling.{AreTypes}
 use Rattle.cfi_aux.specs.declared.placed.Placed.{Placed}
 use Rattle.cfi_aux.specs.declared.records.Kind.{Kind}
 use Rattle.cfi_aux.specs.declared.records.Kind.TheVariants as kinds

@@ -6,7 +6,7 @@ use Rattle.std.proofs.lemmas.List.Elements.{All-map}
 use Rattle.elf_read.specs.declared.object.Symbol.{Symbol}
 use Rattle.elf_read.specs.declared.object.Reloc.{Reloc}
 use Rattle.elf_read.specs.Places.{joined}
-use Rattle.cfi_types.specs.Spelling.{word}
+use Rattle.cfi_type_table.specs.Spelling.{word}
 use Rattle.cfi_unit.specs.declared.unit.Unit.{Unit as CodeUnit}
 use Rattle.cfi_unit.specs.Unit.{IsUnit, words_of}
 use Rattle.cfi_aux.specs.declared.modules.Module.{Module}

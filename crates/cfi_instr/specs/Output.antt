@@ -3,8 +3,8 @@ use Rattle.std.specs.Prelude.{◌≡◌, ℕ, ◌<◌, ◌≤◌, List, Bool, ma
 use Rattle.std.specs.List.{flat_map}
 use Rattle.elf_read.specs.declared.object.Object.{Object}
 use Rattle.cfi_unit.specs.Code.{UnitCode}
-use Rattle.cfi_types.specs.Spelling.{word}
-use Rattle.cfi_types.specs.Spelling as types
+use Rattle.cfi_type_table.specs.Spelling.{word}
+use Rattle.cfi_type_table.specs.Spelling as types
 use Rattle.cfi_aux.specs.declared.modules.Module.{Module}
 use Rattle.cfi_aux.specs.declared.records.Records.{Records}
 use Rattle.cfi_aux.specs.Records as records

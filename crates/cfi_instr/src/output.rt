@@ -2,7 +2,7 @@
 
 ghost use Rattle.std.specs.Prelude.{◌≡◌, ◌*◌, ◌<◌, ◌≤◌, ◌^◌, length, All, IfOk, IfErr};
 ghost use Rattle.std.specs.List.{flat_map};
-ghost use Rattle.cfi_types.specs.Spelling.{word};
+ghost use Rattle.cfi_type_table.specs.Spelling.{word};
 ghost use Rattle.cfi_unit.specs.Unit.{words_of};
 ghost use Rattle.cfi_aux.specs.Records.{CanBeWritten};
 ghost use Rattle.cfi_items.specs.Words.{read_words, count_of};
@@ -16,7 +16,7 @@ use crate::records::{moved_functions, moved_kinds};
 use crate::text::words_of;
 use cfi_aux::{Module, Records, write_records};
 use cfi_items::{InstrFault, Source, read_items};
-use cfi_types::write_types;
+use cfi_type_table::write_types;
 use cfi_values::{Bytes, Items};
 use elf_read::{Object, Relocs, Symbols};
 use rv_words::bytes_of;

@@ -6,7 +6,7 @@ use Rattle.std.proofs.lemmas.List.{take-append-drop, drop_more, take_at, drop_at
 use Rattle.std.proofs.lemmas.List.Concat.{flat_map-append}
 use Rattle.std.proofs.lemmas.List.FromFn.{get_or-map-range_with_len}
 use Rattle.std.proofs.lemmas.Nat.{from_le_bytes-to_le_bytes_4}
-use Rattle.cfi_types.specs.Spelling.{word}
+use Rattle.cfi_type_table.specs.Spelling.{word}
 use Rattle.rv_reloc.specs.Bytes.{word_at, with_word}
 use Rattle.cfi_place.specs.Placed.{bytes_as_words}
 use Rattle.cfi_place.proofs.PlacingLemmas.{length-words_in}

@@ -2,7 +2,7 @@
 use Rattle.std.proofs.Common.{ℕ, sym, subst, All, List, IsTrue}
 use Rattle.std.proofs.lemmas.List.Elements.{All-from_recursion, All-map, All-weaker}
 use Rattle.elf_read.specs.declared.object.Object.{Object}
-use Rattle.cfi_types.specs.Node.{Node}
+use Rattle.cfi_type_table.specs.Node.{Node}
 use Rattle.cfi_aux.specs.Format.{is_func}
 use Rattle.cfi_aux.specs.Module.{IsModuleOf}
 use Rattle.cfi_aux.specs.Records.{IsFunction, IsBranch}

@@ -1,7 +1,7 @@
 -- A module that is instrumented and placed: the one word `j .`, which stays as it is.
 use Rattle.std.specs.Prelude.{[], ◌∷◌, Some, None, false}
 use Rattle.elf_read.specs.declared.object.Object.{Object}
-use Rattle.cfi_types.specs.Spelling.{spelling}
+use Rattle.cfi_type_table.specs.Spelling.{spelling}
 use Rattle.cfi_aux.specs.Records as records
 use Rattle.cfi_aux.specs.declared.modules.Module.{Module}
 use Rattle.cfi_aux.specs.declared.records.Records.{Records}

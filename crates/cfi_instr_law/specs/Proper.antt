@@ -1,7 +1,7 @@
 -- Which faults a verifier can find in a module that was instrumented, once it is placed: none but jumps that lead
 -- elsewhere. Where a jump leads to another module is known only where both are placed.
 use Rattle.std.specs.Prelude.{◌≡◌, ℕ, ◌≤◌, List, length, All, IsTrue, ⊤}
-use Rattle.cfi_types.specs.Node.{Node}
+use Rattle.cfi_type_table.specs.Node.{Node}
 use Rattle.cfi_aux.specs.Format.{is_func}
 use Rattle.cfi_aux.specs.declared.modules.Module.{Module}
 use Rattle.cfi_aux.specs.declared.placed.Placed.{Placed}

@@ -7,9 +7,9 @@ use Rattle.std.specs.List.{AllPairs}
 use Rattle.std.proofs.Math.Path.{fun_ext}
 use Rattle.elf_read.specs.declared.fault.Limit.{Limit}
 use Rattle.elf_read.specs.declared.object.Symbol.{Symbol}
-use Rattle.cfi_types.specs.Node.{Node}
-use Rattle.cfi_types.specs.Kind.{has_arity}
-use Rattle.cfi_types.specs.Spelling.{IsNode, NamesBelow, AreTypes}
+use Rattle.cfi_type_table.specs.Node.{Node}
+use Rattle.cfi_type_table.specs.Kind.{has_arity}
+use Rattle.cfi_type_table.specs.Spelling.{IsNode, NamesBelow, AreTypes}
 use Rattle.cfi_aux.specs.declared.modules.Module.{Module}
 use Rattle.cfi_aux.specs.Sound.{IsSoundModule}
 use Rattle.elf_read.specs.Sound.{IsSoundSymbol, IsSoundReloc, are_rivals}

@@ -4,10 +4,10 @@ use Rattle.std.specs.Prelude.{IsTrue}
 use Rattle.std.proofs.lemmas.Bool.{cases_Bool, eqb-true}
 use Rattle.std.proofs.lemmas.List.{length-map, drop_all, append-nil, take-append-drop, take_all}
 use Rattle.std.proofs.lemmas.List.Elements.{All-weaker, All-map, All-head, All-tail, All-append, All-take, All-cons, All-nil}
-use Rattle.cfi_types.specs.declared.kind.TheConstants.{INT}
-use Rattle.cfi_types.specs.Node.{Node}
-use Rattle.cfi_types.specs.Kind.{number_count, nodes_of, has_arity, field_fits}
-use Rattle.cfi_types.specs.Spelling.{AreFields, IsNode, NamesBelow}
+use Rattle.cfi_type_table.specs.declared.kind.TheConstants.{INT}
+use Rattle.cfi_type_table.specs.Node.{Node}
+use Rattle.cfi_type_table.specs.Kind.{number_count, nodes_of, has_arity, field_fits}
+use Rattle.cfi_type_table.specs.Spelling.{AreFields, IsNode, NamesBelow}
 use Rattle.cfi_link.specs.declared.start.Start.{Start}
 use Rattle.cfi_link.specs.Joined.{node_at}
 

@@ -2,8 +2,8 @@
 use Rattle.std.proofs.Common.{◌+◌, ◌<◌, ◌^◌, length, All, arith}
 use Rattle.std.proofs.lemmas.List.Elements.{All-weaker, All-from_recursion}
 use Rattle.elf_read.specs.declared.object.Object.{Object}
-use Rattle.cfi_types.specs.Kind.{nodes_of}
-use Rattle.cfi_types.specs.Spelling.{NamesBelow}
+use Rattle.cfi_type_table.specs.Kind.{nodes_of}
+use Rattle.cfi_type_table.specs.Spelling.{NamesBelow}
 use Rattle.cfi_aux.specs.declared.modules.Module.{Module}
 use Rattle.cfi_aux.specs.Sound.{IsSoundModule}
 use Rattle.cfi_link.specs.declared.start.Start.{Start}

@@ -9,8 +9,8 @@ use Rattle.elf_read.specs.declared.object.Place.TheVariants as places
 use Rattle.elf_read.specs.declared.object.Reloc.{Reloc}
 use Rattle.elf_read.specs.declared.object.Area.{Area}
 use Rattle.elf_read.specs.declared.object.Area.TheVariants as areas
-use Rattle.cfi_types.specs.Node.{Node, make_node}
-use Rattle.cfi_types.specs.Kind.{numbers_of, nodes_of}
+use Rattle.cfi_type_table.specs.Node.{Node, make_node}
+use Rattle.cfi_type_table.specs.Kind.{numbers_of, nodes_of}
 use Rattle.cfi_aux.specs.declared.modules.Module.{Module}
 use Rattle.cfi_aux.specs.declared.records.Function.{Function}
 use Rattle.cfi_aux.specs.declared.records.Kind.{Kind}

@@ -3,7 +3,7 @@ use Rattle.std.specs.Prelude.{◌≡◌, ℕ, ◌<◌, ◌^◌, List, length, Al
 use Rattle.std.specs.List.{flat_map}
 use Rattle.elf_read.specs.declared.object.Symbol.{Symbol}
 use Rattle.elf_read.specs.declared.object.Reloc.{Reloc}
-use Rattle.cfi_types.specs.Spelling.{word, spelling as types_spelling}
+use Rattle.cfi_type_table.specs.Spelling.{word, spelling as types_spelling}
 use Rattle.cfi_aux.specs.Records.{CanBeWritten, spelling as records_spelling}
 use Rattle.cfi_aux.specs.Sound.{IsSoundModule}
 use Rattle.cfi_aux.specs.declared.modules.Module.{Module}

@@ -11,7 +11,7 @@ use crate::records::{push_branches, push_functions};
 use crate::shift::{push_nodes, push_relocs, push_symbols};
 use crate::start::{Start, gap};
 use cfi_aux::{Function, Kind, Module};
-use cfi_types::TypeNode;
+use cfi_type_table::TypeNode;
 use elf_read::{Reloc, Symbol};
 use std::alloc::{AllocError, Global};
 use std::marker::Model;

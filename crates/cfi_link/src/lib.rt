@@ -1,6 +1,6 @@
 //! Modules linked into one: joined in order, with one definition of each name.
 //!
-//! Stands on `cfi_place`, `rv_reloc`, `rv_words`, `cfi_aux`, `cfi_unit`, `cfi_values`, `elf_read`, `cfi_types` and
+//! Stands on `cfi_place`, `rv_reloc`, `rv_words`, `cfi_aux`, `cfi_unit`, `cfi_values`, `elf_read`, `cfi_type_table` and
 //! `thiserror`. Proved: `link` answers exactly what `specs/Linked.antt` says, or the first fault, and what it answers
 //! breaks no rule of modules. Only tested, by the cases of `cfi_cases`: that ample memory is enough, and words against
 //! an assembler. Open: when memory runs out.

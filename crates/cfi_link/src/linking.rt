@@ -1,7 +1,7 @@
 //! Linking modules.
 
 ghost use Rattle.std.specs.Prelude.{◌≡◌, ◌<◌, ◌^◌, ℕ, List, None, length, IfOk, IfErr, OnOk, All};
-ghost use Rattle.cfi_types.specs.Spelling.{spelling as types_spelling};
+ghost use Rattle.cfi_type_table.specs.Spelling.{spelling as types_spelling};
 ghost use Rattle.cfi_aux.specs.Records.{CanBeWritten, spelling as records_spelling};
 ghost use Rattle.cfi_aux.specs.Sound.{IsSoundModule};
 ghost use Rattle.cfi_link.specs.Chosen.{chosen_in, twice_in};
@@ -22,7 +22,7 @@ use crate::settled::{in_order, settled};
 use crate::texts::check_texts;
 use cfi_aux::{Module, Records, write_records};
 use cfi_place::placed_words;
-use cfi_types::{TypeTable, write_types};
+use cfi_type_table::{TypeTable, write_types};
 use cfi_values::{Bytes, Items};
 use elf_read::{Object, Reloc, Relocs, Symbol, Symbols};
 use rv_words::bytes_of;

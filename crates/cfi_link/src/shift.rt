@@ -2,13 +2,13 @@
 
 ghost use Rattle.std.specs.Prelude.{◌≡◌, ◌<◌, ◌^◌, ◌++◌, All, map, length, IfOk, OnOk};
 ghost use Rattle.std.specs.List.{enumerate_from};
-ghost use Rattle.cfi_types.specs.Kind.{number_count, numbers_of, nodes_of};
+ghost use Rattle.cfi_type_table.specs.Kind.{number_count, numbers_of, nodes_of};
 ghost use Rattle.cfi_link.specs.Joined.{value_at, symbol_at, reloc_at, own_reloc_at, node_at};
 ghost use Rattle.cfi_link.specs.inner.Room.{HasValue, HasPlace, HasNodes};
 
 use crate::joined::OwnReloc;
 use crate::start::Start;
-use cfi_types::{ARRAY, INT, REAL, TypeNode};
+use cfi_type_table::{ARRAY, INT, REAL, TypeNode};
 use elf_read::{Area, Name, Place, Reloc, Symbol};
 use std::alloc::{AllocError, Global};
 

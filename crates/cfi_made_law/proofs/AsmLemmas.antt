@@ -6,8 +6,8 @@ use Rattle.std.proofs.lemmas.List.Sums.{sum_by-cons}
 use Rattle.std.proofs.lemmas.List.Elements.{All-append, All-weaker}
 use Rattle.cfi_word.specs.declared.limits.TheConstants.{MAX_FILE_BYTES, MAX_SYMBOLS, MAX_NAME, MAX_FIELDS, MAX_BRANCHES}
 use Rattle.cfi_text.specs.Lines.{lines_of}
-use Rattle.cfi_types.specs.Node.{Node}
-use Rattle.cfi_types.specs.Spelling.{word, node_bytes, spelling as types_spelling}
+use Rattle.cfi_type_table.specs.Node.{Node}
+use Rattle.cfi_type_table.specs.Spelling.{word, node_bytes, spelling as types_spelling}
 use Rattle.cfi_aux.specs.declared.records.Kind.{Kind}
 use Rattle.cfi_aux.specs.declared.records.Records.{Records}
 use Rattle.cfi_aux.specs.Records.{function_bytes, kind_number, kind_words, branch_bytes, spelling as records_spelling}

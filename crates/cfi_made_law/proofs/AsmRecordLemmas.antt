@@ -5,7 +5,7 @@ use Rattle.std.proofs.lemmas.Bool.{cases_Bool, and_parts, leb-true, ltb-true}
 use Rattle.std.proofs.lemmas.List.{length-map}
 use Rattle.std.proofs.lemmas.List.Elements.{All-nil, All-cons, All-append}
 use Rattle.cfi_word.specs.declared.limits.TheConstants.{MAX_NODES, MAX_FIELDS, MAX_FUNCTIONS, MAX_NAME}
-use Rattle.cfi_types.specs.Node.{Node}
+use Rattle.cfi_type_table.specs.Node.{Node}
 use Rattle.cfi_aux.specs.declared.records.Function.{Function}
 use Rattle.elf_read.specs.declared.object.Area.TheVariants as areas
 use Rattle.rv_line.specs.declared.line.Line.{Line}

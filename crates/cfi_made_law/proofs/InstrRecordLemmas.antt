@@ -5,8 +5,8 @@ use Rattle.std.proofs.lemmas.Bool.{and_from, eq-eqb, ne_eqb}
 use Rattle.std.proofs.lemmas.List.{length-map}
 use Rattle.std.proofs.lemmas.Option.{slice_get-get_or}
 use Rattle.std.proofs.lemmas.List.Elements.{All-map, All-weaker, All-from_recursion, recursion_from_All}
-use Rattle.cfi_types.specs.Node.{Node}
-use Rattle.cfi_types.specs.Spelling.{AreTypes, spelling as types_spelling}
+use Rattle.cfi_type_table.specs.Node.{Node}
+use Rattle.cfi_type_table.specs.Spelling.{AreTypes, spelling as types_spelling}
 use Rattle.cfi_aux.specs.Extent.{byte_end}
 use Rattle.cfi_aux.specs.Format.{is_whole, is_length, has_count}
 use Rattle.cfi_aux.specs.Module.{AreSpelled}

@@ -14,9 +14,8 @@ use Rattle.elf_read.specs.declared.object.Symbol.{Symbol}
 use Rattle.elf_read.specs.declared.object.Reloc.{Reloc}
 use Rattle.elf_read.specs.Sound.{IsInsideArea}
 use Rattle.cfi_word.specs.declared.limits.TheConstants.{MAX_WORDS, MAX_DATA, MAX_NODES}
-use Rattle.cfi_types.specs.declared.kind.TheConstants.{FUNC}
-use Rattle.cfi_types.specs.Node.{Node, make_node}
-use Rattle.cfi_types.specs.Same.{node_of}
+use Rattle.cfi_type_table.specs.declared.kind.TheConstants.{FUNC}
+use Rattle.cfi_type_table.specs.Node.{Node, make_node, node_of}
 use Rattle.cfi_aux.specs.Format.{is_whole, is_func, has_count}
 use Rattle.cfi_aux.specs.Module.{AreSpelled}
 use Rattle.cfi_aux.specs.Records.{IsFunction, IsBranch, AreRecords}

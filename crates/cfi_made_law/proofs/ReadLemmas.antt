@@ -8,7 +8,7 @@ use Rattle.std.proofs.lemmas.List.{get_or_past}
 use Rattle.std.proofs.lemmas.List.Elements.{All-nil, All-cons}
 use Rattle.byteorder.specs.Numbers.{little_from-lt}
 use Rattle.cfi_word.specs.declared.limits.TheConstants.{MAX_SYMBOLS, MAX_RELOCS, MAX_WORDS, MAX_DATA}
-use Rattle.cfi_types.proofs.Parts.{IsBytes, IsBytes-drop, IsBytes-take}
+use Rattle.cfi_type_table.proofs.Parts.{IsBytes, IsBytes-drop, IsBytes-take}
 use Rattle.elf_read.specs.Words.{u32_at}
 use Rattle.elf_read.specs.Places.{joined}
 use Rattle.elf_read.specs.Header.{section_count}

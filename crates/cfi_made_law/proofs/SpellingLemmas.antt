@@ -7,9 +7,9 @@ use Rattle.std.proofs.lemmas.List.Concat.{length-flat_map}
 use Rattle.std.proofs.lemmas.List.Sums.{sum_by-le}
 use Rattle.std.proofs.lemmas.List.Elements.{All-from_recursion, All-weaker}
 use Rattle.cfi_word.specs.declared.limits.TheConstants.{MAX_FIELDS, MAX_NAME}
-use Rattle.cfi_types.specs.Node.{Node}
-use Rattle.cfi_types.specs.Kind.{has_arity}
-use Rattle.cfi_types.specs.Spelling.{word, node_bytes, spelling as types_spelling, IsNode, AreTypes}
+use Rattle.cfi_type_table.specs.Node.{Node}
+use Rattle.cfi_type_table.specs.Kind.{has_arity}
+use Rattle.cfi_type_table.specs.Spelling.{word, node_bytes, spelling as types_spelling, IsNode, AreTypes}
 use Rattle.cfi_aux.specs.declared.format.TheConstants.{VERSION}
 use Rattle.cfi_aux.specs.declared.records.Function.{Function}
 use Rattle.cfi_aux.specs.declared.records.Kind.{Kind}

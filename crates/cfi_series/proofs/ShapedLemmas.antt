@@ -7,7 +7,7 @@ use Rattle.std.proofs.lemmas.Bool.{cases_lt, ltb-true, and_parts}
 use Rattle.std.proofs.lemmas.List.{length-map}
 use Rattle.std.proofs.lemmas.List.Elements.{All-weaker}
 use Rattle.std.proofs.lemmas.Option.{slice_get-get_or, slice_get-map, slice_get_past}
-use Rattle.cfi_types.specs.Node.{Node}
+use Rattle.cfi_type_table.specs.Node.{Node}
 use Rattle.cfi_word.specs.declared.map.TheConstants.{FIRST_BASE}
 use Rattle.cfi_word.specs.declared.limits.TheConstants.{MAX_CODE_WORDS}
 use Rattle.cfi_aux.specs.Format.{is_func}

@@ -3,9 +3,9 @@ use Rattle.std.proofs.Common.{◌≡◌, ℕ, zero, suc, ◌+◌, ◌<◌, List,
 use Rattle.std.specs.Prelude.{◌↔◌}
 use Rattle.std.specs.List.{AllZip}
 use Rattle.std.proofs.lemmas.List.Elements.{All-head, All-tail}
-use Rattle.cfi_types.specs.Node.{Node}
-use Rattle.cfi_types.specs.Kind.{numbers_of, nodes_of}
-use Rattle.cfi_types.specs.Same.{node_of, Same, Equal}
+use Rattle.cfi_type_table.specs.Node.{Node, node_of}
+use Rattle.cfi_type_table.specs.Kind.{numbers_of, nodes_of}
+use Rattle.cfi_types.specs.Same.{Same, Equal}
 use Rattle.cfi_types.specs.inner.Joined.{shifted}
 use Rattle.cfi_types.specs.inner.Splitting.{IsClosed}
 use Rattle.cfi_types.proofs.Places.{shifted_numbers, shifted_nodes}

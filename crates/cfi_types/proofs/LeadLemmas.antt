@@ -7,10 +7,10 @@ use Rattle.std.proofs.lemmas.List.{get_or_default}
 use Rattle.std.proofs.lemmas.List.Elements.{All-get_or, All-from_get_or, length_all_zip, AllZip-get_or}
 use Rattle.std.proofs.lemmas.List.Folds.{Any-from_list_any, list_any_at}
 use Rattle.cfi_word.specs.declared.limits.TheConstants.{MAX_FIELDS}
+use Rattle.cfi_type_table.specs.Node.{Node, node_of}
+use Rattle.cfi_type_table.specs.Kind.{nodes_of}
 use Rattle.cfi_types.specs.declared.parents.Name.{Name}
-use Rattle.cfi_types.specs.Node.{Node}
-use Rattle.cfi_types.specs.Kind.{nodes_of}
-use Rattle.cfi_types.specs.Same.{node_of, Equal}
+use Rattle.cfi_types.specs.Same.{Equal}
 use Rattle.cfi_types.specs.inner.Splitting.{IsClosed}
 use Rattle.cfi_types.specs.inner.Parents.{lists_name, names_at, AreParents}
 use Rattle.cfi_types.specs.inner.Hits.{has, is_hit, hits_one, GathersHits}

@@ -6,9 +6,9 @@ use Rattle.std.proofs.lemmas.Bool.{cases_lt}
 use Rattle.std.proofs.lemmas.List.Elements.{length_all_zip}
 use Rattle.std.proofs.lemmas.List.{length_push, get_or_push, get_or_append_left}
 use Rattle.cfi_word.specs.declared.limits.TheConstants.{MAX_FIELDS}
-use Rattle.cfi_types.specs.Node.{Node}
-use Rattle.cfi_types.specs.Kind.{numbers_of, nodes_of}
-use Rattle.cfi_types.specs.Same.{node_of, Same, Equal}
+use Rattle.cfi_type_table.specs.Node.{Node, node_of}
+use Rattle.cfi_type_table.specs.Kind.{numbers_of, nodes_of}
+use Rattle.cfi_types.specs.Same.{Same, Equal}
 use Rattle.cfi_types.specs.inner.Leader.{PutsFirst}
 use Rattle.cfi_types.specs.inner.Splitting.{IsFirstOfKey}
 use Rattle.cfi_types.specs.inner.Keeping.{label_of, AreNamed, KeepEqual}

@@ -1,13 +1,8 @@
-pub mod Parts
-pub mod Fields
-pub mod Nodes
-pub mod Tables
 pub mod Firsts
 pub mod Keyed
 pub mod Pairs
 pub mod Signatures
 pub mod Steps
-pub mod Loops
 pub mod Places
 pub mod Agreement
 pub mod Counts

@@ -5,10 +5,9 @@ use Rattle.std.proofs.lemmas.Bool.{cases_eq, eq-eqb, ne_eqb, le-ltb}
 use Rattle.std.proofs.lemmas.List.{length-set, length-replicate, get_or-set_same, get_or-set_other, get_or-replicate}
 use Rattle.std.proofs.lemmas.List.Folds.{list_any-append}
 use Rattle.cfi_word.specs.declared.limits.TheConstants.{MAX_FIELDS}
+use Rattle.cfi_type_table.specs.Node.{Node, node_of}
+use Rattle.cfi_type_table.specs.Kind.{nodes_of}
 use Rattle.cfi_types.specs.declared.parents.Name.{Name}
-use Rattle.cfi_types.specs.Node.{Node}
-use Rattle.cfi_types.specs.Kind.{nodes_of}
-use Rattle.cfi_types.specs.Same.{node_of}
 use Rattle.cfi_types.specs.inner.Parents.{is_at, has_name, lists_name, names_at, AddsNames, AreParents}
 use Rattle.cfi_types.proofs.Choices.{or_false, and_true, and_false, or_and_or, below_more}
 

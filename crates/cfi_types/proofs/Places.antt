@@ -5,10 +5,9 @@ use Rattle.std.proofs.lemmas.Bool.{cases_lt}
 use Rattle.std.proofs.lemmas.List.{append-nil, length-append, length-map, length-take-le, take_at, drop_at, take_all, drop_all, get_or_append_left, get_or-append-add, get_or-map, take_more}
 use Rattle.std.proofs.lemmas.List.Concat.{flat_map-cons}
 use Rattle.std.proofs.lemmas.List.Elements.{All-map, All-weaker}
-use Rattle.cfi_types.specs.Node.{Node, make_node}
-use Rattle.cfi_types.specs.Kind.{number_count, numbers_of, nodes_of}
-use Rattle.cfi_types.specs.Spelling.{NamesBelow, AreTypes}
-use Rattle.cfi_types.specs.Same.{node_of}
+use Rattle.cfi_type_table.specs.Node.{Node, make_node, node_of}
+use Rattle.cfi_type_table.specs.Kind.{number_count, numbers_of, nodes_of}
+use Rattle.cfi_type_table.specs.Spelling.{NamesBelow, AreTypes}
 use Rattle.cfi_types.specs.Classes.{table_of, class_of}
 use Rattle.cfi_types.specs.inner.Joined.{shifted, joined_from}
 use Rattle.cfi_types.specs.inner.Splitting.{IsClosed}

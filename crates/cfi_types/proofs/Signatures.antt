@@ -2,9 +2,8 @@
 use Rattle.std.proofs.Common.{◌≡◌, ℕ, ◌+◌, ◌-◌, List, ◌++◌, length, map, take, drop, get_or, refl, sym, ap, ◌∙◌, arith}
 use Rattle.std.specs.Prelude.{min}
 use Rattle.std.proofs.lemmas.List.{take_at, drop_at, length-append, length-take, length-drop, length-map}
-use Rattle.cfi_types.specs.Node.{Node}
-use Rattle.cfi_types.specs.Kind.{number_count, numbers_of, nodes_of}
-use Rattle.cfi_types.specs.Same.{node_of}
+use Rattle.cfi_type_table.specs.Node.{Node, node_of}
+use Rattle.cfi_type_table.specs.Kind.{number_count, numbers_of, nodes_of}
 use Rattle.cfi_types.specs.inner.Splitting.{signature, key_of}
 
 -- two nodes of one kind and the same numbers, whose named nodes have the same classes

@@ -3,10 +3,10 @@ use Rattle.std.proofs.Common.{◌≡◌, ◌≢◌, ℕ, zero, suc, ◌*◌, ◌
 use Rattle.std.specs.List.{AllZip}
 use Rattle.std.proofs.lemmas.Bool.{cases_order}
 use Rattle.std.proofs.lemmas.List.Elements.{All-from_recursion, All-get_or}
-use Rattle.cfi_types.specs.Node.{Node, make_node}
-use Rattle.cfi_types.specs.Kind.{nodes_of}
-use Rattle.cfi_types.specs.Spelling.{NamesBelow}
-use Rattle.cfi_types.specs.Same.{node_of, Same, Equal}
+use Rattle.cfi_type_table.specs.Node.{Node, make_node, node_of}
+use Rattle.cfi_type_table.specs.Kind.{nodes_of}
+use Rattle.cfi_type_table.specs.Spelling.{NamesBelow}
+use Rattle.cfi_types.specs.Same.{Same, Equal}
 use Rattle.cfi_types.specs.inner.Splitting.{signature, key_of, IsFirstOfKey, IsSplit, IsClosed, IsLow, IsStill}
 use Rattle.cfi_types.specs.inner.Refining.{AreLeaders}
 use Rattle.cfi_types.specs.inner.Keeping.{KeepEqual}

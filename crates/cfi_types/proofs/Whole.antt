@@ -5,9 +5,9 @@ use Rattle.std.specs.declared.alloc.AllocError.{AllocError}
 use Rattle.std.specs.List.{AllByRecursion}
 use Rattle.std.proofs.lemmas.List.{length-map, get_or-map}
 use Rattle.std.proofs.lemmas.List.Elements.{All-from_recursion, All-get_or}
-use Rattle.cfi_types.specs.Node.{Node}
-use Rattle.cfi_types.specs.Spelling.{AreTypes}
-use Rattle.cfi_types.specs.Same.{node_of, Equal}
+use Rattle.cfi_type_table.specs.Node.{Node, node_of}
+use Rattle.cfi_type_table.specs.Spelling.{AreTypes}
+use Rattle.cfi_types.specs.Same.{Equal}
 use Rattle.cfi_types.specs.Classes.{table_of, class_of, IsNodePlace, InOrder, AreClasses}
 use Rattle.cfi_types.specs.inner.Joined.{shifted, joined_from}
 use Rattle.cfi_types.specs.inner.Refining.{AreLeaders}

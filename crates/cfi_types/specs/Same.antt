@@ -1,12 +1,8 @@
 -- Which types are equal: nodes that agree to every depth. A node is given by a table and its number there.
-use Rattle.std.specs.Prelude.{◌≡◌, ℕ, zero, suc, List, [], slice_index_or}
+use Rattle.std.specs.Prelude.{◌≡◌, ℕ, zero, suc, List}
 use Rattle.std.specs.List.{AllZip}
-use Rattle.cfi_types.specs.Node.{Node, make_node}
-use Rattle.cfi_types.specs.Kind.{numbers_of, nodes_of}
-
--- the node of a number that is there
-abbrev pub node_of : List Node → ℕ → Node
-node_of xs a = slice_index_or xs a (make_node 0 [])
+use Rattle.cfi_type_table.specs.Node.{Node, node_of}
+use Rattle.cfi_type_table.specs.Kind.{numbers_of, nodes_of}
 
 -- node a of xs and node b of ys agree to a depth: to depth 0 any two do; to a greater one, those whose kinds and
 -- numbers are equal, that name as many nodes, and whose named nodes agree, pair by pair, to one depth less

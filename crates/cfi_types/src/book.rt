@@ -2,14 +2,14 @@
 
 ghost use Rattle.std.specs.Prelude.{◌≡◌, ◌<◌, ◌^◌, [], ◌∷◌, ◌++◌, length, OnOk, OnErr, IfOk};
 ghost use Rattle.std.specs.List.{flat_map, AllByRecursion};
-ghost use Rattle.cfi_types.specs.Spelling.{AreTypes};
+ghost use Rattle.cfi_type_table.specs.Spelling.{AreTypes};
 ghost use Rattle.cfi_types.specs.Classes.{AreClasses};
 
 use crate::classes::{Classes, by_table};
 use crate::graph::join;
 use crate::numbering::number;
 use crate::refining::leaders;
-use crate::table::TypeTable;
+use cfi_type_table::TypeTable;
 use std::alloc::{AllocError, Global};
 use std::marker::Model;
 
@@ -34,8 +34,8 @@ pub struct TypeBook {
 impl Model for TypeBook {
     ghost use Rattle.std.specs.Prelude.{List};
     ghost use Rattle.std.specs.List.{AllByRecursion};
-    ghost use Rattle.cfi_types.specs.Node.{Node};
-    ghost use Rattle.cfi_types.specs.Spelling.{AreTypes};
+    ghost use Rattle.cfi_type_table.specs.Node.{Node};
+    ghost use Rattle.cfi_type_table.specs.Spelling.{AreTypes};
 
     ghost Value = { List (List Node) };
 

@@ -4,7 +4,7 @@ ghost use Rattle.std.specs.Prelude.{◌≡◌, ◌<◌, [], length, map, slice_i
 ghost use Rattle.std.specs.List.{flat_map};
 ghost use Rattle.cfi_types.specs.Classes.{class_of};
 
-use crate::table::TypeTable;
+use cfi_type_table::TypeTable;
 use std::alloc::{AllocError, Global};
 use std::marker::Model;
 

@@ -7,9 +7,9 @@ ghost use Rattle.cfi_types.specs.inner.Keeping.{label_of, AreNamed, KeepEqual};
 use crate::hits::gather;
 use crate::leader::Firsts;
 use crate::lists::Lists;
-use crate::node::TypeNode;
 use crate::parents::parents_of;
 use crate::partition::Parts;
+use cfi_type_table::TypeNode;
 use cfi_word::limits::MAX_FIELDS;
 use std::alloc::{AllocError, Global};
 

@@ -2,12 +2,11 @@
 
 ghost use Rattle.std.specs.Prelude.{◌≡◌, ◌+◌, ◌<◌, ◌^◌, ◌++◌, length, map, vec_len, All, IfOk, OnOk};
 ghost use Rattle.std.specs.List.{flat_map, AllByRecursion};
-ghost use Rattle.cfi_types.specs.Kind.{nodes_of};
-ghost use Rattle.cfi_types.specs.Spelling.{NamesBelow, AreTypes};
+ghost use Rattle.cfi_type_table.specs.Kind.{nodes_of};
+ghost use Rattle.cfi_type_table.specs.Spelling.{NamesBelow, AreTypes};
 ghost use Rattle.cfi_types.specs.inner.Joined.{shifted, joined_from};
 
-use crate::node::TypeNode;
-use crate::table::TypeTable;
+use cfi_type_table::{TypeNode, TypeTable};
 use std::alloc::{AllocError, Global};
 
 // The node, in a list in which its table begins at `start`.

@@ -1,11 +1,11 @@
 //! The first node of each key that has come.
 
 ghost use Rattle.std.specs.Prelude.{◌≡◌, ℕ, ◌<◌, List, [], ◌∷◌, None, length, vec_len, IfOk};
-ghost use Rattle.cfi_types.specs.Spelling.{NamesBelow};
+ghost use Rattle.cfi_type_table.specs.Spelling.{NamesBelow};
 ghost use Rattle.cfi_types.specs.inner.Splitting.{signature};
 ghost use Rattle.cfi_types.specs.inner.Leader.{first_of, PutsFirst};
 
-use crate::node::TypeNode;
+use cfi_type_table::TypeNode;
 use std::alloc::{AllocError, Global};
 use std::collections::BTreeMap;
 

@@ -6,7 +6,7 @@ ghost use Rattle.cfi_types.specs.inner.Splitting.{IsClosed};
 ghost use Rattle.cfi_types.specs.inner.Parents.{AddsNames, AreParents};
 
 use crate::lists::Lists;
-use crate::node::TypeNode;
+use cfi_type_table::TypeNode;
 use cfi_word::limits::MAX_FIELDS;
 use std::alloc::{AllocError, Global};
 

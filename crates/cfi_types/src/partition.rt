@@ -2,7 +2,7 @@
 
 ghost use Rattle.std.specs.Prelude.{◌≡◌, ℕ, ◌<◌, ◌^◌, List, length, map, slice_index, vec_len, All, IfOk, IfSome, OnOk};
 ghost use Rattle.cfi_word.specs.declared.limits.TheConstants.{MAX_FIELDS};
-ghost use Rattle.cfi_types.specs.Node.{Node};
+ghost use Rattle.cfi_type_table.specs.Node.{Node};
 ghost use Rattle.cfi_types.specs.inner.Splitting.{IsLow};
 ghost use Rattle.cfi_types.specs.inner.Division.{IsPut, AreListed, AreClear, KeepTogether, TellEqual};
 ghost use Rattle.cfi_types.specs.inner.Whole.{IsWhole, IsDivided};

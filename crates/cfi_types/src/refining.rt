@@ -5,9 +5,9 @@ ghost use Rattle.cfi_types.specs.inner.Splitting.{IsClosed};
 ghost use Rattle.cfi_types.specs.inner.Refining.{AreLeaders};
 
 use crate::dividing::divided;
-use crate::node::TypeNode;
 use crate::splitting::split;
 use crate::still::are_still;
+use cfi_type_table::TypeNode;
 use std::alloc::{AllocError, Global};
 
 // The least node that is equal to each.

@@ -4,7 +4,7 @@ ghost use Rattle.std.specs.Prelude.{◌≡◌, ◌<◌, ◌^◌, length, IfOk};
 ghost use Rattle.cfi_types.specs.inner.Splitting.{IsSplit, IsClosed};
 
 use crate::leader::{Firsts, key};
-use crate::node::TypeNode;
+use cfi_type_table::TypeNode;
 use std::alloc::{AllocError, Global};
 
 // The least node of the part of each node: those of its class that have its signature.

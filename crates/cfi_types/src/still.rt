@@ -1,10 +1,10 @@
 //! Whether a step of a refinement would change classes.
 
 ghost use Rattle.std.specs.Prelude.{◌≡◌, ◌≢◌, ◌<◌, Bool, true, false, length, map, slice_index, All};
-ghost use Rattle.cfi_types.specs.Spelling.{NamesBelow};
+ghost use Rattle.cfi_type_table.specs.Spelling.{NamesBelow};
 ghost use Rattle.cfi_types.specs.inner.Splitting.{signature, IsClosed, IsLow, IsStill};
 
-use crate::node::TypeNode;
+use cfi_type_table::TypeNode;
 
 // Whether nodes have the classes of others, one by one.
 fn have_classes(classes: &[u32], named: &[u32], others: &[u32]) -> bool

@@ -12,7 +12,7 @@ use Rattle.cfi_plan.specs.declared.journal.Who.TheVariants.{Guest}
 use Rattle.cfi_plan.specs.declared.plan.Plan.{Plan}
 use Rattle.cfi_report.specs.declared.report.GuestPart.{GuestPart}
 use Rattle.cfi_report.specs.declared.report.Report.{Report}
-use Rattle.cfi_types.specs.Node.{Node, make_node}
+use Rattle.cfi_type_table.specs.Node.{Node, make_node}
 use Rattle.cfi_unit.specs.declared.log.Log.TheVariants.{Pick, Open}
 use Rattle.cfi_unit.specs.declared.log.Stop.TheVariants.{Exit}
 use Rattle.cfi_valid.specs.LoadExample.{planned}

@@ -1,7 +1,7 @@
 -- Modules that verify: those of the one word `j .`.
 use Rattle.std.proofs.Common.{◌≡◌, ℕ, zero, suc, pos, Bool, false, IsTrue, List, [], ◌∷◌, length, inl, refl, ap, subst, arith}
 use Rattle.std.specs.List.{Contains}
-use Rattle.cfi_types.specs.Node.{Node}
+use Rattle.cfi_type_table.specs.Node.{Node}
 use Rattle.cfi_unit.specs.declared.unit.Unit.TheVariants.{Jump}
 use Rattle.cfi_unit.specs.declared.spot.Spot.{Spot}
 use Rattle.cfi_unit.specs.Spots.{BeginsUnit}

@@ -1,7 +1,7 @@
 -- A module that verifies: the one word `j .`, one function of it, whose type is that of a function.
 use Rattle.std.specs.Prelude.{[], ◌∷◌, false}
-use Rattle.cfi_types.specs.Node.{make_node}
-use Rattle.cfi_types.specs.declared.kind.TheConstants.{VOID, FUNC}
+use Rattle.cfi_type_table.specs.Node.{make_node}
+use Rattle.cfi_type_table.specs.declared.kind.TheConstants.{VOID, FUNC}
 use Rattle.cfi_aux.specs.declared.placed.Placed.{Placed}
 use Rattle.cfi_aux.specs.declared.placed.PlacedFunction.{PlacedFunction}
 use Rattle.cfi_word.specs.declared.map.TheConstants.{FIRST_BASE, DATA_START}

@@ -10,7 +10,7 @@ use crate::checks::CheckSpot;
 use crate::functions::is_func;
 use crate::home::is_at_home;
 use cfi_aux::{Kind, Placed};
-use cfi_types::TypeTable;
+use cfi_type_table::TypeTable;
 use cfi_unit::Spot;
 
 /// The place of the first check that does not name the slot of its number.

@@ -8,7 +8,7 @@ ghost use Rattle.cfi_verify.specs.inner.Places.{AreRising, AreInRange, FollowsWi
 
 use crate::search::{begins_at, number_at};
 use cfi_aux::{Placed, PlacedFunction};
-use cfi_types::{FUNC, TypeTable};
+use cfi_type_table::{FUNC, TypeTable};
 use cfi_unit::{Spot, Unit};
 use rv_insn::{ImmOp, Insn};
 

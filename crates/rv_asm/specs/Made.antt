@@ -6,8 +6,8 @@ use Rattle.elf_read.specs.declared.object.Area.{Area}
 use Rattle.elf_read.specs.declared.object.Area.TheVariants as areas
 use Rattle.elf_read.specs.declared.object.Object.{Object}
 use Rattle.elf_read.specs.declared.object.Reloc.{Reloc}
-use Rattle.cfi_types.specs.Node.{Node}
-use Rattle.cfi_types.specs.Spelling.{spelling as types_spelling}
+use Rattle.cfi_type_table.specs.Node.{Node}
+use Rattle.cfi_type_table.specs.Spelling.{spelling as types_spelling}
 use Rattle.cfi_aux.specs.Records.{spelling as records_spelling}
 use Rattle.cfi_aux.specs.declared.records.Function.{Function}
 use Rattle.cfi_aux.specs.declared.records.Kind.{Kind}

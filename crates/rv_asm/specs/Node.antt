@@ -1,10 +1,10 @@
 -- The nodes of a source: each `.node` is the next one, and its fields are numbers of its kind, then numbers of nodes.
 use Rattle.std.specs.Prelude.{ℕ, ◌^◌, Bool, true, false, ◌&&◌, nat_lt, nat_le, ℤ, pos, negsuc, List, [], ◌∷◌, length, map, drop, if◌then◌else◌, Option, Some, None, slice_get}
 use Rattle.std.specs.List.{list_all}
-use Rattle.cfi_types.specs.declared.kind.TheConstants.{VOID, INT, REAL, PTR, ARRAY, STRUCT, UNION, FUNC}
+use Rattle.cfi_type_table.specs.declared.kind.TheConstants.{VOID, INT, REAL, PTR, ARRAY, STRUCT, UNION, FUNC}
 use Rattle.cfi_word.specs.declared.limits.TheConstants.{MAX_FIELDS}
-use Rattle.cfi_types.specs.Kind.{number_count, field_fits}
-use Rattle.cfi_types.specs.Node.{Node, make_node}
+use Rattle.cfi_type_table.specs.Kind.{number_count, field_fits}
+use Rattle.cfi_type_table.specs.Node.{Node, make_node}
 use Rattle.rv_line.specs.declared.statement.NodeKind.{NodeKind}
 use Rattle.rv_line.specs.declared.statement.NodeKind.TheVariants as kinds
 use Rattle.rv_asm.specs.Words.{low_word}

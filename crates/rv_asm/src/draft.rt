@@ -12,7 +12,7 @@ use crate::relocs::{reloc_by, relocs_of};
 use crate::spot::Spot;
 use crate::words::{Words, low_word};
 use cfi_aux::{Function, Kind};
-use cfi_types::TypeNode;
+use cfi_type_table::TypeNode;
 use cfi_word::limits::{MAX_BRANCHES, MAX_DATA, MAX_RELOCS, MAX_WORDS};
 use elf_read::relocation::WORD;
 use elf_read::{Area, Reloc};

@@ -3,12 +3,12 @@
 ghost use Rattle.std.specs.Prelude.{◌≡◌, ◌≤◌, ◌<◌, length, map, drop, IfOk, IfSome};
 ghost use Rattle.cfi_word.specs.declared.limits.TheConstants.{MAX_FIELDS};
 ghost use Rattle.std.specs.List.{list_all};
-ghost use Rattle.cfi_types.specs.Kind.{number_count};
+ghost use Rattle.cfi_type_table.specs.Kind.{number_count};
 ghost use Rattle.rv_asm.specs.Node.{number_of, is_node, is_func_kind, is_func, func_in, names_nodes, is_word, is_integer, fits, node_of};
 ghost use Rattle.rv_asm.specs.Words.{low_word};
 
 use crate::words::low_word;
-use cfi_types::{ARRAY, FUNC, INT, PTR, REAL, STRUCT, TypeNode, UNION, VOID};
+use cfi_type_table::{ARRAY, FUNC, INT, PTR, REAL, STRUCT, TypeNode, UNION, VOID};
 use cfi_word::limits::MAX_FIELDS;
 use rv_line::NodeKind;
 use std::alloc::{AllocError, Global};

@@ -1,7 +1,7 @@
 //! The object of a source.
 
 ghost use Rattle.std.specs.Prelude.{◌≡◌, ◌<◌, ◌++◌, ◌^◌, length, All, IfOk};
-ghost use Rattle.cfi_types.specs.Spelling.{spelling as types_spelling};
+ghost use Rattle.cfi_type_table.specs.Spelling.{spelling as types_spelling};
 ghost use Rattle.cfi_aux.specs.Records.{CanBeWritten, spelling as records_spelling};
 ghost use Rattle.rv_asm.specs.Made.{only_if};
 ghost use Rattle.rv_asm.specs.inner.Passes.{object_of};
@@ -9,7 +9,7 @@ ghost use Rattle.rv_asm.specs.inner.Passes.{object_of};
 use crate::draft::Draft;
 use crate::file::File;
 use cfi_aux::{Records, write_records};
-use cfi_types::{TypeTable, write_types};
+use cfi_type_table::{TypeTable, write_types};
 use cfi_values::{Bytes, Items};
 use elf_read::{Object, Reloc, Relocs};
 use std::alloc::{AllocError, Global};

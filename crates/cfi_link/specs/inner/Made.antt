@@ -1,7 +1,7 @@
 -- Joined modules that break no rule, and why they make no module.
 use Rattle.std.specs.Prelude.{◌≡◌, ◌%◌, ◌<◌, ◌^◌, length, map, All, Some, None, Err, ⊤}
 use Rattle.elf_read.specs.declared.object.Object.{Object}
-use Rattle.cfi_types.specs.Spelling.{IsNode, NamesBelow}
+use Rattle.cfi_type_table.specs.Spelling.{IsNode, NamesBelow}
 use Rattle.cfi_aux.specs.Records.{kind_words}
 use Rattle.elf_read.specs.Sound.{IsSoundSymbol, IsSoundReloc}
 use Rattle.cfi_link.specs.declared.fault.LinkFault.{LinkFault}

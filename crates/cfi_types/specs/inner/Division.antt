@@ -1,6 +1,6 @@
 -- Parts of nodes, and their division by lists of nodes.
 use Rattle.std.specs.Prelude.{◌≡◌, ℕ, ◌<◌, true, if◌then◌else◌, List, [], length, slice_index, slice_index_or, All}
-use Rattle.cfi_types.specs.Node.{Node}
+use Rattle.cfi_type_table.specs.Node.{Node}
 use Rattle.cfi_types.specs.Same.{Equal}
 use Rattle.cfi_types.specs.inner.Hits.{has}
 

@@ -1,7 +1,7 @@
 -- Several tables as one list of nodes, one table after the other.
 use Rattle.std.specs.Prelude.{ℕ, ◌+◌, List, [], ◌∷◌, ◌++◌, length, map}
-use Rattle.cfi_types.specs.Node.{Node, make_node}
-use Rattle.cfi_types.specs.Kind.{numbers_of, nodes_of}
+use Rattle.cfi_type_table.specs.Node.{Node, make_node}
+use Rattle.cfi_type_table.specs.Kind.{numbers_of, nodes_of}
 
 -- the node, in a list in which its table begins at this place
 abbrev pub shifted : (start : ℕ) → Node → Node

@@ -1,8 +1,8 @@
 -- Classes that keep equal nodes together.
 use Rattle.std.specs.Prelude.{◌≡◌, ℕ, ◌<◌, min, List, [], ◌∷◌, length, slice_index}
 use Rattle.cfi_word.specs.declared.limits.TheConstants.{MAX_FIELDS}
-use Rattle.cfi_types.specs.Node.{Node}
-use Rattle.cfi_types.specs.Kind.{numbers_of, nodes_of}
+use Rattle.cfi_type_table.specs.Node.{Node}
+use Rattle.cfi_type_table.specs.Kind.{numbers_of, nodes_of}
 use Rattle.cfi_types.specs.Same.{Equal}
 use Rattle.cfi_types.specs.inner.Splitting.{IsLow, IsFirstOfKey}
 

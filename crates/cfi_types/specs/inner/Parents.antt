@@ -2,10 +2,9 @@
 use Rattle.std.specs.Prelude.{◌≡◌, ℕ, ◌<◌, Bool, ◌==◌, ◌&&◌, ◌||◌, nat_lt, min, List, [], length, slice_index, slice_index_or}
 use Rattle.std.specs.List.{list_any}
 use Rattle.cfi_word.specs.declared.limits.TheConstants.{MAX_FIELDS}
+use Rattle.cfi_type_table.specs.Node.{Node, node_of}
+use Rattle.cfi_type_table.specs.Kind.{nodes_of}
 use Rattle.cfi_types.specs.declared.parents.Name.{Name}
-use Rattle.cfi_types.specs.Node.{Node}
-use Rattle.cfi_types.specs.Kind.{nodes_of}
-use Rattle.cfi_types.specs.Same.{node_of}
 
 -- whether the node that stands at this place of some nodes, one of the first `count`, is the child
 abbrev pub is_at : (named : List ℕ) → (count place child : ℕ) → Bool

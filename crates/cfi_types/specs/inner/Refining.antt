@@ -1,6 +1,6 @@
 -- What a refinement ends with: the least node that is equal to each.
 use Rattle.std.specs.Prelude.{◌≡◌, ◌↔◌, ℕ, ◌<◌, List, length, slice_index}
-use Rattle.cfi_types.specs.Node.{Node}
+use Rattle.cfi_type_table.specs.Node.{Node}
 use Rattle.cfi_types.specs.Same.{Equal}
 use Rattle.cfi_types.specs.inner.Splitting.{IsLow}
 

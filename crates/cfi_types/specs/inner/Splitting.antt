@@ -1,10 +1,9 @@
 -- One step of a refinement: each class of nodes is split by what its nodes name. A class is named by its least node.
 use Rattle.std.specs.Prelude.{◌≡◌, ◌≢◌, ℕ, ◌<◌, ◌≤◌, List, ◌∷◌, ◌++◌, length, map, slice_index}
 use Rattle.std.specs.List.{AllByRecursion}
-use Rattle.cfi_types.specs.Node.{Node}
-use Rattle.cfi_types.specs.Kind.{numbers_of, nodes_of}
-use Rattle.cfi_types.specs.Spelling.{NamesBelow}
-use Rattle.cfi_types.specs.Same.{node_of}
+use Rattle.cfi_type_table.specs.Node.{Node, node_of}
+use Rattle.cfi_type_table.specs.Kind.{numbers_of, nodes_of}
+use Rattle.cfi_type_table.specs.Spelling.{NamesBelow}
 
 -- a node's kind and numbers, and the classes of the nodes that it names
 abbrev pub signature : (classes : List ℕ) → Node → List ℕ

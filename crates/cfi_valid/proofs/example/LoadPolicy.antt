@@ -11,9 +11,9 @@ use Rattle.cfi_flow.proofs.Members.{member_first, member_later}
 use Rattle.cfi_graph.specs.Calls.{HasKind, IsFunction, MayPoint}
 use Rattle.cfi_graph.specs.Code.{Stands}
 use Rattle.cfi_graph.specs.Direct.{DirectEdge, Allowed}
-use Rattle.cfi_types.specs.Kind.{nodes_of}
-use Rattle.cfi_types.specs.Node.{Node}
-use Rattle.cfi_types.specs.Same.{node_of, Same}
+use Rattle.cfi_type_table.specs.Kind.{nodes_of}
+use Rattle.cfi_type_table.specs.Node.{Node, node_of}
+use Rattle.cfi_types.specs.Same.{Same}
 use Rattle.cfi_valid.proofs.example.LoadPlaced.{whole, calls, returns, opener_units, plug_units, opener_placed, plug_placed, fit, plug_fit}
 
 -- a type is equal to itself

@@ -5,7 +5,7 @@ use Rattle.elf_read.specs.declared.object.Area.TheVariants as areas
 use Rattle.elf_read.specs.declared.object.Reloc.{Reloc}
 use Rattle.elf_read.specs.declared.relocation.TheConstants as relocs
 use Rattle.cfi_word.specs.declared.limits.TheConstants.{MAX_DATA, MAX_RELOCS, MAX_WORDS, MAX_NODES, MAX_FUNCTIONS, MAX_BRANCHES, MAX_NAME}
-use Rattle.cfi_types.specs.Node.{Node}
+use Rattle.cfi_type_table.specs.Node.{Node}
 use Rattle.cfi_aux.specs.declared.records.Function.{Function}
 use Rattle.cfi_aux.specs.declared.records.Kind.{Kind}
 use Rattle.cfi_aux.specs.declared.records.Kind.TheVariants as branches

@@ -2,7 +2,7 @@
 -- line, or has the least fault of the first faulty line.
 use Rattle.std.specs.Prelude.{ℕ, ◌+◌, nat_lt, List, [], ◌∷◌, ◌++◌, length, map, if◌then◌else◌, Option, Some, None, is_some, Result, Ok, Err}
 use Rattle.cfi_text.specs.Lines.{numbered_lines}
-use Rattle.cfi_types.specs.Spelling.{spelling as types_spelling}
+use Rattle.cfi_type_table.specs.Spelling.{spelling as types_spelling}
 use Rattle.cfi_aux.specs.Records.{spelling as records_spelling}
 use Rattle.cfi_word.specs.declared.limits.TheConstants.{MAX_SYMBOLS}
 use Rattle.elf_read.specs.declared.object.Object.{Object}

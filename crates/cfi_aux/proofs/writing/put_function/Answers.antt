@@ -1,5 +1,5 @@
 use Rattle.std.proofs.Common.{ℕ, ◌≡◌, ◌++◌, ap, ◌∙◌, rules}
-use Rattle.cfi_types.specs.Spelling.{word}
+use Rattle.cfi_type_table.specs.Spelling.{word}
 use Rattle.cfi_aux.specs.Records.{flag_of, name_bytes}
 use Rattle.cfi_aux.proofs.Appends.{five_parts}
 use Rattle.cfi_aux.proofs.writing.put_function.Goals as goal

@@ -1,5 +1,5 @@
 use Rattle.std.proofs.lemmas.Result.{err_from_is_err_and}
-use Rattle.cfi_types.proofs.Tables.{small_count, small_fields}
+use Rattle.cfi_type_table.proofs.Tables.{small_count, small_fields}
 use Rattle.cfi_commands.proofs.InstrumentingLemmas.{short_text, few_relocs, read-of, module_as_instrument}
 use Rattle.cfi_commands.proofs.instrumenting.instrumented.Goals as goal
 

@@ -1,6 +1,6 @@
 use Rattle.std.proofs.Common.{◌≡◌, ◌∙◌, ℕ, List, sym, ap, subst, length}
 use Rattle.std.specs.List.{flat_map}
-use Rattle.cfi_types.specs.Spelling.{word}
+use Rattle.cfi_type_table.specs.Spelling.{word}
 use Rattle.cfi_place.specs.Placed.{bytes_as_words}
 use Rattle.cfi_place.specs.Slots.{HasSlots}
 use Rattle.cfi_link.specs.Joined.{Joined}

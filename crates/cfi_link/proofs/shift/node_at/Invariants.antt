@@ -1,5 +1,5 @@
 use Rattle.std.proofs.Common.{◌≡◌, ◌+◌, ◌++◌, map, take}
-use Rattle.cfi_types.specs.Kind.{numbers_of}
+use Rattle.cfi_type_table.specs.Kind.{numbers_of}
 use Rattle.cfi_link.proofs.shift.node_at.Given as goal
 
 abbrev pub invariant-loop-k : goal.invariant-loop-k

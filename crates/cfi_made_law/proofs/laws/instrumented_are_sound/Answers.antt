@@ -1,5 +1,5 @@
 use Rattle.std.proofs.Common.{sym, subst}
-use Rattle.cfi_types.specs.Spelling.{AreTypes}
+use Rattle.cfi_type_table.specs.Spelling.{AreTypes}
 use Rattle.cfi_made_law.proofs.InstrLemmas.{object-sound}
 use Rattle.cfi_made_law.proofs.laws.instrumented_are_sound.Goals as goal
 

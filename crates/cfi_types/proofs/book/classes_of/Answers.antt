@@ -1,6 +1,6 @@
 use Rattle.std.proofs.Common.{◌≡◌, ℕ, List, length, ap, sym, ◌∙◌, subst, arith}
 use Rattle.std.specs.Prelude.{IfOk}
-use Rattle.cfi_types.specs.Node.{Node}
+use Rattle.cfi_type_table.specs.Node.{Node}
 use Rattle.cfi_types.specs.inner.Joined.{joined_from}
 use Rattle.cfi_types.specs.inner.Splitting.{IsClosed}
 use Rattle.cfi_types.specs.inner.Refining.{AreLeaders}

@@ -1,4 +1,4 @@
-use Rattle.cfi_types.specs.Same.{node_of}
+use Rattle.cfi_type_table.specs.Node.{node_of}
 use Rattle.cfi_types.specs.inner.Leader.{first_of}
 use Rattle.cfi_types.specs.inner.Keeping.{label_of}
 use Rattle.cfi_types.proofs.LeastLemmas.{LeastSoFar}

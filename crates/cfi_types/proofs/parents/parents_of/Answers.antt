@@ -1,8 +1,7 @@
 use Rattle.std.proofs.Common.{◌≡◌, ◌∙◌, [], length, replicate, ap, rules}
 use Rattle.std.proofs.lemmas.List.{get_or_read}
-use Rattle.cfi_types.specs.Node.{make_node}
-use Rattle.cfi_types.specs.Kind.{nodes_of}
-use Rattle.cfi_types.specs.Same.{node_of}
+use Rattle.cfi_type_table.specs.Node.{make_node, node_of}
+use Rattle.cfi_type_table.specs.Kind.{nodes_of}
 use Rattle.cfi_types.proofs.NameLemmas.{no_parents, parents_more}
 use Rattle.cfi_types.proofs.parents.parents_of.Goals as goal
 

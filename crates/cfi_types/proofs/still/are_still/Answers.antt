@@ -1,8 +1,7 @@
 use Rattle.std.proofs.Common.{◌≡◌, ◌∙◌, ◌<◌, ℕ, [], length, get_or, sym, ap, subst, arith, inl, inr}
 use Rattle.std.proofs.lemmas.Bool.{cases_lt}
 use Rattle.std.proofs.lemmas.List.{get_or_read}
-use Rattle.cfi_types.specs.Node.{make_node}
-use Rattle.cfi_types.specs.Same.{node_of}
+use Rattle.cfi_type_table.specs.Node.{make_node, node_of}
 use Rattle.cfi_types.specs.inner.Splitting.{signature}
 use Rattle.cfi_types.proofs.still.are_still.Goals as goal
 use Rattle.cfi_types.proofs.still.are_still.Goals.{else-leader-a-via-then-leader-a+else-not-are_alike, else-leader-a-via-else-leader-a}

@@ -1,5 +1,5 @@
 use Rattle.std.proofs.Common.{◌≡◌, ◌<◌, ℕ, get_or}
-use Rattle.cfi_types.specs.Same.{node_of}
+use Rattle.cfi_type_table.specs.Node.{node_of}
 use Rattle.cfi_types.specs.inner.Splitting.{signature}
 use Rattle.cfi_types.proofs.still.are_still.Given as goal
 

@@ -1,6 +1,6 @@
 use Rattle.std.proofs.Common.{◌≡◌, ◌<◌, ◌≤◌, ℕ, List, [], length, get_or, All}
 use Rattle.cfi_word.specs.declared.limits.TheConstants.{MAX_FIELDS}
-use Rattle.cfi_types.specs.Node.{Node}
+use Rattle.cfi_type_table.specs.Node.{Node}
 use Rattle.cfi_types.specs.inner.Division.{KeepTogether, TellEqual}
 use Rattle.cfi_types.specs.inner.Whole.{IsWhole}
 use Rattle.cfi_types.proofs.partition.Parts.divide_by.Given as goal

@@ -1,0 +1,4 @@
+pub mod Node
+pub mod Kind
+pub mod Spelling
+pub mod Reading
