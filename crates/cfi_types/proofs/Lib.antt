@@ -16,3 +16,4 @@ pub mod LeastLemmas
 pub mod ListLemmas
 pub mod KeepLemmas
 pub mod LeadLemmas
+pub mod SieveLemmas

@@ -29,7 +29,7 @@ named_equal nodes a b h =
     (λ n. (h (suc n)).2)
 
 -- classes that keep equal nodes together give them one signature
-equal_signature : (nodes : List Node) (classes : List ℕ) (a b : ℕ) → IsClosed nodes
+pub equal_signature : (nodes : List Node) (classes : List ℕ) (a b : ℕ) → IsClosed nodes
     → ((x y : ℕ) → x < length nodes → y < length nodes → Equal nodes x nodes y
     → get_or classes x 0 ≡ get_or classes y 0)
     → a < length nodes → b < length nodes → Equal nodes a nodes b

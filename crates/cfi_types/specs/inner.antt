@@ -3,6 +3,7 @@ pub mod Joined
 pub mod Leader
 pub mod Splitting
 pub mod Refining
+pub mod Digest
 pub mod Keeping
 pub mod Parents
 pub mod Hits

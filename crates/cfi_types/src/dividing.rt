@@ -2,7 +2,7 @@
 
 ghost use Rattle.std.specs.Prelude.{◌≡◌, ◌<◌, ◌^◌, length, All, IfOk};
 ghost use Rattle.cfi_types.specs.inner.Splitting.{IsClosed};
-ghost use Rattle.cfi_types.specs.inner.Keeping.{label_of, AreNamed, KeepEqual};
+ghost use Rattle.cfi_types.specs.inner.Keeping.{AreNamed, KeepEqual};
 
 use crate::hits::gather;
 use crate::leader::Firsts;
@@ -27,43 +27,22 @@ fn least_of(alloc: Global, parts: &[u32]) -> Result<Vec<u32>, AllocError>
     Ok(least)
 }
 
-// What is known of a node without those that it names.
-fn label_of(alloc: Global, node: &TypeNode) -> Result<Vec<u32>, AllocError>
-    ensures { IfOk result (λ label. label.items ≡ label_of node.now) }
-{
-    let (numbers, named) = node.parts();
-    let mut label = Vec::new(alloc);
-    label.push(node.kind())?;
-    label.push(named.len().min(MAX_FIELDS as usize) as u32)?;
-    label.extend_from_slice(numbers)?;
-    Ok(label)
-}
-
-// The parts of nodes of one kind, with the same numbers, that name as many nodes.
-fn labels(alloc: Global, nodes: &[TypeNode]) -> Result<Vec<u32>, AllocError>
-    requires fits { length nodes.now < 2 ^ 32 }
-    ensures { IfOk result (λ classes. KeepEqual nodes.now classes.items) }
-{
-    let mut firsts = Firsts::new(alloc, 0)?;
-    let mut classes = Vec::with_capacity(alloc, nodes.len())?;
-    for (a, node) in nodes.iter().enumerate() {
-        let label = label_of(alloc, node)?;
-        classes.push(firsts.signed(label, a as u32)?)?;
-    }
-    Ok(classes)
-}
-
-// Classes that keep equal nodes together, and tell others apart.
+// The parts into which these classes are divided, which keep equal nodes together and tell others apart.
 //
 // The nodes that name a node of a part at one place are taken out of their parts. Of the two parts of a part that
 // has divided others before, the smaller alone does: a node is in few of these, so that each field is met few times.
-pub(crate) fn divided(alloc: Global, nodes: &[TypeNode]) -> Result<Vec<u32>, AllocError>
+pub(crate) fn divided(
+    alloc: Global,
+    nodes: &[TypeNode],
+    classes: Vec<u32>,
+) -> Result<Vec<u32>, AllocError>
     requires fits { length nodes.now < 2 ^ 32 }
     requires closed { IsClosed nodes.now }
-    ensures { IfOk result (λ classes. KeepEqual nodes.now classes.items) }
+    requires keep { KeepEqual nodes.now classes.items }
+    ensures { IfOk result (λ parts. KeepEqual nodes.now parts.items) }
 {
     let parents = parents_of(alloc, nodes)?;
-    let mut parts = Parts::new(alloc, labels(alloc, nodes)?)?;
+    let mut parts = Parts::new(alloc, classes)?;
     let mut hits = Lists::new(alloc, MAX_FIELDS as usize)?;
     for _ in 0..2 * nodes.len() {
         let Some(part) = parts.next() else {

@@ -6,6 +6,7 @@
 
 mod book;
 mod classes;
+mod digest;
 mod dividing;
 mod graph;
 mod hits;
@@ -16,6 +17,7 @@ mod parents;
 mod partition;
 mod plan;
 mod refining;
+mod sifting;
 mod splitting;
 mod still;
 

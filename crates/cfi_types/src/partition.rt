@@ -283,8 +283,10 @@ impl Parts {
             All (TellEqual nodes) lists.old → OnOk result (KeepTogether nodes self.new.parts.items) }
     {
         for place in 0..MAX_FIELDS {
-            self.divide(lists.row(place), row_after(lists, place))?;
-            lists.clear(place);
+            if !lists.row(place).is_empty() {
+                self.divide(lists.row(place), row_after(lists, place))?;
+                lists.clear(place);
+            }
         }
         Ok(())
     }

@@ -32,7 +32,7 @@ fn largest(sizes: &[u32]) -> usize {
 }
 
 // How many nodes each part has.
-fn sizes_of(alloc: Global, parts: &[u32]) -> Result<Vec<u32>, AllocError>
+pub(crate) fn sizes_of(alloc: Global, parts: &[u32]) -> Result<Vec<u32>, AllocError>
     requires { All (λ k. k < length parts.now) parts.now }
     ensures { IfOk result (λ sizes. vec_len sizes ≡ length parts.now) }
 {
@@ -96,11 +96,14 @@ impl Plan {
         self.sizes[part as usize]
     }
 
-    // A part that has waited.
+    // A part that has waited; none where no number is left for a part, so that none can be divided.
     pub(crate) fn next(&mut self) -> Option<u32>
         ensures below { IfSome result (λ part. part < vec_len self.old.sizes) }
         ensures len { vec_len self.new.sizes ≡ vec_len self.old.sizes }
     {
+        if self.free.is_empty() {
+            return None;
+        }
         let part = self.waiting.pop()?;
         self.waits[part as usize] = false;
         Some(part)

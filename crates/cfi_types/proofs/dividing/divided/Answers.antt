@@ -10,8 +10,8 @@ pub loop-init : goal.loop-init
 loop-init c = record {
   whole = c.in_ok-parts.ensures.whole;
   clear = none_hit c.in_ok-hits.hits c.in_ok-hits.ensures;
-  kept = together c.args.nodes.now c.in_ok-labels.field-0.items c.in_ok-parts.parts.parts.items
-      c.in_ok-parts.ensures.parts c.in_ok-labels.ensures;
+  kept = together c.args.nodes.now c.args.classes.items c.in_ok-parts.parts.parts.items
+      c.in_ok-parts.ensures.parts c.requires.keep;
 }
 
 pub gather-requires-clause-places : goal.gather-requires-clause-places

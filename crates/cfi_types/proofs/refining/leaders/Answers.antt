@@ -1,41 +1,13 @@
-use Rattle.std.proofs.Common.{◌≢◌, ◌*◌, ℕ, List, length, subst}
+use Rattle.std.proofs.Common.{ℕ, List, subst}
 use Rattle.cfi_types.specs.inner.Splitting.{IsStill}
-use Rattle.cfi_types.proofs.Pairs.{total, less_left}
-use Rattle.cfi_types.proofs.Steps.{leaders, still_by, rises, bounded, parts_keep, split_of}
+use Rattle.cfi_types.proofs.Steps.{leaders}
 use Rattle.cfi_types.proofs.refining.leaders.Goals as goal
 
-pub loop-alloc-smaller : goal.loop-alloc-smaller
-loop-alloc-smaller c =
+pub returns-then-are_still : goal.returns-then-are_still
+returns-then-are_still c =
     let nodes = c.args.nodes.now in
-    let classes = c.loop-alloc.classes.items in
-    let next = c.in_ok-classes-2.classes.items in
-    let keep = c.loop-alloc.invariant in
-    let split =
-    split_of nodes c.as_slice-in-loop-alloc.result.now classes next c.as_slice-in-loop-alloc.ensures.value
-    c.in_ok-classes-2.ensures in
-    let moves : IsStill nodes classes → ⊥ =
-    subst (λ (l : List ℕ). IsStill c.args.nodes.now l → ⊥) c.as_slice.ensures.value
-    (c.are_still.ensures.moves c.loop-alloc-test.true) in
-    let differ : next ≢ classes = λ e. moves (still_by nodes classes c.requires.closed keep next split e) in
-    less_left (length nodes * length nodes) (total classes) (total next)
-    (rises nodes classes next c.requires.closed keep split differ)
-    (bounded nodes classes next c.requires.closed keep split)
-
-pub loop-alloc-preserved : goal.loop-alloc-preserved
-loop-alloc-preserved c =
-    let nodes = c.args.nodes.now in
-    let classes = c.loop-alloc.classes.items in
-    let next = c.in_ok-classes-2.classes.items in
-    let split =
-    split_of nodes c.as_slice-in-loop-alloc.result.now classes next c.as_slice-in-loop-alloc.ensures.value
-    c.in_ok-classes-2.ensures in
-    parts_keep nodes classes next c.requires.closed c.loop-alloc.invariant split
-
-pub returns : goal.returns
-returns c =
-    let nodes = c.args.nodes.now in
-    let classes = c.loop-alloc.classes.items in
+    let classes = c.in_ok-sifted.sifted.items in
     let still : IsStill nodes classes =
     subst (λ (l : List ℕ). IsStill c.args.nodes.now l) c.as_slice.ensures.value
-    (c.are_still.ensures.still c.loop-alloc-test.false) in
-    leaders nodes classes c.requires.closed c.loop-alloc.invariant still
+    (c.are_still.ensures.still c.if-are_still.true) in
+    leaders nodes classes c.requires.closed c.in_ok-sifted.ensures still

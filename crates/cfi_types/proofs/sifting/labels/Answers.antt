@@ -4,7 +4,7 @@ use Rattle.cfi_type_table.specs.Node.{make_node, node_of}
 use Rattle.cfi_types.specs.inner.Leader.{first_of, PutsFirst}
 use Rattle.cfi_types.specs.inner.Keeping.{label_of}
 use Rattle.cfi_types.proofs.LeastLemmas.{least_more, least_keep, one_label}
-use Rattle.cfi_types.proofs.dividing.labels.Goals as goal
+use Rattle.cfi_types.proofs.sifting.labels.Goals as goal
 
 -- this turn's node is put among the first nodes
 pub loop-a-preserved : goal.loop-a-preserved
