@@ -1,7 +1,7 @@
 -- Equal nodes are sifted by one key.
 use Rattle.std.proofs.Common.{◌≡◌, ◌∙◌, ℕ, ◌<◌, cond, eqb, List, [], ◌∷◌, length, get_or, ap}
-use Rattle.cfi_type_table.specs.Node.{Node}
-use Rattle.cfi_types.specs.Same.{node_of, Equal}
+use Rattle.cfi_type_table.specs.Node.{Node, node_of}
+use Rattle.cfi_types.specs.Same.{Equal}
 use Rattle.cfi_types.specs.inner.Splitting.{IsClosed}
 use Rattle.cfi_types.specs.inner.Digest.{digest_of, sifted_by, sieve_of}
 use Rattle.cfi_types.specs.inner.Keeping.{KeepEqual}

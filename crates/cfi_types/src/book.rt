@@ -7,6 +7,7 @@ ghost use Rattle.cfi_types.specs.Classes.{AreClasses};
 
 use crate::classes::{Classes, by_table};
 use crate::graph::join;
+use crate::linked::Lent;
 use crate::numbering::number;
 use crate::refining::leaders;
 use cfi_type_table::TypeTable;
@@ -14,7 +15,7 @@ use std::alloc::{AllocError, Global};
 use std::marker::Model;
 
 // The numbers of the tables' nodes.
-fn classes_of(alloc: Global, tables: &[TypeTable]) -> Result<Classes, AllocError>
+fn classes_of(alloc: Global, tables: &[Lent]) -> Result<Classes, AllocError>
     requires fits { length (flat_map (λ xs. xs) tables.now) < 2 ^ 32 }
     requires types { AllByRecursion AreTypes tables.now }
     ensures { IfOk result (λ classes. AreClasses tables.now classes) }
@@ -25,13 +26,13 @@ fn classes_of(alloc: Global, tables: &[TypeTable]) -> Result<Classes, AllocError
     by_table(alloc, tables, numbers.as_slice())
 }
 
-/// Type tables in the order in which they were added.
+/// Type tables in the order in which they were added. They stand elsewhere: the book has no copies.
 #[derive(Debug, Drop)]
-pub struct TypeBook {
-    tables: Vec<TypeTable>,
+pub struct TypeBook<'a> {
+    tables: Vec<Lent<'a>>,
 }
 
-impl Model for TypeBook {
+impl<'a> Model for TypeBook<'a> {
     ghost use Rattle.std.specs.Prelude.{List};
     ghost use Rattle.std.specs.List.{AllByRecursion};
     ghost use Rattle.cfi_type_table.specs.Node.{Node};
@@ -44,9 +45,9 @@ impl Model for TypeBook {
     ghost invariant = { λ book. AllByRecursion AreTypes book.tables.items };
 }
 
-impl TypeBook {
+impl<'a> TypeBook<'a> {
     /// No tables. The book keeps the allocator.
-    pub fn new(alloc: Global) -> TypeBook
+    pub fn new(alloc: Global) -> TypeBook<'a>
         ensures { result ≡ [] }
     {
         TypeBook {
@@ -55,13 +56,12 @@ impl TypeBook {
     }
 
     /// Adds a table at the end.
-    pub fn add(&mut self, table: &TypeTable) -> Result<(), AllocError>
+    pub fn add(&mut self, table: &'a TypeTable) -> Result<(), AllocError>
         requires { AreTypes table.now }
         ensures ok { OnOk result (self.new ≡ self.old ++ table.now ∷ []) }
         ensures err { OnErr result (self.new ≡ self.old) }
     {
-        let copy = table.copied(*self.tables.allocator())?;
-        self.tables.push(copy)?;
+        self.tables.push(Lent::new(table))?;
         Ok(())
     }
 

@@ -4,7 +4,7 @@ ghost use Rattle.std.specs.Prelude.{◌≡◌, ◌<◌, [], length, map, slice_i
 ghost use Rattle.std.specs.List.{flat_map};
 ghost use Rattle.cfi_types.specs.Classes.{class_of};
 
-use cfi_type_table::TypeTable;
+use crate::linked::Lent;
 use std::alloc::{AllocError, Global};
 use std::marker::Model;
 
@@ -37,7 +37,7 @@ impl Classes {
 // The numbers of the tables' nodes, table by table.
 pub(crate) fn by_table(
     alloc: Global,
-    tables: &[TypeTable],
+    tables: &[Lent],
     numbers: &[u32],
 ) -> Result<Classes, AllocError>
     requires { length numbers.now ≡ length (flat_map (λ xs. xs) tables.now) }

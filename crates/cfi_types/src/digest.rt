@@ -6,7 +6,7 @@ ghost use Rattle.cfi_type_table.specs.Spelling.{NamesBelow};
 ghost use Rattle.cfi_types.specs.inner.Splitting.{signature};
 ghost use Rattle.cfi_types.specs.inner.Digest.{mixed, digest_of};
 
-use cfi_type_table::TypeNode;
+use crate::linked::{Linked, Named};
 
 /// What a digest is multiplied by for each word: odd, so that no bit of what came before is lost.
 pub(crate) const FACTOR: u32 = 0x9e37_79b1;
@@ -27,23 +27,23 @@ fn mix_words(start: u32, words: &[u32]) -> u32
     digest
 }
 
-fn mix_classes(start: u32, named: &[u32], classes: &[u32]) -> u32
+fn mix_classes(start: u32, named: &Named, classes: &[u32]) -> u32
     requires { All (λ k. k < length classes.now) named.now }
     ensures { result ≡ fold mixed start (map (λ k. slice_index classes.now k) named.now) }
 {
     let mut digest = start;
-    for k in named {
-        digest = mixed(digest, classes[*k as usize]);
+    for place in 0..named.len() {
+        digest = mixed(digest, classes[named.at(place) as usize]);
     }
     digest
 }
 
 // The digest of the node's signature.
-pub(crate) fn digest(node: &TypeNode, classes: &[u32]) -> u32
+pub(crate) fn digest(node: &Linked, classes: &[u32]) -> u32
     requires { NamesBelow (length classes.now) node.now }
     ensures { result ≡ digest_of (signature classes.now node.now) }
 {
     let (numbers, named) = node.parts();
     let start = mix_words(mixed(0, node.kind()), numbers);
-    mix_classes(start, named, classes)
+    mix_classes(start, &named, classes)
 }

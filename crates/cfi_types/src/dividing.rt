@@ -6,10 +6,10 @@ ghost use Rattle.cfi_types.specs.inner.Keeping.{AreNamed, KeepEqual};
 
 use crate::hits::gather;
 use crate::leader::Firsts;
+use crate::linked::Linked;
 use crate::lists::Lists;
 use crate::parents::parents_of;
 use crate::partition::Parts;
-use cfi_type_table::TypeNode;
 use cfi_word::limits::MAX_FIELDS;
 use std::alloc::{AllocError, Global};
 
@@ -33,7 +33,7 @@ fn least_of(alloc: Global, parts: &[u32]) -> Result<Vec<u32>, AllocError>
 // has divided others before, the smaller alone does: a node is in few of these, so that each field is met few times.
 pub(crate) fn divided(
     alloc: Global,
-    nodes: &[TypeNode],
+    nodes: &[Linked],
     classes: Vec<u32>,
 ) -> Result<Vec<u32>, AllocError>
     requires fits { length nodes.now < 2 ^ 32 }

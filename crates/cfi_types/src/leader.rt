@@ -5,7 +5,7 @@ ghost use Rattle.cfi_type_table.specs.Spelling.{NamesBelow};
 ghost use Rattle.cfi_types.specs.inner.Splitting.{signature};
 ghost use Rattle.cfi_types.specs.inner.Leader.{first_of, PutsFirst};
 
-use cfi_type_table::TypeNode;
+use crate::linked::Linked;
 use std::alloc::{AllocError, Global};
 use std::collections::BTreeMap;
 
@@ -20,7 +20,7 @@ pub(crate) struct Firsts {
 pub(crate) fn key(
     alloc: Global,
     class: u32,
-    node: &TypeNode,
+    node: &Linked,
     classes: &[u32],
 ) -> Result<Vec<u32>, AllocError>
     requires { NamesBelow (length classes.now) node.now }
@@ -31,8 +31,8 @@ pub(crate) fn key(
     key.push(class)?;
     key.push(node.kind())?;
     key.extend_from_slice(numbers)?;
-    for k in named {
-        key.push(classes[*k as usize])?;
+    for place in 0..named.len() {
+        key.push(classes[named.at(place) as usize])?;
     }
     Ok(key)
 }

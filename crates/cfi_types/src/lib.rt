@@ -11,6 +11,7 @@ mod dividing;
 mod graph;
 mod hits;
 mod leader;
+mod linked;
 mod lists;
 mod numbering;
 mod parents;

@@ -8,8 +8,8 @@ ghost use Rattle.cfi_types.specs.inner.Keeping.{label_of, KeepEqual};
 
 use crate::digest::digest;
 use crate::leader::Firsts;
+use crate::linked::Linked;
 use crate::plan::sizes_of;
-use cfi_type_table::TypeNode;
 use cfi_word::limits::MAX_FIELDS;
 use std::alloc::{AllocError, Global};
 
@@ -17,7 +17,7 @@ use std::alloc::{AllocError, Global};
 const ROUNDS: u32 = 4;
 
 // What is known of a node without those that it names.
-fn label_of(alloc: Global, node: &TypeNode) -> Result<Vec<u32>, AllocError>
+fn label_of(alloc: Global, node: &Linked) -> Result<Vec<u32>, AllocError>
     ensures { IfOk result (λ label. label.items ≡ label_of node.now) }
 {
     let (numbers, named) = node.parts();
@@ -29,7 +29,7 @@ fn label_of(alloc: Global, node: &TypeNode) -> Result<Vec<u32>, AllocError>
 }
 
 // The classes of nodes of one kind, with the same numbers, that name as many nodes.
-fn labels(alloc: Global, nodes: &[TypeNode]) -> Result<Vec<u32>, AllocError>
+fn labels(alloc: Global, nodes: &[Linked]) -> Result<Vec<u32>, AllocError>
     requires fits { length nodes.now < 2 ^ 32 }
     ensures { IfOk result (λ classes. KeepEqual nodes.now classes.items) }
 {
@@ -47,7 +47,7 @@ fn sieve(
     alloc: Global,
     class: u32,
     size: u32,
-    node: &TypeNode,
+    node: &Linked,
     classes: &[u32],
 ) -> Result<Vec<u32>, AllocError>
     requires { NamesBelow (length classes.now) node.now }
@@ -60,7 +60,7 @@ fn sieve(
 }
 
 // Parts of these classes: a part has the nodes of its class that have one digest.
-fn sift(alloc: Global, nodes: &[TypeNode], classes: &[u32]) -> Result<Vec<u32>, AllocError>
+fn sift(alloc: Global, nodes: &[Linked], classes: &[u32]) -> Result<Vec<u32>, AllocError>
     requires fits { length nodes.now < 2 ^ 32 }
     requires closed { IsClosed nodes.now }
     requires keep { KeepEqual nodes.now classes.now }
@@ -90,7 +90,7 @@ fn count_of(classes: &[u32]) -> usize {
 
 // Classes that keep equal nodes together, as fine as some rounds of sifting make them. Each takes one look at the
 // fields of nodes that are not alone in their classes, and is made as long as the last has made twice as many classes.
-pub(crate) fn sifted(alloc: Global, nodes: &[TypeNode]) -> Result<Vec<u32>, AllocError>
+pub(crate) fn sifted(alloc: Global, nodes: &[Linked]) -> Result<Vec<u32>, AllocError>
     requires fits { length nodes.now < 2 ^ 32 }
     requires closed { IsClosed nodes.now }
     ensures { IfOk result (λ classes. KeepEqual nodes.now classes.items) }

@@ -4,13 +4,13 @@ ghost use Rattle.std.specs.Prelude.{◌≡◌, ◌<◌, ◌^◌, length, IfOk};
 ghost use Rattle.cfi_types.specs.inner.Splitting.{IsSplit, IsClosed};
 
 use crate::leader::{Firsts, key};
-use cfi_type_table::TypeNode;
+use crate::linked::Linked;
 use std::alloc::{AllocError, Global};
 
 // The least node of the part of each node: those of its class that have its signature.
 pub(crate) fn split(
     alloc: Global,
-    nodes: &[TypeNode],
+    nodes: &[Linked],
     classes: &[u32],
 ) -> Result<Vec<u32>, AllocError>
     requires fits { length nodes.now < 2 ^ 32 }

@@ -4,10 +4,10 @@ ghost use Rattle.std.specs.Prelude.{◌≡◌, ◌≢◌, ◌<◌, Bool, true, f
 ghost use Rattle.cfi_type_table.specs.Spelling.{NamesBelow};
 ghost use Rattle.cfi_types.specs.inner.Splitting.{signature, IsClosed, IsLow, IsStill};
 
-use cfi_type_table::TypeNode;
+use crate::linked::{Linked, Named};
 
 // Whether nodes have the classes of others, one by one.
-fn have_classes(classes: &[u32], named: &[u32], others: &[u32]) -> bool
+fn have_classes(classes: &[u32], named: &Named, others: &Named) -> bool
     requires named { All (λ k. k < length classes.now) named.now }
     requires others { All (λ k. k < length classes.now) others.now }
     ensures same { result ≡ true → map (λ k. slice_index classes.now k) named.now
@@ -19,7 +19,7 @@ fn have_classes(classes: &[u32], named: &[u32], others: &[u32]) -> bool
         return false;
     }
     for i in 0..named.len() {
-        if classes[named[i] as usize] != classes[others[i] as usize] {
+        if classes[named.at(i) as usize] != classes[others.at(i) as usize] {
             return false;
         }
     }
@@ -27,7 +27,7 @@ fn have_classes(classes: &[u32], named: &[u32], others: &[u32]) -> bool
 }
 
 // Whether two nodes have one signature.
-fn are_alike(classes: &[u32], one: &TypeNode, other: &TypeNode) -> bool
+fn are_alike(classes: &[u32], one: &Linked, other: &Linked) -> bool
     requires one { NamesBelow (length classes.now) one.now }
     requires other { NamesBelow (length classes.now) other.now }
     ensures same { result ≡ true → signature classes.now one.now ≡ signature classes.now other.now }
@@ -41,13 +41,13 @@ fn are_alike(classes: &[u32], one: &TypeNode, other: &TypeNode) -> bool
     if numbers != other_numbers {
         return false;
     }
-    have_classes(classes, named, others)
+    have_classes(classes, &named, &others)
 }
 
 // Whether each node has the signature of the one that its class is named by.
 //
 // A node that names its class is not looked at.
-pub(crate) fn are_still(nodes: &[TypeNode], classes: &[u32]) -> bool
+pub(crate) fn are_still(nodes: &[Linked], classes: &[u32]) -> bool
     requires closed { IsClosed nodes.now }
     requires len { length classes.now ≡ length nodes.now }
     requires low { IsLow classes.now }

@@ -2,8 +2,7 @@
 use Rattle.std.specs.Prelude.{ℕ, ◌+◌, ◌*◌, ◌^◌, ◌%◌, ◌==◌, if◌then◌else◌, List, [], ◌∷◌, slice_index}
 use Rattle.std.specs.List.{fold}
 use Rattle.cfi_types.specs.declared.digest.TheConstants.{FACTOR}
-use Rattle.cfi_type_table.specs.Node.{Node}
-use Rattle.cfi_types.specs.Same.{node_of}
+use Rattle.cfi_type_table.specs.Node.{Node, node_of}
 use Rattle.cfi_types.specs.inner.Splitting.{signature}
 
 -- the number after one more word

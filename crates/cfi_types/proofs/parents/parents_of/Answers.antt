@@ -17,5 +17,5 @@ loop-number-preserved c =
     let x = c.index-nodes-number.result in
     let here : x ≡ node_of nodes c.loop-number.number =
     get_or_read nodes c.loop-number.number x c.loop-number-test.true c.index-nodes-number.is (make_node 0 []) in
-    parents_more nodes c.loop-number.number c.loop-number.parents c.add_names.new.parents c.parts.result.1.now
-    c.loop-number.invariant (c.parts.ensures.nodes ∙ ap nodes_of here) c.in_ok-add_names.ensures
+    parents_more nodes c.loop-number.number c.loop-number.parents c.add_names.new.parents c.parts-named.result.1
+    c.loop-number.invariant (c.parts-named.ensures.nodes ∙ ap nodes_of here) c.in_ok-add_names.ensures

@@ -1,7 +1,6 @@
 use Rattle.std.proofs.Common.{◌≡◌, ◌∙◌, ◌<◌, ℕ, List, [], length, vec_len, get_or, ap, subst, arith, rules}
 use Rattle.std.proofs.lemmas.List.{get_or_read}
-use Rattle.cfi_type_table.specs.Node.{make_node}
-use Rattle.cfi_types.specs.Same.{node_of}
+use Rattle.cfi_type_table.specs.Node.{make_node, node_of}
 use Rattle.cfi_types.specs.inner.Leader.{first_of, PutsFirst}
 use Rattle.cfi_types.specs.inner.Digest.{sifted_by, sieve_of}
 use Rattle.cfi_types.proofs.LeastLemmas.{least_more, least_keep}
