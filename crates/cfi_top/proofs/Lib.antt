@@ -10,3 +10,6 @@ pub mod MadeLemmas
 pub mod TopLemmas
 pub mod FilesLemmas
 pub mod ValidLemmas
+pub mod EdgeLemmas
+pub mod HeadlineLemmas
+pub mod PromiseLemmas

@@ -4,11 +4,13 @@
 //! stand on; `cfi` calls it. Proved: what is reported of a run was concluded, of the plan and the modules that the file
 //! says, and is valid; what is printed of a simulation is the text of a valid one; what is listed is the listing of the
 //! object's text, what is said of a plan the stated text of its modules; what is saved is the written object that the
-//! source or the modules make; each status and its text, with its cause; that valid input gives 0 or 6; which files
-//! stay. Only tested, by the cases of `cfi_cases`: that memory is there where it is asked for. Open: nothing.
+//! source or the modules make; the headline, promise by promise, of each guest of a run that was concluded; each status
+//! and its text, with its cause; that valid input gives 0 or 6; which files stay. Only tested, by the cases of
+//! `cfi_cases`: that memory is there where it is asked for. Open: nothing.
 #![tactic(auto)]
 
 mod answer;
+pub mod headline;
 pub mod laws;
 mod plans;
 mod program;

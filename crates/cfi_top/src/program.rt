@@ -5,7 +5,7 @@ ghost use Rattle.cfi_outside.specs.declared.command.Command.TheVariants as comma
 ghost use Rattle.cfi_outside.specs.declared.output.TheConstants.{DONE, USAGE, READ_FAULT, NO_FILE, WRITE_FAULT, REFUSED, MEMORY};
 ghost use Rattle.cfi_args.specs.Words.{texts};
 ghost use Rattle.cfi_outside.specs.Command.{IsCommand, IsCommandLine};
-ghost use Rattle.cfi_headline.specs.Promises.{GuestsKeepPolicies, GuestsEnterUnits, GuestsStoreInside};
+ghost use Rattle.cfi_top.specs.Promises.{GuestsKeepPolicies, GuestsEnterUnits, GuestsStoreInside};
 ghost use Rattle.cfi_moments.specs.Force.{TriesHoldPolicies};
 ghost use Rattle.cfi_top.specs.Outcome.{IsAnswer};
 ghost use Rattle.cfi_top.specs.Answer.{kept_at};

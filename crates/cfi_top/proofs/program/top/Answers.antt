@@ -1,4 +1,4 @@
-use Rattle.cfi_headline.proofs.PromiseLemmas.{keep_policies_in, enter_units, store_inside}
+use Rattle.cfi_top.proofs.PromiseLemmas.{keep_policies_in, enter_units, store_inside}
 use Rattle.cfi_moments.proofs.ForceLemmas.{held}
 use Rattle.cfi_top.proofs.DoneLemmas.{done_of, run_only, if_some}
 use Rattle.cfi_top.proofs.MadeLemmas.{ran_of, simulated_of, listed_of, assembled_of, instrumented_of, linked_of, verified_of, graphed_of}

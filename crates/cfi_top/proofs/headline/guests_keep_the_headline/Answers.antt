@@ -1,5 +1,5 @@
-use Rattle.cfi_headline.proofs.HeadlineLemmas.{keeps_headline, run_keeps}
-use Rattle.cfi_headline.proofs.laws.guests_keep_the_headline.Goals as goal
+use Rattle.cfi_top.proofs.HeadlineLemmas.{keeps_headline, run_keeps}
+use Rattle.cfi_top.proofs.headline.guests_keep_the_headline.Goals as goal
 
 pub returns-clause-guests : goal.returns-clause-guests
 returns-clause-guests c = keeps_headline

@@ -16,8 +16,8 @@ use Rattle.cfi_report.specs.declared.report.GuestPart.{GuestPart}
 use Rattle.cfi_valid.specs.Course.{Course}
 use Rattle.cfi_valid.specs.FromLaw.{HasPolicies}
 use Rattle.cfi_valid.specs.Loaded.{LoadedModule, start_fills}
-use Rattle.cfi_headline.specs.Headline.{KeepPolicies, KeepsHeadline}
-use Rattle.cfi_headline.proofs.EdgeLemmas.{keeps_policy}
+use Rattle.cfi_top.specs.Headline.{KeepPolicies, KeepsHeadline}
+use Rattle.cfi_top.proofs.EdgeLemmas.{keeps_policy}
 
 module _ (h : History) (code : List ℕ) (loaded : List LoadedModule) (known : IsHistory h code)
     (policies : HasPolicies (length code) loaded h) where

@@ -17,7 +17,7 @@ use Rattle.cfi_report.specs.declared.report.GuestPart.{GuestPart}
 use Rattle.cfi_valid.specs.Course.{Course}
 use Rattle.cfi_valid.specs.FromLaw.{HasPolicies}
 use Rattle.cfi_valid.specs.Loaded.{LoadedModule}
-use Rattle.cfi_headline.specs.Edges.{IsChecked, IsAllowedEdge, IsForbiddenEdge}
+use Rattle.cfi_top.specs.Edges.{IsChecked, IsAllowedEdge, IsForbiddenEdge}
 
 -- a check has stopped the machine before a target that is no word of the code, or to which its policy forbids the edge
 pub record IsHalted (h : History) (code : List ℕ) (loaded : List LoadedModule) (end : End) (s : State) (target : ℕ)

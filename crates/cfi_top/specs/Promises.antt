@@ -9,7 +9,7 @@ use Rattle.cfi_part.specs.Ran.{IsHistoryOf, IsRunOf}
 use Rattle.cfi_report.specs.declared.report.GuestPart.{GuestPart}
 use Rattle.cfi_valid.specs.Course.{Course}
 use Rattle.cfi_valid.specs.Valid.{course_of}
-use Rattle.cfi_headline.specs.Headline.{KeepPolicies}
+use Rattle.cfi_top.specs.Headline.{KeepPolicies}
 
 -- the course of a run
 abbrev pub course_in : (run : Conclusion) → IsConcluded run → Course

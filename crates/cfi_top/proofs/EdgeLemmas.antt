@@ -16,8 +16,8 @@ use Rattle.cfi_model.proofs.HaltLemmas.{only_checks_halt}
 use Rattle.cfi_valid.specs.FromLaw.{HasPolicies}
 use Rattle.cfi_valid.specs.Loaded.{LoadedModule}
 use Rattle.cfi_valid.proofs.LawLemmas.{check_given}
-use Rattle.cfi_headline.specs.Edges.{IsChecked, IsAllowedEdge, IsForbiddenEdge}
-use Rattle.cfi_headline.specs.Headline.{IsHalted, KeepsPolicy}
+use Rattle.cfi_top.specs.Edges.{IsChecked, IsAllowedEdge, IsForbiddenEdge}
+use Rattle.cfi_top.specs.Headline.{IsHalted, KeepsPolicy}
 
 -- where a check goes on it was let through
 through : (b : Bool) (o : Option Stop) (stop : Stop) → cond b o (Some stop) ≡ None → b ≡ true

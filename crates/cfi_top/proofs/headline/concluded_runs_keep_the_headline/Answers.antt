@@ -1,5 +1,5 @@
-use Rattle.cfi_headline.proofs.PromiseLemmas.{keep_policies_in, enter_units, store_inside}
-use Rattle.cfi_headline.proofs.laws.concluded_runs_keep_the_headline.Goals as goal
+use Rattle.cfi_top.proofs.PromiseLemmas.{keep_policies_in, enter_units, store_inside}
+use Rattle.cfi_top.proofs.headline.concluded_runs_keep_the_headline.Goals as goal
 
 pub returns-clause-policies : goal.returns-clause-policies
 returns-clause-policies c = keep_policies_in

@@ -1,7 +1,7 @@
 -- The headline, promise by promise.
 use Rattle.cfi_drive.specs.Concluded.{Conclusion}
-use Rattle.cfi_headline.specs.Promises.{GuestsKeepPolicies, GuestsEnterUnits, GuestsStoreInside, course_in}
-use Rattle.cfi_headline.proofs.HeadlineLemmas.{run_keeps, run_policies}
+use Rattle.cfi_top.specs.Promises.{GuestsKeepPolicies, GuestsEnterUnits, GuestsStoreInside, course_in}
+use Rattle.cfi_top.proofs.HeadlineLemmas.{run_keeps, run_policies}
 
 pub keep_policies_in : (run : Conclusion) → GuestsKeepPolicies run
 keep_policies_in run c number part there ran =

@@ -1,8 +1,8 @@
-//! The promise.
+//! The headline, as laws: what is promised of each guest.
 
 ghost use Rattle.cfi_drive.specs.Concluded.{Conclusion};
-ghost use Rattle.cfi_headline.specs.Headline.{GuestsKeepTheHeadline, RunsKeepTheHeadline};
-ghost use Rattle.cfi_headline.specs.Promises.{GuestsKeepPolicies, GuestsEnterUnits, GuestsStoreInside};
+ghost use Rattle.cfi_top.specs.Headline.{GuestsKeepTheHeadline, RunsKeepTheHeadline};
+ghost use Rattle.cfi_top.specs.Promises.{GuestsKeepPolicies, GuestsEnterUnits, GuestsStoreInside};
 
 /// Each guest keeps what is promised of it.
 ///

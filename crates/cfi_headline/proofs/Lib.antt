@@ -1,3 +1,0 @@
-pub mod EdgeLemmas
-pub mod HeadlineLemmas
-pub mod PromiseLemmas
