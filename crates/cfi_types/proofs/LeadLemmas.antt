@@ -21,17 +21,38 @@ use Rattle.cfi_types.proofs.Steps.{names_below, named_equal}
 has_own : (xs : List ℕ) (k d : ℕ) → k < length xs → has xs (get_or xs k d) ≡ true
 has_own xs k d lt = list_any_at (λ x. eqb x (get_or xs k d)) xs k d lt (eq-eqb (get_or xs k d) (get_or xs k d) refl)
 
+-- each name is one of a node that is there, at a place where it names the child
+named_there : (nodes : List Node) (parents : List (List Name)) (k j : ℕ) (d : Name)
+    → AreParents nodes (length nodes) parents
+    → k < length parents → j < length (get_or parents k [])
+    → (ltb (get_or (get_or parents k []) j d).node (length nodes)
+    && names_at (node_of nodes (get_or (get_or parents k []) j d).node) (get_or (get_or parents k []) j d).place k)
+    ≡ true
+named_there nodes parents k j d are lt below =
+    let row = get_or parents k [] in
+    let x = get_or row j d in
+    let there : lists_name parents k x.node x.place ≡ true =
+    list_any_at (λ (y : Name). (eqb y.node x.node) && (eqb y.place x.place)) row j d below
+    (and_from (eqb x.node x.node) (eqb x.place x.place) (eq-eqb x.node x.node refl) (eq-eqb x.place x.place refl)) in
+    sym (are.each k x.node x.place (omega (arith, are.len, lt))) ∙ there
+
+-- names are of nodes that are there
+pub nodes_within : (nodes : List Node) (parents : List (List Name)) → AreParents nodes (length nodes) parents
+    → All (All (λ x. x.node < length nodes)) parents
+nodes_within nodes parents are = All-from_get_or (All (λ (x : Name). x.node < length nodes)) parents []
+    (λ k lt j d below.
+    let x = get_or (get_or parents k []) j d in
+    let named = named_there nodes parents k j d are lt below in
+    ltb-true x.node (length nodes) (and_parts (ltb x.node (length nodes))
+    (names_at (node_of nodes x.node) x.place k) named).0)
+
 -- names are at one of the first MAX_FIELDS places
 pub places_within : (nodes : List Node) (parents : List (List Name)) → AreParents nodes (length nodes) parents
     → All (All (λ x. x.place < MAX_FIELDS)) parents
 places_within nodes parents are = All-from_get_or (All (λ (x : Name). x.place < MAX_FIELDS)) parents []
     (λ k lt j d below.
-    let row = get_or parents k [] in
     let x = get_or (get_or parents k []) j d in
-    let there : lists_name parents k x.node x.place ≡ true =
-    list_any_at (λ (y : Name). (eqb y.node x.node) && (eqb y.place x.place)) row j d below
-    (and_from (eqb x.node x.node) (eqb x.place x.place) (eq-eqb x.node x.node refl) (eq-eqb x.place x.place refl)) in
-    let named = sym (are.each k x.node x.place (omega (arith, are.len, lt))) ∙ there in
+    let named = named_there nodes parents k j d are lt below in
     let at = (and_parts (ltb x.node (length nodes)) (names_at (node_of nodes x.node) x.place k) named).1 in
     let xs = nodes_of (node_of nodes x.node) in
     let early = (and_parts (ltb x.place (min (length xs) MAX_FIELDS)) (eqb (get_or xs x.place 0) k) at).0 in

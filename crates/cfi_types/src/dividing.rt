@@ -4,7 +4,7 @@ ghost use Rattle.std.specs.Prelude.{◌≡◌, ◌<◌, ◌^◌, length, All, If
 ghost use Rattle.cfi_types.specs.inner.Splitting.{IsClosed};
 ghost use Rattle.cfi_types.specs.inner.Keeping.{AreNamed, KeepEqual};
 
-use crate::hits::gather;
+use crate::hits::{divides_none, gather};
 use crate::leader::Firsts;
 use crate::linked::Linked;
 use crate::lists::Lists;
@@ -48,6 +48,9 @@ pub(crate) fn divided(
         let Some(part) = parts.next() else {
             break;
         };
+        if divides_none(&parts, &parents, part) {
+            continue;
+        }
         gather(
             &mut hits,
             &parents,

@@ -2,9 +2,11 @@
 
 ghost use Rattle.std.specs.Prelude.{◌≡◌, ◌<◌, length, All, OnOk};
 ghost use Rattle.cfi_types.specs.inner.Hits.{AddsHits, GathersHits};
+ghost use Rattle.cfi_types.specs.inner.Whole.{IsWhole};
 
 use crate::lists::Lists;
 use crate::parents::Name;
+use crate::partition::Parts;
 use std::alloc::AllocError;
 
 // Adds the node of each name to the list of its place.
@@ -16,6 +18,34 @@ fn add_hits(hits: &mut Lists<u32>, names: &[Name]) -> Result<(), AllocError>
         hits.add(name.place, name.node)?;
     }
     Ok(())
+}
+
+// Whether the node of each name is alone in its part.
+fn are_alone(parts: &Parts, names: &[Name]) -> bool
+    requires whole { IsWhole parts.now }
+    requires nodes { All (λ x. x.node < length parts.now.parts.items) names.now }
+{
+    for name in names {
+        if !parts.is_alone(name.node) {
+            return false;
+        }
+    }
+    true
+}
+
+// Whether each node that names one of the part is alone in its own, so that the part divides none.
+pub(crate) fn divides_none(parts: &Parts, parents: &Lists<Name>, part: u32) -> bool
+    requires whole { IsWhole parts.now }
+    requires part { part < length parts.now.parts.items }
+    requires len { length parents.now ≡ length parts.now.parts.items }
+    requires nodes { All (All (λ x. x.node < length parts.now.parts.items)) parents.now }
+{
+    for member in parts.members.row(part) {
+        if !are_alone(parts, parents.row(*member)) {
+            return false;
+        }
+    }
+    true
 }
 
 // Adds the nodes that name one of the members, of those that are in the class, each to the list of the place.

@@ -204,13 +204,21 @@ impl Parts {
         self.plan.next()
     }
 
+    // Whether the node is alone in its part, so that it cannot be taken out.
+    pub(crate) fn is_alone(&self, node: u32) -> bool
+        requires whole { IsWhole self.now }
+        requires node { node < length self.now.parts.items }
+    {
+        self.plan.size(self.parts[node as usize]) == 1
+    }
+
     // Whether each of the nodes is alone in its part, so that none can be taken out.
     fn are_alone(&self, nodes: &[u32]) -> bool
         requires whole { IsWhole self.now }
         requires nodes { All (λ a. a < length self.now.parts.items) nodes.now }
     {
         for node in nodes {
-            if self.plan.size(self.parts[*node as usize]) != 1 {
+            if !self.is_alone(*node) {
                 return false;
             }
         }

@@ -1,6 +1,6 @@
 use Rattle.std.proofs.Common.{◌<◌, [], length, slice_index_or, All, sym, subst, arith}
 use Rattle.cfi_types.specs.inner.Division.{KeepTogether}
-use Rattle.cfi_types.proofs.LeadLemmas.{places_within, all_tell, all_below, gathers_of}
+use Rattle.cfi_types.proofs.LeadLemmas.{nodes_within, places_within, all_tell, all_below, gathers_of}
 use Rattle.cfi_types.proofs.LeastLemmas.{names_keep}
 use Rattle.cfi_types.proofs.KeepLemmas.{together, none_hit}
 use Rattle.cfi_types.proofs.dividing.divided.Goals as goal
@@ -13,6 +13,13 @@ loop-init c = record {
   kept = together c.args.nodes.now c.args.classes.items c.in_ok-parts.parts.parts.items
       c.in_ok-parts.ensures.parts c.requires.keep;
 }
+
+pub divides_none-requires-clause-nodes : goal.divides_none-requires-clause-nodes
+divides_none-requires-clause-nodes c =
+    let keep : KeepTogether c.args.nodes.now c.next.new.self.parts.items =
+    subst (λ v. KeepTogether c.args.nodes.now v.items) (sym c.next.ensures.same) c.loop.invariant.kept in
+    subst (λ n. All (All (λ x. x.node < n)) c.in_ok-parents.parents) (sym keep.len)
+    (nodes_within c.args.nodes.now c.in_ok-parents.parents c.in_ok-parents.ensures)
 
 pub gather-requires-clause-places : goal.gather-requires-clause-places
 gather-requires-clause-places c =
