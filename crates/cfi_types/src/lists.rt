@@ -1,7 +1,9 @@
 //! Lists by number.
 
 ghost use Rattle.std.specs.Prelude.{◌≡◌, ◌<◌, ◌++◌, ◌∷◌, [], length, replicate, slice_set, slice_index_or, IfOk, OnOk};
+ghost use Rattle.cfi_word.specs.declared.limits.TheConstants.{MAX_FIELDS};
 
+use cfi_word::limits::MAX_FIELDS;
 use std::alloc::{AllocError, Global};
 use std::marker::Model;
 
@@ -69,4 +71,15 @@ impl<T: Drop> Lists<T> {
     {
         self.rows[number as usize].as_slice()
     }
+}
+
+// The list after the one of a place, empty after the last.
+pub(crate) fn row_after(lists: &Lists<u32>, place: u32) -> &[u32]
+    requires len { length lists.now ≡ MAX_FIELDS }
+    requires place { place < MAX_FIELDS }
+{
+    if place + 1 == MAX_FIELDS {
+        return &[];
+    }
+    lists.row(place + 1)
 }

@@ -7,7 +7,7 @@ ghost use Rattle.cfi_types.specs.inner.Splitting.{IsLow};
 ghost use Rattle.cfi_types.specs.inner.Division.{IsPut, AreListed, AreClear, KeepTogether, TellEqual};
 ghost use Rattle.cfi_types.specs.inner.Whole.{IsWhole, IsDivided};
 
-use crate::lists::Lists;
+use crate::lists::{Lists, row_after};
 use crate::plan::Plan;
 use cfi_word::limits::MAX_FIELDS;
 use std::alloc::{AllocError, Global};
@@ -145,17 +145,6 @@ fn put(
         }
     }
     Ok(())
-}
-
-// The list after the one of a place, empty after the last.
-fn row_after(lists: &Lists<u32>, place: u32) -> &[u32]
-    requires len { length lists.now ≡ MAX_FIELDS }
-    requires place { place < MAX_FIELDS }
-{
-    if place + 1 == MAX_FIELDS {
-        return &[];
-    }
-    lists.row(place + 1)
 }
 
 // The nodes of each part.
