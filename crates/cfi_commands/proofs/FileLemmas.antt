@@ -1,8 +1,8 @@
 -- That a series can take the modules of files, one after the other, and their first fault.
-use Rattle.std.proofs.Common.{◌≡◌, ℕ, ◌+◌, ◌<◌, ◌≤◌, ◌++◌, List, [], ◌∷◌, length, take, get_or, Option, Some, None, All, refl, ap, sym, subst, ◌∙◌, ⊎_elim, arith}
+use Rattle.std.proofs.Common.{◌≡◌, ℕ, ◌<◌, ◌≤◌, ◌++◌, List, [], ◌∷◌, length, take, get_or, Option, Some, None, All, refl, ap, sym, subst, ◌∙◌, ⊎_elim, arith, length-append}
 use Rattle.std.specs.Prelude.{slice_get, IsSomeAnd}
 use Rattle.std.proofs.lemmas.Bool.{cases_lt}
-use Rattle.std.proofs.lemmas.List.{take_more}
+use Rattle.std.proofs.Math.Seq.{take-append_seam, get_or-append_seam}
 use Rattle.std.proofs.lemmas.List.Elements.{All-nil, All-cons, All-head, All-tail}
 use Rattle.std.proofs.lemmas.Option.{slice_get-get_or, slice_get_within, slice_get_past}
 use Rattle.elf_read.specs.Header.{section_count}
@@ -66,39 +66,46 @@ all_taken (file ∷ files) (m ∷ modules) read sound =
     All-cons CanBeTaken m modules (taken file m read.0 (All-head IsSoundModule m modules sound))
     (all_taken files modules read.1 (All-tail IsSoundModule m modules sound))
 
-module _ (code_words : ℕ) (modules : List Module) (k : ℕ) (m : Module) (within : k < length modules)
-    (is : m ≡ get_or modules k m) (series : Series) (same : series.code_words ≡ code_words)
-    (order : AreInOrder code_words (take k modules) series.placed) where
-  -- the module of the number joins those before it
+module _ (code_words : ℕ) (done : List Module) (m : Module) (series : Series)
+    (same : series.code_words ≡ code_words) (order : AreInOrder code_words done series.placed) where
+  -- the module joins those before it
   pub order_more : (new : Series) → HasJoined series new m
-      → AreInOrder code_words (take (k + 1) modules) new.placed × (new.code_words ≡ code_words)
+      → AreInOrder code_words (done ++ m ∷ []) new.placed × (new.code_words ≡ code_words)
   order_more new joined =
       let p = joined.0 in
       let joins : Joins code_words series.placed m p =
-      subst (λ (n : ℕ). Joins n series.placed m p) same joined.1 in
-      let more : take (k + 1) modules ≡ take k modules ++ m ∷ [] =
-      take_more modules k m within ∙ ap (λ (x : Module). take k modules ++ x ∷ []) (sym is) in
-      let placed : new.placed ≡ series.placed ++ p ∷ [] = ap (λ (s : Series). s.placed) joined.2 in (
-        subst (λ (xs : List Placed). AreInOrder code_words (take (k + 1) modules) xs) (sym placed)
-            (subst (λ (ms : List Module). AreInOrder code_words ms (series.placed ++ p ∷ [])) (sym more)
-            (in_order_more code_words (take k modules) series.placed m p order joins)),
+      subst (λ (n : ℕ). Joins n series.placed m p) same joined.1 in (
+        subst (λ (xs : List Placed). AreInOrder code_words (done ++ m ∷ []) xs)
+            (sym (ap (λ (s : Series). s.placed) joined.2))
+            (in_order_more code_words done series.placed m p order joins),
         ap (λ (s : Series). s.code_words) joined.2 ∙ same,
       )
 
   -- or is the first that does not
-  first_refused : (fault : JoinFault) → IsJoinFault series.code_words series.placed m fault
-      → IsFirstRefused code_words modules k fault
-  first_refused fault why = record {
-    refused = m;
-    is = slice_get-get_or modules k m within ∙ ap (λ (x : Module). Some x) (sym is);
-    before = series.placed;
-    order = order;
-    why = subst (λ (n : ℕ). IsJoinFault n series.placed m fault) same why;
-  }
+  first_refused : (rest : List Module) (fault : JoinFault) → IsJoinFault series.code_words series.placed m fault
+      → IsFirstRefused code_words (done ++ m ∷ rest) (length series.placed) fault
+  first_refused rest fault why =
+      let all = done ++ m ∷ rest in
+      record {
+        refused = m;
+        is = slice_get-get_or all (length series.placed) m
+            (omega (arith, order.count, length-append done (m ∷ rest)))
+            ∙ ap (λ (n : ℕ). Some (get_or all n m)) order.count
+            ∙ ap (λ (x : Module). Some x) (get_or-append_seam done m rest m);
+        before = series.placed;
+        order = subst (λ (ms : List Module). AreInOrder code_words ms series.placed)
+            (sym (ap (λ (n : ℕ). take n all) order.count ∙ take-append_seam done (m ∷ rest))) order;
+        why = subst (λ (n : ℕ). IsJoinFault n series.placed m fault) same why;
+      }
 
-  pub series_fault : (fault : JoinFault) → IsJoinFault series.code_words series.placed m fault
-      → IsSeriesFault code_words modules (fault_at k fault)
-  series_fault fault why = record { number = k; why = fault; is = refl; first = first_refused fault why }
+  pub series_fault : (rest : List Module) (fault : JoinFault) → IsJoinFault series.code_words series.placed m fault
+      → IsSeriesFault code_words (done ++ m ∷ rest) (fault_at (length series.placed) fault)
+  series_fault rest fault why = record {
+    number = length series.placed;
+    why = fault;
+    is = refl;
+    first = first_refused rest fault why;
+  }
 
 module _ (code_words : ℕ) (files : List (List ℕ)) where
   -- a file that is no module is at fault

@@ -14,7 +14,7 @@ use crate::refusal::Refusal;
 use cfi_aux::Module;
 use cfi_plan::Plan;
 use cfi_series::{JoinFault, Series};
-use cfi_values::Bytes;
+use cfi_values::{Bytes, Items};
 use cfi_word::Layout;
 use std::alloc::Global;
 
@@ -29,16 +29,16 @@ fn fault_at(number: usize, fault: JoinFault) -> CommandFault
     }
 }
 
-// The modules, placed in their order.
-fn place_all(alloc: Global, layout: &Layout, modules: &[Module]) -> Result<Series, CommandFault>
-    requires taken { All CanBeTaken modules.now }
-    ensures order { IfOk result (λ series. AreInOrder layout.now modules.now series.placed) }
-    ensures fault { IfErr result (IsSeriesFault layout.now modules.now) }
+// The modules, placed in their order. Each is dropped once it is placed, which leaves its memory to those after it.
+fn place_all(alloc: Global, layout: &Layout, modules: Items<Module>) -> Result<Series, CommandFault>
+    requires taken { All CanBeTaken modules }
+    ensures order { IfOk result (λ series. AreInOrder layout.now modules series.placed) }
+    ensures fault { IfErr result (IsSeriesFault layout.now modules) }
 {
     let mut series = Series::new(alloc, layout);
-    for (number, unplaced) in modules.iter().enumerate() {
-        if let Err(fault) = series.add(unplaced) {
-            return Err(fault_at(number, fault));
+    for unplaced in modules.into_vec() {
+        if let Err(fault) = series.add(&unplaced) {
+            return Err(fault_at(series.modules().len(), fault));
         }
     }
     Ok(series)
@@ -64,5 +64,5 @@ pub fn placed_files(alloc: Global, plan: &Plan, files: &[Bytes]) -> Result<Serie
     ensures fault { IfErr result (IsFilesFault plan.now.code_words files.now) }
 {
     let modules = read_modules(alloc, files)?;
-    place_all(alloc, &layout_of(plan), modules.as_slice())
+    place_all(alloc, &layout_of(plan), modules)
 }
