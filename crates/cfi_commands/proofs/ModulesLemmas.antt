@@ -1,8 +1,8 @@
 -- Modules that are read one after the other.
-use Rattle.std.proofs.Common.{◌≡◌, ◌∙◌, ◌<◌, ◌+◌, ℕ, suc, List, [], ◌∷◌, ◌++◌, length, take, get_or, All, Option, Some, refl, sym, ap, subst, add-one}
+use Rattle.std.proofs.Common.{◌≡◌, ◌∙◌, ℕ, suc, List, [], ◌∷◌, ◌++◌, length, take, get_or, All, Option, Some, refl, sym, ap, subst, arith, length-append}
 use Rattle.std.specs.Prelude.{slice_get, IsSomeAnd}
-use Rattle.std.proofs.Math.Seq.{take-suc}
-use Rattle.std.proofs.lemmas.Option.{slice_get_read}
+use Rattle.std.proofs.Math.Seq.{take-append_seam, get_or-append_seam}
+use Rattle.std.proofs.lemmas.Option.{slice_get-get_or}
 use Rattle.std.proofs.lemmas.List.Elements.{All-nil, All-cons}
 use Rattle.cfi_aux.specs.declared.modules.Module.{Module}
 use Rattle.cfi_commands.specs.declared.fault.CommandFault.{CommandFault}
@@ -13,23 +13,14 @@ use Rattle.cfi_commands.specs.Reading.{IsModuleFile, IsFileFault}
 use Rattle.cfi_commands.specs.Modules.{AreModuleFiles, IsFirstBadFile, IsModulesFault}
 
 -- one more file at the end
-push : (files : List (List ℕ)) (modules : List Module) (bytes : List ℕ) (m : Module) → AreModuleFiles files modules
-    → IsModuleFile bytes m → AreModuleFiles (files ++ bytes ∷ []) (modules ++ m ∷ [])
-push [] [] bytes m are is = (is, tt)
-push [] (first ∷ modules) bytes m are is = absurd are
-push (file ∷ files) [] bytes m are is = absurd are
-push (file ∷ files) (first ∷ modules) bytes m are is = (are.0, push files modules bytes m are.1 is)
-
--- the next of the files
-pub more_modules : (files : List (List ℕ)) (modules : List Module) (at : ℕ) (item bytes : List ℕ) (m : Module)
-    → at < length files → item ≡ get_or files at item → bytes ≡ item → AreModuleFiles (take at files) modules
-    → IsModuleFile bytes m → AreModuleFiles (take (at + 1) files) (modules ++ m ∷ [])
-more_modules files modules at item bytes m within here same are is =
-    let next : take (at + 1) files ≡ take at files ++ item ∷ [] =
-    ap (λ (n : ℕ). take n files) (add-one at) ∙ take-suc files at item within
-    ∙ ap (λ (b : List ℕ). take at files ++ b ∷ []) (sym here) in
-    subst (λ (fs : List (List ℕ)). AreModuleFiles fs (modules ++ m ∷ [])) (sym next)
-    (push (take at files) modules item m are (subst (λ (b : List ℕ). IsModuleFile b m) same is))
+pub more_modules : (files : List (List ℕ)) (modules : List Module) (bytes : List ℕ) (m : Module)
+    → AreModuleFiles files modules → IsModuleFile bytes m
+    → AreModuleFiles (files ++ bytes ∷ []) (modules ++ m ∷ [])
+more_modules [] [] bytes m are is = (is, tt)
+more_modules [] (first ∷ modules) bytes m are is = absurd are
+more_modules (file ∷ files) [] bytes m are is = absurd are
+more_modules (file ∷ files) (first ∷ modules) bytes m are is =
+    (are.0, more_modules files modules bytes m are.1 is)
 
 -- there are as many modules as files
 pub same_count : (files : List (List ℕ)) (modules : List Module) → AreModuleFiles files modules
@@ -47,21 +38,30 @@ each_of P holds [] (m ∷ modules) are = absurd are
 each_of P holds (bytes ∷ files) (m ∷ modules) are =
     All-cons P m modules (holds bytes m are.0) (each_of P holds files modules are.1)
 
-module _ (files : List (List ℕ)) (modules : List Module) (at : ℕ) (item bytes : List ℕ) (within : at < length files)
-    (here : item ≡ get_or files at item) (same : bytes ≡ item) (are : AreModuleFiles (take at files) modules) where
-  -- the next file is the first that is no module
-  bad_at : (refusal : Refusal) → IsFileFault bytes refusal → IsFirstBadFile files at refusal
-  bad_at refusal is =
-      let found : slice_get files at ≡ Some item =
-      slice_get_read files (length files) at item refl within here in
-      record {
-        modules = modules;
-        before = are;
-        here = subst (λ (o : Option (List ℕ)). IsSomeAnd o (λ b. IsFileFault b refusal)) (sym found)
-            (subst (λ (b : List ℕ). IsFileFault b refusal) same is);
-      }
+module _ (done rest : List (List ℕ)) (bytes : List ℕ) (modules : List Module)
+    (are : AreModuleFiles done modules) where
+  abbrev files : List (List ℕ)
+  files = done ++ bytes ∷ rest
 
-  pub modules_fault : (fault : CommandFault) → IsOfFile at (IsFileFault bytes) fault → IsModulesFault files fault
+  -- the file after those before it, which are modules
+  at_seam : slice_get files (length modules) ≡ Some bytes
+  at_seam =
+      slice_get-get_or files (length modules) bytes
+      (omega (arith, same_count done modules are, length-append done (bytes ∷ rest)))
+      ∙ ap (λ (n : ℕ). Some (get_or files n bytes)) (same_count done modules are)
+      ∙ ap (λ (b : List ℕ). Some b) (get_or-append_seam done bytes rest bytes)
+
+  -- is the first that is no module
+  bad_at : (refusal : Refusal) → IsFileFault bytes refusal → IsFirstBadFile files (length modules) refusal
+  bad_at refusal is = record {
+    modules = modules;
+    before = subst (λ (fs : List (List ℕ)). AreModuleFiles fs modules)
+        (sym (ap (λ (n : ℕ). take n files) (same_count done modules are) ∙ take-append_seam done (bytes ∷ rest))) are;
+    here = subst (λ (o : Option (List ℕ)). IsSomeAnd o (λ b. IsFileFault b refusal)) (sym at_seam) is;
+  }
+
+  pub modules_fault : (fault : CommandFault) → IsOfFile (length modules) (IsFileFault bytes) fault
+      → IsModulesFault (done ++ bytes ∷ rest) fault
   modules_fault (File number refusal) is =
       subst (λ (n : ℕ). IsFirstBadFile files n refusal) (sym is.0) (bad_at refusal is.1)
   modules_fault (Together fault) is = absurd is

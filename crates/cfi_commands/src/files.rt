@@ -56,12 +56,12 @@ fn layout_of(plan: &Plan) -> Layout
 ///
 /// `files` are those of the plan's modules. All are taken as modules before the first is placed. The fault is the first
 /// of this order.
-pub fn placed_files(alloc: Global, plan: &Plan, files: &[Bytes]) -> Result<Series, CommandFault>
+pub fn placed_files(alloc: Global, plan: &Plan, files: Items<Bytes>) -> Result<Series, CommandFault>
     requires plan { IsPlan plan.now }
-    requires small { All IsShortFile files.now }
+    requires small { All IsShortFile files }
     ensures ok { IfOk result (λ series.
-        ArePlacedFiles plan.now.code_words files.now series.placed) }
-    ensures fault { IfErr result (IsFilesFault plan.now.code_words files.now) }
+        ArePlacedFiles plan.now.code_words files series.placed) }
+    ensures fault { IfErr result (IsFilesFault plan.now.code_words files) }
 {
     let modules = read_modules(alloc, files)?;
     place_all(alloc, &layout_of(plan), modules)

@@ -12,7 +12,7 @@ use crate::files::placed_files;
 use cfi_plan::Plan;
 use cfi_policy::{Group, groups};
 use cfi_text::{put_dec, put_hex8};
-use cfi_values::Bytes;
+use cfi_values::{Bytes, Items};
 use std::alloc::{AllocError, Global};
 
 // Appends the slots, each after a space.
@@ -69,11 +69,11 @@ fn lines_of(alloc: Global, groups: &[Group]) -> Result<Vec<u8>, AllocError>
 /// `class SLOTS : ADDRESSES`, and for the last one, where its branches may go nowhere, `none SLOTS`.
 ///
 /// The fault is the first of the files.
-pub fn graph_text(alloc: Global, plan: &Plan, files: &[Bytes]) -> Result<Vec<u8>, CommandFault>
+pub fn graph_text(alloc: Global, plan: &Plan, files: Items<Bytes>) -> Result<Vec<u8>, CommandFault>
     requires plan { IsPlan plan.now }
-    requires small { All IsShortFile files.now }
-    ensures ok { IfOk result (λ text. IsGraphText plan.now.code_words files.now text.items) }
-    ensures fault { IfErr result (IsFilesFault plan.now.code_words files.now) }
+    requires small { All IsShortFile files }
+    ensures ok { IfOk result (λ text. IsGraphText plan.now.code_words files text.items) }
+    ensures fault { IfErr result (IsFilesFault plan.now.code_words files) }
 {
     let series = placed_files(alloc, plan, files)?;
     let found = groups(alloc, series.modules())?;

@@ -11,17 +11,18 @@ use std::alloc::Global;
 
 /// The modules that files are, one by one.
 ///
-/// Each of `files` is a whole file. No file after the first that is no module is looked into.
-pub fn read_modules(alloc: Global, files: &[Bytes]) -> Result<Items<Module>, CommandFault>
-    requires small { All IsShortFile files.now }
-    ensures ok { IfOk result (AreModuleFiles files.now) }
+/// Each of `files` is a whole file, which is dropped once it is read: its memory is left to those after it. No file
+/// after the first that is no module is looked into.
+pub fn read_modules(alloc: Global, files: Items<Bytes>) -> Result<Items<Module>, CommandFault>
+    requires small { All IsShortFile files }
+    ensures ok { IfOk result (AreModuleFiles files) }
     ensures sound { IfOk result (All IsSoundModule) }
     ensures taken { IfOk result (All CanBeTaken) }
-    ensures fault { IfErr result (IsModulesFault files.now) }
+    ensures fault { IfErr result (IsModulesFault files) }
 {
     let mut modules = Vec::new(alloc);
-    for (number, file) in files.iter().enumerate() {
-        let found = read_module(alloc, number, file.as_slice())?;
+    for file in files.into_vec() {
+        let found = read_module(alloc, modules.len(), file.as_slice())?;
         modules.push(found)?;
     }
     Ok(Items::from_vec(modules))

@@ -11,7 +11,7 @@ use crate::files::placed_files;
 use cfi_aux::Placed;
 use cfi_plan::{Plan, PlanModule};
 use cfi_text::put_dec;
-use cfi_values::Bytes;
+use cfi_values::{Bytes, Items};
 use std::alloc::{AllocError, Global};
 
 // Appends the line of a module with its number of branches, each of which has a check.
@@ -47,12 +47,16 @@ fn module_lines(
 /// The line `ok NAME WORDS CHECKS` of each module of a plan, where all place and verify in order.
 ///
 /// `files` are those of the plan's modules, one for each. The fault is the first of the files.
-pub fn verified_text(alloc: Global, plan: &Plan, files: &[Bytes]) -> Result<Vec<u8>, CommandFault>
+pub fn verified_text(
+    alloc: Global,
+    plan: &Plan,
+    files: Items<Bytes>,
+) -> Result<Vec<u8>, CommandFault>
     requires plan { IsPlan plan.now }
-    requires count { length plan.now.modules ≡ length files.now }
-    requires small { All IsShortFile files.now }
-    ensures ok { IfOk result (λ text. IsVerifiedText plan.now files.now text.items) }
-    ensures fault { IfErr result (IsFilesFault plan.now.code_words files.now) }
+    requires count { length plan.now.modules ≡ length files }
+    requires small { All IsShortFile files }
+    ensures ok { IfOk result (λ text. IsVerifiedText plan.now files text.items) }
+    ensures fault { IfErr result (IsFilesFault plan.now.code_words files) }
 {
     let series = placed_files(alloc, plan, files)?;
     Ok(module_lines(alloc, plan.modules.as_slice(), series.modules())?)

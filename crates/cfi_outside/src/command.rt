@@ -86,7 +86,7 @@ impl Command {
     /// those that come after them.
     ///
     /// `files` are the bytes of its inputs.
-    pub fn more(&self, alloc: Global, files: &[Bytes]) -> Result<Vec<Text>, AllocError>
+    pub fn more(&self, alloc: Global, files: &Items<Bytes>) -> Result<Vec<Text>, AllocError>
         requires count { length files.now ≡ length (inputs_of self.now) }
         requires short { All IsShort files.now }
         ensures { IfOk result (λ names. names.items ≡ more_of self.now files.now) }

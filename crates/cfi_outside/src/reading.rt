@@ -72,9 +72,9 @@ pub fn read_files<F: Shelf>(
 }
 
 /// The bytes of the one file.
-pub fn only(files: &[Bytes]) -> &[u8]
+pub fn only(files: &Items<Bytes>) -> &[u8]
     requires one { length files.now ≡ 1 }
     ensures { files.now ≡ result.now ∷ [] }
 {
-    files[0].as_slice()
+    files.as_slice()[0].as_slice()
 }

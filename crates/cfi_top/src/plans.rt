@@ -14,7 +14,7 @@ use crate::refused::{module_refused, opening_refused, plan_refused};
 use cfi_commands::{Refusal, graph_text, read_modules, verified_text};
 use cfi_plan::{Plan, read_plan};
 use cfi_sim::{SimFault, simulate, write_sim};
-use cfi_values::{Bytes, Text};
+use cfi_values::{Bytes, Items, Text};
 use std::alloc::{AllocError, Global};
 
 /// Verifies the modules of a plan, in order.
@@ -24,12 +24,12 @@ pub fn verify(
     alloc: Global,
     plan: Text,
     bytes: &[u8],
-    files: &[Bytes],
+    files: Items<Bytes>,
 ) -> Result<Answer, AllocError>
     requires short { length bytes.now ≤ MAX_FILE_BYTES }
-    requires named { length files.now ≡ length (named_files bytes.now) }
-    requires small { All IsShort files.now }
-    ensures { IfOk result (IsWorked (commands.Verify plan) (bytes.now ∷ []) files.now) }
+    requires named { length files ≡ length (named_files bytes.now) }
+    requires small { All IsShort files }
+    ensures { IfOk result (IsWorked (commands.Verify plan) (bytes.now ∷ []) files) }
 {
     let found = match read_plan(alloc, bytes) {
         Ok(found) => found,
@@ -44,11 +44,16 @@ pub fn verify(
 /// Lists the groups of the policy of a plan's modules.
 ///
 /// `bytes` are those of the plan, `files` those of its modules.
-pub fn graph(alloc: Global, plan: Text, bytes: &[u8], files: &[Bytes]) -> Result<Answer, AllocError>
+pub fn graph(
+    alloc: Global,
+    plan: Text,
+    bytes: &[u8],
+    files: Items<Bytes>,
+) -> Result<Answer, AllocError>
     requires short { length bytes.now ≤ MAX_FILE_BYTES }
-    requires named { length files.now ≡ length (named_files bytes.now) }
-    requires small { All IsShort files.now }
-    ensures { IfOk result (IsWorked (commands.Graph plan) (bytes.now ∷ []) files.now) }
+    requires named { length files ≡ length (named_files bytes.now) }
+    requires small { All IsShort files }
+    ensures { IfOk result (IsWorked (commands.Graph plan) (bytes.now ∷ []) files) }
 {
     let found = match read_plan(alloc, bytes) {
         Ok(found) => found,
@@ -84,14 +89,14 @@ fn sim_of(
     plan: Text,
     schedule: Text,
     found: &Plan,
-    files: &[Bytes],
+    files: Items<Bytes>,
     bytes: &[u8],
 ) -> Result<Answer, AllocError>
     requires plan { IsPlan found.now }
-    requires count { length files.now ≡ length found.now.modules }
-    requires small { All IsShort files.now }
+    requires count { length files ≡ length found.now.modules }
+    requires small { All IsShort files }
     requires short { length bytes.now ≤ MAX_FILE_BYTES }
-    ensures { IfOk result (IsSimulated plan schedule found.now files.now bytes.now) }
+    ensures { IfOk result (IsSimulated plan schedule found.now files bytes.now) }
 {
     let modules = match read_modules(alloc, files) {
         Ok(modules) => modules,
@@ -111,19 +116,21 @@ pub fn sim(
     plan: Text,
     schedule: Text,
     bytes: &[u8],
-    others: &[Bytes],
+    others: Items<Bytes>,
 ) -> Result<Answer, AllocError>
     requires short { length bytes.now ≤ MAX_FILE_BYTES }
-    requires named { length others.now ≡ length (named_files_and bytes.now schedule) }
-    requires small { All IsShort others.now }
-    ensures { IfOk result (IsWorked (commands.Sim plan schedule) (bytes.now ∷ []) others.now) }
+    requires named { length others ≡ length (named_files_and bytes.now schedule) }
+    requires small { All IsShort others }
+    ensures { IfOk result (IsWorked (commands.Sim plan schedule) (bytes.now ∷ []) others) }
 {
     let found = match read_plan(alloc, bytes) {
         Ok(found) => found,
         Err(fault) => return plan_refused(plan, fault),
     };
-    let Some((last, files)) = others.split_last() else {
+    let mut files = others.into_vec();
+    let Some(last) = files.pop() else {
         unreachable!();
     };
+    let files = Items::from_vec(files);
     sim_of(alloc, plan, schedule, &found, files, last.as_slice())
 }

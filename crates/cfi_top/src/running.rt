@@ -58,13 +58,13 @@ fn run_found<G: Gate, R: Threads + Wait + Sync>(
     alloc: Global,
     input: Text,
     found: &Plan,
-    files: &[Bytes],
+    files: Items<Bytes>,
     gate: &G,
 ) -> Result<Answer, AllocError>
     requires plan { IsPlan found.now }
-    requires count { length files.now ≡ length found.now.modules }
-    requires small { All IsShort files.now }
-    ensures { IfOk result (IsPlanRun input found.now files.now) }
+    requires count { length files ≡ length found.now.modules }
+    requires small { All IsShort files }
+    ensures { IfOk result (IsPlanRun input found.now files) }
 {
     let modules = match read_modules(alloc, files) {
         Ok(modules) => modules,
@@ -85,14 +85,14 @@ fn run_file<G: Gate, R: Threads + Wait + Sync>(
     alloc: Global,
     input: Text,
     bytes: &[u8],
-    files: &[Bytes],
+    files: Items<Bytes>,
     gate: &G,
 ) -> Result<Answer, AllocError>
     requires begins { begins_as_plan bytes.now ≡ true }
     requires short { length bytes.now ≤ MAX_FILE_BYTES }
-    requires named { length files.now ≡ length (named_files bytes.now) }
-    requires small { All IsShort files.now }
-    ensures { IfOk result (IsWorked (commands.Run input) (bytes.now ∷ []) files.now) }
+    requires named { length files ≡ length (named_files bytes.now) }
+    requires small { All IsShort files }
+    ensures { IfOk result (IsWorked (commands.Run input) (bytes.now ∷ []) files) }
 {
     let found = match read_plan(alloc, bytes) {
         Ok(found) => found,
@@ -135,13 +135,13 @@ pub fn run<G: Gate, R: Threads + Wait + Sync>(
     alloc: Global,
     input: Text,
     bytes: &[u8],
-    files: &[Bytes],
+    files: Items<Bytes>,
     gate: &G,
 ) -> Result<Answer, AllocError>
     requires short { length bytes.now ≤ MAX_FILE_BYTES }
-    requires named { length files.now ≡ length (run_files bytes.now) }
-    requires small { All IsShort files.now }
-    ensures { IfOk result (IsWorked (commands.Run input) (bytes.now ∷ []) files.now) }
+    requires named { length files ≡ length (run_files bytes.now) }
+    requires small { All IsShort files }
+    ensures { IfOk result (IsWorked (commands.Run input) (bytes.now ∷ []) files) }
 {
     if begins_as_plan(bytes) {
         return run_file(rt, alloc, input, bytes, files, gate);

@@ -12,7 +12,7 @@ use crate::running::run;
 use cfi_commands::{CommandFault, assembled, instrumented, linked, listing_of};
 use cfi_io::{Gate, Shelf};
 use cfi_outside::{Command, only, read_files, text_of};
-use cfi_values::{Bytes, Text};
+use cfi_values::{Bytes, Items, Text};
 use std::alloc::{AllocError, Global};
 use std::sync::Wait;
 use std::thread::Threads;
@@ -51,11 +51,16 @@ fn instrument(alloc: Global, input: Text, output: Text, bytes: &[u8]) -> Result<
 }
 
 // Links modules.
-fn link(alloc: Global, output: Text, inputs: &[Text], files: &[Bytes]) -> Result<Answer, AllocError>
+fn link(
+    alloc: Global,
+    output: Text,
+    inputs: &[Text],
+    files: Items<Bytes>,
+) -> Result<Answer, AllocError>
     requires few { length inputs.now ≤ MAX_INPUTS }
-    requires count { length files.now ≡ length inputs.now }
-    requires short { All IsShort files.now }
-    ensures { IfOk result (IsWorked (commands.Link output inputs.now) files.now []) }
+    requires count { length files ≡ length inputs.now }
+    requires short { All IsShort files }
+    ensures { IfOk result (IsWorked (commands.Link output inputs.now) files []) }
 {
     match linked(alloc, files) {
         Ok(joined) => Ok(Answer::Save(output, Bytes::from_vec(joined))),
@@ -72,26 +77,26 @@ fn work<G: Gate, R: Threads + Wait + Sync>(
     rt: &R,
     alloc: Global,
     command: Command,
-    files: &[Bytes],
-    more: &[Bytes],
+    files: Items<Bytes>,
+    more: Items<Bytes>,
     gate: &G,
 ) -> Result<Answer, AllocError>
     requires number { HasInputs command }
-    requires count { length files.now ≡ length (inputs_of command) }
-    requires short { All IsShort files.now }
-    requires named { length more.now ≡ length (more_of command files.now) }
-    requires small { All IsShort more.now }
-    ensures { IfOk result (IsWorked command files.now more.now) }
+    requires count { length files ≡ length (inputs_of command) }
+    requires short { All IsShort files }
+    requires named { length more ≡ length (more_of command files) }
+    requires small { All IsShort more }
+    ensures { IfOk result (IsWorked command files more) }
 {
     match command {
-        Command::Asm { input, output } => asm(alloc, input, output, only(files)),
-        Command::List { input } => list(alloc, input, only(files)),
-        Command::Instrument { input, output } => instrument(alloc, input, output, only(files)),
+        Command::Asm { input, output } => asm(alloc, input, output, only(&files)),
+        Command::List { input } => list(alloc, input, only(&files)),
+        Command::Instrument { input, output } => instrument(alloc, input, output, only(&files)),
         Command::Link { output, inputs } => link(alloc, output, inputs.as_slice(), files),
-        Command::Verify { plan } => verify(alloc, plan, only(files), more),
-        Command::Graph { plan } => graph(alloc, plan, only(files), more),
-        Command::Sim { plan, schedule } => sim(alloc, plan, schedule, only(files), more),
-        Command::Run { input } => run(rt, alloc, input, only(files), more, gate),
+        Command::Verify { plan } => verify(alloc, plan, only(&files), more),
+        Command::Graph { plan } => graph(alloc, plan, only(&files), more),
+        Command::Sim { plan, schedule } => sim(alloc, plan, schedule, only(&files), more),
+        Command::Run { input } => run(rt, alloc, input, only(&files), more, gate),
     }
 }
 
@@ -100,23 +105,23 @@ fn outcome_over<F: Shelf, G: Gate, R: Threads + Wait + Sync>(
     rt: &R,
     alloc: Global,
     command: Command,
-    files: &[Bytes],
+    files: Items<Bytes>,
     shelf: &mut F,
     gate: &G,
 ) -> Result<Answer, AllocError>
     requires number { HasInputs command }
-    requires count { length files.now ≡ length (inputs_of command) }
-    requires short { All IsShort files.now }
-    ensures outcome { IfOk result (GoesOn command files.now
+    requires count { length files ≡ length (inputs_of command) }
+    requires short { All IsShort files }
+    ensures outcome { IfOk result (GoesOn command files
         (F.seen shelf.old)
         (F.seen shelf.new)) }
     ensures same { (F.seen shelf.new).files ≡ (F.seen shelf.old).files }
     ensures faults { (F.seen shelf.old).faults ≤ (F.seen shelf.new).faults }
     ensures misses { (F.seen shelf.old).misses ≤ (F.seen shelf.new).misses }
 {
-    let names = command.more(alloc, files)?;
+    let names = command.more(alloc, &files)?;
     match read_files(alloc, shelf, &names)? {
-        Ok(more) => work(rt, alloc, command, files, more.as_slice(), gate),
+        Ok(more) => work(rt, alloc, command, files, more, gate),
         Err(behind) => Ok(Answer::Unread(behind)),
     }
 }
@@ -142,7 +147,7 @@ pub fn outcome_of<F: Shelf, G: Gate, R: Threads + Wait + Sync>(
 {
     let names = command.inputs(alloc)?;
     match read_files(alloc, shelf, &names)? {
-        Ok(files) => outcome_over(rt, alloc, command, files.as_slice(), shelf, gate),
+        Ok(files) => outcome_over(rt, alloc, command, files, shelf, gate),
         Err(unread) => Ok(Answer::Unread(unread)),
     }
 }

@@ -7,4 +7,4 @@ pub returns-in_err-modules-clause-fault : goal.returns-in_err-modules-clause-fau
 returns-in_err-modules-clause-fault c =
     let p = err_from_is_err_and c.from_residual.result c.from_residual.ensures.1 in
     rw (p.1, p.2)
-    (modules_as_files c.args.plan.now.code_words c.args.files.now _ c.in_err-modules.ensures.fault)
+    (modules_as_files c.args.plan.now.code_words c.args.files _ c.in_err-modules.ensures.fault)

@@ -13,13 +13,13 @@ pub link-requires : goal.link-requires
 link-requires c =
     let read = c.in_ok-modules.ensures in
     subst AreModules (sym c.as_slice.ensures)
-    (linkable c.args.files.now c.in_ok-modules.modules read.ok c.requires.count read.sound
+    (linkable c.args.files c.in_ok-modules.modules read.ok c.requires.count read.sound
     c.read_can_be_written.ensures)
 
 -- the object is within the limits of a file
 pub write_object-requires : goal.write_object-requires
 write_object-requires c =
-    let files = c.args.files.now in
+    let files = c.args.files in
     let read = c.in_ok-modules.ensures in
     let modules = c.in_ok-modules.modules in
     let output = c.in-Ok.output in
@@ -35,4 +35,4 @@ write_object-requires c =
 pub returns-in_err-modules-clause-fault : goal.returns-in_err-modules-clause-fault
 returns-in_err-modules-clause-fault c =
     let p = err_from_is_err_and c.from_residual.result c.from_residual.ensures.1 in
-    rw (p.1, p.2) (modules_as_linking c.args.files.now _ c.in_err-modules.ensures.fault)
+    rw (p.1, p.2) (modules_as_linking c.args.files _ c.in_err-modules.ensures.fault)

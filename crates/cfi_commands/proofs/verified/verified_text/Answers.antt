@@ -14,7 +14,7 @@ module_lines-requires c =
     omega (
       arith,
       are.order.count,
-      same_count c.args.files.now are.modules are.read,
+      same_count c.args.files are.modules are.read,
       c.requires.count,
       ap (λ (xs : List Placed). length xs) c.modules.ensures.value,
       ap (λ (xs : List PlanModule). length xs) c.as_slice.ensures,

@@ -6,10 +6,10 @@ use Rattle.cfi_top.proofs.plans.sim.Goals as goal
 -- the last file is the schedule
 pub returns : goal.returns
 returns c =
-    let files = c.in-Some.files.now in
+    let files = c.from_vec-files.result in
     let text = c.as_slice.result.now in
-    let split : c.args.others.now ≡ files ++ text ∷ [] = search rules in
+    let split : c.args.others ≡ files ++ text ∷ [] = search rules in
     IfOk-weaker c.sim_of.result _ _
-    (plan_sim c.args.plan c.args.schedule c.args.bytes.now c.args.others.now c.in-Ok.found c.in-Ok.ensures.due files text
+    (plan_sim c.args.plan c.args.schedule c.args.bytes.now c.args.others c.in-Ok.found c.in-Ok.ensures.due files text
     split)
     c.sim_of.ensures

@@ -13,7 +13,7 @@ returns-in-Err c =
     let plan = c.args.plan in
     let schedule = c.args.schedule in
     let found = c.args.found.now in
-    let files = c.args.files.now in
+    let files = c.args.files in
     let text = c.args.bytes.now in
     let fault = c.in-Err.fault in
     IfOk-weaker c.module_refused.result _ _
@@ -25,7 +25,7 @@ returns-in-Err c =
 -- there is a module for each line
 pub simulate-requires-clause-count : goal.simulate-requires-clause-count
 simulate-requires-clause-count c =
-    same_count c.args.files.now c.in-Ok.modules c.in-Ok.ensures.ok ∙ c.requires.count
+    same_count c.args.files c.in-Ok.modules c.in-Ok.ensures.ok ∙ c.requires.count
 
 -- the fault is of one of them, or of none
 pub sim_refused-requires : goal.sim_refused-requires
@@ -36,6 +36,6 @@ sim_refused-requires c =
 pub returns-in-Err-simulate : goal.returns-in-Err-simulate
 returns-in-Err-simulate c =
     IfOk-weaker c.sim_refused.result _ _
-    (λ answer said. fault_sim c.args.plan c.args.schedule c.args.found.now c.args.files.now c.args.bytes.now
+    (λ answer said. fault_sim c.args.plan c.args.schedule c.args.found.now c.args.files c.args.bytes.now
     c.in-Ok.modules c.in-Ok.ensures.ok c.in-Err-simulate.fault answer c.in-Err-simulate.ensures.fault said)
     c.sim_refused.ensures

@@ -7,7 +7,7 @@ use Rattle.cfi_top.proofs.plans.verify.Goals as goal
 -- the fault is of one of the plan's modules
 pub module_refused-requires : goal.module_refused-requires
 module_refused-requires c =
-    among_modules c.args.bytes.now c.in-Ok.found c.args.files.now c.as_slice.result.now c.in-Err-verified_text.fault
+    among_modules c.args.bytes.now c.in-Ok.found c.args.files c.as_slice.result.now c.in-Err-verified_text.fault
     c.in-Ok.ensures.due c.requires.named c.as_slice.ensures c.in-Err-verified_text.ensures.fault
 
 -- the first of the modules' files that has a fault is refused by its name
@@ -15,7 +15,7 @@ pub returns : goal.returns
 returns c =
     let name = c.args.plan in
     let bytes = c.args.bytes.now in
-    let files = c.args.files.now in
+    let files = c.args.files in
     let fault = c.in-Err-verified_text.fault in
     IfOk-weaker c.module_refused.result _ _
     (λ answer said. verify_stands name bytes files answer

@@ -9,4 +9,4 @@ pub returns : goal.returns
 returns g c =
     let bytes = c.args.bytes.now in
     let begins : begins_as_plan bytes ≡ false = search rules in
-    IfOk-weaker c.run_bare.result _ _ (bare_run c.args.input bytes c.args.files.now begins) c.run_bare.ensures
+    IfOk-weaker c.run_bare.result _ _ (bare_run c.args.input bytes c.args.files begins) c.run_bare.ensures

@@ -17,7 +17,7 @@ pub returns-in-Err : goal.returns-in-Err
 returns-in-Err g c =
     let input = c.args.input in
     let found = c.args.found.now in
-    let files = c.args.files.now in
+    let files = c.args.files in
     let fault = c.in-Err.fault in
     IfOk-weaker c.module_refused.result _ _
     (λ answer said. refused_run input found files answer
@@ -29,7 +29,7 @@ returns-in-Err g c =
 pub run_plan-requires-clause-can : goal.run_plan-requires-clause-can
 run_plan-requires-clause-can g c κs within =
     plan_starts c.args.found.now c.in-Ok.modules c.requires.plan
-    (same_count c.args.files.now c.in-Ok.modules c.in-Ok.ensures.ok ∙ c.requires.count) c.in-Ok.ensures.taken
+    (same_count c.args.files c.in-Ok.modules c.in-Ok.ensures.ok ∙ c.requires.count) c.in-Ok.ensures.taken
 
 -- and has entries by name
 pub run_plan-requires-clause-code : goal.run_plan-requires-clause-code
@@ -49,7 +49,7 @@ pub returns-in-Err-Open : goal.returns-in-Err-Open
 returns-in-Err-Open g c =
     let input = c.args.input in
     let found = c.args.found.now in
-    let files = c.args.files.now in
+    let files = c.args.files in
     let modules = c.in-Ok.modules in
     let fault = c.fault_of.result in
     let told = subst (IsRunFault found modules) c.in-Err-Open.field-0-is c.in-Err-Open.ensures.fault in

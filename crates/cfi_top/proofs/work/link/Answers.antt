@@ -9,7 +9,7 @@ use Rattle.cfi_top.proofs.work.link.Goals as goal
 -- a file that is no module is refused by its name
 pub returns-in_ok-input-in-Err-File : goal.returns-in_ok-input-in-Err-File
 returns-in_ok-input-in-Err-File c =
-    let files = c.args.files.now in
+    let files = c.args.files in
     let inputs = c.args.inputs.now in
     let number = c.in-Err-File.number in
     let name = c.in_ok-input-in-Err-File.input in

@@ -1,7 +1,6 @@
 use Rattle.std.proofs.Common.{◌≡◌, ◌∙◌, Ok, subst}
 use Rattle.std.proofs.lemmas.Result.{IfOk-weaker}
 use Rattle.cfi_outside.specs.Command.{inputs_of}
-use Rattle.cfi_top.specs.Outcome.{GoesOn}
 use Rattle.cfi_outside.specs.Reading.{AreRead, IsFound}
 use Rattle.cfi_outside.proofs.OutsideLemmas.{IsLater}
 use Rattle.cfi_top.proofs.OutcomeLemmas.{outcome_is}
@@ -25,6 +24,4 @@ returns-in-Ok-clause-outcome g c =
     let kept = c.read_files.ensures in
     let later : IsLater old mid = record { files = kept.same; faults = kept.faults; misses = kept.misses } in
     IfOk-weaker c.outcome_over.result _ _
-    (λ answer goes. outcome_is command files old mid new later inputs answer
-    (subst (λ bytes. GoesOn command bytes mid new answer) c.as_slice.ensures goes))
-    c.outcome_over.ensures.outcome
+    (λ answer goes. outcome_is command files old mid new later inputs answer goes) c.outcome_over.ensures.outcome

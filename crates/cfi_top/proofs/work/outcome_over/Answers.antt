@@ -1,7 +1,6 @@
 use Rattle.std.proofs.Common.{◌≡◌, ◌∙◌, Ok, subst}
 use Rattle.std.proofs.lemmas.Result.{IfOk-weaker}
 use Rattle.cfi_outside.specs.Command.{more_of}
-use Rattle.cfi_top.specs.Outcome.{IsWorked}
 use Rattle.cfi_outside.specs.Reading.{AreRead, IsFound}
 use Rattle.cfi_top.proofs.OutcomeLemmas.{worked_is}
 use Rattle.cfi_top.proofs.work.outcome_over.Goals as goal
@@ -10,7 +9,7 @@ use Rattle.cfi_top.proofs.work.outcome_over.Goals as goal
 pub returns-in-Ok-clause-outcome : goal.returns-in-Ok-clause-outcome
 returns-in-Ok-clause-outcome g c =
     let command = c.args.command in
-    let files = c.args.files.now in
+    let files = c.args.files in
     let more = c.in-Ok.more in
     let shelf = c.args.shelf.now in
     let read = c.read_files.new.shelf in
@@ -21,6 +20,4 @@ returns-in-Ok-clause-outcome g c =
     let named : c.deref.result.now ≡ more_of command files = c.deref.ensures.value ∙ c.in_ok-names.ensures in
     let others = subst (λ names. AreRead old names more) named found in
     IfOk-weaker c.work.result _ _
-    (λ answer worked. worked_is command files more old new answer others
-    (subst (λ bytes. IsWorked command files bytes answer) c.as_slice.ensures worked))
-    c.work.ensures
+    (λ answer worked. worked_is command files more old new answer others worked) c.work.ensures
