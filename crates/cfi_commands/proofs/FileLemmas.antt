@@ -1,10 +1,9 @@
 -- That a series can take the modules of files, one after the other, and their first fault.
-use Rattle.std.proofs.Common.{◌≡◌, ℕ, ◌<◌, ◌≤◌, ◌++◌, List, [], ◌∷◌, length, take, get_or, Option, Some, None, All, refl, ap, sym, subst, ◌∙◌, ⊎_elim, arith, length-append}
+use Rattle.std.proofs.Common.{◌≡◌, ℕ, ◌<◌, ◌≤◌, ◌++◌, List, [], ◌∷◌, length, Option, Some, None, All, refl, ap, sym, subst, ◌∙◌, ⊎_elim, arith}
 use Rattle.std.specs.Prelude.{slice_get, IsSomeAnd}
 use Rattle.std.proofs.lemmas.Bool.{cases_lt}
-use Rattle.std.proofs.Math.Seq.{take-append_seam, get_or-append_seam}
 use Rattle.std.proofs.lemmas.List.Elements.{All-nil, All-cons, All-head, All-tail}
-use Rattle.std.proofs.lemmas.Option.{slice_get-get_or, slice_get_within, slice_get_past}
+use Rattle.std.proofs.lemmas.Option.{slice_get_within, slice_get_past}
 use Rattle.elf_read.specs.Header.{section_count}
 use Rattle.elf_read.specs.declared.object.Object.{Object}
 use Rattle.cfi_aux.specs.declared.modules.Module.{Module}
@@ -12,7 +11,7 @@ use Rattle.cfi_aux.specs.Sound.{IsSoundModule}
 use Rattle.cfi_aux.proofs.JoinedLists.{data_length}
 use Rattle.cfi_commands.specs.Reading.{IsModuleFile, IsFileFault}
 use Rattle.cfi_commands.specs.Modules.{AreModuleFiles, IsFirstBadFile, IsModulesFault}
-use Rattle.cfi_commands.proofs.ModulesLemmas.{same_count}
+use Rattle.cfi_commands.proofs.ModulesLemmas.{at_seam, before_seam, same_count}
 use Rattle.cfi_commands.proofs.ListingLemmas.{short_text}
 use Rattle.cfi_commands.proofs.InstrumentingLemmas.{few_relocs}
 use Rattle.cfi_aux.specs.declared.placed.Placed.{Placed}
@@ -84,19 +83,14 @@ module _ (code_words : ℕ) (done : List Module) (m : Module) (series : Series)
   -- or is the first that does not
   first_refused : (rest : List Module) (fault : JoinFault) → IsJoinFault series.code_words series.placed m fault
       → IsFirstRefused code_words (done ++ m ∷ rest) (length series.placed) fault
-  first_refused rest fault why =
-      let all = done ++ m ∷ rest in
-      record {
-        refused = m;
-        is = slice_get-get_or all (length series.placed) m
-            (omega (arith, order.count, length-append done (m ∷ rest)))
-            ∙ ap (λ (n : ℕ). Some (get_or all n m)) order.count
-            ∙ ap (λ (x : Module). Some x) (get_or-append_seam done m rest m);
-        before = series.placed;
-        order = subst (λ (ms : List Module). AreInOrder code_words ms series.placed)
-            (sym (ap (λ (n : ℕ). take n all) order.count ∙ take-append_seam done (m ∷ rest))) order;
-        why = subst (λ (n : ℕ). IsJoinFault n series.placed m fault) same why;
-      }
+  first_refused rest fault why = record {
+    refused = m;
+    is = at_seam done m rest (length series.placed) order.count;
+    before = series.placed;
+    order = subst (λ (ms : List Module). AreInOrder code_words ms series.placed)
+        (sym (before_seam done m rest (length series.placed) order.count)) order;
+    why = subst (λ (n : ℕ). IsJoinFault n series.placed m fault) same why;
+  }
 
   pub series_fault : (rest : List Module) (fault : JoinFault) → IsJoinFault series.code_words series.placed m fault
       → IsSeriesFault code_words (done ++ m ∷ rest) (fault_at (length series.placed) fault)

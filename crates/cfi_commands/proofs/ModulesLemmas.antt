@@ -12,6 +12,18 @@ use Rattle.cfi_commands.specs.Fault.{IsOfFile}
 use Rattle.cfi_commands.specs.Reading.{IsModuleFile, IsFileFault}
 use Rattle.cfi_commands.specs.Modules.{AreModuleFiles, IsFirstBadFile, IsModulesFault}
 
+-- the item between those before it and those after it
+module _ {X : Type 0} (done : List X) (x : X) (rest : List X) (k : ℕ) (count : k ≡ length done) where
+  pub at_seam : slice_get (done ++ x ∷ rest) k ≡ Some x
+  at_seam =
+      slice_get-get_or (done ++ x ∷ rest) k x (omega (arith, count, length-append done (x ∷ rest)))
+      ∙ ap (λ (n : ℕ). Some (get_or (done ++ x ∷ rest) n x)) count
+      ∙ ap (λ (y : X). Some y) (get_or-append_seam done x rest x)
+
+  -- and those before it
+  pub before_seam : take k (done ++ x ∷ rest) ≡ done
+  before_seam = ap (λ (n : ℕ). take n (done ++ x ∷ rest)) count ∙ take-append_seam done (x ∷ rest)
+
 -- one more file at the end
 pub more_modules : (files : List (List ℕ)) (modules : List Module) (bytes : List ℕ) (m : Module)
     → AreModuleFiles files modules → IsModuleFile bytes m
@@ -43,22 +55,17 @@ module _ (done rest : List (List ℕ)) (bytes : List ℕ) (modules : List Module
   abbrev files : List (List ℕ)
   files = done ++ bytes ∷ rest
 
-  -- the file after those before it, which are modules
-  at_seam : slice_get files (length modules) ≡ Some bytes
-  at_seam =
-      slice_get-get_or files (length modules) bytes
-      (omega (arith, same_count done modules are, length-append done (bytes ∷ rest)))
-      ∙ ap (λ (n : ℕ). Some (get_or files n bytes)) (same_count done modules are)
-      ∙ ap (λ (b : List ℕ). Some b) (get_or-append_seam done bytes rest bytes)
-
-  -- is the first that is no module
+  -- the file after those before it, which are modules, is the first that is no module
   bad_at : (refusal : Refusal) → IsFileFault bytes refusal → IsFirstBadFile files (length modules) refusal
-  bad_at refusal is = record {
-    modules = modules;
-    before = subst (λ (fs : List (List ℕ)). AreModuleFiles fs modules)
-        (sym (ap (λ (n : ℕ). take n files) (same_count done modules are) ∙ take-append_seam done (bytes ∷ rest))) are;
-    here = subst (λ (o : Option (List ℕ)). IsSomeAnd o (λ b. IsFileFault b refusal)) (sym at_seam) is;
-  }
+  bad_at refusal is =
+      let count = same_count done modules are in
+      record {
+        modules = modules;
+        before = subst (λ (fs : List (List ℕ)). AreModuleFiles fs modules)
+            (sym (before_seam done bytes rest (length modules) count)) are;
+        here = subst (λ (o : Option (List ℕ)). IsSomeAnd o (λ b. IsFileFault b refusal))
+            (sym (at_seam done bytes rest (length modules) count)) is;
+      }
 
   pub modules_fault : (fault : CommandFault) → IsOfFile (length modules) (IsFileFault bytes) fault
       → IsModulesFault (done ++ bytes ∷ rest) fault

@@ -38,6 +38,7 @@ fn place_all(alloc: Global, layout: &Layout, modules: Items<Module>) -> Result<S
     let mut series = Series::new(alloc, layout);
     for unplaced in modules.into_vec() {
         if let Err(fault) = series.add(&unplaced) {
+            // A refusal leaves the series as it was: it has the modules before this one.
             return Err(fault_at(series.modules().len(), fault));
         }
     }
