@@ -156,7 +156,7 @@ module _ (c : ℕ) (loads : List Access) (access : Access) where
   }
 
 -- the last try of these loads
-pub last_try : (c : ℕ) (loads : List Access) (slot target bary tary : ℕ) → (was : HasBoth c loads slot target bary tary)
+abbrev pub last_try : (c : ℕ) (loads : List Access) (slot target bary tary : ℕ) → (was : HasBoth c loads slot target bary tary)
     → IsBary c was.first.word → IsTary c was.second.word → IsLastTry c loads was.from was.to
 last_try c loads slot target bary tary was in_bary in_tary = record {
   try = record {
