@@ -1,12 +1,13 @@
 -- Moments of the tables. An entry that tables have had stays, and its words are stored in one order; so two numbers tell
 -- the tables as they were at an earlier moment.
 -- Entries are numbered from 0, and so are loads.
-use Rattle.std.specs.Prelude.{◌≡◌, ◌⊎◌, ℕ, ◌≤◌, ◌<◌, List, length, slice_get, take, Some, None}
+use Rattle.std.specs.Prelude.{◌≡◌, ◌⊎◌, ℕ, ◌-◌, ◌≤◌, ◌<◌, List, length, slice_get, take, Some, None}
 use Rattle.cfi_word.specs.Table.{Place, IsPlace, word_number}
 use Rattle.cfi_model.specs.declared.history.Access.{Access}
 use Rattle.cfi_model.specs.declared.history.Moment.{Moment}
+use Rattle.cfi_model.specs.History.{History}
 use Rattle.cfi_model.specs.Tables.{IsTables}
-use Rattle.cfi_model.specs.Words.{Tables, HasStore, epoch_in_force, policy_in_force, word_at}
+use Rattle.cfi_model.specs.Words.{Tables, HasStore, entry_at, epoch_in_force, policy_in_force, word_at}
 
 -- the tables as they were at a moment
 abbrev pub tables_at : Tables → Moment → Tables
@@ -53,6 +54,12 @@ AreInOrder accesses =
 pub record AreTimed (t : Tables) (accesses : List Access) : Type 0 where
   pub each : (number : ℕ) (access : Access) → slice_get accesses number ≡ Some access → IsTimed t access
   pub order : AreInOrder accesses
+
+-- the history and the code are those of the tables: each epoch has the policy of its entry
+pub record IsOfTables (t : Tables) (h : History) (code : List ℕ) : Type 0 where
+  pub code_words : length code ≡ t.code_words
+  pub first : h.first ≡ t.first
+  pub policy : (epoch : ℕ) → h.policy epoch ≡ (entry_at t (epoch - t.first)).policy
 
 -- an epoch is in force, and its policy with it: that of the word EPOCH
 pub record IsInForce (t : Tables) (epoch policy : ℕ) : Type 0 where

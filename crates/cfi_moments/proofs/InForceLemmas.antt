@@ -12,14 +12,14 @@ use Rattle.cfi_model.specs.Raw.{Raw, raw_opened}
 use Rattle.cfi_model.specs.Run.{Take, Word, Served, take_one, run_of}
 use Rattle.cfi_model.specs.Shows.{Shows, end_of, ends_along, ends_before}
 use Rattle.cfi_model.specs.State.{State, opened}
-use Rattle.cfi_model.specs.TableMoments.{AreTimed}
+use Rattle.cfi_model.specs.TableMoments.{AreTimed, IsOfTables}
 use Rattle.cfi_model.specs.Tables.{IsTables}
 use Rattle.cfi_model.specs.Words.{Tables}
 use Rattle.cfi_model.proofs.EndLemmas.{effect_units, none_ended, one_ended}
 use Rattle.cfi_model.proofs.FixedLemmas.{opened_ready}
 use Rattle.cfi_model.proofs.KeptLemmas.{is_epoch, not_epoch}
 use Rattle.cfi_model.proofs.ShownLemmas.{shows_running, shows_units}
-use Rattle.cfi_moments.specs.Window.{HasRunInForce, IsOfTables, RunInForce}
+use Rattle.cfi_moments.specs.Window.{HasRunInForce, RunInForce}
 use Rattle.cfi_moments.proofs.WalkLemmas.{EndsInForce, IsIn, Runs, Then, load_then, point_stays, running, served_then}
 
 -- what a guest asks for is not EPOCH

@@ -15,7 +15,7 @@ use Rattle.cfi_model.specs.Run.{Take, Word, Served, take_one}
 use Rattle.cfi_model.specs.Service.{Reply}
 use Rattle.cfi_model.specs.Shows.{End, AsksUnder, IsBetween, IsReady, IsTriedIn, LiesIn, end_of}
 use Rattle.cfi_model.specs.State.{State, register, displaced}
-use Rattle.cfi_model.specs.TableMoments.{AreTimed}
+use Rattle.cfi_model.specs.TableMoments.{AreTimed, IsOfTables}
 use Rattle.cfi_model.specs.Tables.{IsTables}
 use Rattle.cfi_model.specs.Words.{Tables}
 use Rattle.cfi_model.proofs.AdvanceLemmas.{Running, at_start, check_ends, check_next, first_access, goes_on, next_access, start_is}
@@ -24,7 +24,7 @@ use Rattle.cfi_model.proofs.CheckWalk.{check_begins}
 use Rattle.cfi_model.proofs.FetchLemmas.{first_place, start_raw}
 use Rattle.cfi_model.proofs.LawLemmas.{At, Begun, Ended as UnitEnded}
 use Rattle.cfi_model.proofs.PlaceLemmas.{idle_lies}
-use Rattle.cfi_moments.specs.Window.{AsksInForce, IsOfTables}
+use Rattle.cfi_moments.specs.Window.{AsksInForce}
 use Rattle.cfi_moments.proofs.CheckTryLemmas.{keeps_both, try_goes_on, waits_for_none}
 use Rattle.cfi_moments.proofs.TryLemmas.{HasBoth, HoldsTry}
 use Rattle.cfi_moments.proofs.WindowLemmas.{window_is}

@@ -9,7 +9,7 @@ use Rattle.cfi_model.specs.Came.{LoadedEnd}
 use Rattle.cfi_model.specs.History.{History, IsEpoch, IsHistory, slot_class, target_class, word_of}
 use Rattle.cfi_model.specs.InForce.{history_of, tary_index}
 use Rattle.cfi_model.specs.Shows.{IsTriedIn}
-use Rattle.cfi_model.specs.TableMoments.{AreTimed, IsBy, IsInForce, IsMoment, IsTimed, tables_at}
+use Rattle.cfi_model.specs.TableMoments.{AreTimed, IsBy, IsInForce, IsMoment, IsOfTables, IsTimed, tables_at}
 use Rattle.cfi_model.specs.Tables.{IsTables}
 use Rattle.cfi_model.specs.Words.{Tables, entry_at, epoch_in_force, policy_in_force, word_at}
 use Rattle.cfi_model.proofs.IdLemmas.{bary_epoch, seen_of, tary_epoch}
@@ -18,7 +18,7 @@ use Rattle.cfi_model.proofs.PhaseLemmas.{same_place}
 use Rattle.cfi_model.proofs.TableLemmas.{force_epoch}
 use Rattle.cfi_model.proofs.TableMomentLemmas.{entry_then, goes_on_at}
 use Rattle.cfi_moments.specs.Force.{AreMoments}
-use Rattle.cfi_moments.specs.Window.{IsOfTables, IsWindow}
+use Rattle.cfi_moments.specs.Window.{IsWindow}
 use Rattle.cfi_moments.proofs.ForceLemmas.{held}
 use Rattle.cfi_moments.proofs.TryLemmas.{HasBoth, in_first, last_try}
 

@@ -1,7 +1,7 @@
 -- The window of a check, and what is in force in it (MCFI, Niu and Tan, PLDI 2014: a check loads the IDs of its branch and
 -- of its target, and tries again where an update came between them).
 -- Loads of a guest are numbered from 0; an address is in bytes.
-use Rattle.std.specs.Prelude.{◌≡◌, ℕ, ◌-◌, true, List, [], ◌∷◌, length, Some, ⊤}
+use Rattle.std.specs.Prelude.{◌≡◌, ℕ, true, List, [], ◌∷◌, Some, ⊤}
 use Rattle.cfi_unit.specs.declared.fill.Fill.{Fill}
 use Rattle.cfi_unit.specs.declared.unit.Unit.{Unit as CodeUnit}
 use Rattle.cfi_unit.specs.declared.unit.Unit.TheVariants as units
@@ -15,10 +15,10 @@ use Rattle.cfi_model.specs.Raw.{Raw, raw_opened}
 use Rattle.cfi_model.specs.Run.{run_of}
 use Rattle.cfi_model.specs.Shows.{IsStep, Shows}
 use Rattle.cfi_model.specs.State.{State, register, displaced}
-use Rattle.cfi_model.specs.TableMoments.{AreTimed, HoldsFrom, IsBy}
+use Rattle.cfi_model.specs.TableMoments.{AreTimed, HoldsFrom, IsBy, IsOfTables}
 use Rattle.cfi_model.specs.Tables.{IsTables}
 use Rattle.cfi_model.specs.Tries.{IsLastTry}
-use Rattle.cfi_model.specs.Words.{Tables, entry_at}
+use Rattle.cfi_model.specs.Words.{Tables}
 
 -- The window of a check from a slot to a target: that of its last try. The words that the check compares are those of
 -- its two loads, and from the moment of the one to the moment of the other the epoch and its policy are in force.
@@ -50,12 +50,6 @@ abbrev pub RunInForce : History → (code : List ℕ) → Tables → List Loaded
 RunInForce h code t [] old new = new ≡ old
 RunInForce h code t (one ∷ later) old new =
     (mid : State) × IsStepInForce h code t one old mid × RunInForce h code t later mid new
-
--- the history is that of the tables: each epoch has the policy of its entry
-pub record IsOfTables (t : Tables) (h : History) (code : List ℕ) : Type 0 where
-  pub code_words : length code ≡ t.code_words
-  pub first : h.first ≡ t.first
-  pub policy : (epoch : ℕ) → h.policy epoch ≡ (entry_at t (epoch - t.first)).policy
 
 -- a guest that began so has run unit by unit, each check under the policy in force in its window
 pub record HasRunInForce (h : History) (code : List ℕ) (t : Tables) (start : Raw) (came : List Came) : Type 0 where
