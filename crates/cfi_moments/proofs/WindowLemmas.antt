@@ -50,10 +50,10 @@ module _ (t : Tables) (is : IsTables t) (h : History) (code : List ℕ) (known :
           let number = force_epoch (tables_at t now) moment.tables in
           let within = force_within (tables_at t now) moment.tables in
           let long = (goes_on_at t now other moment late until).longer in
-          let same = entry_then t other late (epoch - t.first) (omega (arith, number, within, long, holds.0)) in
+          let same = entry_then t other late (epoch - t.first) (omega (arith, number, within, long, holds.epoch_is)) in
           record {
-            epoch_is = holds.0;
-            policy_is = holds.1 ∙ ap (λ e. e.policy) same ∙ sym (of.policy epoch);
+            epoch_is = holds.epoch_is;
+            policy_is = holds.policy_is ∙ ap (λ e. e.policy) same ∙ sym (of.policy epoch);
           }
 
     -- a check that has found both words, of one epoch
