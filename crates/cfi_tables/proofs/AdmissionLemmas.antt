@@ -1,27 +1,30 @@
 -- The test of all QUIET words, one after the other.
-use Rattle.std.proofs.Common.{◌≡◌, inl, inr, ℕ, zero, suc, ◌+◌, ◌-◌, ◌<◌, ◌≤◌, nat_lt, cond, Bool, true, false, List, [], ◌∷◌, ◌++◌, length, length-append, slice_index, refl, sym, ap, subst, ◌∙◌, arith}
-use Rattle.std.proofs.lemmas.Bool.{cases_lt}
-use Rattle.std.proofs.lemmas.List.{get_or_append_left, get_or_push}
+use Rattle.std.proofs.Common.{◌≡◌, ◌≢◌, inl, inr, ℕ, zero, suc, ◌+◌, ◌-◌, ◌<◌, ◌≤◌, nat_lt, cond, Bool, true, false, List, [], ◌∷◌, length, length-set, slice_index, slice_set, refl, sym, ap, subst, ◌∙◌, arith}
+use Rattle.std.proofs.lemmas.Bool.{cases_lt, lt-ltb}
+use Rattle.std.proofs.lemmas.List.{get_or-set_other, get_or-set_same}
+use mathlib.Core.Logic.{dite}
+use native.Mathlib.Decide.{ℕ_discrete}
 use Rattle.atomic_table.specs.Seated.{TableId}
 use Rattle.cfi_word.specs.declared.limits.TheConstants.{GUESTS}
 use Rattle.cfi_model.specs.declared.history.Entry.{Entry}
 use Rattle.cfi_model.specs.Quiet.{admits}
-use Rattle.cfi_tables.specs.Faults.{AdmitBelow, IsFirstBehind, epoch_after, quiet_in}
+use Rattle.cfi_tables.specs.Faults.{AdmitBelow, AreLater, IsFirstBehind, epoch_after, quiet_in}
 use Rattle.cfi_tables.specs.Key.{Key}
 use Rattle.cfi_tables.specs.Keeping.{Keeping, grown_by, refused_by}
 use Rattle.cfi_tables.specs.Views.{idle_view, keeper_of, keeping_of, view_at}
-use Rattle.cfi_tables.specs.inner.Steps.{Seated, loaded_before, tested_by}
+use Rattle.cfi_tables.specs.inner.Steps.{Seated, tested_by}
 use Rattle.cfi_tables.specs.inner.Stores.{HavePassed, IsAt, CanAsk, IsTesting, asked_at, keeping_at, testing}
 use Rattle.cfi_tables.specs.declared.view.View.TheVariants.{Keeper}
 use Rattle.cfi_tables.proofs.WordTestLemmas.{heard, passes_to, fails_to}
 
 -- what was loaded does not matter
 pub ready_before : (k : Key) (keeping : Keeping) (entry : Entry) (quiets : List ℕ) → CanAsk k keeping entry
-    → CanAsk k (record keeping { quiets = quiets }) entry
-ready_before k keeping entry quiets ready = record {
+    → length quiets ≡ GUESTS → CanAsk k (record keeping { quiets = quiets }) entry
+ready_before k keeping entry quiets ready many = record {
   tables = ready.tables;
   follows = ready.follows;
   fits = ready.fits;
+  many = many;
 }
 
 testing_quiets : (k : Key) (keeping : Keeping) (entry : Entry) (tested : ℕ)
@@ -38,36 +41,51 @@ testing_quiets k keeping entry tested = by (nat_lt tested GUESTS)
     by true = asked_quiets tested
     by false = refl
 
--- from the second word on the list goes on
-loaded_is : (tested : ℕ) (quiets : List ℕ) → loaded_before (tested + 1) quiets ≡ quiets
-loaded_is tested quiets = ap (λ n. loaded_before n quiets) suc_is
+-- how many words the test of an update has passed, where it goes on
+testing_tested : (k : Key) (keeping : Keeping) (entry : Entry) (tested : ℕ) → tested < GUESTS
+    → (testing k keeping entry tested).tested ≡ tested
+testing_tested k keeping entry tested few =
+    ap (λ b. (cond b (asked_at k keeping entry tested) (view_at (grown_by entry keeping.quiets keeping) 0)).tested)
+    (lt-ltb _ _ few) ∙ asked_tested tested
   where
-    suc_is : tested + 1 ≡ suc tested
-    suc_is = omega arith
+    asked_tested : (n : ℕ) → (asked_at k keeping entry n).tested ≡ n
+    asked_tested zero = refl
+    asked_tested (suc n) = refl
 
-module _ (k : Key) (keeping : Keeping) (quiets : List ℕ) (tested found : ℕ)
-    (passed : HavePassed k keeping quiets tested) where
+module _ (k : Key) (keeping : Keeping) (quiets : List ℕ) (tested found : ℕ) (few : tested < length quiets)
+    (passed : HavePassed k keeping quiets tested) (up : slice_index quiets tested ≤ found) where
   abbrev all : List ℕ
-  all = loaded_before tested quiets ++ found ∷ []
-
-  all_many : length all ≡ tested + 1
-  all_many = omega (arith, length-append (loaded_before tested quiets) (found ∷ []), passed.many)
+  all = slice_set quiets tested found
 
   word_is : slice_index all tested ≡ found
-  word_is = get_or_push (loaded_before tested quiets) found 0 tested passed.many
+  word_is = get_or-set_same quiets tested found 0 few
+
+  else_is : (other : ℕ) → other ≢ tested → slice_index all other ≡ slice_index quiets other
+  else_is other apart = get_or-set_other quiets tested other found 0 apart
 
   earlier : AdmitBelow k keeping all tested
   earlier other before =
-      ap (λ word. admits k.versions (epoch_after k keeping) (quiet_in word))
-      (get_or_append_left (loaded_before tested quiets) (found ∷ []) 0 other (omega (arith, before, passed.many)))
+      ap (λ word. admits k.versions (epoch_after k keeping) (quiet_in word)) (else_is other (λ e. omega (arith, e, before)))
       ∙ passed.admit other before
+
+  later_words : AreLater keeping.quiets all
+  later_words = record {
+    many = length-set quiets tested found ∙ passed.later.many;
+    least = λ guest. dite (ℕ_discrete guest tested)
+        (λ same. omega (arith, passed.later.least guest, ap (slice_index quiets) same, up, ap (slice_index all) same ∙ word_is))
+        (λ apart. omega (arith, passed.later.least guest, else_is guest apart));
+  }
+
+  rest : (other : ℕ) → tested < other → slice_index all other ≡ slice_index keeping.quiets other
+  rest other past = else_is other (λ e. omega (arith, e, past)) ∙ passed.rest other (omega (arith, past))
 
   -- one QUIET word more has passed
   passed_more : admits k.versions (epoch_after k keeping) (quiet_in found) ≡ true
       → HavePassed k keeping all (tested + 1)
   passed_more ok = record {
-    many = ap length (loaded_is tested all) ∙ all_many;
-    admit = subst (λ l. AdmitBelow k keeping l (tested + 1)) (sym (loaded_is tested all)) admit;
+    admit = admit;
+    later = later_words;
+    rest = λ other past. rest other (omega (arith, past));
   }
     where
       admit : AdmitBelow k keeping all (tested + 1)
@@ -82,9 +100,9 @@ module _ (k : Key) (keeping : Keeping) (quiets : List ℕ) (tested found : ℕ)
   first_is : admits k.versions (epoch_after k keeping) (quiet_in found) ≡ false
       → IsFirstBehind k keeping all tested (found - 1)
   first_is bad = record {
-    many = all_many;
     word = word_is ∙ omega (arith, not_none found bad);
     admit = earlier;
+    rest = rest;
   }
     where
       not_none : (found : ℕ) → admits k.versions (epoch_after k keeping) (quiet_in found) ≡ false → 1 ≤ found
@@ -94,20 +112,34 @@ module _ (k : Key) (keeping : Keeping) (quiets : List ℕ) (tested found : ℕ)
 module _ (table : TableId) (k : Key) (keeping : Keeping) (entry : Entry) (ready : CanAsk k keeping entry)
     (at : TableId) (id : ℕ) (me : Seated) (tested : ℕ) (few : tested < GUESTS)
     (is : IsTesting table k keeping entry at id me tested) (at' : TableId) (id' : ℕ) (new : Seated) (found : ℕ)
-    (at_is : at' ≡ at) (id_is : id' ≡ id) (goes : new ≡ (Keeper (tested_by k entry found (keeper_of me.0)), me.1)) where
+    (at_is : at' ≡ at) (id_is : id' ≡ id) (goes : new ≡ (Keeper (tested_by k entry found (keeper_of me.0)), me.1))
+    (later : slice_index (keeper_of me.0).quiets (keeper_of me.0).tested ≤ found) where
   abbrev quiets : List ℕ
   quiets = (keeping_at me).quiets
 
   abbrev before : Keeping
   before = record keeping { quiets = quiets }
 
+  many : length quiets ≡ GUESTS
+  many = is.passed.later.many ∙ ready.many
+
+  up : slice_index quiets tested ≤ found
+  up =
+      let turn : (keeper_of me.0).tested ≡ tested =
+      ap (λ (z : Seated). (keeper_of z.0).tested) is.seat.me_is ∙ testing_tested k before entry tested few in
+      subst (λ n. slice_index quiets n ≤ found) turn later
+
+  -- the words stay as many, and none is less
+  pub words_later : AreLater keeping.quiets (slice_set quiets tested found)
+  words_later = later_words k keeping quiets tested found (omega (arith, few, many)) is.passed up
+
   -- the test goes on with the next guest
   pub test_goes_on : admits k.versions (epoch_after k keeping) (quiet_in found) ≡ true
       → IsTesting table k keeping entry at' id' new (tested + 1)
   test_goes_on ok =
-      let all = loaded_before tested quiets ++ found ∷ [] in
+      let all = slice_set quiets tested found in
       let next =
-      passes_to k before entry (ready_before k keeping entry quiets ready) tested few me new found is.seat.me_is goes ok in
+      passes_to k before entry (ready_before k keeping entry quiets ready many) tested few me new found is.seat.me_is goes ok in
       let loads : (keeping_at new).quiets ≡ all =
       ap (λ z. (keeping_at z).quiets) next
       ∙ testing_quiets k (heard found tested before) entry (tested + 1) in
@@ -119,7 +151,7 @@ module _ (table : TableId) (k : Key) (keeping : Keeping) (entry : Entry) (ready 
               (sym loads);
         };
         passed = subst (λ l. HavePassed k keeping l (tested + 1)) (sym loads)
-            (passed_more k keeping quiets tested found is.passed ok);
+            (passed_more k keeping quiets tested found (omega (arith, few, many)) is.passed up ok);
       }
 
   -- or ends
@@ -133,9 +165,9 @@ module _ (table : TableId) (k : Key) (keeping : Keeping) (entry : Entry) (ready 
       }) (keeping_at new).quiets keeping))
       × IsFirstBehind k keeping (keeping_at new).quiets tested (found - 1)
   test_fails spent_mark mark_is bad =
-      let all = loaded_before tested quiets ++ found ∷ [] in
+      let all = slice_set quiets tested found in
       let next =
-      fails_to k before entry (ready_before k keeping entry quiets ready) tested few me new found is.seat.me_is goes bad in
+      fails_to k before entry (ready_before k keeping entry quiets ready many) tested few me new found is.seat.me_is goes bad in
       let loads : (keeping_at new).quiets ≡ all = ap (λ z. (keeping_at z).quiets) next in (
         record {
           table_is = at_is ∙ is.seat.table_is;
@@ -151,5 +183,5 @@ module _ (table : TableId) (k : Key) (keeping : Keeping) (entry : Entry) (ready 
           )) (λ j. (sym mark_is j, sym loads j));
         },
         subst (λ l. IsFirstBehind k keeping l tested (found - 1)) (sym loads)
-            (first_is k keeping quiets tested found is.passed bad),
+            (first_is k keeping quiets tested found (omega (arith, few, many)) is.passed up bad),
       )

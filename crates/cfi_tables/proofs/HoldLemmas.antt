@@ -1,6 +1,6 @@
 -- The steps by which the keeper holds a pass, and lets go of it.
 use Rattle.std.proofs.lemmas.Bool.{lt-ltb}
-use Rattle.std.proofs.Common.{◌≡◌, ◌≢◌, inl, inr, ℕ, ◌+◌, ◌-◌, ◌<◌, Bool, true, false, List, [], length, length-set, slice_index, slice_set, Option, Some, None, refl, sym, ap, subst, ◌∙◌, arith, cond}
+use Rattle.std.proofs.Common.{◌≡◌, ◌≢◌, inl, inr, ℕ, ◌+◌, ◌-◌, ◌<◌, ◌≤◌, Bool, true, false, List, [], length, length-set, slice_index, slice_set, Option, Some, None, refl, sym, ap, subst, ◌∙◌, arith, cond}
 use Rattle.std.proofs.lemmas.List.{get_or-set_other, get_or-set_same, set-get_or}
 use mathlib.Core.Logic.{dite}
 use mathlib.Core.Option.{none}
@@ -19,7 +19,7 @@ use Rattle.cfi_tables.specs.Key.{Key}
 use Rattle.cfi_tables.specs.Keeping.{is_out}
 use Rattle.cfi_tables.specs.Rule.{AgreesWith, HeldFits, IsElse, IsHeldOut, KeepsRule, IsRegistered, IsSeen, ShowQuiets, ShowTables, TellsForce, CodeFits}
 use Rattle.cfi_tables.specs.Views.{admitted, held_by, keeper_of, keeping_of, last_moment, noted, sight_of, tables_of}
-use Rattle.cfi_tables.specs.inner.Steps.{Clears, Registers, Seated, Tells, cleared, registered, told}
+use Rattle.cfi_tables.specs.inner.Steps.{Clears, IsHeard, Registers, Seated, Tells, cleared, registered, told}
 use Rattle.cfi_tables.specs.declared.view.KeeperView.{KeeperView}
 use Rattle.cfi_tables.specs.declared.view.PassView.{PassView}
 use Rattle.cfi_tables.specs.declared.view.View.TheVariants.{Keeper}
@@ -41,10 +41,11 @@ out_else : (out : List Bool) (guest other : ℕ) (b : Bool) → other ≢ guest
     → is_out (slice_set out guest b) other ≡ is_out out other
 out_else out guest other b apart = get_or-set_other out guest other b false apart
 
--- what is known of a pass does not lie in who is out, nor in which pass is held
-pub registered_same : (k : Key) (u : KeeperView) (out : List Bool) (held : Option PassView) (p : PassView)
-    → IsRegistered k u p → is_out out p.guest ≡ true → IsRegistered k (record u { out = out; held = held }) p
-registered_same k u out held p r is = record {
+-- what is known of a pass does not lie in who is out, nor in the QUIET words, nor in which pass is held
+pub registered_same : (k : Key) (u : KeeperView) (out : List Bool) (quiets : List ℕ) (held : Option PassView) (p : PassView)
+    → IsRegistered k u p → is_out out p.guest ≡ true
+    → IsRegistered k (record u { out = out; quiets = quiets; held = held }) p
+registered_same k u out quiets held p r is = record {
   seen = record {
     agrees = r.seen.agrees;
     on = record { had = r.seen.on.had; now = r.seen.on.now; loads = r.seen.on.loads };
@@ -99,9 +100,25 @@ all_seen k u is idle accesses p same seen = subst (λ l. IsSeen k u (sight_of k 
 quiets_set : (k : Key) (words : List ℕ) (u : KeeperView) (guest word : ℕ) (b : Bool) (held : Option PassView)
     → guest < GUESTS → length words ≡ word_count k.code_words → ShowQuiets k words u → (b ≡ false → word ≡ 0)
     → TellsForce k u word
-    → ShowQuiets k (slice_set words (quiet_word guest) word) (record u { out = slice_set u.out guest b; held = held })
+    → ShowQuiets k (slice_set words (quiet_word guest) word)
+    (record u { out = slice_set u.out guest b; quiets = slice_set u.quiets guest word; held = held })
 quiets_set k words u guest word b held few many quiets zeroth tells = record {
   out_many = length-set u.out guest b ∙ quiets.out_many;
+  quiets_many = length-set u.quiets guest word ∙ quiets.quiets_many;
+  later = λ other inside. dite (ℕ_discrete other guest)
+      (λ same. omega (
+        arith,
+        ap (slice_index (slice_set u.quiets guest word)) same
+            ∙ get_or-set_same u.quiets guest word 0 (omega (arith, few, quiets.quiets_many)),
+        ap (λ g. slice_index (slice_set words (quiet_word guest) word) (quiet_word g)) same
+            ∙ quiet_here k words u guest word few many,
+      ))
+      (λ apart. omega (
+        arith,
+        get_or-set_other u.quiets guest other word 0 apart,
+        quiet_else k words u guest word few many other apart,
+        quiets.later other inside,
+      ));
   away = λ other inside free. dite (ℕ_discrete other guest)
       (λ same. ap (λ g. slice_index (slice_set words (quiet_word guest) word) (quiet_word g)) same
       ∙ (quiet_here k words u guest word few many
@@ -168,16 +185,19 @@ module _ (k : Key) (words : List ℕ) (u : KeeperView) (is : IsTables (tables_of
       many = length-set words (quiet_word guest) word ∙ many;
       shows = quiet_shows k words u guest word few many shows;
       code = quiet_code k words u guest word few many code;
-      quiets = quiets_set k words u guest word true (Some pass) few many quiets (λ e. absurd (cc)) (inr (
-        omega (arith, word_is, is.some),
-        omega (arith, word_is, is.some, force_is k u is idle),
-      ));
+      quiets = subst (λ w. ShowQuiets k after
+          (record u { out = slice_set u.out guest true; quiets = slice_set u.quiets guest w; held = Some pass })) word_is
+          (quiets_set k words u guest word true (Some pass) few many quiets (λ e. absurd (cc)) (inr (
+            omega (arith, word_is, is.some),
+            omega (arith, word_is, is.some, force_is k u is idle),
+          )));
       held = record {
         registered = pass_registered;
         published = quiet_here k words u guest word few many ∙ omega (arith, word_is, is.some);
       };
       each = λ p o. (let apart = others_apart p o.registered in record {
-        registered = registered_same k u (slice_set u.out guest true) (Some pass) p o.registered
+        registered = registered_same k u (slice_set u.out guest true) (slice_set u.quiets guest (k.first + length u.entries))
+            (Some pass) p o.registered
             (out_else u.out guest p.guest true apart ∙ o.registered.out);
         published = quiet_else k words u guest word few many p.guest apart ∙ o.published;
         apart = λ e. apart (sym e);
@@ -189,6 +209,10 @@ module _ (k : Key) (words : List ℕ) (u : KeeperView) (is : IsTables (tables_of
   module _ (p : PassView) (held : IsHeldOut k words u p) (is_held : u.held ≡ Some p) where
     apart_of : (guest : ℕ) → IsElse u.held guest → p.guest ≢ guest
     apart_of guest else = subst (λ h. IsElse h guest) is_held else
+
+    -- what was found of its guest is not above what this has published
+    pub heard : slice_index u.quiets p.guest ≤ p.quiet + 1
+    heard = omega (arith, quiets.later p.guest held.registered.within, held.published)
 
     -- it is told all
     told_registered : IsRegistered k (record u { held = Some (noted k (keeping_of u) p) }) (noted k (keeping_of u) p)
@@ -219,10 +243,16 @@ module _ (k : Key) (words : List ℕ) (u : KeeperView) (is : IsTables (tables_of
       many = many;
       shows = shows;
       code = code;
-      quiets = record { out_many = quiets.out_many; away = quiets.away; tells = quiets.tells };
+      quiets = record {
+        out_many = quiets.out_many;
+        quiets_many = quiets.quiets_many;
+        later = quiets.later;
+        away = quiets.away;
+        tells = quiets.tells;
+      };
       held = record { registered = told_registered; published = held.published };
       each = λ q o. record {
-        registered = registered_same k u u.out (Some (noted k (keeping_of u) p)) q o.registered o.registered.out;
+        registered = registered_same k u u.out u.quiets (Some (noted k (keeping_of u) p)) q o.registered o.registered.out;
         published = o.published;
         apart = apart_of q.guest o.apart;
       };
@@ -230,7 +260,7 @@ module _ (k : Key) (words : List ℕ) (u : KeeperView) (is : IsTables (tables_of
 
     -- it is let go
     pub clear_next : IsNext k words u (slice_set words (quiet_word p.guest) 0)
-        (record u { out = slice_set u.out p.guest false; held = None })
+        (record u { out = slice_set u.out p.guest false; quiets = slice_set u.quiets p.guest 0; held = None })
     clear_next =
         let few = held.registered.within in
         record {
@@ -241,7 +271,8 @@ module _ (k : Key) (words : List ℕ) (u : KeeperView) (is : IsTables (tables_of
           quiets = quiets_set k words u p.guest 0 false None few many quiets (λ e. refl) (inl refl);
           held = tt;
           each = λ q o. (let apart : q.guest ≢ p.guest = λ e. apart_of q.guest o.apart (sym e) in record {
-            registered = registered_same k u (slice_set u.out p.guest false) None q o.registered
+            registered = registered_same k u (slice_set u.out p.guest false) (slice_set u.quiets p.guest 0) None q
+                o.registered
                 (out_else u.out p.guest q.guest false apart ∙ o.registered.out);
             published = quiet_else k words u p.guest 0 few many q.guest apart ∙ o.published;
             apart = tt;
@@ -299,6 +330,10 @@ tell_allowed k key slots id me u p same zeroth is idle is_held =
             (held_by (keeper_of z.0).held).sight) (sym is)
             (subst (λ h. AgreesWith k u.entries u.refusals (held_by h).sight) (sym is_held)
             held.registered.seen.agrees);
+        heard = subst (λ (z : Seated). IsHeard (keeper_of z.0)) (sym is)
+            (subst (λ h. slice_index u.quiets (held_by h).guest ≤ (held_by h).quiet + 1) (sym is_held)
+            (heard k s.words u (subst (λ v. IsTables (tables_of k v)) e r.tables) r.many
+            (subst (ShowTables k s.words) e r.shows) (subst (ShowQuiets k s.words) e r.quiets) r.code idle p held is_held));
       },
     )))
 
@@ -317,12 +352,20 @@ clear_allowed k key slots id i me u p same zeroth is idle is_held word_at =
       cleared u,
       subst (λ v. IsNext k s.words v (slice_set s.words (quiet_word p.guest) 0) (cleared u)) (sym e)
           (subst (λ h. IsNext k s.words u (slice_set s.words (quiet_word p.guest) 0)
-          (record u { out = slice_set u.out (held_by h).guest false; held = None })) (sym is_held) next),
+          (record u {
+            out = slice_set u.out (held_by h).guest false;
+            quiets = slice_set u.quiets (held_by h).guest 0;
+            held = None;
+          })) (sym is_held) next),
       record {
         is = sym (ap (λ (z : Seated). (Keeper (cleared (keeper_of z.0)), z.1)) is);
         agrees = subst (λ (z : Seated). AgreesWith k (keeper_of z.0).entries (keeper_of z.0).refusals
             (held_by (keeper_of z.0).held).sight) (sym is)
             (subst (λ h. AgreesWith k u.entries u.refusals (held_by h).sight) (sym is_held)
             held.registered.seen.agrees);
+        heard = subst (λ (z : Seated). IsHeard (keeper_of z.0)) (sym is)
+            (subst (λ h. slice_index u.quiets (held_by h).guest ≤ (held_by h).quiet + 1) (sym is_held)
+            (heard k s.words u (subst (λ v. IsTables (tables_of k v)) e r.tables) r.many
+            (subst (ShowTables k s.words) e r.shows) (subst (ShowQuiets k s.words) e r.quiets) r.code idle p held is_held));
       },
     ))))

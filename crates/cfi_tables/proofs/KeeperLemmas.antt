@@ -1,7 +1,7 @@
 -- A keeper after an update.
 use Rattle.std.proofs.Common.{◌≡◌, ◌≢◌, ℕ, ◌+◌, ◌<◌, List, [], ◌∷◌, length, length-append, refl, sym, ap, subst, ◌∙◌, arith}
 use Rattle.atomic_table.specs.Seated.{TableId}
-use Rattle.cfi_word.specs.declared.limits.TheConstants.{MAX_EPOCH}
+use Rattle.cfi_word.specs.declared.limits.TheConstants.{GUESTS, MAX_EPOCH}
 use Rattle.cfi_model.specs.declared.history.Entry.{Entry}
 use Rattle.cfi_model.specs.Tables.{IsTables, IsUpdate}
 use Rattle.cfi_tables.specs.Key.{Key}
@@ -40,7 +40,8 @@ grown_are k keeping entry quiets is follows left =
 
 module _ (table : TableId) (k : Key) (at : TableId) (id : ℕ) (me : Seated) (a : Beside)
     (is : IsKeeper table k at id me a) (left : a.epoch ≢ MAX_EPOCH) (entry : Entry)
-    (follows : IsUpdate k.code_words (last_of (keeping_at me).entries) entry) (quiets : List ℕ) where
+    (follows : IsUpdate k.code_words (last_of (keeping_at me).entries) entry) (quiets : List ℕ)
+    (quiets_many : length quiets ≡ GUESTS) where
   abbrev all : Keeping
   all = grown_by entry quiets (keeping_at me)
 
@@ -64,5 +65,6 @@ module _ (table : TableId) (k : Key) (at : TableId) (id : ℕ) (me : Seated) (a 
             (grown_are k (keeping_at me) entry quiets is.tables follows
             (omega (arith, is.epoch_is, left, is.tables.epochs_fit)));
         out_is = is.out_is ∙ ap (λ (z : Keeping). z.out) same;
-        out_many = subst (λ (z : Keeping). length z.out ≡ 16) same is.out_many;
+        out_many = subst (λ (z : Keeping). length z.out ≡ GUESTS) same is.out_many;
+        quiets_many = subst (λ (z : Keeping). length z.quiets ≡ GUESTS) same quiets_many;
       }

@@ -124,6 +124,10 @@ module _ (k : Key) (is : IsTables (idle_tables k (opened_keeping k)))
   quiets : ShowQuiets k (opened_words stamp k.image) u
   quiets = record {
     out_many = length-replicate GUESTS false;
+    quiets_many = length-replicate {A = ℕ} GUESTS 0;
+    later = λ guest few.
+        (let none : slice_index (replicate GUESTS 0) guest ≡ 0 = get_or-replicate GUESTS guest 0 0 few in
+        omega (arith, none));
     away = λ guest few free. quiet_is stamp k.image k.code_words classes guest few;
     tells = λ guest few. inl (quiet_is stamp k.image k.code_words classes guest few);
   }

@@ -1,5 +1,5 @@
 -- A pass's loads and its store keep the rule.
-use Rattle.std.proofs.Common.{◌≡◌, ◌≢◌, inr, ℕ, ◌+◌, ◌<◌, Bool, true, false, List, [], length, length-set, slice_index, slice_set, None, refl, sym, ap, subst, ◌∙◌, arith, ◌^◌}
+use Rattle.std.proofs.Common.{◌≡◌, ◌≢◌, inr, ℕ, ◌+◌, ◌<◌, ◌≤◌, Bool, true, false, List, [], length, length-set, slice_index, slice_set, None, refl, sym, ap, subst, ◌∙◌, arith, ◌^◌}
 use Rattle.std.proofs.lemmas.List.{get_or-set_other, get_or-set_same}
 use mathlib.Core.Logic.{dite}
 use mathlib.Core.Option.{none}
@@ -101,9 +101,20 @@ module _ (k : Key) (words : List ℕ) (u : KeeperView) (guest word : ℕ) (few :
       (code index inside)
 
   -- and the other QUIET words
-  pub quiet_quiets : is_out u.out guest ≡ true → TellsForce k u word → ShowQuiets k words u → ShowQuiets k after u
-  quiet_quiets out tells quiets = record {
+  pub quiet_quiets : is_out u.out guest ≡ true → TellsForce k u word → slice_index words (quiet_word guest) ≤ word
+      → ShowQuiets k words u → ShowQuiets k after u
+  quiet_quiets out tells up quiets = record {
     out_many = quiets.out_many;
+    quiets_many = quiets.quiets_many;
+    later = λ other inside. dite (ℕ_discrete other guest)
+        (λ same. omega (
+          arith,
+          ap (slice_index u.quiets) same,
+          quiets.later guest few,
+          up,
+          ap (λ g. slice_index after (quiet_word g)) same ∙ quiet_here,
+        ))
+        (λ apart. omega (arith, quiets.later other inside, quiet_else other apart));
     away = λ other inside free. dite (ℕ_discrete other guest)
         (λ same. absurd (no_both (is_out u.out other) free (ap (is_out u.out) same ∙ out)))
         (λ apart. quiet_else other apart ∙ quiets.away other inside free);
@@ -132,7 +143,8 @@ publish_moves k slots id i word p word_is bare new s r _ there _ =
       registered = published_registered k u p registered bare;
       many = length-set s.words (quiet_word p.guest) word ∙ r.many;
       shows = quiet_shows k s.words u p.guest word few r.many r.shows;
-      quiets = quiet_quiets k s.words u p.guest word few r.many registered.out tells r.quiets;
+      quiets = quiet_quiets k s.words u p.guest word few r.many registered.out tells
+          (omega (arith, new, r.published id p there, registered.published)) r.quiets;
       code = quiet_code k s.words u p.guest word few r.many r.code;
       published = quiet_here k s.words u p.guest word few r.many ∙ new;
       others = λ guest inside apart. quiet_else k s.words u p.guest word few r.many guest apart;

@@ -28,16 +28,22 @@ leave_at k u p is_held s r at =
     (λ guest else. subst (λ h. IsElse h guest) (ap (λ z. z.held) e ∙ is_held) else) in
     let new : KeeperView = record v { held = None } in
     let kept = keeper_changes k s r s.words new r.tables r.many r.shows
-    (record { out_many = r.quiets.out_many; away = r.quiets.away; tells = r.quiets.tells }) r.code tt
+    (record {
+      out_many = r.quiets.out_many;
+      quiets_many = r.quiets.quiets_many;
+      later = r.quiets.later;
+      away = r.quiets.away;
+      tells = r.quiets.tells;
+    }) r.code tt
     (λ seat q there o. record {
-      registered = registered_same k v v.out None q o.registered o.registered.out;
+      registered = registered_same k v v.out v.quiets None q o.registered o.registered.out;
       published = o.published;
       apart = tt;
     }) in
     subst (λ z. KeepsRule k (with s s.words (slice_set s.views 0 (Keeper (record z { held = None })) ++ Pass p ∷ []))) e
     (pass_comes k (with s s.words (slice_set s.views 0 (Keeper new))) kept p
     (record {
-      registered = registered_same k v v.out None p fits.registered fits.registered.out;
+      registered = registered_same k v v.out v.quiets None p fits.registered fits.registered.out;
       published = fits.published;
       apart = tt;
     })
@@ -85,13 +91,19 @@ return_at k u other p free s r at apart there =
     let was : (seat : ℕ) (q : PassView) → get_elem? (slice_set s.views other Spent) seat ≡ some (Pass q)
     → get_elem? s.views seat ≡ some (Pass q) = λ seat q z. old_pass s.views other seat Spent q spent_is_no_pass z in
     let kept = keeper_changes k spent left s.words new r.tables r.many r.shows
-    (record { out_many = r.quiets.out_many; away = r.quiets.away; tells = r.quiets.tells }) r.code
     (record {
-      registered = registered_same k v v.out (Some p) p registered registered.out;
+      out_many = r.quiets.out_many;
+      quiets_many = r.quiets.quiets_many;
+      later = r.quiets.later;
+      away = r.quiets.away;
+      tells = r.quiets.tells;
+    }) r.code
+    (record {
+      registered = registered_same k v v.out v.quiets (Some p) p registered registered.out;
       published = r.published other p here;
     })
     (λ seat q at_seat o. record {
-      registered = registered_same k v v.out (Some p) q o.registered o.registered.out;
+      registered = registered_same k v v.out v.quiets (Some p) q o.registered o.registered.out;
       published = o.published;
       apart = λ same. not_spent seat q at_seat (r.alone seat other q p (was seat q at_seat) here (sym same));
     }) in

@@ -53,11 +53,14 @@ module _ (k : Key) (old new : KeeperView) (later : IsLater k old new) where
   tells_stays word (inr tells) = inr (tells.0, omega (arith, tells.1, rises k old new later))
 
   -- where no QUIET word and no pass changes
-  pub quiets_stay : (before words : List ℕ) → new.out ≡ old.out
+  pub quiets_stay : (before words : List ℕ) → new.out ≡ old.out → length new.quiets ≡ GUESTS
+      → ((guest : ℕ) → guest < GUESTS → slice_index new.quiets guest ≤ slice_index before (quiet_word guest))
       → ((guest : ℕ) → guest < GUESTS → slice_index words (quiet_word guest) ≡ slice_index before (quiet_word guest))
       → ShowQuiets k before old → ShowQuiets k words new
-  quiets_stay before words out same quiets = record {
+  quiets_stay before words out many least same quiets = record {
     out_many = ap length out ∙ quiets.out_many;
+    quiets_many = many;
+    later = λ guest few. omega (arith, least guest few, same guest few);
     away = λ guest few free. same guest few ∙ quiets.away guest few (ap (λ l. is_out l guest) (sym out) ∙ free);
     tells = λ guest few.
         subst (TellsForce k new) (sym (same guest few)) (tells_stays _ (quiets.tells guest few));
@@ -126,7 +129,7 @@ store_next k words u is many shows quiets idle free place at has least skipped w
       tables = next_is;
       many = length-set words (word_number c place) word ∙ many;
       shows = store_shows k u place at has least skipped words word many shows new;
-      quiets = quiets_stay k u (stored_to n u) later words after refl same quiets;
+      quiets = quiets_stay k u (stored_to n u) later words after refl quiets.quiets_many quiets.later same quiets;
       code = code_set k words place word at many code small;
       held = subst (HeldFits k after (stored_to n u)) (sym free) tt;
       each = out_stays k u (stored_to n u) later words after refl free same

@@ -1,9 +1,11 @@
 -- A test of a QUIET word keeps the rule.
-use Rattle.std.proofs.Common.{◌≡◌, ◌≢◌, inl, inr, ℕ, zero, suc, ◌+◌, ◌-◌, ◌<◌, ◌≤◌, nat_lt, nat_le, cond, Bool, true, false, List, [], ◌∷◌, length, length-append, slice_index, slice_set, Some, None, refl, sym, ap, subst, ◌∙◌, arith}
+use Rattle.std.proofs.Common.{◌≡◌, ◌≢◌, inl, inr, ℕ, zero, suc, ◌+◌, ◌-◌, ◌<◌, ◌≤◌, nat_lt, nat_le, cond, Bool, true, false, List, [], ◌∷◌, length, length-append, length-set, slice_index, slice_set, Some, None, refl, sym, ap, subst, ◌∙◌, arith}
 use Rattle.std.proofs.lemmas.Bool.{cases_lt}
 use Rattle.std.proofs.lemmas.Bool.Decides.{nat_tests}
-use Rattle.std.proofs.lemmas.List.{set-get_or}
+use Rattle.std.proofs.lemmas.List.{get_or-set_other, get_or-set_same, set-get_or}
+use mathlib.Core.Logic.{dite}
 use mathlib.Core.Option.{none}
+use native.Mathlib.Decide.{ℕ_discrete}
 use Rattle.atomic_table.specs.Table.{Allows, step}
 use Rattle.cfi_word.specs.declared.limits.TheConstants.{GUESTS, MAX_EPOCH}
 use Rattle.cfi_word.specs.Rank.{stores_of}
@@ -52,6 +54,23 @@ module _ (k : Key) (words : List ℕ) (u : KeeperView) (is : IsTables (tables_of
   abbrev with_found : KeeperView
   with_found = loaded found u
 
+  loaded_many : length with_found.quiets ≡ GUESTS
+  loaded_many = length-set u.quiets u.tested found ∙ quiets.quiets_many
+
+  loaded_least : (guest : ℕ) → guest < GUESTS → slice_index with_found.quiets guest ≤ slice_index words (quiet_word guest)
+  loaded_least guest inside = dite (ℕ_discrete guest u.tested)
+      (λ same. omega (
+        arith,
+        ap (slice_index with_found.quiets) same
+            ∙ get_or-set_same u.quiets u.tested found 0 (omega (arith, few, quiets.quiets_many)),
+        ap (λ g. slice_index words (quiet_word g)) same,
+      ))
+      (λ apart. omega (
+        arith,
+        get_or-set_other u.quiets u.tested guest found 0 apart,
+        quiets.later guest inside,
+      ))
+
   same_words : (guest : ℕ) → guest < GUESTS
       → slice_index words (quiet_word guest) ≡ slice_index words (quiet_word guest)
   same_words guest inside = refl
@@ -86,7 +105,7 @@ module _ (k : Key) (words : List ℕ) (u : KeeperView) (is : IsTables (tables_of
         tables = next;
         many = many;
         shows = shows;
-        quiets = quiets_stay k u new later words words refl same_words quiets;
+        quiets = quiets_stay k u new later words words refl loaded_many loaded_least same_words quiets;
         code = code;
         held = subst (HeldFits k words new) (sym free) tt;
         each = out_stays k u new later words words refl free same_words (λ p r published. record {
@@ -115,7 +134,7 @@ module _ (k : Key) (words : List ℕ) (u : KeeperView) (is : IsTables (tables_of
         tables = next;
         many = many;
         shows = grown_shows k u entry words idle is.some shows;
-        quiets = quiets_stay k u new later words words refl same_words quiets;
+        quiets = quiets_stay k u new later words words refl loaded_many loaded_least same_words quiets;
         code = code;
         held = subst (HeldFits k words new) (sym free) tt;
         each = out_stays k u new later words words refl free same_words (λ p r published. record {
@@ -151,7 +170,7 @@ module _ (k : Key) (words : List ℕ) (u : KeeperView) (is : IsTables (tables_of
         tables = next;
         many = many;
         shows = shows;
-        quiets = quiets_stay k u new later words words refl same_words quiets;
+        quiets = quiets_stay k u new later words words refl loaded_many loaded_least same_words quiets;
         code = code;
         held = subst (HeldFits k words new) (sym free) tt;
         each = out_stays k u new later words words refl free same_words (λ p r published. record {
@@ -205,5 +224,7 @@ test_allowed k key slots id i me u entry same zeroth is idle free few follows fi
             out = subst (λ (z : Seated). found ≢ 0 → is_out (keeper_of z.0).out (keeper_of z.0).tested ≡ true) (sym is)
                 (found_out k s.words u tables r.many shows quiets r.code idle free few entry follows fits);
             tells = subst (λ (z : Seated). TellsForce k (keeper_of z.0) found) (sym is) (quiets.tells u.tested few);
+            later = subst (λ (z : Seated). slice_index (keeper_of z.0).quiets (keeper_of z.0).tested ≤ found) (sym is)
+                (quiets.later u.tested few);
           },
         )

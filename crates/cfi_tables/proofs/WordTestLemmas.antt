@@ -1,5 +1,5 @@
 -- The test of one QUIET word: the step may be made, and the word passes or does not.
-use Rattle.std.proofs.Common.{◌≡◌, ℕ, zero, suc, ◌+◌, ◌-◌, ◌<◌, ◌≤◌, nat_lt, cond, true, false, List, [], ◌∷◌, ◌++◌, length, Some, None, refl, sym, ap, subst, ◌∙◌, arith}
+use Rattle.std.proofs.Common.{◌≡◌, ℕ, zero, suc, ◌+◌, ◌-◌, ◌<◌, ◌≤◌, nat_lt, cond, true, false, List, [], ◌∷◌, length, slice_set, Some, None, refl, sym, ap, subst, ◌∙◌, arith}
 use Rattle.std.proofs.lemmas.Bool.{lt-ltb}
 use mathlib.Core.Option.{none}
 use Rattle.atomic_table.specs.Table.{Allows, step}
@@ -16,7 +16,7 @@ use Rattle.cfi_tables.specs.Key.{Key}
 use Rattle.cfi_tables.specs.Keeping.{Keeping, grown_by, last_of, refused_by}
 use Rattle.cfi_tables.specs.Rule.{KeepsRule}
 use Rattle.cfi_tables.specs.Views.{idle_tables, idle_view, keeper_of, keeping_of, tables_of, view_at}
-use Rattle.cfi_tables.specs.inner.Steps.{Seated, Tests, grown, is_passed, loaded, loaded_before, test_passed, test_refusal, refused, tested_by}
+use Rattle.cfi_tables.specs.inner.Steps.{Seated, Tests, grown, is_passed, loaded, test_passed, test_refusal, refused, tested_by}
 use Rattle.cfi_tables.specs.inner.Stores.{CanAsk, asked_at, testing}
 use Rattle.cfi_tables.specs.declared.view.KeeperView.{KeeperView}
 use Rattle.cfi_tables.specs.declared.view.View.TheVariants.{Keeper}
@@ -24,7 +24,7 @@ use Rattle.cfi_tables.proofs.TestLemmas.{test_allowed}
 
 -- what the keeper keeps after the load of one QUIET word more
 abbrev pub heard : (word tested : ℕ) → Keeping → Keeping
-heard word tested keeping = record keeping { quiets = loaded_before tested keeping.quiets ++ word ∷ [] }
+heard word tested keeping = record keeping { quiets = slice_set keeping.quiets tested word }
 
 module _ (k : Key) (keeping : Keeping) (entry : Entry) where
   -- a view of the test is the idle one, but for the update and the count

@@ -28,11 +28,16 @@ pub record AllAdmit (k : Key) (keeping : Keeping) (quiets : List ℕ) : Type 0 w
   pub many : length quiets ≡ GUESTS
   pub admit : AdmitBelow k keeping quiets GUESTS
 
--- the last one that was loaded is the first that does not, and tells this epoch
+-- that of this guest is the first that does not, and tells this epoch; those of later ones were not loaded
 pub record IsFirstBehind (k : Key) (keeping : Keeping) (quiets : List ℕ) (guest quiet : ℕ) : Type 0 where
-  pub many : length quiets ≡ guest + 1
   pub word : slice_index quiets guest ≡ quiet + 1
   pub admit : AdmitBelow k keeping quiets guest
+  pub rest : (other : ℕ) → guest < other → slice_index quiets other ≡ slice_index keeping.quiets other
+
+-- no word is less than it was when the keeper stored or loaded it before: a guest never publishes an earlier epoch
+pub record AreLater (old new : List ℕ) : Type 0 where
+  pub many : length new ≡ length old
+  pub least : (guest : ℕ) → slice_index old guest ≤ slice_index new guest
 
 -- a guest whose pass is out has published this epoch, which is or was in force, and it is too far behind
 pub record IsFarBehind (k : Key) (keeping : Keeping) (guest quiet : ℕ) : Type 0 where

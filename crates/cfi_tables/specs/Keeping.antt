@@ -1,6 +1,6 @@
--- What the keeper keeps: an entry for each epoch from the first on, the updates that were not admitted, for each guest
--- number whether its pass is out, and the QUIET words that the last update has loaded.
-use Rattle.std.specs.Prelude.{◌≡◌, ℕ, ◌-◌, ◌<◌, List, Bool, true, false, [], ◌∷◌, ◌++◌, length, replicate, slice_index_or, slice_set}
+-- What the keeper keeps: an entry for each epoch from the first on, the updates that were not admitted, and for each
+-- guest number whether its pass is out, and its QUIET word as the keeper has last stored or loaded it.
+use Rattle.std.specs.Prelude.{◌≡◌, ℕ, ◌+◌, ◌-◌, ◌<◌, List, Bool, true, false, [], ◌∷◌, ◌++◌, length, replicate, slice_index_or, slice_set}
 use Rattle.cfi_word.specs.declared.limits.TheConstants.{GUESTS}
 use Rattle.cfi_word.specs.declared.lists.Image.{Image}
 use Rattle.cfi_model.specs.declared.history.Entry.{Entry}
@@ -24,7 +24,7 @@ opened_keeping k = record {
   entries = opened_entries k;
   refusals = [];
   out = replicate GUESTS false;
-  quiets = [];
+  quiets = replicate GUESTS 0;
 }
 
 -- the last entry
@@ -35,7 +35,7 @@ last_of entries = slice_index_or entries (length entries - 1) no_entry
 abbrev pub entry_by : (policy : ℕ) → Image → (mark : ℕ) → Entry
 entry_by policy image mark = record { policy = policy; image = image; mark = mark }
 
--- an update that has loaded these QUIET words adds one entry, or one refusal
+-- an update after which these QUIET words are known adds one entry, or one refusal
 abbrev pub grown_by : Entry → (quiets : List ℕ) → Keeping → Keeping
 grown_by entry quiets keeping = record keeping { entries = keeping.entries ++ entry ∷ []; quiets = quiets }
 
@@ -52,12 +52,18 @@ pub record IsFree (out : List Bool) (guest : ℕ) : Type 0 where
   pub free : is_out out guest ≡ false
   pub least : (other : ℕ) → other < guest → is_out out other ≡ true
 
--- a pass goes out, or comes back
-abbrev pub let_out : (guest : ℕ) → Keeping → Keeping
-let_out guest keeping = record keeping { out = slice_set keeping.out guest true }
+-- a pass goes out, whose guest has published the epoch in force, or comes back
+abbrev pub let_out : Key → (guest : ℕ) → Keeping → Keeping
+let_out k guest keeping = record keeping {
+  out = slice_set keeping.out guest true;
+  quiets = slice_set keeping.quiets guest (k.first + length keeping.entries);
+}
 
 abbrev pub let_in : (guest : ℕ) → Keeping → Keeping
-let_in guest keeping = record keeping { out = slice_set keeping.out guest false }
+let_in guest keeping = record keeping {
+  out = slice_set keeping.out guest false;
+  quiets = slice_set keeping.quiets guest 0;
+}
 
 -- all passes are out
 abbrev pub AreAllOut : List Bool → Type 0

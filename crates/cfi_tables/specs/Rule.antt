@@ -97,9 +97,11 @@ ShowTables k words u =
 abbrev pub TellsForce : Key → KeeperView → (word : ℕ) → Type 0
 TellsForce k u word = (word ≡ 0) ⊎ ((k.first < word) × (word ≤ epoch_in_force (tables_of k u) + 1))
 
--- that of a guest whose pass is not out is 0
+-- that of a guest whose pass is not out is 0; none is less than it was when the keeper stored or loaded it
 pub record ShowQuiets (k : Key) (words : List ℕ) (u : KeeperView) : Type 0 where
   pub out_many : length u.out ≡ GUESTS
+  pub quiets_many : length u.quiets ≡ GUESTS
+  pub later : (guest : ℕ) → guest < GUESTS → slice_index u.quiets guest ≤ slice_index words (quiet_word guest)
   pub away : (guest : ℕ) → guest < GUESTS → is_out u.out guest ≡ false → slice_index words (quiet_word guest) ≡ 0
   pub tells : (guest : ℕ) → guest < GUESTS → TellsForce k u (slice_index words (quiet_word guest))
 

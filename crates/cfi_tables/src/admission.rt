@@ -3,7 +3,7 @@
 ghost use Rattle.std.specs.Prelude.{◌≡◌, ◌≤◌, IfSome, IfNone};
 ghost use Rattle.cfi_model.specs.Quiet.{admits};
 ghost use Rattle.cfi_word.specs.declared.limits.TheConstants.{MIN_VERSIONS, MAX_VERSIONS, MAX_EPOCH};
-ghost use Rattle.cfi_tables.specs.Faults.{AllAdmit, IsFarBehind, IsFirstBehind, epoch_after, quiet_in};
+ghost use Rattle.cfi_tables.specs.Faults.{AllAdmit, AreLater, IsFarBehind, IsFirstBehind, epoch_after, quiet_in};
 ghost use Rattle.cfi_tables.specs.Keeping.{entry_by, grown_by, refused_by};
 ghost use Rattle.cfi_tables.specs.Views.{idle_view, view_at};
 ghost use Rattle.cfi_tables.specs.inner.Stores.{IsAt, CanAsk, keeping_at};
@@ -50,6 +50,7 @@ pub fn test_all<N: TableName, A: Asks>(
         (keeping_at seat.new.me).quiets (keeping_at seat.old.me)))) }
     ensures first { IfSome result (λ spent.
         IsFirstBehind N.key (keeping_at seat.old.me) (keeping_at seat.new.me).quiets spent.0 spent.1) }
+    ensures later { AreLater (keeping_at seat.old.me).quiets (keeping_at seat.new.me).quiets }
     ensures behind { IfSome result (λ spent.
         IsFarBehind N.key (keeping_at seat.old.me) spent.0 spent.1) }
 {

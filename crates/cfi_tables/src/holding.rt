@@ -1,6 +1,6 @@
 //! The steps by which the keeper holds a pass: it goes out, is told of what the keeper has seen, or comes back.
 
-ghost use Rattle.std.specs.Prelude.{◌≡◌, ◌≤◌, ◌<◌, length, false};
+ghost use Rattle.std.specs.Prelude.{◌≡◌, ◌+◌, ◌≤◌, ◌<◌, length, slice_index, false};
 ghost use Rattle.cfi_word.specs.declared.limits.TheConstants.{GUESTS};
 ghost use Rattle.cfi_tables.specs.Faults.{epoch_after};
 ghost use Rattle.cfi_tables.specs.Keeping.{is_out, let_in, let_out};
@@ -30,7 +30,7 @@ pub fn register<N: TableName>(
         (idle_view N.key (keeping_at seat.old.me)) }
     ensures pass { result ≡ admitted N.key (keeping_at seat.old.me) guest }
     ensures seat { IsAt N.table seat.new.table_id seat.new.id seat.new.me
-        (idle_view N.key (let_out guest (keeping_at seat.old.me))) }
+        (idle_view N.key (let_out N.key guest (keeping_at seat.old.me))) }
 {
     let number = tables.layout.quiet(guest);
     tables
@@ -52,6 +52,7 @@ pub fn tell<N: TableName>(tables: &Tables<N>, seat: &mut Place, pass: &mut Pass<
     ensures pass { pass.new ≡ noted N.key (keeping_at seat.old.me) pass.old }
     ensures agrees { let keeping = keeping_at seat.old.me in
         AgreesWith N.key keeping.entries keeping.refusals pass.old.sight }
+    ensures heard { slice_index (keeping_at seat.old.me).quiets pass.old.guest ≤ pass.old.quiet + 1 }
     ensures seat { IsAt N.table seat.new.table_id seat.new.id seat.new.me
         (idle_view N.key (keeping_at seat.old.me)) }
 {
@@ -69,6 +70,7 @@ pub fn clear<N: TableName>(tables: &Tables<N>, seat: &mut Place, pass: Pass<N>)
         (idle_view N.key (keeping_at seat.old.me)) }
     ensures agrees { let keeping = keeping_at seat.old.me in
         AgreesWith N.key keeping.entries keeping.refusals pass.sight }
+    ensures heard { slice_index (keeping_at seat.old.me).quiets pass.guest ≤ pass.quiet + 1 }
     ensures seat { IsAt N.table seat.new.table_id seat.new.id seat.new.me
         (idle_view N.key (let_in pass.guest (keeping_at seat.old.me))) }
 {

@@ -1,9 +1,9 @@
 //! The keeper, which updates the tables, and admits passes and takes them back.
 
-ghost use Rattle.std.specs.Prelude.{◌≡◌, ◌+◌, ◌-◌, length, IfOk, IfErr, IfSome, IfNone, OnOk, OnErr, Err};
+ghost use Rattle.std.specs.Prelude.{◌≡◌, ◌+◌, ◌-◌, ◌≤◌, length, slice_index, IfOk, IfErr, IfSome, IfNone, OnOk, OnErr, Err};
 ghost use Rattle.cfi_word.specs.declared.limits.TheConstants.{MAX_EPOCH};
 ghost use Rattle.cfi_model.specs.Tables.{IsTables, IsUpdate};
-ghost use Rattle.cfi_tables.specs.Faults.{AllAdmit, FaultIs, epoch_after};
+ghost use Rattle.cfi_tables.specs.Faults.{AllAdmit, AreLater, FaultIs, epoch_after};
 ghost use Rattle.cfi_tables.specs.Keeping.{AreAllOut, IsFree, entry_by, grown_by, last_of, let_in, let_out, opened_keeping};
 ghost use Rattle.cfi_tables.specs.Rule.{AgreesWith};
 ghost use Rattle.cfi_tables.specs.Views.{admitted, noted, tables_with};
@@ -116,7 +116,7 @@ impl<N: TableName> Keeper<N> {
     pub fn admit(&mut self, tables: &Tables<N>) -> Result<Pass<N>, AdmitFault>
         ensures ok { IfOk result (λ pass. pass ≡ admitted N.key self.old pass.guest) }
         ensures free { IfOk result (λ pass. IsFree self.old.out pass.guest) }
-        ensures out { IfOk result (λ pass. self.new ≡ let_out pass.guest self.old) }
+        ensures out { IfOk result (λ pass. self.new ≡ let_out N.key pass.guest self.old) }
         ensures tables { IsTables (tables_with N.key self.old.entries) }
         ensures fault { IfErr result (λ fault. AreAllOut self.old.out) }
         ensures all { AreAllOut self.old.out → result ≡ Err NoSeat }
@@ -132,7 +132,7 @@ impl<N: TableName> Keeper<N> {
 
     /// Puts an image in force, with its policy, and answers the new epoch. The mark goes into the history, or with an
     /// update that is not admitted into the refusals. It is admitted exactly where the QUIET word of each guest is, as
-    /// this call loads them from the least guest on.
+    /// this call loads them from the least guest on; none is less than the keeper has stored or loaded before.
     ///
     /// The policy is the one in force, with the image in force, or the next one, with an image that keeps the code.
     pub fn update(
@@ -149,6 +149,7 @@ impl<N: TableName> Keeper<N> {
             ≡ grown_by (entry_by policy image.now mark) self.new.quiets self.old) }
         ensures admitted { OnOk result (AllAdmit N.key self.old self.new.quiets) }
         ensures fault { IfErr result (FaultIs N.key mark self.old self.new) }
+        ensures later { AreLater self.old.quiets self.new.quiets }
         ensures spent { epoch_after N.key self.old ≡ MAX_EPOCH + 1 → result ≡ Err EpochsSpent }
     {
         if self.epoch == MAX_EPOCH {
@@ -173,10 +174,12 @@ impl<N: TableName> Keeper<N> {
         Ok(epoch)
     }
 
-    /// Tells a pass all that the keeper has seen. Its accesses stay.
+    /// Tells a pass all that the keeper has seen. Its accesses stay. No update has found more of its guest than this has
+    /// published.
     pub fn note(&mut self, tables: &Tables<N>, pass: &mut Pass<N>)
         ensures pass { pass.new ≡ noted N.key self.old pass.old }
         ensures agrees { AgreesWith N.key self.old.entries self.old.refusals pass.old.sight }
+        ensures heard { slice_index self.old.quiets pass.old.guest ≤ pass.old.quiet + 1 }
         ensures tables { IsTables (tables_with N.key self.old.entries) }
         ensures same { self.new ≡ self.old }
     {
@@ -187,6 +190,7 @@ impl<N: TableName> Keeper<N> {
     /// part of the history, and what it has loaded are words of it.
     pub fn release(&mut self, tables: &Tables<N>, pass: Pass<N>) -> Seen
         ensures agrees { AgreesWith N.key self.old.entries self.old.refusals pass.sight }
+        ensures heard { slice_index self.old.quiets pass.guest ≤ pass.quiet + 1 }
         ensures out { self.new ≡ let_in pass.guest self.old }
         ensures epoch { result.epoch + 1 ≡ epoch_after N.key self.old }
         ensures policy { result.policy ≡ (last_of self.old.entries).policy }

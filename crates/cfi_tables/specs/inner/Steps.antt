@@ -1,5 +1,5 @@
 -- What each kind of step tells its seat.
-use Rattle.std.specs.Prelude.{◌≡◌, ◌≢◌, ℕ, zero, suc, ◌+◌, ◌-◌, nat_lt, if◌then◌else◌, Bool, true, false, List, [], ◌∷◌, ◌++◌, slice_set, Some, None, ◌^◌, ◌<◌}
+use Rattle.std.specs.Prelude.{◌≡◌, ◌≢◌, ℕ, ◌+◌, ◌-◌, nat_lt, if◌then◌else◌, Bool, true, false, List, [], ◌∷◌, ◌++◌, length, slice_index, slice_set, Some, None, ◌^◌, ◌<◌, ◌≤◌}
 use Rattle.atomic_table.specs.Table.{Me, Step}
 use Rattle.cfi_word.specs.declared.limits.TheConstants.{GUESTS}
 use Rattle.cfi_word.specs.Rank.{rank}
@@ -40,13 +40,9 @@ pub record Looks (k : Key) (s : Step (Unit {0})) (old : Seated) (found : ℕ) (n
 
 -- ---- the keeper's test of a QUIET word
 
--- the words that it has loaded, and this one: the first one begins a new list
-abbrev pub loaded_before : (tested : ℕ) → (quiets : List ℕ) → List ℕ
-loaded_before zero quiets = []
-loaded_before (suc less) quiets = quiets
-
+-- it has loaded the word of the guest whose turn it is
 abbrev pub loaded : (word : ℕ) → KeeperView → KeeperView
-loaded word u = record u { quiets = loaded_before u.tested u.quiets ++ word ∷ [] }
+loaded word u = record u { quiets = slice_set u.quiets u.tested word }
 
 -- the word admits the next update
 abbrev pub is_passed : Key → KeeperView → (word : ℕ) → Bool
@@ -74,12 +70,14 @@ tested_by k entry word u =
     if is_passed k u word then test_passed entry (loaded word u)
     else refused (test_refusal k entry.mark u word) (loaded word u)
 
--- a word that is not 0 is that of a pass that is out, and tells an epoch that is or was in force
+-- a word that is not 0 is that of a pass that is out, and tells an epoch that is or was in force; it is not less than it
+-- was when the keeper stored or loaded it before
 pub record Tests (k : Key) (entry : Entry) (s : Step (Unit {0})) (old : Seated) (found : ℕ) (new : Seated)
     : Type 0 where
   pub is : new ≡ (Keeper (tested_by k entry found (keeper_of old.0)), old.1)
   pub out : found ≢ 0 → is_out (keeper_of old.0).out (keeper_of old.0).tested ≡ true
   pub tells : TellsForce k (keeper_of old.0) found
+  pub later : slice_index (keeper_of old.0).quiets (keeper_of old.0).tested ≤ found
 
 -- ---- a pass's loads and stores
 
@@ -105,11 +103,18 @@ Publishes s old found new = new ≡ (Pass (published (pass_of old.0)), old.1)
 
 -- a guest is registered, by a store of its QUIET word
 abbrev pub registered : Key → (guest : ℕ) → KeeperView → KeeperView
-registered k guest u =
-    record u { out = slice_set u.out guest true; held = Some (admitted k (keeping_of u) guest) }
+registered k guest u = record u {
+  out = slice_set u.out guest true;
+  quiets = slice_set u.quiets guest (k.first + length u.entries);
+  held = Some (admitted k (keeping_of u) guest);
+}
 
 abbrev pub Registers : Key → Step (Unit {0}) → Seated → (found : ℕ) → Seated → Type 0
 Registers k s old found new = new ≡ (Keeper (registered k (s.word - 1) (keeper_of old.0)), old.1)
+
+-- what the keeper has last found of the guest of the pass that it holds is not above what this has published
+abbrev pub IsHeard : KeeperView → Type 0
+IsHeard u = slice_index u.quiets (held_by u.held).guest ≤ (held_by u.held).quiet + 1
 
 -- the pass that is held is told all that the keeper has seen, and what it has seen agrees with it
 abbrev pub told : Key → KeeperView → KeeperView
@@ -118,14 +123,20 @@ told k u = record u { held = Some (noted k (keeping_of u) (held_by u.held)) }
 pub record Tells (k : Key) (s : Step (Unit {0})) (old : Seated) (found : ℕ) (new : Seated) : Type 0 where
   pub is : new ≡ (Keeper (told k (keeper_of old.0)), old.1)
   pub agrees : AgreesWith k (keeper_of old.0).entries (keeper_of old.0).refusals (held_by (keeper_of old.0).held).sight
+  pub heard : IsHeard (keeper_of old.0)
 
 -- its guest is registered no more, by a store of 0 in its QUIET word
 abbrev pub cleared : KeeperView → KeeperView
-cleared u = record u { out = slice_set u.out (held_by u.held).guest false; held = None }
+cleared u = record u {
+  out = slice_set u.out (held_by u.held).guest false;
+  quiets = slice_set u.quiets (held_by u.held).guest 0;
+  held = None;
+}
 
 pub record Clears (k : Key) (s : Step (Unit {0})) (old : Seated) (found : ℕ) (new : Seated) : Type 0 where
   pub is : new ≡ (Keeper (cleared (keeper_of old.0)), old.1)
   pub agrees : AgreesWith k (keeper_of old.0).entries (keeper_of old.0).refusals (held_by (keeper_of old.0).held).sight
+  pub heard : IsHeard (keeper_of old.0)
 
 -- ---- seats that come and go
 

@@ -1,18 +1,18 @@
 -- The steps of an update, as far as they have come.
-use Rattle.std.specs.Prelude.{◌≡◌, ℕ, zero, suc, ◌+◌, ◌-◌, ◌≤◌, ◌<◌, nat_lt, if◌then◌else◌, List, [], length, Some}
+use Rattle.std.specs.Prelude.{◌≡◌, ℕ, zero, suc, ◌+◌, ◌-◌, ◌≤◌, ◌<◌, nat_lt, if◌then◌else◌, List, [], length, Some, slice_index}
 use Rattle.atomic_table.specs.Seated.{TableId}
 use Rattle.cfi_word.specs.declared.limits.TheConstants.{GUESTS, MAX_EPOCH}
 use Rattle.cfi_word.specs.Table.{Place, IsPlace}
 use Rattle.cfi_model.specs.declared.history.Entry.{Entry}
 use Rattle.cfi_model.specs.Tables.{IsTables, IsUpdate}
 use Rattle.cfi_model.specs.Words.{before, newest, next_epoch, rank_at, word_of_entry}
-use Rattle.cfi_tables.specs.Faults.{AdmitBelow}
+use Rattle.cfi_tables.specs.Faults.{AdmitBelow, AreLater}
 use Rattle.cfi_tables.specs.Key.{Key}
 use Rattle.cfi_tables.specs.Keeping.{Keeping, grown_by, last_of}
 use Rattle.cfi_model.specs.Words.{HasStore}
 use Rattle.cfi_tables.specs.Views.{idle_tables, idle_view, keeper_of, keeping_of, tables_of, view_at}
 use Rattle.cfi_tables.specs.inner.Stamps.{Stamp}
-use Rattle.cfi_tables.specs.inner.Steps.{Seated, loaded_before}
+use Rattle.cfi_tables.specs.inner.Steps.{Seated}
 use Rattle.cfi_tables.specs.declared.view.KeeperView.{KeeperView}
 use Rattle.cfi_tables.specs.declared.view.View.TheVariants.{Keeper}
 
@@ -31,6 +31,7 @@ pub record CanAsk (k : Key) (keeping : Keeping) (entry : Entry) : Type 0 where
   pub tables : IsTables (idle_tables k keeping)
   pub follows : IsUpdate k.code_words (last_of keeping.entries) entry
   pub fits : next_epoch (idle_tables k keeping) ≤ MAX_EPOCH
+  pub many : length keeping.quiets ≡ GUESTS
 
 -- the view where so many QUIET words have passed the test of the update to the entry, and where all have
 abbrev pub asked_at : Key → Keeping → Entry → (tested : ℕ) → KeeperView
@@ -41,10 +42,11 @@ abbrev pub testing : Key → Keeping → Entry → (tested : ℕ) → KeeperView
 testing k keeping entry tested =
     if nat_lt tested GUESTS then asked_at k keeping entry tested else view_at (grown_by entry keeping.quiets keeping) 0
 
--- the QUIET words that the test has loaded, one of each guest that it has passed
+-- the QUIET words where the test has loaded one of each guest that it has passed, and no other
 pub record HavePassed (k : Key) (keeping : Keeping) (quiets : List ℕ) (tested : ℕ) : Type 0 where
-  pub many : length (loaded_before tested quiets) ≡ tested
-  pub admit : AdmitBelow k keeping (loaded_before tested quiets) tested
+  pub admit : AdmitBelow k keeping quiets tested
+  pub later : AreLater keeping.quiets quiets
+  pub rest : (other : ℕ) → tested ≤ other → slice_index quiets other ≡ slice_index keeping.quiets other
 
 -- the test of the update to the entry, where the keeper has kept this before, and has loaded these QUIET words
 pub record IsTesting (table : TableId) (k : Key) (keeping : Keeping) (entry : Entry) (at : TableId) (id : ℕ)

@@ -19,7 +19,7 @@ load-found-requires g c =
     let before : Keeping = record keeping { quiets = quiets } in (
       i.seat.table_is ∙ sym t.name,
       omega (arith, t.many, number, few),
-      testing_allowed k before g.A.Asks.entry (ready_before k keeping g.A.Asks.entry quiets r.ready) c.loop-guest.guest few
+      testing_allowed k before g.A.Asks.entry (ready_before k keeping g.A.Asks.entry quiets r.ready (i.passed.later.many ∙ r.ready.many)) c.loop-guest.guest few
           _ _ _ _ _ t.key i.seat.id_is i.seat.me_is number,
     )
 
@@ -28,11 +28,11 @@ loop-guest-preserved g c =
     let l = c.load-found.ensures in
     test_goes_on g.N.TableName.table g.N.TableName.key (keeping_at c.args.seat.now.me) g.A.Asks.entry c.requires.ready
     _ _ _ c.loop-guest.guest c.loop-guest-test.true c.loop-guest.invariant _ _ _ c.load-found.result l.0 l.1 l.2.is
-    (search rules)
+    l.2.later (search rules)
 
 pub returns-then-not-admits-clause-first : goal.returns-then-not-admits-clause-first
 returns-then-not-admits-clause-first g c =
     let l = c.load-found.ensures in
     (test_fails g.N.TableName.table g.N.TableName.key (keeping_at c.args.seat.now.me) g.A.Asks.entry c.requires.ready
     _ _ _ c.loop-guest.guest c.loop-guest-test.true c.loop-guest.invariant _ _ _ c.load-found.result l.0 l.1 l.2.is
-    c.args.asked.now.mark (sym (ap (λ (e : Entry). e.mark) c.requires.asked)) (search rules)).1
+    l.2.later c.args.asked.now.mark (sym (ap (λ (e : Entry). e.mark) c.requires.asked)) (search rules)).1
