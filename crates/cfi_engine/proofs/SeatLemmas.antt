@@ -99,13 +99,13 @@ none_opened plan modules s started =
 -- one more is
 pub next_opened : (k : Key) (plan : Plan) (modules : List Module) (number guest : ℕ) (l : Ledger)
     → IsLedger k plan modules l → IsOpenedTo plan modules number l → number < length plan.guests → guest ≡ number
-    → IsOpenedTo plan modules (number + 1) (with_keeping (let_out guest l.keeping) l)
+    → IsOpenedTo plan modules (number + 1) (with_keeping (let_out k guest l.keeping) l)
 next_opened k plan modules number guest l is opened within same =
     let guests : length l.course.plan.guests ≡ length plan.guests =
     ap (λ (p : Plan). length p.guests) is.plan_is in
     let few : number < GUESTS = omega (arith, within, guests, is.can_start.most_guests) in
     let out = l.keeping.out in
-    subst (λ (n : ℕ). IsOpenedTo plan modules (number + 1) (with_keeping (let_out n l.keeping) l)) (sym same) (record {
+    subst (λ (n : ℕ). IsOpenedTo plan modules (number + 1) (with_keeping (let_out k n l.keeping) l)) (sym same) (record {
       opens = opened.opens;
       seats = seats_stay out number opened.seats few opened.out opened.free;
       out = more_out out number opened.seats few opened.out opened.free;

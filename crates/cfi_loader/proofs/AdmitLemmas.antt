@@ -109,9 +109,10 @@ out_other out guest other b n before here there = ⊎_elim
     (cases_lt other guest)
 
 -- the books agree with a keeper that has another pass out
-pub passes_kept : (k : Key) (b : Books) (keeping : Keeping) (out : List Bool) → BooksAgree k b keeping
-    → ((one : ℕ) → is_out out one ≡ true → one < length b.plan.guests) → BooksAgree k b (record keeping { out = out })
-passes_kept k b keeping out kept guests =
+pub passes_kept : (k : Key) (b : Books) (keeping : Keeping) (out : List Bool) (quiets : List ℕ) → BooksAgree k b keeping
+    → ((one : ℕ) → is_out out one ≡ true → one < length b.plan.guests)
+    → BooksAgree k b (record keeping { out = out; quiets = quiets })
+passes_kept k b keeping out quiets kept guests =
     let is = kept.ledger in
     let told = is.told in
     record {
@@ -142,16 +143,17 @@ passes_kept k b keeping out kept guests =
     }
 
 pub out_kept : (k : Key) (b : Books) (keeping : Keeping) (guest : ℕ) → BooksAgree k b keeping
-    → guest < length b.plan.guests → BooksAgree k b (let_out guest keeping)
+    → guest < length b.plan.guests → BooksAgree k b (let_out k guest keeping)
 out_kept k b keeping guest kept known =
-    passes_kept k b keeping (slice_set keeping.out guest true) kept
+    passes_kept k b keeping (slice_set keeping.out guest true)
+    (slice_set keeping.quiets guest (k.first + length keeping.entries)) kept
     (λ one there.
     out_other keeping.out guest one true (length b.plan.guests) kept.ledger.told.guests (λ _. known) there)
 
 -- what an admission leaves
 pub admission_kept : (k : Key) (plan : Plan) (modules : List Module) (b : Books) (old new : Keeping)
     (result : Result PassView AdmitFault) → IsLoader k plan modules b old → count_by is_one old.out < length plan.guests
-    → IfOk result (λ pass. IsFree old.out pass.guest) → IfOk result (λ pass. new ≡ let_out pass.guest old)
+    → IfOk result (λ pass. IsFree old.out pass.guest) → IfOk result (λ pass. new ≡ let_out k pass.guest old)
     → OnErr result (new ≡ old) → IsLoader k plan modules b new
 admission_kept k plan modules b old new (Ok pass) is few free out same =
     let known : pass.guest < length b.plan.guests =

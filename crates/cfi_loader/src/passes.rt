@@ -20,7 +20,7 @@ impl<N: LoaderName> Loader<N> {
         ensures free { IfOk result (λ pass. IsFree self.old.keeping.out pass.guest) }
         ensures guest { IfOk result (λ pass. pass.guest < length N.plan.guests) }
         ensures out { IfOk result (λ pass.
-            self.new ≡ with_keeping (let_out pass.guest self.old.keeping) self.old) }
+            self.new ≡ with_keeping (let_out N.key pass.guest self.old.keeping) self.old) }
         ensures never { IfErr result (λ fault. ⊥) }
     {
         self.keeper.admit(tables)

@@ -63,7 +63,7 @@ returns-clause-opened g c =
     let plan = g.N.LoaderName.plan in
     let pass = c.unwrap-pass.result in
     let free = IfOk-at_ok (λ (p : PassView). IsFree l.keeping.out p.guest) c.unwrap-pass.ensures c.admit.ensures.free in
-    let out = IfOk-at_ok (λ (p : PassView). c.admit.new.self ≡ with_keeping (let_out p.guest l.keeping) l)
+    let out = IfOk-at_ok (λ (p : PassView). c.admit.new.self ≡ with_keeping (let_out g.N.TableName.key p.guest l.keeping) l)
     c.unwrap-pass.ensures c.admit.ensures.out in
     let number_is = next_free l.keeping.out c.args.number pass.guest c.requires.opened.out c.requires.opened.free
     free in
