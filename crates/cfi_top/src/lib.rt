@@ -19,4 +19,5 @@ mod running;
 mod work;
 
 pub use cfi_outside::{DONE, MEMORY, NO_FILE, READ_FAULT, REFUSED, USAGE, WRITE_FAULT};
-pub use program::{Ended, top};
+pub use program::{Ended, Served, serve, top};
+pub use work::Ready;
