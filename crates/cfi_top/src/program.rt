@@ -176,7 +176,8 @@ fn run_words<F: Shelf, S: Sink, G: Gate, R: Threads + Wait + Sync>(
 /// IN OUT` instruments a module and saves it. `link OUT IN..` links 1 to 64 modules and saves what they make. `verify
 /// PLAN` verifies the modules of a plan and prints a line for each; `graph PLAN` does so and prints the groups of their
 /// policy. `sim PLAN SCHEDULE` makes the events of a schedule, one by one, and prints what they come to. `run FILE` runs a
-/// plan, or a bare file, whose guests run on threads of their own beside the script, and prints the report.
+/// plan, or a bare file, whose guests run on threads of their own beside the script, and prints the report. It waits for a
+/// run alone: all else is done by `serve`.
 /// Status 0 where the command's bytes were written whole, 1 where the words are no command, 2 where the shelf failed,
 /// 3 where a file is not there or too long, 4 where the sink failed, or the shelf where a file was saved, 5 where a
 /// file was refused, 6 where no memory was left.
