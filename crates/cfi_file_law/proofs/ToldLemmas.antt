@@ -50,7 +50,8 @@ module _ (shelf shelf' : ShelfView) (name file : List ℕ) (tells : Tells shelf 
       → (unread ≡ record { name = name; cause = TooLong }) × (MAX_FILE_BYTES < length file)
   stops-long unread steady stops =
       let named : unread.name ≡ name = the-one name stops.at unread.name stops.named in
-      let why = unread-long unread.cause steady (subst (λ (n : List ℕ). IsUnread shelf shelf' n unread.cause) named stops.why) in
+      let why =
+      unread-long unread.cause steady (subst (λ (n : List ℕ). IsUnread shelf shelf' n unread.cause) named stops.why) in
       (ap₂ unread-of named why.0, why.1)
 
   pub short-read : (found : Result (List (List ℕ)) Unread) → ¬ Rose shelf.faults shelf'.faults

@@ -13,8 +13,8 @@ use Rattle.cfi_commands.specs.Instrumenting.{IsInstrumentedFile}
 abbrev pub AreBytes : List ℕ → Type 0
 AreBytes bytes = All (λ byte. byte < 256) bytes
 
--- of a file with text another one was saved, which is short enough to be read, and the module that this one is stands in
--- a room
+-- of a file with text another one was saved, which is short enough to be read, and the module that this one is stands
+-- in a room
 pub record IsSavedAt (bytes file : List ℕ) (room : Room) (names : Names) (placed : Placed) : Type 0 where
   pub are : AreBytes bytes
   pub saved : IsInstrumentedFile bytes file

@@ -35,8 +35,8 @@ use cfi_instr_law::instrumented_are_proper;
 use cfi_made_law::assembled_are_whole;
 use elf_write::laws::written_is_read;
 
-/// Where the shelf does not fail, a file that it tells is read as it is if it is short enough to be read, which is of at
-/// most `MAX_FILE_BYTES` bytes, and refused as too long if it is longer.
+/// Where the shelf does not fail, a file that it tells is read as it is if it is short enough to be read, which is of
+/// at most `MAX_FILE_BYTES` bytes, and refused as too long if it is longer.
 pub fn told_are_read()
     ensures short { (shelf shelf' : ShelfView) (name file : List ℕ)
         (found : Result (List (List ℕ)) Unread) → Tells shelf name file →
@@ -87,9 +87,9 @@ pub fn assembled_are_read()
     written_is_read();
 }
 
-/// What a file that `asm` saved is read as, if it is short enough to be read. One of a source without a line of records is no module, for it has none; one
-/// of a source with such lines is the module of its lines, or the record of the first branch that has too many words
-/// is a bad one.
+/// What a file that `asm` saved is read as, if it is short enough to be read. One of a source without a line of records
+/// is no module, for it has none; one of a source with such lines is the module of its lines, or the record of the
+/// first branch that has too many words is a bad one.
 pub fn assembled_are_modules()
     ensures bare { (text file : List ℕ) → IsShort text → IsAssembled text file → IsShort file →
         has_records text ≡ false → IsFileFault file (Aux NoRecords) }

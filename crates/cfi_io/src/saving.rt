@@ -119,8 +119,8 @@ fn kept_of(rt: &HostRuntime, name: &str, found: &Metadata) -> io::Result<Permiss
 /// Puts the bytes under the name, in place of a file that is there.
 ///
 /// They are written under a free name of the same folder first, and take the name, with the permissions of the file
-/// that is there, when all are written. What is no file, as a link or a device, is not replaced: it is written into, and
-/// so is a file whose folder lets no name be made or moved.
+/// that is there, when all are written. What is no file, as a link or a device, is not replaced: it is written into,
+/// and so is a file whose folder lets no name be made or moved.
 pub fn save(rt: &HostRuntime, alloc: Global, name: &str, bytes: &[u8]) -> Result<(), SaveFault> {
     let kept = match found_at(rt, name)? {
         Some(found) if found.is_file() => Some(kept_of(rt, name, &found)?),
