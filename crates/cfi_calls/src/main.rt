@@ -92,8 +92,10 @@ fn tell_outside(rt: HostRuntime) -> io::Result<()> {
     tell(&rt, "a later pair counts", later)?;
     let files = outside::files_of_the_current_folder(rt)?;
     tell(&rt, "files of the current folder", files)?;
-    let failed = outside::a_failed_save_leaves_what_stood(rt)?;
-    tell(&rt, "a failed save leaves what stood", failed)?;
+    let others = outside::a_save_leaves_other_files(rt)?;
+    tell(&rt, "a save leaves other files", others)?;
+    let long = outside::names_of_the_greatest_length(rt)?;
+    tell(&rt, "names of the greatest length", long)?;
     tell(&rt, "standard output", outside::standard_output(rt))
 }
 

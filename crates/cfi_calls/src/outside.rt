@@ -98,18 +98,44 @@ pub fn files_of_the_current_folder(rt: HostRuntime) -> io::Result<bool> {
     Ok(a_small_file(rt, &mut shelf)? && a_large_file(rt, &mut shelf)?)
 }
 
-/// A save that fails leaves what stood there.
-pub fn a_failed_save_leaves_what_stood(rt: HostRuntime) -> io::Result<bool> {
+// Removes these files of the current folder.
+fn remove_all(rt: HostRuntime, names: &[&str]) -> io::Result<()> {
+    for name in names {
+        fs::remove_file(&rt, *name)?;
+    }
+    Ok(())
+}
+
+/// A save leaves the files whose names it could have taken.
+pub fn a_save_leaves_other_files(rt: HostRuntime) -> io::Result<bool> {
+    let others = ["cfi-part-0", "cfi-part-1", "kept.tmp.cfi-part"];
     let mut shelf = DirShelf::new(rt, rt.alloc());
-    let is_saved = shelf.write("kept.tmp", b"nop\n") == Ok(());
-    // A folder stands where the new bytes would be written first.
-    fs::create_dir(&rt, "kept.tmp.cfi-part")?;
-    let has_failed = shelf.write("kept.tmp", b"ret\n") == Err(ShelfFault::Failed);
-    let is_told = shelf.error().is_some();
-    fs::remove_dir(&rt, "kept.tmp.cfi-part")?;
-    let is_left = has(&mut shelf, "kept.tmp", b"nop\n");
+    for name in others {
+        fs::write(&rt, name, b"mine\n")?;
+    }
+    let is_saved = shelf.write("kept.tmp", b"nop\n") == Ok(())
+        && shelf.write("kept.tmp", b"ret\n") == Ok(())
+        && has(&mut shelf, "kept.tmp", b"ret\n");
+    let is_clean = shelf.read("cfi-part-2") == Err(ShelfFault::Absent);
+    let mut are_left = true;
+    for name in others {
+        are_left = are_left && has(&mut shelf, name, b"mine\n");
+    }
+    remove_all(rt, &others)?;
     fs::remove_file(&rt, "kept.tmp")?;
-    Ok(is_saved && has_failed && is_told && is_left)
+    Ok(is_saved && is_clean && are_left)
+}
+
+/// A file of the longest name is saved, and replaced; at a longer name a save fails, and the system's reason is told.
+pub fn names_of_the_greatest_length(rt: HostRuntime) -> io::Result<bool> {
+    let mut shelf = DirShelf::new(rt, rt.alloc());
+    let mut name = "n".repeat(rt.alloc(), 255)?;
+    let is_saved = shelf.write(&name, b"nop\n") == Ok(()) && shelf.write(&name, b"ret\n") == Ok(());
+    let is_there = has(&mut shelf, &name, b"ret\n");
+    fs::remove_file(&rt, &name)?;
+    name.push('n')?;
+    let has_failed = shelf.write(&name, b"nop\n") == Err(ShelfFault::Failed);
+    Ok(is_saved && is_there && has_failed && shelf.error().is_some())
 }
 
 /// A line is written to standard output.

@@ -25,6 +25,7 @@ use Rattle.cfi_instr_law.specs.Example.{loop_room, no_names}
 use Rattle.cfi_file_law.specs.Saved.{AreBytes, IsSavedAt}
 use Rattle.cfi_file_law.specs.Example.{call_name, call_symbol, call_reloc, call_types, call_records, call_object, call_module, call_source, call_made, call_placed}
 use Rattle.cfi_file_law.proofs.FileLemmas.{ReadsBack, module-file}
+use Rattle.cfi_file_law.proofs.ShortLemmas.{made-short}
 use Rattle.cfi_file_law.proofs.CallLemmas.{instrumented}
 use Rattle.cfi_file_law.proofs.CallPlacedLemmas.{room, placed}
 
@@ -166,6 +167,7 @@ saved reads = record {
     made = instrumented;
     written = refl;
   };
+  short = made-short;
   some = λ none. absurd (omega (arith, ap length none));
   m = call_made;
   read = made-file reads;

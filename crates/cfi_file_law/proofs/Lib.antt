@@ -1,4 +1,6 @@
 pub mod FileLemmas
+pub mod ToldLemmas
+pub mod ShortLemmas
 pub mod LinkFileLemmas
 pub mod ProperLemmas
 pub mod CallLemmas

@@ -1,4 +1,5 @@
 pub mod Saved
+pub mod Told
 pub mod Example
 pub mod LinkedExample
 pub mod Source

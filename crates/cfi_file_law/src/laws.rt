@@ -1,7 +1,11 @@
 //! What the files that the program saves are read as.
 
-ghost use Rattle.std.specs.Prelude.{◌≡◌, ℕ, ◌+◌, ◌<◌, ◌≤◌, ◌^◌, true, false, List, [], length, All};
-ghost use Rattle.cfi_word.specs.declared.limits.TheConstants.{MAX_FILE_BYTES};
+ghost use Rattle.std.specs.Prelude.{◌≡◌, ℕ, ◌+◌, ◌<◌, ◌^◌, true, false, List, [], ◌∷◌, length, All, Result, Ok, Err};
+ghost use Rattle.cfi_io.specs.Count.{Rose};
+ghost use Rattle.cfi_io.specs.Seen.{ShelfView};
+ghost use Rattle.cfi_outside.specs.Reading.{IsFound, IsShort};
+ghost use Rattle.cfi_outside.specs.declared.reading.Cause.TheVariants.{TooLong};
+ghost use Rattle.cfi_outside.specs.declared.reading.Unread.{Unread};
 ghost use Rattle.elf_read.specs.Fault.{IsObject};
 ghost use Rattle.cfi_aux.specs.declared.placed.Placed.{Placed};
 ghost use Rattle.elf_write.specs.File.{bytes_of};
@@ -21,6 +25,7 @@ ghost use Rattle.cfi_made_law.specs.Order.{object_of_file, module_of_file};
 ghost use Rattle.cfi_made_law.specs.Read.{IsReadOf};
 ghost use Rattle.cfi_file_law.specs.Source.{has_records, source_records, source_module, IsFew, IsFirstLong};
 ghost use Rattle.cfi_file_law.specs.Saved.{AreBytes, IsSavedAt};
+ghost use Rattle.cfi_file_law.specs.Told.{Tells};
 ghost use Rattle.cfi_file_law.specs.Example.{call_source, call_made, call_placed};
 ghost use Rattle.cfi_file_law.specs.SourceExample.{return_source, return_object};
 ghost use Rattle.cfi_file_law.specs.LinkedExample.{linked_inputs, linked_files, linked_output};
@@ -30,10 +35,23 @@ use cfi_instr_law::instrumented_are_proper;
 use cfi_made_law::assembled_are_whole;
 use elf_write::laws::written_is_read;
 
-/// The file that `instrument` saves is read as the module that was made.
+/// Where the shelf does not fail, a file that it tells is read as it is if it is short enough to be read, which is of
+/// at most `MAX_FILE_BYTES` bytes, and refused as too long if it is longer.
+pub fn told_are_read()
+    ensures short { (shelf shelf' : ShelfView) (name file : List ℕ)
+        (found : Result (List (List ℕ)) Unread) → Tells shelf name file →
+        ¬ Rose shelf.faults shelf'.faults → IsFound shelf shelf' (name ∷ []) found →
+        IsShort file → found ≡ Ok (file ∷ []) }
+    ensures long { (shelf shelf' : ShelfView) (name file : List ℕ)
+        (found : Result (List (List ℕ)) Unread) → Tells shelf name file →
+        ¬ Rose shelf.faults shelf'.faults → IsFound shelf shelf' (name ∷ []) found →
+        ¬ IsShort file → found ≡ Err (record { name = name; cause = TooLong }) }
+{}
+
+/// The file that `instrument` saves, if it is short enough to be read, is read as the module that was made.
 pub fn instrumented_are_read()
     ensures { (bytes file : List ℕ) → AreBytes bytes → (is : IsInstrumentedFile bytes file) →
-        IsModuleFile file (module_of_file is.out) }
+        IsShort file → IsModuleFile file (module_of_file is.out) }
 {
     what_is_read_is_sound();
     written_is_read();
@@ -49,36 +67,36 @@ pub fn saved_are_proper()
     what_is_read_is_sound();
 }
 
-/// The file that `link` saves is read as the module that was made.
+/// The file that `link` saves, if it is short enough to be read, is read as the module that was made.
 pub fn linked_are_read()
     ensures { (files : List (List ℕ)) (file : List ℕ) → All AreBytes files →
-        length files < 2 ^ 32 → (is : IsLinkedFile files file) → IsModuleFile file is.output }
+        length files < 2 ^ 32 → (is : IsLinkedFile files file) → IsShort file →
+        IsModuleFile file is.output }
 {
     what_is_read_is_sound();
     written_is_read();
     read_can_be_written();
 }
 
-/// The file that `asm` saves is read as the object that was made.
+/// The file that `asm` saves, if it is short enough to be read, is read as the object that was made.
 pub fn assembled_are_read()
-    ensures { (text file : List ℕ) → length text ≤ MAX_FILE_BYTES →
-        (is : IsAssembled text file) → IsObject file (object_of_file is.object) }
+    ensures { (text file : List ℕ) → IsShort text → (is : IsAssembled text file) →
+        IsShort file → IsObject file (object_of_file is.object) }
 {
     assembled_are_whole();
     written_is_read();
 }
 
-/// What a file that `asm` saved is read as. One of a source without a line of records is no module, for it has none; one
-/// of a source with such lines is the module of its lines, or the record of the first branch that has too many words
-/// is a bad one.
+/// What a file that `asm` saved is read as, if it is short enough to be read. One of a source without a line of records
+/// is no module, for it has none; one of a source with such lines is the module of its lines, or the record of the
+/// first branch that has too many words is a bad one.
 pub fn assembled_are_modules()
-    ensures bare { (text file : List ℕ) → length text ≤ MAX_FILE_BYTES → IsAssembled text file →
+    ensures bare { (text file : List ℕ) → IsShort text → IsAssembled text file → IsShort file →
         has_records text ≡ false → IsFileFault file (Aux NoRecords) }
-    ensures module { (text file : List ℕ) → length text ≤ MAX_FILE_BYTES →
-        (is : IsAssembled text file) → has_records text ≡ true →
-        All IsFew (source_records text).branches →
+    ensures module { (text file : List ℕ) → IsShort text → (is : IsAssembled text file) →
+        IsShort file → has_records text ≡ true → All IsFew (source_records text).branches →
         IsModuleFile file (module_of_file (source_module text is.object)) }
-    ensures long { (text file : List ℕ) → length text ≤ MAX_FILE_BYTES → IsAssembled text file →
+    ensures long { (text file : List ℕ) → IsShort text → IsAssembled text file → IsShort file →
         has_records text ≡ true → (number : ℕ) → IsFirstLong (source_records text).branches number →
         IsFileFault file (Aux (BadRecord (length (source_records text).functions + number))) }
 {
@@ -114,6 +132,7 @@ pub fn some_calls_are_linked()
     ensures linked { Linked linked_inputs linked_output }
     ensures bytes { All AreBytes linked_files }
     ensures files { IsLinkedFile linked_files (bytes_of linked_output.object) }
+    ensures short { IsShort (bytes_of linked_output.object) }
 {
     written_is_read();
 }
@@ -123,5 +142,6 @@ pub fn some_source_is_assembled()
     ensures assembled { IsAssembled return_source (bytes_of return_object) }
     ensures records { has_records return_source ≡ true }
     ensures few { All IsFew (source_records return_source).branches }
-    ensures short { length return_source ≤ MAX_FILE_BYTES }
+    ensures short { IsShort return_source }
+    ensures read { IsShort (bytes_of return_object) }
 {}

@@ -4,7 +4,7 @@ ghost use Rattle.cfi_word.specs.declared.limits.TheConstants.{MAX_FILE_BYTES};
 
 use crate::count::raise;
 use crate::pipe::read_file;
-use crate::saving::save;
+use crate::saving::{SaveFault, save};
 use crate::undone::name_of;
 use crate::{Shelf, ShelfFault, Undone};
 use cfi_word::limits::MAX_FILE_BYTES;
@@ -87,11 +87,12 @@ impl Shelf for DirShelf {
     }
 
     fn write(&mut self, name: &str, bytes: &[u8]) -> Result<(), ShelfFault> {
-        let part = format!(in self.alloc; "{name}.cfi-part")?;
         // The name is copied first: a save that failed is not answered as want of memory.
         let undone = Undone::Write(name_of(self.alloc, name)?);
-        let Err(error) = save(&self.rt, name, part.as_str(), bytes) else {
-            return Ok(());
+        let error = match save(&self.rt, self.alloc, name, bytes) {
+            Ok(()) => return Ok(()),
+            Err(SaveFault::Memory) => return Err(ShelfFault::Memory),
+            Err(SaveFault::System(error)) => error,
         };
         self.last = Some(undone);
         self.error = Some(error);

@@ -1,8 +1,8 @@
 //! The outside of the program: a shelf of files, a sink for its text, and a gate between its steps.
 //!
 //! Stands on `cfi_values`, `cfi_word` and `thiserror`. Proved: the clauses of the traits at the objects in memory and
-//! at the edge, and what the objects in memory hold. Only tested, by `cfi_calls`: that the edge reaches real files and
-//! standard output. Open: what those hold, since the edge tells no content.
+//! at the edge, and what the objects in memory hold. Only tested, by `cfi_calls` and `.ci/saves`: that the edge reaches
+//! real files and standard output, and what a save leaves. Open: what those hold, since the edge tells no content.
 #![tactic(auto)]
 
 mod count;

@@ -7,7 +7,7 @@ use Rattle.cfi_io.specs.Files.{Files, Puts, PutsPart}
 use Rattle.cfi_io.specs.Told.{WhereKeptTold}
 use Rattle.cfi_outside.specs.declared.output.Output.{Output}
 use Rattle.cfi_outside.specs.declared.output.Output.TheVariants as outputs
-use Rattle.cfi_outside.specs.Outside.{IsWrittenWhole, IsBroken, IsDelivered}
+use Rattle.cfi_outside.specs.Outside.{IsLater, IsWrittenWhole, IsBroken, IsDelivered}
 use Rattle.cfi_io.specs.Seen.{ShelfView, SinkView}
 
 -- a count that rose has risen later too, and over a longer time
@@ -18,12 +18,6 @@ rose_later old mid new a b (inr full) = grind arith
 pub rose_earlier : (old mid new : ℕ) → old ≤ mid → Rose mid new → Rose old new
 rose_earlier old mid new a (inl up) = inl (omega (arith, up, a))
 rose_earlier old mid new a (inr full) = inr full
-
--- a shelf, and the same shelf later: its files are the same, and no count fell
-pub record IsLater (shelf mid : ShelfView) : Type 0 where
-  pub files : mid.files ≡ shelf.files
-  pub faults : shelf.faults ≤ mid.faults
-  pub misses : shelf.misses ≤ mid.misses
 
 -- what was delivered over the later shelf was delivered over the earlier one
 whole_since : (output : Output) (shelf mid shelf' : ShelfView) (sink sink' : SinkView) → IsLater shelf mid

@@ -1,5 +1,5 @@
 -- What a shelf and a sink tell and count at one moment, and what becomes of them where something is delivered.
-use Rattle.std.specs.Prelude.{◌≡◌, ◌≢◌, ◌⊎◌, ℕ, List, [], Some, ⊤}
+use Rattle.std.specs.Prelude.{◌≡◌, ◌≢◌, ◌≤◌, ◌⊎◌, ℕ, List, [], Some, ⊤}
 use Rattle.std.specs.Io.KnownBytes.{Appends}
 use Rattle.cfi_io.specs.Count.{Rose}
 use Rattle.cfi_io.specs.Files.{Puts, PutsPart}
@@ -13,6 +13,12 @@ use Rattle.cfi_outside.specs.declared.output.TheConstants.{DONE, WRITE_FAULT, ME
 -- where the shelf tells its files, the file of this name has these bytes
 abbrev pub Holds : ShelfView → (name bytes : List ℕ) → Type 0
 Holds shelf name bytes = WhereTold shelf.files (λ told. told name ≡ Some bytes)
+
+-- a shelf, and the same shelf later: its files are the same, and no count fell
+pub record IsLater (shelf mid : ShelfView) : Type 0 where
+  pub files : mid.files ≡ shelf.files
+  pub faults : shelf.faults ≤ mid.faults
+  pub misses : shelf.misses ≤ mid.misses
 
 -- the status where an output was delivered whole
 abbrev pub status_of : Output → ℕ

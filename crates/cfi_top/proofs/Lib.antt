@@ -5,6 +5,7 @@ pub mod OpeningLemmas
 pub mod RunLemmas
 pub mod SimLemmas
 pub mod OutcomeLemmas
+pub mod ReadyLemmas
 pub mod DoneLemmas
 pub mod MadeLemmas
 pub mod TopLemmas

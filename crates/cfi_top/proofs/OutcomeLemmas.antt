@@ -10,12 +10,12 @@ use Rattle.cfi_outside.specs.declared.output.Output.{Output}
 use Rattle.cfi_drive.specs.Concluded.{Conclusion}
 use Rattle.cfi_outside.specs.declared.output.TheConstants.{MEMORY}
 use Rattle.cfi_top.specs.Answer.{output_of, run_in, kept_at}
-use Rattle.cfi_outside.specs.Outside.{IsStarved, IsDelivered, KeepsLast}
+use Rattle.cfi_outside.specs.Outside.{IsLater, IsStarved, IsDelivered, KeepsLast}
 use Rattle.cfi_io.specs.Seen.{ShelfView, SinkView}
 use Rattle.cfi_top.specs.Outcome.{IsMade, IsAllRead, IsWorked, GoesOn, IsOutcome, IsAnswer}
 use Rattle.cfi_outside.specs.Reading.{AreRead}
 use Rattle.cfi_top.specs.Top.{Ends}
-use Rattle.cfi_outside.proofs.OutsideLemmas.{IsLater, delivered_since}
+use Rattle.cfi_outside.proofs.OutsideLemmas.{delivered_since}
 use Rattle.cfi_top.proofs.UnreadLemmas.{first_later, read_since, stops_since}
 
 -- what stood while the shelf was read stands later too

@@ -12,7 +12,8 @@ use Rattle.cfi_outside.specs.Command.{inputs_of, more_of}
 use Rattle.cfi_io.specs.Seen.{ShelfView}
 use Rattle.cfi_top.specs.Outcome.{IsFirstUnread}
 use Rattle.cfi_outside.specs.Reading.{AreRead, IsUnread, StopsAt}
-use Rattle.cfi_outside.proofs.OutsideLemmas.{IsLater, rose_earlier}
+use Rattle.cfi_outside.specs.Outside.{IsLater}
+use Rattle.cfi_outside.proofs.OutsideLemmas.{rose_earlier}
 use Rattle.cfi_outside.proofs.ReadingLemmas.{stops_later}
 
 -- why it is not read

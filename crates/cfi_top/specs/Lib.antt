@@ -6,6 +6,7 @@ pub mod Running
 pub mod Simulating
 pub mod Outcome
 pub mod Top
+pub mod Ready
 pub mod Edges
 pub mod Headline
 pub mod Promises

@@ -1,3 +1,4 @@
 -- What private clauses of this crate cite.
 pub mod Running
 pub mod Simulating
+pub mod Working

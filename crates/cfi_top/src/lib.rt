@@ -1,4 +1,5 @@
-//! The program as one public call: `top` takes the words, a shelf, a sink and a gate.
+//! The program as one public call: `top` takes the words, a shelf, a sink and a gate. `serve` is the part of it that
+//! waits for nobody: all commands but `run`.
 //!
 //! Stands on `cfi_outside`, `cfi_commands`, `cfi_engine`, `cfi_sim`, `cfi_bare`, `cfi_plan`, `cfi_report` and what these
 //! stand on; `cfi` calls it. Proved: what is reported of a run was concluded, of the plan and the modules that the file
@@ -19,4 +20,5 @@ mod running;
 mod work;
 
 pub use cfi_outside::{DONE, MEMORY, NO_FILE, READ_FAULT, REFUSED, USAGE, WRITE_FAULT};
-pub use program::{Ended, top};
+pub use program::{Ended, Served, serve, top};
+pub use work::Ready;

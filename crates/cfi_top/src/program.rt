@@ -1,20 +1,26 @@
-ghost use Rattle.std.specs.Prelude.{◌≡◌, ◌≤◌, IfOk, IfSome, IsSomeAnd, ◌⊎◌, ℕ, List};
+ghost use Rattle.std.specs.Prelude.{◌≡◌, ◌≤◌, IfOk, IfSome, IsSomeAnd, ◌⊎◌, ℕ, List, length, All, None};
 ghost use Rattle.cfi_io.specs.Count.{Rose};
+ghost use Rattle.cfi_io.specs.Seen.{ShelfView};
 ghost use Rattle.cfi_io.specs.Told.{WhereKeptTold};
 ghost use Rattle.cfi_outside.specs.declared.command.Command.TheVariants as commands;
 ghost use Rattle.cfi_outside.specs.declared.output.TheConstants.{DONE, USAGE, READ_FAULT, NO_FILE, WRITE_FAULT, REFUSED, MEMORY};
 ghost use Rattle.cfi_args.specs.Words.{texts};
-ghost use Rattle.cfi_outside.specs.Command.{IsCommand, IsCommandLine};
+ghost use Rattle.cfi_outside.specs.Command.{IsCommand, IsCommandLine, more_of};
+ghost use Rattle.cfi_outside.specs.Outside.{IsLater};
+ghost use Rattle.cfi_outside.specs.Reading.{IsShort};
 ghost use Rattle.cfi_top.specs.Promises.{GuestsAskInForce, GuestsKeepPolicies, GuestsEnterUnits, GuestsStoreInside};
 ghost use Rattle.cfi_top.specs.Outcome.{IsAnswer};
 ghost use Rattle.cfi_top.specs.Answer.{kept_at};
+ghost use Rattle.cfi_top.specs.Ready.{IsReady, IsServed};
+ghost use Rattle.cfi_top.specs.inner.Working.{ComesTo};
 ghost use Rattle.cfi_top.specs.Top.{Ends, HasRun, HasSimulated, HasListed, HasAssembled, HasInstrumented, HasLinked, HasVerified, HasGraphed, IsRefused, IsStopped, IsSavedBy, IsUnsaved, Saves, Runs, IsValid, IsSteady};
 
 use crate::answer::{Answer, output_of};
-use crate::work::outcome_of;
+use crate::running::run;
+use crate::work::{Outcome, Ready, outcome_of};
 use cfi_engine::Concluded;
 use cfi_io::{Gate, Shelf, Sink};
-use cfi_outside::{DONE, MEMORY, command_of, deliver};
+use cfi_outside::{DONE, MEMORY, command_of, deliver, only};
 use std::alloc::{AllocError, Global};
 use std::sync::Wait;
 use std::thread::Threads;
@@ -28,24 +34,31 @@ pub struct Ended {
     pub run: Option<Concluded>,
 }
 
+/// What the words come to where nobody is waited for.
+#[derive(Drop)]
+pub enum Served {
+    /// The program has ended so.
+    Ended(Ended),
+    /// A run is to be made.
+    Run(Ready),
+}
+
 // What the words come to.
-fn answer_of<F: Shelf, G: Gate, R: Threads + Wait + Sync>(
-    rt: &R,
+fn answer_of<F: Shelf>(
     alloc: Global,
     words: &[String],
     shelf: &mut F,
-    gate: &G,
-) -> Result<Answer, AllocError>
-    ensures answer { IfOk result (IsAnswer (texts words.now)
-        (F.seen shelf.old)
-        (F.seen shelf.new)) }
+) -> Result<Outcome, AllocError>
+    ensures answer { IfOk result (ComesTo
+        (IsAnswer (texts words.now) (F.seen shelf.old) (F.seen shelf.new))
+        (IsReady (texts words.now) (F.seen shelf.old))) }
     ensures same { (F.seen shelf.new).files ≡ (F.seen shelf.old).files }
     ensures faults { (F.seen shelf.old).faults ≤ (F.seen shelf.new).faults }
     ensures misses { (F.seen shelf.old).misses ≤ (F.seen shelf.new).misses }
 {
     match command_of(alloc, words)? {
-        Some(command) => outcome_of(rt, alloc, command, shelf, gate),
-        None => Ok(Answer::Usage),
+        Some(command) => outcome_of(alloc, command, shelf),
+        None => Ok(Outcome::Answer(Answer::Usage)),
     }
 }
 
@@ -54,6 +67,85 @@ fn kept(status: u8, run: Option<Concluded>) -> Option<Concluded>
     ensures { result ≡ kept_at status run }
 {
     if status == DONE { run } else { None }
+}
+
+// The program ends for want of memory.
+fn starved() -> Ended
+    ensures { result ≡ record { status = MEMORY; run = None } }
+{
+    Ended {
+        status: MEMORY,
+        run: None,
+    }
+}
+
+// Delivers an answer, and says how the program ends.
+fn told<F: Shelf, S: Sink>(alloc: Global, answer: Answer, shelf: &mut F, sink: &mut S) -> Ended
+    ensures ends { (words : List (List ℕ)) → (before : ShelfView) →
+        IsLater before (F.seen shelf.old) →
+        IsAnswer words before (F.seen shelf.old) answer → Ends words before
+        (F.seen shelf.new)
+        (S.seen sink.old)
+        (S.seen sink.new) result.status result.run }
+{
+    let Ok((output, run)) = output_of(alloc, answer) else {
+        return starved();
+    };
+    let status = deliver(shelf, sink, &output);
+    Ended {
+        status,
+        run: kept(status, run),
+    }
+}
+
+/// Does what the words say, but for a run: of that it reads the files, and hands them out.
+///
+/// It waits for nobody: all commands but `run` are done here.
+pub fn serve<F: Shelf, S: Sink>(
+    alloc: Global,
+    words: &[String],
+    shelf: &mut F,
+    sink: &mut S,
+) -> Served
+    ensures served { IsServed (texts words.now)
+        (F.seen shelf.old)
+        (F.seen shelf.new)
+        (S.seen sink.old)
+        (S.seen sink.new) result }
+{
+    match answer_of(alloc, words, shelf) {
+        Ok(Outcome::Answer(answer)) => Served::Ended(told(alloc, answer, shelf, sink)),
+        Ok(Outcome::Run(ready)) => Served::Run(ready),
+        Err(_) => Served::Ended(starved()),
+    }
+}
+
+// Runs the file that is ready, delivers what that comes to, and says how the program ends.
+fn finish<F: Shelf, S: Sink, G: Gate, R: Threads + Wait + Sync>(
+    rt: &R,
+    alloc: Global,
+    ready: Ready,
+    shelf: &mut F,
+    sink: &mut S,
+    gate: &G,
+) -> Ended
+    requires one { length ready.files ≡ 1 }
+    requires short { All IsShort ready.files }
+    requires named { length ready.more ≡
+        length (more_of (commands.Run ready.input) ready.files) }
+    requires small { All IsShort ready.more }
+    ensures ends { (words : List (List ℕ)) → (before : ShelfView) →
+        IsLater before (F.seen shelf.old) →
+        IsReady words before ready → Ends words before
+        (F.seen shelf.new)
+        (S.seen sink.old)
+        (S.seen sink.new) result.status result.run }
+{
+    let Ready { input, files, more } = ready;
+    match run(rt, alloc, input, only(&files), more, gate) {
+        Ok(answer) => told(alloc, answer, shelf, sink),
+        Err(_) => starved(),
+    }
 }
 
 // Answers the words, and says how the program ends.
@@ -71,22 +163,9 @@ fn run_words<F: Shelf, S: Sink, G: Gate, R: Threads + Wait + Sync>(
         (S.seen sink.old)
         (S.seen sink.new) result.status result.run }
 {
-    let Ok(answer) = answer_of(rt, alloc, words, shelf, gate) else {
-        return Ended {
-            status: MEMORY,
-            run: None,
-        };
-    };
-    let Ok((output, run)) = output_of(alloc, answer) else {
-        return Ended {
-            status: MEMORY,
-            run: None,
-        };
-    };
-    let status = deliver(shelf, sink, &output);
-    Ended {
-        status,
-        run: kept(status, run),
+    match serve(alloc, words, shelf, sink) {
+        Served::Ended(ended) => ended,
+        Served::Run(ready) => finish(rt, alloc, ready, shelf, sink, gate),
     }
 }
 
@@ -96,7 +175,8 @@ fn run_words<F: Shelf, S: Sink, G: Gate, R: Threads + Wait + Sync>(
 /// IN OUT` instruments a module and saves it. `link OUT IN..` links 1 to 64 modules and saves what they make. `verify
 /// PLAN` verifies the modules of a plan and prints a line for each; `graph PLAN` does so and prints the groups of their
 /// policy. `sim PLAN SCHEDULE` makes the events of a schedule, one by one, and prints what they come to. `run FILE` runs a
-/// plan, or a bare file, whose guests run on threads of their own beside the script, and prints the report.
+/// plan, or a bare file, whose guests run on threads of their own beside the script, and prints the report. It waits for a
+/// run alone: all else is done by `serve`.
 /// Status 0 where the command's bytes were written whole, 1 where the words are no command, 2 where the shelf failed,
 /// 3 where a file is not there or too long, 4 where the sink failed, or the shelf where a file was saved, 5 where a
 /// file was refused, 6 where no memory was left.

@@ -4,18 +4,36 @@ ghost use Rattle.cfi_outside.specs.declared.command.Command.TheVariants as comma
 ghost use Rattle.cfi_outside.specs.Command.{HasInputs, inputs_of, more_of};
 ghost use Rattle.cfi_outside.specs.Reading.{IsShort};
 ghost use Rattle.cfi_top.specs.Outcome.{GoesOn, IsWorked, IsOutcome};
+ghost use Rattle.cfi_top.specs.inner.Working.{ComesTo, IsToRun, IsReadToRun, IsReadyFor};
 
 use crate::answer::Answer;
 use crate::plans::{graph, sim, verify};
 use crate::refused::refused;
-use crate::running::run;
 use cfi_commands::{CommandFault, assembled, instrumented, linked, listing_of};
-use cfi_io::{Gate, Shelf};
+use cfi_io::Shelf;
 use cfi_outside::{Command, only, read_files, text_of};
 use cfi_values::{Bytes, Items, Text};
 use std::alloc::{AllocError, Global};
-use std::sync::Wait;
-use std::thread::Threads;
+
+/// What a command comes to where nobody is waited for.
+#[derive(Drop)]
+pub enum Outcome {
+    /// The command's answer.
+    Answer(Answer),
+    /// A run that is to be made.
+    Run(Ready),
+}
+
+/// A file that is to be run, with all that is read for it.
+#[derive(Drop)]
+pub struct Ready {
+    /// The file's name.
+    pub input: Text,
+    /// The bytes of the file, which is the one here.
+    pub files: Items<Bytes>,
+    /// Those of the files that it names.
+    pub more: Items<Bytes>,
+}
 
 // Assembles a source.
 fn asm(alloc: Global, input: Text, output: Text, bytes: &[u8]) -> Result<Answer, AllocError>
@@ -72,82 +90,84 @@ fn link(
     }
 }
 
-// Does a command, of whose inputs these are the bytes, and of the files that they name.
-fn work<G: Gate, R: Threads + Wait + Sync>(
-    rt: &R,
+// Does a command that waits for nobody, of whose inputs these are the bytes, and of the files that they name.
+fn work(
     alloc: Global,
     command: Command,
     files: Items<Bytes>,
     more: Items<Bytes>,
-    gate: &G,
-) -> Result<Answer, AllocError>
+) -> Result<Outcome, AllocError>
     requires number { HasInputs command }
     requires count { length files ≡ length (inputs_of command) }
     requires short { All IsShort files }
     requires named { length more ≡ length (more_of command files) }
     requires small { All IsShort more }
-    ensures { IfOk result (IsWorked command files more) }
+    ensures { IfOk result (ComesTo (IsWorked command files more) (IsToRun command files more)) }
 {
     match command {
-        Command::Asm { input, output } => asm(alloc, input, output, only(&files)),
-        Command::List { input } => list(alloc, input, only(&files)),
-        Command::Instrument { input, output } => instrument(alloc, input, output, only(&files)),
-        Command::Link { output, inputs } => link(alloc, output, inputs.as_slice(), files),
-        Command::Verify { plan } => verify(alloc, plan, only(&files), more),
-        Command::Graph { plan } => graph(alloc, plan, only(&files), more),
-        Command::Sim { plan, schedule } => sim(alloc, plan, schedule, only(&files), more),
-        Command::Run { input } => run(rt, alloc, input, only(&files), more, gate),
+        Command::Asm { input, output } => {
+            Ok(Outcome::Answer(asm(alloc, input, output, only(&files))?))
+        }
+        Command::List { input } => Ok(Outcome::Answer(list(alloc, input, only(&files))?)),
+        Command::Instrument { input, output } => {
+            Ok(Outcome::Answer(instrument(alloc, input, output, only(&files))?))
+        }
+        Command::Link { output, inputs } => {
+            Ok(Outcome::Answer(link(alloc, output, inputs.as_slice(), files)?))
+        }
+        Command::Verify { plan } => Ok(Outcome::Answer(verify(alloc, plan, only(&files), more)?)),
+        Command::Graph { plan } => Ok(Outcome::Answer(graph(alloc, plan, only(&files), more)?)),
+        Command::Sim { plan, schedule } => {
+            Ok(Outcome::Answer(sim(alloc, plan, schedule, only(&files), more)?))
+        }
+        Command::Run { input } => Ok(Outcome::Run(Ready { input, files, more })),
     }
 }
 
 // Reads the files that a command's inputs, of these bytes, name, and those after them, and does the command.
-fn outcome_over<F: Shelf, G: Gate, R: Threads + Wait + Sync>(
-    rt: &R,
+fn outcome_over<F: Shelf>(
     alloc: Global,
     command: Command,
     files: Items<Bytes>,
     shelf: &mut F,
-    gate: &G,
-) -> Result<Answer, AllocError>
+) -> Result<Outcome, AllocError>
     requires number { HasInputs command }
     requires count { length files ≡ length (inputs_of command) }
     requires short { All IsShort files }
-    ensures outcome { IfOk result (GoesOn command files
-        (F.seen shelf.old)
-        (F.seen shelf.new)) }
+    ensures outcome { IfOk result (ComesTo
+        (GoesOn command files (F.seen shelf.old) (F.seen shelf.new))
+        (IsReadToRun command files (F.seen shelf.old))) }
     ensures same { (F.seen shelf.new).files ≡ (F.seen shelf.old).files }
     ensures faults { (F.seen shelf.old).faults ≤ (F.seen shelf.new).faults }
     ensures misses { (F.seen shelf.old).misses ≤ (F.seen shelf.new).misses }
 {
     let names = command.more(alloc, &files)?;
     match read_files(alloc, shelf, &names)? {
-        Ok(more) => work(rt, alloc, command, files, more, gate),
-        Err(behind) => Ok(Answer::Unread(behind)),
+        Ok(more) => work(alloc, command, files, more),
+        Err(behind) => Ok(Outcome::Answer(Answer::Unread(behind))),
     }
 }
 
 /// Reads a command's inputs, then the files that they name, then those that come after them, all before it looks into
-/// one, and does the command.
+/// one, and does the command, where it waits for nobody.
 ///
 /// An input that names files is looked into for their names alone.
-pub fn outcome_of<F: Shelf, G: Gate, R: Threads + Wait + Sync>(
-    rt: &R,
+pub fn outcome_of<F: Shelf>(
     alloc: Global,
     command: Command,
     shelf: &mut F,
-    gate: &G,
-) -> Result<Answer, AllocError>
+) -> Result<Outcome, AllocError>
     requires number { HasInputs command }
-    ensures outcome { IfOk result (IsOutcome command
-        (F.seen shelf.old)
-        (F.seen shelf.new)) }
+    ensures outcome { IfOk result (ComesTo
+        (IsOutcome command (F.seen shelf.old) (F.seen shelf.new))
+        (IsReadyFor command (F.seen shelf.old))) }
     ensures same { (F.seen shelf.new).files ≡ (F.seen shelf.old).files }
     ensures faults { (F.seen shelf.old).faults ≤ (F.seen shelf.new).faults }
     ensures misses { (F.seen shelf.old).misses ≤ (F.seen shelf.new).misses }
 {
     let names = command.inputs(alloc)?;
     match read_files(alloc, shelf, &names)? {
-        Ok(files) => outcome_over(rt, alloc, command, files, shelf, gate),
-        Err(unread) => Ok(Answer::Unread(unread)),
+        Ok(files) => outcome_over(alloc, command, files, shelf),
+        Err(unread) => Ok(Outcome::Answer(Answer::Unread(unread))),
     }
 }

@@ -8,7 +8,8 @@ ghost use Rattle.elf_write.specs.File.{bytes_of, IsWritable};
 ghost use Rattle.elf_write.specs.Limits.{IsWithinLimits};
 ghost use Rattle.elf_write.specs.Whole.{IsWhole};
 
-/// Each object within the limits can be written, and its file is short enough to be read.
+/// Each object within the limits can be written, and its file is short enough for `read_object`. The program reads
+/// shorter files alone, of at most `MAX_FILE_BYTES` of `cfi_word`.
 pub fn limits_fit()
     ensures writable { (object : Object) → IsWithinLimits object → IsWritable object }
     ensures short { (object : Object) → IsWithinLimits object →

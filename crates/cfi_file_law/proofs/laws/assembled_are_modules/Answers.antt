@@ -5,24 +5,24 @@ use Rattle.cfi_file_law.proofs.AsmSourceLemmas.{source-spelled, source-bare, sou
 use Rattle.cfi_file_law.proofs.laws.assembled_are_modules.Goals as goal
 
 pub returns-clause-bare : goal.returns-clause-bare
-returns-clause-bare c = λ text file short is off. (
+returns-clause-bare c = λ text file short is read off. (
   object_of_file is.object,
-  c.assembled_are_read.ensures text file short is,
+  c.assembled_are_read.ensures text file short is read,
   source-bare text is.object is.is off,
   λ same. cc,
 )
 
 pub returns-clause-module : goal.returns-clause-module
-returns-clause-module c = λ text file short is on few. record {
+returns-clause-module c = λ text file short is read on few. record {
   object = object_of_file is.object;
-  is = c.assembled_are_read.ensures text file short is;
+  is = c.assembled_are_read.ensures text file short is read;
   whole = kept (source_module text is.object) (source-spelled text is.object is.is on few);
 }
 
 pub returns-clause-long : goal.returns-clause-long
-returns-clause-long c = λ text file short is on number first. (
+returns-clause-long c = λ text file short is read on number first. (
   object_of_file is.object,
-  c.assembled_are_read.ensures text file short is,
+  c.assembled_are_read.ensures text file short is read,
   source-long text is.object is.is on number first,
   λ same. cc,
 )

@@ -8,7 +8,7 @@ use Rattle.cfi_file_law.proofs.FileLemmas.{module-file}
 use Rattle.cfi_file_law.proofs.laws.instrumented_are_read.Goals as goal
 
 pub returns : goal.returns
-returns c bytes file all is =
+returns c bytes file all is short =
     let source = is.unplaced in
     let read = is.is.is in
     let fit : IsFit source.object =

@@ -8,7 +8,7 @@ use Rattle.cfi_file_law.proofs.laws.saved_are_proper.Goals as goal
 pub returns : goal.returns
 returns c bytes file room names placed at loaded =
     let saved = at.saved in
-    let read = c.instrumented_are_read.ensures bytes file at.are saved in
+    let read = c.instrumented_are_read.ensures bytes file at.are saved at.short in
     let same = one-module file at.m (module_of_file saved.out) at.read read in
     proper saved.unplaced saved.out room names placed saved.made
     (some-word c.what_is_read_is_sound.ensures bytes saved.unplaced saved.is at.some) read at.fits

@@ -1,5 +1,9 @@
 use Rattle.cfi_file_law.proofs.CallLinkedLemmas.{are-modules, are-read, linked, are-bytes, linked-file}
+use Rattle.cfi_file_law.proofs.ShortLemmas.{linked-short}
 use Rattle.cfi_file_law.proofs.laws.some_calls_are_linked.Goals as goal
+
+pub returns-clause-short : goal.returns-clause-short
+returns-clause-short c = linked-short
 
 pub returns-clause-modules : goal.returns-clause-modules
 returns-clause-modules c = are-modules

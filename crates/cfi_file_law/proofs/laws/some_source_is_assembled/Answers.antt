@@ -1,4 +1,5 @@
 use Rattle.cfi_file_law.proofs.SourceExampleLemmas.{assembled, with-records, few}
+use Rattle.cfi_file_law.proofs.ShortLemmas.{return-short}
 use Rattle.cfi_file_law.proofs.laws.some_source_is_assembled.Goals as goal
 
 pub returns-clause-assembled : goal.returns-clause-assembled
@@ -9,3 +10,6 @@ returns-clause-records c = with-records
 
 pub returns-clause-few : goal.returns-clause-few
 returns-clause-few c = few
+
+pub returns-clause-read : goal.returns-clause-read
+returns-clause-read c = return-short

@@ -1,6 +1,6 @@
 use Rattle.std.proofs.Common.{take}
 use Rattle.cfi_outside.specs.Reading.{AreRead}
-use Rattle.cfi_outside.proofs.OutsideLemmas.{IsLater}
+use Rattle.cfi_outside.specs.Outside.{IsLater}
 use Rattle.cfi_outside.proofs.reading.read_files.Given as goal
 
 -- the files so far were read, and no count fell

@@ -1,17 +1,19 @@
-use Rattle.cfi_outside.proofs.OutsideLemmas.{IsLater}
-use Rattle.cfi_top.proofs.OutcomeLemmas.{ends_of}
+use Rattle.std.proofs.Common.{subst}
+use Rattle.cfi_args.specs.Words.{texts}
+use Rattle.cfi_io.specs.Seen.{SinkView}
+use Rattle.cfi_top.specs.Top.{Ends}
 use Rattle.cfi_top.proofs.program.run_words.Goals as goal
 
--- what was read and done was delivered
-pub returns : goal.returns
-returns g c =
-    let shelf = c.args.shelf.now in
-    let read = c.answer_of.new.shelf in
-    let old = g.F.Shelf.seen shelf in
-    let mid = g.F.Shelf.seen read in
-    let kept = c.answer_of.ensures in
-    let later : IsLater old mid = record { files = kept.same; faults = kept.faults; misses = kept.misses } in
+-- the run was made of the file that is ready
+pub returns-in-Run : goal.returns-in-Run
+returns-in-Run g c =
+    let words = texts c.args.words.now in
+    let old = g.F.Shelf.seen c.args.shelf.now in
+    let new = g.F.Shelf.seen c.finish.new.shelf in
+    let sink = g.S.Sink.seen c.finish.new.sink in
+    let ended = c.finish.result in
+    let served = c.in-Run.ensures.served in
     record {
-      ends = ends_of _ old mid _ _ _ _ _ _ _ _ c.in-Ok-output_of.ensures.output c.in-Ok-output_of.ensures.run c.kept.ensures later
-          c.deliver-status.ensures.faults c.deliver-status.ensures.misses c.deliver-status.ensures.last c.in-Ok.ensures.answer c.deliver-status.ensures.delivered;
+      ends = subst (λ (s : SinkView). Ends words old new s sink ended.status ended.run) served.2
+          (c.finish.ensures.ends words old served.1 served.0);
     }

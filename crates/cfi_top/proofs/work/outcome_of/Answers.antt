@@ -2,8 +2,8 @@ use Rattle.std.proofs.Common.{◌≡◌, ◌∙◌, Ok, subst}
 use Rattle.std.proofs.lemmas.Result.{IfOk-weaker}
 use Rattle.cfi_outside.specs.Command.{inputs_of}
 use Rattle.cfi_outside.specs.Reading.{AreRead, IsFound}
-use Rattle.cfi_outside.proofs.OutsideLemmas.{IsLater}
-use Rattle.cfi_top.proofs.OutcomeLemmas.{outcome_is}
+use Rattle.cfi_outside.specs.Outside.{IsLater}
+use Rattle.cfi_top.proofs.ReadyLemmas.{comes_out}
 use Rattle.cfi_top.proofs.work.outcome_of.Goals as goal
 
 -- the inputs are read
@@ -24,4 +24,4 @@ returns-in-Ok-clause-outcome g c =
     let kept = c.read_files.ensures in
     let later : IsLater old mid = record { files = kept.same; faults = kept.faults; misses = kept.misses } in
     IfOk-weaker c.outcome_over.result _ _
-    (λ answer goes. outcome_is command files old mid new later inputs answer goes) c.outcome_over.ensures.outcome
+    (λ outcome goes. comes_out command files old mid new outcome later inputs goes) c.outcome_over.ensures.outcome

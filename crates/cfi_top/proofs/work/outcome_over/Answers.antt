@@ -2,7 +2,7 @@ use Rattle.std.proofs.Common.{◌≡◌, ◌∙◌, Ok, subst}
 use Rattle.std.proofs.lemmas.Result.{IfOk-weaker}
 use Rattle.cfi_outside.specs.Command.{more_of}
 use Rattle.cfi_outside.specs.Reading.{AreRead, IsFound}
-use Rattle.cfi_top.proofs.OutcomeLemmas.{worked_is}
+use Rattle.cfi_top.proofs.ReadyLemmas.{goes_on}
 use Rattle.cfi_top.proofs.work.outcome_over.Goals as goal
 
 -- the files that the inputs name are read
@@ -20,4 +20,4 @@ returns-in-Ok-clause-outcome g c =
     let named : c.deref.result.now ≡ more_of command files = c.deref.ensures.value ∙ c.in_ok-names.ensures in
     let others = subst (λ names. AreRead old names more) named found in
     IfOk-weaker c.work.result _ _
-    (λ answer worked. worked_is command files more old new answer others worked) c.work.ensures
+    (λ outcome worked. goes_on command files more old new outcome others worked) c.work.ensures
