@@ -1,4 +1,4 @@
-"""Plans, reports and modules, as the companions of this folder read them.
+"""Plans and reports, as the companions of this folder read them.
 
 What is read here is what `cfi` has taken or printed, so nothing is judged: a text that is none of these is named with its
 line, and `cfi verify PLAN` tells a plan's own fault. docs/FORMATS.md has the forms.
@@ -6,11 +6,9 @@ line, and `cfi verify PLAN` tells a plan's own fault. docs/FORMATS.md has the fo
 from __future__ import annotations
 
 import re
-import struct
 import sys
 from dataclasses import dataclass
 
-KINDS = ("call", "tail", "return", "switch")
 
 
 class Unfit(Exception):
@@ -76,7 +74,10 @@ class Guest:
     """A guest's part of a report: its stop is `exit CODE`, `halt ADDRESS`, `align ADDRESS`, `fuel` or `none`."""
     number: int
     entry: str
+    log: tuple[str, ...]
+    out: str
     stop: str
+    units: int
 
 
 @dataclass(frozen=True)
@@ -86,6 +87,7 @@ class Loaded:
     name: str
     base: int  # the word at which its code begins
     slot: int  # of its first check
+    data: int  # the address of its data
     policy: int  # that came with it
 
 
@@ -102,13 +104,13 @@ NAME, NUMBER, ADDRESS = r"[\w.$]{1,255}", r"\d{1,10}", r"[0-9a-f]{8}"
 FORMS = {
     "s": r"sim 1", "u": r"updater (?:idle|epoch|(?:testing|code|tary|bary) \d+)", "r": r"report 1",
     "f": rf"force {NUMBER} {NUMBER}",
-    "m": rf"module ({NUMBER}) ({NAME}) ({NUMBER}) ({NUMBER}) {ADDRESS} ({NUMBER})",
+    "m": rf"module ({NUMBER}) ({NAME}) ({NUMBER}) ({NUMBER}) ({ADDRESS}) ({NUMBER})",
     "j": rf"journal (?:script|{NUMBER}) (?:load {NUMBER}|refresh)(?: [a-z]+)(?: {NUMBER})*",
     "g": rf"guest ({NUMBER}) ({NAME})",
     "l": rf"pick {NUMBER} {NUMBER}|open {NUMBER} (?:{ADDRESS}|cause) {NUMBER}",
-    "o": r"out (?:-|(?:[0-9a-f]{2})+)",
+    "o": r"out (-|(?:[0-9a-f]{2})+)",
     "t": rf"stop (exit {NUMBER}|(?:halt|align) {ADDRESS}|fuel|none)",
-    "c": rf"units {NUMBER}", "d": rf"steps {NUMBER}", "e": r"end",
+    "c": rf"units ({NUMBER})", "d": rf"steps {NUMBER}", "e": r"end",
 }
 WHOLE = re.compile(r"(?:su)?rfm*j*(?:gl*otcd)+e")
 
@@ -123,72 +125,20 @@ def read_report(name: str) -> Report:
         raise Unfit(f"{name} is no report: see its line {found.index(None) + 1}")
     if not text.endswith("\n") or not WHOLE.fullmatch("".join(kind for kind, _ in found)):
         raise Unfit(f"{name} is no whole report: a line is missing or astray")
-    groups = {want: [it.groups() for kind, it in found if kind == want] for want in "mgt"}
-    modules = [Loaded(int(n), it, int(base), int(slot), int(policy)) for n, it, base, slot, policy in groups["m"]]
-    guests = [Guest(int(n), entry, stop) for (n, entry), (stop,) in zip(groups["g"], groups["t"])]
+    modules = [Loaded(int(n), it, int(base), int(slot), int(data, 16), int(policy))
+               for kind, form in found if kind == "m" for n, it, base, slot, data, policy in [form.groups()]]
+    guests, part = [], []
+    for (kind, form), line in zip(found, lines):
+        part = [(form, line)] if kind == "g" else [*part, (form, line)]
+        if kind == "d":
+            guests.append(guest_of(part))
     return Report(tuple(lines), tuple(modules), tuple(guests))
 
 
-@dataclass(frozen=True)
-class Function:
-    """A record of a function: its place and its length are bytes of the text."""
-    name: str
-    place: int
-    length: int
-
-
-@dataclass(frozen=True)
-class Records:
-    """The records of an object: its functions, and the kind of each indirect jump."""
-    functions: tuple[Function, ...]
-    kinds: tuple[str, ...]
-
-    def place_of(self, offset: int) -> str:
-        """A place of the text as `function+offset`."""
-        for it in self.functions:
-            if it.place <= offset < it.place + it.length:
-                return it.name + (f"+{offset - it.place:#x}" if offset > it.place else "")
-        return f".text+{offset:#x}"
-
-
-def section_of(data: bytes, wanted: str) -> bytes | None:
-    """The bytes of a section of an ELF32 object (System V ABI, chapter 4); nothing where it has none."""
-    if len(data) < 52 or data[:6] != b"\x7fELF\x01\x01":
-        raise Unfit("an object is wanted, and this is no ELF32 file: `cfi list FILE` tells its fault")
-    table, count, names = struct.unpack_from("<I", data, 32)[0], *struct.unpack_from("<HH", data, 48)
-    try:
-        headers = [struct.unpack_from("<10I", data, table + 40 * it) for it in range(count)]
-        start = headers[names][4]
-        for name, _, _, _, place, size, *_ in headers:
-            if data[start + name:].startswith(wanted.encode() + b"\0"):
-                return data[place:place + size]
-    except (struct.error, IndexError) as fault:
-        raise Unfit("an object is cut off: `cfi list FILE` tells its fault") from fault
-    return None
-
-
-def read_records(name: str) -> Records:
-    """The records of the object in the file of this name; none where it has none, as what a compiler makes."""
-    section = section_of(data_of(name), ".cfi_records")
-    try:
-        return Records(*records_in(section)) if section is not None else Records((), ())
-    except (struct.error, IndexError, UnicodeDecodeError) as fault:
-        raise Unfit(f"{name} has damaged records: `cfi verify` tells their fault") from fault
-
-
-def records_in(section: bytes) -> tuple[tuple[Function, ...], tuple[str, ...]]:
-    """The functions and the kinds of jumps of a section of records."""
-    (_, count, jumps), at = struct.unpack_from("<3I", section), 12
-    functions, kinds = [], []
-    for _ in range(count):
-        place, length, _, _, size = struct.unpack_from("<5I", section, at)
-        functions.append(Function(section[at + 20:at + 20 + size].decode(), place, length))
-        at += 20 + (size + 3) // 4 * 4
-    for _ in range(jumps):
-        kind, fields = struct.unpack_from("<2I", section, at)
-        kinds.append(KINDS[kind])
-        at += 8 + 4 * fields
-    return tuple(functions), tuple(kinds)
+def guest_of(part) -> Guest:
+    """A guest of the matches and lines of its part."""
+    (head, _), *log, (out, _), (stop, _), (units, _), _ = part
+    return Guest(int(head[1]), head[2], tuple(line for _, line in log), out[1], stop[1], int(units[1]))
 
 
 def answer(main, words) -> int:

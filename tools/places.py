@@ -9,7 +9,8 @@ import tempfile
 from dataclasses import dataclass
 from pathlib import Path
 
-from formats import Plan, PlanModule, Records, Report, Unfit, read_records
+from formats import Plan, PlanModule, Report, Unfit
+from objects import Records, read_records
 
 TOP = Path(__file__).resolve().parent.parent
 PROGRAM = TOP / "cfi"
