@@ -13,15 +13,17 @@ LAYERS = {"Refusals of `asm`": "asm", "Refusals of `list`": "elf"}
 # What the other lines of a report say. N stands for a number, A for an address, W for a word.
 MEANINGS = {
     "force N N": "epoch {0} and policy {1} were the last",
-    "module N W N N A N": "module {0} of the plan, {1}, was loaded at word {2}, with its first check at slot {3}, its data at {4}, "
-                          "and policy {5}",
+    "module N W N N A N":
+        "module {0} of the plan, {1}, lies at word {2}; its first check has slot {3}, its data {4}; it came with policy {5}",
     "journal W load N ok N N": "{0} had module {1} loaded, as epoch {2} and policy {3}",
     "journal W load N again N": "{0} asked for module {1}, which was there already, under policy {2}",
     "journal W load N full": "{0} asked for module {1} where 64 modules were loaded",
-    "journal W load N versions N N": "no version was left for module {1}: guest {2} had published epoch {3} and nothing later",
+    "journal W load N versions N N":
+        "no version was left for module {1}: guest {2} had published epoch {3} and nothing later",
     "journal W load N epochs": "the epochs were used up before module {1}",
     "journal W refresh ok N": "a refresh made epoch {1}",
-    "journal W refresh versions N N": "no version was left for a refresh: guest {1} had published epoch {2} and nothing later",
+    "journal W refresh versions N N":
+        "no version was left for a refresh: guest {1} had published epoch {2} and nothing later",
     "journal W refresh epochs": "the epochs were used up before a refresh",
     "guest N W": "what follows is of guest {0}, which began at {1}",
     "pick N N": "{1} checks in a row asked policy {0}",
@@ -30,6 +32,12 @@ MEANINGS = {
     "units N": "the guest ran {0} units",
     "steps N": "the guest ran {0} instructions, the tries of checks that met an update among them",
     "report 1": "a report begins", "end": "the report is whole",
+    "sim 1": "a simulation begins",
+    "updater idle": "no update was under way at its end",
+    "updater epoch": "an update was before its store of EPOCH",
+    "updater W N": "an update was before its access to word {1} of its part {0}",
+    "absent W": "there is no file {0} in this folder", "toolong W": "the file {0} has more than 1,048,576 bytes",
+    "failed read W": "the system failed to read the file {0}",
 }
 
 

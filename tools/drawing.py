@@ -1,4 +1,4 @@
-"""Drawings of a policy: functions, their branches, classes, and where each branch may go. What a load added is green."""
+"""Drawings of a policy: functions, their branches, classes, and where each may go. What a load added is green."""
 from __future__ import annotations
 
 from html import escape
@@ -13,7 +13,7 @@ def colour(item) -> str:
 
 
 def dot_of(groups) -> str:
-    """The policy for Graphviz: branches on the left, each in the box of its function, and their targets on the right."""
+    """The policy for Graphviz: branches on the left, each in the box of its function, and targets on the right."""
     lines = ["digraph policy {", "  rankdir=LR", "  node [shape=box, fontname=monospace]"]
     homes = {}
     for number, group in enumerate(groups, 1):
@@ -60,5 +60,5 @@ def svg_of(groups) -> str:
     for number, group in enumerate(groups, 1):
         found, top = group_of(number, group, top)
         lines += found
-    head = f'<svg xmlns="http://www.w3.org/2000/svg" width="{WIDTH}" height="{top}" font-family="monospace" font-size="12">'
-    return "\n".join([head, *lines, "</svg>"]) + "\n"
+    size = f'width="{WIDTH}" height="{top}" font-family="monospace" font-size="12"'
+    return "\n".join([f'<svg xmlns="http://www.w3.org/2000/svg" {size}>', *lines, "</svg>"]) + "\n"

@@ -1,7 +1,7 @@
 """Plans and reports, as the companions of this folder read them.
 
-What is read here is what `cfi` has taken or printed, so nothing is judged: a text that is none of these is named with its
-line, and `cfi verify PLAN` tells a plan's own fault. docs/FORMATS.md has the forms.
+What is read here is what `cfi` has taken or printed, so nothing is judged: a text that is none of these is named with
+its line, and `cfi verify PLAN` tells a plan's own fault. docs/FORMATS.md has the forms.
 """
 from __future__ import annotations
 

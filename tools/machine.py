@@ -1,8 +1,8 @@
 """A guest run again, unit by unit, with the picks and the answers that its report tells.
 
 Instructions are those of the RISC-V Unprivileged ISA 20191213, chapter 2. Whether a check lets a jump go is not asked
-here: the report says how many checks did. A report that does not fit the files is found out, since units, output and end
-have to come out as it says.
+here: the report says how many checks did. A report that does not fit the files is found out, since units, output and
+end have to come out as it says.
 """
 from __future__ import annotations
 
@@ -26,7 +26,8 @@ def signed(value: int) -> int:
 OPERATIONS = {
     "add": lambda a, b: a + b, "sub": lambda a, b: a - b, "xor": lambda a, b: a ^ b, "or": lambda a, b: a | b,
     "and": lambda a, b: a & b, "sll": lambda a, b: a << b % 32, "srl": lambda a, b: a >> b % 32,
-    "sra": lambda a, b: signed(a) >> b % 32, "slt": lambda a, b: int(signed(a) < signed(b)), "sltu": lambda a, b: int(a < b),
+    "sra": lambda a, b: signed(a) >> b % 32, "slt": lambda a, b: int(signed(a) < signed(b)),
+    "sltu": lambda a, b: int(a < b),
 }
 CONDITIONS = {
     "beq": lambda a, b: a == b, "bne": lambda a, b: a != b, "blt": lambda a, b: signed(a) < signed(b),
@@ -71,7 +72,8 @@ class Machine:
 
     def unfit(self, what: str) -> Unfit:
         """Why this is not the run that the report tells of."""
-        return Unfit(f"guest {self.guest.number}, unit {self.units + 1}, at {self.pc:08x}: {what}; give the files that were run")
+        where = f"guest {self.guest.number}, unit {self.units + 1}, at {self.pc:08x}"
+        return Unfit(f"{where}: {what}; give the files that were run")
 
     def fetch(self) -> tuple[str, str]:
         """The instruction that the guest has come to, and the mark of its unit."""
@@ -108,7 +110,8 @@ class Machine:
             base, offset = re.fullmatch(r"addi x31,(x\d+),(-?\d+)", first).groups()
             text = re.sub(r"0\(x31\)", f"{offset}({base})", text)
         name, _, operands = text.partition(" ")
-        did = (self.check if mark == "check" else self.access if mark else self.plain)(name, re.split(r"[,()]+", operands.rstrip(")")))
+        run = self.check if mark == "check" else self.access if mark else self.plain
+        did = run(name, re.split(r"[,()]+", operands.rstrip(")")))
         self.units += 1
         return Step(address, text, did)
 

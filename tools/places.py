@@ -82,7 +82,8 @@ def loaded_of(plan: Plan, report: Report) -> list[PlanModule]:
     found = []
     for it in report.modules:
         if it.number >= len(plan.modules) or plan.modules[it.number].name != it.name:
-            raise Unfit(f"the report is not of {plan.file}: its module {it.number} is {it.name}; give the plan that was run")
+            what = f"its module {it.number} is {it.name}"
+            raise Unfit(f"the report is not of {plan.file}: {what}; give the plan that was run")
         found.append(PlanModule(it.name, plan.modules[it.number].file, it.policy == 0))
     return found
 

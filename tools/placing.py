@@ -45,7 +45,7 @@ def low(value: int) -> int:
 
 
 def address_of(placed: Placed, before: list[Placed], number: int) -> int:
-    """The address of a symbol by its number: the module's own, or that of the first module before it that exports it."""
+    """The address of a symbol by its number: the module's own, or that of the first before it that exports it."""
     if number == 0:
         return 0
     symbol = placed.parts.symbols[number]
@@ -97,8 +97,9 @@ def place(module: PlanModule, line: Loaded, before: list[Placed]) -> Placed:
     """A module where its line in a report says that it lies."""
     listed = [re.fullmatch(r"(.*) # [0-9a-f]{8} ?(\w*)", row) for row in ask("list", module.file)[1:]]
     parts = read_parts(module.file)
-    placed = Placed(module.name, 4 * line.base, line.data, line.policy, [it[1] for it in listed], [it[2] for it in listed],
-                    parts, bytearray(parts.data))
+    rows, marks = [it[1] for it in listed], [it[2] for it in listed]
+    data = bytearray(parts.data)
+    placed = Placed(module.name, 4 * line.base, line.data, line.policy, rows, marks, parts, data)
     fill(placed, before)
     return placed
 

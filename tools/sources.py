@@ -1,8 +1,8 @@
-"""From a word of an object to the line that it was made of: of a source of `cfi asm`, of a raw object, or of a compiler's.
+"""From a word of an object to the line that it was made of: of a source of `cfi asm`, or of a compiler's.
 
-An object of `cfi asm` and of `cfi instrument` keeps the order of its source, so the source and the listing are read side
-by side: a statement is one word, a short form up to two, a masked access six and a check 14. A compiler's object says its
-lines in a line table, which pyelftools reads.
+An object of `cfi asm` and of `cfi instrument` keeps the order of its source, so the source and the listing are read
+side by side: a statement is one word, a short form up to two, a masked access six and a check 14. A compiler's object
+says its lines in a line table, which pyelftools reads.
 """
 from __future__ import annotations
 
