@@ -55,6 +55,7 @@ class Machine:
     log: list[str] = field(default_factory=list)
     picks: int = 0  # that are left of the log's first line
     given: int = -1  # the policy up to which the guest has data
+    opens: int = 0
     units: int = 0
     stop: str = "none"
 
@@ -75,20 +76,13 @@ class Machine:
         where = f"guest {self.guest.number}, unit {self.units + 1}, at {self.pc:08x}"
         return Unfit(f"{where}: {what}; give the files that were run")
 
-    def fetch(self) -> tuple[str, str]:
-        """The instruction that the guest has come to, and the mark of its unit."""
+    def fetch(self, address: int) -> tuple[str, str]:
+        """The instruction at an address, and the mark of its unit."""
         for it in self.modules:
-            at = self.pc - it.begin
+            at = address - it.begin
             if 0 <= at < 4 * len(it.rows):
                 return it.rows[at // 4], it.marks[at // 4]
         raise self.unfit("there is no code")
-
-    def last_word(self, mark: str) -> str:
-        """The last instruction of the unit that begins here."""
-        self.pc += 4 * (UNITS[mark] - 1)
-        text, _ = self.fetch()
-        self.pc -= 4 * (UNITS[mark] - 1)
-        return text
 
     def set(self, register: str, value: int) -> str:
         """Sets a register, and says so where it has changed."""
@@ -104,11 +98,10 @@ class Machine:
 
     def step(self) -> Step:
         """Runs a unit."""
-        address, (first, mark) = self.pc, self.fetch()
-        text = self.last_word(mark) if mark else first
-        if mark:
-            base, offset = re.fullmatch(r"addi x31,(x\d+),(-?\d+)", first).groups()
-            text = re.sub(r"0\(x31\)", f"{offset}({base})", text)
+        address, (text, mark) = self.pc, self.fetch(self.pc)
+        if mark:  # its first word makes the address, and its last one uses it
+            base, offset = re.fullmatch(r"addi x31,(x\d+),(-?\d+)", text).groups()
+            text = self.fetch(address + 4 * UNITS[mark] - 4)[0].replace("0(x31)", f"{offset}({base})")
         name, _, operands = text.partition(" ")
         run = self.check if mark == "check" else self.access if mark else self.plain
         did = run(name, re.split(r"[,()]+", operands.rstrip(")")))
@@ -189,8 +182,10 @@ class Machine:
         return self.open(argument) if number == OPEN else f"no service {self.set('x10', REFUSED)}".rstrip()
 
     def open(self, number: int) -> str:
-        """An open, with the answer that the report tells; of more than 1,024 none is told."""
-        line = self.log.pop(0).split() if self.log else ["open", str(number), "cause", str(MANY_OPENS)]
+        """An open, with the answer that the report tells; of one after 1,024 it tells none."""
+        self.opens += 1
+        many = ["open", str(number), "cause", str(MANY_OPENS)]
+        line = many if self.opens > OPENS else self.log.pop(0).split() if self.log else ["end"]
         if line[:2] != ["open", str(number)]:
             raise self.unfit(f"the report has `{' '.join(line)}` where module {number} is opened")
         good = line[2] != "cause"
