@@ -1,9 +1,10 @@
 """Drawings of a policy: functions, their branches, classes, and where each may go. What a load added is green."""
 from __future__ import annotations
 
+from dataclasses import dataclass
 from html import escape
 
-ROW, WIDTH, LEFT, MIDDLE, RIGHT = 20, 900, 300, 450, 600
+ROW, LETTER, GAP = 20, 8, 150  # pixels: of a line, of a letter, and between two columns
 PLAIN, ADDED = "#333333", "#118833"
 
 
@@ -30,6 +31,23 @@ def dot_of(groups) -> str:
     return "\n".join([*lines, "}"]) + "\n"
 
 
+@dataclass(frozen=True)
+class Columns:
+    """Where branches end, classes stand and targets begin, as wide as their names are."""
+    left: int
+    middle: int
+    right: int
+    width: int
+
+    @staticmethod
+    def of(groups) -> Columns:
+        """The columns for these groups."""
+        branches = max((len(it.name) for group in groups for it in group.branches), default=0)
+        targets = max((len(it.name) for group in groups for it in group.targets), default=0)
+        left = LETTER * (branches + 1)
+        return Columns(left, left + GAP, left + 2 * GAP, left + 2 * GAP + LETTER * (targets + 1))
+
+
 def text(x: int, y: int, item, anchor: str) -> str:
     """The name of a branch or a target."""
     return f'<text x="{x}" y="{y + 4}" text-anchor="{anchor}" fill="{colour(item)}">{escape(item.name)}</text>'
@@ -40,25 +58,25 @@ def line(x: int, y: int, to_x: int, to_y: int, item) -> str:
     return f'<line x1="{x}" y1="{y}" x2="{to_x}" y2="{to_y}" stroke="{colour(item)}"/>'
 
 
-def group_of(number: int, group, top: int) -> tuple[list[str], int]:
+def group_of(number: int, group, top: int, columns: Columns) -> tuple[list[str], int]:
     """The lines of a class below `top`, and where the next one begins."""
     rows = max(len(group.branches), len(group.targets), 1)
-    middle = top + rows * ROW // 2
-    found = [f'<text x="{MIDDLE}" y="{middle + 4}" text-anchor="middle" fill="{PLAIN}">class {number}</text>']
+    x, y = columns.middle, top + rows * ROW // 2
+    found = [f'<text x="{x}" y="{y + 4}" text-anchor="middle" fill="{PLAIN}">class {number}</text>']
     for row, it in enumerate(group.branches):
-        y = top + row * ROW + ROW // 2
-        found += [text(LEFT, y, it, "end"), line(LEFT + 5, y, MIDDLE - 35, middle, it)]
+        at = top + row * ROW + ROW // 2
+        found += [text(columns.left, at, it, "end"), line(columns.left + 5, at, x - 35, y, it)]
     for row, it in enumerate(group.targets):
-        y = top + row * ROW + ROW // 2
-        found += [text(RIGHT, y, it, "start"), line(MIDDLE + 35, middle, RIGHT - 5, y, it)]
+        at = top + row * ROW + ROW // 2
+        found += [text(columns.right, at, it, "start"), line(x + 35, y, columns.right - 5, at, it)]
     return found, top + rows * ROW + ROW
 
 
 def svg_of(groups) -> str:
     """The policy as a drawing: branches on the left, classes in the middle, targets on the right."""
-    lines, top = [], ROW
+    lines, top, columns = [], ROW, Columns.of(groups)
     for number, group in enumerate(groups, 1):
-        found, top = group_of(number, group, top)
+        found, top = group_of(number, group, top, columns)
         lines += found
-    size = f'width="{WIDTH}" height="{top}" font-family="monospace" font-size="12"'
+    size = f'width="{columns.width}" height="{top}" font-family="monospace" font-size="12"'
     return "\n".join([f'<svg xmlns="http://www.w3.org/2000/svg" {size}>', *lines, "</svg>"]) + "\n"
