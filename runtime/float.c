@@ -230,6 +230,7 @@ OF_FORMAT(uint64_t, df, DOUBLE)
 OF_FORMAT(uint32_t, sf, SINGLE)
 
 uint64_t __extendsfdf2(uint32_t a) { return together_df(apart_sf(a)); }
+
 uint32_t __truncdfsf2(uint64_t a) { return together_sf(apart_df(a)); }
 
 #pragma GCC visibility pop

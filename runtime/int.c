@@ -56,6 +56,7 @@ static uint64_t divide_long(uint64_t n, uint64_t by, uint64_t *rest) {
 }
 
 static uint32_t size(int32_t n) { return n < 0 ? -(uint32_t)n : (uint32_t)n; }
+
 static uint64_t size_long(int64_t n) { return n < 0 ? -(uint64_t)n : (uint64_t)n; }
 
 uint32_t __udivsi3(uint32_t n, uint32_t by) {
