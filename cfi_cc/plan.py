@@ -45,17 +45,17 @@ def undefined(files: list[File], before: list[File]) -> list[str]:
     return said
 
 
-def plan_of(late: list[File], hosts: list[File], fuel: int) -> str:
-    """The plan."""
+def plan_of(late: list[File], hosts: list[File], fuel: int, placed: bool) -> str:
+    """The plan, with the late modules first or, as they are placed when they are opened in this order, last."""
     runtime = needed([*late, *hosts], [File(f"{it}.o") for it in RUNTIME])
     start = File(f"{START}.o")
     faults = undefined([*runtime, *hosts, start], []) + undefined(late, [*runtime, *hosts, start, *late])
     if faults:
         raise Refused("; ".join(faults))
-    lines = ["plan 1", f"fuel {fuel}"]
-    lines += [f"module {it.name} {it.path} late" for it in late]
-    lines += [f"module {it.name} {it.path} start" for it in [*runtime, *hosts, start]]
-    return "\n".join([*lines, f"guest {START}"]) + "\n"
+    opened = [f"module {it.name} {it.path} late" for it in late]
+    there = [f"module {it.name} {it.path} start" for it in [*runtime, *hosts, start]]
+    modules = there + opened if placed else opened + there
+    return "\n".join(["plan 1", f"fuel {fuel}", *modules, f"guest {START}"]) + "\n"
 
 
 def main(words: list[str]) -> int:
@@ -64,9 +64,10 @@ def main(words: list[str]) -> int:
     reader.add_argument("hosts", nargs="+", metavar="HOST.o", help="the modules that are there from the start")
     reader.add_argument("--late", action="append", default=[], metavar="PLUG.o", help="a module that is opened, from 0 on")
     reader.add_argument("--fuel", type=int, default=MAX_FUEL, metavar="N", help="how many instructions a guest may run")
+    reader.add_argument("--placed", action="store_true", help="for `verify` and `graph`: late modules last, as they are placed")
     call = reader.parse_args(words)
     try:
-        print(plan_of([File(it) for it in call.late], [File(it) for it in call.hosts], call.fuel), end="")
+        print(plan_of([File(it) for it in call.late], [File(it) for it in call.hosts], call.fuel, call.placed), end="")
     except (Refused, OSError) as why:
         print(f"cfi-plan: {why}", file=sys.stderr)
         return 1
