@@ -40,14 +40,15 @@ def undefined(files: list[File], before: list[File]) -> list[str]:
     """What is said of each name that a file needs and nobody before it defines."""
     known, said = set().union(*(it.defines for it in before)), []
     for it in files:
-        said += [f"{it.path} needs {name.decode(errors='replace')}, which no module defines" for name in sorted(it.needs - known)]
+        said += [f"{it.path} needs {name.decode(errors='replace')}, which no module here defines"
+                 for name in sorted(it.needs - known)]
         known |= it.defines
     return said
 
 
 def plan_of(late: list[File], hosts: list[File], fuel: int, placed: bool) -> str:
     """The plan, with the late modules first or, as they are placed when they are opened in this order, last."""
-    runtime = needed([*late, *hosts], [File(f"{it}.o") for it in RUNTIME])
+    runtime = needed([*late, *hosts], [File(f"{it}.o") for it in RUNTIME if Path(f"{it}.o").exists()])
     start = File(f"{START}.o")
     faults = undefined([*runtime, *hosts, start], []) + undefined(late, [*runtime, *hosts, start, *late])
     if faults:
