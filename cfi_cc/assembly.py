@@ -5,6 +5,7 @@ all others are handed on as they stand.
 """
 from __future__ import annotations
 
+import os
 import re
 import sys
 from dataclasses import dataclass
@@ -74,6 +75,12 @@ def statement(line: str) -> Statement:
     return Statement(text, label[1] if label else None, tokens[0] if tokens else "", tuple(tokens[1:]))
 
 
+def file_of(names: list[str]) -> str:
+    """A file by its name, behind that of its folder if this is not the one where Clang runs."""
+    folder, name = names if len(names) > 1 else ("", names[-1])
+    return name if folder in ("", os.getcwd()) else os.path.join(folder, name)
+
+
 class Reader:
     """Goes through an assembly, and keeps where it stands: the section, the function, the place."""
 
@@ -105,6 +112,8 @@ class Reader:
         elif it.word == "unimp":
             yield from TRAP
             return
+        elif it.word == "ebreak":
+            raise Refused("no module has a breakpoint: checks alone halt a guest", self.here())
         elif it.word in ("ret", "jr", "jalr"):
             self.branches.append(self.branch(it))
         yield "\t.text" if it.word == ".section" and self.section == ".text" else it.text
@@ -117,7 +126,7 @@ class Reader:
             flags = it.operands[1].strip('"') if len(it.operands) > 1 else ""
             self.section = ".text" if "x" in flags else it.operands[0].strip('"')  # all code is one section
         elif it.word == ".file" and len(it.operands) > 1:
-            self.files[it.operands[0]] = [word for word in it.operands if word.startswith('"')][-1].strip('"')
+            self.files[it.operands[0]] = file_of([word.strip('"') for word in it.operands if word.startswith('"')])
         elif it.word == ".loc":
             self.file, self.line = self.files.get(it.operands[0], ""), int(it.operands[1])
         if it.label and self.section == ".text":

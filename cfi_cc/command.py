@@ -8,7 +8,7 @@ from pathlib import Path
 
 from .assembly import read_assembly
 from .clang import Clang, find_clang
-from .intermediate import locate
+from .intermediate import locate, refuse_impossible, source_of
 from .module import module_of
 from .objects import Object
 from .refusal import Refused
@@ -49,8 +49,19 @@ def call_of(words: list[str]) -> Call:
 
 def compile_file(clang: Clang, call: Call, folder: Path) -> bytes:
     """The object of a file, with its tables."""
-    numbered, optimized, located, assembly = (folder / it for it in ("numbered.ll", "optimized.ll", "located.ll", "code.s"))
+    numbered = folder / "numbered.ll"
     clang.number(call.options, numbered)
+    code = numbered.read_text("utf-8")
+    try:
+        refuse_impossible(code)
+        return finish(clang, call, folder, numbered)
+    except Refused as refusal:
+        raise Refused(refusal.why, refusal.place or source_of(code)) from refusal
+
+
+def finish(clang: Clang, call: Call, folder: Path, numbered: Path) -> bytes:
+    """The object of intermediate code that has the numbers of its types."""
+    optimized, located, assembly = (folder / it for it in ("optimized.ll", "located.ll", "code.s"))
     clang.optimize(call.level, numbered, optimized)
     found = locate(optimized.read_text("utf-8"))
     located.write_text(found.code, "utf-8")
@@ -75,7 +86,14 @@ def main(words: list[str]) -> int:
         with tempfile.TemporaryDirectory() as folder:
             made = compile_file(find_clang(), call, Path(folder))
         call.out.write_bytes(made)
-    except (Refused, OSError) as why:
-        print(f"cfi-cc: {why}", file=sys.stderr)
-        return 1
+    except Refused as why:
+        return say(str(why))
+    except OSError as why:
+        return say(f"{why.filename}: {why.strerror}")
     return 0
+
+
+def say(why: str) -> int:
+    """Says why there is no module, and gives the status of that."""
+    print(f"cfi-cc: {why}", file=sys.stderr)
+    return 1

@@ -116,11 +116,7 @@ class Reader:
         return self.outside(line)
 
     def outside(self, line: str) -> Optional[str]:
-        """A line of no function: what a module cannot have is refused, and what Clang's own check needs left out."""
-        if re.match(r"@llvm\.global_[cd]tors ", line):
-            self.refuse_constructors(line)
-        if re.match(rf"@(?:{NAME}) = .*\bifunc ", line):
-            raise Refused(f"{line.split()[0][1:]} is chosen when a program is loaded (ifunc), which no module can ask for")
+        """A line of no function: what Clang's own check needs is left out."""
         if line.startswith("!llvm.module.flags"):
             kept = [it for it in re.findall(r"!(\d+)", line) if '!"kcfi' not in self.metadata.nodes[it]]
             return f"!llvm.module.flags = !{{{', '.join(f'!{it}' for it in kept)}}}"
@@ -128,14 +124,6 @@ class Reader:
             return None
         # The first line of a function would stand for jumps that have no place.
         return SCOPE_LINE.sub("", KCFI_TYPE.sub("", line))
-
-    def refuse_constructors(self, line: str) -> None:
-        """Names the first function that would run before the entry, or after the end."""
-        names = {plain(it) for it in re.findall(rf"ptr @({NAME})", line)}
-        found = [node for node, text in self.metadata.nodes.items()
-                 if text.startswith("!DISubprogram(") and plain(self.metadata.field(node, "name")) in names]
-        raise Refused("a module has no constructors and destructors: call the function from the entry",
-                      self.metadata.place(found[0]) if found else None)
 
     def define(self, line: str) -> str:
         """The first line of a function, whose scope of debugging information is that of its jumps."""
@@ -183,6 +171,36 @@ class Reader:
         self.found.jumps.append(Jump(number, place))
         node = self.metadata.add(f"!DILocation(line: {len(self.found.jumps)}, scope: !{self.scope})")
         return LOCATION.sub("", line, 1) + f", !dbg !{node}"
+
+
+# What no module can have, as it stands in intermediate code before it is optimized, and what is said of it.
+IMPOSSIBLE = [
+    (re.compile(r"@llvm\.global_[cd]tors ="), "a module has no constructors and destructors: call the function from the entry"),
+    (re.compile(rf"@(?:{NAME}) = .*\bifunc "), "no module can choose a function when it is loaded (ifunc)"),
+]
+
+
+def refuse_impossible(code: str) -> None:
+    """Refuses what no module can have, at the first function that such a line names."""
+    for line in re.findall(r"^@.*", code, re.M):
+        for form, why in IMPOSSIBLE:
+            if form.match(line):
+                raise Refused(why, place_of(code, [plain(it) for it in re.findall(rf"ptr @({NAME})", line)]))
+
+
+def place_of(code: str, names: list[bytes]) -> Optional[Place]:
+    """Where one of these functions is defined."""
+    metadata = Metadata(code)
+    for node, text in metadata.nodes.items():
+        if text.startswith("!DISubprogram(") and plain(metadata.field(node, "name")) in names:
+            return metadata.place(node)
+    return None
+
+
+def source_of(code: str) -> Place:
+    """The file of which intermediate code was made."""
+    found = re.search(r'^source_filename = ("(?:[^"\\]|\\.)*")', code, re.M)
+    return Place(plain(found[1]).decode(errors="replace") if found else "", 0)
 
 
 def locate(code: str) -> Located:

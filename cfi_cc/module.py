@@ -47,12 +47,12 @@ class Module:
 
 
 class Text:
-    """The one section of code of an object, with the symbols in it and the places in it whose addresses are taken."""
+    """The section of code of an object, with the symbols in it and the places in it whose addresses are taken."""
 
     def __init__(self, found: Object):
         texts = found.texts()
         if len(texts) != 1:
-            raise Refused("there is no code" if not texts else "code is in more than one section")
+            raise Refused("code is in more than one section: look at the inline assembly")
         self.number = texts[0]
         self.content = found.sections[self.number].content
         self.symbols = [it for it in found.symbols if it.section == self.number]

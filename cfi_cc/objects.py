@@ -78,8 +78,8 @@ class Object:
                     yield Relocation(table.info, offset, info & 255, self.symbols[info >> 8], addend)
 
     def texts(self) -> list[int]:
-        """The numbers of the sections of code."""
-        return [number for number, it in enumerate(self.sections) if it.flags & EXECINSTR and it.content]
+        """The numbers of the sections of code, of which an assembler makes one at least, be it empty."""
+        return [number for number, it in enumerate(self.sections) if it.flags & EXECINSTR]
 
 
 def section_of(content: bytes, at: int) -> Section:

@@ -69,7 +69,10 @@ def main(words: list[str]) -> int:
     call = reader.parse_args(words)
     try:
         print(plan_of([File(it) for it in call.late], [File(it) for it in call.hosts], call.fuel, call.placed), end="")
-    except (Refused, OSError) as why:
+    except Refused as why:
         print(f"cfi-plan: {why}", file=sys.stderr)
+        return 1
+    except OSError as why:
+        print(f"cfi-plan: {why.filename}: {why.strerror}", file=sys.stderr)
         return 1
     return 0

@@ -7,13 +7,13 @@ from typing import Optional
 
 @dataclass(frozen=True)
 class Place:
-    """A line of a source, as its compiler names it."""
+    """A line of a source, as its compiler names it; the line 0 stands for the whole."""
 
     file: str
     line: int
 
     def __str__(self) -> str:
-        return f"{self.file}:{self.line}"
+        return f"{self.file}:{self.line}" if self.line else self.file
 
 
 class Refused(Exception):
@@ -21,3 +21,4 @@ class Refused(Exception):
 
     def __init__(self, why: str, place: Optional[Place] = None):
         super().__init__(f"{place}: {why}" if place else why)
+        self.why, self.place = why, place
