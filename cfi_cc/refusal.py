@@ -1,0 +1,24 @@
+"""The one error of `cfi-cc`, and the places of a source that it names."""
+from __future__ import annotations
+
+from dataclasses import dataclass
+from typing import Optional
+
+
+@dataclass(frozen=True)
+class Place:
+    """A line of a source, as its compiler names it; the line 0 stands for the whole."""
+
+    file: str
+    line: int
+
+    def __str__(self) -> str:
+        return f"{self.file}:{self.line}" if self.line else self.file
+
+
+class Refused(Exception):
+    """C of which no module can be made: why, and the line at fault where one is known."""
+
+    def __init__(self, why: str, place: Optional[Place] = None):
+        super().__init__(f"{place}: {why}" if place else why)
+        self.why, self.place = why, place
