@@ -96,8 +96,8 @@ module _ (k : Key) (plan : Plan) (modules : List Module) (p : PassView) (r : Raw
   wait : r.waits ≡ Some (waits.Service OPEN)
   wait = ap (λ x. x.waits) asked.run.pauses.0 ∙ asked.run.pauses.1
 
-  on : SeesOn k p n
-  on = on_noted k l.keeping p is.told.tables note.agrees asked.sees.sees.is
+  on : SeesOn k r p n
+  on = on_noted k r l.keeping p is.told.tables note.agrees asked.sees.sees.is
 
   -- the log with the entry of the answer fits the run
   logged_more : (one : Log) → FitsEntry old new p.guest r.base.log one

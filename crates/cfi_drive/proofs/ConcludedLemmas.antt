@@ -6,6 +6,8 @@ use Rattle.cfi_aux.specs.declared.modules.Module.{Module}
 use Rattle.cfi_loader.specs.Ledger.{Ledger, IsLedger}
 use Rattle.cfi_part.specs.Ran.{IsHistoryOf, IsRunOf}
 use Rattle.cfi_part.proofs.ReadLemmas.{CanBeRead, told_kept}
+use Rattle.cfi_loader.specs.Epochs.{HavePoliciesOf}
+use Rattle.cfi_plan.specs.declared.journal.Entry.{Entry}
 use Rattle.cfi_plan.specs.declared.journal.ModuleLine.{ModuleLine}
 use Rattle.cfi_plan.specs.declared.plan.Plan.{Plan}
 use Rattle.cfi_report.specs.declared.report.GuestPart.{GuestPart}
@@ -19,7 +21,7 @@ use Rattle.cfi_valid.specs.Script.{made_by_script, script_calls}
 use Rattle.cfi_valid.specs.Valid.{IsEnded, IsValidReport, course_of}
 use Rattle.cfi_valid.proofs.PartsLemmas.{valid_by}
 use Rattle.cfi_drive.specs.Concluded.{HasReadableNames, IsConcluded, conclusion_of}
-use Rattle.cfi_drive.specs.Ending.{code_by, history_by}
+use Rattle.cfi_drive.specs.Ending.{code_by, history_by, tables_by}
 use Rattle.cfi_drive.specs.inner.Ending.{ArePartsAt, HasNumbers}
 use Rattle.cfi_drive.proofs.HistoryLemmas.{history_is}
 use Rattle.cfi_drive.proofs.NumberLemmas.{journal_known, lines_named}
@@ -61,9 +63,9 @@ module _ (k : Key) (plan : Plan) (modules : List Module) (l : Ledger) (is : IsLe
       ended
 
   ran : (number : ℕ) (part : GuestPart) → slice_get report.guests number ≡ Some part
-      → IsRunOf course (history_by k l) (code_by k l) number part
+      → IsRunOf course (tables_by k l) (history_by k l) (code_by k l) number part
   ran number part there =
-      subst (λ (c : Course). IsRunOf c (history_by k l) (code_by k l) number part) same
+      subst (λ (c : Course). IsRunOf c (tables_by k l) (history_by k l) (code_by k l) number part) same
       (parts.each number part there).run
 
   -- the report can be read
@@ -78,7 +80,7 @@ module _ (k : Key) (plan : Plan) (modules : List Module) (l : Ledger) (is : IsLe
   can_be_read names number part there =
       let of = ended number part there in
       record {
-        kept = told_kept course (history_by k l) (code_by k l) number part (ran number part there);
+        kept = told_kept course (tables_by k l) (history_by k l) (code_by k l) number part (ran number part there);
         stopped = of.replay.stopped;
         named = entry_named names number part.entry of.guest.entry;
       }
@@ -99,9 +101,12 @@ module _ (k : Key) (plan : Plan) (modules : List Module) (l : Ledger) (is : IsLe
   pub concluded : IsConcluded (conclusion_of plan modules report)
   concluded = record {
     valid = valid;
+    tables = tables_by k l;
+    epochs = subst (λ (lines : List Entry). HavePoliciesOf lines l.keeping.entries) (sym journal) is.told.epochs;
     history = history_by k l;
     code = code_by k l;
-    of = subst (λ (c : Course). IsHistoryOf c (history_by k l) (code_by k l)) same (history_is k plan modules l is);
+    of = subst (λ (c : Course). IsHistoryOf c (tables_by k l) (history_by k l) (code_by k l)) same
+        (history_is k plan modules l is);
     runs = ran;
     readable = read;
   }

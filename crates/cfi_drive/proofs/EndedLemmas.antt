@@ -3,8 +3,10 @@ use Rattle.std.proofs.Common.{◌≡◌, ◌≢◌, ℕ, List, [], ◌∷◌, So
 use Rattle.std.proofs.lemmas.Option.{get_or_from_slice_get}
 use Rattle.cfi_aux.specs.declared.modules.Module.{Module}
 use Rattle.cfi_loader.specs.Ledger.{Ledger, IsLedger}
+use Rattle.cfi_model.specs.Came.{takes_in}
 use Rattle.cfi_model.specs.Raw.{Raw}
 use Rattle.cfi_model.specs.Run.{Take, Word, Served, take_one}
+use Rattle.cfi_model.specs.TableMoments.{AreTimed}
 use Rattle.cfi_part.specs.Part.{IsEndOf, IsWithin, part_of}
 use Rattle.cfi_part.specs.Ran.{AreBrought, HasRun}
 use Rattle.cfi_part.proofs.MadeLemmas.{part_made}
@@ -16,7 +18,7 @@ use Rattle.cfi_tables.specs.Rule.{AgreesWith}
 use Rattle.cfi_tables.specs.Views.{noted}
 use Rattle.cfi_tables.specs.declared.view.PassView.{PassView}
 use Rattle.cfi_valid.specs.Journal.{JournalState}
-use Rattle.cfi_drive.specs.Ending.{IsPartAt, code_by, history_by, part_by}
+use Rattle.cfi_drive.specs.Ending.{IsPartAt, code_by, history_by, part_by, tables_by}
 use Rattle.cfi_drive.specs.Path.{AreDue}
 use Rattle.cfi_drive.specs.Runner.{IsRunner, IsRunnerBy}
 use Rattle.cfi_drive.specs.Serving.{IsPassTold}
@@ -42,21 +44,24 @@ module _ (k : Key) (plan : Plan) (modules : List Module) (l : Ledger) (is : IsLe
     at : IsRunnerBy k plan modules n r l
     at = runner_told k plan modules p r was.0 l was.1 was.1.sight is told
 
-    run : HasRun l.course (history_by k l) (code_by k l) p.guest r
+    run : HasRun l.course (tables_by k l) (history_by k l) (code_by k l) p.guest r
     run = record {
       start = at.path.start;
       opened = at.path.opened;
       starts = at.path.starts;
-      takes = at.path.takes;
+      came = at.path.came;
+      asked = at.path.asked;
+      timed = subst (AreTimed (tables_by k l)) (sym at.path.loads)
+          (record { each = agrees.timed.each; order = agrees.timed.order });
       along = at.path.along n.sight (sees_same k n.sight at.sight);
-      brings = brought l.course.end at.path.takes at.path.start at.path.due;
+      brings = brought l.course.end (takes_in at.path.came) at.path.start at.path.due;
       ends = subst (λ (last : Raw). IsEndOf last r) at.path.is at.ends;
     }
 
     pub runner_part : r.base.stop ≢ None → (entry : List ℕ) → slice_get plan.guests p.guest ≡ Some entry
         → IsPartAt k l p.guest (part_of p.guest entry r)
     runner_part stopped entry named =
-        let made = part_made l.course (history_by k l) (code_by k l) (history_is k plan modules l is) p.guest r run
+        let made = part_made l.course (tables_by k l) (history_by k l) (code_by k l) (history_is k plan modules l is) p.guest r run
         stopped (subst (λ (a : Plan). IsWithin a.fuel r) (sym is.plan_is) at.within)
         (logged_now k plan modules p r was.0 l was.1 was.1.sight is told) entry
         (ap (λ (a : Plan). slice_get a.guests p.guest) is.plan_is ∙ named) in

@@ -16,7 +16,7 @@ use Rattle.cfi_tables.specs.Key.{Key}
 use Rattle.cfi_tables.specs.Views.{sight_of}
 use Rattle.cfi_valid.specs.FromLaw.{HasPolicies}
 use Rattle.cfi_valid.specs.Loaded.{LoadedModule, loaded_by, placed_modules}
-use Rattle.cfi_drive.specs.Ending.{code_by, history_by}
+use Rattle.cfi_drive.specs.Ending.{code_by, history_by, tables_by}
 
 -- the number of the last entry
 last_number : (first len : ℕ) → first + (len - 1) - first ≡ len - 1
@@ -54,8 +54,17 @@ module _ (k : Key) (plan : Plan) (modules : List Module) (l : Ledger) (is : IsLe
       (λ (ls : List LoadedModule). IsCodeOf (placed_modules ls) l.course.plan.code_words
       (entry_of (length l.keeping.entries - 1)).image.code) all last.image_is.1.code
 
-  pub history_is : IsHistoryOf l.course h (code_by k l)
+  -- the code in force is that of the last entry's image
+  code_many : length (code_by k l) ≡ k.code_words
+  code_many =
+      let last = length l.keeping.entries - 1 in
+      ap (λ (n : ℕ). length (entry_of n).image.code) (last_number k.first (length l.keeping.entries))
+      ∙ (is.told.tables.closed last (omega (arith, is.told.tables.some))).1.classes.code_length
+
+  pub history_is : IsHistoryOf l.course (tables_by k l) h (code_by k l)
   history_is = record {
+    tables = is.told.tables;
+    of_tables = record { code_words = code_many; first = refl; policy = λ epoch. refl };
     known = seen_history k (sight_of k l.keeping []) (all_sight k l.keeping [] is.told.tables);
     is_code = subst
         (λ (n : ℕ). IsCodeOf (placed_modules loaded) l.course.plan.code_words (entry_of n).image.code)

@@ -36,7 +36,7 @@ keeps_told k plan modules l p q told = record {
 pub keeps_quiet : (k : Key) (epoch : ℕ) (p q : PassView) → IsQuiet k epoch p q → KeepsPass p q
 keeps_quiet k epoch p q quiet = record {
   guest = quiet.load.guest;
-  accesses = (_, sym quiet.load.accesses);
+  accesses = (_, sym quiet.load.now.accesses);
 }
 
 -- with a run

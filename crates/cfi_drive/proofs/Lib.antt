@@ -1,3 +1,4 @@
+pub mod CameLemmas
 pub mod PathLemmas
 pub mod SettledLemmas
 pub mod RunLemmas

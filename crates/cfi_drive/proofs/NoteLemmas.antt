@@ -4,6 +4,7 @@ use Rattle.std.proofs.lemmas.Option.{slice_get_within}
 use mathlib.Core.List.{IsPrefix}
 use Rattle.cfi_aux.specs.declared.modules.Module.{Module}
 use Rattle.cfi_loader.specs.Ledger.{Ledger, IsLedger}
+use Rattle.cfi_model.specs.Came.{takes_in}
 use Rattle.cfi_model.specs.Raw.{Raw}
 use Rattle.cfi_model.specs.Words.{no_entry}
 use Rattle.cfi_plan.specs.declared.plan.Plan.{Plan}
@@ -62,8 +63,8 @@ module _ (k : Key) (plan : Plan) (modules : List Module) (p : PassView) (r : Raw
   abbrev n : PassView
   n = noted k m.keeping p
 
-  on : SeesOn k p n
-  on = on_noted k m.keeping p is.told.tables told.agrees seen
+  on : SeesOn k r p n
+  on = on_noted k r m.keeping p is.told.tables told.agrees seen
 
   begins : IsPrefix l.keeping.entries m.keeping.entries
   begins =
@@ -100,7 +101,7 @@ module _ (k : Key) (plan : Plan) (modules : List Module) (p : PassView) (r : Raw
 
   pub runner_told : IsRunnerBy k plan modules n r m
   runner_told =
-      let kept = runner_on k plan modules p n on seen r l was in
+      let kept = runner_on k plan modules p n r on seen l was in
       let path = kept.path in
       record {
         sight = kept.sight;
@@ -112,9 +113,10 @@ module _ (k : Key) (plan : Plan) (modules : List Module) (p : PassView) (r : Raw
               (was.settled.ledger.plan_is ∙ sym is.plan_is)
               (opened_later l.course.plan l.course.end m.course.end later n.guest path.start path.opened);
           starts = path.starts;
-          takes = path.takes;
-          found = path.found;
-          due = due_later l.course.end m.course.end later path.takes path.start path.due;
+          came = path.came;
+          loads = path.loads;
+          asked = path.asked;
+          due = due_later l.course.end m.course.end later (takes_in path.came) path.start path.due;
           is = path.is;
           along = path.along;
         };

@@ -54,7 +54,7 @@ told_of k plan modules p n r l was asked told =
     subst (λ v. IsToldOf k plan modules v r l) (sym told.is) (record {
       at = runner_told k plan modules p r was.0 l was.1 seen told.ledger note;
       asked = asked_on k plan.fuel p (noted k l.keeping p) r OPEN
-          (on_noted k l.keeping p told.ledger.told.tables told.agrees seen) asked;
+          (on_noted k r l.keeping p told.ledger.told.tables told.agrees seen) asked;
       logged = logged_now k plan modules p r was.0 l was.1 seen told.ledger note;
       planned = planned k plan modules p r was.0 l was.1 seen told.ledger note;
     })

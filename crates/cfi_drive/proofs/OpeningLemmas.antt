@@ -82,8 +82,9 @@ module _ (k : Key) (plan : Plan) (modules : List Module) (guest : ℕ) (start : 
       start = start;
       opened = subst (λ (a : Plan). IsOpenedAs a l.course.end.loaded guest start) (sym is.plan_is) opened;
       starts = starts;
-      takes = [];
-      found = refl;
+      came = [];
+      loads = refl;
+      asked = tt;
       due = tt;
       is = refl;
       along = λ later more. tt;

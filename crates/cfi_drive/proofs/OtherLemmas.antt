@@ -60,7 +60,7 @@ module _ (k : Key) (plan : Plan) (modules : List Module) (p : PassView) (r : Raw
       let reply : Reply = reply_of 0 TOO_MANY policy [] in
       let same = ap (λ w. (serve_as w r reply).base.log) wait ∙ unlogged (service_of number) policy r.base in (
         l,
-        runner_served k plan modules p p r number asked (on_same k p asked.sees.sees.is) l l was.1 was.1.settled stays
+        runner_served k plan modules p p r number asked (on_same k r p asked.sees.sees.is) l l was.1 was.1.settled stays
             reply (record {
               fits = λ asks. record {
                 answer = record {
@@ -91,7 +91,7 @@ module _ (k : Key) (plan : Plan) (modules : List Module) (p : PassView) (r : Raw
         past = omega (arith, past, ap (λ (a : Plan). length a.modules) was.1.settled.ledger.plan_is);
       } in (
         l,
-        runner_served k plan modules p p r number asked (on_same k p asked.sees.sees.is) l l was.1 was.1.settled stays
+        runner_served k plan modules p p r number asked (on_same k r p asked.sees.sees.is) l l was.1 was.1.settled stays
             reply (record {
               fits = λ asks. record {
                 answer = record {
@@ -117,16 +117,21 @@ module _ (k : Key) (plan : Plan) (modules : List Module) (p : PassView) (r : Raw
 
 -- ---- after a quiescent point
 
+waits_there : (k : Key) (fuel : ℕ) (p : PassView) (r : Raw) (number : ℕ) → HasAsked k fuel p r number
+    → r.waits ≡ Some (waits.Service number)
+waits_there k fuel p r number asked = ap (λ x. x.waits) asked.run.pauses.0 ∙ asked.run.pauses.1
+
 pub runner_quiet : (k : Key) (plan : Plan) (modules : List Module) (p q : PassView) (r : Raw) (number epoch : ℕ)
     → IsQuiet k epoch p q → IsRunner k plan modules p r → HasAsked k plan.fuel p r number → IsRunner k plan modules q r
 runner_quiet k plan modules p q r number epoch quiet was asked =
     let seen = asked.sees.sees.is in
-    (was.0, runner_on k plan modules p q (on_quiet k epoch p q quiet seen) seen r was.0 was.1)
+    (was.0, runner_on k plan modules p q r (on_quiet k r number (waits_there k plan.fuel p r number asked) epoch p q quiet seen) seen was.0 was.1)
 
 pub asked_quiet : (k : Key) (fuel : ℕ) (p q : PassView) (r : Raw) (number epoch : ℕ) → IsQuiet k epoch p q
     → HasAsked k fuel p r number → HasAsked k fuel q r number
 asked_quiet k fuel p q r number epoch quiet asked =
-    asked_on k fuel p q r number (on_quiet k epoch p q quiet asked.sees.sees.is) asked
+    asked_on k fuel p q r number
+    (on_quiet k r number (waits_there k fuel p r number asked) epoch p q quiet asked.sees.sees.is) asked
 
 -- a service that looks at no answer has ended
 pub served_other : (k : Key) (plan : Plan) (modules : List Module) (p q : PassView) (r new : Raw) (number epoch : ℕ)

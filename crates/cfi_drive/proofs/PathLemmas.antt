@@ -1,43 +1,19 @@
--- What came to a guest, with more at its end, and where the run goes on.
-use Rattle.std.proofs.Common.{◌≡◌, ◌≤◌, ◌<◌, ℕ, ◌&&◌, Bool, true, false, cond, Some, None, List, [], ◌∷◌, ◌++◌, refl, sym, ap, ◌∙◌, arith}
-use Rattle.std.specs.Prelude.{filter, filter_map, nat_le, nat_lt}
-use Rattle.std.specs.List.{AllByRecursion, cons_option}
+-- The data that the answers to a guest's opens bring, with more at its end, and where the run goes on.
+use Rattle.std.proofs.Common.{◌≡◌, ◌≤◌, ◌<◌, ℕ, ◌&&◌, Bool, true, false, cond, List, [], ◌∷◌, ◌++◌, refl, sym, ap, ◌∙◌, arith}
+use Rattle.std.specs.Prelude.{filter, nat_le, nat_lt}
+use Rattle.std.specs.List.{AllByRecursion}
 use Rattle.std.proofs.lemmas.Bool.{lt-leb}
-use Rattle.std.proofs.lemmas.List.Elements.{filter_map-append}
 use Rattle.cfi_model.specs.declared.history.Access.{Access}
 use Rattle.cfi_model.specs.Raw.{Raw}
 use Rattle.cfi_model.specs.Run.{Take, Word, Served, take_one, run_of}
-use Rattle.cfi_model.proofs.KeptLemmas.{not_epoch}
-use Rattle.cfi_runner.specs.Run.{AreAsked, words_found}
-use Rattle.cfi_runner.proofs.TakenLemmas.{first_code}
+use Rattle.cfi_runner.specs.Run.{words_found}
 use Rattle.cfi_series.specs.Fills.{fills_of}
 use Rattle.cfi_valid.specs.Growth.{IsLater}
 use Rattle.cfi_valid.specs.Journal.{JournalState}
 use Rattle.cfi_loader.proofs.SuffixLemmas.{came_between}
 use Rattle.cfi_valid.specs.Loaded.{LoadedModule, fills_between, placed_modules}
 use Rattle.cfi_valid.specs.Replay.{given_by}
-use Rattle.cfi_drive.specs.Path.{AreDue, AreFound, IsDueWith, word_found, word_in}
-
--- ---- words
-
--- a guest takes each word that it has asked for
-pub found_words : (c : ℕ) (accesses : List Access) (r : Raw) → AreAsked c r accesses
-    → AreFound accesses (words_found accesses)
-found_words c [] r asked = refl
-found_words c (access ∷ later) r asked =
-    let rest : List ℕ = filter_map word_found later in
-    ap (cons_option (Some access.found)) (found_words c later (take_one r (Word access.found)) asked.1)
-    ∙ ap (λ (b : Bool). cons_option (cond b None (Some access.found)) rest)
-    (sym (not_epoch access.word (first_code c r.waits r access.word asked.0)))
-
-pub found_append : (a b : List Access) (x y : List Take) → AreFound a x → AreFound b y → AreFound (a ++ b) (x ++ y)
-found_append a b x y one other =
-    filter_map-append word_in x y
-    ∙ (ap (λ (l : List ℕ). l ++ filter_map word_in y) one
-    ∙ (ap (λ (l : List ℕ). filter_map word_found a ++ l) other
-    ∙ sym (filter_map-append word_found a b)))
-
--- ---- data
+use Rattle.cfi_drive.specs.Path.{AreDue, IsDueWith}
 
 pub due_append : (end : JournalState) (a b : List Take) (r : Raw) → AreDue end r a → AreDue end (run_of r a) b
     → AreDue end r (a ++ b)

@@ -5,9 +5,10 @@ use Rattle.cfi_aux.specs.declared.modules.Module.{Module}
 use Rattle.cfi_loader.specs.Ledger.{Ledger}
 use Rattle.cfi_model.specs.declared.history.Access.{Access}
 use Rattle.cfi_model.specs.declared.act.Wait.TheVariants as waits
+use Rattle.cfi_model.specs.Came.{AreAskedBy, Came, loads_in, takes_in}
 use Rattle.cfi_model.specs.Fits.{Along}
 use Rattle.cfi_model.specs.Raw.{Raw}
-use Rattle.cfi_model.specs.Run.{run_of}
+use Rattle.cfi_model.specs.Run.{Take, run_of}
 use Rattle.cfi_model.proofs.SnocLemmas.{along_append, run_append}
 use Rattle.cfi_plan.specs.declared.plan.Plan.{Plan}
 use Rattle.cfi_runner.specs.Run.{CanRunOn, HasRunOn, PausesAt, words_found}
@@ -21,11 +22,12 @@ use Rattle.cfi_tables.proofs.Prefixes.{prefix_trans}
 use Rattle.cfi_unit.specs.declared.log.Stop.{Stop}
 use Rattle.cfi_unit.specs.declared.log.Stop.TheVariants as stops
 use Rattle.cfi_part.specs.Ran.{IsOpenedAs}
-use Rattle.cfi_drive.specs.Path.{AreFound, IsPath}
+use Rattle.cfi_drive.specs.Path.{AreDue, IsPath}
 use Rattle.cfi_part.specs.Part.{IsEndOf}
 use Rattle.cfi_drive.specs.Runner.{IsRunnerBy}
 use Rattle.cfi_drive.specs.Settled.{FitsSettled}
-use Rattle.cfi_drive.proofs.PathLemmas.{found_words, found_append, due_append, due_words}
+use Rattle.cfi_drive.proofs.CameLemmas.{all_loaded, asked_append, asked_loaded, loads_append, loads_loaded, takes_append, takes_loaded}
+use Rattle.cfi_drive.proofs.PathLemmas.{due_append, due_words}
 use Rattle.cfi_drive.proofs.SettledLemmas.{fits_picked}
 
 -- a guest that has not stopped is where the raw machine is
@@ -97,32 +99,42 @@ module _ (k : Key) (plan : Plan) (modules : List Module) (p q : PassView) (old n
   path = was.path
 
   -- where the guest was
-  here : old ≡ run_of path.start path.takes
+  here : old ≡ run_of path.start (takes_in path.came)
   here = end_going was.last old was.ends can.going ∙ path.is
 
-  found_more : AreFound q.sight.accesses (path.takes ++ words_found accesses)
-  found_more =
-      subst (λ all. AreFound all (path.takes ++ words_found accesses)) (sym run.taken.appended)
-      (found_append p.sight.accesses accesses path.takes (words_found accesses) path.found
-      (found_words k.code_words accesses old run.taken.asked))
+  abbrev more : List Came
+  more = path.came ++ all_loaded accesses
+
+  takes_are : takes_in path.came ++ words_found accesses ≡ takes_in more
+  takes_are =
+      sym (takes_append path.came (all_loaded accesses)
+      ∙ ap (λ (l : List Take). takes_in path.came ++ l) (takes_loaded k.code_words accesses old run.taken.asked))
 
   path_run : IsPath k l.course q run.last
   path_run = record {
     start = path.start;
     opened = subst (λ g. IsOpenedAs l.course.plan l.course.end.loaded g path.start) (sym run.keeps.guest) path.opened;
     starts = start_later k p.sight q.sight can.sight run.keeps.sees path.start.base.pc path.starts;
-    takes = path.takes ++ words_found accesses;
-    found = found_more;
-    due = due_append l.course.end path.takes (words_found accesses) path.start path.due
-        (due_words l.course.end accesses (run_of path.start path.takes));
+    came = more;
+    loads = loads_append path.came (all_loaded accesses)
+        ∙ ap (λ (l : List Access). loads_in path.came ++ l) (loads_loaded accesses)
+        ∙ ap (λ (l : List Access). l ++ accesses) path.loads
+        ∙ sym run.taken.appended;
+    asked = asked_append k.code_words path.came (all_loaded accesses) path.start path.asked
+        (subst (λ r. AreAskedBy k.code_words r (all_loaded accesses)) here
+        (asked_loaded k.code_words accesses old run.taken.asked));
+    due = subst (AreDue l.course.end path.start) takes_are
+        (due_append l.course.end (takes_in path.came) (words_found accesses) path.start path.due
+        (due_words l.course.end accesses (run_of path.start (takes_in path.came))));
     is = run.taken.is
         ∙ (ap (λ r. run_of r (words_found accesses)) here
-        ∙ sym (run_append path.takes (words_found accesses) path.start));
-    along = λ later more.
-        along_append (history_seen k later) (code_seen k later) path.takes (words_found accesses) path.start
-        (path.along later (sees_trans k p.sight q.sight later run.keeps.sees more))
+        ∙ (sym (run_append (takes_in path.came) (words_found accesses) path.start) ∙ ap (run_of path.start) takes_are));
+    along = λ later sees.
+        subst (Along (history_seen k later) (code_seen k later) path.start) takes_are
+        (along_append (history_seen k later) (code_seen k later) (takes_in path.came) (words_found accesses) path.start
+        (path.along later (sees_trans k p.sight q.sight later run.keeps.sees sees))
         (subst (λ r. Along (history_seen k later) (code_seen k later) r (words_found accesses)) here
-        (run.taken.along later more));
+        (run.taken.along later sees)));
   }
 
   pub runner_run : IsRunnerBy k plan modules q new l

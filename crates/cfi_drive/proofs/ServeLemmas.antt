@@ -1,10 +1,9 @@
 -- A runner after a service of its guest.
 use Rattle.std.proofs.Common.{◌≡◌, ◌≤◌, ℕ, Some, None, List, [], ◌∷◌, ◌++◌, refl, sym, ap, subst, ◌∙◌, arith, inl, append-nil}
-use Rattle.std.specs.Prelude.{filter_map}
-use Rattle.std.proofs.lemmas.List.Elements.{filter_map-append}
 use Rattle.cfi_aux.specs.declared.modules.Module.{Module}
 use Rattle.cfi_model.specs.declared.act.Wait.TheVariants as waits
-use Rattle.cfi_model.specs.Fits.{Fits, FitsReply}
+use Rattle.cfi_model.specs.Came.{Came, Ended, loads_in, takes_in}
+use Rattle.cfi_model.specs.Fits.{Along, Fits, FitsReply}
 use Rattle.cfi_model.specs.History.{History}
 use Rattle.cfi_model.specs.Log.{last_policy, picked}
 use Rattle.cfi_model.specs.Raw.{Raw}
@@ -18,7 +17,7 @@ use Rattle.cfi_plan.specs.declared.plan.Plan.{Plan}
 use Rattle.cfi_runner.specs.Laws.{MayServe}
 use Rattle.cfi_runner.specs.Seen.{SeesMore, history_seen, code_seen, policy_seen}
 use Rattle.cfi_runner.proofs.HandLemmas.{hands_on}
-use Rattle.cfi_runner.proofs.SeenLemmas.{sees_trans, start_later}
+use Rattle.cfi_runner.proofs.SeenLemmas.{sees_trans}
 use Rattle.cfi_series.specs.Fills.{fills_of}
 use Rattle.cfi_loader.specs.Ledger.{Ledger}
 use Rattle.cfi_tables.specs.Key.{Key}
@@ -34,10 +33,12 @@ use Rattle.cfi_valid.proofs.GuestLemmas.{guest_begins_later}
 use Rattle.cfi_valid.proofs.GrowthLemmas.{loaded_stays}
 use Rattle.cfi_model.specs.Raw.{raw_opened}
 use Rattle.cfi_part.specs.Ran.{IsOpenedAs}
-use Rattle.cfi_drive.specs.Path.{AreFound, IsDueWith, IsPath, word_in}
+use Rattle.cfi_drive.specs.Path.{AreDue, IsDueWith, IsPath}
 use Rattle.cfi_drive.specs.Runner.{HasAsked, IsRunnerBy, SeesOn}
 use Rattle.cfi_drive.specs.Settled.{ComeBetween, FitsSettled, IsSettled, log_with_all}
+use Rattle.cfi_drive.proofs.CameLemmas.{asked_append, loads_append, takes_append}
 use Rattle.cfi_drive.proofs.PathLemmas.{due_append, due_later}
+use Rattle.cfi_drive.proofs.SeesLemmas.{path_on}
 use Rattle.cfi_drive.proofs.RunLemmas.{end_going}
 
 -- ---- where a guest begins
@@ -90,13 +91,13 @@ fits_served : (h : History) (code : List ℕ) (number : ℕ) (reply : Reply) (r 
 fits_served h code number reply r wait fits = subst (λ w. FitsReply w r reply) (sym wait) fits
 
 module _ (k : Key) (plan : Plan) (modules : List Module) (q n : PassView) (r : Raw) (number : ℕ)
-    (asked : HasAsked k plan.fuel q r number) (on : SeesOn k q n) (l m : Ledger)
+    (asked : HasAsked k plan.fuel q r number) (on : SeesOn k r q n) (l m : Ledger)
     (at : IsRunnerBy k plan modules q r l) (settled : IsSettled k plan modules n.sight m)
     (later : IsLater l.course.end m.course.end) (reply : Reply) (may : MayServe k n.sight number reply r)
     (due : IsDueWith m.course.end r (Served reply))
     (log : FitsSettled k n.sight n.guest m (serve_of r reply).base.log) where
-  abbrev path : IsPath k l.course q at.last
-  path = at.path
+  abbrev path : IsPath k l.course n at.last
+  path = path_on k l.course q n at.last r at.path at.ends on asked.sees.sees.is
 
   wait : r.waits ≡ Some (waits.Service number)
   wait = ap (λ x. x.waits) asked.run.pauses.0 ∙ asked.run.pauses.1
@@ -104,7 +105,7 @@ module _ (k : Key) (plan : Plan) (modules : List Module) (q n : PassView) (r : R
   going : r.base.stop ≡ None
   going = ap (λ x. x.base.stop) asked.run.pauses.0 ∙ asked.run.pauses.2
 
-  here : r ≡ run_of path.start path.takes
+  here : r ≡ run_of path.start (takes_in path.came)
   here = end_going at.last r at.ends going ∙ path.is
 
   sees : SeesMore k asked.then.sight n.sight
@@ -117,31 +118,35 @@ module _ (k : Key) (plan : Plan) (modules : List Module) (q n : PassView) (r : R
   unspent same =
       served_unspent (service_of number) r.base going (sym (ap (λ w. (serve_as w r reply).base.stop) wait) ∙ same)
 
-  found : AreFound n.sight.accesses (path.takes ++ Served reply ∷ [])
-  found =
-      filter_map-append word_in path.takes (Served reply ∷ [])
-      ∙ (append-nil (filter_map word_in path.takes)
-      ∙ (path.found ∙ sym on.accesses))
+  abbrev more : List Came
+  more = path.came ++ Ended reply ∷ []
+
+  takes_are : takes_in path.came ++ Served reply ∷ [] ≡ takes_in more
+  takes_are = sym (takes_append path.came (Ended reply ∷ []))
 
   path_served : IsPath k m.course n (serve_of r reply)
   path_served = record {
     start = path.start;
     opened =
-        subst (λ (z : Plan × ℕ). IsOpenedAs z.0 m.course.end.loaded z.1 path.start)
-        (λ i. ((at.settled.ledger.plan_is ∙ sym settled.ledger.plan_is) i, sym on.guest i))
-        (opened_later l.course.plan l.course.end m.course.end later q.guest path.start path.opened);
-    starts = start_later k q.sight n.sight asked.sees.sees.is on.sees path.start.base.pc path.starts;
-    takes = path.takes ++ Served reply ∷ [];
-    found = found;
-    due = due_append m.course.end path.takes (Served reply ∷ []) path.start
-        (due_later l.course.end m.course.end later path.takes path.start path.due)
-        (subst (λ x. IsDueWith m.course.end x (Served reply)) here due, tt);
-    is = ap (λ x. serve_of x reply) here ∙ sym (run_snoc path.takes (Served reply) path.start);
-    along = λ later more.
-        along_snoc (history_seen k later) (code_seen k later) path.takes (Served reply) path.start
-        (path.along later (sees_trans k q.sight n.sight later on.sees more))
-        (subst (λ x. Fits (history_seen k later) (code_seen k later) x (Served reply)) here
-        (fits_served (history_seen k later) (code_seen k later) number reply r wait may.fits));
+        subst (λ (a : Plan). IsOpenedAs a m.course.end.loaded n.guest path.start)
+        (at.settled.ledger.plan_is ∙ sym settled.ledger.plan_is)
+        (opened_later l.course.plan l.course.end m.course.end later n.guest path.start path.opened);
+    starts = path.starts;
+    came = more;
+    loads = loads_append path.came (Ended reply ∷ []) ∙ (append-nil (loads_in path.came) ∙ path.loads);
+    asked = asked_append k.code_words path.came (Ended reply ∷ []) path.start path.asked (tt, tt);
+    due = subst (AreDue m.course.end path.start) takes_are
+        (due_append m.course.end (takes_in path.came) (Served reply ∷ []) path.start
+        (due_later l.course.end m.course.end later (takes_in path.came) path.start path.due)
+        (subst (λ x. IsDueWith m.course.end x (Served reply)) here due, tt));
+    is = ap (λ x. serve_of x reply) here
+        ∙ (sym (run_snoc (takes_in path.came) (Served reply) path.start) ∙ ap (run_of path.start) takes_are);
+    along = λ after sees.
+        subst (Along (history_seen k after) (code_seen k after) path.start) takes_are
+        (along_snoc (history_seen k after) (code_seen k after) (takes_in path.came) (Served reply) path.start
+        (path.along after sees)
+        (subst (λ x. Fits (history_seen k after) (code_seen k after) x (Served reply)) here
+        (fits_served (history_seen k after) (code_seen k after) number reply r wait may.fits)));
   }
 
   pub runner_served : IsRunnerBy k plan modules n (serve_of r reply) m

@@ -30,5 +30,5 @@ module _ (k : Key) (plan : Plan) (modules : List Module) (fuel : ℕ) (p q : Pas
     can = can;
     then = q;
     run = subst (λ n. HasRunOn k n p q old new (pauses.Service number)) all run;
-    sees = on_same k q run.keeps.sees.is;
+    sees = on_same k new q run.keeps.sees.is;
   }

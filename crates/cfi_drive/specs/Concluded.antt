@@ -1,7 +1,9 @@
 -- What a run has come to: its report, which is valid for its plan and its modules, and how each of its guests has run.
 use Rattle.std.specs.Prelude.{◌≡◌, ◌≢◌, ℕ, true, List, All, Option, Some, None, slice_get, ⊤}
 use Rattle.cfi_aux.specs.declared.modules.Module.{Module}
+use Rattle.cfi_loader.specs.Epochs.{HavePoliciesOf}
 use Rattle.cfi_model.specs.History.{History}
+use Rattle.cfi_model.specs.Words.{Tables}
 use Rattle.cfi_part.specs.Ran.{IsHistoryOf, IsRunOf}
 use Rattle.cfi_plan.specs.declared.plan.Plan.{Plan}
 use Rattle.cfi_plan.specs.declared.plan.PlanModule.{PlanModule}
@@ -26,15 +28,18 @@ pub record HasReadableNames (plan : Plan) : Type 0 where
   pub modules : All (λ (one : PlanModule). is_name one.name ≡ true) plan.modules
   pub guests : All (λ entry. is_name entry ≡ true) plan.guests
 
--- The report is valid. Each of its guests has run over one history, that of the run, under the policies of its epochs,
--- and its part tells of that. The report can be read from its text, where the plan's names are names.
+-- The report is valid. The tables had one entry an epoch, with the policies that the report's journal puts in force. Each
+-- guest has run over their one history, under the policies of its epochs, and its part tells of that. The report can be
+-- read from its text, where the plan's names are names.
 pub record IsConcluded (c : Conclusion) : Type 0 where
   pub valid : IsValidReport c.plan c.modules c.report
+  pub tables : Tables
+  pub epochs : HavePoliciesOf c.report.journal tables.entries
   pub history : History
   pub code : List ℕ
-  pub of : IsHistoryOf (course_of c.plan c.modules c.report valid.end) history code
+  pub of : IsHistoryOf (course_of c.plan c.modules c.report valid.end) tables history code
   pub runs : (number : ℕ) (part : GuestPart) → slice_get c.report.guests number ≡ Some part
-      → IsRunOf (course_of c.plan c.modules c.report valid.end) history code number part
+      → IsRunOf (course_of c.plan c.modules c.report valid.end) tables history code number part
   pub readable : HasReadableNames c.plan → IsReport c.report
 
 -- the runner of this number is that of the guest of this number, which has stopped

@@ -43,14 +43,14 @@ LogsLast =
 -- a runner is one with all that its pass sees later
 abbrev pub SightsKeep : Type 0
 SightsKeep =
-    (k : Key) (plan : Plan) (modules : List Module) (p q : PassView) (r : Raw) → SeesOn k p q → IsSight k p.sight →
+    (k : Key) (plan : Plan) (modules : List Module) (p q : PassView) (r : Raw) → SeesOn k r p q → IsSight k p.sight →
     IsRunner k plan modules p r → IsRunner k plan modules q r
 
 -- and after a service, whose answer the log fits over a ledger that its pass has settled by then
 abbrev pub ServicesKeep : Type 0
 ServicesKeep =
     (k : Key) (plan : Plan) (modules : List Module) (q n : PassView) (r : Raw) (number : ℕ) →
-    HasAsked k plan.fuel q r number → SeesOn k q n → (l m : Ledger) → IsRunnerBy k plan modules q r l →
+    HasAsked k plan.fuel q r number → SeesOn k r q n → (l m : Ledger) → IsRunnerBy k plan modules q r l →
     IsSettled k plan modules n.sight m → IsLater l.course.end m.course.end → (reply : Reply) →
     MayServe k n.sight number reply r → IsDueWith m.course.end r (Served reply) →
     FitsSettled k n.sight n.guest m (serve_of r reply).base.log → IsRunnerBy k plan modules n (serve_of r reply) m

@@ -1,6 +1,7 @@
--- What came to a guest, from its opening on: the words that its pass has found, and the ends of its services.
-use Rattle.std.specs.Prelude.{◌≡◌, ℕ, ◌≤◌, ◌==◌, if◌then◌else◌, List, [], ◌∷◌, filter_map, Option, Some, None, ⊤}
+-- What came to a guest, from its opening on: what its pass has loaded, and the ends of its services.
+use Rattle.std.specs.Prelude.{◌≡◌, ℕ, ◌≤◌, List, [], ◌∷◌, ⊤}
 use Rattle.cfi_model.specs.declared.history.Access.{Access}
+use Rattle.cfi_model.specs.Came.{AreAskedBy, Came, IsPoint, loads_in, takes_in}
 use Rattle.cfi_model.specs.Fits.{Along}
 use Rattle.cfi_model.specs.History.{IsStart}
 use Rattle.cfi_model.specs.Raw.{Raw}
@@ -15,18 +16,11 @@ use Rattle.cfi_valid.specs.Course.{Course}
 use Rattle.cfi_valid.specs.Journal.{JournalState}
 use Rattle.cfi_valid.specs.Loaded.{fills_between}
 use Rattle.cfi_valid.specs.Replay.{given_by}
-use Rattle.cfi_word.specs.declared.layout.TheConstants.{EPOCH}
 
--- the words that a guest takes: those that its pass has found, but for the loads of EPOCH
-abbrev pub word_found : Access → Option ℕ
-word_found access = if access.word == EPOCH then None else Some access.found
-
-abbrev pub word_in : Take → Option ℕ
-word_in (Word word) = Some word
-word_in (Served reply) = None
-
-abbrev pub AreFound : List Access → List Take → Type 0
-AreFound accesses takes = filter_map word_in takes ≡ filter_map word_found accesses
+-- loads of quiescent points, which a guest that waits in a service makes
+abbrev pub ArePoints : Raw → List Access → Type 0
+ArePoints r [] = ⊤
+ArePoints r (access ∷ later) = IsPoint r access × ArePoints r later
 
 -- the answer to an open that succeeds brings the data of all modules up to its policy that the guest lacks
 pub record IsDue (end : JournalState) (r : Raw) (reply : Reply) : Type 0 where
@@ -41,15 +35,17 @@ abbrev pub AreDue : JournalState → Raw → List Take → Type 0
 AreDue end r [] = ⊤
 AreDue end r (t ∷ takes) = IsDueWith end r t × AreDue end (take_one r t) takes
 
--- The guest is where the raw machine is after all that came to it since its opening. Whatever its pass sees later, this
--- fits the history that it has seen then.
+-- The guest is where the raw machine is after all that came to it since its opening: all that its pass has loaded, each
+-- as the machine had asked for it, and the ends of its services. Whatever its pass sees later, this fits the history that
+-- it has seen then.
 pub record IsPath (k : Key) (c : Course) (p : PassView) (last : Raw) : Type 0 where
   pub start : Raw
   pub opened : IsOpenedAs c.plan c.end.loaded p.guest start
   pub starts : IsStart (history_seen k p.sight) start.base.pc
-  pub takes : List Take
-  pub found : AreFound p.sight.accesses takes
-  pub due : AreDue c.end start takes
-  pub is : last ≡ run_of start takes
+  pub came : List Came
+  pub loads : loads_in came ≡ p.sight.accesses
+  pub asked : AreAskedBy k.code_words start came
+  pub due : AreDue c.end start (takes_in came)
+  pub is : last ≡ run_of start (takes_in came)
   pub along : (later : Sight) → SeesMore k p.sight later
-      → Along (history_seen k later) (code_seen k later) start takes
+      → Along (history_seen k later) (code_seen k later) start (takes_in came)

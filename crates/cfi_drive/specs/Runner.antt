@@ -1,8 +1,9 @@
 -- What the type of a runner keeps: five facts of a guest and its pass.
-use Rattle.std.specs.Prelude.{◌≡◌, ℕ, ◌≤◌, List, filter_map, None}
+use Rattle.std.specs.Prelude.{◌≡◌, ℕ, ◌≤◌, List, ◌++◌, None}
 use mathlib.Core.List.{IsPrefix}
 use Rattle.cfi_aux.specs.declared.modules.Module.{Module}
 use Rattle.cfi_loader.specs.Ledger.{Ledger, IsLedger}
+use Rattle.cfi_model.specs.declared.history.Access.{Access}
 use Rattle.cfi_model.specs.Log.{last_policy}
 use Rattle.cfi_model.specs.Raw.{Raw}
 use Rattle.cfi_model.specs.Closed.{IsStartIn}
@@ -16,7 +17,7 @@ use Rattle.cfi_tables.specs.Views.{admitted}
 use Rattle.cfi_tables.specs.declared.view.PassView.{PassView}
 use Rattle.cfi_part.specs.Part.{IsEndOf, IsWithin}
 use Rattle.cfi_part.specs.Ran.{IsOpenedAs}
-use Rattle.cfi_drive.specs.Path.{IsPath, word_found}
+use Rattle.cfi_drive.specs.Path.{ArePoints, IsPath}
 use Rattle.cfi_drive.specs.Settled.{IsSettled, FitsSettled}
 
 -- a guest with the pass that loads for it
@@ -52,12 +53,14 @@ pub record IsOpening (k : Key) (plan : Plan) (modules : List Module) (p : PassVi
   pub guest : IsOpenedAs plan ledger.course.end.loaded p.guest r
   pub starts : IsStartIn (last_of ledger.keeping.entries).image r.base.pc
 
--- a pass has seen more of the tables, or as much, and its guest was given no word meanwhile
-pub record SeesOn (k : Key) (old new : PassView) : Type 0 where
+-- a pass has seen more of the tables, or as much, and has loaded no more than at quiescent points of its guest
+pub record SeesOn (k : Key) (r : Raw) (old new : PassView) : Type 0 where
   pub guest : new.guest ≡ old.guest
   pub sees : SeesMore k old.sight new.sight
   pub refusals : IsPrefix old.sight.refusals new.sight.refusals
-  pub accesses : filter_map word_found new.sight.accesses ≡ filter_map word_found old.sight.accesses
+  pub points : List Access
+  pub accesses : new.sight.accesses ≡ old.sight.accesses ++ points
+  pub are : ArePoints r points
 
 -- the guest waits in the service of this number, as a run over its pass has left it
 pub record HasAsked (k : Key) (fuel : ℕ) (p : PassView) (r : Raw) (number : ℕ) : Type 0 where
@@ -66,4 +69,4 @@ pub record HasAsked (k : Key) (fuel : ℕ) (p : PassView) (r : Raw) (number : �
   pub can : CanRunOn k fuel before old
   pub then : PassView
   pub run : HasRunOn k fuel before then old r (pauses.Service number)
-  pub sees : SeesOn k then p
+  pub sees : SeesOn k r then p

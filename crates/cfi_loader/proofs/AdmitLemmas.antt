@@ -129,6 +129,7 @@ passes_kept k b keeping out kept guests =
           policy = told.policy;
           images = told.images;
           marks = told.marks;
+          epochs = told.epochs;
           refusals = told.refusals;
           guests = guests;
         };

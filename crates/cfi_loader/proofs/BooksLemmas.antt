@@ -155,7 +155,7 @@ module _ (k : Key) (b : Books) (j : Minutes) (keeping : Keeping) (kept : BooksAg
       (entry_stays (course_in b) (course_in refreshed) refl later last (last_entry k b keeping kept)) in
       let tells : TellsOf k (course_in refreshed) (grown_by again quiets keeping) =
       tells_grown k (course_in b) (course_in refreshed) entry goes later keeping kept.ledger.told again quiets tables refl
-      kept.ledger.told.policy is refl refl refl in
+      kept.ledger.told.policy is refl refl refl refl in
       record {
         kept = record {
           ledger = ledger_more k b.plan b.modules who (RefreshOk (b.epoch + 1)) (ledger_of b keeping)

@@ -1,6 +1,7 @@
 pub mod CallLemmas
 pub mod JournalLemmas
 pub mod EntryLemmas
+pub mod EpochLemmas
 pub mod TellLemmas
 pub mod PolicyLemmas
 pub mod LedgerLemmas

@@ -182,7 +182,7 @@ module _ (k : Key) (b : Books) (j : Minutes) (keeping : Keeping) (kept : BooksAg
       (subst (λ (ps : List Placed). IsImage (DirectEdge ps) ps b.plan.code_words image) (sym places_there) of) in
       let tells : TellsOf k (course_in loaded_books) (grown_by new quiets keeping) =
       tells_grown k (course_in b) (course_in loaded_books) entry goes later keeping kept.ledger.told new quiets tables refl
-      refl is_entry refl refl refl in
+      refl is_entry refl refl refl refl in
       let one_there : LoadedModule = record { number = number; placed = one; policy = b.policy + 1 } in
       record {
         kept = record {

@@ -28,6 +28,7 @@ use Rattle.cfi_word.specs.declared.limits.TheConstants.{GUESTS}
 use Rattle.cfi_word.specs.declared.lists.Image.{Image}
 use Rattle.cfi_loader.specs.declared.books.Books.{Books}
 use Rattle.cfi_loader.specs.Ledger.{HavePolicies, HaveEntries, IsEntryOf, TellsOf}
+use Rattle.cfi_loader.specs.Epochs.{HavePoliciesOf}
 use Rattle.cfi_loader.specs.Marks.{AreMade, AreRefused}
 use Rattle.cfi_loader.specs.Plans.{CanStart}
 use Rattle.cfi_valid.specs.Opening.{IsFirstLost}
@@ -154,6 +155,7 @@ module _ (plan : Plan) (modules : List Module) (can : CanStart plan modules) (r 
         images = All-cons (IsEntryOf (course_in first)) (first_entry image) [] is_first
             (All-nil (IsEntryOf (course_in first)));
         marks = subst (λ (lines : List Entry). AreMade lines (opened_keeping k).entries) (sym no_lines) refl;
+        epochs = subst (λ (lines : List Entry). HavePoliciesOf lines (opened_keeping k).entries) (sym no_lines) refl;
         refusals = subst (λ (lines : List Entry). AreRefused lines []) (sym no_lines) refl;
         guests = none_out;
       }

@@ -16,9 +16,11 @@ use Rattle.cfi_valid.specs.Course.{Course}
 use Rattle.cfi_valid.specs.Growth.{IsLater}
 use Rattle.cfi_valid.specs.Journal.{JournalState}
 use Rattle.cfi_loader.specs.Ledger.{IsEntryOf, TellsOf}
+use Rattle.cfi_loader.specs.Epochs.{HavePoliciesOf, policy_put}
 use Rattle.cfi_loader.specs.Marks.{mark_of, is_made, made_marks, Spent, spent_of, spent_in, AreMade, AreRefused}
 use Rattle.cfi_loader.specs.Told.{GoesOnBy}
 use Rattle.cfi_loader.proofs.EntryLemmas.{entries_stay}
+use Rattle.cfi_loader.proofs.EpochLemmas.{epochs_more, epochs_same}
 use Rattle.cfi_loader.proofs.JournalLemmas.{marks_more, marks_same, spent_more, spent_same}
 
 -- the last of entries with one more
@@ -40,6 +42,9 @@ module _ (k : Key) (old new : Course) (entry : Entry) (goes : GoesOnBy entry old
       told.marks ∙ ap (λ (ms : List ℕ). 0 ∷ ms)
       (sym (ap made_marks goes.journal_is ∙ marks_same old.journal entry made))
 
+  same_epochs : is_made entry.what ≡ false → HavePoliciesOf new.journal keeping.entries
+  same_epochs made = epochs_same old.journal new.journal entry keeping.entries goes.journal_is made told.epochs
+
   same_refusals : spent_in entry ≡ None → AreRefused new.journal keeping.refusals
   same_refusals spent =
       told.refusals ∙ sym (ap (filter_map spent_in) goes.journal_is ∙ spent_same old.journal entry spent)
@@ -52,6 +57,7 @@ module _ (k : Key) (old new : Course) (entry : Entry) (goes : GoesOnBy entry old
     policy = ap (λ (s : JournalState). s.policy) end ∙ told.policy;
     images = images;
     marks = same_marks made;
+    epochs = same_epochs made;
     refusals = same_refusals spent;
     guests = guests;
   }
@@ -65,6 +71,7 @@ module _ (k : Key) (old new : Course) (entry : Entry) (goes : GoesOnBy entry old
     policy = ap (λ (s : JournalState). s.policy) end ∙ told.policy;
     images = images;
     marks = same_marks made;
+    epochs = same_epochs made;
     refusals =
         map-append spent_of keeping.refusals (r ∷ [])
         ∙ ap (λ (ss : List Spent). ss ++ spent_of r ∷ []) told.refusals
@@ -75,8 +82,9 @@ module _ (k : Key) (old new : Course) (entry : Entry) (goes : GoesOnBy entry old
   -- an update was made
   pub tells_grown : (e : TableEntry) (quiets : List ℕ) → IsTables (idle_tables k (grown_by e quiets keeping))
       → new.end.epoch ≡ old.end.epoch + 1 → new.end.policy ≡ e.policy → IsEntryOf new e → is_made entry.what ≡ true
-      → spent_in entry ≡ None → e.mark ≡ mark_of entry → TellsOf k new (grown_by e quiets keeping)
-  tells_grown e quiets tables epoch policy is made spent mark = record {
+      → spent_in entry ≡ None → e.mark ≡ mark_of entry
+      → policy_put (last_of keeping.entries).policy entry.what ≡ e.policy ∷ [] → TellsOf k new (grown_by e quiets keeping)
+  tells_grown e quiets tables epoch policy is made spent mark put = record {
     tables = tables;
     epoch = omega (arith, epoch, told.epoch, length-append keeping.entries (e ∷ []));
     policy = policy ∙ ap (λ (last : TableEntry). last.policy) (sym (last_more keeping.entries e));
@@ -87,6 +95,7 @@ module _ (k : Key) (old new : Course) (entry : Entry) (goes : GoesOnBy entry old
         ∙ ap (λ (ms : List ℕ). ms ++ e.mark ∷ []) told.marks
         ∙ ap (λ (m : ℕ). 0 ∷ (made_marks old.journal ++ m ∷ [])) mark
         ∙ ap (λ (ms : List ℕ). 0 ∷ ms) (sym (ap made_marks goes.journal_is ∙ marks_more old.journal entry made));
+    epochs = epochs_more old.journal new.journal entry keeping.entries e goes.journal_is put told.tables.some told.epochs;
     refusals = same_refusals spent;
     guests = guests;
   }

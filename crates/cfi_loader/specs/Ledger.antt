@@ -16,6 +16,7 @@ use Rattle.cfi_valid.specs.Journal.{JournalState}
 use Rattle.cfi_valid.specs.Loaded.{LoadedModule, placed_modules, loaded_by, live_at}
 use Rattle.cfi_valid.specs.Script.{Call, script_calls, made_by_script}
 use Rattle.cfi_valid.specs.declared.limits.TheConstants.{MAX_LOADED}
+use Rattle.cfi_loader.specs.Epochs.{HavePoliciesOf}
 use Rattle.cfi_loader.specs.Marks.{AreMade, AreRefused}
 use Rattle.cfi_loader.specs.Plans.{CanStart, AreTablesOf}
 
@@ -43,13 +44,14 @@ pub record HavePolicies (plan : Plan) (s : JournalState) : Type 0 where
   pub most : length s.loaded ≤ MAX_LOADED
 
 -- what the keeper keeps is what the journal tells: the epoch and the policy in force, an entry for each update that was
--- made, with its mark and its image, and the updates that were not admitted
+-- made, with its mark, its policy and its image, and the updates that were not admitted
 pub record TellsOf (k : Key) (c : Course) (keeping : Keeping) : Type 0 where
   pub tables : IsTables (idle_tables k keeping)
   pub epoch : c.end.epoch + 1 ≡ epoch_after k keeping
   pub policy : c.end.policy ≡ (last_of keeping.entries).policy
   pub images : All (IsEntryOf c) keeping.entries
   pub marks : AreMade c.journal keeping.entries
+  pub epochs : HavePoliciesOf c.journal keeping.entries
   pub refusals : AreRefused c.journal keeping.refusals
   pub guests : (guest : ℕ) → is_out keeping.out guest ≡ true → guest < length c.plan.guests
 

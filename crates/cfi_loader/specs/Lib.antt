@@ -1,4 +1,5 @@
 pub mod Marks
+pub mod Epochs
 pub mod Calls
 pub mod Plans
 pub mod Ledger

@@ -1,5 +1,5 @@
 -- One access leaves the raw machine within a unit, or ends the unit as the policy machine does.
-use Rattle.std.proofs.Common.{◌≡◌, ◌≢◌, ℕ, ◌*◌, ◌<◌, Bool, Option, None, List, [], ◌∷◌, length, refl, sym, ◌∙◌, ap, subst, arith, ◌⊎◌, inl, inr}
+use Rattle.std.proofs.Common.{◌≡◌, ◌≢◌, ℕ, ℤ, ◌*◌, ◌<◌, Bool, Option, None, List, [], ◌∷◌, length, refl, sym, ◌∙◌, ap, subst, arith, ◌⊎◌, inl, inr}
 use Rattle.rv_insn.specs.declared.insn.Insn.TheVariants as insns
 use Rattle.cfi_unit.specs.declared.unit.Unit.{Unit as CodeUnit}
 use Rattle.cfi_unit.specs.declared.unit.Unit.TheVariants as units
@@ -19,6 +19,7 @@ use Rattle.cfi_model.proofs.StartLemmas.{started}
 use Rattle.cfi_model.proofs.FetchLemmas.{Here, start_raw, first_place, first_walks}
 use Rattle.cfi_model.proofs.MaskedLemmas.{masked_begins, masked_goes_on}
 use Rattle.cfi_model.proofs.AccessLemmas.{load_ends, store_ends}
+use Rattle.cfi_model.proofs.CheckPlaces.{CheckGoesOn, CheckStops}
 use Rattle.cfi_model.proofs.CheckWalk.{check_begins, check_goes_on}
 use Rattle.cfi_model.proofs.PickLemmas.{pick_logged}
 use Rattle.cfi_model.proofs.SingleLemmas.{plain_ends, branch_ends, jump_ends, service_raw, ecall_waits, serve_ends}
@@ -110,7 +111,7 @@ module _ (h : History) (code : List ℕ) (p : State) (retries : ℕ) where
       retries x28 x29 x30 x31 r (is ∙ first_place p retries x28 x29 x30 x31) t fits)
   first_access (units.Check link rs1 imm slot) at x28 x29 x30 x31 r is t fits =
       inl (check_begins h code p link rs1 imm slot at.here retries x28 x29 x30 x31 r
-      (is ∙ first_place p retries x28 x29 x30 x31) t fits)
+      (is ∙ first_place p retries x28 x29 x30 x31) t fits).0
   first_access units.Service at x28 x29 x30 x31 r is t fits =
       inl (record {
         x28 = x28;
@@ -126,6 +127,32 @@ module _ (h : History) (code : List ℕ) (p : State) (retries : ℕ) where
       → slot < length (h.image one).bary → slot < length (h.image other).bary
   slot_within known one other slot is is2 within =
       omega (arith, (known.closed one is).1.classes.bary_length, (known.closed other is2).1.classes.bary_length)
+
+  -- each further access of a check
+  pub check_next : (link : Bool) (rs1 : ℕ) (imm : ℤ) (slot : ℕ) → At h code p (units.Check link rs1 imm slot) → (r : Raw)
+      → (begun : Begun h p (units.Check link rs1 imm slot) retries r) → (t : Take) → Fits h code r t
+      → CheckGoesOn h p retries slot (displaced (register p rs1) imm) begun.values begun.place r t
+      ⊎ CheckStops h p retries slot (displaced (register p rs1) imm) link begun.place (end_of r t) (take_one r t)
+  check_next link rs1 imm slot at r begun t fits =
+      check_goes_on h code p link rs1 imm slot at.here retries begun.more (displaced (register p rs1) imm) begun.two
+      begun.values begun.place r begun.is begun.holds t fits
+
+  -- its last one
+  pub check_ends : (link : Bool) (rs1 : ℕ) (imm : ℤ) (slot : ℕ) → At h code p (units.Check link rs1 imm slot) → (r : Raw)
+      → (begun : Begun h p (units.Check link rs1 imm slot) retries r) → (t : Take)
+      → CheckStops h p retries slot (displaced (register p rs1) imm) link begun.place (end_of r t) (take_one r t)
+      → Ended h code retries (end_of r t) p (take_one r t)
+  check_ends link rs1 imm slot at r begun t stops =
+      let unit : CodeUnit = units.Check link rs1 imm slot in
+      let target : ℕ = displaced (register p rs1) imm in
+      let e = stops.ended in
+      ends_as h code retries e.more p unit at e.epoch e.known (end_of r t) e.under too_many tt e.rises
+      (target_starts h code at.here.known e.epoch slot target e.known
+      (slot_within at.here.known at.epoch e.epoch slot at.is e.known at.inside.1))
+      e.two
+      (λ some. pick_logged (h.policy e.epoch) (allows_at h e.epoch) too_many p link rs1 imm slot (e.logged some))
+      (take_one r t) e.ends
+      (held_in unit at tt r begun t (h.policy e.epoch) (allows_at h e.epoch) too_many _ e.ends)
 
   -- each further access of a unit
   pub next_access : (unit : CodeUnit) → At h code p unit → (r : Raw) → Begun h p unit retries r
@@ -162,21 +189,9 @@ module _ (h : History) (code : List ℕ) (p : State) (retries : ℕ) where
             (held_in unit at tt r begun t (h.policy at.epoch) (allows_at h at.epoch) too_many retries between))
       ]
   next_access (units.Check link rs1 imm slot) at r begun t fits =
-      let unit : CodeUnit = units.Check link rs1 imm slot in
-      let unit : CodeUnit = units.Check link rs1 imm slot in
-      let target : ℕ = displaced (register p rs1) imm in
-      elim (check_goes_on h code p link rs1 imm slot at.here retries begun.more target begun.two begun.values
-      begun.place
-      r begun.is begun.holds t fits) [
-        | inl next ↦ inl next
-        | inr e ↦
-            inr (ends_as h code retries e.more p unit at e.epoch e.known (end_of r t) e.under too_many tt e.rises
-            (target_starts h code at.here.known e.epoch slot target e.known
-            (slot_within at.here.known at.epoch e.epoch slot at.is e.known at.inside.1))
-            e.two
-            (λ some. pick_logged (h.policy e.epoch) (allows_at h e.epoch) too_many p link rs1 imm slot (e.logged some))
-            (take_one r t) e.ends
-            (held_in unit at tt r begun t (h.policy e.epoch) (allows_at h e.epoch) too_many _ e.ends))
+      elim (check_next link rs1 imm slot at r begun t fits) [
+        | inl next ↦ inl next.now
+        | inr stops ↦ inr (check_ends link rs1 imm slot at r begun t stops)
       ]
   next_access units.Service at r begun (Word word) fits = absurd (subst (λ x. Fits h code x (Word word)) begun.is fits)
   next_access units.Service at r begun (Served reply) fits =

@@ -6,6 +6,7 @@ use Rattle.cfi_model.specs.declared.act.Wait.TheVariants as waits
 use Rattle.cfi_model.specs.Log.{last_policy}
 use Rattle.cfi_model.specs.State.{State}
 use Rattle.cfi_model.specs.Raw.{Raw}
+use Rattle.cfi_model.specs.Run.{Take, Word, take_one}
 use Rattle.cfi_model.specs.History.{History, IsEpoch, IsBaryWord, allows_at}
 use Rattle.cfi_model.specs.Shows.{IsBetween, IsRepeat, AreKept, IsTriedIn, End}
 use Rattle.cfi_model.specs.Effect.{checked, is_in_code}
@@ -131,6 +132,50 @@ pub record CheckAt (h : History) (p : State) (retries slot target : ℕ) (r : Ra
   pub is : r ≡ check_raw p (retries + more) slot target values place
   pub holds : CheckHolds h p more slot target values place
 
+-- ---- which words the present try has found
+
+pub data Found : Type 0 where
+  Neither : Found
+  SlotWord : Found
+  BothWords : Found
+
+abbrev pub found_at : CheckPlace → Found
+found_at Aimed = Neither
+found_at Split = Neither
+found_at Far = Neither
+found_at Trying = Neither
+found_at Pointed = Neither
+found_at AskedBary = Neither
+found_at FoundBary = SlotWord
+found_at Tabled = SlotWord
+found_at Added = SlotWord
+found_at AskedTary = SlotWord
+found_at FoundTary = BothWords
+found_at Differed = BothWords
+found_at Compared = BothWords
+found_at Lowered = BothWords
+found_at Refused = BothWords
+found_at Allowed = BothWords
+
+-- what an access makes of them: the code's word leaves them, or begins a try anew; a table word is one more
+abbrev pub FollowsBy : (old new : Found) → (slot target : ℕ) → (v : Values) → Raw → Take → (w : Values) → Type 0
+FollowsBy Neither Neither slot target v r t w = r.waits ≡ None
+FollowsBy Neither SlotWord slot target v r t w = (r.waits ≡ Some (waits.Bary slot 29)) × (t ≡ Word w.bary)
+FollowsBy Neither BothWords slot target v r t w = ⊥
+FollowsBy SlotWord Neither slot target v r t w = ⊥
+FollowsBy SlotWord SlotWord slot target v r t w = (r.waits ≡ None) × (w.bary ≡ v.bary)
+FollowsBy SlotWord BothWords slot target v r t w =
+    (r.waits ≡ Some (waits.Tary target 30)) × (w.bary ≡ v.bary) × (t ≡ Word w.tary)
+FollowsBy BothWords Neither slot target v r t w = r.waits ≡ None
+FollowsBy BothWords SlotWord slot target v r t w = ⊥
+FollowsBy BothWords BothWords slot target v r t w = (r.waits ≡ None) × (w.bary ≡ v.bary) × (w.tary ≡ v.tary)
+
+-- a raw state within a check after one more access
+pub record CheckGoesOn (h : History) (p : State) (retries slot target : ℕ) (v : Values) (place : CheckPlace) (r : Raw)
+    (t : Take) : Type 0 where
+  pub now : CheckAt h p retries slot target (take_one r t)
+  pub follows : FollowsBy (found_at place) (found_at now.place) slot target v r t now.values
+
 -- a check has ended, under the policy of an epoch, that of the two kept words
 pub record CheckEnded (h : History) (p : State) (retries slot target : ℕ) (link : Bool) (end : End) (r : Raw)
     : Type 0 where
@@ -142,3 +187,9 @@ pub record CheckEnded (h : History) (p : State) (retries slot target : ℕ) (lin
   pub ends : IsBetween (retries + more) (checked (h.policy epoch) (allows_at h epoch slot target) link target p) r
   pub logged : more ≢ 0 → is_in_code target ≡ true
   pub rises : is_in_code target ≡ true → last_policy p.log ≤ h.policy epoch
+
+-- a check has ended from a place; where it has asked a policy, its try had found both words
+pub record CheckStops (h : History) (p : State) (retries slot target : ℕ) (link : Bool) (place : CheckPlace) (end : End)
+    (r : Raw) : Type 0 where
+  pub ended : CheckEnded h p retries slot target link end r
+  pub tried : is_in_code target ≡ true → found_at place ≡ BothWords

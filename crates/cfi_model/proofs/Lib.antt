@@ -37,3 +37,4 @@ pub mod AfterLemmas
 pub mod HaltLemmas
 pub mod KeptLemmas
 pub mod TakeLemmas
+pub mod TableMomentLemmas

@@ -13,6 +13,11 @@ use Rattle.cfi_model.specs.Words.{Tables, rank_at, is_stored, word_at, word_of_e
 use Rattle.cfi_model.specs.Phases.{phase_after, phase_by, phase_of, is_newest, number_in, one_more}
 use Rattle.cfi_model.specs.Tables.{IsTables, MayBeAsked}
 
+-- each place has a word of its own
+pub same_place : (c : ℕ) (one other : Place) → IsPlace c one → IsPlace c other
+    → word_number c one ≡ word_number c other → one ≡ other
+same_place c one other a b e = grind arith
+
 -- the phase after so many stores, row by row
 abbrev pub IsRow : (code_words stored : ℕ) → Phase → Type 0
 IsRow c s phases.Idle = stores_of c ≤ s

@@ -2,6 +2,7 @@
 -- quiescent point begins, is none of its own; the fetch of ECALL brings the end of its service too, and an open takes
 -- the next answer, where more opens may be logged.
 use Rattle.std.specs.Prelude.{◌≡◌, ℕ, ◌/◌, ◌≤◌, ◌<◌, ◌==◌, nat_le, nat_lt, if◌then◌else◌, List, [], ◌∷◌, ◌++◌, length, slice_index, Option, Some, None, ⊤, ◌⊎◌}
+use Rattle.cfi_word.specs.Rank.{stores_of}
 use Rattle.cfi_word.specs.Table.{IsTary, code_word, tary_word, bary_word}
 use Rattle.cfi_word.specs.Word.{policy_in}
 use Rattle.cfi_word.specs.declared.lists.Image.{Image}
@@ -119,9 +120,13 @@ AllFind h code r replies (access ∷ later) =
 abbrev pub KeepsLast : Raw → (kept : Option ℕ) → Type 0
 KeepsLast r kept = (word : ℕ) → r.bary ≡ Some word → kept ≡ Some word
 
--- the fetch of an image's code word
+-- the fetch of an image's code word, at the opening
 abbrev pub fetch_of : Image → (index : ℕ) → Access
-fetch_of image index = record { word = code_word index; found = slice_index image.code index }
+fetch_of image index = record {
+  word = code_word index;
+  found = slice_index image.code index;
+  moment = record { entries = 1; stored = stores_of (length image.code) };
+}
 
 -- what is found fits, where the list is fair
 abbrev pub AccessesFit : Type 0

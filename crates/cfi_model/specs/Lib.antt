@@ -21,3 +21,5 @@ pub mod Accesses
 pub mod World
 pub mod Running
 pub mod InForce
+pub mod TableMoments
+pub mod Came

@@ -1,7 +1,7 @@
 -- The words of the shared tables, by the entries that they have had and one number: how many stores the newest update
 -- has made. A code word on which both images agree needs no store, and counts as stored.
 -- Epochs, policies and classes are numbers; entries are numbered from 0, and so are the words of each area.
-use Rattle.std.specs.Prelude.{ℕ, ◌+◌, ◌-◌, ◌*◌, nat_lt, if◌then◌else◌, Bool, List, [], ◌∷◌, length, slice_index, slice_index_or, Option, None}
+use Rattle.std.specs.Prelude.{ℕ, ◌+◌, ◌-◌, ◌*◌, nat_lt, if◌then◌else◌, Bool, List, [], ◌∷◌, length, slice_index, slice_index_or, Option, None, ⊤}
 use Rattle.cfi_word.specs.Word.{packed, epoch_in, policy_in}
 use Rattle.cfi_word.specs.Table.{Place, Epoch, Quiet, Code, Tary, Bary}
 use Rattle.cfi_word.specs.Rank.{stores_of}
@@ -39,6 +39,14 @@ rank_at code_words (Tary index) = code_words + index
 rank_at code_words Epoch = 2 * code_words
 rank_at code_words (Bary slot) = 2 * code_words + 1 + slot
 rank_at code_words (Quiet guest) = stores_of code_words
+
+-- an update stores the word at the place
+abbrev pub HasStore : Place → Type 0
+HasStore Epoch = ⊤
+HasStore (Code index) = ⊤
+HasStore (Tary index) = ⊤
+HasStore (Bary slot) = ⊤
+HasStore (Quiet guest) = ⊥
 
 -- the entry of a number
 abbrev pub no_entry : Entry

@@ -26,6 +26,15 @@ pub struct Refusal {
     pub mark: u32,
 }
 
+/// A moment of the tables: how far they had come.
+#[derive(Clone, Copy, Debug, PartialEq, Eq)]
+pub struct Moment {
+    /// How many entries they had had.
+    pub entries: u32,
+    /// How many stores of the update to the last of these were made.
+    pub stored: u32,
+}
+
 /// A guest's load of a word of the table.
 #[derive(Clone, Copy, Debug, PartialEq, Eq)]
 pub struct Access {
@@ -33,4 +42,6 @@ pub struct Access {
     pub word: u32,
     /// What was found.
     pub found: u64,
+    /// When it was loaded.
+    pub moment: Moment,
 }

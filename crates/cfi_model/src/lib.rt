@@ -24,7 +24,7 @@ pub use accesses::accesses_are_taken;
 pub use act::{Act, Wait};
 pub use cfi_unit::{Answer, Fill, Log, Stop};
 pub use data::{PrivateData, load_width, store_width};
-pub use history::{Access, Entry, Refusal};
+pub use history::{Access, Entry, Moment, Refusal};
 pub use log_book::LogBook;
 pub use output::Output;
 pub use phase::Phase;

@@ -3,6 +3,7 @@ use Rattle.std.proofs.Common.{◌≡◌, ℕ, ◌-◌, ◌<◌, sym, ap, ◌∙�
 use Rattle.cfi_word.specs.Table.{Tary, Bary}
 use Rattle.cfi_word.specs.Word.{epoch_in}
 use Rattle.cfi_model.specs.InForce.{in_force, history_of}
+use Rattle.cfi_model.specs.TableMoments.{IsInForce}
 use Rattle.cfi_model.specs.Words.{Tables, entry_at, epoch_in_force, policy_in_force, word_at}
 use Rattle.cfi_model.proofs.InForceLemmas.{force_rises, bary_epoch, tary_epoch, force_within}
 use Rattle.cfi_model.proofs.TableLemmas.{force_epoch, force_policy}
@@ -28,5 +29,5 @@ module _ (early mid late : Tables) (are : AreMoments early mid late) (epoch slot
       force_policy mid are.mid_is ∙ ap (λ e. e.policy) (sym same)
       ∙ ap (λ n. (entry_at late n).policy) number_is
 
-  pub held : (epoch_in_force mid ≡ epoch) × (policy_in_force mid ≡ (history_of late).policy epoch)
-  held = (epoch_is, policy_is)
+  pub held : IsInForce mid epoch ((history_of late).policy epoch)
+  held = record { epoch_is = epoch_is; policy_is = policy_is }

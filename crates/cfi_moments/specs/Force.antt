@@ -4,7 +4,8 @@ use Rattle.cfi_word.specs.Table.{Tary, Bary}
 use Rattle.cfi_word.specs.Word.{epoch_in}
 use Rattle.cfi_model.specs.InForce.{GoesOn, history_of}
 use Rattle.cfi_model.specs.Tables.{IsTables}
-use Rattle.cfi_model.specs.Words.{Tables, epoch_in_force, policy_in_force, word_at}
+use Rattle.cfi_model.specs.TableMoments.{IsInForce}
+use Rattle.cfi_model.specs.Words.{Tables, word_at}
 
 -- the tables at three moments, one after the other
 pub record AreMoments (early mid late : Tables) : Type 0 where
@@ -20,4 +21,4 @@ abbrev pub TriesHoldPolicies : Type 0
 TriesHoldPolicies =
     (early mid late : Tables) → AreMoments early mid late → (epoch slot index : ℕ) → index < late.code_words →
     epoch_in (word_at early (Bary slot)) ≡ epoch → epoch_in (word_at late (Tary index)) ≡ epoch →
-    (epoch_in_force mid ≡ epoch) × (policy_in_force mid ≡ (history_of late).policy epoch)
+    IsInForce mid epoch ((history_of late).policy epoch)

@@ -1,3 +1,4 @@
 pub mod Moments
 pub mod Force
 pub mod Ready
+pub mod Window

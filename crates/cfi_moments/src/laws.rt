@@ -3,6 +3,7 @@
 ghost use Rattle.cfi_moments.specs.Force.{TriesHoldPolicies};
 ghost use Rattle.cfi_moments.specs.Moments.{GuestsAreConfined};
 ghost use Rattle.cfi_moments.specs.Ready.{RunsStayReady};
+ghost use Rattle.cfi_moments.specs.Window.{ChecksAskInForce};
 
 /// At every moment a guest runs a unit that it has entered at its start, and stores in its own data alone.
 pub fn guests_are_confined()
@@ -13,6 +14,12 @@ pub fn guests_are_confined()
 /// force, and its policy with it.
 pub fn tries_hold_policies()
     ensures { TriesHoldPolicies }
+{}
+
+/// A guest that was opened at a start runs unit by unit, each check under the policy of an epoch that is in force in the
+/// check's window: from the moment of the load of its slot's word to that of the load of its target's, in its last try.
+pub fn checks_ask_in_force()
+    ensures { ChecksAskInForce }
 {}
 
 /// After however many units the policy machine is ready for the next one.

@@ -1,5 +1,6 @@
 -- A guest that has run, and has stopped, has a valid part.
 use Rattle.std.proofs.Common.{◌≡◌, ◌≢◌, ℕ, ◌+◌, List, Some, None, slice_get, length, refl, sym, ◌∙◌, subst, arith, inl}
+use Rattle.cfi_model.specs.Came.{takes_in}
 use Rattle.cfi_model.specs.Fits.{Along}
 use Rattle.cfi_model.specs.History.{History, IsStart}
 use Rattle.cfi_model.specs.Log.{pick_entries}
@@ -7,6 +8,7 @@ use Rattle.cfi_model.specs.Raw.{Raw, raw_opened}
 use Rattle.cfi_model.specs.Run.{run_of}
 use Rattle.cfi_model.specs.Shows.{IsShown}
 use Rattle.cfi_model.specs.State.{State, opened}
+use Rattle.cfi_model.specs.Words.{Tables}
 use Rattle.cfi_model.proofs.FixedLemmas.{opened_ready}
 use Rattle.cfi_report.specs.declared.report.GuestPart.{GuestPart}
 use Rattle.cfi_unit.specs.declared.fill.Fill.{Fill}
@@ -29,8 +31,8 @@ use Rattle.cfi_part.proofs.StepsLemmas.{replay_unspent}
 some_same : (a b : List ℕ) → Some a ≡ Some b → a ≡ b
 some_same a b e = cc
 
-module _ (c : Course) (h : History) (code : List ℕ) (of : IsHistoryOf c h code) (number : ℕ) (guest : Raw)
-    (run : HasRun c h code number guest) (stopped : guest.base.stop ≢ None) (within : IsWithin c.plan.fuel guest)
+module _ (c : Course) (t : Tables) (h : History) (code : List ℕ) (of : IsHistoryOf c t h code) (number : ℕ) (guest : Raw)
+    (run : HasRun c t h code number guest) (stopped : guest.base.stop ≢ None) (within : IsWithin c.plan.fuel guest)
     (logged : IsLogged c number guest.base.log) (entry : List ℕ) (named : slice_get c.plan.guests number ≡ Some entry)
   where
     abbrev loaded : List LoadedModule
@@ -55,12 +57,12 @@ module _ (c : Course) (h : History) (code : List ℕ) (of : IsHistoryOf c h code
     starts = subst (λ (r : Raw). IsStart h r.base.pc) run.opened.is run.starts
 
     -- the policy machine has come as far as the guest
-    come : HasCome h code loaded of.known policies start.base 0 start.base start run.takes
+    come : HasCome h code loaded of.known policies start.base 0 start.base start (takes_in run.came)
     come =
         let ready = opened_ready h number address fills starts in
-        comes h code loaded of.known policies start.base run.takes 0 start.base start (inl ready) ready.0
-        (subst (λ (r : Raw). Along h code r run.takes) run.opened.is run.along)
-        (subst (λ (r : Raw). AreBrought loaded r run.takes) run.opened.is run.brings) refl
+        comes h code loaded of.known policies start.base (takes_in run.came) 0 start.base start (inl ready) ready.0
+        (subst (λ (r : Raw). Along h code r (takes_in run.came)) run.opened.is run.along)
+        (subst (λ (r : Raw). AreBrought loaded r (takes_in run.came)) run.opened.is run.brings) refl
 
     abbrev s : State
     s = come.new
@@ -77,12 +79,12 @@ module _ (c : Course) (h : History) (code : List ℕ) (of : IsHistoryOf c h code
     abbrev single : h.count + h.ahead ≡ 1 → come.settled ≡ 0
     single one = come.shown.single one
 
-    ends : IsEndOf (run_of start run.takes) guest
-    ends = subst (λ (r : Raw). IsEndOf (run_of r run.takes) guest) run.opened.is run.ends
+    ends : IsEndOf (run_of start (takes_in run.came)) guest
+    ends = subst (λ (r : Raw). IsEndOf (run_of r (takes_in run.came)) guest) run.opened.is run.ends
 
     shown : IsShownAs h code of.known come.settled s come.shown.ready picked single unspent guest
     shown =
-        shown_as h code of.known come.settled s come.shown.ready picked single unspent (run_of start run.takes) guest
+        shown_as h code of.known come.settled s come.shown.ready picked single unspent (run_of start (takes_in run.came)) guest
         come.shown.shows ends
 
     -- where the part's guest begins
@@ -129,15 +131,15 @@ module _ (c : Course) (h : History) (code : List ℕ) (of : IsHistoryOf c h code
       };
     }
 
-    told : IsRunOf c h code number part
+    told : IsRunOf c t h code number part
     told = record {
       guest = guest;
       told = refl;
       run = run;
       retries = come.settled;
       state = s;
-      shown = subst (λ (r : Raw). IsShown h code 0 r.base r run.takes come.settled s) (sym run.opened.is) come.shown;
+      shown = subst (λ (r : Raw). IsShown h code 0 r.base r (takes_in run.came) come.settled s) (sym run.opened.is) come.shown;
     }
 
-    pub part_made : IsEnded c number part × IsRunOf c h code number part
+    pub part_made : IsEnded c number part × IsRunOf c t h code number part
     part_made = (ended, told)

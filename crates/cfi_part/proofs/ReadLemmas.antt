@@ -15,6 +15,8 @@ use Rattle.cfi_unit.specs.declared.log.Log.TheVariants.{Pick, Open, Cause}
 use Rattle.cfi_unit.specs.declared.log.Stop.{Stop}
 use Rattle.cfi_valid.specs.Course.{Course}
 use Rattle.cfi_part.specs.Part.{HasFields, IsEndOf, IsEntry}
+use Rattle.cfi_model.specs.Came.{takes_in}
+use Rattle.cfi_model.specs.Words.{Tables}
 use Rattle.cfi_part.specs.Ran.{IsRunOf}
 use Rattle.cfi_part.proofs.ApartLemmas.{Counts, IsKept, run_kept}
 
@@ -24,14 +26,15 @@ end_kept : (last r : Raw) → IsEndOf last r → IsKept last.base.log → IsKept
 end_kept last r (inl same) kept = subst (λ (x : Raw). IsKept x.base.log) (sym same) kept
 end_kept last r (inr spent) kept = subst IsKept (sym (ap (λ (x : Raw). x.base.log) spent.is)) kept
 
-pub told_kept : (c : Course) (h : History) (code : List ℕ) (number : ℕ) (part : GuestPart) → IsRunOf c h code number part
+pub told_kept : (c : Course) (t : Tables) (h : History) (code : List ℕ) (number : ℕ) (part : GuestPart)
+    → IsRunOf c t h code number part
     → IsKept part.log
-told_kept c h code number part of =
+told_kept c t h code number part of =
     let run = of.run in
     let first : IsKept run.start.base.log =
     subst (λ (r : Raw). IsKept r.base.log) (sym run.opened.is) (record { apart = tt; counts = tt }) in
     subst IsKept (sym (ap (λ (p : GuestPart). p.log) of.told))
-    (end_kept (run_of run.start run.takes) of.guest run.ends (run_kept run.takes run.start first))
+    (end_kept (run_of run.start (takes_in run.came)) of.guest run.ends (run_kept (takes_in run.came) run.start first))
 
 -- ---- lines
 

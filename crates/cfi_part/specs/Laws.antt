@@ -2,6 +2,7 @@
 use Rattle.std.specs.Prelude.{◌≡◌, ◌≢◌, ℕ, List, slice_get, Some, None}
 use Rattle.cfi_model.specs.History.{History}
 use Rattle.cfi_model.specs.Raw.{Raw}
+use Rattle.cfi_model.specs.Words.{Tables}
 use Rattle.cfi_valid.specs.Course.{Course}
 use Rattle.cfi_valid.specs.Log.{IsLogged}
 use Rattle.cfi_valid.specs.Valid.{IsEnded}
@@ -12,7 +13,7 @@ use Rattle.cfi_part.specs.Ran.{HasRun, IsHistoryOf, IsRunOf}
 -- the guest has run
 abbrev pub RunsMakeParts : Type 0
 RunsMakeParts =
-    (c : Course) (h : History) (code : List ℕ) → IsHistoryOf c h code → (number : ℕ) (guest : Raw) →
-    HasRun c h code number guest → guest.base.stop ≢ None → IsWithin c.plan.fuel guest →
+    (c : Course) (t : Tables) (h : History) (code : List ℕ) → IsHistoryOf c t h code → (number : ℕ) (guest : Raw) →
+    HasRun c t h code number guest → guest.base.stop ≢ None → IsWithin c.plan.fuel guest →
     IsLogged c number guest.base.log → (entry : List ℕ) → slice_get c.plan.guests number ≡ Some entry →
-    let part = part_of number entry guest in IsEnded c number part × IsRunOf c h code number part
+    let part = part_of number entry guest in IsEnded c number part × IsRunOf c t h code number part

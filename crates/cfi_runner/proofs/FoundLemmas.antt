@@ -19,10 +19,11 @@ use Rattle.cfi_tables.specs.Loads.{IsTableAddress, IsLoad, access_of, place_at}
 use Rattle.cfi_tables.specs.declared.view.PassView.{PassView}
 use Rattle.cfi_tables.proofs.FairLemmas.{kept_snoc}
 use Rattle.cfi_tables.proofs.Prefixes.{prefix_length}
-use Rattle.cfi_tables.specs.Views.{tables_with}
+use Rattle.cfi_tables.specs.Views.{last_moment, tables_with}
 use Rattle.rv_guest.specs.Guest.{MayLoad}
 use Rattle.cfi_runner.specs.Seen.{history_seen, code_seen, policy_seen, SeesMore}
-use Rattle.cfi_runner.specs.Run.{AsksFor, CanRunOn, HasTaken, KeepsSeat}
+use Rattle.cfi_model.specs.Came.{AsksFor}
+use Rattle.cfi_runner.specs.Run.{CanRunOn, HasTaken, KeepsSeat}
 use Rattle.cfi_runner.proofs.ActLemmas.{WaitsAt}
 use Rattle.cfi_runner.proofs.PickedLemmas.{logs_same, logs_found}
 use Rattle.cfi_runner.proofs.SeenLemmas.{sees_trans, policy_later, bary_seen, tary_seen, tary_rises, word_later}
@@ -69,7 +70,8 @@ module _ (k : Key) (fuel : ℕ) (p : PassView) (old : Raw) (can : CanRunOn k fue
         let sees = bary_more new slot found load in
         let done : finish_of now found ≡ finish_as (Some (waits.Bary slot rd)) now found =
         ap (λ w. finish_as w now found) wait in
-        let taken = takes_more k fuel p old can q now way new (access_of k.code_words (places.Bary slot) found) load.accesses sees
+        let taken = takes_more k fuel p old can q now way new (access_of k.code_words (places.Bary slot) found (last_moment k new.sight))
+        load.now.accesses sees
         (subst (λ w. AsksFor k.code_words w now (bary_word k.code_words slot)) (sym wait) refl)
         (λ later more. subst (λ w. FitsWord (history_seen k later) (code_seen k later) w now found) (sym wait)
         (let word = word_later k new.sight later sees.is more (places.Bary slot) found load.word in
@@ -82,8 +84,8 @@ module _ (k : Key) (fuel : ℕ) (p : PassView) (old : Raw) (can : CanRunOn k fue
               taken = subst (HasTaken k p new old) (ap (λ w. take_word w now found) wait ∙ sym done) taken;
               keeps = on_keeps new (places.Bary slot) found load sees;
               kept = λ word e.
-                  ap (kept_of k) load.accesses
-                  ∙ (kept_snoc k q.sight.accesses (places.Bary slot) found inside tt
+                  ap (kept_of k) load.now.accesses
+                  ∙ (kept_snoc k q.sight.accesses (places.Bary slot) found (last_moment k new.sight) inside tt
                   ∙ (sym (ap (λ r. r.bary) done) ∙ e));
               logs = logs_same (policy_seen k p.sight) old.base.log now way.logs (finish_of now found)
                   (ap (λ r. r.base.log) done)
@@ -110,7 +112,8 @@ module _ (k : Key) (fuel : ℕ) (p : PassView) (old : Raw) (can : CanRunOn k fue
         let rises : last_policy now.base.log ≤ policy_in found =
         omega (arith, low k fuel p old can q now way, up, tary) in
         let before = policy_later k p.sight q.sight can.sight way.keeps.sees in
-        let taken = takes_more k fuel p old can q now way new (access_of k.code_words (places.Tary index) found) load.accesses sees
+        let taken = takes_more k fuel p old can q now way new (access_of k.code_words (places.Tary index) found (last_moment k new.sight))
+        load.now.accesses sees
         (subst (λ w. AsksFor k.code_words w now (tary_word k.code_words index)) (sym wait) refl)
         (λ later more. subst (λ w. FitsWord (history_seen k later) (code_seen k later) w now found) (sym wait)
         (record {
@@ -127,8 +130,8 @@ module _ (k : Key) (fuel : ℕ) (p : PassView) (old : Raw) (can : CanRunOn k fue
               taken = subst (HasTaken k p new old) (ap (λ w. take_word w now found) wait ∙ sym done) taken;
               keeps = on_keeps new (places.Tary index) found load sees;
               kept = λ word e.
-                  ap (kept_of k) load.accesses
-                  ∙ (kept_snoc k q.sight.accesses (places.Tary index) found inside tt
+                  ap (kept_of k) load.now.accesses
+                  ∙ (kept_snoc k q.sight.accesses (places.Tary index) found (last_moment k new.sight) inside tt
                   ∙ way.kept word (sym (ap (λ r. r.bary) done) ∙ e));
               logs = logs_found (policy_seen k p.sight) old.base.log now way.logs (finish_of now found) found
                   (ap (λ r. r.base.log) done) (ap (λ r. r.tary) done) (omega (arith, before, up, tary)) rises;

@@ -21,7 +21,9 @@ use Rattle.cfi_tables.specs.Key.{Key, key_by}
 use Rattle.cfi_tables.specs.Keeping.{Keeping, last_of, opened_keeping}
 use Rattle.cfi_tables.specs.Loads.{IsFetch, IsQuiet, access_of}
 use Rattle.cfi_tables.specs.Rule.{AgreesWith}
-use Rattle.cfi_tables.specs.Views.{admitted, noted, sight_of, tables_with}
+use Rattle.cfi_model.proofs.TableMomentLemmas.{by_same}
+use Rattle.cfi_tables.proofs.Prefixes.{prefix_same}
+use Rattle.cfi_tables.specs.Views.{admitted, last_moment, noted, sight_of, tables_with}
 use Rattle.cfi_tables.specs.declared.view.PassView.{PassView}
 use Rattle.cfi_tables.specs.declared.view.Sight.{Sight}
 use Rattle.cfi_tables.proofs.Prefixes.{prefix_length}
@@ -120,13 +122,22 @@ word = 115
 
 fetched : PassView
 fetched = record pass {
-  sight = record pass.sight { accesses = [] ++ access_of 1024 (places.Code 39) word ∷ [] };
+  sight = record pass.sight {
+    accesses = [] ++ access_of 1024 (places.Code 39) word (last_moment key pass.sight) ∷ [];
+  };
 }
 
 fetch : IsFetch key 39 word pass fetched
 unfolding fetched
 fetch = record {
   is = refl;
+  now = record {
+    had = prefix_same pass.sight.had;
+    order = by_same (last_moment key pass.sight);
+    tables = tables;
+    is = refl;
+    accesses = refl;
+  };
   code = λ number within some.
       (let first : number ≡ 0 = omega (arith, within) in
       subst (λ n. word ≡ slice_index (slice_index_or pass.sight.entries n no_entry).image.code 39) (sym first) refl);

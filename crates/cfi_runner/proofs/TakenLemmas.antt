@@ -9,7 +9,8 @@ use Rattle.cfi_model.specs.Raw.{Raw}
 use Rattle.cfi_model.specs.Run.{Take, Word, take_one, run_of}
 use Rattle.cfi_model.specs.Service.{Reply}
 use Rattle.cfi_model.proofs.KeptLemmas.{not_epoch}
-use Rattle.cfi_runner.specs.Run.{AsksFor, AreAsked, words_found}
+use Rattle.cfi_model.specs.Came.{AsksFor}
+use Rattle.cfi_runner.specs.Run.{AreAsked, words_found}
 
 -- no guest asks for EPOCH
 pub first_code : (c : ℕ) (wait : Option Wait) (r : Raw) (word : ℕ) → AsksFor c wait r word → FIRST_CODE ≤ word

@@ -24,11 +24,13 @@ use Rattle.cfi_model.proofs.StuckLemmas.{raw_has_steps}
 use Rattle.cfi_tables.specs.Fair.{kept_of}
 use Rattle.cfi_tables.specs.Key.{Key}
 use Rattle.cfi_tables.specs.Loads.{IsFetch, access_of}
+use Rattle.cfi_tables.specs.Views.{last_moment}
 use Rattle.cfi_tables.specs.declared.view.PassView.{PassView}
 use Rattle.cfi_tables.specs.declared.view.Sight.{Sight}
 use Rattle.cfi_tables.proofs.FairLemmas.{kept_snoc}
 use Rattle.cfi_runner.specs.Seen.{history_seen, code_seen, policy_seen, IsSight, SeesMore}
-use Rattle.cfi_runner.specs.Run.{AsksFor, CanRunOn, HasTaken, KeepsSeat, words_found}
+use Rattle.cfi_model.specs.Came.{AsksFor}
+use Rattle.cfi_runner.specs.Run.{CanRunOn, HasTaken, KeepsSeat, words_found}
 use Rattle.cfi_runner.proofs.ActLemmas.{Tells, act_tells}
 use Rattle.cfi_runner.proofs.PickedLemmas.{LogsTo, logs_start, logs_begun}
 use Rattle.cfi_runner.proofs.SeenLemmas.{sees_same, sees_trans, seen_history, code_many, policy_most, policy_later, code_later, start_later}
@@ -199,7 +201,8 @@ module _ (k : Key) (fuel : ℕ) (p : PassView) (old : Raw) (can : CanRunOn k fue
           let s = u.way.keeps.sees.is in
           fetch.code (q.sight.latest - k.first) (omega (arith, s.least, s.most)) some_code
 
-      sight_is : new.sight ≡ record q.sight { accesses = q.sight.accesses ++ access_of k.code_words (places.Code here) word ∷ [] }
+      sight_is : new.sight
+          ≡ record q.sight { accesses = new.sight.accesses; had = new.sight.had; stored = new.sight.stored }
       sight_is = ap (λ (v : PassView). v.sight) fetch.is
 
       sees : SeesMore k q.sight new.sight
@@ -214,8 +217,8 @@ module _ (k : Key) (fuel : ℕ) (p : PassView) (old : Raw) (can : CanRunOn k fue
       taken_code : HasTaken k p new old (begin_of now word)
       taken_code =
           subst (HasTaken k p new old) (ap (λ w. take_word w now word) u.idle)
-          (takes_more q now u.way new (access_of k.code_words (places.Code here) word)
-          (ap (λ (s : Sight). s.accesses) sight_is) sees
+          (takes_more q now u.way new (access_of k.code_words (places.Code here) word (last_moment k new.sight))
+          fetch.now.accesses sees
           (subst (λ w. AsksFor k.code_words w now (code_word here)) (sym u.idle) refl)
           (λ later more.
           subst (λ w. FitsWord (history_seen k later) (code_seen k later) w now word) (sym u.idle) (
@@ -242,8 +245,8 @@ module _ (k : Key) (fuel : ℕ) (p : PassView) (old : Raw) (can : CanRunOn k fue
                 sees = sees_trans k p.sight q.sight new.sight keeps.sees sees;
               };
               kept = λ kept e.
-                  ap (λ (s : Sight). kept_of k s.accesses) sight_is
-                  ∙ (kept_snoc k q.sight.accesses (places.Code here) word place_within tt
+                  ap (kept_of k) fetch.now.accesses
+                  ∙ (kept_snoc k q.sight.accesses (places.Code here) word (last_moment k new.sight) place_within tt
                   ∙ u.way.kept kept (begin_keeps_bary now (insn_of word) kept e));
               logs = logs_begun (policy_seen k p.sight) old.base.log now u.way.logs (insn_of word);
             };

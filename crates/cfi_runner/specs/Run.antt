@@ -1,12 +1,10 @@
 -- A guest of the raw machine over what its pass loads.
-use Rattle.std.specs.Prelude.{◌≡◌, ℕ, ◌/◌, ◌≤◌, List, [], ◌∷◌, ◌++◌, map, Option, Some, None, ⊤}
+use Rattle.std.specs.Prelude.{◌≡◌, ℕ, ◌≤◌, List, [], ◌∷◌, ◌++◌, map, Some, None, ⊤}
 use Rattle.cfi_unit.specs.declared.log.Stop.TheVariants as stops
-use Rattle.cfi_word.specs.Table.{code_word, tary_word, bary_word}
-use Rattle.cfi_model.specs.declared.act.Wait.{Wait}
 use Rattle.cfi_model.specs.declared.act.Wait.TheVariants as waits
 use Rattle.cfi_model.specs.declared.history.Access.{Access}
+use Rattle.cfi_model.specs.Came.{AsksFor}
 use Rattle.cfi_model.specs.Fits.{Along}
-use Rattle.cfi_model.specs.InForce.{tary_index}
 use Rattle.cfi_model.specs.Log.{last_policy}
 use Rattle.cfi_model.specs.Raw.{Raw}
 use Rattle.cfi_model.specs.Run.{Take, Word, take_one, run_of}
@@ -30,13 +28,6 @@ pub record CanRunOn (k : Key) (fuel : ℕ) (p : PassView) (r : Raw) : Type 0 whe
   pub ready : IsReady (history_seen k p.sight) r.base
   pub logged : last_policy r.base.log ≤ policy_seen k p.sight
   pub within : r.base.steps ≤ fuel
-
--- the word that the raw machine asks for: the code's at its address, or the table word for which it waits
-abbrev pub AsksFor : (code_words : ℕ) → Option Wait → Raw → (word : ℕ) → Type 0
-AsksFor code_words None r word = word ≡ code_word (r.base.pc / 4)
-AsksFor code_words (Some (waits.Tary at rd)) r word = word ≡ tary_word code_words (tary_index code_words at)
-AsksFor code_words (Some (waits.Bary slot rd)) r word = word ≡ bary_word code_words slot
-AsksFor code_words (Some (waits.Service number)) r word = ⊥
 
 -- each access is of the word that the state which it meets asks for
 abbrev pub AreAsked : (code_words : ℕ) → Raw → List Access → Type 0

@@ -5,6 +5,7 @@ use Rattle.std.proofs.lemmas.List.{set-get_or}
 use mathlib.Core.Option.{none}
 use Rattle.atomic_table.specs.Table.{Allows, keeps, step}
 use Rattle.cfi_word.specs.Table.{Place, Epoch, Quiet, Code, Tary, Bary, IsPlace, code_word, word_number}
+use Rattle.cfi_model.specs.TableMoments.{moment_of}
 use Rattle.cfi_model.specs.Tables.{IsTables}
 use Rattle.cfi_model.specs.Words.{Tables, before, is_stored, newest, no_entry, number_at, rank_at, word_at, word_of_entry}
 use Rattle.cfi_model.proofs.InForceLemmas.{later_keeps}
@@ -13,7 +14,8 @@ use Rattle.cfi_tables.specs.Fair.{history_at, kept_of}
 use Rattle.cfi_tables.specs.Key.{Key}
 use Rattle.cfi_tables.specs.Keeping.{last_of}
 use Rattle.cfi_tables.specs.Loads.{IsFetch, access_of}
-use Rattle.cfi_tables.specs.Rule.{CodeFits, HasStore, HeldFits, IsAccessOf, KeepsRule, IsRegistered, ShowQuiets, ShowTables}
+use Rattle.cfi_tables.specs.Rule.{CodeFits, HeldFits, KeepsRule, IsRegistered, ShowQuiets, ShowTables}
+use Rattle.cfi_model.specs.Words.{HasStore}
 use Rattle.cfi_tables.specs.Views.{keeper_of, pass_of, tables_of}
 use Rattle.cfi_tables.specs.inner.Steps.{Fetches, Looks, Seated}
 use Rattle.cfi_tables.specs.inner.Stores.{HasStoredBelow}
@@ -22,9 +24,9 @@ use Rattle.cfi_tables.specs.declared.view.PassView.{PassView}
 use Rattle.cfi_tables.specs.declared.view.View.TheVariants.{Keeper, Pass}
 use Rattle.cfi_tables.proofs.FairLemmas.{fair_at, fair_snoc, kept_snoc}
 use Rattle.cfi_tables.proofs.KeptLemmas.{IsOut, pass_goes}
-use Rattle.cfi_tables.proofs.PlaceLemmas.{same_place}
+use Rattle.cfi_model.proofs.PhaseLemmas.{same_place}
 use Rattle.cfi_tables.proofs.Prefixes.{prefix_item}
-use Rattle.cfi_tables.proofs.MoreLemmas.{each_snoc}
+use Rattle.cfi_tables.proofs.NowLemmas.{load_now, on_snoc, timed_snoc}
 use Rattle.cfi_tables.proofs.ShowLemmas.{word_old}
 use Rattle.cfi_tables.proofs.StepLemmas.{keeper_moves, words_stay}
 
@@ -41,7 +43,9 @@ module _ (k : Key) (u : KeeperView) (is : IsTables (tables_of k u)) (index : ℕ
   abbrev fetched : PassView
   fetched = record p {
     sight = record p.sight {
-      accesses = p.sight.accesses ++ access_of k.code_words (Code index) found ∷ [];
+      accesses = p.sight.accesses ++ access_of k.code_words (Code index) found (moment_of t) ∷ [];
+      had = u.entries;
+      stored = u.stored;
     };
   }
 
@@ -51,21 +55,12 @@ module _ (k : Key) (u : KeeperView) (is : IsTables (tables_of k u)) (index : ℕ
       agrees = record {
         begins = r.seen.agrees.begins;
         refused = r.seen.agrees.refused;
-        accesses = each_snoc (IsAccessOf k u.entries) p.sight.accesses (access_of k.code_words (Code index) found)
-            r.seen.agrees.accesses (record {
-              place = Code index;
-              within = inside;
-              stored = tt;
-              is = refl;
-              word = record {
-                number = number_at t (Code index);
-                within = number_within t is (is_stored t (Code index));
-                is = refl;
-              };
-            });
-        fair = fair_snoc (history_at k) k.code_words None p.sight.accesses (access_of k.code_words (Code index) found)
-            r.seen.agrees.fair (fair_at k (kept_of k p.sight.accesses) (Code index) found inside tt);
+        timed = timed_snoc k u is (Code index) inside tt p.sight r.seen.on r.seen.agrees.timed;
+        fair = fair_snoc (history_at k) k.code_words None p.sight.accesses
+            (access_of k.code_words (Code index) found (moment_of t)) r.seen.agrees.fair
+            (fair_at k (kept_of k p.sight.accesses) (Code index) found inside tt);
       };
+      on = on_snoc k u is (Code index) inside tt p.sight r.seen.on fetched.sight refl refl refl;
       least = r.seen.least;
       latest = r.seen.latest;
       code = r.seen.code;
@@ -74,7 +69,7 @@ module _ (k : Key) (u : KeeperView) (is : IsTables (tables_of k u)) (index : ℕ
     out = r.out;
     published = r.published;
     kept = λ word e.
-        (let kept = r.kept word (sym (kept_snoc k p.sight.accesses (Code index) found inside tt) ∙ e) in
+        (let kept = r.kept word (sym (kept_snoc k p.sight.accesses (Code index) found (moment_of t) inside tt) ∙ e) in
         record { least = kept.least; most = kept.most });
     newest = r.newest;
     next = r.next;
@@ -84,6 +79,7 @@ module _ (k : Key) (u : KeeperView) (is : IsTables (tables_of k u)) (index : ℕ
   fetch_is : IsFetch k index found p fetched
   fetch_is = record {
     is = refl;
+    now = load_now k u is (Code index) inside tt p.sight r.seen.on fetched.sight refl refl refl;
     code = λ number less some.
         (let same = prefix_item p.sight.entries u.entries number no_entry r.seen.agrees.begins less in
         let up : number ≤ number_at t (Code index) = omega (arith, less, r.seen.code index inside) in

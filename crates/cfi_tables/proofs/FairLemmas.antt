@@ -1,9 +1,10 @@
 -- Fair loads, one more at the end.
-use Rattle.cfi_tables.specs.Rule.{HasStore}
+use Rattle.cfi_model.specs.Words.{HasStore}
 use Rattle.std.proofs.Common.{◌≡◌, ℕ, ◌<◌, Option, Some, None, List, [], ◌∷◌, ◌++◌, refl, ◌∙◌, arith}
 use Rattle.std.proofs.lemmas.Bool.Decides.{nat_tests}
 use Rattle.cfi_word.specs.Table.{Place, Epoch, Quiet, Code, Tary, Bary, IsPlace, IsTary, word_number}
 use Rattle.cfi_model.specs.declared.history.Access.{Access}
+use Rattle.cfi_model.specs.declared.history.Moment.{Moment}
 use Rattle.cfi_model.specs.History.{History, IsFair}
 use Rattle.cfi_model.specs.Accesses.{AreFair, kept_after, kept_by}
 use Rattle.cfi_tables.specs.Fair.{history_at, kept_of}
@@ -18,34 +19,37 @@ kept_at (Bary slot) kept found = Some found
 kept_at (Code index) kept found = kept
 kept_at (Quiet guest) kept found = kept
 
-after_tary : (kept : Option ℕ) (c index found : ℕ) → index < c → kept_by c kept (access_of c (Tary index) found) ≡ kept
-after_tary kept c index found inside = grind (arith, nat_tests)
+after_tary : (kept : Option ℕ) (c index found : ℕ) (m : Moment) → index < c
+    → kept_by c kept (access_of c (Tary index) found m) ≡ kept
+after_tary kept c index found m inside = grind (arith, nat_tests)
 
-after_bary : (kept : Option ℕ) (c slot found : ℕ) → kept_by c kept (access_of c (Bary slot) found) ≡ Some found
-after_bary kept c slot found = grind (arith, nat_tests)
+after_bary : (kept : Option ℕ) (c slot found : ℕ) (m : Moment)
+    → kept_by c kept (access_of c (Bary slot) found m) ≡ Some found
+after_bary kept c slot found m = grind (arith, nat_tests)
 
-after_code : (kept : Option ℕ) (c index found : ℕ) → index < c → kept_by c kept (access_of c (Code index) found) ≡ kept
-after_code kept c index found inside = grind (arith, nat_tests)
+after_code : (kept : Option ℕ) (c index found : ℕ) (m : Moment) → index < c
+    → kept_by c kept (access_of c (Code index) found m) ≡ kept
+after_code kept c index found m inside = grind (arith, nat_tests)
 
-after_load : (c : ℕ) (kept : Option ℕ) (place : Place) (found : ℕ) → IsPlace c place → HasStore place
-    → kept_by c kept (access_of c place found) ≡ kept_at place kept found
-after_load c kept Epoch found at has = refl
-after_load c kept (Tary index) found at has = after_tary kept c index found at
-after_load c kept (Bary slot) found at has = after_bary kept c slot found
-after_load c kept (Code index) found at has = after_code kept c index found at
-after_load c kept (Quiet guest) found at has = absurd has
+after_load : (c : ℕ) (kept : Option ℕ) (place : Place) (found : ℕ) (m : Moment) → IsPlace c place → HasStore place
+    → kept_by c kept (access_of c place found m) ≡ kept_at place kept found
+after_load c kept Epoch found m at has = refl
+after_load c kept (Tary index) found m at has = after_tary kept c index found m at
+after_load c kept (Bary slot) found m at has = after_bary kept c slot found m
+after_load c kept (Code index) found m at has = after_code kept c index found m at
+after_load c kept (Quiet guest) found m at has = absurd has
 
 after_snoc : (c : ℕ) (kept : Option ℕ) (accesses : List Access) (access : Access)
     → kept_after c kept (accesses ++ access ∷ []) ≡ kept_by c (kept_after c kept accesses) access
 after_snoc c kept [] access = refl
 after_snoc c kept (first ∷ later) access = after_snoc c (kept_by c kept first) later access
 
-pub kept_snoc : (k : Key) (accesses : List Access) (place : Place) (found : ℕ) → IsPlace k.code_words place
+pub kept_snoc : (k : Key) (accesses : List Access) (place : Place) (found : ℕ) (m : Moment) → IsPlace k.code_words place
     → HasStore place
-    → kept_of k (accesses ++ access_of k.code_words place found ∷ []) ≡ kept_at place (kept_of k accesses) found
-kept_snoc k accesses place found at has =
-    after_snoc k.code_words None accesses (access_of k.code_words place found)
-    ∙ after_load k.code_words (kept_of k accesses) place found at has
+    → kept_of k (accesses ++ access_of k.code_words place found m ∷ []) ≡ kept_at place (kept_of k accesses) found
+kept_snoc k accesses place found m at has =
+    after_snoc k.code_words None accesses (access_of k.code_words place found m)
+    ∙ after_load k.code_words (kept_of k accesses) place found m at has
 
 -- a place's word is fair where it is one of a Tary word
 pub fair_at : (k : Key) (kept : Option ℕ) (place : Place) (found : ℕ) → IsPlace k.code_words place

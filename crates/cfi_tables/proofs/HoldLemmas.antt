@@ -11,12 +11,14 @@ use Rattle.cfi_word.specs.Rank.{stores_of}
 use Rattle.cfi_word.specs.Table.{quiet_word, word_count, Code}
 use Rattle.cfi_model.specs.declared.history.Access.{Access}
 use Rattle.cfi_model.specs.Tables.{IsTables}
+use Rattle.cfi_model.specs.TableMoments.{moment_of}
 use Rattle.cfi_model.specs.Words.{epoch_in_force, number_at}
+use Rattle.cfi_model.proofs.TableMomentLemmas.{by_trans}
 use Rattle.cfi_model.proofs.TableLemmas.{force_epoch}
 use Rattle.cfi_tables.specs.Key.{Key}
 use Rattle.cfi_tables.specs.Keeping.{is_out}
 use Rattle.cfi_tables.specs.Rule.{AgreesWith, HeldFits, IsElse, IsHeldOut, KeepsRule, IsRegistered, IsSeen, ShowQuiets, ShowTables, TellsForce, CodeFits}
-use Rattle.cfi_tables.specs.Views.{admitted, held_by, keeper_of, keeping_of, noted, sight_of, tables_of}
+use Rattle.cfi_tables.specs.Views.{admitted, held_by, keeper_of, keeping_of, last_moment, noted, sight_of, tables_of}
 use Rattle.cfi_tables.specs.inner.Steps.{Clears, Registers, Seated, Tells, cleared, registered, told}
 use Rattle.cfi_tables.specs.declared.view.KeeperView.{KeeperView}
 use Rattle.cfi_tables.specs.declared.view.PassView.{PassView}
@@ -43,7 +45,13 @@ out_else out guest other b apart = get_or-set_other out guest other b false apar
 pub registered_same : (k : Key) (u : KeeperView) (out : List Bool) (held : Option PassView) (p : PassView)
     → IsRegistered k u p → is_out out p.guest ≡ true → IsRegistered k (record u { out = out; held = held }) p
 registered_same k u out held p r is = record {
-  seen = record { agrees = r.seen.agrees; least = r.seen.least; latest = r.seen.latest; code = r.seen.code };
+  seen = record {
+    agrees = r.seen.agrees;
+    on = record { had = r.seen.on.had; now = r.seen.on.now; loads = r.seen.on.loads };
+    least = r.seen.least;
+    latest = r.seen.latest;
+    code = r.seen.code;
+  };
   within = r.within;
   out = is;
   published = r.published;
@@ -71,8 +79,16 @@ all_seen k u is idle accesses p same seen = subst (λ l. IsSeen k u (sight_of k 
   agrees = record {
     begins = prefix_same u.entries;
     refused = prefix_same u.refusals;
-    accesses = seen.agrees.accesses;
+    timed = seen.agrees.timed;
     fair = seen.agrees.fair;
+  };
+  on = record {
+    had = prefix_same u.entries;
+    now = inr (refl, omega (arith, idle));
+    loads = λ number access there.
+        by_trans access.moment (moment_of (tables_of k u)) (last_moment k (sight_of k (keeping_of u) p.sight.accesses))
+        (by_trans access.moment (last_moment k p.sight) (moment_of (tables_of k u)) (seen.on.loads number access there)
+        seen.on.now) (inr (refl, omega (arith, idle)));
   };
   least = omega arith;
   latest = omega (arith, force_is k u is idle);
@@ -120,8 +136,16 @@ module _ (k : Key) (words : List ℕ) (u : KeeperView) (is : IsTables (tables_of
         agrees = record {
           begins = prefix_same u.entries;
           refused = prefix_same u.refusals;
-          accesses = λ number access at. absurd (cc);
+          timed = record {
+            each = λ number access at. absurd (cc);
+            order = λ one other a b less first then. absurd (cc);
+          };
           fair = tt;
+        };
+        on = record {
+          had = prefix_same u.entries;
+          now = inr (refl, omega (arith, idle));
+          loads = λ number access at. absurd (cc);
         };
         least = omega arith;
         latest = omega (arith, force_is k u is idle);
@@ -173,7 +197,13 @@ module _ (k : Key) (words : List ℕ) (u : KeeperView) (is : IsTables (tables_of
         let force = force_is k u is idle in
         let seen = all_seen k u is idle p.sight.accesses p refl r.seen in
         record {
-          seen = record { agrees = seen.agrees; least = seen.least; latest = seen.latest; code = seen.code };
+          seen = record {
+            agrees = seen.agrees;
+            on = record { had = seen.on.had; now = seen.on.now; loads = seen.on.loads };
+            least = seen.least;
+            latest = seen.latest;
+            code = seen.code;
+          };
           within = r.within;
           out = r.out;
           published = omega (arith, r.published, r.seen.latest, force);

@@ -5,6 +5,7 @@ pub mod ShowLemmas
 pub mod FairLemmas
 pub mod SeenLemmas
 pub mod MoreLemmas
+pub mod NowLemmas
 pub mod LoadLemmas
 pub mod KeptLemmas
 pub mod OpeningLemmas

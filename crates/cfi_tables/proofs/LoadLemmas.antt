@@ -7,6 +7,7 @@ use Rattle.cfi_word.specs.Word.{epoch_in}
 use Rattle.cfi_model.specs.declared.history.Entry.{Entry}
 use Rattle.cfi_word.specs.declared.limits.TheConstants.{MAX_POLICY}
 use Rattle.cfi_model.specs.Closed.{IsClosed}
+use Rattle.cfi_model.specs.TableMoments.{moment_of}
 use Rattle.cfi_model.specs.Tables.{IsTables, IsUpdate}
 use Rattle.cfi_model.specs.Words.{Tables, entry_at, entry_word, epoch_in_force, no_entry, number_at, is_stored, word_at}
 use Rattle.cfi_model.proofs.TableLemmas.{force_epoch, number_within}
@@ -15,7 +16,7 @@ use Rattle.cfi_tables.specs.Key.{Key}
 use Rattle.cfi_model.specs.History.{IsFair}
 use Rattle.cfi_tables.specs.Fair.{history_at, kept_of}
 use Rattle.cfi_tables.specs.Loads.{IsFairAt, IsLoad, IsWordOf, Tells, TellsEpoch, access_of}
-use Rattle.cfi_tables.specs.Rule.{IsAccessOf, IsKeptBy, IsRegistered}
+use Rattle.cfi_tables.specs.Rule.{IsKeptBy, IsRegistered}
 use Rattle.cfi_tables.specs.Views.{tables_of, tables_with}
 use Rattle.cfi_tables.specs.declared.view.KeeperView.{KeeperView}
 use Rattle.cfi_tables.specs.declared.view.PassView.{PassView}
@@ -23,8 +24,8 @@ use Rattle.cfi_tables.specs.inner.Steps.{published}
 use Rattle.atomic_table.proofs.Lists.{one_turn}
 use Rattle.cfi_tables.proofs.FairLemmas.{fair_at, fair_snoc, kept_at, kept_snoc}
 use Rattle.cfi_tables.proofs.Prefixes.{prefix_item, prefix_length}
-use Rattle.cfi_tables.proofs.SeenLemmas.{word_stays}
-use Rattle.cfi_tables.proofs.MoreLemmas.{AreMore, are_more, code_first, each_snoc, entries_after, latest_after, loaded, most_by, tells_store}
+use Rattle.cfi_tables.proofs.NowLemmas.{load_now, on_snoc, timed_snoc}
+use Rattle.cfi_tables.proofs.MoreLemmas.{AreMore, are_more, code_first, entries_after, latest_after, loaded, most_by, tells_store}
 
 module _ (k : Key) (u : KeeperView) (is : IsTables (tables_of k u)) where
   abbrev t : Tables
@@ -143,7 +144,7 @@ module _ (k : Key) (u : KeeperView) (is : IsTables (tables_of k u)) where
       guest = refl;
       quiet = refl;
       refusals = refl;
-      accesses = refl;
+      now = load_now k u is place at (tells_store place tells) p.sight r.seen.on after.sight refl refl refl;
       grows = more.grows;
       tables = begins_tables (entries_after p.sight.entries u.entries number) more.begins
           (omega (arith, more.within));
@@ -177,20 +178,12 @@ module _ (k : Key) (u : KeeperView) (is : IsTables (tables_of k u)) where
             agrees = record {
               begins = more.begins;
               refused = r.seen.agrees.refused;
-              accesses = each_snoc (IsAccessOf k u.entries) p.sight.accesses (access_of k.code_words place found)
-                  r.seen.agrees.accesses
-                  (record {
-                    place = place;
-                    within = at;
-                    stored = tells_store place tells;
-                    is = refl;
-                    word = word_stays k (entries_after p.sight.entries u.entries number) u.entries place found
-                        more.begins word_seen;
-                  });
+              timed = timed_snoc k u is place at (tells_store place tells) p.sight r.seen.on r.seen.agrees.timed;
               fair = fair_snoc (history_at k) k.code_words None p.sight.accesses
-                  (access_of k.code_words place found) r.seen.agrees.fair
+                  (access_of k.code_words place found (moment_of t)) r.seen.agrees.fair
                   (fair_at k (kept_of k p.sight.accesses) place found at (fair_is place refl));
             };
+            on = on_snoc k u is place at (tells_store place tells) p.sight r.seen.on after.sight refl refl refl;
             least = omega (arith, grows, r.seen.least);
             latest = latest_is place p.sight.latest r.seen.latest;
             code = λ index inside.
@@ -202,7 +195,7 @@ module _ (k : Key) (u : KeeperView) (is : IsTables (tables_of k u)) where
           out = r.out;
           published = omega (arith, grows, r.published);
           kept = λ word e. keeps_is place word
-              (sym (kept_snoc k p.sight.accesses place found at (tells_store place tells)) ∙ e);
+              (sym (kept_snoc k p.sight.accesses place found (moment_of t) at (tells_store place tells)) ∙ e);
           newest = r.newest;
           next = r.next;
         }

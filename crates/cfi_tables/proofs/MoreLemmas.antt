@@ -6,10 +6,11 @@ use Rattle.std.proofs.lemmas.Option.{same_Some}
 use Rattle.cfi_word.specs.Table.{Place, Epoch, Quiet, Code, Tary, Bary}
 use Rattle.cfi_word.specs.Word.{epoch_in}
 use Rattle.cfi_model.specs.declared.history.Entry.{Entry}
+use Rattle.cfi_model.specs.TableMoments.{moment_of}
 use Rattle.cfi_model.specs.Words.{number_at, rank_at}
 use Rattle.cfi_tables.specs.Key.{Key}
 use Rattle.cfi_tables.specs.Loads.{TellsEpoch, access_of}
-use Rattle.cfi_tables.specs.Rule.{HasStore}
+use Rattle.cfi_model.specs.Words.{HasStore}
 use Rattle.cfi_tables.specs.Views.{tables_of}
 use Rattle.cfi_tables.specs.declared.view.KeeperView.{KeeperView}
 use Rattle.cfi_tables.specs.declared.view.PassView.{PassView}
@@ -45,7 +46,9 @@ loaded k u place found p = record {
     refusals = p.sight.refusals;
     entries = entries_after p.sight.entries u.entries (number_at (tables_of k u) place);
     latest = latest_after place found p.sight.latest;
-    accesses = p.sight.accesses ++ access_of k.code_words place found ∷ [];
+    accesses = p.sight.accesses ++ access_of k.code_words place found (moment_of (tables_of k u)) ∷ [];
+    had = u.entries;
+    stored = u.stored;
   };
 }
 

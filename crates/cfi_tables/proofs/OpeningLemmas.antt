@@ -14,7 +14,8 @@ use Rattle.cfi_model.specs.Words.{Tables, entry_word, newest}
 use Rattle.cfi_model.specs.World.{first_entry}
 use Rattle.cfi_tables.specs.Key.{Key}
 use Rattle.cfi_tables.specs.Keeping.{opened_keeping}
-use Rattle.cfi_tables.specs.Rule.{HasStore, KeepsRule, IsTrueOf, ShowQuiets, ShowTables, CodeFits}
+use Rattle.cfi_tables.specs.Rule.{KeepsRule, IsTrueOf, ShowQuiets, ShowTables, CodeFits}
+use Rattle.cfi_model.specs.Words.{HasStore}
 use Rattle.cfi_tables.specs.Views.{idle_tables, idle_view, opened_view, tables_of}
 use Rattle.cfi_tables.specs.inner.Opening.{opened_words}
 use Rattle.cfi_tables.specs.inner.Stamps.{Stamp, word_by}

@@ -15,13 +15,14 @@ use Rattle.cfi_tables.specs.Key.{Key}
 use Rattle.cfi_tables.specs.Keeping.{is_out}
 use Rattle.cfi_tables.specs.Loads.{IsLoad, IsQuiet, TellsEpoch}
 use Rattle.cfi_tables.specs.Rule.{KeepsRule, ShowQuiets, ShowTables, TellsForce, CodeFits}
-use Rattle.cfi_tables.specs.Views.{pass_of, tables_of}
+use Rattle.cfi_tables.specs.Views.{last_moment, pass_of, tables_of}
 use Rattle.cfi_tables.specs.inner.Steps.{Loads, Publishes, Seated, published}
 use Rattle.cfi_tables.specs.declared.view.KeeperView.{KeeperView}
 use Rattle.cfi_tables.specs.declared.view.PassView.{PassView}
 use Rattle.cfi_tables.specs.declared.view.View.TheVariants.{Pass}
 use Rattle.cfi_tables.proofs.FairLemmas.{kept_snoc}
-use Rattle.cfi_tables.proofs.PlaceLemmas.{place_within, quiet_apart, same_place}
+use Rattle.cfi_tables.proofs.PlaceLemmas.{place_within, quiet_apart}
+use Rattle.cfi_model.proofs.PhaseLemmas.{same_place}
 use Rattle.cfi_tables.proofs.LoadLemmas.{load_is, loaded_registered, published_registered}
 use Rattle.cfi_tables.proofs.MoreLemmas.{loaded, tells_store}
 use Rattle.cfi_tables.proofs.KeptLemmas.{pass_goes, with}
@@ -157,7 +158,8 @@ publish_allowed k key slots id i word me same is word_is bare new =
 pub epoch_bare : (k : Key) (p q : PassView) (found : ℕ) → IsLoad k places.Epoch found p q
     → kept_of k q.sight.accesses ≡ None
 epoch_bare k p q found load =
-    ap (kept_of k) load.accesses ∙ kept_snoc k p.sight.accesses places.Epoch found tt tt
+    ap (kept_of k) load.now.accesses
+    ∙ kept_snoc k p.sight.accesses places.Epoch found (last_moment k q.sight) tt tt
 
 -- what a pass knows after a quiescent point
 pub quiet_is : (k : Key) (p q : PassView) (found epoch : ℕ) → epoch ≡ epoch_in found → IsLoad k places.Epoch found p q

@@ -3,14 +3,8 @@ use Rattle.std.proofs.Common.{◌≡◌, ◌≢◌, ℕ, ◌<◌, sym, ◌∙◌
 use Rattle.cfi_word.specs.Rank.{rank, IsStored, stores_of}
 use Rattle.cfi_word.specs.Table.{Place, Epoch, Quiet, Code, Tary, Bary, IsPlace, word_count, word_number}
 use Rattle.cfi_word.proofs.RankLemmas.{same_words}
-use Rattle.cfi_model.specs.Words.{rank_at}
+use Rattle.cfi_model.specs.Words.{HasStore, rank_at}
 use Rattle.cfi_model.proofs.PhaseLemmas.{rank_same}
-use Rattle.cfi_tables.specs.Rule.{HasStore}
-
--- each place has a word of its own
-pub same_place : (c : ℕ) (one other : Place) → IsPlace c one → IsPlace c other
-    → word_number c one ≡ word_number c other → one ≡ other
-same_place c one other a b e = grind arith
 
 pub place_within : (c : ℕ) (place : Place) → IsPlace c place → word_number c place < word_count c
 place_within c place at = grind arith

@@ -9,11 +9,13 @@ use Rattle.cfi_word.specs.Table.{Place, IsPlace, word_count, word_number}
 use Rattle.cfi_model.specs.declared.history.Entry.{Entry}
 use Rattle.cfi_model.specs.Words.{Tables, before, entry_word, newest, no_entry, rank_at, word_at, word_of_entry}
 use Rattle.cfi_tables.specs.Key.{Key}
-use Rattle.cfi_tables.specs.Rule.{HasStore, ShowTables}
+use Rattle.cfi_tables.specs.Rule.{ShowTables}
+use Rattle.cfi_model.specs.Words.{HasStore}
 use Rattle.cfi_tables.specs.Views.{tables_of}
 use Rattle.cfi_tables.specs.inner.Steps.{grown, stored_to}
 use Rattle.cfi_tables.specs.declared.view.KeeperView.{KeeperView}
-use Rattle.cfi_tables.proofs.PlaceLemmas.{same_place, place_within, rank_most, ranks_apart}
+use Rattle.cfi_tables.proofs.PlaceLemmas.{place_within, rank_most, ranks_apart}
+use Rattle.cfi_model.proofs.PhaseLemmas.{same_place}
 
 -- a place's word is of the newest entry where its rank is below the number of stores, else of the one before
 pub word_new : (t : Tables) (place : Place) → rank_at t.code_words place < t.stored

@@ -12,7 +12,8 @@ use Rattle.cfi_model.specs.Tables.{IsTables}
 use Rattle.cfi_model.specs.Words.{newest, next_epoch, rank_at, word_of_entry}
 use Rattle.cfi_tables.specs.Key.{Key}
 use Rattle.cfi_tables.specs.Keeping.{is_out}
-use Rattle.cfi_tables.specs.Rule.{HasStore, HeldFits, IsElse, KeepsRule, IsPublished, IsRegistered, ShowQuiets, ShowTables, TellsForce, CodeFits}
+use Rattle.cfi_tables.specs.Rule.{HeldFits, IsElse, KeepsRule, IsPublished, IsRegistered, ShowQuiets, ShowTables, TellsForce, CodeFits}
+use Rattle.cfi_model.specs.Words.{HasStore}
 use Rattle.cfi_tables.specs.Views.{keeper_of, tables_of}
 use Rattle.cfi_tables.specs.inner.Steps.{Seated, Stores, stored_to}
 use Rattle.cfi_tables.specs.declared.view.KeeperView.{KeeperView}
@@ -20,7 +21,8 @@ use Rattle.cfi_tables.specs.declared.view.PassView.{PassView}
 use Rattle.cfi_tables.specs.declared.view.View.{View}
 use Rattle.cfi_tables.specs.declared.view.View.TheVariants.{Keeper}
 use Rattle.cfi_tables.proofs.Prefixes.{prefix_same}
-use Rattle.cfi_tables.proofs.PlaceLemmas.{quiet_apart, rank_is, rank_most, same_place, place_within}
+use Rattle.cfi_tables.proofs.PlaceLemmas.{quiet_apart, rank_is, rank_most, place_within}
+use Rattle.cfi_model.proofs.PhaseLemmas.{same_place}
 use Rattle.cfi_tables.proofs.TablesLemmas.{goes_on, stored_force, stored_is, stored_numbers}
 use Rattle.cfi_tables.proofs.ShowLemmas.{AreSkipped, store_shows}
 use Rattle.cfi_tables.proofs.SeenLemmas.{IsLater, rises, seen_stays}
@@ -113,6 +115,7 @@ store_next k words u is many shows quiets idle free place at has least skipped w
       begins = prefix_same u.entries;
       refused = prefix_same u.refusals;
       on = goes_on k u (stored_to n u) (prefix_same u.entries) (stored_force k u is n least);
+      moment = inr (refl, omega (arith, least));
       code = λ index inside. stored_numbers k u is n least (Code index);
     } in
     let same : (guest : ℕ) → guest < GUESTS

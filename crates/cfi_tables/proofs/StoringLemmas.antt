@@ -9,7 +9,8 @@ use Rattle.cfi_model.specs.declared.history.Entry.{Entry}
 use Rattle.cfi_model.specs.Words.{newest, no_entry, rank_at, word_of_entry}
 use Rattle.cfi_tables.specs.Key.{Key}
 use Rattle.cfi_tables.specs.Keeping.{Keeping, grown_by, last_of}
-use Rattle.cfi_tables.specs.Rule.{HasStore, KeepsRule}
+use Rattle.cfi_tables.specs.Rule.{KeepsRule}
+use Rattle.cfi_model.specs.Words.{HasStore}
 use Rattle.cfi_tables.specs.Views.{idle_view, keeper_of, keeping_of, tables_of, view_at}
 use Rattle.cfi_tables.specs.inner.Steps.{Seated, Stores, stored_to}
 use Rattle.cfi_tables.specs.inner.Stores.{HasStoredBelow, keeping_at}

@@ -79,6 +79,7 @@ module _ (k : Key) (words : List ℕ) (u : KeeperView) (is : IsTables (tables_of
         begins = prefix_same u.entries;
         refused = prefix_same u.refusals;
         on = goes_on k u new (prefix_same u.entries) (omega arith);
+        moment = inr (refl, omega arith);
         code = λ index inside. omega arith;
       } in
       record {
@@ -107,6 +108,7 @@ module _ (k : Key) (words : List ℕ) (u : KeeperView) (is : IsTables (tables_of
         begins = begins;
         refused = prefix_same u.refusals;
         on = goes_on k u new begins (grown_force k u is entry idle follows fits);
+        moment = inl (omega (arith, long));
         code = λ index inside. grown_numbers k u is entry (Code index);
       } in
       record {
@@ -142,6 +144,7 @@ module _ (k : Key) (words : List ℕ) (u : KeeperView) (is : IsTables (tables_of
         begins = prefix_same u.entries;
         refused = prefix_more u.refusals (refusal ∷ []);
         on = goes_on k u new (prefix_same u.entries) (omega arith);
+        moment = inr (refl, omega arith);
         code = λ index inside. omega arith;
       } in
       record {

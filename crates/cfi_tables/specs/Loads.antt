@@ -8,13 +8,16 @@ use Rattle.cfi_word.specs.Word.{epoch_in}
 use Rattle.cfi_model.specs.declared.history.Access.{Access}
 use Rattle.cfi_model.specs.declared.history.Entry.{Entry}
 use Rattle.cfi_model.specs.InForce.{tary_index}
-use Rattle.cfi_model.specs.Words.{no_entry, entry_word}
+use Rattle.cfi_model.specs.declared.history.Moment.{Moment}
+use Rattle.cfi_model.specs.TableMoments.{IsBy}
+use Rattle.cfi_model.specs.Words.{no_entry, entry_word, word_at}
 use Rattle.cfi_model.specs.History.{IsFair}
 use Rattle.cfi_model.specs.Tables.{IsTables}
 use Rattle.cfi_tables.specs.Fair.{history_at, kept_of}
 use Rattle.cfi_tables.specs.Key.{Key}
-use Rattle.cfi_tables.specs.Views.{tables_with}
+use Rattle.cfi_tables.specs.Views.{last_moment, last_tables, tables_with}
 use Rattle.cfi_tables.specs.declared.view.PassView.{PassView}
+use Rattle.cfi_tables.specs.declared.view.Sight.{Sight}
 
 -- the address of a branch slot's ID, or that of a code address
 abbrev pub IsBaryAddress : (code_words address : ℕ) → Type 0
@@ -61,8 +64,18 @@ Tells (places.Code index) found before after = ⊤
 Tells (places.Quiet guest) found before after = ⊤
 
 -- the load of the word at a place
-abbrev pub access_of : (code_words : ℕ) → Place → (found : ℕ) → Access
-access_of code_words place found = record { word = word_number code_words place; found = found }
+abbrev pub access_of : (code_words : ℕ) → Place → (found : ℕ) → Moment → Access
+access_of code_words place found moment =
+    record { word = word_number code_words place; found = found; moment = moment }
+
+-- The moment of a load: what was found is the word at the place in the tables of this load, to which those of the load
+-- before go on; and it is one word more that was loaded.
+pub record IsLoadNow (k : Key) (place : Place) (found : ℕ) (old new : Sight) : Type 0 where
+  pub had : IsPrefix old.had new.had
+  pub order : IsBy (last_moment k old) (last_moment k new)
+  pub tables : IsTables (last_tables k new)
+  pub is : found ≡ word_at (last_tables k new) place
+  pub accesses : new.accesses ≡ old.accesses ++ access_of k.code_words place found (last_moment k new) ∷ []
 
 -- a Tary word is fair to the Bary word that is kept
 abbrev pub IsFairAt : Key → (kept : Option ℕ) → Place → (found : ℕ) → Type 0
@@ -72,13 +85,13 @@ IsFairAt k kept (places.Bary slot) found = ⊤
 IsFairAt k kept (places.Code index) found = ⊤
 IsFairAt k kept (places.Quiet guest) found = ⊤
 
--- what a pass knows after a load: what it found is one word more that it has loaded, and a word of what it has seen,
+-- what a pass knows after a load: what it found is the word of this moment, and is of an entry that it has seen then,
 -- which are entries of tables
 pub record IsLoad (k : Key) (place : Place) (found : ℕ) (old new : PassView) : Type 0 where
   pub guest : new.guest ≡ old.guest
   pub quiet : new.quiet ≡ old.quiet
   pub refusals : new.sight.refusals ≡ old.sight.refusals
-  pub accesses : new.sight.accesses ≡ old.sight.accesses ++ access_of k.code_words place found ∷ []
+  pub now : IsLoadNow k place found old.sight new.sight
   pub grows : IsPrefix old.sight.entries new.sight.entries
   pub tables : IsTables (tables_with k new.sight.entries)
   pub word : IsWordOf k new.sight.entries place found
@@ -93,13 +106,17 @@ pub record IsQuiet (k : Key) (epoch : ℕ) (old new : PassView) : Type 0 where
   pub quiet : new.quiet ≡ epoch
   pub load : IsLoad k places.Epoch found old (record new { quiet = old.quiet })
 
--- what a pass knows after the fetch of a code word: that of an entry which it has seen, if not 0, is what it found
+-- what a pass knows after the fetch of a code word: it is the word of this moment; and that of an entry which the pass
+-- has seen, if not 0, is what it found
 pub record IsFetch (k : Key) (index found : ℕ) (old new : PassView) : Type 0 where
   pub is : new ≡ record old {
     sight = record old.sight {
-      accesses = old.sight.accesses ++ access_of k.code_words (places.Code index) found ∷ [];
+      accesses = new.sight.accesses;
+      had = new.sight.had;
+      stored = new.sight.stored;
     };
   }
+  pub now : IsLoadNow k (places.Code index) found old.sight new.sight
   pub code : (number : ℕ) → number < length old.sight.entries
       → slice_index (slice_index_or old.sight.entries number no_entry).image.code index ≢ 0
       → found ≡ slice_index (slice_index_or old.sight.entries number no_entry).image.code index

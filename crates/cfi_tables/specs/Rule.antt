@@ -13,45 +13,36 @@ use Rattle.cfi_model.specs.declared.history.Entry.{Entry}
 use Rattle.cfi_model.specs.declared.history.Refusal.{Refusal}
 use Rattle.cfi_model.specs.Tables.{IsTables}
 use Rattle.cfi_model.specs.Accesses.{AreFair}
-use Rattle.cfi_model.specs.Words.{epoch_in_force, next_epoch, word_at, number_at}
+use Rattle.cfi_model.specs.TableMoments.{AreTimed, IsBy, moment_of}
+use Rattle.cfi_model.specs.Words.{HasStore, epoch_in_force, next_epoch, word_at, number_at}
 use Rattle.cfi_tables.specs.Fair.{history_at, kept_of}
 use Rattle.cfi_tables.specs.Key.{Key}
 use Rattle.cfi_tables.specs.Keeping.{is_out}
-use Rattle.cfi_tables.specs.Views.{tables_of}
-use Rattle.cfi_tables.specs.Loads.{IsWordOf, access_of}
+use Rattle.cfi_tables.specs.Views.{last_moment, tables_of, tables_with}
 use Rattle.cfi_tables.specs.declared.view.KeeperView.{KeeperView}
 use Rattle.cfi_tables.specs.declared.view.PassView.{PassView}
 use Rattle.cfi_tables.specs.declared.view.Sight.{Sight}
 use Rattle.cfi_tables.specs.declared.view.View.{View}
 use Rattle.cfi_tables.specs.declared.view.View.TheVariants.{Keeper, Pass, Spent}
 
--- the place's word is one that updates store
-abbrev pub HasStore : Place → Type 0
-HasStore places.Epoch = ⊤
-HasStore (places.Code index) = ⊤
-HasStore (places.Tary index) = ⊤
-HasStore (places.Bary slot) = ⊤
-HasStore (places.Quiet guest) = ⊥
-
--- a word that was loaded is one of these entries
-pub record IsAccessOf (k : Key) (entries : List Entry) (access : Access) : Type 0 where
-  pub place : Place
-  pub within : IsPlace k.code_words place
-  pub stored : HasStore place
-  pub is : access ≡ access_of k.code_words place access.found
-  pub word : IsWordOf k entries place access.found
-
--- what was seen is a beginning of all that was, and what was loaded is of it
+-- what was seen is a beginning of all that was, and what was loaded are words of it, each of its moment
 pub record AgreesWith (k : Key) (entries : List Entry) (refusals : List Refusal) (sight : Sight) : Type 0 where
   pub begins : IsPrefix sight.entries entries
   pub refused : IsPrefix sight.refusals refusals
-  pub accesses : (number : ℕ) (access : Access) → slice_get sight.accesses number ≡ Some access
-      → IsAccessOf k entries access
+  pub timed : AreTimed (tables_with k entries) sight.accesses
   pub fair : AreFair (history_at k) k.code_words None sight.accesses
+
+-- the tables of the last load go on to those of the keeper, and no load is of a later moment
+pub record GoesOnTo (k : Key) (u : KeeperView) (sight : Sight) : Type 0 where
+  pub had : IsPrefix sight.had u.entries
+  pub now : IsBy (last_moment k sight) (moment_of (tables_of k u))
+  pub loads : (number : ℕ) (access : Access) → slice_get sight.accesses number ≡ Some access
+      → IsBy access.moment (last_moment k sight)
 
 -- and the latest epoch is one, which is not above the one in force; all code of the entries that were seen is stored
 pub record IsSeen (k : Key) (u : KeeperView) (sight : Sight) : Type 0 where
   pub agrees : AgreesWith k u.entries u.refusals sight
+  pub on : GoesOnTo k u sight
   pub least : k.first ≤ sight.latest
   pub latest : sight.latest ≤ epoch_in_force (tables_of k u)
   pub code : (index : ℕ) → index < k.code_words

@@ -3,6 +3,8 @@ use Rattle.std.specs.Prelude.{ℕ, ◌+◌, ◌-◌, List, [], length, Option, S
 use Rattle.cfi_word.specs.Rank.{stores_of}
 use Rattle.cfi_model.specs.declared.history.Access.{Access}
 use Rattle.cfi_model.specs.declared.history.Entry.{Entry}
+use Rattle.cfi_model.specs.declared.history.Moment.{Moment}
+use Rattle.cfi_model.specs.TableMoments.{moment_of}
 use Rattle.cfi_model.specs.Words.{Tables}
 use Rattle.cfi_tables.specs.Key.{Key}
 use Rattle.cfi_tables.specs.Keeping.{Keeping, opened_keeping}
@@ -48,6 +50,13 @@ idle_tables k keeping = tables_of k (idle_view k keeping)
 abbrev pub tables_with : Key → List Entry → Tables
 tables_with k entries = idle_tables k (record { entries = entries; refusals = []; out = []; quiets = [] })
 
+-- the tables of a pass's last load, and their moment
+abbrev pub last_tables : Key → Sight → Tables
+last_tables k sight = tables_of k (view_at (record { entries = sight.had; refusals = []; out = []; quiets = [] }) sight.stored)
+
+abbrev pub last_moment : Key → Sight → Moment
+last_moment k sight = moment_of (last_tables k sight)
+
 -- that of the opening
 abbrev pub opened_view : Key → View
 opened_view k = Keeper (idle_view k (opened_keeping k))
@@ -63,6 +72,8 @@ sight_of k keeping accesses = record {
   refusals = keeping.refusals;
   latest = k.first + (length keeping.entries - 1);
   accesses = accesses;
+  had = keeping.entries;
+  stored = stores_of k.code_words;
 }
 
 -- a pass that is admitted has seen what the keeper has seen, and its guest has published the epoch in force
@@ -88,7 +99,11 @@ keeper_of Spent = no_view
 
 -- the pass's view, where the seat is a pass's
 abbrev pub no_pass : PassView
-no_pass = record { guest = 0; quiet = 0; sight = record { entries = []; refusals = []; latest = 0; accesses = [] } }
+no_pass = record {
+  guest = 0;
+  quiet = 0;
+  sight = record { entries = []; refusals = []; latest = 0; accesses = []; had = []; stored = 0 };
+}
 
 abbrev pub pass_of : View → PassView
 pass_of (Keeper u) = no_pass

@@ -9,7 +9,8 @@ ghost use Rattle.cfi_model.specs.Tables.{IsTables, IsUpdate};
 ghost use Rattle.cfi_model.specs.Words.{word_of_entry};
 ghost use Rattle.cfi_tables.specs.Key.{Key};
 ghost use Rattle.cfi_tables.specs.Keeping.{entry_by, opened_keeping};
-ghost use Rattle.cfi_tables.specs.Rule.{HasStore, KeepsRule};
+ghost use Rattle.cfi_tables.specs.Rule.{KeepsRule};
+ghost use Rattle.cfi_model.specs.Words.{HasStore};
 ghost use Rattle.cfi_tables.specs.Views.{idle_tables, opened_view, tables_of};
 ghost use Rattle.cfi_tables.specs.declared.view.View.{View};
 

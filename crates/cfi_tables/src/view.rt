@@ -15,6 +15,10 @@ pub struct Sight {
     pub latest: u32,
     /// What was loaded, from first to last.
     pub accesses: [Access; 0],
+    /// All entries that the tables had had when the pass last loaded, or was admitted or told.
+    pub had: [Entry; 0],
+    /// How many stores of the update to the last of them were made then.
+    pub stored: u32,
 }
 
 /// What a pass's seat knows.

@@ -1,14 +1,18 @@
 -- What is promised of each guest.
 use Rattle.std.proofs.Common.{ℕ, List, [], ◌∷◌, length, sym, subst}
 use Rattle.cfi_unit.specs.declared.fill.Fill.{Fill}
+use Rattle.cfi_model.specs.Came.{AreAskedBy, takes_in}
 use Rattle.cfi_model.specs.Fits.{Along}
 use Rattle.cfi_model.specs.History.{History, IsHistory, IsStart}
 use Rattle.cfi_model.specs.Raw.{raw_opened}
 use Rattle.cfi_model.specs.Run.{Take}
 use Rattle.cfi_model.specs.Shows.{End, IsReady, Runs, ends_along}
 use Rattle.cfi_model.specs.State.{State, opened}
+use Rattle.cfi_model.specs.Words.{Tables}
 use Rattle.cfi_model.proofs.FixedLemmas.{opened_ready}
 use Rattle.cfi_model.proofs.ShownLemmas.{raw_shows}
+use Rattle.cfi_moments.specs.Window.{HasRunInForce}
+use Rattle.cfi_moments.proofs.InForceLemmas.{in_force_run}
 use Rattle.cfi_moments.proofs.MomentLemmas.{confined}
 use Rattle.cfi_moments.proofs.RunLemmas.{step_ready}
 use Rattle.cfi_part.specs.Ran.{IsHistoryOf, IsRunOf}
@@ -48,24 +52,26 @@ module _ (h : History) (code : List ℕ) (loaded : List LoadedModule) (known : I
       }
 
 -- a guest of which a part tells
-pub run_keeps : (c : Course) (h : History) (code : List ℕ) → IsHistoryOf c h code → (number : ℕ) (part : GuestPart)
-    → (ran : IsRunOf c h code number part) → KeepsHeadline h code c.end.loaded ran.run.start ran.run.takes
-run_keeps c h code of number part ran =
+pub run_keeps : (c : Course) (t : Tables) (h : History) (code : List ℕ) → IsHistoryOf c t h code → (number : ℕ)
+    (part : GuestPart) → (ran : IsRunOf c t h code number part)
+    → KeepsHeadline h code c.end.loaded ran.run.start (takes_in ran.run.came)
+run_keeps c t h code of number part ran =
     let run = ran.run in
     let opening = run.opened in
     let fills = start_fills c.end.loaded in
     let start = raw_opened number opening.address fills in
     let policies = subst (λ n. HasPolicies n c.end.loaded h) (sym of.is_code.len) of.policies in
     let starts : IsStart h opening.address = subst (λ r. IsStart h r.base.pc) opening.is run.starts in
-    let along : Along h code start run.takes = subst (λ r. Along h code r run.takes) opening.is run.along in
-    subst (λ r. KeepsHeadline h code c.end.loaded r run.takes) (sym opening.is)
-    (keeps_headline h code c.end.loaded of.known policies number opening.address fills starts run.takes along)
+    let takes = takes_in run.came in
+    let along : Along h code start takes = subst (λ r. Along h code r takes) opening.is run.along in
+    subst (λ r. KeepsHeadline h code c.end.loaded r takes) (sym opening.is)
+    (keeps_headline h code c.end.loaded of.known policies number opening.address fills starts takes along)
 
 -- and the policies that its units ask
-pub run_policies : (c : Course) (h : History) (code : List ℕ) → IsHistoryOf c h code → (number : ℕ) (part : GuestPart)
-    → (ran : IsRunOf c h code number part)
-    → KeepPolicies h code c.end.loaded (ends_along ran.run.start ran.run.takes) ran.run.start.base ran.state
-run_policies c h code of number part ran =
+pub run_policies : (c : Course) (t : Tables) (h : History) (code : List ℕ) → IsHistoryOf c t h code → (number : ℕ)
+    (part : GuestPart) → (ran : IsRunOf c t h code number part)
+    → KeepPolicies h code c.end.loaded (ends_along ran.run.start (takes_in ran.run.came)) ran.run.start.base ran.state
+run_policies c t h code of number part ran =
     let run = ran.run in
     let opening = run.opened in
     let start = raw_opened number opening.address (start_fills c.end.loaded) in
@@ -74,5 +80,18 @@ run_policies c h code of number part ran =
     let ready : IsReady h run.start.base =
     subst (λ r. IsReady h r.base) (sym opening.is)
     (opened_ready h number opening.address (start_fills c.end.loaded) starts).0 in
-    keep_policies h code c.end.loaded of.known policies (ends_along run.start run.takes) run.start.base ran.state ready
+    keep_policies h code c.end.loaded of.known policies (ends_along run.start (takes_in run.came)) run.start.base
+    ran.state ready
     ran.shown.runs
+
+-- and in whose force
+pub run_in_force : (c : Course) (t : Tables) (h : History) (code : List ℕ) → IsHistoryOf c t h code → (number : ℕ)
+    (part : GuestPart) → (ran : IsRunOf c t h code number part) → HasRunInForce h code t ran.run.start ran.run.came
+run_in_force c t h code of number part ran =
+    let run = ran.run in
+    let opening = run.opened in
+    let starts : IsStart h opening.address = subst (λ r. IsStart h r.base.pc) opening.is run.starts in
+    subst (λ r. HasRunInForce h code t r run.came) (sym opening.is)
+    (in_force_run t of.tables h code of.known of.of_tables number opening.address (start_fills c.end.loaded) starts run.came
+    (subst (λ r. Along h code r (takes_in run.came)) opening.is run.along)
+    (subst (λ r. AreAskedBy t.code_words r run.came) opening.is run.asked) run.timed)

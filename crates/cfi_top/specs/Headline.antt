@@ -5,12 +5,14 @@ use Rattle.std.specs.Prelude.{◌≡◌, ℕ, true, List, [], ◌∷◌, length,
 use Rattle.cfi_unit.specs.declared.fill.Fill.{Fill}
 use Rattle.cfi_unit.specs.declared.log.Stop.TheVariants.{Halt}
 use Rattle.cfi_model.specs.Effect.{is_in_code}
+use Rattle.cfi_model.specs.Came.{takes_in}
 use Rattle.cfi_model.specs.Fits.{Along}
 use Rattle.cfi_model.specs.History.{History, IsHistory, IsStart}
 use Rattle.cfi_model.specs.Raw.{Raw, raw_opened}
 use Rattle.cfi_model.specs.Run.{Take, run_of}
 use Rattle.cfi_model.specs.Shows.{End, IsStep, Shows, ends_along}
 use Rattle.cfi_model.specs.State.{State}
+use Rattle.cfi_model.specs.Words.{Tables}
 use Rattle.cfi_moments.specs.Moments.{IsConfined}
 use Rattle.cfi_part.specs.Ran.{IsHistoryOf, IsRunOf}
 use Rattle.cfi_report.specs.declared.report.GuestPart.{GuestPart}
@@ -62,5 +64,6 @@ GuestsKeepTheHeadline =
 -- so it holds of each guest of which a part of a report tells
 abbrev pub RunsKeepTheHeadline : Type 0
 RunsKeepTheHeadline =
-    (c : Course) (h : History) (code : List ℕ) → IsHistoryOf c h code → (number : ℕ) (part : GuestPart) →
-    (ran : IsRunOf c h code number part) → KeepsHeadline h code c.end.loaded ran.run.start ran.run.takes
+    (c : Course) (t : Tables) (h : History) (code : List ℕ) → IsHistoryOf c t h code → (number : ℕ) (part : GuestPart) →
+    (ran : IsRunOf c t h code number part) →
+    KeepsHeadline h code c.end.loaded ran.run.start (takes_in ran.run.came)

@@ -1,9 +1,13 @@
--- The headline, promise by promise, of a run that was concluded. Each speaks of the run's one history, of the code of all
--- that was loaded, and of where each guest began and what came to it (`cfi_drive`, specs/Concluded.antt).
+-- The headline, promise by promise, of a run that was concluded. Each speaks of the run's tables and of their one history,
+-- of the code of all that was loaded, and of where each guest began and what came to it (`cfi_drive`,
+-- specs/Concluded.antt).
 use Rattle.std.specs.Prelude.{◌≡◌, ℕ, ◌≤◌, List, length, slice_get, Some}
 use Rattle.cfi_drive.specs.Concluded.{Conclusion, IsConcluded}
+use Rattle.cfi_model.specs.Came.{loads_in, takes_in}
 use Rattle.cfi_model.specs.Run.{run_of}
 use Rattle.cfi_model.specs.Shows.{Shows, ends_along}
+use Rattle.cfi_model.specs.TableMoments.{AreTimed}
+use Rattle.cfi_moments.specs.Window.{HasRunInForce}
 use Rattle.cfi_moments.specs.Moments.{Fetches, HasEntered, StoresInside, at_moment, fetched}
 use Rattle.cfi_part.specs.Ran.{IsHistoryOf, IsRunOf}
 use Rattle.cfi_report.specs.declared.report.GuestPart.{GuestPart}
@@ -17,7 +21,7 @@ course_in run c = course_of run.plan run.modules run.report c.valid.end
 
 -- how the guest of a part ran
 abbrev pub RanIn : (run : Conclusion) → IsConcluded run → (number : ℕ) → GuestPart → Type 0
-RanIn run c number part = IsRunOf (course_in run c) c.history c.code number part
+RanIn run c number part = IsRunOf (course_in run c) c.tables c.history c.code number part
 
 -- something holds of each guest
 abbrev pub OfEachGuest : (run : Conclusion)
@@ -30,18 +34,26 @@ OfEachGuest run Holds =
 -- policy that it asks allows, and only a check halts, before an edge which that policy forbids
 abbrev pub GuestsKeepPolicies : Conclusion → Type 0
 GuestsKeepPolicies run = OfEachGuest run (λ c number part ran.
-    KeepPolicies c.history c.code c.valid.end.loaded (ends_along ran.run.start ran.run.takes) ran.run.start.base ran.state
-    × Shows c.history c.code ran.retries ran.state (run_of ran.run.start ran.run.takes))
+    KeepPolicies c.history c.code c.valid.end.loaded (ends_along ran.run.start (takes_in ran.run.came)) ran.run.start.base ran.state
+    × Shows c.history c.code ran.retries ran.state (run_of ran.run.start (takes_in ran.run.came)))
+
+-- What it loads, from first to last, are the words of the tables at the moments of its loads. In the window of each check,
+-- from the moment of the last load of its slot's word to that of the last load of its target's, the epoch whose policy it
+-- asks is in force.
+abbrev pub GuestsAskInForce : Conclusion → Type 0
+GuestsAskInForce run = OfEachGuest run (λ c number part ran.
+    AreTimed c.tables (loads_in ran.run.came)
+    × HasRunInForce c.history c.code c.tables ran.run.start ran.run.came)
 
 -- it never enters a unit's middle: whenever it fetches it is in a unit that it has entered at its start
 abbrev pub GuestsEnterUnits : Conclusion → Type 0
 GuestsEnterUnits run = OfEachGuest run (λ c number part ran.
-    (now : ℕ) → now ≤ length ran.run.takes → Fetches (at_moment ran.run.start ran.run.takes now)
-    → HasEntered c.history c.code (at_moment ran.run.start ran.run.takes) now)
+    (now : ℕ) → now ≤ length (takes_in ran.run.came) → Fetches (at_moment ran.run.start (takes_in ran.run.came) now)
+    → HasEntered c.history c.code (at_moment ran.run.start (takes_in ran.run.came)) now)
 
 -- it never stores outside its own data
 abbrev pub GuestsStoreInside : Conclusion → Type 0
 GuestsStoreInside run = OfEachGuest run (λ c number part ran.
-    (now : ℕ) → now ≤ length ran.run.takes → Fetches (at_moment ran.run.start ran.run.takes now)
-    → StoresInside (fetched c.code (at_moment ran.run.start ran.run.takes now))
-    (at_moment ran.run.start ran.run.takes now))
+    (now : ℕ) → now ≤ length (takes_in ran.run.came) → Fetches (at_moment ran.run.start (takes_in ran.run.came) now)
+    → StoresInside (fetched c.code (at_moment ran.run.start (takes_in ran.run.came) now))
+    (at_moment ran.run.start (takes_in ran.run.came) now))

@@ -2,7 +2,7 @@
 
 ghost use Rattle.cfi_drive.specs.Concluded.{Conclusion};
 ghost use Rattle.cfi_top.specs.Headline.{GuestsKeepTheHeadline, RunsKeepTheHeadline};
-ghost use Rattle.cfi_top.specs.Promises.{GuestsKeepPolicies, GuestsEnterUnits, GuestsStoreInside};
+ghost use Rattle.cfi_top.specs.Promises.{GuestsAskInForce, GuestsKeepPolicies, GuestsEnterUnits, GuestsStoreInside};
 
 /// Each guest keeps what is promised of it.
 ///
@@ -16,9 +16,10 @@ pub fn guests_keep_the_headline()
 /// The headline, promise by promise, of each run that was concluded.
 ///
 /// `policies`: its guests do, unit by unit, what the policy machine does, and their checks keep to the policy that they
-/// ask. `enters`: they never enter a unit's middle. `stores`: they never store outside their own data.
+/// ask. `in_force`: that policy is in force in the check's window. `enters`: they never enter a unit's middle. `stores`: they never store outside their own data.
 pub fn concluded_runs_keep_the_headline()
     ensures policies { (run : Conclusion) → GuestsKeepPolicies run }
+    ensures in_force { (run : Conclusion) → GuestsAskInForce run }
     ensures enters { (run : Conclusion) → GuestsEnterUnits run }
     ensures stores { (run : Conclusion) → GuestsStoreInside run }
 {}

@@ -5,8 +5,7 @@ ghost use Rattle.cfi_outside.specs.declared.command.Command.TheVariants as comma
 ghost use Rattle.cfi_outside.specs.declared.output.TheConstants.{DONE, USAGE, READ_FAULT, NO_FILE, WRITE_FAULT, REFUSED, MEMORY};
 ghost use Rattle.cfi_args.specs.Words.{texts};
 ghost use Rattle.cfi_outside.specs.Command.{IsCommand, IsCommandLine};
-ghost use Rattle.cfi_top.specs.Promises.{GuestsKeepPolicies, GuestsEnterUnits, GuestsStoreInside};
-ghost use Rattle.cfi_moments.specs.Force.{TriesHoldPolicies};
+ghost use Rattle.cfi_top.specs.Promises.{GuestsAskInForce, GuestsKeepPolicies, GuestsEnterUnits, GuestsStoreInside};
 ghost use Rattle.cfi_top.specs.Outcome.{IsAnswer};
 ghost use Rattle.cfi_top.specs.Answer.{kept_at};
 ghost use Rattle.cfi_top.specs.Top.{Ends, HasRun, HasSimulated, HasListed, HasAssembled, HasInstrumented, HasLinked, HasVerified, HasGraphed, IsRefused, IsStopped, IsSavedBy, IsUnsaved, Saves, Runs, IsValid, IsSteady};
@@ -130,8 +129,9 @@ pub fn top<F: Shelf, S: Sink, G: Gate, R: Threads + Wait + Sync>(
     ensures enters { IfSome result.run GuestsEnterUnits }
     ensures stores { IfSome result.run GuestsStoreInside }
 
-    // The policy that a check asks is in force from the load of its first word to that of its second.
-    ensures in_force { TriesHoldPolicies }
+    // What each guest loads are the words of the tables at the moments of its loads; and the policy that a check asks is
+    // in force throughout its window, from the moment of its last load of the slot's word to that of the target's.
+    ensures in_force { IfSome result.run GuestsAskInForce }
 
     ensures simulated { (plan schedule : List ℕ) →
         IsCommand (texts words.now) (commands.Sim plan schedule) →

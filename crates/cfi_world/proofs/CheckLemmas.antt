@@ -5,6 +5,7 @@ use Rattle.cfi_word.specs.Table.{Epoch, Tary, Bary, slots_of}
 use Rattle.cfi_word.specs.Word.{epoch_in, policy_in}
 use Rattle.cfi_model.specs.InForce.{GoesOn, history_of, code_in_force, tary_index}
 use Rattle.cfi_model.specs.Raw.{Raw}
+use Rattle.cfi_model.specs.TableMoments.{IsInForce}
 use Rattle.cfi_model.specs.Tables.{IsTables}
 use Rattle.cfi_model.specs.Words.{Tables, before, entry_at, epoch_in_force, policy_in_force, next_epoch, number_at, word_at}
 use Rattle.cfi_model.specs.World.{World}
@@ -71,8 +72,7 @@ module _ (w mid last : World) (is : IsWorld w) (mid_is : IsWorld mid) (last_is :
     (keeps : r.bary ≡ Some (bary_in w slot)) (target : ℕ)
     (same : epoch_in (bary_in w slot) % last.tables.versions ≡ epoch_in (tary_in last target) % last.tables.versions)
   where
-    holds_at : (epoch_in_force mid.tables ≡ epoch_in (tary_in last target))
-        × (policy_in_force mid.tables ≡ policy_in (tary_in last target))
+    holds_at : IsInForce mid.tables (epoch_in (tary_in last target)) (policy_in (tary_in last target))
     holds_at =
         let picked = picks last last_is guest r here going (bary_in w slot) target keeps same in
         let least = (bary_load w.tables is.tables slot inside).settled in
@@ -80,7 +80,10 @@ module _ (w mid last : World) (is : IsWorld w) (mid_is : IsWorld mid) (last_is :
         let on = force_rises mid.tables last.tables mid_is.tables last_is.tables other in
         let epoch : epoch_in_force mid.tables ≡ epoch_in (tary_in last target) =
         omega (arith, picked.0, picked.1, least, up, on) in
-        (epoch, policy_holds mid.tables last.tables mid_is.tables last_is.tables other target epoch)
+        record {
+          epoch_is = epoch;
+          policy_is = policy_holds mid.tables last.tables mid_is.tables last_is.tables other target epoch;
+        }
 
 pub picks_hold : (w : World) → IsWorld w → (before after : List Event) → MayTurns w (before ++ after)
     → (slot : ℕ) → slot < slots_of w.tables.code_words
@@ -88,8 +91,8 @@ pub picks_hold : (w : World) → IsWorld w → (before after : List Event) → M
     → r.bary ≡ Some (bary_in w slot) → (target : ℕ)
     → epoch_in (bary_in w slot) % (world_after w (before ++ after)).tables.versions
     ≡ epoch_in (tary_in (world_after w (before ++ after)) target) % (world_after w (before ++ after)).tables.versions
-    → (epoch_in_force (world_after w before).tables ≡ epoch_in (tary_in (world_after w (before ++ after)) target))
-    × (policy_in_force (world_after w before).tables ≡ policy_in (tary_in (world_after w (before ++ after)) target))
+    → IsInForce (world_after w before).tables (epoch_in (tary_in (world_after w (before ++ after)) target))
+    (policy_in (tary_in (world_after w (before ++ after)) target))
 picks_hold w is before after may slot inside guest r here going keeps target same =
     let both = parts_may before w after may in
     let mid : World = world_after w before in

@@ -11,7 +11,8 @@ use Rattle.cfi_model.specs.Raw.{Raw}
 use Rattle.cfi_model.specs.Running.{IsForbidden, IsGuest, IsSpent}
 use Rattle.cfi_model.specs.Shows.{End, Shows}
 use Rattle.cfi_model.specs.State.{State}
-use Rattle.cfi_model.specs.Words.{Tables, epoch_in_force, policy_in_force, next_epoch, word_at}
+use Rattle.cfi_model.specs.TableMoments.{IsInForce}
+use Rattle.cfi_model.specs.Words.{Tables, next_epoch, word_at}
 use Rattle.cfi_model.specs.World.{World}
 use Rattle.cfi_world.specs.Laws.{MayTurns, world_after}
 use Rattle.cfi_world.specs.Premises.{MayTurn}
@@ -38,8 +39,7 @@ PicksHoldThroughout =
     (guest : ℕ) (r : Raw) → slice_get last.guests guest ≡ Some r → r.base.stop ≡ None →
     r.bary ≡ Some (bary_in w slot) → (target : ℕ) →
     epoch_in (bary_in w slot) % last.tables.versions ≡ epoch_in (tary_in last target) % last.tables.versions →
-    (epoch_in_force mid.tables ≡ epoch_in (tary_in last target))
-    × (policy_in_force mid.tables ≡ policy_in (tary_in last target))
+    IsInForce mid.tables (epoch_in (tary_in last target)) (policy_in (tary_in last target))
 
 -- the update to an epoch has made its first store of a Tary word
 abbrev pub HasStoredTary : Tables → (epoch : ℕ) → Type 0

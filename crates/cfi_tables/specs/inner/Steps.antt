@@ -12,7 +12,8 @@ use Rattle.cfi_tables.specs.Faults.{quiet_in}
 use Rattle.cfi_tables.specs.Key.{Key}
 use Rattle.cfi_tables.specs.Keeping.{is_out}
 use Rattle.cfi_tables.specs.Loads.{IsLoad, TellsEpoch, IsFetch}
-use Rattle.cfi_tables.specs.Rule.{AgreesWith, TellsForce, HasStore}
+use Rattle.cfi_tables.specs.Rule.{AgreesWith, TellsForce}
+use Rattle.cfi_model.specs.Words.{HasStore}
 use Rattle.cfi_tables.specs.Views.{admitted, held_by, keeper_of, keeping_of, noted, pass_of, tables_of}
 use Rattle.cfi_tables.specs.declared.view.KeeperView.{KeeperView}
 use Rattle.cfi_tables.specs.declared.view.PassView.{PassView}

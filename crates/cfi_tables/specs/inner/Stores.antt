@@ -9,7 +9,7 @@ use Rattle.cfi_model.specs.Words.{before, newest, next_epoch, rank_at, word_of_e
 use Rattle.cfi_tables.specs.Faults.{AdmitBelow}
 use Rattle.cfi_tables.specs.Key.{Key}
 use Rattle.cfi_tables.specs.Keeping.{Keeping, grown_by, last_of}
-use Rattle.cfi_tables.specs.Rule.{HasStore}
+use Rattle.cfi_model.specs.Words.{HasStore}
 use Rattle.cfi_tables.specs.Views.{idle_tables, idle_view, keeper_of, keeping_of, tables_of, view_at}
 use Rattle.cfi_tables.specs.inner.Stamps.{Stamp}
 use Rattle.cfi_tables.specs.inner.Steps.{Seated, loaded_before}

@@ -4,7 +4,7 @@ use Rattle.cfi_drive.proofs.ServeLemmas.{runner_served}
 use Rattle.cfi_drive.proofs.laws.runners_go_on.Goals as goal
 
 pub returns-clause-sights : goal.returns-clause-sights
-returns-clause-sights c = λ k plan modules p q r on is was. (was.0, runner_on k plan modules p q on is r was.0 was.1)
+returns-clause-sights c = λ k plan modules p q r on is was. (was.0, runner_on k plan modules p q r on is was.0 was.1)
 
 pub returns-clause-runs : goal.returns-clause-runs
 returns-clause-runs c = λ k plan modules p q old new pause can run was.

@@ -1,5 +1,4 @@
-use Rattle.cfi_top.proofs.PromiseLemmas.{keep_policies_in, enter_units, store_inside}
-use Rattle.cfi_moments.proofs.ForceLemmas.{held}
+use Rattle.cfi_top.proofs.PromiseLemmas.{ask_in_force, keep_policies_in, enter_units, store_inside}
 use Rattle.cfi_top.proofs.DoneLemmas.{done_of, run_only, if_some}
 use Rattle.cfi_top.proofs.MadeLemmas.{ran_of, simulated_of, listed_of, assembled_of, instrumented_of, linked_of, verified_of, graphed_of}
 use Rattle.cfi_top.proofs.TopLemmas.{usage_of, unfit_of, read_fault_of, missed_of, stopped_of, write_fault_of, refused_of}
@@ -23,7 +22,7 @@ pub returns-clause-stores : goal.returns-clause-stores
 returns-clause-stores g c = if_some c.run_words.result.run store_inside
 
 pub returns-clause-in_force : goal.returns-clause-in_force
-returns-clause-in_force g c = held
+returns-clause-in_force g c = if_some c.run_words.result.run ask_in_force
 
 pub returns-clause-simulated : goal.returns-clause-simulated
 returns-clause-simulated g c = simulated_of _ _ _ _ _ _ _ c.run_words.ensures.ends

@@ -1,4 +1,5 @@
-use Rattle.std.proofs.Common.{sym, ap, ◌∙◌, arith}
+use Rattle.std.proofs.Common.{sym, ap, subst, ◌∙◌, arith}
+use Rattle.cfi_tables.specs.Loads.{IsFetch}
 use Rattle.cfi_tables.specs.Views.{pass_of}
 use Rattle.cfi_tables.specs.inner.Steps.{Seated}
 use Rattle.cfi_tables.specs.declared.view.PassView.{PassView}
@@ -27,3 +28,11 @@ invariant_of-pass g c =
       guest_is = i.guest_is ∙ sym (ap (λ (p : PassView). p.guest) fetch.is);
       within = i.within;
     }
+
+-- the word has 32 bits
+pub returns : goal.returns
+returns g c =
+    let k = g.N.TableName.key in
+    let l = c.load-found.ensures in
+    let fetch = l.2.fetch c.args.word c.requires (sym c.code-number.ensures) in
+    subst (λ p. IsFetch k c.args.word c.load-found.result p (pass_of c.load-found.new.seat.me.0)) c.pass.view_is fetch
