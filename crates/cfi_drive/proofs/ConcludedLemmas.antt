@@ -19,6 +19,7 @@ use Rattle.cfi_valid.specs.Course.{Course, IsCourse}
 use Rattle.cfi_valid.specs.Loaded.{module_line_of}
 use Rattle.cfi_valid.specs.Script.{made_by_script, script_calls}
 use Rattle.cfi_valid.specs.Valid.{IsEnded, IsValidReport, course_of}
+use Rattle.cfi_valid.proofs.PartsLemmas.{valid_by}
 use Rattle.cfi_drive.specs.Concluded.{HasReadableNames, IsConcluded, conclusion_of}
 use Rattle.cfi_drive.specs.Ending.{code_by, history_by, tables_by}
 use Rattle.cfi_drive.specs.inner.Ending.{ArePartsAt, HasNumbers}
@@ -52,18 +53,14 @@ module _ (k : Key) (plan : Plan) (modules : List Module) (l : Ledger) (is : IsLe
   course_is : IsCourse course
   course_is = subst IsCourse same is.course
 
+  ended : (number : ℕ) (part : GuestPart) → slice_get report.guests number ≡ Some part → IsEnded course number part
+  ended number part there =
+      subst (λ (c : Course). IsEnded c number part) same (parts.each number part there).ended
+
   abbrev valid : IsValidReport plan modules report
-  valid = record {
-    end = l.course.end;
-    course = course_is;
-    epoch = epoch;
-    policy = policy;
-    lines = lines;
-    script = ap made_by_script journal ∙ made;
-    count = count;
-    guests = λ number part there.
-        subst (λ (c : Course). IsEnded c number part) same (parts.each number part there).ended;
-  }
+  valid =
+      valid_by plan modules report l.course.end course_is epoch policy lines (ap made_by_script journal ∙ made) count
+      ended
 
   ran : (number : ℕ) (part : GuestPart) → slice_get report.guests number ≡ Some part
       → IsRunOf course (tables_by k l) (history_by k l) (code_by k l) number part
@@ -81,11 +78,11 @@ module _ (k : Key) (plan : Plan) (modules : List Module) (l : Ledger) (is : IsLe
   can_be_read : HasReadableNames plan → (number : ℕ) (part : GuestPart) → slice_get report.guests number ≡ Some part
       → CanBeRead part
   can_be_read names number part there =
-      let ended = valid.guests number part there in
+      let of = ended number part there in
       record {
         kept = told_kept course (tables_by k l) (history_by k l) (code_by k l) number part (ran number part there);
-        stopped = ended.stopped;
-        named = entry_named names number part.entry ended.entry;
+        stopped = of.replay.stopped;
+        named = entry_named names number part.entry of.guest.entry;
       }
 
   many : length modules ≡ length plan.modules

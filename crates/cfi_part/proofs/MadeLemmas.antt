@@ -19,8 +19,9 @@ use Rattle.cfi_valid.specs.FromLaw.{HasPolicies}
 use Rattle.cfi_valid.specs.Guests.{GuestBegins}
 use Rattle.cfi_valid.specs.Loaded.{LoadedModule, start_fills}
 use Rattle.cfi_valid.specs.Log.{IsLogged}
+use Rattle.cfi_valid.specs.Parts.{ComesTo}
 use Rattle.cfi_valid.specs.Replay.{Replays}
-use Rattle.cfi_valid.specs.Valid.{IsEnded, IsGuestPart}
+use Rattle.cfi_valid.specs.Valid.{IsEnded}
 use Rattle.cfi_part.specs.Part.{IsEndOf, IsWithin, part_of}
 use Rattle.cfi_part.specs.Ran.{AreBrought, HasRun, IsHistoryOf, IsRunOf}
 use Rattle.cfi_part.proofs.EndLemmas.{IsShownAs, shown_as, steps_of}
@@ -86,34 +87,48 @@ module _ (c : Course) (t : Tables) (h : History) (code : List ℕ) (of : IsHisto
         shown_as h code of.known come.settled s come.shown.ready picked single unspent (run_of start (takes_in run.came)) guest
         come.shown.shows ends
 
-    abbrev says : IsGuestPart c part
-    says = record {
+    -- where the part's guest begins
+    begins : GuestBegins c.plan loaded entry address
+    begins =
+        subst (λ (e : List ℕ). GuestBegins c.plan loaded e address)
+        (some_same run.opened.entry entry (sym run.opened.entry_is ∙ named)) run.opened.begins
+
+    abbrev come_to : ComesTo c part s
+    come_to = record {
       address = address;
-      begins = subst (λ (e : List ℕ). GuestBegins c.plan loaded e address)
-          (some_same run.opened.entry entry (sym run.opened.entry_is ∙ named)) run.opened.begins;
+      begins = begins;
       code = code;
       is_code = of.is_code;
-      last = s;
       replay = subst
           (λ (log : List Log). Replays code loaded log guest.base.units (opened number address fills) s)
           (sym shown.log)
           (subst (λ (n : ℕ). Replays code loaded s.log n (opened number address fills) s) (sym shown.units)
           come.replayed);
-      output = sym shown.out;
-      log = sym shown.log;
-      stop = shown.stop;
-      steps = steps_of h code of.known come.settled s come.shown.ready picked single unspent c.plan.fuel number entry
-          guest shown within;
     }
 
     ended : IsEnded c number part
     ended = record {
-      is = refl;
-      entry = named;
-      stopped = stopped;
-      logged = logged;
-      says = says;
-      single = λ same. shown.steps.single_only (one_epoch same);
+      guest = record { is = refl; entry = named; begins = (address, begins) };
+      replay = record {
+        stopped = stopped;
+        replay = record {
+          last = s;
+          comes = come_to;
+          output = sym shown.out;
+          log = sym shown.log;
+          stop = shown.stop;
+        };
+      };
+      log = logged;
+      steps = record {
+        fits = record {
+          last = s;
+          comes = come_to;
+          counts = steps_of h code of.known come.settled s come.shown.ready picked single unspent c.plan.fuel number
+              entry guest shown within;
+        };
+        single = λ same. shown.steps.single_only (one_epoch same);
+      };
     }
 
     told : IsRunOf c t h code number part

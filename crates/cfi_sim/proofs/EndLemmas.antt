@@ -41,9 +41,10 @@ use Rattle.cfi_unit.specs.declared.log.Stop.TheVariants as stops
 use Rattle.cfi_valid.specs.Course.{Course}
 use Rattle.cfi_valid.specs.Journal.{JournalState, EntriesLead}
 use Rattle.cfi_valid.specs.Loaded.{LoadedModule, placed_modules, loaded_by, start_fills}
+use Rattle.cfi_valid.specs.Parts.{ComesTo}
 use Rattle.cfi_valid.specs.Replay.{Replays}
 use Rattle.cfi_valid.specs.Steps.{HasSteps}
-use Rattle.cfi_valid.specs.Valid.{IsGuestPart, course_of}
+use Rattle.cfi_valid.specs.Valid.{course_of}
 use Rattle.cfi_world.specs.Updates.{is_idle}
 use Rattle.cfi_world.proofs.StoringLemmas.{idle_is, force_newest}
 
@@ -143,23 +144,18 @@ module _ (plan : Plan) (modules : List Module) (journal : List Entry) (end : Sta
       steps_of (history_of t) code known run.retries s ended.runs.rests.ready run.picked single unspent plan.fuel number
       run.entry r shown within
 
-  abbrev part_is : IsGuestPart c part
-  part_is = record {
+  abbrev comes : ComesTo c part s
+  comes = record {
     address = run.address;
     begins = run.begins;
     code = code;
     is_code = is_code;
-    last = s;
     replay = subst
         (λ (log : List Log). Replays code end.state.loaded log r.base.units
         (opened number run.address (start_fills end.state.loaded)) s) (sym shown.log)
         (subst
         (λ (n : ℕ). Replays code end.state.loaded s.log n
         (opened number run.address (start_fills end.state.loaded)) s) (sym shown.units) run.replayed);
-    output = sym shown.out;
-    log = sym shown.log;
-    stop = shown.stop;
-    steps = has_steps;
   }
 
   pub simulated : IsSimulated c end.world number part
@@ -170,7 +166,8 @@ module _ (plan : Plan) (modules : List Module) (journal : List Entry) (end : Sta
     told = refl;
     logged = subst (IsSimLogged c) (sym shown.log)
         (log_stays plan modules [] journal run.settled end.state run.later s.log run.logged);
-    says = part_is;
+    replay = record { last = s; comes = comes; output = sym shown.out; log = sym shown.log; stop = shown.stop };
+    steps = record { last = s; comes = comes; counts = has_steps };
     single = λ first idle. shown.steps.single_only (one_entry first idle);
   }
 

@@ -20,7 +20,8 @@ use Rattle.cfi_plan.specs.Bare.{bare_plan}
 use Rattle.cfi_valid.specs.Course.{Course}
 use Rattle.cfi_valid.specs.Example.{hello_module}
 use Rattle.cfi_valid.specs.Loaded.{start_fills}
-use Rattle.cfi_valid.specs.Valid.{IsGuestPart, course_of}
+use Rattle.cfi_valid.specs.Parts.{ComesTo, FitsSteps}
+use Rattle.cfi_valid.specs.Valid.{course_of}
 use Rattle.cfi_valid.proofs.example.ExampleCode.{length-copies, stands}
 use Rattle.cfi_valid.proofs.example.ExampleLemmas.{hello_words, sets, hello_placed, fit}
 use Rattle.cfi_valid.proofs.example.ExampleReplay.{one, end, opening, code, is_code, s0}
@@ -108,18 +109,15 @@ starts = record {
 abbrev course : Course
 course = course_of bare_plan (hello_module ∷ []) still.report end
 
-part : IsGuestPart course still_part
-part = record {
-  address = 4 * FIRST_BASE;
-  begins = refl;
-  code = code;
-  is_code = is_code;
+comes : ComesTo course still_part s0
+comes = record { address = 4 * FIRST_BASE; begins = refl; code = code; is_code = is_code; replay = refl }
+
+steps : FitsSteps course still_part
+unfolding comes
+steps = record {
   last = s0;
-  replay = refl;
-  output = refl;
-  log = refl;
-  stop = refl;
-  steps = record {
+  comes = comes;
+  counts = record {
     repeats = 0;
     begun = 0;
     sum = refl;
@@ -136,7 +134,7 @@ part = record {
 
 is_simulated : (number : ℕ) (g : GuestPart) → slice_get (still_part ∷ []) number ≡ Some g
     → IsSimulated course world number g
-unfolding part
+unfolding steps
 is_simulated zero g is =
     let same : still_part ≡ g = cc in
     subst (IsSimulated course world 0) same (record {
@@ -150,7 +148,8 @@ is_simulated zero g is =
         opens = λ at number address policy is. absurd (cc);
         causes = λ at number cause is. absurd (cc);
       };
-      says = part;
+      replay = record { last = s0; comes = comes; output = refl; log = refl; stop = refl };
+      steps = steps;
       single = λ first idle. refl;
     })
 is_simulated (suc number) g is = absurd (cc)

@@ -127,13 +127,18 @@ IsRefreshEvent old new = IsBeginning Refreshing lines.RefreshEpochs None old new
 
 -- ---- a load
 
--- lines of a load that is told at once, without an event
+-- lines of a load that is told at once, without an event: a case a line
 abbrev pub TellsLoad : JournalLine → (number : ℕ) → Type 0
+TellsLoad (lines.LoadOk asked epoch policy) number = ⊥
 TellsLoad (lines.LoadAgain asked policy) number = asked ≡ number
 TellsLoad (lines.LoadFull asked) number = asked ≡ number
 TellsLoad (lines.LoadPlace asked fault) number = asked ≡ number
 TellsLoad (lines.LoadVerify asked fault place) number = asked ≡ number
-TellsLoad line number = ⊥
+TellsLoad (lines.LoadVersions asked guest quiet) number = ⊥
+TellsLoad (lines.LoadEpochs asked) number = ⊥
+TellsLoad (lines.RefreshOk epoch) number = ⊥
+TellsLoad (lines.RefreshVersions guest quiet) number = ⊥
+TellsLoad lines.RefreshEpochs number = ⊥
 
 -- the journal has such a line more, which is legal
 pub record IsToldLoad (plan : Plan) (modules : List Module) (number : ℕ) (old new : Stage) : Type 0 where

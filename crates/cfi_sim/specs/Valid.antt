@@ -20,7 +20,8 @@ use Rattle.cfi_valid.specs.Guests.{GuestBegins}
 use Rattle.cfi_valid.specs.Journal.{JournalState, IsOpeningState}
 use Rattle.cfi_valid.specs.Loaded.{placed_modules, start_fills, module_line_of}
 use Rattle.cfi_valid.specs.Log.{HoldsInSpan, HasNoFunction, Why, NoModule, NoFunction, Unlogged, why_of, FitsCauses}
-use Rattle.cfi_valid.specs.Valid.{IsGuestPart, course_of}
+use Rattle.cfi_valid.specs.Parts.{HasReplay, FitsSteps}
+use Rattle.cfi_valid.specs.Valid.{course_of}
 use Rattle.cfi_word.specs.declared.lists.Image.{Image}
 use Rattle.cfi_unit.specs.declared.log.Log.{Log}
 
@@ -68,8 +69,9 @@ pub record IsSimulated (c : Course) (end : World) (number : ℕ) (part : GuestPa
   pub entry : slice_get c.plan.guests number ≡ Some part.entry
   pub told : part ≡ part_of number part.entry r
   pub logged : IsSimLogged c part.log
-  pub says : IsGuestPart c part
-  pub single : c.end.epoch ≡ c.plan.first → IsIdle end → says.steps.repeats ≡ 0
+  pub replay : HasReplay c part
+  pub steps : FitsSteps c part
+  pub single : c.end.epoch ≡ c.plan.first → IsIdle end → steps.counts.repeats ≡ 0
 
 -- ---- a simulation
 

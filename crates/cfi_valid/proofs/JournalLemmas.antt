@@ -36,7 +36,7 @@ module _ (plan : Plan) (modules : List Module) where
   -- ---- one state
 
   -- a module joins as one placed module
-  clean_once : (s : JournalState) (number : ℕ) (a b : IsClean plan modules s number) → a.placed ≡ b.placed
+  pub clean_once : (s : JournalState) (number : ℕ) (a b : IsClean plan modules s number) → a.placed ≡ b.placed
   clean_once s number a b =
       let both : Some a.absent.unplaced ≡ Some b.absent.unplaced = sym a.absent.is ∙ b.absent.is in
       let same : a.absent.unplaced ≡ b.absent.unplaced = cc in
@@ -72,7 +72,7 @@ module _ (plan : Plan) (modules : List Module) where
 -- ---- one opening
 
 -- loaded modules are told by their numbers, their places and their policies
-loaded_same : (xs ys : List LoadedModule)
+pub loaded_same : (xs ys : List LoadedModule)
     → map (λ (l : LoadedModule). l.number) xs ≡ map (λ (l : LoadedModule). l.number) ys
     → placed_modules xs ≡ placed_modules ys
     → map (λ (l : LoadedModule). l.policy) xs ≡ map (λ (l : LoadedModule). l.policy) ys

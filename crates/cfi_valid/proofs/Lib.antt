@@ -7,6 +7,7 @@ pub mod GuestLemmas
 pub mod JournalLemmas
 pub mod ReplayLemmas
 pub mod ValidLemmas
+pub mod PartsLemmas
 pub mod GrowthLemmas
 pub mod SpanLemmas
 pub mod LogGrowth
@@ -14,6 +15,7 @@ pub mod EntryGrowth
 pub mod PickGrowth
 pub mod PolicyLemmas
 pub mod SeriesLemmas
+pub mod ModulesLemmas
 pub mod StartLemmas
 pub mod SinglesLemmas
 pub mod LongerLemmas

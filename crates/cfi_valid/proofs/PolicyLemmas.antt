@@ -56,7 +56,7 @@ module _ (joins : (slot address : ℕ) → Type 0) where
         (λ unused. absurd (omega (arith, unused.1, none, same)))
         (labels.branches slot in_slots)
 
-    equal_joins : slice_index bary slot ≡ slice_index tary word → Chain joins slot (4 * word)
+    pub equal_joins : slice_index bary slot ≡ slice_index tary word → Chain joins slot (4 * word)
     equal_joins same = ⊎_elim
         (λ (within : word < code_words).
         let both = both_classes (IsUsed joins slot) (IsReached joins (4 * word)) (slice_index bary slot)
@@ -65,7 +65,7 @@ module _ (joins : (slot address : ℕ) → Type 0) where
         (λ (past : code_words ≤ word). absurd (past_end past same))
         (cases_lt word code_words)
 
-    joins_equal : word < code_words → Chain joins slot (4 * word) → slice_index bary slot ≡ slice_index tary word
+    pub joins_equal : word < code_words → Chain joins slot (4 * word) → slice_index bary slot ≡ slice_index tary word
     joins_equal within chain =
         (labels.classes slot word in_slots within
         (chain_used chain.more slot (4 * word) chain.chain)
@@ -76,7 +76,7 @@ module _ (joins : (slot address : ℕ) → Type 0) where
 module _ (code_words : ℕ) (ms live : List Placed) (image : Image) (loaded : AreLoaded code_words ms)
     (of : IsLoadedImage code_words ms live image) where
   -- an edge leads to a word of the code
-  edge_within : (slot address : ℕ) → DirectEdge live slot address → address < 4 * code_words
+  pub edge_within : (slot address : ℕ) → DirectEdge live slot address → (address < 4 * code_words) × (address % 4 ≡ 0)
   edge_within slot address edge =
       let long : length image.code ≡ code_words = of.1.code.len in
       let size = subst IsSize (sym long) loaded.size in
@@ -89,7 +89,7 @@ module _ (code_words : ℕ) (ms live : List Placed) (image : Image) (loaded : Ar
       } in
       let s = started (fixed image) image.code address known start in
       let within = BeginsAt-within image.code (address / 4) s.unit s.stands.begins in
-      omega (arith, within, size_pos s.unit, long, s.stands.aligned)
+      (omega (arith, within, size_pos s.unit, long, s.stands.aligned), s.stands.aligned)
 
   pub image_allows : (slot address : ℕ) → slot < slots_of code_words → address % 4 ≡ 0
       → (slice_index image.bary slot ≡ slice_index image.tary (address / 4)) ↔ Allowed live slot address
@@ -102,5 +102,5 @@ module _ (code_words : ℕ) (ms live : List Placed) (image : Image) (loaded : Ar
             let end = chain_reached (DirectEdge live) chain.more slot address chain.chain in
             let within = edge_within end.0 address end.1 in
             joins_equal (DirectEdge live) code_words image.tary image.bary labels slot (address / 4) in_slots
-            (omega (arith, within, aligned)) (subst (Allowed live slot) (sym whole) chain),
+            (omega (arith, within.0, aligned)) (subst (Allowed live slot) (sym whole) chain),
       )

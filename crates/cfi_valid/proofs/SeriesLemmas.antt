@@ -19,15 +19,15 @@ use Rattle.cfi_valid.specs.Journal.{JournalState, modules_at, IsOpeningState, Li
 use Rattle.cfi_valid.specs.Loaded.{LoadedModule, placed_modules}
 use Rattle.cfi_word.specs.Table.{IsSize}
 
-abbrev numbers_of : List LoadedModule → List ℕ
+abbrev pub numbers_of : List LoadedModule → List ℕ
 numbers_of loaded = map (λ (l : LoadedModule). l.number) loaded
 
 module _ (plan : Plan) (modules : List Module) where
   -- the loaded modules stand in their order
-  abbrev Stand : List LoadedModule → Type 0
+  abbrev pub Stand : List LoadedModule → Type 0
   Stand loaded = AreInOrder plan.code_words (modules_at modules (numbers_of loaded)) (placed_modules loaded)
 
-  opening_stands : (s : JournalState) → IsOpeningState plan modules s → Stand s.loaded
+  pub opening_stands : (s : JournalState) → IsOpeningState plan modules s → Stand s.loaded
   opening_stands s opens =
       subst (λ (numbers : List ℕ). AreInOrder plan.code_words (modules_at modules numbers) (placed_modules s.loaded))
       (sym opens.starts) opens.order
@@ -74,7 +74,7 @@ module _ (plan : Plan) (modules : List Module) where
   line_stands old new RefreshEpochs leads order =
       subst (λ (s : JournalState). Stand s.loaded) (sym leads.1) order
 
-  along_stands : (old new : JournalState) (entries : List Entry) → EntriesLead plan modules old entries new
+  pub along_stands : (old new : JournalState) (entries : List Entry) → EntriesLead plan modules old entries new
       → Stand old.loaded → Stand new.loaded
   along_stands old new [] along order = subst (λ (s : JournalState). Stand s.loaded) (sym along) order
   along_stands old new (entry ∷ entries) along order =

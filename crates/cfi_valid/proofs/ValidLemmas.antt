@@ -18,7 +18,8 @@ use Rattle.cfi_valid.specs.Guests.{GuestBegins}
 use Rattle.cfi_valid.specs.Journal.{JournalState, IsJournal}
 use Rattle.cfi_valid.specs.Loaded.{LoadedModule, placed_modules, start_fills, module_line_of}
 use Rattle.cfi_valid.specs.Replay.{Replays, shown_stop}
-use Rattle.cfi_valid.specs.Valid.{IsGuestPart, IsEnded, course_of, IsValidReport}
+use Rattle.cfi_valid.specs.Parts.{IsPartOf, ComesTo, HasReplay, HasEndedReplay}
+use Rattle.cfi_valid.specs.Valid.{course_of, IsValidReport}
 use Rattle.cfi_valid.proofs.CodeLemmas.{code_once}
 use Rattle.cfi_valid.proofs.EntryLemmas.{begins_once}
 use Rattle.cfi_valid.proofs.JournalLemmas.{journal_once}
@@ -56,54 +57,63 @@ module _ (loaded : List LoadedModule) (fills : List Fill) (s : State) where
       (subst (λ (x : List Log). Replays code' loaded x units (opened number address fills) s) l
       (subst (λ (x : List ℕ). Replays x loaded log units (opened number address fills) s) c replay)))
 
-module _ (c : Course) (a b : GuestPart) (p : IsGuestPart c a) (q : IsGuestPart c b) (number : a.number ≡ b.number)
+-- the replay of one part, as one of the other
+as_other : (c : Course) (a b : GuestPart) (s t : State) (p : ComesTo c a s) (q : ComesTo c b t) → a.number ≡ b.number
+    → a.entry ≡ b.entry → a.log ≡ b.log
+    → Replays q.code c.end.loaded b.log a.units (opened b.number q.address (start_fills c.end.loaded)) s
+as_other c a b s t p q number entry log =
+    let loaded = c.end.loaded in
+    let code = code_once (placed_modules loaded) c.plan.code_words p.code q.code p.is_code q.is_code in
+    let address = begins_once c.plan loaded b.entry p.address q.address
+    (subst (λ (name : List ℕ). GuestBegins c.plan loaded name p.address) entry p.begins) q.begins in
+    replay_as loaded (start_fills loaded) s p.code q.code a.log b.log a.number b.number p.address q.address a.units
+    code log number address p.replay
+
+-- two parts that say one guest, one log and as many units come to one state
+pub comes_once : (c : Course) (a b : GuestPart) (s t : State) → ComesTo c a s → ComesTo c b t → a.number ≡ b.number
+    → a.entry ≡ b.entry → a.log ≡ b.log → a.units ≡ b.units → s ≡ t
+comes_once c a b s t p q number entry log units =
+    replay_once q.code c.end.loaded b.log b.units (opened b.number q.address (start_fills c.end.loaded)) s t
+    (subst
+    (λ (n : ℕ). Replays q.code c.end.loaded b.log n (opened b.number q.address (start_fills c.end.loaded)) s) units
+    (as_other c a b s t p q number entry log)) q.replay
+
+module _ (c : Course) (a b : GuestPart) (p : HasReplay c a) (q : HasReplay c b) (number : a.number ≡ b.number)
     (entry : a.entry ≡ b.entry) (log : a.log ≡ b.log) where
-  abbrev start : State
-  start = opened b.number q.address (start_fills c.end.loaded)
-
-  -- both are replays of one guest over one log
-  replay : Replays q.code c.end.loaded b.log a.units start p.last
-  replay =
-      let loaded = c.end.loaded in
-      let code = code_once (placed_modules loaded) c.plan.code_words p.code q.code p.is_code q.is_code in
-      let address = begins_once c.plan loaded b.entry p.address q.address
-      (subst (λ (name : List ℕ). GuestBegins c.plan loaded name p.address) entry p.begins) q.begins in
-      replay_as loaded (start_fills loaded) p.last p.code q.code a.log b.log a.number b.number p.address q.address
-      a.units
-      code log number address p.replay
-
   part_same : a.units ≡ b.units → (a.out ≡ b.out) × (shown_stop a.stop ≡ shown_stop b.stop)
   part_same units =
-      let last : p.last ≡ q.last =
-      replay_once q.code c.end.loaded b.log b.units start p.last q.last
-      (subst (λ (n : ℕ). Replays q.code c.end.loaded b.log n start p.last) units replay) q.replay in (
+      let last = comes_once c a b p.last q.last p.comes q.comes number entry log units in (
         sym p.output ∙ ap (λ (s : State). s.output) last ∙ q.output,
         sym p.stop ∙ ap (λ (s : State). s.stop) last ∙ q.stop,
       )
 
   -- and as long, where no fuel stopped it
   units_same : shown_stop a.stop ≢ None → shown_stop b.stop ≢ None → a.units ≡ b.units
-  units_same one other = ⊎_elim
+  units_same one other =
+      let code = q.comes.code in
+      let start : State = opened b.number q.comes.address (start_fills c.end.loaded) in
+      let replay = as_other c a b p.last q.last p.comes q.comes number entry log in
+      ⊎_elim
       (λ same. same)
       (λ apart. ⊎_elim
       (λ (less : a.units < b.units).
-      absurd (stopped_last q.code c.end.loaded b.log a.units b.units start p.last q.last replay
-      (λ none. one (sym p.stop ∙ none)) q.replay less))
+      absurd (stopped_last code c.end.loaded b.log a.units b.units start p.last q.last replay
+      (λ none. one (sym p.stop ∙ none)) q.comes.replay less))
       (λ (more : b.units < a.units).
-      absurd (stopped_last q.code c.end.loaded b.log b.units a.units start q.last p.last q.replay
+      absurd (stopped_last code c.end.loaded b.log b.units a.units start q.last p.last q.comes.replay
       (λ none. other (sym q.stop ∙ none)) replay more))
       apart)
       (cases_order a.units b.units)
 
 -- two parts of the plan's guest of one number
-ended_alike : (c : Course) (number : ℕ) (a b : GuestPart) → IsEnded c number a → IsEnded c number b → a.log ≡ b.log
-    → EndsAlike a b
-ended_alike c number a b p q log =
-    let both : Some a.entry ≡ Some b.entry = sym p.entry ∙ q.entry in
+ended_alike : (c : Course) (number : ℕ) (a b : GuestPart) → IsPartOf c number a → IsPartOf c number b
+    → HasEndedReplay c a → HasEndedReplay c b → a.log ≡ b.log → EndsAlike a b
+ended_alike c number a b one other p q log =
+    let both : Some a.entry ≡ Some b.entry = sym one.entry ∙ other.entry in
     let entry : a.entry ≡ b.entry = cc in
-    let numbers = p.is ∙ sym q.is in
+    let numbers = one.is ∙ sym other.is in
     let counted : a.units ≡ b.units → HasSameEnd a b = λ units.
-    let same = part_same c a b p.says q.says numbers entry log units in
+    let same = part_same c a b p.replay q.replay numbers entry log units in
     record {
       units = units;
       out = same.0;
@@ -111,8 +121,8 @@ ended_alike c number a b p q log =
     } in
     record {
       counted = counted;
-      alone = λ one other. counted (units_same c a b p.says q.says numbers entry log
-          (shown_some a.stop p.stopped one) (shown_some b.stop q.stopped other));
+      alone = λ first second. counted (units_same c a b p.replay q.replay numbers entry log
+          (shown_some a.stop p.stopped first) (shown_some b.stop q.stopped second));
     }
 
 -- ---- reports
@@ -122,7 +132,7 @@ module _ (plan : Plan) (modules : List Module) (a b : Report) (p : IsValidReport
   end_same : p.end ≡ q.end
   end_same =
       journal_once plan modules b.journal p.end q.end
-      (subst (λ (entries : List Entry). IsJournal plan modules entries p.end) journal p.course) q.course
+      (subst (λ (entries : List Entry). IsJournal plan modules entries p.end) journal p.journal.course) q.journal.course
 
   course_same : course_of plan modules a p.end ≡ course_of plan modules b q.end
   course_same =
@@ -133,12 +143,15 @@ module _ (plan : Plan) (modules : List Module) (a b : Report) (p : IsValidReport
       → g.log ≡ h.log → EndsAlike g h
   guests_same number g h is there log =
       ended_alike (course_of plan modules b q.end) number g h
-      (subst (λ (c : Course). IsEnded c number g) course_same (p.guests number g is)) (q.guests number h there) log
+      (subst (λ (c : Course). IsPartOf c number g) course_same (p.guests.parts number g is))
+      (q.guests.parts number h there)
+      (subst (λ (c : Course). HasEndedReplay c g) course_same (p.replay number g is)) (q.replay number h there) log
 
   pub reports_same : AgreeIn a b
   reports_same = record {
-    epoch = p.epoch ∙ ap (λ (s : JournalState). s.epoch) end_same ∙ sym q.epoch;
-    policy = p.policy ∙ ap (λ (s : JournalState). s.policy) end_same ∙ sym q.policy;
-    lines = p.lines ∙ ap (λ (s : JournalState). map (module_line_of plan.modules) s.loaded) end_same ∙ sym q.lines;
+    epoch = p.journal.epoch ∙ ap (λ (s : JournalState). s.epoch) end_same ∙ sym q.journal.epoch;
+    policy = p.journal.policy ∙ ap (λ (s : JournalState). s.policy) end_same ∙ sym q.journal.policy;
+    lines = p.listed.lines ∙ ap (λ (s : JournalState). map (module_line_of plan.modules) s.loaded) end_same
+        ∙ sym q.listed.lines;
     guests = guests_same;
   }

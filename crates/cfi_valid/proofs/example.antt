@@ -1,11 +1,13 @@
 pub mod ExampleCode
 pub mod ExampleLemmas
 pub mod ExampleReplay
+pub mod HelloLies
 pub mod LoadPlaced
 pub mod LoadPolicy
 pub mod LoadJournal
 pub mod LoadReplay
 pub mod LoadLemmas
+pub mod LoadLies
 pub mod TablePlaced
 pub mod TablePlaces
 pub mod LibVerified

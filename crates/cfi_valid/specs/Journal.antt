@@ -44,11 +44,18 @@ pub record IsOpeningState (plan : Plan) (modules : List Module) (s : JournalStat
 
 -- ---- who may ask
 
+-- a load was asked for: a case a line
 abbrev pub is_load : JournalLine → Bool
+is_load (LoadOk number epoch policy) = true
+is_load (LoadAgain number policy) = true
+is_load (LoadFull number) = true
+is_load (LoadPlace number fault) = true
+is_load (LoadVerify number fault place) = true
+is_load (LoadVersions number guest quiet) = true
+is_load (LoadEpochs number) = true
 is_load (RefreshOk epoch) = false
 is_load (RefreshVersions guest quiet) = false
 is_load RefreshEpochs = false
-is_load line = true
 
 -- the script asks for anything, a guest of the plan for loads alone
 abbrev pub MayAsk : Plan → Who → JournalLine → Type 0

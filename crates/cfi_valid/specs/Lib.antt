@@ -4,6 +4,7 @@ pub mod Bare
 pub mod Joining
 pub mod NumberedLine
 pub mod Journal
+pub mod Modules
 pub mod Script
 pub mod Course
 pub mod Guests
@@ -11,6 +12,7 @@ pub mod Opening
 pub mod Replay
 pub mod Log
 pub mod Steps
+pub mod Parts
 pub mod Valid
 pub mod Agree
 pub mod Growth
@@ -19,4 +21,5 @@ pub mod Running
 pub mod FromLaw
 pub mod Example
 pub mod LoadExample
+pub mod Lies
 pub mod TableExample

@@ -3,9 +3,9 @@
 use Rattle.std.specs.Prelude.{◌≡◌, ℕ, ◌+◌, ◌≤◌, ◌&&◌, ◌==◌, Bool, false, if◌then◌else◌, List, [], ◌∷◌, length, take, drop, slice_get, Some, Contains, count_by, ⊤}
 use Rattle.cfi_plan.specs.declared.journal.Entry.{Entry}
 use Rattle.cfi_plan.specs.declared.journal.JournalLine.{JournalLine}
-use Rattle.cfi_plan.specs.declared.journal.JournalLine.TheVariants.{LoadVersions}
+use Rattle.cfi_plan.specs.declared.journal.JournalLine.TheVariants.{LoadOk, LoadAgain, LoadFull, LoadPlace, LoadVerify, LoadVersions, LoadEpochs, RefreshOk, RefreshVersions, RefreshEpochs}
 use Rattle.cfi_plan.specs.declared.journal.Who.{Who}
-use Rattle.cfi_plan.specs.declared.journal.Who.TheVariants.{Guest}
+use Rattle.cfi_plan.specs.declared.journal.Who.TheVariants.{Script, Guest}
 use Rattle.cfi_series.specs.declared.numbers.FaultNumbers.TheVariants.{Place, Verify}
 use Rattle.cfi_series.specs.Entry.{IsGlobal, IsFirstOf, HasNoneOf}
 use Rattle.cfi_unit.specs.declared.log.Log.{Log}
@@ -55,10 +55,19 @@ pub record HasNoFunction (loaded : List LoadedModule) (number : ℕ) : Type 0 wh
 
 -- ---- versions that are spent
 
--- a line of the journal says so of a guest's load of the module
+-- a line of the journal says so of a guest's load of the module, a case a line; none for which the script asked does
 abbrev pub tells_versions : (guest number : ℕ) → Who → JournalLine → Bool
+tells_versions guest number Script line = false
+tells_versions guest number (Guest asking) (LoadOk asked epoch policy) = false
+tells_versions guest number (Guest asking) (LoadAgain asked policy) = false
+tells_versions guest number (Guest asking) (LoadFull asked) = false
+tells_versions guest number (Guest asking) (LoadPlace asked fault) = false
+tells_versions guest number (Guest asking) (LoadVerify asked fault place) = false
 tells_versions guest number (Guest asking) (LoadVersions asked late quiet) = asking == guest && asked == number
-tells_versions guest number who line = false
+tells_versions guest number (Guest asking) (LoadEpochs asked) = false
+tells_versions guest number (Guest asking) (RefreshOk epoch) = false
+tells_versions guest number (Guest asking) (RefreshVersions late quiet) = false
+tells_versions guest number (Guest asking) RefreshEpochs = false
 
 abbrev pub is_versions : (guest number : ℕ) → Entry → Bool
 is_versions guest number entry = tells_versions guest number entry.who entry.what

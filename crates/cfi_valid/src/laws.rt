@@ -1,6 +1,6 @@
 //! What holds of valid reports, and that there are some.
 
-ghost use Rattle.std.specs.Prelude.{◌≡◌, ℕ, List, [], ◌∷◌, ◌++◌, All};
+ghost use Rattle.std.specs.Prelude.{◌≡◌, ℕ, List, [], ◌∷◌, ◌++◌, All, map};
 ghost use Rattle.cfi_aux.specs.declared.modules.Module.{Module};
 ghost use Rattle.cfi_aux.specs.Sound.{IsSoundModule};
 ghost use Rattle.cfi_plan.specs.declared.journal.Entry.{Entry};
@@ -13,7 +13,8 @@ ghost use Rattle.cfi_valid.specs.FromLaw.{StepsAreUnits};
 ghost use Rattle.cfi_valid.specs.Growth.{IsLater, LoadedStays, LogStays, SettledLies, LogGrows, PicksGrow};
 ghost use Rattle.cfi_valid.specs.Journal.{JournalState, EntryLeads, EntriesLead, IsJournal};
 ghost use Rattle.cfi_series.specs.Series.{IsSeries};
-ghost use Rattle.cfi_valid.specs.Loaded.{placed_modules};
+ghost use Rattle.cfi_valid.specs.Loaded.{LoadedModule, placed_modules, module_line_of};
+ghost use Rattle.cfi_valid.specs.Modules.{HasModules};
 ghost use Rattle.cfi_word.specs.Table.{IsSize};
 ghost use Rattle.cfi_valid.specs.LoadExample.{opener, plug, load_plan, load_report};
 ghost use Rattle.cfi_valid.specs.Policies.{ImagesArePolicies};
@@ -35,6 +36,17 @@ pub fn journals_grow_by_a_line()
     ensures last { (plan : Plan) (modules : List Module) (old new : JournalState) (journal : List Entry)
         (entry : Entry) → EntriesLead plan modules old (journal ++ entry ∷ []) new →
         (mid : JournalState) × EntriesLead plan modules old journal mid × EntryLeads plan modules mid entry new }
+{}
+
+/// The lines that say that a module was loaded tell which modules a report has and where they stand, whether the
+/// journal is legal or not; a legal one leads to these.
+pub fn lines_tell_modules()
+    ensures one { (plan : Plan) (modules : List Module) (report : Report) (a b : List LoadedModule) →
+        HasModules plan modules report a → HasModules plan modules report b → a ≡ b }
+    ensures legal { (plan : Plan) (modules : List Module) (report : Report) (end : JournalState) →
+        IsJournal plan modules report.journal end →
+        report.modules ≡ map (module_line_of plan.modules) end.loaded →
+        HasModules plan modules report end.loaded }
 {}
 
 /// The modules to which a journal leads are a series, where the plan's modules are sound.

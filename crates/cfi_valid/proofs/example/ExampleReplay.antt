@@ -17,13 +17,15 @@ use Rattle.cfi_report.specs.declared.report.GuestPart.{GuestPart}
 use Rattle.cfi_plan.specs.Bare.{bare_plan}
 use Rattle.cfi_valid.specs.Course.{Course}
 use Rattle.cfi_valid.specs.Example.{hello_module, hello_part, hello_report}
-use Rattle.cfi_valid.specs.Journal.{JournalState, IsOpeningState}
+use Rattle.cfi_valid.specs.Journal.{JournalState, IsOpeningState, IsJournal}
 use Rattle.cfi_valid.specs.Loaded.{LoadedModule, start_fills}
 use Rattle.cfi_valid.specs.Log.{IsLogged}
+use Rattle.cfi_valid.specs.Parts.{ComesTo, HasEndedReplay, FitsEndedSteps}
 use Rattle.cfi_valid.specs.Replay.{next_in, TakesFrom, IsReplayed, Replays}
-use Rattle.cfi_valid.specs.Valid.{IsGuestPart, IsEnded, course_of, IsValidReport}
+use Rattle.cfi_valid.specs.Valid.{IsEnded, course_of, IsValidReport}
 use Rattle.cfi_valid.proofs.example.ExampleCode.{code_at, is_code_at, stands}
 use Rattle.cfi_valid.proofs.example.ExampleLemmas.{hello_words, sets, hello_placed, whole, fit, is_placed, verified}
+use Rattle.cfi_valid.proofs.PartsLemmas.{valid_by}
 use Rattle.cfi_valid.proofs.ValidLemmas.{reports_same}
 use Rattle.cfi_word.specs.declared.limits.TheConstants.{MAX_CODE_WORDS}
 use Rattle.cfi_word.specs.declared.map.TheConstants.{FIRST_BASE}
@@ -87,7 +89,7 @@ s4 = runs (sets 17 1) s3
 abbrev s5 : State
 s5 = runs (sets 10 7) s4
 
-abbrev s6 : State
+abbrev pub s6 : State
 s6 = runs Service s5
 
 unit : (u : CodeUnit) (old : State) → old.stop ≡ None → Stands code old.pc u
@@ -131,7 +133,7 @@ r6 = (s5, r5, unit Service s5 refl (stands MAX_CODE_WORDS hello_words 84 5 Servi
 
 -- ---- the report
 
-abbrev course : Course
+abbrev pub course : Course
 course = course_of bare_plan (hello_module ∷ []) (hello_report (0x48 ∷ [])) end
 
 logged : IsLogged course 0 []
@@ -142,53 +144,51 @@ logged = record {
   causes = λ at number cause is. absurd (cc);
 }
 
-part : IsGuestPart course (hello_part (0x48 ∷ []))
-part = record {
-  address = 4 * FIRST_BASE;
-  begins = refl;
-  code = code;
-  is_code = is_code;
-  last = s6;
-  replay = r6;
-  output = refl;
-  log = refl;
-  stop = refl;
-  steps = record {
-    repeats = 0;
-    begun = 0;
-    sum = refl;
-    begins = refl;
-    unpicked = λ none meets. refl;
-    most = omega arith;
-    spent = λ is. absurd (cc);
-  };
+pub comes : ComesTo course (hello_part (0x48 ∷ [])) s6
+comes = record { address = 4 * FIRST_BASE; begins = refl; code = code; is_code = is_code; replay = r6 }
+
+replayed : HasEndedReplay course (hello_part (0x48 ∷ []))
+replayed = record {
+  stopped = λ none. absurd (cc);
+  replay = record { last = s6; comes = comes; output = refl; log = refl; stop = refl };
 }
 
-guest : (number : ℕ) (g : GuestPart) → slice_get (hello_part (0x48 ∷ []) ∷ []) number ≡ Some g → IsEnded course number g
-unfolding part
+steps : FitsEndedSteps course (hello_part (0x48 ∷ []))
+unfolding comes
+steps = record {
+  fits = record {
+    last = s6;
+    comes = comes;
+    counts = record {
+      repeats = 0;
+      begun = 0;
+      sum = refl;
+      begins = refl;
+      unpicked = λ none meets. refl;
+      most = omega arith;
+      spent = λ is. absurd (cc);
+    };
+  };
+  single = λ first. refl;
+}
+
+guest : (number : ℕ) (g : GuestPart) → slice_get (hello_part (0x48 ∷ []) ∷ []) number ≡ Some g
+    → IsEnded course number g
 guest zero g is =
     let same : hello_part (0x48 ∷ []) ≡ g = cc in
     subst (IsEnded course 0) same (record {
-      is = refl;
-      entry = refl;
-      stopped = λ none. absurd (cc);
-      logged = logged;
-      says = part;
-      single = λ first. refl;
+      guest = record { is = refl; entry = refl; begins = (4 * FIRST_BASE, refl) };
+      replay = replayed;
+      log = logged;
+      steps = steps;
     })
 guest (suc number) g is = absurd (cc)
 
+pub journal : IsJournal bare_plan (hello_module ∷ []) [] end
+journal = record { opening = end; opens = opening; leads = refl }
+
 pub valid : IsValidReport bare_plan (hello_module ∷ []) (hello_report (0x48 ∷ []))
-valid = record {
-  end = end;
-  course = record { opening = end; opens = opening; leads = refl };
-  epoch = refl;
-  policy = refl;
-  lines = refl;
-  script = refl;
-  count = refl;
-  guests = guest;
-}
+valid = valid_by bare_plan (hello_module ∷ []) (hello_report (0x48 ∷ [])) end journal refl refl refl refl refl guest
 
 -- with a byte of output more it is not
 pub no_more : (byte : ℕ) → ¬ IsValidReport bare_plan (hello_module ∷ []) (hello_report (0x48 ∷ byte ∷ []))

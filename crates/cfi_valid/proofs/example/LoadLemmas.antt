@@ -8,16 +8,19 @@ use Rattle.cfi_series.specs.Entry.{IsEntryIn}
 use Rattle.cfi_unit.specs.declared.log.Log.{Log}
 use Rattle.cfi_unit.specs.declared.log.Log.TheVariants.{Pick, Open, Cause}
 use Rattle.cfi_valid.specs.Course.{Course}
+use Rattle.cfi_valid.specs.Journal.{IsJournal}
 use Rattle.cfi_valid.specs.LoadExample.{load_plan, load_part, load_report}
 use Rattle.cfi_valid.specs.Loaded.{loaded_by}
 use Rattle.cfi_valid.specs.Log.{HasFunctionAt, IsLogged}
-use Rattle.cfi_valid.specs.Valid.{IsGuestPart, IsEnded, course_of, IsValidReport}
+use Rattle.cfi_valid.specs.Parts.{ComesTo, HasEndedReplay, FitsEndedSteps}
+use Rattle.cfi_valid.specs.Valid.{IsEnded, course_of, IsValidReport}
+use Rattle.cfi_valid.proofs.PartsLemmas.{valid_by}
 use Rattle.cfi_valid.proofs.example.LoadPlaced.{whole, opener_placed}
 use Rattle.cfi_word.specs.declared.map.TheConstants.{FIRST_BASE}
 use Rattle.cfi_valid.proofs.example.LoadJournal.{modules, first, second, loaded, start, end, opening, leads}
 use Rattle.cfi_valid.proofs.example.LoadReplay.{code, is_code, log, s7, r7}
 
-abbrev course : Course
+abbrev pub course : Course
 course = course_of load_plan modules (load_report 1) end
 
 entry : IsEntryIn (opener_placed ∷ []) (codes "main") (4 * FIRST_BASE)
@@ -36,7 +39,7 @@ entry = record {
   first = λ k m below. absurd (omega (arith, below));
 }
 
-plug_open : HasFunctionAt loaded 1 144
+pub plug_open : HasFunctionAt loaded 1 144
 plug_open = record {
   one = second;
   has = member_later first (second ∷ []) second (member_first second []);
@@ -78,56 +81,53 @@ logged = record {
   causes = λ at number cause is. absurd (causes_at at number cause is);
 }
 
-part : IsGuestPart course load_part
-part = record {
-  address = 4 * FIRST_BASE;
-  begins = entry;
-  code = code;
-  is_code = is_code;
-  last = s7;
-  replay = r7;
-  output = refl;
-  log = refl;
-  stop = refl;
-  steps = record {
-    repeats = 0;
-    begun = 0;
-    sum = refl;
-    begins = refl;
-    unpicked = λ none meets. refl;
-    most = omega arith;
-    spent = λ is. absurd (cc);
+pub comes : ComesTo course load_part s7
+comes = record { address = 4 * FIRST_BASE; begins = entry; code = code; is_code = is_code; replay = r7 }
+
+replayed : HasEndedReplay course load_part
+replayed = record {
+  stopped = λ none. absurd (cc);
+  replay = record { last = s7; comes = comes; output = refl; log = refl; stop = refl };
+}
+
+steps : FitsEndedSteps course load_part
+unfolding comes
+steps = record {
+  fits = record {
+    last = s7;
+    comes = comes;
+    counts = record {
+      repeats = 0;
+      begun = 0;
+      sum = refl;
+      begins = refl;
+      unpicked = λ none meets. refl;
+      most = omega arith;
+      spent = λ is. absurd (cc);
+    };
   };
+  single = λ first. refl;
 }
 
 guest : (number : ℕ) (g : GuestPart) → slice_get (load_part ∷ []) number ≡ Some g → IsEnded course number g
-unfolding part
 guest zero g is =
     let same : load_part ≡ g = cc in
     subst (IsEnded course 0) same (record {
-      is = refl;
-      entry = refl;
-      stopped = λ none. absurd (cc);
-      logged = logged;
-      says = part;
-      single = λ first. refl;
+      guest = record { is = refl; entry = refl; begins = (4 * FIRST_BASE, entry) };
+      replay = replayed;
+      log = logged;
+      steps = steps;
     })
 guest (suc number) g is = absurd (cc)
 
+pub journal : IsJournal load_plan modules (load_report 1).journal end
+journal = record { opening = start; opens = opening; leads = leads }
+
 pub valid : IsValidReport load_plan modules (load_report 1)
-valid = record {
-  end = end;
-  course = record { opening = start; opens = opening; leads = leads };
-  epoch = refl;
-  policy = refl;
-  lines = refl;
-  script = refl;
-  count = refl;
-  guests = guest;
-}
+valid = valid_by load_plan modules (load_report 1) end journal refl refl refl refl refl guest
 
 -- the line of its journal can have no other epoch
 pub one_epoch : (epoch : ℕ) → IsValidReport load_plan modules (load_report epoch) → epoch ≡ 1
 one_epoch epoch is =
-    let opened_at = is.course.opens.epoch in
-    omega (arith, is.course.leads.1.1.0.goes.next, opened_at)
+    let opened_at = is.journal.course.opens.epoch in
+    omega (arith, is.journal.course.leads.1.1.0.goes.next, opened_at)

@@ -9,10 +9,13 @@ use Rattle.cfi_series.specs.Entry.{IsGlobalOf, HasNoneOf, IsEntryIn}
 use Rattle.cfi_unit.specs.declared.log.Log.{Log}
 use Rattle.cfi_unit.specs.declared.log.Log.TheVariants.{Pick, Open, Cause}
 use Rattle.cfi_valid.specs.Course.{Course}
+use Rattle.cfi_valid.specs.Journal.{IsJournal}
 use Rattle.cfi_valid.specs.Loaded.{loaded_by}
 use Rattle.cfi_valid.specs.Log.{HasFunctionAt, IsLogged}
+use Rattle.cfi_valid.specs.Parts.{ComesTo, HasEndedReplay, FitsEndedSteps}
 use Rattle.cfi_valid.specs.TableExample.{table_plan, table_part, table_report}
-use Rattle.cfi_valid.specs.Valid.{IsGuestPart, IsEnded, course_of, IsValidReport}
+use Rattle.cfi_valid.specs.Valid.{IsEnded, course_of, IsValidReport}
+use Rattle.cfi_valid.proofs.PartsLemmas.{valid_by}
 use Rattle.cfi_valid.proofs.ValidLemmas.{reports_same}
 use Rattle.cfi_valid.proofs.example.TableJournal.{modules, third, loaded, begin, end, opening, leads, code, is_code}
 use Rattle.cfi_valid.proofs.example.TablePlaced.{twice, incr, sel, choose, start, plus60, lib_placed, main_placed}
@@ -118,53 +121,50 @@ logged = record {
 
 -- ---- the report
 
-part : IsGuestPart course (table_part out)
-part = record {
-  address = 500;
-  begins = entry;
-  code = code;
-  is_code = is_code;
-  last = s38;
-  replay = r38;
-  output = refl;
-  log = refl;
-  stop = refl;
-  steps = record {
-    repeats = 0;
-    begun = 0;
-    sum = refl;
-    begins = refl;
-    unpicked = λ none meets. refl;
-    most = omega arith;
-    spent = λ is. absurd (cc);
-  };
+comes : ComesTo course (table_part out) s38
+comes = record { address = 500; begins = entry; code = code; is_code = is_code; replay = r38 }
+
+replayed : HasEndedReplay course (table_part out)
+replayed = record {
+  stopped = λ none. absurd (cc);
+  replay = record { last = s38; comes = comes; output = refl; log = refl; stop = refl };
 }
 
-guest : (number : ℕ) (g : GuestPart) → slice_get (table_part out ∷ []) number ≡ Some g → IsEnded course number g
-unfolding part
+steps : FitsEndedSteps course (table_part out)
+unfolding comes
+steps = record {
+  fits = record {
+    last = s38;
+    comes = comes;
+    counts = record {
+      repeats = 0;
+      begun = 0;
+      sum = refl;
+      begins = refl;
+      unpicked = λ none meets. refl;
+      most = omega arith;
+      spent = λ is. absurd (cc);
+    };
+  };
+  single = λ first. refl;
+}
+
+guest : (number : ℕ) (g : GuestPart) → slice_get ((table_part out) ∷ []) number ≡ Some g → IsEnded course number g
 guest zero g is =
-    let same : table_part out ≡ g = cc in
+    let same : (table_part out) ≡ g = cc in
     subst (IsEnded course 0) same (record {
-      is = refl;
-      entry = refl;
-      stopped = λ none. absurd (cc);
-      logged = logged;
-      says = part;
-      single = λ first. refl;
+      guest = record { is = refl; entry = refl; begins = (500, entry) };
+      replay = replayed;
+      log = logged;
+      steps = steps;
     })
 guest (suc number) g is = absurd (cc)
 
+journal : IsJournal table_plan modules (table_report out).journal end
+journal = record { opening = begin; opens = opening; leads = leads }
+
 pub valid : IsValidReport table_plan modules (table_report out)
-valid = record {
-  end = end;
-  course = record { opening = begin; opens = opening; leads = leads };
-  epoch = refl;
-  policy = refl;
-  lines = refl;
-  script = refl;
-  count = refl;
-  guests = guest;
-}
+valid = valid_by table_plan modules (table_report out) end journal refl refl refl refl refl guest
 
 -- with a byte of output more it is not
 pub no_more : (byte : ℕ) → ¬ IsValidReport table_plan modules (table_report (10 ∷ 66 ∷ 67 ∷ byte ∷ []))

@@ -1,0 +1,17 @@
+use Rattle.cfi_valid.proofs.example.HelloLies.{one_number, one_entry, one_stop, one_units, one_steps}
+use Rattle.cfi_valid.proofs.refusals.hello_has_one_guest.Goals as goal
+
+pub returns-clause-number : goal.returns-clause-number
+returns-clause-number c = one_number
+
+pub returns-clause-entry : goal.returns-clause-entry
+returns-clause-entry c = one_entry
+
+pub returns-clause-stop : goal.returns-clause-stop
+returns-clause-stop c = one_stop
+
+pub returns-clause-units : goal.returns-clause-units
+returns-clause-units c = one_units
+
+pub returns-clause-steps : goal.returns-clause-steps
+returns-clause-steps c = one_steps
