@@ -104,53 +104,53 @@ module _ (plan : Plan) (end : World) where
       told ∙ ap (λ (e : List ℕ). part_of number e r) name ∙ ap (λ (x : Raw). part_of number b.entry x) guest ∙ sym told'
 
 module _ (plan : Plan) (modules : List Module) (schedule : List ℕ) (is : IsPlan plan) (sound : All IsSoundModule modules)
-    where
-  module _ (a b : SimReport) (p : IsValidSim plan modules schedule a) (q : IsValidSim plan modules schedule b) where
-    end_same : p.end ≡ q.end
-    end_same =
-        let start = start_once plan modules is sound p.start q.start p.starts q.starts in
-        lines_once plan modules sound q.start.state (numbered_lines schedule) q.start p.end q.end
-        (start_holds plan modules is sound q.start q.starts)
-        (subst (λ (s : Stage). LinesMake plan modules (numbered_lines schedule) s p.end) start p.makes) q.makes
+  where
+    module _ (a b : SimReport) (p : IsValidSim plan modules schedule a) (q : IsValidSim plan modules schedule b) where
+      end_same : p.end ≡ q.end
+      end_same =
+          let start = start_once plan modules is sound p.start q.start p.starts q.starts in
+          lines_once plan modules sound q.start.state (numbered_lines schedule) q.start p.end q.end
+          (start_holds plan modules is sound q.start q.starts)
+          (subst (λ (s : Stage). LinesMake plan modules (numbered_lines schedule) s p.end) start p.makes) q.makes
 
-    guests_are : a.report.guests ≡ b.report.guests
-    guests_are =
-        same_lists a.report.guests b.report.guests (p.count ∙ sym q.count)
-        (λ k d within.
-        let x = get_or a.report.guests k d in
-        let y = get_or b.report.guests k d in
-        let one = p.guests k x (slice_get-get_or a.report.guests k d within) in
-        let other = q.guests k y
-        (slice_get-get_or b.report.guests k d (omega (arith, within, p.count, q.count))) in
-        part_once plan q.end.world k x y one.r other.r
-        (subst (λ (s : Stage). slice_get s.world.guests k ≡ Some one.r) end_same one.there) other.there one.entry
-        other.entry one.told other.told)
+      guests_are : a.report.guests ≡ b.report.guests
+      guests_are =
+          same_lists a.report.guests b.report.guests (p.count ∙ sym q.count)
+          (λ k d within.
+          let x = get_or a.report.guests k d in
+          let y = get_or b.report.guests k d in
+          let one = p.guests k x (slice_get-get_or a.report.guests k d within) in
+          let other = q.guests k y
+          (slice_get-get_or b.report.guests k d (omega (arith, within, p.count, q.count))) in
+          part_once plan q.end.world k x y one.r other.r
+          (subst (λ (s : Stage). slice_get s.world.guests k ≡ Some one.r) end_same one.there) other.there one.entry
+          other.entry one.told other.told)
 
-    report_same : a.report ≡ b.report
-    report_same = λ i. record {
-      epoch = (p.epoch ∙ ap (λ (s : Stage). s.state.epoch) end_same ∙ sym q.epoch) i;
-      policy = (p.policy ∙ ap (λ (s : Stage). s.state.policy) end_same ∙ sym q.policy) i;
-      modules = (p.lines ∙ ap (λ (s : Stage). map (module_line_of plan.modules) s.state.loaded) end_same
-          ∙ sym q.lines) i;
-      journal = (p.journal ∙ ap (λ (s : Stage). s.journal) end_same ∙ sym q.journal) i;
-      guests = guests_are i;
-    }
+      report_same : a.report ≡ b.report
+      report_same = λ i. record {
+        epoch = (p.epoch ∙ ap (λ (s : Stage). s.state.epoch) end_same ∙ sym q.epoch) i;
+        policy = (p.policy ∙ ap (λ (s : Stage). s.state.policy) end_same ∙ sym q.policy) i;
+        modules = (p.lines ∙ ap (λ (s : Stage). map (module_line_of plan.modules) s.state.loaded) end_same
+            ∙ sym q.lines) i;
+        journal = (p.journal ∙ ap (λ (s : Stage). s.journal) end_same ∙ sym q.journal) i;
+        guests = guests_are i;
+      }
 
-    sim_once : a ≡ b
-    sim_once = λ i. record {
-      phase = (p.phase ∙ ap (λ (s : Stage). phase_of s.world.tables) end_same ∙ sym q.phase) i;
-      report = report_same i;
-    }
+      sim_once : a ≡ b
+      sim_once = λ i. record {
+        phase = (p.phase ∙ ap (λ (s : Stage). phase_of s.world.tables) end_same ∙ sym q.phase) i;
+        report = report_same i;
+      }
 
-  none_beside : (number : ℕ) (sim : SimReport) → IsFirstBad plan modules schedule number
-      → ¬ IsValidSim plan modules schedule sim
-  none_beside number sim bad valid =
-      let line = bad.bad in
-      let start = start_once plan modules is sound bad.start valid.start bad.starts valid.starts in
-      stuck_never plan modules sound valid.start.state line.before (number, line.text) line.after valid.start line.mid
-      valid.end (start_holds plan modules is sound valid.start valid.starts)
-      (subst (λ (s : Stage). LinesMake plan modules line.before s line.mid) start line.leads) line.stuck
-      (subst (λ (ls : List (ℕ × List ℕ)). LinesMake plan modules ls valid.start valid.end) line.lines valid.makes)
+    none_beside : (number : ℕ) (sim : SimReport) → IsFirstBad plan modules schedule number
+        → ¬ IsValidSim plan modules schedule sim
+    none_beside number sim bad valid =
+        let line = bad.bad in
+        let start = start_once plan modules is sound bad.start valid.start bad.starts valid.starts in
+        stuck_never plan modules sound valid.start.state line.before (number, line.text) line.after valid.start line.mid
+        valid.end (start_holds plan modules is sound valid.start valid.starts)
+        (subst (λ (s : Stage). LinesMake plan modules line.before s line.mid) start line.leads) line.stuck
+        (subst (λ (ls : List (ℕ × List ℕ)). LinesMake plan modules ls valid.start valid.end) line.lines valid.makes)
 
 pub one : SimulationsAreOne
 one = λ plan modules schedule a b is sound p q. sim_once plan modules schedule is sound a b p q
