@@ -149,7 +149,8 @@ module _ (plan : Plan) (modules : List Module) where
     fault_once f g p q =
         let both : Some p.absent.unplaced ≡ Some q.absent.unplaced = sym p.absent.is ∙ q.absent.is in
         let one : p.absent.unplaced ≡ q.absent.unplaced = cc in
-        let stands = subst (λ (m : Module). IsJoinFault plan.code_words (placed_modules s.loaded) m p.fault) one p.stands in
+        let stands =
+        subst (λ (m : Module). IsJoinFault plan.code_words (placed_modules s.loaded) m p.fault) one p.stands in
         let fault : p.fault ≡ q.fault =
         one_fault plan.code_words (placed_modules s.loaded) q.absent.unplaced p.fault q.fault stands q.stands
         (not_memory p.fault f p.told) (not_memory q.fault g q.told) in

@@ -84,8 +84,8 @@ module _ (plan : Plan) (modules : List Module) where
 
     -- ---- lines
 
-    after_line : (text : List ℕ) (old new : Stage) → Holds plan modules opening old → LineMakes plan modules text old new
-        → Holds plan modules opening new
+    after_line : (text : List ℕ) (old new : Stage) → Holds plan modules opening old
+        → LineMakes plan modules text old new → Holds plan modules opening new
     after_line text old new holds makes =
         made_keeps plan modules (Holds plan modules opening)
         (λ a has happening b event room. holds_after plan modules sound opening a has happening b event room)

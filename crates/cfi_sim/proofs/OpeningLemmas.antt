@@ -144,7 +144,8 @@ module _ (plan : Plan) (modules : List Module) (is : IsPlan plan) (taken : All C
   lost_opening Memory lost = tt
 
   module _ (image : Image) (of : IsImage (DirectEdge series.placed) series.placed series.code_words image)
-      (ordered : IsOrderedImage series.placed image) (fills : List Fill) (fills_are : fills ≡ fills_of series.placed) (guests : List Raw)
+      (ordered : IsOrderedImage series.placed image) (fills : List Fill) (fills_are : fills ≡ fills_of series.placed)
+      (guests : List Raw)
       (stand : AreGuestsIn plan series.placed fills (length plan.guests) guests) where
     abbrev world_at : World
     world_at = opened_world plan.code_words plan.versions plan.first image guests MAX_UPDATES plan.fuel

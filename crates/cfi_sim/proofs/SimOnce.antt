@@ -103,7 +103,8 @@ module _ (plan : Plan) (end : World) where
       let name = name_same a.entry b.entry (sym entry ∙ entry') in
       told ∙ ap (λ (e : List ℕ). part_of number e r) name ∙ ap (λ (x : Raw). part_of number b.entry x) guest ∙ sym told'
 
-module _ (plan : Plan) (modules : List Module) (schedule : List ℕ) (is : IsPlan plan) (sound : All IsSoundModule modules)
+module _ (plan : Plan) (modules : List Module) (schedule : List ℕ) (is : IsPlan plan)
+    (sound : All IsSoundModule modules)
   where
     module _ (a b : SimReport) (p : IsValidSim plan modules schedule a) (q : IsValidSim plan modules schedule b) where
       end_same : p.end ≡ q.end
