@@ -88,7 +88,7 @@ module _ (joins : (slot address : ℕ) → Type 0) (code_words : ℕ) (image : I
       (cases_lt k code_words)
 
 module _ (code_words : ℕ) (ms : List Placed) (loaded : AreLoaded code_words ms) where
-  slots_within : (m : Placed) → Contains ms m → m.slot_base + length m.branches ≤ slots_of code_words
+  pub slots_within : (m : Placed) → Contains ms m → m.slot_base + length m.branches ≤ slots_of code_words
   slots_within m has =
       let wide = recursion_from_All (λ (n : Placed). 14 * length n.branches ≤ length n.words) ms
       (λ k d within.

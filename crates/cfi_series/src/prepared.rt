@@ -5,7 +5,7 @@ ghost use Rattle.cfi_aux.specs.declared.placed.Placed.{Placed as PlacedModule};
 ghost use Rattle.cfi_series.specs.declared.fault.JoinFault.TheVariants.{Memory};
 ghost use Rattle.cfi_series.specs.Order.{IsJoinFault};
 ghost use Rattle.cfi_series.specs.Series.{JoinsTo, HasJoined, CanBeTaken};
-ghost use Rattle.cfi_series.specs.Prepared.{IsImageOfSeries, without_last};
+ghost use Rattle.cfi_series.specs.Prepared.{IsImageOfSeries, IsOrderedImage, without_last};
 
 use crate::fault::JoinFault;
 use crate::series::Series;
@@ -105,6 +105,7 @@ impl Prepared {
     pub fn withdraw(self) -> (Series, Image)
         ensures value { result ≡ (without_last self.series, self.image) }
         ensures image { IsImageOfSeries self.series self.image }
+        ensures ordered { IsOrderedImage self.series.placed self.image }
     {
         (self.series.without_last(), self.image)
     }

@@ -7,7 +7,7 @@ ghost use Rattle.cfi_policy.specs.Image.{HaveImage};
 ghost use Rattle.cfi_series.specs.declared.fault.JoinFault.TheVariants.{Memory};
 ghost use Rattle.cfi_series.specs.Loaded.{AreLoaded, HaveClosedImages};
 ghost use Rattle.cfi_series.specs.Order.{IsJoinFault};
-ghost use Rattle.cfi_series.specs.Prepared.{IsImageOfSeries, without_last};
+ghost use Rattle.cfi_series.specs.Prepared.{IsImageOfSeries, IsOrderedImage, without_last};
 ghost use Rattle.cfi_series.specs.Series.{with_module, JoinsTo, HasJoined, CanBeTaken, IsSeries};
 
 use crate::fault::JoinFault;
@@ -91,9 +91,10 @@ impl Series {
         }
     }
 
-    /// The image of all modules, in the series' layout.
+    /// The image of all modules, in the series' layout, with its classes in the order of their least slots.
     pub fn image(&self) -> Result<Image, AllocError>
-        ensures { IfOk result (IsImageOfSeries self.now) }
+        ensures image { IfOk result (IsImageOfSeries self.now) }
+        ensures ordered { IfOk result (IsOrderedImage self.now.placed) }
     {
         let layout = Layout::new(self.code_words).unwrap();
         image_of(self.alloc, self.modules(), &layout)

@@ -95,6 +95,7 @@ starts = record {
   opens = opening;
   image = image;
   of_starts = is_image;
+  ordered = λ slot number used least most. absurd (no_edge slot used.0 used.1);
   guests = guest ∷ [];
   count = refl;
   each = is_guest;

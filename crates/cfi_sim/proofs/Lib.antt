@@ -17,5 +17,9 @@ pub mod FollowLemmas
 pub mod PartsLemmas
 pub mod SimulateLemmas
 pub mod FormLemmas
+pub mod ImageOnce
+pub mod HappensOnce
+pub mod LinesOnce
+pub mod SimOnce
 pub mod journal
 pub mod guests

@@ -127,7 +127,13 @@ module _ (x : Whole) (under : IsUnderWay x) (within : PassesNoLimit x.stage) (nu
           → MakesBy (IsLoadEvent x.plan x.modules number) x y happened
       load_by y true has =
           let event : IsLoadEvent x.plan x.modules number x.stage y.stage =
-          inr (record { clean = clean; image = image; of_all = with.is; begins = has.begins }) in
+          inr (record {
+            clean = clean;
+            image = image;
+            of_all = with.is;
+            ordered = with.ordered;
+            begins = has.begins;
+          }) in
           record {
             done = done_so (IsLoadEvent x.plan x.modules number) x y has.is event
                 (under_after x under (OfLoad number) y.stage event has.within.updates);

@@ -13,6 +13,7 @@ use Rattle.cfi_plan.specs.declared.plan.Plan.{Plan}
 use Rattle.cfi_policy.specs.Image.{IsImage}
 use Rattle.cfi_series.specs.Entry.{IsEntryIn}
 use Rattle.cfi_series.specs.Fills.{fills_of}
+use Rattle.cfi_series.specs.Prepared.{IsOrderedImage}
 use Rattle.cfi_series.specs.Series.{Series, CanBeTaken}
 use Rattle.cfi_series.proofs.OrderLemmas.{left, last}
 use Rattle.cfi_series.proofs.SeriesLemmas.{item_at}
@@ -143,7 +144,8 @@ module _ (plan : Plan) (modules : List Module) (is : IsPlan plan) (taken : All C
   lost_opening Memory lost = tt
 
   module _ (image : Image) (of : IsImage (DirectEdge series.placed) series.placed series.code_words image)
-      (fills : List Fill) (fills_are : fills ≡ fills_of series.placed) (guests : List Raw)
+      (ordered : IsOrderedImage series.placed image) (fills : List Fill) (fills_are : fills ≡ fills_of series.placed)
+      (guests : List Raw)
       (stand : AreGuestsIn plan series.placed fills (length plan.guests) guests) where
     abbrev world_at : World
     world_at = opened_world plan.code_words plan.versions plan.first image guests MAX_UPDATES plan.fuel
@@ -171,6 +173,8 @@ module _ (plan : Plan) (modules : List Module) (is : IsPlan plan) (taken : All C
       opens = started_all plan modules series spots all;
       image = image;
       of_starts = image_is;
+      ordered = subst (λ (ms : List Placed). IsOrderedImage ms image)
+          (sym (places_are origin_of spots series.placed all.many)) ordered;
       guests = guests;
       count = stand.count;
       each = λ number r here.

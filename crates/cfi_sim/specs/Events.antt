@@ -16,6 +16,7 @@ use Rattle.cfi_plan.specs.declared.journal.JournalLine.{JournalLine}
 use Rattle.cfi_plan.specs.declared.journal.JournalLine.TheVariants as lines
 use Rattle.cfi_plan.specs.declared.plan.Plan.{Plan}
 use Rattle.cfi_policy.specs.Image.{IsImage}
+use Rattle.cfi_series.specs.Prepared.{IsOrderedImage}
 use Rattle.cfi_sim.specs.declared.found.Found.{Found}
 use Rattle.cfi_sim.specs.declared.found.Found.TheVariants.{Unknown, Functionless, Opened, Unloaded}
 use Rattle.cfi_sim.specs.declared.limits.TheConstants.{NOT_LOADED}
@@ -153,6 +154,7 @@ pub record IsBegunLoad (plan : Plan) (modules : List Module) (number : ℕ) (old
   pub image : Image
   pub of_all : (let all = placed_modules old.state.loaded ++ clean.placed ∷ [] in
       IsImage (DirectEdge all) all plan.code_words image)
+  pub ordered : IsOrderedImage (placed_modules old.state.loaded ++ clean.placed ∷ []) image
   pub begins : IsBeginning (Loading number) (lines.LoadEpochs number) (Some image) old new
 
 abbrev pub IsLoadEvent : Plan → List Module → (number : ℕ) → (old new : Stage) → Type 0

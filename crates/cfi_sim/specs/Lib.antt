@@ -10,4 +10,5 @@ pub mod Agrees
 pub mod Stands
 pub mod Told
 pub mod Faults
+pub mod Once
 pub mod inner

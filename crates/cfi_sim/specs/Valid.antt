@@ -10,6 +10,7 @@ use Rattle.cfi_part.specs.Part.{part_of}
 use Rattle.cfi_plan.specs.declared.plan.Plan.{Plan}
 use Rattle.cfi_policy.specs.Image.{IsImage}
 use Rattle.cfi_report.specs.declared.report.GuestPart.{GuestPart}
+use Rattle.cfi_series.specs.Prepared.{IsOrderedImage}
 use Rattle.cfi_sim.specs.declared.limits.TheConstants.{NOT_LOADED, MAX_UPDATES}
 use Rattle.cfi_sim.specs.declared.report.SimReport.{SimReport}
 use Rattle.cfi_sim.specs.Events.{IsIdle}
@@ -35,11 +36,12 @@ pub record IsGuestAt (plan : Plan) (state : JournalState) (number : ℕ) (r : Ra
   pub begins : GuestBegins plan state.loaded entry address
   pub is : r ≡ raw_opened number address (start_fills state.loaded)
 
--- the stage before the first line
+-- the stage before the first line; which numbers the image's classes have is told, so that it is one
 pub record IsStart (plan : Plan) (modules : List Module) (s : Stage) : Type 0 where
   pub opens : IsOpeningState plan modules s.state
   pub image : Image
   pub of_starts : (let ms = placed_modules s.state.loaded in IsImage (DirectEdge ms) ms plan.code_words image)
+  pub ordered : IsOrderedImage (placed_modules s.state.loaded) image
   pub guests : List Raw
   pub count : length guests ≡ length plan.guests
   pub each : (number : ℕ) (r : Raw) → slice_get guests number ≡ Some r → IsGuestAt plan s.state number r

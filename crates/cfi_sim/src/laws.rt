@@ -3,6 +3,7 @@
 ghost use Rattle.std.specs.Prelude.{[], ◌∷◌};
 ghost use Rattle.cfi_sim.specs.Agrees.{AgreeingTell};
 ghost use Rattle.cfi_sim.specs.Example.{still};
+ghost use Rattle.cfi_sim.specs.Once.{SimulationsAreOne, NoneBesideABadLine};
 ghost use Rattle.cfi_sim.specs.Reach.{SchedulesReach, SchedulesJournal};
 ghost use Rattle.cfi_sim.specs.Told.{SchedulesAreValid};
 ghost use Rattle.cfi_sim.specs.Valid.{IsValidSim};
@@ -29,6 +30,13 @@ pub fn schedules_keep_journals()
 /// journal does.
 pub fn agreeing_worlds_tell()
     ensures { AgreeingTell }
+{}
+
+/// A simulation is one: two valid ones of one plan, its modules and one schedule are equal, and there is none beside a
+/// first line that leads nowhere.
+pub fn simulations_are_one()
+    ensures one { SimulationsAreOne }
+    ensures none { NoneBesideABadLine }
 {}
 
 /// What is told of the end of a schedule is a valid simulation: each event leaves a guest's replay as it was, or makes

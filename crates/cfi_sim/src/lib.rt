@@ -4,8 +4,8 @@
 //! `cfi_report` and `cfi_text`, for what a valid simulation is on `cfi_valid`, and for the parts of guests on `cfi_part`,
 //! with what these stand on. Proved: what a schedule makes is a valid simulation, and where there is none, the fault is
 //! the first: of opening the plan, or the first line that leads nowhere; a line of a schedule is read exactly, with the
-//! guests and modules that it names; a simulation is written as its one text; a schedule goes event by event, and its
-//! journal is legal. Only tested: nothing. Open: that memory suffices.
+//! guests and modules that it names; a simulation is one, and is written as its one text; a schedule goes event by event,
+//! and its journal is legal. Only tested: nothing. Open: that memory suffices.
 #![tactic(auto)]
 
 mod aim;

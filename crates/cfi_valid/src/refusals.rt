@@ -55,7 +55,8 @@ pub fn opening_has_one_guest()
     ensures entry { (name : List ℕ) →
         IsOpening load_plan (opening_by (record load_part { entry = name })) → name ≡ codes "main" }
     ensures stop { (stop : Option Stop) →
-        IsOpening load_plan (opening_by (record load_part { stop = stop })) → stop ≡ Some (Exit 144) }
+        IsOpening load_plan (opening_by (record load_part { stop = stop })) →
+        stop ≡ Some (Exit 144) }
     ensures units { (n : ℕ) →
         IsOpening load_plan (opening_by (record load_part { units = n })) → n ≡ 7 }
     ensures steps { (n : ℕ) →

@@ -66,7 +66,7 @@ module _ (plan : Plan) (modules : List Module) (is : IsPlan plan) (sound : All I
       journal_series plan modules [] s.state is.code_words sound
       (record { opening = s.state; opens = starts.opens; leads = refl })
 
-  are : AreLoaded plan.code_words ms
+  pub are : AreLoaded plan.code_words ms
   are = are_loaded plan.code_words ms series
 
   low : (policy : ℕ) → AllByRecursion (λ (l : LoadedModule). l.policy ≤ policy) loaded

@@ -9,6 +9,7 @@ use Rattle.cfi_model.specs.Phases.{phase_of}
 use Rattle.cfi_model.specs.World.{World}
 use Rattle.cfi_plan.specs.declared.journal.JournalLine.{JournalLine}
 use Rattle.cfi_policy.specs.Image.{IsImage}
+use Rattle.cfi_series.specs.Prepared.{IsOrderedImage}
 use Rattle.cfi_series.specs.Series.{Series, CanBeTaken, JoinsTo}
 use Rattle.cfi_sim.specs.declared.aim.Aim.{Aim}
 use Rattle.cfi_sim.specs.declared.limits.TheConstants.{MAX_EVENTS, MAX_UPDATES}
@@ -65,6 +66,7 @@ pub record IsImageWith (series : Series) (m : Module) (image : Image) : Type 0 w
   pub placed : Placed
   pub joins : JoinsTo series m placed
   pub is : (let all = series.placed ++ placed ∷ [] in IsImage (DirectEdge all) all series.code_words image)
+  pub ordered : IsOrderedImage (series.placed ++ placed ∷ []) image
 
 -- ---- the updater
 

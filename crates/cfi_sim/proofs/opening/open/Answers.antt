@@ -32,7 +32,8 @@ open-requires c =
     ∙ ap (λ (ms : List Placed). fills_of ms) c.modules.ensures.value in
     let size : c.unwrap-layout.result ≡ plan.code_words = search rules in
     can_open plan c.args.modules.now c.requires.plan c.requires.taken started.0 started.1.items c.in-Ok.ensures.ok
-    c.in_ok-image.image c.in_ok-image.ensures c.deref.result.now fills_are c.in-Ok-open_guests.guests.items
+    c.in_ok-image.image c.in_ok-image.ensures.image c.in_ok-image.ensures.ordered c.deref.result.now fills_are
+    c.in-Ok-open_guests.guests.items
     (subst
     (λ (ms : List Placed). AreGuestsIn plan ms c.deref.result.now (length plan.guests) c.in-Ok-open_guests.guests.items)
     c.modules-2.ensures.value c.in-Ok-open_guests.ensures.ok) c.unwrap-layout.result size
@@ -46,7 +47,8 @@ returns-clause-ok c =
     ∙ ap (λ (ms : List Placed). fills_of ms) c.modules.ensures.value in
     let size : c.unwrap-layout.result ≡ plan.code_words = search rules in
     opened_is plan c.args.modules.now c.requires.plan c.requires.taken started.0 started.1.items c.in-Ok.ensures.ok
-    c.in_ok-image.image c.in_ok-image.ensures c.deref.result.now fills_are c.in-Ok-open_guests.guests.items
+    c.in_ok-image.image c.in_ok-image.ensures.image c.in_ok-image.ensures.ordered c.deref.result.now fills_are
+    c.in-Ok-open_guests.guests.items
     (subst
     (λ (ms : List Placed). AreGuestsIn plan ms c.deref.result.now (length plan.guests) c.in-Ok-open_guests.guests.items)
     c.modules-2.ensures.value c.in-Ok-open_guests.ensures.ok) c.unwrap-layout.result size c.in_ok-world.world
