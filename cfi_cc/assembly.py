@@ -1,7 +1,7 @@
-"""Clang's assembly, read statement by statement: the kinds of its indirect jumps, and what is put in place of some lines.
+"""Clang's assembly, read statement by statement: the kinds of its indirect jumps, and what stands for some lines.
 
-A statement is a label, or a word with operands. The words that matter are those of the jumps, of sections, and of places;
-all others are handed on as they stand.
+A statement is a label, or a word with operands. The words that matter are those of the jumps, of sections, and of
+places; all others are handed on as they stand.
 """
 from __future__ import annotations
 
@@ -12,7 +12,8 @@ from dataclasses import dataclass
 from enum import IntEnum
 from typing import Iterator, Optional
 
-from .intermediate import JUMPS, Located, plain
+from .intermediate import JUMPS, Located
+from .metadata import plain
 from .refusal import Place, Refused
 
 
@@ -138,10 +139,11 @@ class Reader:
         """Says what of data a module cannot have."""
         aligned = 1 << int(it.operands[0], 0) if it.word == ".p2align" else 1
         if aligned > MAX_ALIGNMENT:
-            print(f"cfi-cc: warning: data that is aligned to {aligned} bytes is aligned to {MAX_ALIGNMENT}", file=sys.stderr)
+            print(f"cfi-cc: warning: data that is aligned to {aligned} bytes is aligned to {MAX_ALIGNMENT}",
+                  file=sys.stderr)
         if it.word in WORDS and any(set(re.split("[-+]", word)[1:]) & self.labels for word in it.operands):
-            raise Refused(f"`{it.text.strip()}` is how far two places of the code are from each other, which changes when it is "
-                          "instrumented: keep their addresses", self.here())
+            raise Refused(f"`{' '.join(it.text.split())}` is how far two places of the code are from each other, which "
+                          "changes when it is instrumented: keep their addresses", self.here())
 
     def branch(self, it: Statement) -> Branch:
         """The kind of an indirect jump, from its word and from what its place says."""
@@ -157,8 +159,8 @@ class Reader:
         # Clang 16 gives a jump through the table of a switch no place; each other jump of its own has one.
         elif not self.line and it.word == "jr" and self.function and self.located.functions[self.function].switches:
             return Branch(Kind.SWITCH, None, self.here())
-        raise Refused(f"no type is known for `{' '.join(it.text.split())}`: it calls by a pointer without a prototype, or is "
-                      "inline assembly", self.here())
+        raise Refused(f"no type is known for `{' '.join(it.text.split())}`: it calls by a pointer without a prototype, "
+                      "or is inline assembly", self.here())
 
     def here(self) -> Optional[Place]:
         """The line of the source where the reader stands, or that of the function."""

@@ -23,7 +23,7 @@ BEFORE = [
     "-O1",
     "-ffreestanding",
     "-fno-jump-tables",
-    # C does not define a call by a pointer to another type of function, and here it halts: so what leads to one is said.
+    # C does not define a call by a pointer to another type of function, and here it halts: what leads to one is said.
     "-Wcast-function-type-strict",
     "-Wincompatible-function-pointer-types-strict",
     "-Wstrict-prototypes",

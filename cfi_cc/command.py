@@ -8,7 +8,8 @@ from pathlib import Path
 
 from .assembly import read_assembly
 from .clang import Clang, find_clang
-from .intermediate import locate, refuse_impossible, source_of
+from .intermediate import locate, refuse_impossible
+from .metadata import source_of
 from .module import module_of
 from .objects import Object
 from .refusal import Refused

@@ -1,8 +1,8 @@
 """Intermediate code in which each call by a pointer has a place of its own.
 
-For its check -fsanitize=kcfi Clang gives each type of functions a number, 32 bits of a hash of the type's name: it is the
-same in each file, and structures are told apart by their tags, so that one that a file only declares is the same as where
-it is defined. Clang says the number of each call by a pointer, and of each function that a pointer may reach.
+For its check -fsanitize=kcfi Clang gives each type of functions a number, 32 bits of a hash of the type's name: it is
+the same in each file, and structures are told apart by their tags, so that one that a file only declares is the same as
+where it is defined. Clang says the number of each call by a pointer, and of each function that a pointer may reach.
 
 The numbers do not reach the assembly. Lines of debugging information do: so calls by a pointer, switches and computed
 gotos are numbered, and each gets its number as the line of a file that no source is.
@@ -13,10 +13,10 @@ import re
 from dataclasses import dataclass, field
 from typing import Optional
 
+from .metadata import NAME, Metadata, place_of, plain, source_of
 from .refusal import Place, Refused
 
 JUMPS = "indirect jumps"  # the file whose lines are numbers of indirect jumps, from 1
-NAME = r'"(?:[^"\\]|\\.)*"|[\w.$-]+'
 
 DEFINITION = re.compile(rf"define .*?@({NAME})\(")
 KCFI_TYPE = re.compile(r" !kcfi_type !(\d+)")
@@ -54,53 +54,13 @@ class Located:
     jumps: list[Jump] = field(default_factory=list)
 
 
-def plain(name: str) -> bytes:
-    """The bytes of a name as intermediate code spells it; a first byte 1 says that nothing is put before it."""
-    spelled = name[1:-1] if name.startswith('"') else name
-    found = re.sub(rb"\\([0-9A-Fa-f]{2})", lambda it: bytes.fromhex(it[1].decode()), spelled.encode())
-    return found[1:] if found.startswith(b"\1") else found
-
-
-class Metadata:
-    """The numbered nodes of intermediate code, read by their fields, and those that are added."""
-
-    def __init__(self, code: str):
-        self.nodes = dict(re.findall(r"^!(\d+) = (?:distinct )?(.*)$", code, re.M))
-        self.units = re.findall(r"^!llvm\.dbg\.cu = !\{!(\d+)", code, re.M)
-        self.next = 1 + max(map(int, self.nodes), default=-1)
-        self.added: list[str] = []
-
-    def add(self, node: str) -> int:
-        """Adds a node, and gives its number."""
-        self.added.append(f"!{self.next} = {node}")
-        self.next += 1
-        return self.next - 1
-
-    def field(self, node: str, name: str) -> str:
-        """A field of a node of debugging information: a number, a name, or the number of another node."""
-        found = re.search(rf'[(,] ?{name}: (?:!?(\d+)|"((?:[^"\\]|\\.)*)")', self.nodes.get(node, ""))
-        return (found[1] or found[2] or "") if found else ""
-
-    def integer(self, node: str) -> int:
-        """The one number of a node that has nothing else, as 32 bits."""
-        found = re.fullmatch(r"!\{i32 (-?\d+)\}", self.nodes[node])
-        if not found:
-            raise Refused(f"the number of a type is unknown to cfi-cc: {self.nodes[node]}")
-        return int(found[1]) & 0xFFFFFFFF
-
-    def place(self, node: str) -> Place:
-        """The line of a source that a location, or a function's node, names."""
-        within = node if self.field(node, "file") else self.field(node, "scope")
-        file = self.field(self.field(within, "file"), "filename")
-        return Place(plain(f'"{file}"').decode(errors="replace"), int(self.field(node, "line") or 0))
-
-
 class Reader:
     """Goes through intermediate code line by line, and writes it anew."""
 
     def __init__(self, code: str):
         self.metadata = Metadata(code)
         self.found = Located()
+        self.source = source_of(code)
         self.file = self.metadata.add(f'!DIFile(filename: "{JUMPS}", directory: "")')
         self.inside: Optional[Function] = None
         self.scope = 0
@@ -131,13 +91,11 @@ class Reader:
         if not name:
             raise Refused(f"intermediate code of a form that is unknown to cfi-cc: {line}")
         typed, described = KCFI_TYPE.search(line), LOCATION.search(line)
+        node = int(described[1]) if described else self.describe()
         if not described:
-            node = self.describe()
             line = line[: line.rindex("{")] + f"!dbg !{node} {{"
-        else:
-            node = int(described[1])
         number = self.metadata.integer(typed[1]) if typed else None
-        self.inside = Function(number, self.metadata.place(str(node)))
+        self.inside = Function(number, self.metadata.place(described[1]) if described else self.source)
         self.found.functions[plain(name[1])] = self.inside
         self.scope = self.metadata.add(f"!DILexicalBlockFile(scope: !{node}, file: !{self.file}, discriminator: 0)")
         head, at, rest = KCFI_TYPE.sub("", line).partition("@")
@@ -175,7 +133,8 @@ class Reader:
 
 # What no module can have, as it stands in intermediate code before it is optimized, and what is said of it.
 IMPOSSIBLE = [
-    (re.compile(r"@llvm\.global_[cd]tors ="), "a module has no constructors and destructors: call the function from the entry"),
+    (re.compile(r"@llvm\.global_[cd]tors ="),
+     "a module has no constructors and destructors: call the function from the entry"),
     (re.compile(rf"@(?:{NAME}) = .*\bifunc "), "no module can choose a function when it is loaded (ifunc)"),
 ]
 
@@ -186,21 +145,6 @@ def refuse_impossible(code: str) -> None:
         for form, why in IMPOSSIBLE:
             if form.match(line):
                 raise Refused(why, place_of(code, [plain(it) for it in re.findall(rf"ptr @({NAME})", line)]))
-
-
-def place_of(code: str, names: list[bytes]) -> Optional[Place]:
-    """Where one of these functions is defined."""
-    metadata = Metadata(code)
-    for node, text in metadata.nodes.items():
-        if text.startswith("!DISubprogram(") and plain(metadata.field(node, "name")) in names:
-            return metadata.place(node)
-    return None
-
-
-def source_of(code: str) -> Place:
-    """The file of which intermediate code was made."""
-    found = re.search(r'^source_filename = ("(?:[^"\\]|\\.)*")', code, re.M)
-    return Place(plain(found[1]).decode(errors="replace") if found else "", 0)
 
 
 def locate(code: str) -> Located:

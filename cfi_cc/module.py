@@ -106,7 +106,8 @@ def module_of(found: Object, branches: list[Branch], known: dict[bytes, Function
     functions = functions_of(text, known)
     jumps = text.jumps()
     if len(jumps) != len(branches):
-        raise Refused(f"the code has {len(jumps)} indirect jumps, and its assembly says {len(branches)}: look at the inline assembly")
+        raise Refused(f"the code has {len(jumps)} indirect jumps, and its assembly says {len(branches)}: look at the "
+                      "inline assembly")
     placed = []
     for offset, branch in zip(jumps, branches):
         cases: tuple[int, ...] = ()

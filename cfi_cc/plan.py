@@ -63,9 +63,9 @@ def main(words: list[str]) -> int:
     """Prints a plan, or says what is missing."""
     reader = argparse.ArgumentParser(prog="cfi-plan", description="Prints the usual plan of a C program.")
     reader.add_argument("hosts", nargs="+", metavar="HOST.o", help="the modules that are there from the start")
-    reader.add_argument("--late", action="append", default=[], metavar="PLUG.o", help="a module that is opened, from 0 on")
+    reader.add_argument("--late", action="append", default=[], metavar="PLUG.o", help="a module that is opened")
     reader.add_argument("--fuel", type=int, default=MAX_FUEL, metavar="N", help="how many instructions a guest may run")
-    reader.add_argument("--placed", action="store_true", help="for `verify` and `graph`: late modules last, as they are placed")
+    reader.add_argument("--placed", action="store_true", help="put late modules last, for `verify` and `graph`")
     call = reader.parse_args(words)
     try:
         print(plan_of([File(it) for it in call.late], [File(it) for it in call.hosts], call.fuel, call.placed), end="")

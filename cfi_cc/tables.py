@@ -1,8 +1,8 @@
 """The two tables of a module, `.cfi_types` and `.cfi_records`, as directives of the assembler.
 
-A type of functions of which Clang gives the number N is the node `func` of one node `real N`. A real number has one field
-that any 32 bits may be, and types that look alike are equal: so two are equal exactly where Clang's numbers are, whatever
-their results and parameters are, and a host in assembly can write the same.
+A type of functions of which Clang gives the number N is the node `func` of one node `real N`. A real number has one
+field that any 32 bits may be, and types that look alike are equal: so two are equal exactly where Clang's numbers are,
+whatever their results and parameters are, and a host in assembly can write the same.
 """
 from __future__ import annotations
 
@@ -48,7 +48,8 @@ def tables_of(module: Module) -> str:
     types = Types()
     records = list(records_of(module, types))
     if len(types.nodes) > MAX_NODES:
-        raise Refused(f"{len(types.places) - 1} types of functions are more than {(MAX_NODES - 2) // 2}: split the source")
+        most = (MAX_NODES - 2) // 2
+        raise Refused(f"{len(types.places) - 1} types of functions are more than {most}: split the source")
     lines = []
     for section, rows in ((".cfi_types", [[len(types.nodes)], *types.nodes]), (".cfi_records", records)):
         lines.append(f'\t.section\t{section},"",@progbits')

@@ -1,9 +1,9 @@
 """C programs as guests, and as programs of this machine.
 
-A program is a file `programs/NAME.c`, or a folder `programs/NAME` with a file `parts`: lines `start FILE..` for the host,
-whose files are linked where there are several, and `late FILE.. ENTRY` for a module that the host opens, with the function
-that this gives. The first file of the host may begin with comments: `// stop: WORD` where the guest does not exit, and
-`// options: ..` for Clang.
+A program is a file `programs/NAME.c`, or a folder `programs/NAME` with a file `parts`: lines `start FILE..` for the
+host, whose files are linked where there are several, and `late FILE.. ENTRY` for a module that the host opens, with the
+function that this gives. The first file of the host may begin with comments: `// stop: WORD` where the guest does not
+exit, and `// options: ..` for Clang.
 
 `expected/NAME` is what the program of this machine put, and a last line with the code of its exit.
 """

@@ -89,7 +89,8 @@ def words_of(content: bytes, name: bytes) -> tuple[int, ...]:
 def differences(found: dict[str, list[int]]) -> list[str]:
     """Where numbers are not those of the table."""
     wanted = table()
-    said = [f"{name}: {found.get(name)}, not {number}" for name, number in wanted.items() if found.get(name, [0])[:1] != [number]]
+    said = [f"{name}: {found.get(name)}, not {number}" for name, number in wanted.items()
+            if found.get(name, [0])[:1] != [number]]
     said += [f"call_{name}: {found.get('call_' + name)}, not a call of {number}" for name, number in wanted.items()
              if found.get("call_" + name, [])[1:] != [number]]
     return said

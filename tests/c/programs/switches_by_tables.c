@@ -1,0 +1,3 @@
+// options: -fjump-tables
+// The same switches, through tables of cases.
+#include "switches.c"
