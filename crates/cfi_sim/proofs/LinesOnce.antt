@@ -1,5 +1,5 @@
 -- A schedule makes one stage.
-use Rattle.std.proofs.Common.{◌≡◌, ℕ, zero, suc, ◌+◌, ◌<◌, ◌++◌, List, [], ◌∷◌, Some, None, All, refl, sym, ap, subst, ◌∙◌, ⊎_elim, arith}
+use Rattle.std.proofs.Common.{◌≡◌, ℕ, zero, suc, ◌<◌, ◌++◌, List, [], ◌∷◌, Some, None, All, sym, ap, subst, ◌∙◌, ⊎_elim, arith}
 use Rattle.std.proofs.lemmas.Bool.{cases_order}
 use Rattle.cfi_aux.specs.declared.modules.Module.{Module}
 use Rattle.cfi_aux.specs.Sound.{IsSoundModule}
@@ -9,8 +9,7 @@ use Rattle.cfi_plan.specs.declared.plan.Plan.{Plan}
 use Rattle.cfi_sim.specs.declared.aim.Aim.TheVariants.{Refreshing}
 use Rattle.cfi_sim.specs.declared.line.Line.{Line}
 use Rattle.cfi_sim.specs.declared.line.Line.TheVariants.{Blank, Guest, Load, Refresh, Update, UpdateAll, Release}
-use Rattle.cfi_sim.specs.Events.{IsIdle, IsUpdateEvent}
-use Rattle.cfi_sim.specs.Line.{Says}
+use Rattle.cfi_sim.specs.Events.{IsUpdateEvent}
 use Rattle.cfi_sim.specs.Schedule.{Repeats, IsWholeUpdate, Makes, LineMakes, LinesMake}
 use Rattle.cfi_sim.specs.Stage.{Stage}
 use Rattle.cfi_sim.specs.Stands.{Holds}

@@ -1,12 +1,11 @@
 -- A simulation is one, and there is none beside a first bad line.
-use Rattle.std.proofs.Common.{◌≡◌, ℕ, ◌+◌, ◌<◌, ◌++◌, List, [], ◌∷◌, length, map, get_or, slice_get, Some, All, refl, sym, ap, subst, ◌∙◌, arith}
+use Rattle.std.proofs.Common.{◌≡◌, ℕ, List, map, get_or, slice_get, Some, All, sym, ap, subst, ◌∙◌, arith}
 use Rattle.std.proofs.lemmas.List.{same_lists}
 use Rattle.std.proofs.lemmas.Option.{slice_get-get_or}
 use Rattle.cfi_aux.specs.declared.modules.Module.{Module}
 use Rattle.cfi_aux.specs.declared.placed.Placed.{Placed}
 use Rattle.cfi_aux.specs.Sound.{IsSoundModule}
 use Rattle.cfi_graph.specs.Direct.{DirectEdge}
-use Rattle.cfi_model.specs.declared.phase.Phase.{Phase}
 use Rattle.cfi_model.specs.Phases.{phase_of}
 use Rattle.cfi_model.specs.Raw.{Raw, raw_opened}
 use Rattle.cfi_model.specs.World.{World, opened_world}
@@ -15,15 +14,14 @@ use Rattle.cfi_plan.specs.Plan.{IsPlan}
 use Rattle.cfi_plan.specs.declared.plan.Plan.{Plan}
 use Rattle.cfi_policy.specs.Image.{IsImage}
 use Rattle.cfi_report.specs.declared.report.GuestPart.{GuestPart}
-use Rattle.cfi_report.specs.declared.report.Report.{Report}
 use Rattle.cfi_series.specs.Prepared.{IsOrderedImage}
 use Rattle.cfi_sim.specs.declared.limits.TheConstants.{MAX_UPDATES}
 use Rattle.cfi_sim.specs.declared.report.SimReport.{SimReport}
 use Rattle.cfi_sim.specs.Faults.{IsFirstBad}
 use Rattle.cfi_sim.specs.Once.{SimulationsAreOne, NoneBesideABadLine}
-use Rattle.cfi_sim.specs.Schedule.{ScheduleMakes, LinesMake}
+use Rattle.cfi_sim.specs.Schedule.{LinesMake}
 use Rattle.cfi_sim.specs.Stage.{Stage}
-use Rattle.cfi_sim.specs.Valid.{IsGuestAt, IsStart, IsSimulated, IsValidSim}
+use Rattle.cfi_sim.specs.Valid.{IsGuestAt, IsStart, IsValidSim}
 use Rattle.cfi_sim.proofs.ImageOnce.{image_once}
 use Rattle.cfi_sim.proofs.LinesOnce.{lines_once, stuck_never}
 use Rattle.cfi_sim.proofs.journal.StartLemmas.{are, start_holds}
