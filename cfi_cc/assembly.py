@@ -93,10 +93,13 @@ class Reader:
         self.files: dict[str, str] = {}
         self.file, self.line = "", 0
         self.labels: set[str] = set()  # of the text
+        self.inline = False
 
     def read(self, assembly: str) -> Iterator[str]:
         """Yields the lines of an assembly that a module is made of."""
         for line in assembly.split("\n"):
+            if line.strip() in ("#APP", "#NO_APP"):  # around inline assembly
+                self.inline = line.strip() == "#APP"
             yield from self.lines_of(statement(line))
 
     def lines_of(self, it: Statement) -> Iterator[str]:
@@ -150,6 +153,8 @@ class Reader:
         if it.word == "ret":
             return Branch(Kind.RETURN, None, self.here())
         links = it.word == "jalr" and (len(it.operands) == 1 or it.operands[0] in ("ra", "x1"))
+        if self.inline:
+            raise Refused(f"no type is known for `{' '.join(it.text.split())}`: it is inline assembly", self.here())
         if self.file == JUMPS and self.line:
             jump = self.located.jumps[self.line - 1]
             if jump.number is not None:
@@ -159,8 +164,8 @@ class Reader:
         # Clang 16 gives a jump through the table of a switch no place; each other jump of its own has one.
         elif not self.line and it.word == "jr" and self.function and self.located.functions[self.function].switches:
             return Branch(Kind.SWITCH, None, self.here())
-        raise Refused(f"no type is known for `{' '.join(it.text.split())}`: it calls by a pointer without a prototype, "
-                      "or is inline assembly", self.here())
+        raise Refused(f"no type is known for `{' '.join(it.text.split())}`: it is of a form that cfi-cc does not know",
+                      self.here())
 
     def here(self) -> Optional[Place]:
         """The line of the source where the reader stands, or that of the function."""

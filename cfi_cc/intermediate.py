@@ -22,6 +22,7 @@ DEFINITION = re.compile(rf"define .*?@({NAME})\(")
 KCFI_TYPE = re.compile(r" !kcfi_type !(\d+)")
 LOCATION = re.compile(r",? !dbg !(\d+)")
 CALL = re.compile(r"\s+(?:%\S+ = )?(?:tail |musttail |notail )?call ")
+CALLEE = re.compile(rf"[@%](?:{NAME})\(")
 NUMBERED = re.compile(r'"kcfi"\(i32 (-?\d+)\)')
 BUNDLE = re.compile(r' \[ "kcfi"\(i32 -?\d+\) \]|"kcfi"\(i32 -?\d+\), |, "kcfi"\(i32 -?\d+\)')
 SCOPE_LINE = re.compile(r"(?<=[(,]) ?scopeLine: \d+,")
@@ -117,16 +118,23 @@ class Reader:
             numbered = NUMBERED.search(line)
             if numbered:
                 return self.at(BUNDLE.sub("", line, 1), int(numbered[1]) & 0xFFFFFFFF)
+            callee = CALLEE.search(line)
+            if " asm " not in line and not (callee and callee[0].startswith("@")):
+                raise Refused("Clang knows no type for this call: the pointer has no prototype, or is a constant",
+                              self.place(line))
         elif MANY_WAYS.match(line):
             self.inside.switches = True
             return self.at(line, None)
         return line
 
+    def place(self, line: str) -> Place:
+        """The line of the source that an instruction is of, or that of its function."""
+        was = LOCATION.search(line)
+        return self.metadata.place(was[1]) if was else self.inside.place
+
     def at(self, line: str, number: Optional[int]) -> str:
         """The line of what may become an indirect jump, at its own place."""
-        was = LOCATION.search(line)
-        place = self.metadata.place(was[1]) if was else self.inside.place
-        self.found.jumps.append(Jump(number, place))
+        self.found.jumps.append(Jump(number, self.place(line)))
         node = self.metadata.add(f"!DILocation(line: {len(self.found.jumps)}, scope: !{self.scope})")
         return LOCATION.sub("", line, 1) + f", !dbg !{node}"
 

@@ -20,7 +20,7 @@ class File:
     def __init__(self, path: str):
         symbols = Object(Path(path).read_bytes()).symbols
         self.path = path
-        self.name = re.sub(r"[^\w$]", "_", Path(path).stem)
+        self.name = re.sub(r"^(?=[0-9])|[^\w$]", "_", Path(path).stem, flags=re.ASCII)
         self.defines = {it.name for it in symbols if it.section and it.binding in (GLOBAL, WEAK)}
         self.needs = {it.name for it in symbols if not it.section and it.binding == GLOBAL} - self.defines
 

@@ -1,4 +1,4 @@
-// no type is known
+// the pointer has no prototype
 // A pointer to a function of which no parameters are said.
 static int add(int a, int b) { return a + b; }
 
