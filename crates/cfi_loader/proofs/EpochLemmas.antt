@@ -1,6 +1,6 @@
 -- The policies that a journal puts in force, with a line more.
-use Rattle.std.proofs.Common.{◌≡◌, ℕ, ◌-◌, ◌<◌, ◌++◌, false, List, [], ◌∷◌, get_or, length, length-map, map, append-nil, refl, sym, ap, ◌∙◌, arith}
-use Rattle.std.proofs.lemmas.List.{get_or-map, map-append}
+use Rattle.std.proofs.Common.{◌≡◌, ℕ, ◌-◌, ◌<◌, ◌++◌, false, List, [], ◌∷◌, get_or, length, map, append-nil, refl, sym, ap, ◌∙◌, arith}
+use Rattle.std.proofs.lemmas.List.{get_or-map, length-map, map-append}
 use Rattle.std.proofs.lemmas.List.Sums.{fold-append}
 use Rattle.cfi_model.specs.Words.{no_entry}
 use Rattle.cfi_model.specs.declared.history.Entry.{Entry as TableEntry}
