@@ -18,8 +18,7 @@ from .tables import tables_of
 USAGE = "usage: cfi-cc [OPTIONS OF CLANG] IN.c -o OUT.raw.o"
 
 # Options that would make something else than the one object of RV32I.
-REFUSED = ("-S", "-E", "-emit-llvm", "-shared", "-flto", "-fsanitize", "-target", "--target", "-march=", "-mabi=",
-           "-fpic", "-fPIC", "-fpie", "-fPIE", "-g")
+REFUSED = ("-S", "-E", "-emit-llvm", "-shared", "-flto", "-fsanitize", "-target", "--target", "-march=", "-mabi=")
 
 
 @dataclass(frozen=True)

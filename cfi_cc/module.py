@@ -11,7 +11,7 @@ from typing import Optional
 
 from .assembly import Branch, Kind
 from .intermediate import Function
-from .objects import CALL, CALL_PLT, FUNCTION, JUMPING, Object
+from .objects import CALL, CALL_PLT, FUNCTION, JUMPING, LABEL, Object, Relocation
 from .refusal import Refused
 
 MAX_NAME, MAX_CASES = 255, 1024  # of records
@@ -56,15 +56,20 @@ class Text:
         self.number = texts[0]
         self.content = found.sections[self.number].content
         self.symbols = [it for it in found.symbols if it.section == self.number]
-        self.taken: set[int] = set()   # addresses of functions
-        self.inner: set[int] = set()   # other places
-        self.pairs: set[int] = set()   # the second instructions of direct calls
+        self.starts = {it.value for it in self.symbols if it.kind == FUNCTION}
+        self.taken: set[int] = set()  # starts of functions whose addresses are taken
+        self.inner: set[int] = set()  # other places whose addresses are taken
+        self.pairs: set[int] = set()  # the second instructions of direct calls
         for it in found.relocations():
-            if it.kind in (CALL, CALL_PLT) and it.within == self.number:
-                self.pairs.add(it.offset + 4)
-            if it.kind not in JUMPING and it.symbol.section == self.number:
-                is_function = it.symbol.kind == FUNCTION and not it.addend
-                (self.taken if is_function else self.inner).add(it.symbol.value + it.addend)
+            self.note(it)
+
+    def note(self, it: Relocation) -> None:
+        """Keeps what a relocation says. A label at a function's start is a place of it, and not the function."""
+        if it.kind in (CALL, CALL_PLT) and it.within == self.number:
+            self.pairs.add(it.offset + 4)
+        if it.kind not in JUMPING and it.symbol.section == self.number:
+            at = it.symbol.value + it.addend
+            (self.taken if at in self.starts and it.symbol.kind != LABEL else self.inner).add(at)
 
     def jumps(self) -> list[int]:
         """Where the indirect jumps are."""

@@ -12,7 +12,7 @@ SYMTAB, RELA = 2, 4
 ALLOC, EXECINSTR = 2, 4
 GLOBAL, WEAK = 1, 2
 HIDDEN, INTERNAL = 2, 1
-FUNCTION = 2
+LABEL, FUNCTION = 0, 2
 
 # Relocations of the psABI that jump: they take no address. Nor does the second half of a pair, which names the first.
 BRANCH, JAL, CALL, CALL_PLT, PCREL_LO12_I, PCREL_LO12_S = 16, 17, 18, 19, 24, 25
