@@ -1,5 +1,5 @@
 -- The history of a ledger's tables is that of its course.
-use Rattle.std.proofs.Common.{◌≡◌, ℕ, ◌+◌, ◌-◌, List, [], length, slice_index_or, sym, ap, subst, ◌∙◌, arith}
+use Rattle.std.proofs.Common.{◌≡◌, ℕ, ◌+◌, ◌-◌, List, [], length, slice_index_or, refl, sym, ap, subst, ◌∙◌, arith}
 use Rattle.cfi_aux.specs.declared.modules.Module.{Module}
 use Rattle.cfi_loader.specs.Ledger.{Ledger, IsEntryOf, IsLedger}
 use Rattle.cfi_loader.proofs.EntryLemmas.{loaded_all}
