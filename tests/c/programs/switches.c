@@ -81,11 +81,11 @@ static int nested(int a, int b) {
 static int __attribute__((noinline)) sure(int n) {
     switch (n) {
     case 0: return depth(100);
-    case 1: return depth(3);
-    case 2: return depth(50) * 3;
-    case 3: return depth(1000);
-    case 4: return depth(7) + 9;
-    case 5: return depth(2) - 4;
+    case 1: return dense(3);
+    case 2: return sparse(100);
+    case 3: return wide(42);
+    case 4: return nested(4, 0);
+    case 5: return *name(2);
     default: __builtin_unreachable();
     }
 }
