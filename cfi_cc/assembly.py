@@ -5,7 +5,6 @@ places; all others are handed on as they stand.
 """
 from __future__ import annotations
 
-import os
 import re
 import sys
 from dataclasses import dataclass
@@ -14,7 +13,7 @@ from typing import Iterator, Optional
 
 from .intermediate import JUMPS, Located
 from .metadata import plain
-from .refusal import Place, Refused
+from .refusal import Place, Refused, file_of
 
 
 class Kind(IntEnum):
@@ -76,12 +75,6 @@ def statement(line: str) -> Statement:
     return Statement(text, label[1] if label else None, tokens[0] if tokens else "", tuple(tokens[1:]))
 
 
-def file_of(names: list[str]) -> str:
-    """A file by its name, behind that of its folder if this is not the one where Clang runs."""
-    folder, name = names if len(names) > 1 else ("", names[-1])
-    return name if folder in ("", os.getcwd()) else os.path.join(folder, name)
-
-
 class Reader:
     """Goes through an assembly, and keeps where it stands: the section, the function, the place."""
 
@@ -130,7 +123,8 @@ class Reader:
             flags = it.operands[1].strip('"') if len(it.operands) > 1 else ""
             self.section = ".text" if "x" in flags else it.operands[0].strip('"')  # all code is one section
         elif it.word == ".file" and len(it.operands) > 1:
-            self.files[it.operands[0]] = file_of([word.strip('"') for word in it.operands if word.startswith('"')])
+            names = [word.strip('"') for word in it.operands if word.startswith('"')]
+            self.files[it.operands[0]] = file_of(*names) if len(names) == 2 else names[0]
         elif it.word == ".loc":
             self.file, self.line = self.files.get(it.operands[0], ""), int(it.operands[1])
         if it.label and self.section == ".text":

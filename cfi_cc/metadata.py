@@ -4,7 +4,7 @@ from __future__ import annotations
 import re
 from typing import Optional
 
-from .refusal import Place, Refused
+from .refusal import Place, Refused, file_of
 
 NAME = r'"(?:[^"\\]|\\.)*"|[\w.$-]+'  # as intermediate code spells one, behind its `@`
 
@@ -46,8 +46,9 @@ class Metadata:
     def place(self, node: str) -> Place:
         """The line of a source that a location, or a function's node, names."""
         within = node if self.field(node, "file") else self.field(node, "scope")
-        file = self.field(self.field(within, "file"), "filename")
-        return Place(plain(f'"{file}"').decode(errors="replace"), int(self.field(node, "line") or 0))
+        file = self.field(within, "file")
+        folder, name = (plain(f'"{self.field(file, it)}"').decode(errors="replace") for it in ("directory", "filename"))
+        return Place(file_of(folder, name), int(self.field(node, "line") or 0))
 
 
 def place_of(code: str, names: list[bytes]) -> Optional[Place]:

@@ -3,6 +3,7 @@ from __future__ import annotations
 
 import argparse
 import re
+import struct
 import sys
 from pathlib import Path
 
@@ -18,7 +19,10 @@ class File:
     """An object with the names that it defines for others, and those that it needs."""
 
     def __init__(self, path: str):
-        symbols = Object(Path(path).read_bytes()).symbols
+        try:
+            symbols = Object(Path(path).read_bytes()).symbols
+        except (struct.error, ValueError, LookupError, StopIteration) as why:
+            raise Refused(f"{path} is no object of RV32I") from why
         self.path = path
         self.name = re.sub(r"^(?=[0-9])|[^\w$]", "_", Path(path).stem, flags=re.ASCII)
         self.defines = {it.name for it in symbols if it.section and it.binding in (GLOBAL, WEAK)}

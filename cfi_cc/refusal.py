@@ -1,8 +1,14 @@
 """The one error of `cfi-cc`, and the places of a source that it names."""
 from __future__ import annotations
 
+import os
 from dataclasses import dataclass
 from typing import Optional
+
+
+def file_of(folder: str, name: str) -> str:
+    """A file by its name, behind that of its folder if this is not the one where Clang runs."""
+    return name if folder in ("", os.getcwd()) else os.path.join(folder, name)
 
 
 @dataclass(frozen=True)

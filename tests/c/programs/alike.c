@@ -26,6 +26,17 @@ choose(int way, void *p, int (*f)(struct one *), int (*g)(struct two *), int (*h
     return -1;
 }
 
+union way {
+    int (*one)(struct one *);
+    int (*two)(struct two *);
+};
+
+// Both calls are of what stands in one place.
+static int __attribute__((noinline)) either(int way, void *p, const union way *at) {
+    if (way) return at->one(p);
+    return at->two(p);
+}
+
 static int total;
 
 static void __attribute__((noinline)) note(int n) { total = total * 31 + n; }
@@ -46,6 +57,8 @@ int main(int guest) {
     int (*volatile h)(void *) = of_none;
     printf("%d %d %d %d\n", choose(0, &a, f, g, h), choose(1, &b, f, g, h), choose(2, &a, f, g, h),
            choose(3, 0, f, g, h));
+    union way one = {.one = of_one}, two = {.two = of_two};
+    printf("%d %d\n", either(1, &a, &one), either(0, &b, &two));
     for (int i = 0; i < 3; i++) {
         row_of(i);
         row_for(i);

@@ -77,6 +77,19 @@ static int nested(int a, int b) {
     return 8;
 }
 
+// The first instructions are those of the switch, which has no other way.
+static int __attribute__((noinline)) sure(int n) {
+    switch (n) {
+    case 0: return depth(100);
+    case 1: return dense(3);
+    case 2: return sparse(100);
+    case 3: return wide(42);
+    case 4: return nested(4, 0);
+    case 5: return *name(2);
+    default: __builtin_unreachable();
+    }
+}
+
 int main(int guest) {
     int all = guest;
     for (int i = -1; i < 66; i++) all += dense(i) * (i + 3);
@@ -86,6 +99,7 @@ int main(int guest) {
     printf("%d %d %d %d %d\n", wide(-1), wide(1ll << 40), wide(42), wide((1ll << 40) + 1), wide(1));
     for (int a = -1; a < 11; a++)
         for (int b = 0; b < 6; b++) printf("%d ", nested(a, b));
+    for (int i = 0; i < 6; i++) printf("%d ", sure(i));
     printf("%d\n", all);
     return all & 63;
 }
