@@ -5,6 +5,7 @@ use Rattle.cfi_drive.specs.Runner.{IsRunner}
 use Rattle.cfi_model.specs.declared.act.Wait.{Wait}
 use Rattle.cfi_model.specs.declared.act.Wait.TheVariants as waits
 use Rattle.cfi_model.specs.Begin.{Area, Private, TaryId, BaryId, Nothing, begin_as, begin_by, load_at, store_at}
+use Rattle.cfi_model.specs.Came.{takes_in}
 use Rattle.cfi_model.specs.Raw.{Raw}
 use Rattle.cfi_model.specs.Run.{Take, Word, Served, serve_as, take_word, take_one, run_of}
 use Rattle.cfi_model.specs.Running.{IsSpent}
@@ -87,5 +88,7 @@ pub runner_number : (k : Key) (plan : Plan) (modules : List Module) (p : PassVie
     → IsRunner k plan modules p r → r.base.number ≡ p.guest
 runner_number k plan modules p r runner =
     let path = runner.1.path in
-    end_same runner.1.last r runner.1.ends ∙ ap (λ (a : Raw). a.base.number) path.is ∙ run_same path.start path.takes
+    end_same runner.1.last r runner.1.ends
+    ∙ ap (λ (a : Raw). a.base.number) path.is
+    ∙ run_same path.start (takes_in path.came)
     ∙ ap (λ (a : Raw). a.base.number) path.opened.is
