@@ -11,7 +11,7 @@ from pathlib import Path
 
 from .refusal import Refused
 
-VERSIONS = range(16, 20)  # those that are tested; other ones are tried with a warning
+VERSIONS = range(16, 20)  # the first and the last are tested; one that is none of these is tried with a warning
 NAMES = [f"clang-{version}" for version in reversed(VERSIONS)] + ["clang"]
 RUNTIME = Path(__file__).resolve().parent.parent / "runtime"
 
@@ -93,12 +93,12 @@ def version_of(program: str) -> int:
 
 
 def find_clang() -> Clang:
-    """The Clang that CFI_CLANG names, else the latest one of those that are tested."""
+    """The Clang that CFI_CLANG names, else the latest one of the versions that serve."""
     named = os.environ.get("CFI_CLANG")
     if named:
         version = version_of(named)
         if version not in VERSIONS:
-            print(f"cfi-cc: warning: {named} is version {version}; 16 to 19 are tested", file=sys.stderr)
+            print(f"cfi-cc: warning: {named} is of version {version}, and not of 16 to 19", file=sys.stderr)
         return Clang(named)
     for name in NAMES:
         if shutil.which(name) and version_of(name) in VERSIONS:
