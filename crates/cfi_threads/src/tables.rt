@@ -6,8 +6,7 @@ ghost use Rattle.cfi_model.specs.Tables.{IsLoad, KeepsCode};
 ghost use Rattle.cfi_tables.specs.Keeping.{entry_by, last_of};
 ghost use Rattle.cfi_threads.specs.Like.{IsLike};
 
-use crate::marks::{Mark, TURNS};
-use crate::refreshes::refresh_around;
+use crate::refreshes::refresh;
 use cfi_tables::{Blank, Keeper, Pass, Seen, TableName, Tables, UpdateFault};
 use cfi_values::Numbers;
 use cfi_word::map::{BARY, TARY};
@@ -16,9 +15,9 @@ use std::alloc::{AllocError, Global};
 use std::marker::Brand;
 use std::thread::{Threads, join};
 
-/// The image of the instruction `j .`, whose word is 0x0000006f, and of this word behind it, which is another or 0: no
-/// address has a class, and no slot has a target.
-pub fn jump_image(alloc: Global, layout: &Layout, next: u32) -> Result<Image, AllocError>
+// The image of the instruction `j .`, whose word is 0x0000006f, and of this word behind it, which is another or 0: no
+// address has a class, and no slot has a target.
+fn jump_image(alloc: Global, layout: &Layout, next: u32) -> Result<Image, AllocError>
     requires next { (next ≡ 0) ⊎ (next ≡ 111) }
     ensures closed { IfOk result (IsClosed layout.now) }
     ensures code { IfOk result (λ image.
@@ -39,23 +38,17 @@ pub fn jump_image(alloc: Global, layout: &Layout, next: u32) -> Result<Image, Al
     })
 }
 
-/// A guest, and whether all that it has found was as it must be.
+// A guest that loads, and whether each of its tries has found the ID of a class of some epoch, with epochs in order.
 #[derive(Drop)]
-pub struct Reader<N: TableName> {
-    pub pass: Pass<N>,
-    pub sound: bool,
+struct Reader<N: TableName> {
+    pass: Pass<N>,
+    sound: bool,
 }
 
-/// Makes tries until one finds the last epoch, and puts its mark where one finds an epoch behind the first: it is sound
-/// that each finds the IDs of classes of an epoch each, in order, under 16,384 versions, and that one finds the last.
-pub fn load<N: TableName>(
-    tables: &Tables<N>,
-    mut reader: Reader<N>,
-    last: u32,
-    seen: &Mark,
-) -> Reader<N> {
+// Makes so many tries, under 16,384 versions.
+fn load<N: TableName>(tables: &Tables<N>, mut reader: Reader<N>, turns: u32) -> Reader<N> {
     let mut latest = 0;
-    for _ in 0..TURNS {
+    for _ in 0..turns {
         let bary = tables.load(&mut reader.pass, BARY);
         let tary = tables.load(&mut reader.pass, TARY + 64);
         let instruction = tables.fetch(&mut reader.pass, 16);
@@ -67,19 +60,12 @@ pub fn load<N: TableName>(
             && latest <= Word::epoch_of(tary)
             && Word::epoch_of(bary) <= Word::epoch_of(tary);
         latest = Word::epoch_of(tary);
-        if latest > 0 {
-            seen.put();
-        }
-        if latest == last {
-            break;
-        }
     }
-    reader.sound = reader.sound && latest == last;
     reader
 }
 
-// Two guests load while the keeper makes 100 refreshes, half of them once each guest has found one. How many were made,
-// whether all was sound for both guests, and how many passes go out in all.
+// Two guests load while the keeper refreshes. How many refreshes were made, whether all was sound for both guests, and
+// how many passes go out in all.
 fn beside<N: TableName + Send + Sync, R: Threads + Sync>(
     rt: &R,
     blank: Blank,
@@ -104,17 +90,16 @@ fn beside<N: TableName + Send + Sync, R: Threads + Sync>(
         pass: second,
         sound: true,
     };
-    let (seen, other) = (Mark::new(), Mark::new());
     let ((mut keeper, made), (one, two)) = join(
         rt,
         || -> (Keeper<N>, u32)
             requires { IsLike image keeper.entries }
-        { refresh_around(&tables, keeper, &image, 50, &seen, &other) },
+        { refresh(&tables, keeper, &image, 100) },
         || -> (Reader<N>, Reader<N>) {
             join(
                 rt,
-                || -> Reader<N> { load(&tables, one, 100, &seen) },
-                || -> Reader<N> { load(&tables, two, 100, &other) },
+                || -> Reader<N> { load(&tables, one, 100_000) },
+                || -> Reader<N> { load(&tables, two, 100_000) },
             )
         },
     );
@@ -204,7 +189,7 @@ fn hindered<N: TableName>(
     Some(([first, second, third], seen, again.guest()))
 }
 
-/// Two guests load beside 100 refreshes: each try finds IDs of one epoch each, in order, and both find several epochs.
+/// Two guests load beside 100 refreshes, and each try finds IDs of one epoch each, in order.
 pub fn two_guests_beside_refreshes<R: Threads + Sync>(
     rt: &R,
     alloc: Global,
