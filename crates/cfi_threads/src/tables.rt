@@ -6,7 +6,7 @@ ghost use Rattle.cfi_model.specs.Tables.{IsLoad, KeepsCode};
 ghost use Rattle.cfi_tables.specs.Keeping.{entry_by, last_of};
 ghost use Rattle.cfi_threads.specs.Like.{IsLike};
 
-use crate::refreshes::refresh;
+use crate::refreshes::{refresh, refresh_once};
 use cfi_tables::{Blank, Keeper, Pass, Seen, TableName, Tables, UpdateFault};
 use cfi_values::Numbers;
 use cfi_word::map::{BARY, TARY};
@@ -178,11 +178,11 @@ fn hindered<N: TableName>(
     let (tables, mut keeper) = Tables::<N>::open(blank);
     let mut one = keeper.admit(&tables).ok()?;
     let mut two = keeper.admit(&tables).ok()?;
-    let first = keeper.update(&tables, image, 0, 7);
+    let first = refresh_once(&tables, &mut keeper, image);
     let _ = tables.quiet(&mut one);
-    let second = keeper.update(&tables, image, 0, 7);
+    let second = refresh_once(&tables, &mut keeper, image);
     let _ = tables.quiet(&mut two);
-    let third = keeper.update(&tables, image, 0, 7);
+    let third = refresh_once(&tables, &mut keeper, image);
     keeper.note(&tables, &mut two);
     let seen = keeper.release(&tables, one);
     let again = keeper.admit(&tables).ok()?;
