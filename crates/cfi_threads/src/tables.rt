@@ -6,7 +6,7 @@ ghost use Rattle.cfi_model.specs.Tables.{IsLoad, KeepsCode};
 ghost use Rattle.cfi_tables.specs.Keeping.{entry_by, last_of};
 ghost use Rattle.cfi_threads.specs.Like.{IsLike};
 
-use crate::refreshes::refresh;
+use crate::refreshes::{refresh, refresh_once};
 use cfi_tables::{Blank, Keeper, Pass, Seen, TableName, Tables, UpdateFault};
 use cfi_values::Numbers;
 use cfi_word::map::{BARY, TARY};
@@ -165,12 +165,12 @@ fn added<N: TableName + Send + Sync, R: Threads + Sync>(
     (made, reader.sound, found)
 }
 
-// A guest that never passes a quiescent point hinders the update at its bound, while another goes on: whether the first
-// of three updates is made, what the others answer, what is in force then, and the number that the next pass has.
+// A guest that never passes a quiescent point hinders the update at its bound, while another goes on: what each of
+// three updates answers, what is in force then, and the number that the next pass has.
 fn hindered<N: TableName>(
     blank: Blank,
     image: &Image,
-) -> Option<(u32, [Result<u32, UpdateFault>; 2], Seen, u32)>
+) -> Option<([Result<u32, UpdateFault>; 3], Seen, u32)>
     requires table { blank.table ≡ N.table }
     requires key { blank.key ≡ N.key }
     requires image { image.now ≡ N.key.image }
@@ -178,15 +178,15 @@ fn hindered<N: TableName>(
     let (tables, mut keeper) = Tables::<N>::open(blank);
     let mut one = keeper.admit(&tables).ok()?;
     let mut two = keeper.admit(&tables).ok()?;
-    let (mut keeper, first) = refresh(&tables, keeper, image, 1);
+    let first = refresh_once(&tables, &mut keeper, image);
     let _ = tables.quiet(&mut one);
-    let second = keeper.update(&tables, image, 0, 7);
+    let second = refresh_once(&tables, &mut keeper, image);
     let _ = tables.quiet(&mut two);
-    let third = keeper.update(&tables, image, 0, 7);
+    let third = refresh_once(&tables, &mut keeper, image);
     keeper.note(&tables, &mut two);
     let seen = keeper.release(&tables, one);
     let again = keeper.admit(&tables).ok()?;
-    Some((first, [second, third], seen, again.guest()))
+    Some(([first, second, third], seen, again.guest()))
 }
 
 /// Two guests load beside 100 refreshes, and each try finds IDs of one epoch each, in order.
@@ -226,5 +226,5 @@ pub fn a_guest_without_quiescent_points(alloc: Global) -> Result<bool, AllocErro
         epoch: 2,
         policy: 0,
     };
-    Ok(found == Some((1, [Err(spent), Ok(2)], seen, 0)))
+    Ok(found == Some(([Ok(1), Err(spent), Ok(2)], seen, 0)))
 }
