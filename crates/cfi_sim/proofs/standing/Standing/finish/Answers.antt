@@ -1,20 +1,12 @@
 use Rattle.std.proofs.Common.{◌≡◌, true, false, sym, ap, subst, ◌∙◌}
 use Rattle.cfi_model.specs.Phases.{phase_of}
 use Rattle.cfi_sim.specs.inner.Standing.{Whole}
-use Rattle.cfi_sim.proofs.RepeatLemmas.{first_advanced, more_advanced, fewer_left, first_stuck, more_stuck, finished}
+use Rattle.cfi_sim.proofs.RepeatLemmas.{none_advanced, more_advanced, fewer_left, more_stuck, finished}
 use Rattle.cfi_world.specs.Updates.{is_idle}
 use Rattle.cfi_sim.proofs.standing.Standing.finish.Goals as goal
 
--- no update is under way, or there were too many events
-pub returns-then-not-begun : goal.returns-then-not-begun
-returns-then-not-begun c =
-    first_stuck c.args.self.now c.advance.new.self c.requires.under_way c.requires.within c.in_ok-begun.begun
-    c.if-not-begun.true c.in_ok-begun.ensures
-
 pub loop-self-init : goal.loop-self-init
-loop-self-init c =
-    first_advanced c.args.self.now c.advance.new.self c.requires.under_way c.requires.within c.in_ok-begun.begun
-    c.if-not-begun.false c.in_ok-begun.ensures
+loop-self-init c = none_advanced c.args.self.now c.requires.under_way c.requires.within
 
 -- there were too many events
 pub returns-then-not-made : goal.returns-then-not-made
