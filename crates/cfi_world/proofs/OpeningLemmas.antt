@@ -1,7 +1,8 @@
 -- A world as it is opened is one.
-use Rattle.std.proofs.Common.{◌≡◌, ℕ, ◌+◌, ◌-◌, ◌^◌, ◌<◌, ◌≤◌, List, length, length-append, replicate, slice_get, Some, None, refl, sym, ◌∙◌, ap, subst, arith, inl}
-use Rattle.std.proofs.lemmas.List.{get_or_append_left, get_or-replicate, length-replicate}
-use Rattle.std.proofs.lemmas.Option.{slice_get_within}
+use Rattle.std.proofs.Common.{◌≡◌, ℕ, ◌+◌, ◌-◌, ◌^◌, ◌<◌, ◌≤◌, List, [], length, length-append, replicate, slice_get, slice_index_or, Some, None, refl, sym, ◌∙◌, ap, subst, arith, inl, inr}
+use Rattle.std.proofs.lemmas.Bool.{cases_lt}
+use Rattle.std.proofs.lemmas.List.{get_or_append_left, get_or-append_right, get_or_past, get_or-replicate, length-replicate}
+use Rattle.std.proofs.lemmas.Option.{slice_get_within, slice_get-get_or, none-some}
 use Rattle.cfi_word.specs.declared.lists.Image.{Image}
 use Rattle.cfi_word.specs.declared.limits.TheConstants.{GUESTS}
 use Rattle.cfi_model.specs.declared.quiet.Point.TheVariants.{Outside}
@@ -67,6 +68,26 @@ module _ (code_words versions first : ℕ) (image : Image) (guests : List Raw) (
       (omega (arith, length-replicate (length guests) (Published first), there))
       ∙ get_or-replicate (length guests) guest (Published first) Unregistered there
 
+  -- no other number is registered
+  absent_is : (guest : ℕ) → slice_get guests guest ≡ None → quiet_of opened guest ≡ Unregistered
+  absent_is guest none =
+      let some : List Quiet = replicate (length guests) (Published first) in
+      let rest : List Quiet = replicate (GUESTS - length guests) Unregistered in
+      let past : length guests ≤ guest = elim (cases_lt guest (length guests)) [
+        | inl inside ↦ absurd (none-some _ (sym none ∙ slice_get-get_or guests guest (raw_opened 0 0 []) inside))
+        | inr past ↦ past
+      ] in
+      get_or-append_right some rest (length guests) guest Unregistered
+      (length-replicate (length guests) (Published first)) past
+      ∙ rest_of (GUESTS - length guests) (guest - length guests)
+    where
+      rest_of : (n k : ℕ) → slice_index_or (replicate n Unregistered) k Unregistered ≡ Unregistered
+      rest_of n k = elim (cases_lt k n) [
+        | inl inside ↦ get_or-replicate n k Unregistered Unregistered inside
+        | inr past ↦ get_or_past (replicate n Unregistered) k Unregistered
+            (omega (arith, past, length-replicate n Unregistered))
+      ]
+
   opened_seat : (guest : ℕ) (r : Raw) → slice_get guests guest ≡ Some r
       → AreSeated tables tables_are fuel guest (seat_of opened guest r)
   opened_seat guest r here =
@@ -116,6 +137,7 @@ module _ (code_words versions first : ℕ) (image : Image) (guests : List Raw) (
         );
     points_many = length-replicate GUESTS Outside;
     few = can.few;
+    absent = absent_is;
     room = omega arith;
     room_fits = room_fits;
     fuel_fits = fuel_fits;
