@@ -18,7 +18,8 @@ use Rattle.cfi_model.specs.State.{State}
 use Rattle.cfi_model.specs.Words.{word_at}
 use Rattle.cfi_model.specs.World.{World, point_of, quiet_of}
 use Rattle.cfi_world.specs.Seats.{Seat, seat_of, seat_by, with_seat, seat_after, rested, is_asking}
-use Rattle.cfi_world.specs.Turns.{Turn, nothing, seated, guest_turn, turn_of}
+use Rattle.cfi_model.specs.Service.{Reply}
+use Rattle.cfi_world.specs.Turns.{answer_turn, answered, did, guest_turn, nothing, seated, turn_of}
 use Rattle.cfi_world.specs.Worlds.{FitsPoint, IsServing, IsWorld}
 use Rattle.cfi_world.specs.declared.event.Event.TheVariants.{Guest}
 use Rattle.cfi_world.proofs.FitLemmas.{fetch_fits, bary_fits, tary_fits}
@@ -72,6 +73,14 @@ module _ (w : World) (guest : ℕ) (r : Raw) (here : slice_get w.guests guest �
       ∙ ap (λ b. slice_get (cond b (nothing w)
       (seated w guest (seat_after w.tables w.fuel (seat_of w guest r)))).world.guests guest) test
       ∙ set_there w.guests guest r (seat_after w.tables w.fuel (seat_of w guest r)).guest here
+
+  -- and gets no answer
+  pub answer_leaves : IsWorld w → (IsServing r.waits → ⊥) → (reply : Reply)
+      → slice_get (answer_turn w guest reply (slice_get w.guests guest)).world.guests guest ≡ Some r
+  answer_leaves is other reply =
+      let asks = asks_by (point_of w guest) (is.seats guest r here).point other in
+      ap (λ o. slice_get (answer_turn w guest reply o).world.guests guest) here
+      ∙ ap (λ b. slice_get (cond b (did (answered w guest reply r)) (nothing w)).world.guests guest) asks ∙ here
 
   -- the word that it fetches or loads
   abbrev pub word_for : Option Wait → ℕ
