@@ -35,5 +35,10 @@ pub mod AskLemmas
 pub mod CallLemmas
 pub mod RetryLemmas
 pub mod CheckLemmas
+pub mod TraceLemmas
+pub mod GuestLemmas
+pub mod TakenLemmas
+pub mod NextLemmas
+pub mod RunLemmas
 pub mod StopLemmas
 pub mod PassedLemmas

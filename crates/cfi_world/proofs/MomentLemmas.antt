@@ -66,7 +66,7 @@ module _ (w : World) (is : IsWorld w) (run : List Event) (may : MayTurns w run) 
   may_here n event is_event = may_event run w n event may is_event
 
   -- the tables go on
-  next_on : (n : ℕ) (o : Option Event) → slice_get run n ≡ o
+  pub next_on : (n : ℕ) (o : Option Event) → slice_get run n ≡ o
       → GoesOn (world_at w run n).tables (world_at w run (n + 1)).tables
   next_on n None none =
       subst (λ (v : World). GoesOn (world_at w run n).tables v.tables) (sym (past_world w run n none))

@@ -13,17 +13,17 @@ use Rattle.cfi_unit.specs.declared.fill.Fill.{Fill}
 use Rattle.cfi_unit.specs.declared.log.Stop.TheVariants.{Fuel}
 use Rattle.cfi_word.specs.Table.{IsSize}
 use Rattle.cfi_model.specs.Closed.{IsStartIn}
-use Rattle.cfi_model.specs.History.{IsStart}
 use Rattle.cfi_model.specs.Log.{last_policy}
 use Rattle.cfi_model.specs.Running.{IsRunning}
 use Rattle.cfi_model.proofs.InForceLemmas.{force_within}
 use Rattle.cfi_model.proofs.RunningLemmas.{opened_runs}
 use Rattle.cfi_model.proofs.TableLemmas.{force_epoch, opened_are}
 use Rattle.cfi_model.specs.Raw.{Raw, raw_opened}
+use Rattle.cfi_model.specs.State.{opened as opened_state}
 use Rattle.cfi_model.specs.Tables.{IsTables}
 use Rattle.cfi_model.specs.Words.{Tables, entry_at, policy_in_force}
 use Rattle.cfi_model.specs.World.{World, opened_world, quiet_of}
-use Rattle.cfi_world.specs.Premises.{CanOpen}
+use Rattle.cfi_world.specs.Premises.{CanOpen, IsOpened}
 use Rattle.cfi_world.specs.Seats.{seat_of}
 use Rattle.cfi_world.specs.Worlds.{QuietFits, FoundFits, FitsPoint, IsWorld}
 use Rattle.cfi_world.proofs.SeatLemmas.{AreSeated}
@@ -88,18 +88,30 @@ module _ (code_words versions first : ℕ) (image : Image) (guests : List Raw) (
             (omega (arith, past, length-replicate n Unregistered))
       ]
 
+  -- a guest runs from where it is opened
+  opened_from : (guest : ℕ) (r : Raw) (from : IsOpened image guest r)
+      → IsRunning (history_of tables) (code_in_force tables) 0 (opened_state guest from.entry from.fills)
+      (raw_opened guest from.entry from.fills)
+  opened_from guest r from =
+      opened_runs (history_of tables) (code_in_force tables) guest from.entry from.fills (record {
+        epoch = first + 0;
+        known = record { least = omega arith; most = omega (arith, number_none) };
+        starts = subst (λ n. IsStartIn (entry_at tables n).image from.entry) (back_is first) from.start;
+      })
+
+  pub opened_guest : (guest : ℕ) (r : Raw) → slice_get guests guest ≡ Some r
+      → IsRunning (history_of tables) (code_in_force tables) 0 r.base r
+  opened_guest guest r here =
+      let from = can.opened guest r here in
+      subst (λ x. IsRunning (history_of tables) (code_in_force tables) 0 x.base x) (sym from.is) (opened_from guest r from)
+
   opened_seat : (guest : ℕ) (r : Raw) → slice_get guests guest ≡ Some r
       → AreSeated tables tables_are fuel guest (seat_of opened guest r)
   opened_seat guest r here =
       let inside = slice_get_within guests guest r here in
       let from = can.opened guest r here in
       let quiet = quiet_is guest inside in
-      let start : IsStart (history_of tables) from.entry = record {
-        epoch = first + 0;
-        known = record { least = omega arith; most = omega (arith, number_none) };
-        starts = subst (λ n. IsStartIn (entry_at tables n).image from.entry) (back_is first) from.start;
-      } in
-      let runs = opened_runs (history_of tables) (code_in_force tables) guest from.entry from.fills start in
+      let runs = opened_from guest r from in
       let none : (seat_of opened guest r).point ≡ Outside = get_or-replicate GUESTS guest Outside Outside
       (omega (arith, inside, can.few)) in
       record {

@@ -1,5 +1,5 @@
 -- A guest after its own event.
-use Rattle.std.proofs.Common.{◌≡◌, ◌≢◌, ℕ, ◌/◌, ◌||◌, cond, Bool, true, false, length-set, slice_get, slice_set, is_some, Option, Some, None, ◌⊎◌, inl, inr, refl, sym, ap, ◌∙◌, subst, arith}
+use Rattle.std.proofs.Common.{◌≡◌, ℕ, ◌/◌, ◌||◌, cond, Bool, true, false, length-set, slice_get, slice_set, is_some, Option, Some, None, ◌⊎◌, inl, inr, refl, sym, ap, ◌∙◌, subst, arith}
 use Rattle.std.proofs.lemmas.List.{get_or-set_same}
 use Rattle.std.proofs.lemmas.Option.{slice_get_within, slice_get-get_or}
 use Rattle.cfi_unit.specs.declared.log.Stop.{Stop}
@@ -17,7 +17,7 @@ use Rattle.cfi_model.specs.Running.{IsRunning}
 use Rattle.cfi_model.specs.State.{State}
 use Rattle.cfi_model.specs.Words.{word_at}
 use Rattle.cfi_model.specs.World.{World, point_of, quiet_of}
-use Rattle.cfi_world.specs.Seats.{Seat, seat_of, seat_by, with_seat, seat_after, rested, is_asking}
+use Rattle.cfi_world.specs.Seats.{seat_of, seat_by, seat_after, rested, is_asking}
 use Rattle.cfi_model.specs.Service.{Reply}
 use Rattle.cfi_world.specs.Turns.{answer_turn, answered, did, guest_turn, nothing, seated, turn_of}
 use Rattle.cfi_world.specs.Worlds.{FitsPoint, IsServing, IsWorld}

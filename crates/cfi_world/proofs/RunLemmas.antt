@@ -1,343 +1,152 @@
 -- A guest over a run of events: the steps that it has made, each check under the policy in force in its window.
-use Rattle.std.proofs.Common.{◌≡◌, ◌≢◌, ℕ, ℤ, zero, suc, ◌+◌, ◌-◌, ◌*◌, ◌/◌, ◌%◌, ◌^◌, ◌<◌, ◌≤◌, ◌||◌, cond, Bool, true, false, is_some, List, [], ◌∷◌, length, slice_get, add-one, Option, Some, None, ◌⊎◌, inl, inr, refl, sym, ap, ◌∙◌, subst, arith}
-use Rattle.std.proofs.lemmas.Bool.{cases_eq}
-use Rattle.std.proofs.lemmas.Option.{none-some}
-use Rattle.cfi_unit.proofs.CodeLemmas.{BeginsAt-one}
-use Rattle.cfi_unit.specs.declared.unit.Unit.{Unit as CodeUnit}
-use Rattle.cfi_unit.specs.declared.unit.Unit.TheVariants as units
-use Rattle.cfi_word.specs.Table.{IsSize}
-use Rattle.cfi_word.specs.Word.{epoch_in, policy_in}
-use Rattle.cfi_word.specs.declared.lists.Image.{Image}
-use Rattle.cfi_model.specs.declared.act.Wait.{Wait}
-use Rattle.cfi_model.specs.declared.act.Wait.TheVariants as waits
-use Rattle.cfi_model.specs.declared.quiet.Point.{Point}
-use Rattle.cfi_model.specs.declared.quiet.Point.TheVariants.{Outside, Found, Asking}
-use Rattle.cfi_model.specs.Effect.{is_in_code}
-use Rattle.cfi_model.specs.Fits.{Fits}
-use Rattle.cfi_model.specs.History.{History, IsBaryWord, IsEpoch, IsHistory, IsTaryWord, allows_at, slot_class, target_class}
-use Rattle.cfi_model.specs.InForce.{GoesOn, history_of, code_in_force}
-use Rattle.cfi_model.specs.Raw.{Raw}
-use Rattle.cfi_model.specs.Run.{Take, Word, take_one}
-use Rattle.cfi_model.specs.Running.{IsGuest, IsRunning}
-use Rattle.cfi_model.specs.Service.{Reply}
-use Rattle.cfi_model.specs.Shows.{IsBetween, IsReady, IsTriedIn, MayWait, Shows, Stands, end_of}
+use Rattle.std.proofs.Common.{◌≡◌, ℕ, zero, suc, ◌+◌, List, [], ◌∷◌, slice_get, add-one, Option, Some, None, ◌⊎◌, inl, inr, refl, sym, ap, ◌∙◌, subst, arith}
+use Rattle.cfi_model.specs.History.{History}
+use Rattle.cfi_model.specs.InForce.{history_of, code_in_force}
+use Rattle.cfi_model.specs.Running.{IsGuest}
 use Rattle.cfi_model.specs.State.{State, register, displaced}
-use Rattle.cfi_model.specs.TableMoments.{IsInForce}
-use Rattle.cfi_model.specs.Tables.{IsTables}
-use Rattle.cfi_model.specs.Tries.{IsInWindow}
-use Rattle.cfi_model.specs.Words.{Tables}
-use Rattle.cfi_model.specs.World.{World, opened_world, point_of}
-use Rattle.cfi_model.proofs.AdvanceLemmas.{Running, at_start, check_ends, check_next, goes_on, start_is}
-use Rattle.cfi_model.proofs.CheckPlaces.{CheckAt, CheckGoesOn, CheckStops, Neither, SlotWord, BothWords, found_at}
-use Rattle.cfi_model.proofs.CheckPlaces as check
-use Rattle.cfi_model.proofs.CheckWalk.{check_begins}
-use Rattle.cfi_model.proofs.EndLemmas.{effect_units}
-use Rattle.cfi_model.proofs.FetchLemmas.{first_place}
-use Rattle.cfi_model.proofs.IdLemmas.{bary_epoch, seen_of, tary_epoch, tary_policy}
-use Rattle.cfi_model.proofs.InForceLemmas.{history_is, keeps}
-use Rattle.cfi_model.proofs.LawLemmas.{At, Begun}
-use Rattle.cfi_model.proofs.RunningLemmas.{running_is, running_shows}
-use Rattle.cfi_model.proofs.ShownLemmas.{shown_stop, shows_running, shows_units}
-use Rattle.cfi_model.proofs.StartLemmas.{begins_on}
-use Rattle.cfi_world.specs.Checks.{bary_in, tary_in}
-use Rattle.cfi_world.specs.Laws.{IsAnothers, IsRefined, IsStepped, MayTurns, answer_in}
-use Rattle.cfi_world.specs.Moments.{ComesFor, LeavesTry, world_at}
-use Rattle.cfi_world.specs.Premises.{CanOpen}
-use Rattle.cfi_world.specs.Seats.{rested, is_asking}
-use Rattle.cfi_world.specs.Steps.{AsksInForce, Before, HasMade, HasRun, IsAskedIn, IsStepAt, RunsAreSteps}
-use Rattle.cfi_world.specs.Turns.{reply_in, turn_of}
-use Rattle.cfi_world.specs.Worlds.{FitsPoint, IsServing, IsWorld}
+use Rattle.cfi_model.specs.World.{World, opened_world}
+use Rattle.cfi_world.specs.Laws.{IsRefined, IsStepped, answer_in}
+use Rattle.cfi_world.specs.Moments.{LeavesTry}
+use Rattle.cfi_world.specs.Steps.{Before, HasMade, HasRun, RunsAreSteps}
+use Rattle.cfi_world.specs.Turns.{turn_of}
 use Rattle.cfi_world.specs.declared.event.Event.{Event}
-use Rattle.cfi_world.specs.declared.event.Event.TheVariants as events
-use Rattle.cfi_world.proofs.ChoiceLemmas.{neither, not_some}
-use Rattle.cfi_world.proofs.CheckLemmas.{held_throughout}
-use Rattle.cfi_world.proofs.ForceLemmas.{turn_on}
-use Rattle.cfi_world.proofs.MomentLemmas.{may_here, next_on, next_world, past_world, world_is}
-use Rattle.cfi_world.proofs.OthersLemmas.{only_updates, others_stay}
-use Rattle.cfi_world.proofs.OwnLemmas.{after_own, answer_leaves, not_rested, own_event, own_fits, taken, word_for}
-use Rattle.cfi_world.proofs.RefineLemmas.{refines}
-use Rattle.cfi_world.proofs.RestLemmas.{going_runs, same_bary, same_pc, same_tary, same_units, same_waits}
-use Rattle.cfi_world.proofs.TraceLemmas.{HasBoth, HoldsTry, found_in, found_is, found_none, holds_later, holds_next}
-use Rattle.cfi_world.proofs.WithinLemmas.{stands_in_check}
+use Rattle.cfi_world.proofs.MomentLemmas.{past_world}
+use Rattle.cfi_world.proofs.OpeningLemmas.{opened_guest, opened_is}
+use Rattle.cfi_world.proofs.TraceLemmas.{HoldsTry, found_none}
+use Rattle.cfi_world.proofs.GuestLemmas.{guest_ready}
+use Rattle.cfi_world.proofs.NextLemmas.{ended_traced, refined, same_traced, shows_next, step_at, there_next}
+use Rattle.cfi_world.proofs.TakenLemmas as taken
+use Rattle.cfi_world.proofs.TakenLemmas.{Here, Over}
 
-same_guest : (x y : Raw) → Some x ≡ Some y → x ≡ y
-same_guest x y e = cc
-
--- ---- what a guest shows
-
--- it counts its units, and is ready
-guest_units : (h : History) (code : List ℕ) → IsHistory h code → (retries : ℕ) (s : State) (r : Raw)
-    → IsGuest h code retries s r → r.base.units ≡ s.units
-guest_units h code known retries s r (inl runs) =
-    shows_units h code retries s r (running_shows h code known retries s r runs)
-guest_units h code known retries s r (inr over) =
-    ap (λ x. x.base.units) over.2.is
-    ∙ shows_units h code retries s over.0 (running_shows h code known retries s over.0 over.1)
-
-guest_ready : (h : History) (code : List ℕ) (retries : ℕ) (s : State) (r : Raw) → IsGuest h code retries s r → IsReady h s
-guest_ready h code retries s r (inl runs) = runs.rests.ready
-guest_ready h code retries s r (inr over) = over.1.rests.ready
-
--- a unit that stands at a start later stood there before
-stands_before : (t u : Tables) (is : IsTables t) (later : IsTables u) → GoesOn t u → (s : State)
-    → IsReady (history_of t) s → s.stop ≡ None → (unit : CodeUnit) → Stands (code_in_force u) s.pc unit
-    → Stands (code_in_force t) s.pc unit
-stands_before t u is later on s ready going unit stands =
-    let h : History = history_of t in
-    let code : List ℕ = code_in_force t in
-    let at = at_start h code s 0 (history_is t is) ready going in
-    let kept = keeps t u is later on in
-    let begins = begins_on code (code_in_force u) (s.pc / 4) at.0 at.1.here.stands.begins kept.same kept.kept in
-    subst (Stands code s.pc) (BeginsAt-one (code_in_force u) (s.pc / 4) at.0 unit begins stands.begins) at.1.here.stands
-
--- a guest in a service is in no check
-serves_by : (code_words : ℕ) (unit : CodeUnit) (s : State) (number : ℕ) (link : Bool) (rs1 : ℕ) (imm : ℤ) (slot : ℕ)
-    → MayWait code_words unit s (Some (waits.Service number)) → unit ≡ units.Check link rs1 imm slot → ⊥
-serves_by code_words unit s number link rs1 imm slot may same =
-    subst (λ (u : CodeUnit). MayWait code_words u s (Some (waits.Service number))) same may
-
-serving_by : (wait : Option Wait) → IsServing wait → (number : ℕ) × (wait ≡ Some (waits.Service number))
-serving_by None serving = absurd serving
-serving_by (Some (waits.Tary at rd)) serving = absurd serving
-serving_by (Some (waits.Bary slot rd)) serving = absurd serving
-serving_by (Some (waits.Service number)) serving = (number, refl)
-
-no_check : (h : History) (code : List ℕ) (retries : ℕ) (s : State) (r : Raw) → Shows h code retries s r
-    → (number : ℕ) → r.waits ≡ Some (waits.Service number) → (link : Bool) (rs1 : ℕ) (imm : ℤ) (slot : ℕ)
-    → Stands code s.pc (units.Check link rs1 imm slot) → ⊥
-no_check h code retries s r (inl between) number wait link rs1 imm slot stands =
-    none-some (waits.Service number) (sym between.idle ∙ wait)
-no_check h code retries s r (inr inside) number wait link rs1 imm slot stands =
-    serves_by (length code) inside.unit s number link rs1 imm slot
-    (subst (MayWait (length code) inside.unit s) wait inside.waits)
-    (BeginsAt-one code (s.pc / 4) inside.unit (units.Check link rs1 imm slot) inside.stands.begins stands.begins)
-
-is_serving : (wait : Option Wait) → IsServing wait ⊎ (IsServing wait → ⊥)
-is_serving None = inr (λ serving. serving)
-is_serving (Some (waits.Tary at rd)) = inr (λ serving. serving)
-is_serving (Some (waits.Bary slot rd)) = inr (λ serving. serving)
-is_serving (Some (waits.Service number)) = inl tt
-
-module _ (w : World) (is : IsWorld w) (run : List Event) (may : MayTurns w run) (guest : ℕ) where
+module _ (o : Over) where
   abbrev at : (moment : ℕ) → World
-  at moment = world_at w run moment
-
-  at_is : (moment : ℕ) → IsWorld (at moment)
-  at_is moment = world_is w is run may moment
-
-  abbrev tables : (moment : ℕ) → Tables
-  tables moment = (at moment).tables
+  at moment = taken.at o moment
 
   abbrev h : (moment : ℕ) → History
-  h moment = history_of (tables moment)
+  h moment = taken.h o moment
 
   abbrev code : (moment : ℕ) → List ℕ
-  code moment = code_in_force (tables moment)
+  code moment = taken.code o moment
 
-  known : (moment : ℕ) → IsHistory (h moment) (code moment)
-  known moment = history_is (tables moment) (at_is moment).tables
+  made_later : (start : State) (steps : List Before) (n retries : ℕ) (s : State)
+      → HasMade o.w o.run o.guest start steps n retries s → HasMade o.w o.run o.guest start steps (n + 1) retries s
+  made_later start [] n retries s made = made
+  made_later start (from ∷ earlier) n retries s made = (let past = made.0 in (omega (arith, past), made.1, made.2))
 
-  -- what holds of the words that the guest's check has found, if it is in one
-  abbrev Traced : (now : ℕ) → State → Raw → Type 0
-  Traced now s r =
-      r.base.stop ≡ None → (link : Bool) (rs1 : ℕ) (imm : ℤ) (slot : ℕ)
-      → Stands (code now) s.pc (units.Check link rs1 imm slot)
-      → HoldsTry w run guest (found_in s r) now slot (displaced (register s rs1) imm) r.bary r.tary
+  -- a guest has run so far, and what its present try has found is known
+  pub record Goes (start : State) (n : ℕ) : Type 0 where
+    pub has : HasRun o.w o.run o.guest start n
+    pub traced : taken.Traced o n has.state has.now
 
-  -- an event that leaves the guest
-  traced_later : (n : ℕ) (r : Raw) (s : State) → IsReady (h n) s → (r.base.stop ≡ None → s.stop ≡ None)
-      → LeavesTry w run guest n → Traced n s r → Traced (n + 1) s r
-  traced_later n r s ready going leaves traced goes link rs1 imm slot stands =
-      let on = next_on w is run may n (slice_get run n) refl in
-      let before = stands_before (tables n) (tables (n + 1)) (at_is n).tables (at_is (n + 1)).tables on s ready
-      (going goes) (units.Check link rs1 imm slot) stands in
-      holds_later w run guest (found_in s r) n slot (displaced (register s rs1) imm) r.bary r.tary leaves
-      (traced goes link rs1 imm slot before)
+  module _ (start : State) where
+    module _ (n : ℕ) (goes : Goes start n) (event : Event) (comes : slice_get o.run n ≡ Some event) where
+      abbrev has : HasRun o.w o.run o.guest start n
+      has = goes.has
 
-  module _ (n : ℕ) (r : Raw) (there : slice_get (at n).guests guest ≡ Some r) (retries : ℕ) (s : State)
-      (shows : IsGuest (h n) (code n) retries s r) (traced : Traced n s r) (event : Event)
-      (comes : slice_get run n ≡ Some event) where
-    abbrev new : World
-    new = (turn_of (at n) event).world
+      abbrev here : Here o n
+      here = record {
+        r = has.now;
+        there = has.there;
+        retries = has.retries;
+        s = has.state;
+        shows = has.shows;
+        traced = goes.traced;
+        event = event;
+        comes = comes;
+      }
 
-    next_is : at (n + 1) ≡ new
-    next_is = next_world w run n event comes
+      abbrev then : IsRefined (at n) (turn_of (at n) event).world (answer_in event) o.guest has.now has.retries has.state
+      then = refined o n here
 
-    -- ---- the event leaves the guest, or is its own
+      by_moves : ((then.more ≡ has.retries) × (then.after ≡ has.state))
+          ⊎ IsStepped (h n) (code n) (answer_in event) has.retries has.state has.now then.now then.more then.after
+          → Goes start (n + 1)
+      by_moves (inl same) = record {
+        has = record {
+          now = then.now;
+          there = there_next o n here;
+          retries = has.retries;
+          state = has.state;
+          shows = subst (λ k. IsGuest (h (n + 1)) (code (n + 1)) k has.state then.now) same.0
+              (subst (λ (x : State). IsGuest (h (n + 1)) (code (n + 1)) then.more x then.now) same.1
+              (shows_next o n here));
+          steps = has.steps;
+          made = made_later start has.steps n has.retries has.state has.made;
+        };
+        traced = same_traced o n here same.1;
+      }
+      by_moves (inr stepped) = record {
+        has = record {
+          now = then.now;
+          there = there_next o n here;
+          retries = then.more;
+          state = then.after;
+          shows = shows_next o n here;
+          steps = record { moment = n; state = has.state; retries = has.retries } ∷ has.steps;
+          made = (
+            omega arith,
+            step_at o n here stepped,
+            has.made,
+          );
+        };
+        traced = ended_traced o n here stepped;
+      }
 
-    abbrev next : Raw
-    next = taken (at n) guest r there
+      next_goes : Goes start (n + 1)
+      next_goes = by_moves then.moves
 
-    abbrev Takes : Event → Type 0
-    Takes e =
-        (e ≡ events.Guest guest) × (r.base.stop ≡ None)
-        × (slice_get (turn_of (at n) e).world.guests guest ≡ Some (rested (at n).fuel next))
+    -- a moment past the end is the end
+    past_goes : (n : ℕ) → Goes start n → slice_get o.run n ≡ None → Goes start (n + 1)
+    past_goes n goes none =
+        let has = goes.has in
+        let same = past_world o.w o.run n none in
+        let there = ap (λ v. slice_get v.guests o.guest) same ∙ has.there in
+        let shows = subst (λ (v : World). IsGuest (history_of v.tables) (code_in_force v.tables) has.retries has.state
+        has.now) (sym same) has.shows in
+        let leaves : LeavesTry o.w o.run o.guest n = inl (ap (λ v. slice_get v.guests o.guest) same) in
+        record {
+          has = record {
+            now = has.now;
+            there = there;
+            retries = has.retries;
+            state = has.state;
+            shows = shows;
+            steps = has.steps;
+            made = made_later start has.steps n has.retries has.state has.made;
+          };
+          traced = taken.traced_later o n has.now has.state (guest_ready (h n) (code n) has.retries has.state has.now has.shows)
+              (taken.shown_going o n has.retries has.state has.now has.shows) leaves goes.traced;
+        }
 
-    abbrev LeavesOrTakes : Event → Type 0
-    LeavesOrTakes e = (slice_get (turn_of (at n) e).world.guests guest ≡ Some r) ⊎ Takes e
+    goes_by : (n : ℕ) (next : Option Event) → slice_get o.run n ≡ next → Goes start n → Goes start (n + 1)
+    goes_by n None none goes = past_goes n goes none
+    goes_by n (Some event) comes goes = next_goes n goes event comes
 
-    own_takes : (IsServing r.waits → ⊥) → LeavesOrTakes (events.Guest guest)
-    own_takes quiet = elim (own_event (at n) guest r there) [
-      | inl stays ↦ inl stays
-      | inr goes ↦
-          let going = not_some r.base.stop (neither (is_some r.base.stop) (is_asking (point_of (at n) guest)) goes.0).0 in
-          inr (refl, going, after_own (at n) guest r there (at_is n) going quiet)
-    ]
+    pub goes_at : (n : ℕ) → Goes start 0 → Goes start n
+    goes_at zero first = first
+    goes_at (suc n) first =
+        subst (Goes start) (add-one n) (goes_by n (slice_get o.run n) refl (goes_at n first))
 
-    takes_by : (e : Event) → (IsServing r.waits → ⊥) → LeavesOrTakes e
-    takes_by (events.Guest other) quiet = elim (cases_eq other guest) [
-      | inr apart ↦ inl (others_stay (at n) (events.Guest other) guest apart ∙ there)
-      | inl own ↦ subst (λ k. LeavesOrTakes (events.Guest k)) (sym own) (own_takes quiet)
-    ]
-    takes_by (events.Begin image) quiet = inl (others_stay (at n) (events.Begin image) guest tt ∙ there)
-    takes_by events.Update quiet = inl (others_stay (at n) events.Update guest tt ∙ there)
-    takes_by (events.Answer other answer) quiet = elim (cases_eq other guest) [
-      | inr apart ↦ inl (others_stay (at n) (events.Answer other answer) guest apart ∙ there)
-      | inl own ↦ subst (λ k. LeavesOrTakes (events.Answer k answer)) (sym own)
-          (inl (answer_leaves (at n) guest r there (at_is n) quiet (reply_in answer)))
-    ]
-    takes_by (events.Release other) quiet = inl (others_stay (at n) (events.Release other) guest tt ∙ there)
-
-    -- a guest that shows a state has its units
-    units_now : r.base.units ≡ s.units
-    units_now = guest_units (h n) (code n) (known n) retries s r shows
-
-    -- a guest in a service is in no check
-    never_serves : IsServing r.waits → (link : Bool) (rs1 : ℕ) (imm : ℤ) (slot : ℕ)
-        → Stands (code n) s.pc (units.Check link rs1 imm slot) → ⊥
-    never_serves serving link rs1 imm slot stands =
-        let service = serving_by r.waits serving in
-        by_guest service.0 service.1 shows
-      where
-        by_guest : (number : ℕ) → r.waits ≡ Some (waits.Service number) → IsGuest (h n) (code n) retries s r → ⊥
-        by_guest number wait (inl runs) =
-            no_check (h n) (code n) retries s r (running_shows (h n) (code n) (known n) retries s r runs) number wait link
-            rs1 imm slot stands
-        by_guest number wait (inr over) =
-            none-some (waits.Service number) (sym over.2.idle ∙ sym (ap (λ x. x.waits) over.2.is) ∙ wait)
-
-    -- ---- the guest takes a word
-
-    module _ (own : event ≡ events.Guest guest) (going : r.base.stop ≡ None) (quiet : IsServing r.waits → ⊥)
-        (link : Bool) (rs1 : ℕ) (imm : ℤ) (slot : ℕ) (stands : Stands (code n) s.pc (units.Check link rs1 imm slot))
-      where
-        abbrev word : ℕ
-        word = word_for (at n) guest r there r.waits
-
-        abbrev target : ℕ
-        target = displaced (register s rs1) imm
-
-        runs : IsRunning (h n) (code n) retries s r
-        runs = going_runs (h n) (code n) retries s r shows going
-
-        running : Running (h n) (code n) s retries r
-        running = running_is (h n) (code n) (known n) retries s r runs
-
-        fits : Fits (h n) (code n) r (Word word)
-        fits = own_fits (at n) guest r there (at_is n) going retries s runs quiet
-
-        comes_now : ComesFor w run guest r.waits n
-        comes_now = record { event = comes ∙ ap Some own; r = r; there = there; going = going; waits = refl }
-
-        -- it begins the check, or goes on in it, or ends it with a try that has found both words
-        abbrev Begins : Type 0
-        Begins = (now : CheckAt (h n) s retries slot target next) × (found_at now.place ≡ Neither)
-
-        begins : IsReady (h n) s → IsBetween retries s r → Begins
-        begins ready between =
-            let s_going = goes_on (h n) (code n) s retries r between (Word word) fits in
-            let start = at_start (h n) (code n) s retries (known n) ready s_going in
-            let same = BeginsAt-one (code n) (s.pc / 4) start.0 (units.Check link rs1 imm slot)
-            start.1.here.stands.begins stands.begins in
-            let here : At (h n) (code n) s (units.Check link rs1 imm slot) =
-            subst (λ (u : CodeUnit). At (h n) (code n) s u) same start.1 in
-            check_begins (h n) (code n) s link rs1 imm slot here.here retries r.x28 r.x29 r.x30 r.x31 r
-            (start_is (h n) (code n) s retries r between s_going ∙ first_place s retries r.x28 r.x29 r.x30 r.x31)
-            (Word word) fits
-
-        within : (unit : CodeUnit) → At (h n) (code n) s unit → Begun (h n) s unit retries r
-            → At (h n) (code n) s (units.Check link rs1 imm slot)
-            × Begun (h n) s (units.Check link rs1 imm slot) retries r
-        within unit here begun = stands_in_check (h n) (code n) s retries r link rs1 imm slot stands unit here begun
-
-        found_here : (m : ℕ) (v : check.Values) (place : check.CheckPlace) (x : Raw)
-            → x ≡ check.check_raw s m slot target v place → found_in s x ≡ found_at place
-        found_here m v place x x_is = ap (found_in s) x_is ∙ found_is s m slot target v place
-
-        -- the check's units, where it has not ended
-        units_within : (here : At (h n) (code n) s (units.Check link rs1 imm slot))
-            → CheckAt (h n) s retries slot target next → next.base.units ≡ s.units
-        units_within here now =
-            shows_units (h n) (code n) retries s next
-            (shows_running (h n) (code n) s retries next (inr (units.Check link rs1 imm slot, here, now)))
-
-        here_by : IsReady (h n) s → s.stop ≡ None → At (h n) (code n) s (units.Check link rs1 imm slot)
-        here_by ready s_going =
-            let start = at_start (h n) (code n) s retries (known n) ready s_going in
-            subst (λ (u : CodeUnit). At (h n) (code n) s u)
-            (BeginsAt-one (code n) (s.pc / 4) start.0 (units.Check link rs1 imm slot) start.1.here.stands.begins
-            stands.begins) start.1
-
-        abbrev HoldsNext : Type 0
-        HoldsNext = HoldsTry w run guest (found_in s next) (n + 1) slot target next.bary next.tary
-
-        holds_in : (here : At (h n) (code n) s (units.Check link rs1 imm slot))
-            (begun : Begun (h n) s (units.Check link rs1 imm slot) retries r)
-            → CheckGoesOn (h n) s retries slot target begun.values begun.place r (Word word) → HoldsNext
-        holds_in here begun goes =
-            let now = goes.now in
-            let before = subst (λ f. HoldsTry w run guest f n slot target r.bary r.tary)
-            (found_here (retries + begun.more) begun.values begun.place r begun.is)
-            (traced going link rs1 imm slot stands) in
-            subst (λ f. HoldsTry w run guest f (n + 1) slot target next.bary next.tary)
-            (sym (found_here (retries + now.more) now.values now.place next now.is))
-            (holds_next w run guest n r comes_now word slot target
-            (λ rd wait. ap (word_for (at n) guest r there) wait) (λ rd wait. ap (word_for (at n) guest r there) wait)
-            s (retries + begun.more) (retries + now.more) begun.values now.values begun.place now.place begun.is now.is
-            goes.follows before)
-
-        ends_units : (here : At (h n) (code n) s (units.Check link rs1 imm slot))
-            (begun : Begun (h n) s (units.Check link rs1 imm slot) retries r)
-            → CheckStops (h n) s retries slot target link begun.place (end_of r (Word word)) next
-            → next.base.units ≡ s.units + 1
-        ends_units here begun stops =
-            let e = check_ends (h n) (code n) s retries link rs1 imm slot here r begun (Word word) stops in
-            ap (λ b. b.units) e.between.base ∙ ap (λ x. x.units) e.step.is
-            ∙ effect_units e.step.unit ((h n).policy e.step.epoch) (allows_at (h n) e.step.epoch) e.step.reply s
-
-        -- a guest that shows the state still
-        holds_by : Running (h n) (code n) s retries r → next.base.units ≡ s.units → HoldsNext
-        holds_by (inl rests) same =
-            let begun = begins rests.0 rests.1 in
-            subst (λ f. HoldsTry w run guest f (n + 1) slot target next.bary next.tary)
-            (sym (found_here (retries + begun.0.more) begun.0.values begun.0.place next begun.0.is ∙ begun.1)) tt
-        holds_by (inr inner) same =
-            let both = within inner.0 inner.1 inner.2 in
-            elim (check_next (h n) (code n) s retries link rs1 imm slot both.0 r both.1 (Word word) fits) [
-              | inl goes ↦ holds_in both.0 both.1 goes
-              | inr stops ↦ (let more = ends_units both.0 both.1 stops in absurd (omega (arith, more, same)))
-            ]
-
-        pub holds_still : next.base.units ≡ s.units → HoldsNext
-        holds_still same = holds_by running same
-
-        -- a guest that has ended the check, where it asks the policy
-        ended_by : Running (h n) (code n) s retries r → s.stop ≡ None → next.base.units ≡ s.units + 1
-            → is_in_code target ≡ true → HasBoth w run guest n slot target r.bary r.tary
-        ended_by (inl rests) s_going more inside =
-            let begun = begins rests.0 rests.1 in
-            let same = units_within (here_by rests.0 s_going) begun.0 in
-            absurd (omega (arith, more, same))
-        ended_by (inr inner) s_going more inside =
-            let both = within inner.0 inner.1 inner.2 in
-            elim (check_next (h n) (code n) s retries link rs1 imm slot both.0 r both.1 (Word word) fits) [
-              | inl goes ↦ (let same = units_within both.0 goes.now in absurd (omega (arith, more, same)))
-              | inr stops ↦
-                  subst (λ f. HoldsTry w run guest f n slot target r.bary r.tary)
-                  (found_here (retries + both.1.more) both.1.values both.1.place r both.1.is ∙ stops.tried inside)
-                  (traced going link rs1 imm slot stands)
-            ]
-
-        pub both_found : s.stop ≡ None → next.base.units ≡ s.units + 1 → is_in_code target ≡ true
-            → HasBoth w run guest n slot target r.bary r.tary
-        both_found s_going more inside = ended_by running s_going more inside
+-- from the opening on
+pub runs_are_steps : RunsAreSteps
+runs_are_steps code_words versions first image guests room fuel size can room_fits fuel_fits run may guest r here moment
+    within =
+    let w : World = opened_world code_words versions first image guests room fuel in
+    let is = opened_is code_words versions first image guests room fuel size can room_fits fuel_fits in
+    let o : Over = record { w = w; is = is; run = run; may = may; guest = guest } in
+    let start : Goes o r.base 0 = record {
+      has = record {
+        now = r;
+        there = here;
+        retries = 0;
+        state = r.base;
+        shows = inl (opened_guest code_words versions first image guests room fuel size can room_fits fuel_fits guest r
+            here);
+        steps = [];
+        made = (refl, refl);
+      };
+      traced = λ going link rs1 imm slot stands.
+          subst (λ f. HoldsTry w run guest f 0 slot (displaced (register r.base rs1) imm) r.bary r.tary)
+          (sym (found_none r.base r refl)) tt;
+    } in
+    (goes_at o r.base moment start).has

@@ -1,15 +1,15 @@
 -- Which words a check's present try has found, and at which moments of a run its guest has loaded them.
-use Rattle.std.proofs.Common.{◌≡◌, ◌≢◌, ℕ, ℤ, ◌+◌, ◌-◌, ◌*◌, ◌<◌, ◌≤◌, ◌==◌, ◌&&◌, nat_lt, cond, Bool, true, false, is_none, is_some, List, slice_get, Option, Some, None, ◌⊎◌, inl, inr, refl, sym, ap, ◌∙◌, subst, arith}
+use Rattle.std.proofs.Common.{◌≡◌, ℕ, ◌+◌, ◌-◌, ◌*◌, ◌<◌, ◌==◌, ◌&&◌, nat_lt, cond, is_none, is_some, List, Option, Some, None, inl, inr, refl, sym, ap, ◌∙◌, subst, arith}
 use Rattle.std.proofs.lemmas.Bool.{cases_lt}
 use Rattle.cfi_model.specs.declared.act.Wait.{Wait}
 use Rattle.cfi_model.specs.declared.act.Wait.TheVariants as waits
 use Rattle.cfi_model.specs.Raw.{Raw}
-use Rattle.cfi_model.specs.Run.{Take, Word, take_one, take_word}
+use Rattle.cfi_model.specs.Run.{Word, take_one, take_word}
 use Rattle.cfi_model.specs.State.{State}
 use Rattle.cfi_model.specs.World.{World}
 use Rattle.cfi_model.proofs.CheckPlaces.{CheckPlace, Aimed, Split, Far, Trying, Pointed, AskedBary, FoundBary, Tabled, Added, AskedTary, FoundTary, Differed, Compared, Lowered, Refused, Allowed, Values, check_raw, Found, Neither, SlotWord, BothWords, FollowsBy, found_at}
 use Rattle.cfi_world.specs.Checks.{bary_in, tary_in}
-use Rattle.cfi_world.specs.Moments.{ComesFor, IsLastTryOf, LeavesTry, LoadsBary, LoadsTary, OnlyFetches, world_at}
+use Rattle.cfi_world.specs.Moments.{ComesFor, IsLastTryOf, LeavesTry, LoadsBary, OnlyFetches, world_at}
 use Rattle.cfi_world.specs.declared.event.Event.{Event}
 
 -- ---- what a try has found follows from how far the guest is in its check, what it waits for, and whether it keeps a
@@ -29,28 +29,29 @@ found_in p r = found_by (r.base.pc - p.pc) r.waits r.bary
 far : (start k : ℕ) → start + 4 * k - start ≡ 4 * k
 far start k = omega arith
 
-found_for : (p : State) (k : ℕ) (wait : Option Wait) (bary : Option ℕ) (found : Found)
-    → found_by (4 * k) wait bary ≡ found → found_by (p.pc + 4 * k - p.pc) wait bary ≡ found
-found_for p k wait bary found is = ap (λ d. found_by d wait bary) (far p.pc k) ∙ is
+found_for : (p : State) (k : ℕ) (r : Raw) (found : Found) → r.base.pc ≡ p.pc + 4 * k
+    → found_by (4 * k) r.waits r.bary ≡ found → found_in p r ≡ found
+found_for p k r found at is =
+    ap (λ pc. found_by (pc - p.pc) r.waits r.bary) at ∙ ap (λ d. found_by d r.waits r.bary) (far p.pc k) ∙ is
 
 pub found_is : (p : State) (n slot target : ℕ) (v : Values) (place : CheckPlace)
     → found_in p (check_raw p n slot target v place) ≡ found_at place
-found_is p n slot target v Aimed = found_for p 1 _ _ Neither refl
-found_is p n slot target v Split = found_for p 2 _ _ Neither refl
-found_is p n slot target v Far = found_for p 12 _ _ Neither refl
-found_is p n slot target v Trying = found_for p 3 _ _ Neither refl
-found_is p n slot target v Pointed = found_for p 4 _ _ Neither refl
-found_is p n slot target v AskedBary = found_for p 5 _ _ Neither refl
-found_is p n slot target v FoundBary = found_for p 5 _ _ SlotWord refl
-found_is p n slot target v Tabled = found_for p 6 _ _ SlotWord refl
-found_is p n slot target v Added = found_for p 7 _ _ SlotWord refl
-found_is p n slot target v AskedTary = found_for p 8 _ _ SlotWord refl
-found_is p n slot target v FoundTary = found_for p 8 _ _ BothWords refl
-found_is p n slot target v Differed = found_for p 9 _ _ BothWords refl
-found_is p n slot target v Compared = found_for p 10 _ _ BothWords refl
-found_is p n slot target v Lowered = found_for p 11 _ _ BothWords refl
-found_is p n slot target v Refused = found_for p 12 _ _ BothWords refl
-found_is p n slot target v Allowed = found_for p 13 _ _ BothWords refl
+found_is p n slot target v Aimed = found_for p 1 (check_raw p n slot target v Aimed) Neither refl refl
+found_is p n slot target v Split = found_for p 2 (check_raw p n slot target v Split) Neither refl refl
+found_is p n slot target v Far = found_for p 12 (check_raw p n slot target v Far) Neither refl refl
+found_is p n slot target v Trying = found_for p 3 (check_raw p n slot target v Trying) Neither refl refl
+found_is p n slot target v Pointed = found_for p 4 (check_raw p n slot target v Pointed) Neither refl refl
+found_is p n slot target v AskedBary = found_for p 5 (check_raw p n slot target v AskedBary) Neither refl refl
+found_is p n slot target v FoundBary = found_for p 5 (check_raw p n slot target v FoundBary) SlotWord refl refl
+found_is p n slot target v Tabled = found_for p 6 (check_raw p n slot target v Tabled) SlotWord refl refl
+found_is p n slot target v Added = found_for p 7 (check_raw p n slot target v Added) SlotWord refl refl
+found_is p n slot target v AskedTary = found_for p 8 (check_raw p n slot target v AskedTary) SlotWord refl refl
+found_is p n slot target v FoundTary = found_for p 8 (check_raw p n slot target v FoundTary) BothWords refl refl
+found_is p n slot target v Differed = found_for p 9 (check_raw p n slot target v Differed) BothWords refl refl
+found_is p n slot target v Compared = found_for p 10 (check_raw p n slot target v Compared) BothWords refl refl
+found_is p n slot target v Lowered = found_for p 11 (check_raw p n slot target v Lowered) BothWords refl refl
+found_is p n slot target v Refused = found_for p 12 (check_raw p n slot target v Refused) BothWords refl refl
+found_is p n slot target v Allowed = found_for p 13 (check_raw p n slot target v Allowed) BothWords refl refl
 
 -- between two units it has found none
 pub found_none : (p : State) (r : Raw) → r.base.pc ≡ p.pc → found_in p r ≡ Neither

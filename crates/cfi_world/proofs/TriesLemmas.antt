@@ -1,12 +1,10 @@
 -- The tries that a unit has repeated when it ends are those that its guest had repeated before.
-use Rattle.std.proofs.Common.{◌≡◌, ◌≢◌, ℕ, ℤ, zero, suc, ◌+◌, ◌*◌, ◌/◌, ◌<◌, ◌≤◌, ◌^◌, ◌&&◌, nat_lt, cond, Bool, true, false, List, Option, Some, None, ◌⊎◌, inl, inr, refl, sym, ap, ◌∙◌, subst, arith}
-use Rattle.std.proofs.lemmas.Bool.Decides.{nat_tests}
+use Rattle.std.proofs.Common.{◌≡◌, ◌≢◌, ℕ, ℤ, zero, suc, ◌+◌, ◌*◌, ◌/◌, ◌≤◌, ◌&&◌, nat_lt, cond, Bool, true, false, List, Some, None, ◌⊎◌, inl, inr, refl, sym, ap, ◌∙◌, subst, arith}
 use Rattle.rv_insn.specs.InsnOf.{insn_of}
 use Rattle.cfi_unit.proofs.CodeLemmas.{BeginsAt-one}
 use Rattle.cfi_unit.specs.declared.unit.Unit.{Unit as CodeUnit}
 use Rattle.cfi_unit.specs.declared.unit.Unit.TheVariants as units
 use Rattle.cfi_word.specs.declared.map.TheConstants.{CODE_BYTES}
-use Rattle.cfi_model.specs.declared.act.Wait.{Wait}
 use Rattle.cfi_model.specs.declared.act.Wait.TheVariants as waits
 use Rattle.cfi_model.specs.Data.{is_aligned}
 use Rattle.cfi_model.specs.Effect.{check_steps, effect, is_in_code}
@@ -14,12 +12,12 @@ use Rattle.cfi_model.specs.Fits.{Fits, FitsReply}
 use Rattle.cfi_model.specs.History.{History, IsHistory, allows_at}
 use Rattle.cfi_model.specs.Raw.{Raw}
 use Rattle.cfi_model.specs.Run.{Take, Word, Served, take_one, take_word}
-use Rattle.cfi_model.specs.Shows.{IsBetween, IsReady, IsRetried, end_of}
+use Rattle.cfi_model.specs.Shows.{IsBetween, IsRetried, end_of}
 use Rattle.cfi_model.specs.State.{State, register, displaced}
 use Rattle.cfi_model.proofs.AdvanceLemmas.{Running, check_next}
 use Rattle.cfi_model.proofs.AfterLemmas.{begin_counts}
 use Rattle.cfi_model.proofs.CheckFinish.{whole_in_code}
-use Rattle.cfi_model.proofs.CheckPlaces.{CheckPlace, Aimed, Split, Far, Trying, Pointed, AskedBary, FoundBary, Tabled, Added, AskedTary, FoundTary, Differed, Compared, Lowered, Refused, Allowed, Values, check_raw, CheckHolds, IsTried, Found, Neither, SlotWord, BothWords, found_at}
+use Rattle.cfi_model.proofs.CheckPlaces.{CheckPlace, Aimed, Split, Far, Trying, Pointed, AskedBary, FoundBary, Tabled, Added, AskedTary, FoundTary, Differed, Compared, Lowered, Refused, Allowed, Values, check_raw, CheckHolds, IsTried, Neither, SlotWord, BothWords, found_at}
 use Rattle.cfi_model.proofs.EndLemmas.{effect_units}
 use Rattle.cfi_model.proofs.LawLemmas.{At, Begun, Ended}
 use Rattle.cfi_model.proofs.ShownLemmas.{shows_running, shows_units}

@@ -1,5 +1,5 @@
 -- A guest within a check: at which of its places, and what it waits for.
-use Rattle.std.proofs.Common.{◌≡◌, ◌≢◌, ℕ, ℤ, ◌+◌, ◌*◌, ◌/◌, ◌<◌, ◌≤◌, Bool, List, length, Option, Some, None, ◌⊎◌, inl, inr, refl, sym, ap, ◌∙◌, subst, arith}
+use Rattle.std.proofs.Common.{◌≡◌, ℕ, ℤ, ◌+◌, ◌*◌, ◌/◌, ◌<◌, Bool, List, Some, None, inl, inr, refl, sym, ap, ◌∙◌, subst, arith}
 use Rattle.std.proofs.lemmas.Option.{none-some}
 use Rattle.cfi_unit.proofs.CodeLemmas.{BeginsAt-one}
 use Rattle.cfi_unit.specs.declared.unit.Unit.{Unit as CodeUnit}
@@ -9,10 +9,9 @@ use Rattle.cfi_model.specs.declared.act.Wait.{Wait}
 use Rattle.cfi_model.specs.declared.act.Wait.TheVariants as waits
 use Rattle.cfi_model.specs.History.{History}
 use Rattle.cfi_model.specs.Raw.{Raw}
-use Rattle.cfi_model.specs.Shows.{IsBetween, MayWait, Stands}
-use Rattle.cfi_model.specs.State.{State, register, displaced}
+use Rattle.cfi_model.specs.Shows.{MayWait, Stands}
+use Rattle.cfi_model.specs.State.{State}
 use Rattle.cfi_model.proofs.AdvanceLemmas.{Running}
-use Rattle.cfi_model.proofs.CheckPlaces as check
 use Rattle.cfi_model.proofs.CheckPlaces.{CheckPlace, Aimed, Split, Far, Trying, Pointed, AskedBary, FoundBary, Tabled, Added, AskedTary, FoundTary, Differed, Compared, Lowered, Refused, Allowed, Values, check_raw}
 use Rattle.cfi_model.proofs.LawLemmas.{At, Begun}
 use Rattle.cfi_model.proofs.MaskedLemmas as masked

@@ -21,6 +21,7 @@ ghost use Rattle.cfi_world.specs.Premises.{CanOpen, MayTurn};
 ghost use Rattle.cfi_world.specs.Retry.{call_world, call_guests, call_image, endings_after, kept_after, forces_along};
 ghost use Rattle.cfi_world.specs.Retry.{load_count, load_events, load_forces, load_phases, loads, phases_along};
 ghost use Rattle.cfi_world.specs.Retry.{picked_ending, refresh_answers, refresh_events, retry_events, tried_words};
+ghost use Rattle.cfi_world.specs.Steps.{RunsAreSteps};
 ghost use Rattle.cfi_world.specs.Turns.{nothing, turn_of};
 ghost use Rattle.cfi_world.specs.Worlds.{IsWorld};
 ghost use Rattle.cfi_world.specs.declared.event.Event.TheVariants.{Begin, Guest, Update};
@@ -51,6 +52,15 @@ pub fn events_refine_guests()
     ensures halts { HaltsAreForbidden }
     ensures units { GuestsStandInUnits }
     ensures led { LastWordsAreLedTo }
+{}
+
+/// After any list of events from the opening on, each guest has made some number of steps of the policy machine.
+///
+/// It shows the state to which they have led. Each step came with one event, and each check that asked a policy was run
+/// under that of an epoch which was in force at each moment of its window: from the load of its slot's word to that of
+/// its target's, the two words that its guest kept.
+pub fn runs_are_steps()
+    ensures { RunsAreSteps }
 {}
 
 /// Of which epochs the words are that a try finds.
