@@ -118,7 +118,8 @@ module _ (w : World) (is : IsWorld w) (run : List Event) (may : MayTurns w run) 
       let other : IsServing load.r.waits → ⊥ = λ serving. subst IsServing load.waits serving in
       let next = ap (λ v. slice_get v.guests guest) (next_world w run moment (Guest guest) load.event)
       ∙ after_own (at moment) guest load.r load.there (at_is moment) load.going other in
-      let is_now = same_guest r (rested (at moment).fuel (taken (at moment) guest load.r load.there)) (sym there ∙ next) in
+      let is_now = same_guest r (rested (at moment).fuel (taken (at moment) guest load.r load.there))
+      (sym there ∙ next) in
       let found : ℕ = word_for (at moment) guest load.r load.there None in
       let begun : taken (at moment) guest load.r load.there ≡ begin_of load.r found =
       ap (λ x. take_word x load.r (word_for (at moment) guest load.r load.there x)) load.waits in
@@ -155,8 +156,8 @@ module _ (w : World) (is : IsWorld w) (run : List Event) (may : MayTurns w run) 
       let seat = (at_is moment).running guest r there in (
         seat.retries,
         seat.shown,
-        going_runs (history_of (at moment).tables) (code_in_force (at moment).tables) seat.retries seat.shown r seat.runs
-            going,
+        going_runs (history_of (at moment).tables) (code_in_force (at moment).tables) seat.retries seat.shown r
+            seat.runs going,
       )
 
   kept_there : try.tary.1.r.bary ≡ Some word
@@ -167,8 +168,8 @@ module _ (w : World) (is : IsWorld w) (run : List Event) (may : MayTurns w run) 
       let code : List ℕ = code_in_force t in
       let of = running_at to load.r load.there load.going in
       let running = running_is h code (history_is t (at_is to).tables) of.0 of.1 load.r of.2 in
-      let in_check = waits_in_check h code of.1 of.0 load.r (waits.Tary target try.tary.0) (λ serving. serving) load.waits
-      running in
+      let in_check = waits_in_check h code of.1 of.0 load.r (waits.Tary target try.tary.0) (λ serving. serving)
+      load.waits running in
       let begun = in_check.begun in
       let keeps : load.r.bary ≡ Some begun.values.bary =
       ap (λ x. x.bary) begun.is ∙ keeps_bary of.1 (of.0 + begun.more) in_check.slot
@@ -226,8 +227,8 @@ module _ (w : World) (is : IsWorld w) (run : List Event) (may : MayTurns w run) 
         omega (arith, picked.0, picked.1, least, up, on) in
         record {
           epoch_is = epoch;
-          policy_is = policy_holds (at moment).tables (at to).tables (at_is moment).tables (at_is to).tables other target
-              epoch;
+          policy_is = policy_holds (at moment).tables (at to).tables (at_is moment).tables (at_is to).tables other
+              target epoch;
         }
 
     pub held_throughout : IsHeldThroughout w run slot target from to

@@ -111,7 +111,8 @@ module _ (h : History) (code : List ℕ) (p : State) (retries : ℕ) where
         tried _ a 12 more 3 _ _ _ _ _ _ _ r is (omega arith, omega arith) tt tt two
         (λ again there. absurd (omega (arith, there))) (sym (ap (λ b. cond b 3 12) (past_test target holds.1)))
     check_tried more two v check.Trying r is holds =
-        tried _ a 3 more 3 _ _ _ _ _ _ _ r is (omega arith, omega arith) tt tt two (λ again there. holds.words again) refl
+        tried _ a 3 more 3 _ _ _ _ _ _ _ r is (omega arith, omega arith) tt tt two
+        (λ again there. holds.words again) refl
     check_tried more two v check.Pointed r is holds =
         tried _ a 4 more 4 _ _ _ _ _ _ _ r is (omega arith, omega arith) tt tt two
         (λ again there. absurd (omega (arith, there))) refl
@@ -196,17 +197,18 @@ module _ (h : History) (code : List ℕ) (p : State) (retries : ℕ) where
 
 pub running_repeated : (h : History) (code : List ℕ) → IsHistory h code → (retries : ℕ) (s : State) (r : Raw)
     → IsRunning h code retries s r → (tries : ℕ) × HasRepeated h code retries s r tries
-running_repeated h code known retries s r runs = repeated_by h code s retries r (running_is h code known retries s r runs)
+running_repeated h code known retries s r runs =
+    repeated_by h code s retries r (running_is h code known retries s r runs)
 
 -- ---- there is one number
 
-same_units : (h : History) (code : List ℕ) (retries : ℕ) (s : State) (r : Raw) (one other : IsInside h code retries s r)
-    → one.unit ≡ other.unit
+same_units : (h : History) (code : List ℕ) (retries : ℕ) (s : State) (r : Raw)
+    (one other : IsInside h code retries s r) → one.unit ≡ other.unit
 same_units h code retries s r one other =
     BeginsAt-one code (s.pc / 4) one.unit other.unit one.stands.begins other.stands.begins
 
-same_places : (h : History) (code : List ℕ) (retries : ℕ) (s : State) (r : Raw) (one other : IsInside h code retries s r)
-    → one.at ≡ other.at
+same_places : (h : History) (code : List ℕ) (retries : ℕ) (s : State) (r : Raw)
+    (one other : IsInside h code retries s r) → one.at ≡ other.at
 same_places h code retries s r one other =
     let a = ap (λ b. b.pc) one.base in
     let b = ap (λ b. b.pc) other.base in

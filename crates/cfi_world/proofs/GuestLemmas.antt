@@ -30,7 +30,8 @@ guest_units h code known retries s r (inr over) =
     ap (λ x. x.base.units) over.2.is
     ∙ shows_units h code retries s over.0 (running_shows h code known retries s over.0 over.1)
 
-pub guest_ready : (h : History) (code : List ℕ) (retries : ℕ) (s : State) (r : Raw) → IsGuest h code retries s r → IsReady h s
+pub guest_ready : (h : History) (code : List ℕ) (retries : ℕ) (s : State) (r : Raw) → IsGuest h code retries s r
+    → IsReady h s
 guest_ready h code retries s r (inl runs) = runs.rests.ready
 guest_ready h code retries s r (inr over) = over.1.rests.ready
 

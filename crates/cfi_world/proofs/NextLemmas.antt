@@ -101,7 +101,8 @@ module _ (o : Over) where
     given = answer_in event
 
     pub refined : IsRefined (at n) new given guest r retries s
-    refined = refines (at n) (at_is n) guest r there retries s shows event (may_here o.w o.is o.run o.may n event x.comes)
+    refined = refines (at n) (at_is n) guest r there retries s shows event
+        (may_here o.w o.is o.run o.may n event x.comes)
 
     abbrev now : Raw
     now = refined.now
@@ -143,7 +144,8 @@ module _ (o : Over) where
         let whole : now ≡ next =
         is_now ∙ not_rested (at n).fuel next (sym (ap (λ y. y.base.stop) is_now) ∙ going_now) in
         let before : Stands (code n) s.pc (units.Check link rs1 imm slot) =
-        subst (λ (t : Tables). Stands (code_in_force t) s.pc (units.Check link rs1 imm slot)) (own_tables takes.0) stands in
+        subst (λ (t : Tables). Stands (code_in_force t) s.pc (units.Check link rs1 imm slot)) (own_tables takes.0)
+        stands in
         subst (λ y. HoldsTry o.w o.run guest (found_in s y) (n + 1) slot (displaced (register s rs1) imm) y.bary y.tary)
         (sym whole)
         (taken.holds_still o n x takes.0 takes.1 quiet link rs1 imm slot before
@@ -154,8 +156,8 @@ module _ (o : Over) where
         let leaves : LeavesTry o.w o.run guest n =
         inl (ap (λ v. slice_get v.guests guest) (taken.next_is o n x) ∙ left ∙ sym there) in
         subst (Traced (n + 1) s) (sym (left_now left))
-        (taken.traced_later o n r s (guest_ready (h n) (code n) retries s r shows) (taken.shown_going o n retries s r shows)
-        leaves x.traced)
+        (taken.traced_later o n r s (guest_ready (h n) (code n) retries s r shows)
+        (taken.shown_going o n retries s r shows) leaves x.traced)
 
     -- an event in a service, of a guest that shows the same
     served_traced : IsServing r.waits → refined.after ≡ s → Traced (n + 1) s now
@@ -256,7 +258,8 @@ module _ (o : Over) where
       asks_by (units.Store kind rs1 rs2 imm) same = tt
       asks_by units.Service same = tt
 
-      pub step_at : IsStepAt o.w o.run guest (record { moment = n; state = s; retries = retries }) refined.more refined.after
+      pub step_at : IsStepAt o.w o.run guest (record { moment = n; state = s; retries = retries }) refined.more
+          refined.after
       step_at = record {
         event = event;
         comes = x.comes;
@@ -271,5 +274,6 @@ module _ (o : Over) where
       pub ended_traced : Traced (n + 1) refined.after now
       ended_traced going_now link rs1 imm slot stands =
           let going = taken.shown_going o (n + 1) refined.more refined.after now shows_next going_now in
-          subst (λ f. HoldsTry o.w o.run guest f (n + 1) slot (displaced (register refined.after rs1) imm) now.bary now.tary)
+          subst (λ f. HoldsTry o.w o.run guest f (n + 1) slot (displaced (register refined.after rs1) imm) now.bary
+          now.tary)
           (sym (found_none refined.after now (stepped.begins going))) tt

@@ -103,7 +103,8 @@ module _ (code_words versions first : ℕ) (image : Image) (guests : List Raw) (
       → IsRunning (history_of tables) (code_in_force tables) 0 r.base r
   opened_guest guest r here =
       let from = can.opened guest r here in
-      subst (λ x. IsRunning (history_of tables) (code_in_force tables) 0 x.base x) (sym from.is) (opened_from guest r from)
+      subst (λ x. IsRunning (history_of tables) (code_in_force tables) 0 x.base x) (sym from.is)
+      (opened_from guest r from)
 
   opened_seat : (guest : ℕ) (r : Raw) → slice_get guests guest ≡ Some r
       → AreSeated tables tables_are fuel guest (seat_of opened guest r)

@@ -25,7 +25,8 @@ use Rattle.cfi_world.specs.declared.event.Event.TheVariants.{Guest}
 use Rattle.cfi_world.proofs.FitLemmas.{fetch_fits, bary_fits, tary_fits}
 use Rattle.cfi_world.proofs.RestLemmas.{Goes, Stops, rest_of}
 
-set_there : (gs : _) (guest : ℕ) (r v : Raw) → slice_get gs guest ≡ Some r → slice_get (slice_set gs guest v) guest ≡ Some v
+set_there : (gs : _) (guest : ℕ) (r v : Raw) → slice_get gs guest ≡ Some r
+    → slice_get (slice_set gs guest v) guest ≡ Some v
 set_there gs guest r v here =
     let inside = slice_get_within gs guest r here in
     slice_get-get_or (slice_set gs guest v) guest v (omega (arith, inside, length-set gs guest v))
@@ -41,8 +42,8 @@ module _ (w : World) (guest : ℕ) (r : Raw) (here : slice_get w.guests guest �
       × (slice_get own.guests guest ≡ Some (seat_after w.tables w.fuel (seat_of w guest r)).guest))
   own_by true is =
       inl (ap (λ o. slice_get (guest_turn w guest o).world.guests guest) here
-      ∙ ap (λ b. slice_get (cond b (nothing w) (seated w guest (seat_after w.tables w.fuel (seat_of w guest r)))).world.guests
-      guest) is ∙ here)
+      ∙ ap (λ b. slice_get (cond b (nothing w)
+      (seated w guest (seat_after w.tables w.fuel (seat_of w guest r)))).world.guests guest) is ∙ here)
   own_by false is = inr (
     is,
     ap (λ o. slice_get (guest_turn w guest o).world.guests guest) here

@@ -64,8 +64,8 @@ module _ (h : History) (code : List ℕ) (known : IsHistory h code) (p : State) 
         same = equal-allows h code slot target v.bary v.tary known words all.1;
       }
 
-  word_here : (n : ℕ) (more : ℕ) (v : Values) (place : CheckPlace) → r ≡ check_raw p (retries + more) slot target v place
-      → r.base.pc ≡ p.pc + 4 * n → word_of_place place ≡ n
+  word_here : (n : ℕ) (more : ℕ) (v : Values) (place : CheckPlace)
+      → r ≡ check_raw p (retries + more) slot target v place → r.base.pc ≡ p.pc + 4 * n → word_of_place place ≡ n
   word_here n more v place is pc =
       let here = ap (λ x. x.base.pc) is ∙ place_pc p (retries + more) slot target v place in
       omega (arith, here, pc)
@@ -251,7 +251,8 @@ module _ (w : World) (is : IsWorld w) (guest : ℕ) (r now : Raw) (here : slice_
         let from = back.from in
         let both = within_check h code known s retries r link rs1 imm slot stands going 11 (omega arith) from running in
         let last = is_lowered both.1.place
-        (word_here h code known s retries r link rs1 imm slot 11 both.1.more both.1.values both.1.place both.1.is from) in
+        (word_here h code known s retries r link rs1 imm slot 11 both.1.more both.1.values both.1.place both.1.is
+        from) in
         let idle : r.waits ≡ None =
         ap (λ x. x.waits) (both.1.is ∙ ap (check_raw s (retries + both.1.more) slot (displaced (register s rs1) imm)
         both.1.values) last) in

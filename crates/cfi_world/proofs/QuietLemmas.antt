@@ -125,7 +125,8 @@ module _ (w : World) (is : IsWorld w) (guest : ℕ) where
       (seated w other (seat_after w.tables w.fuel (seat_of w other r)))).world guest)
   guest_by other r here true test = kept w refl
   guest_by other r here false test =
-      seated_rises other r here (not_some r.base.stop (neither (is_some r.base.stop) (is_asking (point_of w other)) test).0)
+      seated_rises other r here
+      (not_some r.base.stop (neither (is_some r.base.stop) (is_asking (point_of w other)) test).0)
 
   guest_rises : (other : ℕ) (o : Option Raw) → slice_get w.guests other ≡ o
       → Rises old (quiet_of (guest_turn w other o).world guest)

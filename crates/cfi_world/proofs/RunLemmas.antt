@@ -55,7 +55,8 @@ module _ (o : Over) where
         comes = comes;
       }
 
-      abbrev then : IsRefined (at n) (turn_of (at n) event).world (answer_in event) o.guest has.now has.retries has.state
+      abbrev then :
+          IsRefined (at n) (turn_of (at n) event).world (answer_in event) o.guest has.now has.retries has.state
       then = refined o n here
 
       by_moves : ((then.more ≡ has.retries) × (then.after ≡ has.state))
@@ -114,7 +115,8 @@ module _ (o : Over) where
             steps = has.steps;
             made = made_later start has.steps n has.retries has.state has.made;
           };
-          traced = taken.traced_later o n has.now has.state (guest_ready (h n) (code n) has.retries has.state has.now has.shows)
+          traced = taken.traced_later o n has.now has.state
+              (guest_ready (h n) (code n) has.retries has.state has.now has.shows)
               (taken.shown_going o n has.retries has.state has.now has.shows) leaves goes.traced;
         }
 

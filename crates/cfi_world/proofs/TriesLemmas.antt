@@ -109,14 +109,15 @@ many_of h p slot target bary tary steps tried (inl few) =
     absurd (never_both (is_in_code target) (whole_in_code target tried.low tried.whole) few.0)
 many_of h p slot target bary tary steps tried (inr many) = many.1
 
-module _ (h : History) (p : State) (more slot target tries : ℕ) (v : Values) (steps : ℕ) (by : StepsBy target steps) where
-  at_neither : (n : ℕ) → 2 ≤ n → n ≤ 8 → (is_in_code target ≡ true → Neither ≡ BothWords) → steps + 9 * tries ≡ 9 * more + n
-      → tries ≡ more
+module _ (h : History) (p : State) (more slot target tries : ℕ) (v : Values) (steps : ℕ)
+    (by : StepsBy target steps) where
+  at_neither : (n : ℕ) → 2 ≤ n → n ≤ 8 → (is_in_code target ≡ true → Neither ≡ BothWords)
+      → steps + 9 * tries ≡ 9 * more + n → tries ≡ more
   at_neither n least most asks sum =
       early n more tries steps least most (few_of target steps (λ inside. never_neither (asks inside)) by) sum
 
-  at_slot : (n : ℕ) → 2 ≤ n → n ≤ 8 → (is_in_code target ≡ true → SlotWord ≡ BothWords) → steps + 9 * tries ≡ 9 * more + n
-      → tries ≡ more
+  at_slot : (n : ℕ) → 2 ≤ n → n ≤ 8 → (is_in_code target ≡ true → SlotWord ≡ BothWords)
+      → steps + 9 * tries ≡ 9 * more + n → tries ≡ more
   at_slot n least most asks sum =
       early n more tries steps least most (few_of target steps (λ inside. never_slot (asks inside)) by) sum
 
@@ -200,8 +201,8 @@ module _ (h : History) (code : List ℕ) (known : IsHistory h code) (p : State) 
   -- ---- the unit that ends
 
   -- a unit that goes on has not ended
-  pub never_ends : (t : Take) → Running h code p retries (take_one r t) → Ended h code retries (end_of r t) p (take_one r t)
-      → ⊥
+  pub never_ends : (t : Take) → Running h code p retries (take_one r t)
+      → Ended h code retries (end_of r t) p (take_one r t) → ⊥
   never_ends t on e =
       let still = shows_units h code retries p (take_one r t) (shows_running h code p retries (take_one r t) on) in
       let counts = ap (λ b. b.units) e.between.base ∙ ap (λ x. x.units) e.step.is
@@ -239,7 +240,8 @@ module _ (h : History) (code : List ℕ) (known : IsHistory h code) (p : State) 
       let all = ended_steps t e link rs1 imm slot same in
       let one = fetched_steps t fits between.idle in
       let before = ap (λ b. b.steps) between.base in
-      none (displaced (register p rs1) imm) (check_steps (displaced (register p rs1) imm) (allows_at h e.step.epoch slot (displaced (register p rs1) imm)))
+      none (displaced (register p rs1) imm)
+      (check_steps (displaced (register p rs1) imm) (allows_at h e.step.epoch slot (displaced (register p rs1) imm)))
       (steps_by (displaced (register p rs1) imm) (allows_at h e.step.epoch slot (displaced (register p rs1) imm)))
       (omega (arith, all, one, before)))
     where

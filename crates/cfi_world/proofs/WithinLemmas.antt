@@ -62,7 +62,8 @@ module _ (h : History) (code : List ℕ) (p : State) (retries : ℕ) (r : Raw) w
       → (unit : CodeUnit) → At h code p unit → Begun h p unit retries r
       → At h code p (units.Check link rs1 imm slot) × Begun h p (units.Check link rs1 imm slot) retries r
   stands_in_check link rs1 imm slot stands unit at begun =
-      let same = BeginsAt-one code (p.pc / 4) unit (units.Check link rs1 imm slot) at.here.stands.begins stands.begins in
+      let same = BeginsAt-one code (p.pc / 4) unit (units.Check link rs1 imm slot) at.here.stands.begins
+      stands.begins in
       subst (λ (u : CodeUnit). At h code p u × Begun h p u retries r) same (at, begun)
 
 -- ---- the words at which a check's places are
@@ -182,7 +183,8 @@ keeps_bary p n slot target at rd v Allowed e = absurd (cc)
 -- a slot that is waited for is one of the table
 pub slot_low : (code_words : ℕ) (unit : CodeUnit) (s : State) (slot rd : ℕ)
     → MayWait code_words unit s (Some (waits.Bary slot rd)) → slot < slots_of code_words
-slot_low code_words (units.Check link rs1 imm other) s slot rd may = subst (λ k. k < slots_of code_words) (sym may.0) may.1
+slot_low code_words (units.Check link rs1 imm other) s slot rd may =
+    subst (λ k. k < slots_of code_words) (sym may.0) may.1
 slot_low code_words (units.Plain insn) s slot rd may = absurd may
 slot_low code_words (units.Load kind to rs1 imm) s slot rd may = absurd may
 slot_low code_words (units.Store kind rs1 rs2 imm) s slot rd may = absurd may

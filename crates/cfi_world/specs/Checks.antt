@@ -143,8 +143,8 @@ pub record IsPlaced (w : World) (r : Raw) : Type 0 where
 abbrev pub GuestsStandInUnits : Type 0
 GuestsStandInUnits = (w : World) → IsWorld w → (guest : ℕ) (r : Raw) → slice_get w.guests guest ≡ Some r → IsPlaced w r
 
--- on a check's last word, its jump, only a guest is placed whose try has found both words, of one epoch in which the slot
--- and the target have one class; so none that keeps no words
+-- on a check's last word, its jump, only a guest is placed whose try has found both words, of one epoch in which the
+-- slot and the target have one class; so none that keeps no words
 pub record HasPassed (h : History) (slot target : ℕ) (r : Raw) : Type 0 where
   pub epoch : ℕ
   pub known : IsEpoch h epoch
