@@ -42,3 +42,4 @@ pub mod NextLemmas
 pub mod RunLemmas
 pub mod StopLemmas
 pub mod PassedLemmas
+pub mod PutLemmas

@@ -19,6 +19,7 @@ ghost use Rattle.cfi_world.specs.Example.{last_answers, last_events, last_world}
 ghost use Rattle.cfi_world.specs.Example.{open_image, open_guests, open_world, open_events, open_answers, turned_after};
 ghost use Rattle.cfi_world.specs.Premises.{CanOpen, MayTurn};
 ghost use Rattle.cfi_world.specs.Retry.{call_world, call_guests, call_image, endings_after, kept_after, forces_along};
+ghost use Rattle.cfi_world.specs.Retry.{HasTry, NobodyIsPutThere};
 ghost use Rattle.cfi_world.specs.Retry.{load_count, load_events, load_forces, load_phases, loads, phases_along};
 ghost use Rattle.cfi_world.specs.Retry.{picked_ending, refresh_answers, refresh_events, retry_events, tried_words};
 ghost use Rattle.cfi_world.specs.Steps.{RunsAreSteps};
@@ -145,11 +146,18 @@ pub fn some_world_turns()
 ///
 /// A guest calls a function through a pointer, while a module with one more such function is loaded. `tries`: where the
 /// second try begins, the guest keeps words of two epochs. `ends`: both of its checks have picked the later policy.
+/// `once`: without the load it has one try, of two loads of its own.
 pub fn a_check_is_tried_again()
     ensures opens { CanOpen MIN_CODE_WORDS MAX_VERSIONS 0 call_image call_guests 100 }
     ensures may { MayTurns (call_world MAX_VERSIONS) load_events }
     ensures tries { kept_after (call_world MAX_VERSIONS) retry_events ≡ tried_words ∷ [] }
     ensures ends { endings_after (call_world MAX_VERSIONS) load_events ≡ picked_ending 1 ∷ [] }
+    ensures once { HasTry }
+{}
+
+/// A guest on the last word of its check, the jump to an edge that is allowed, to which nothing led it, is not placed.
+pub fn nobody_is_put_on_a_jump()
+    ensures { NobodyIsPutThere }
 {}
 
 /// A load goes through its phases one by one, and the policy in force changes at the one store of EPOCH.

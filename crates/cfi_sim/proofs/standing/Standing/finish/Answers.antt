@@ -11,19 +11,19 @@ loop-self-init c = none_advanced c.args.self.now c.requires.under_way c.requires
 -- there were too many events
 pub returns-then-not-made : goal.returns-then-not-made
 returns-then-not-made c =
-    more_stuck c.args.self.now c.loop-self.self c.advance-in-loop-self.new.self c.loop-self.invariant
+    more_stuck c.args.self.now c.loop-self.self c.advance.new.self c.loop-self.invariant
     (subst (λ (w : Whole). is_idle (phase_of w.stage.world.tables) ≡ false) c.self.view_is
     (ap is_idle (sym c.phase.ensures) ∙ sym c.is_idle.ensures ∙ c.loop-self-test.true)) c.in_ok-made.made
     c.if-not-made.true c.in_ok-made.ensures
 
 pub loop-self-smaller : goal.loop-self-smaller
 loop-self-smaller c =
-    fewer_left c.loop-self.self c.advance-in-loop-self.new.self c.in_ok-made.made c.if-not-made.false
+    fewer_left c.loop-self.self c.advance.new.self c.in_ok-made.made c.if-not-made.false
     c.in_ok-made.ensures
 
 pub loop-self-preserved : goal.loop-self-preserved
 loop-self-preserved c =
-    more_advanced c.args.self.now c.loop-self.self c.advance-in-loop-self.new.self c.loop-self.invariant
+    more_advanced c.args.self.now c.loop-self.self c.advance.new.self c.loop-self.invariant
     c.in_ok-made.made
     c.if-not-made.false c.in_ok-made.ensures
 
