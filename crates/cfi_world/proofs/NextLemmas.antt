@@ -265,8 +265,10 @@ module _ (o : Over) where
         comes = x.comes;
         r = r;
         there = there;
+        showed = shows;
         now = now;
         after = there_next;
+        shows = shows_next;
         stepped = stepped;
         asks = asks_by stepped.step.unit refl;
       }

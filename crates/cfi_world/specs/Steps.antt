@@ -44,15 +44,20 @@ pub record Before : Type 0 where
   pub state : State
   pub retries : ℕ
 
--- the event of that moment has ended a unit of the guest, and the policy machine has run it
+-- the event of that moment has ended a unit of the guest, which showed the state before it and shows the next one after
+-- it, and the policy machine has run that unit
 pub record IsStepAt (w : World) (run : List Event) (guest : ℕ) (from : Before) (retries : ℕ) (state : State) : Type 0
   where
     pub event : Event
     pub comes : slice_get run from.moment ≡ Some event
     pub r : Raw
     pub there : slice_get (world_at w run from.moment).guests guest ≡ Some r
+    pub showed : (let t = (world_at w run from.moment).tables in
+        IsGuest (history_of t) (code_in_force t) from.retries from.state r)
     pub now : Raw
     pub after : slice_get (world_at w run (from.moment + 1)).guests guest ≡ Some now
+    pub shows : (let t = (world_at w run (from.moment + 1)).tables in
+        IsGuest (history_of t) (code_in_force t) retries state now)
     pub stepped : (let t = (world_at w run from.moment).tables in
         IsStepped (history_of t) (code_in_force t) (answer_in event) from.retries from.state r now retries state)
     pub asks : (let epoch = stepped.step.epoch in
