@@ -35,8 +35,7 @@ module _ (plan : Plan) (modules : List Module) (P : Stage → Type 0)
   line_keeps Refresh old new makes few holds = kept old holds OfRefresh new makes (few OfRefresh)
   line_keeps (Update count) old new makes few holds = repeated OfUpdate (λ s. tt) count old new makes holds
   line_keeps UpdateAll old new makes few holds =
-      kept makes.before (repeated OfUpdate (λ s. tt) makes.more old makes.before makes.events holds) OfUpdate new
-      makes.last tt
+      repeated OfUpdate (λ s. tt) makes.count old new makes.events holds
   line_keeps (Release guest) old new makes few holds = kept old holds (OfRelease guest) new makes tt
 
   pub made_keeps : (text : List ℕ) (old new : Stage) → LineMakes plan modules text old new → P old → P new

@@ -1,5 +1,5 @@
 -- A schedule makes one stage.
-use Rattle.std.proofs.Common.{◌≡◌, ℕ, zero, suc, ◌<◌, ◌++◌, List, [], ◌∷◌, Some, None, All, sym, ap, subst, ◌∙◌, ⊎_elim, arith}
+use Rattle.std.proofs.Common.{◌≡◌, ℕ, zero, suc, ◌<◌, ◌++◌, List, [], ◌∷◌, Some, None, All, sym, ap, subst, ◌∙◌, ⊎_elim}
 use Rattle.std.proofs.lemmas.Bool.{cases_order}
 use Rattle.cfi_aux.specs.declared.modules.Module.{Module}
 use Rattle.cfi_aux.specs.Sound.{IsSoundModule}
@@ -36,27 +36,24 @@ module _ (plan : Plan) (modules : List Module) where
       let same : p.0 ≡ q.0 = updates_once count old p.0 q.0 p.1 q.1 in
       update_once plan modules q.0 x y (subst (λ (s : Stage). IsUpdateEvent plan modules s x) same p.2) q.2
 
-  -- a whole update is over with the first access after which none is under way
+  -- a whole update is over where none is under way
   not_sooner : (old x y : Stage) (p : IsWholeUpdate plan modules old x) (q : IsWholeUpdate plan modules old y)
-      → p.more < q.more → ⊥
+      → p.count < q.count → ⊥
   not_sooner old x y p q less =
-      let of = earlier (IsUpdateEvent plan modules) (update_counts plan modules) (suc q.more) (suc p.more) old y
-      (omega (arith, less)) (q.before, q.events, q.last) in
-      let same : of.mid ≡ x = updates_once (suc p.more) old of.mid x of.before (p.before, p.events, p.last) in
+      let of = earlier (IsUpdateEvent plan modules) (update_counts plan modules) q.count p.count old y less q.events in
+      let same : of.mid ≡ x = updates_once p.count old of.mid x of.before p.events in
       of.event.busy (ap (λ (s : Stage). phase_of s.world.tables) same ∙ p.idle)
 
   whole_once : (old x y : Stage) → IsWholeUpdate plan modules old x → IsWholeUpdate plan modules old y → x ≡ y
   whole_once old x y p q =
       ⊎_elim
-      (λ (same : p.more ≡ q.more).
-      let run : Updates (suc p.more) old x = (p.before, p.events, p.last) in
-      updates_once (suc q.more) old x y (subst (λ (n : ℕ). Updates (suc n) old x) same run)
-      (q.before, q.events, q.last))
+      (λ (same : p.count ≡ q.count).
+      updates_once q.count old x y (subst (λ (n : ℕ). Updates n old x) same p.events) q.events)
       (λ apart. ⊎_elim
-      (λ (less : p.more < q.more). absurd (not_sooner old x y p q less))
-      (λ (more : q.more < p.more). absurd (not_sooner old y x q p more))
+      (λ (less : p.count < q.count). absurd (not_sooner old x y p q less))
+      (λ (more : q.count < p.count). absurd (not_sooner old y x q p more))
       apart)
-      (cases_order p.more q.more)
+      (cases_order p.count q.count)
 
   module _ (sound : All IsSoundModule modules) (opening : JournalState) where
     -- ---- a line

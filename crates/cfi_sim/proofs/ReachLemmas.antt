@@ -36,8 +36,7 @@ module _ (plan : Plan) (modules : List Module) where
   line_reaches (Load number) old new makes = one old old new (none old old refl) (OfLoad number) makes
   line_reaches Refresh old new makes = one old old new (none old old refl) OfRefresh makes
   line_reaches (Update count) old new makes = alike OfUpdate count old new makes
-  line_reaches UpdateAll old new makes =
-      one old makes.before new (alike OfUpdate makes.more old makes.before makes.events) OfUpdate makes.last
+  line_reaches UpdateAll old new makes = alike OfUpdate makes.count old new makes.events
   line_reaches (Release guest) old new makes = one old old new (none old old refl) (OfRelease guest) makes
 
   lines_reach : (texts : List (ℕ × List ℕ)) (old new : Stage) → LinesMake plan modules texts old new

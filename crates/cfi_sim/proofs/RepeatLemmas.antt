@@ -142,56 +142,33 @@ module _ (x y : Whole) (k : ℕ) (made : HasMadeWithin (Repeats (IsUpdateEvent x
       (earlier (IsUpdateEvent x.plan x.modules) (update_counts x.plan x.modules) count k x.stage s less more)
 
   -- all that are left of an update
-  pub whole_stuck : (k ≡ 0) ⊎ (IsIdle y.stage.world → ⊥) → IsAtRest y.stage → Cannot (IsWholeUpdate x.plan x.modules) x
+  pub whole_stuck : (IsIdle y.stage.world → ⊥) → IsAtRest y.stage → Cannot (IsWholeUpdate x.plan x.modules) x
   whole_stuck going rest = λ s whole within. by_count s whole within
     where
-      run : (s : Stage) (whole : IsWholeUpdate x.plan x.modules x.stage s)
-          → Repeats (IsUpdateEvent x.plan x.modules) (suc whole.more) x.stage s
-      run s whole = (whole.before, whole.events, whole.last)
-
-      at_end : (s : Stage) (whole : IsWholeUpdate x.plan x.modules x.stage s) → suc whole.more ≡ k
-          → (k ≡ 0) ⊎ (IsIdle y.stage.world → ⊥) → ⊥
-      at_end s whole last (inl none) = absurd (omega (arith, last, none))
-      at_end s whole last (inr busy) =
-          let more = subst (λ (n : ℕ). Repeats (IsUpdateEvent x.plan x.modules) n x.stage s) last (run s whole) in
+      at_end : (s : Stage) (whole : IsWholeUpdate x.plan x.modules x.stage s) → whole.count ≡ k → ⊥
+      at_end s whole last =
+          let more = subst (λ (n : ℕ). Repeats (IsUpdateEvent x.plan x.modules) n x.stage s) last whole.events in
           let same = updates_once x.plan x.modules k x.stage y.stage s made.done.event more in
-          busy (ap (λ (w : World). phase_of w.tables) same ∙ whole.idle)
+          going (ap (λ (w : World). phase_of w.tables) same ∙ whole.idle)
 
-      at_mid : (s : Stage) (whole : IsWholeUpdate x.plan x.modules x.stage s) → suc whole.more < k → ⊥
+      at_mid : (s : Stage) (whole : IsWholeUpdate x.plan x.modules x.stage s) → whole.count < k → ⊥
       at_mid s whole below =
-          let of = earlier (IsUpdateEvent x.plan x.modules) (update_counts x.plan x.modules) k (suc whole.more) x.stage
+          let of = earlier (IsUpdateEvent x.plan x.modules) (update_counts x.plan x.modules) k whole.count x.stage
           y.stage below made.done.event in
-          let same = updates_once x.plan x.modules (suc whole.more) x.stage of.mid s of.before (run s whole) in
+          let same = updates_once x.plan x.modules whole.count x.stage of.mid s of.before whole.events in
           of.event.busy (ap (λ (w : World). phase_of w.tables) same ∙ whole.idle)
 
       by_count : (s : Stage) → IsWholeUpdate x.plan x.modules x.stage s → PassesNoLimit s → ⊥
-      by_count s whole within = elim (cases_lt k (suc whole.more)) [
+      by_count s whole within = elim (cases_lt k whole.count) [
         | inl less ↦
             not_next rest s within
-            (earlier (IsUpdateEvent x.plan x.modules) (update_counts x.plan x.modules) (suc whole.more) k x.stage s less
-            (run s whole))
-        | inr most ↦ elim (cases_lt (suc whole.more) k) [
+            (earlier (IsUpdateEvent x.plan x.modules) (update_counts x.plan x.modules) whole.count k x.stage s less
+            whole.events)
+        | inr most ↦ elim (cases_lt whole.count k) [
           | inl below ↦ at_mid s whole below
-          | inr least ↦ at_end s whole (omega (arith, most, least)) going
+          | inr least ↦ at_end s whole (omega (arith, most, least))
         ]
       ]
-
--- ---- until it is idle
-
-pub whole_made : (x y : Whole) (k : ℕ) → 1 ≤ k → HasMadeWithin (Repeats (IsUpdateEvent x.plan x.modules) k) x y
-    → IsIdle y.stage.world → HasMadeWithin (IsWholeUpdate x.plan x.modules) x y
-whole_made x y zero some made idle = absurd (omega (arith, some))
-whole_made x y (suc more) some made idle =
-    let all = made.done.event in
-    record {
-      done = record {
-        event = record { more = more; before = all.0; events = all.1; last = all.2; idle = idle };
-        plan = made.done.plan;
-        modules = made.done.modules;
-        under_way = made.done.under_way;
-      };
-      within = made.within;
-    }
 
 -- ---- what the functions answer
 
@@ -229,14 +206,11 @@ all_made P x y n count most least made =
 
 -- ---- all accesses that are left
 
--- the first one
-pub first_advanced : (x y : Whole) → IsUnderWay x → PassesNoLimit x.stage → (made : Bool) → made ≡ true
-    → AdvancesBy x y made → HasAdvanced x y
-first_advanced x y under within made is has = record {
-  count = 0 + 1;
-  some = omega arith;
-  made = one_made (λ plan modules old new. IsUpdateEvent plan modules old new) 0 x x y
-      (none_made (IsUpdateEvent x.plan x.modules) x under within) (advance_made x y made is has);
+-- none yet
+pub none_advanced : (x : Whole) → IsUnderWay x → PassesNoLimit x.stage → HasAdvanced x x
+none_advanced x under within = record {
+  count = 0;
+  made = none_made (IsUpdateEvent x.plan x.modules) x under within;
 }
 
 -- one more
@@ -244,7 +218,6 @@ pub more_advanced : (x y z : Whole) → HasAdvanced x y → (made : Bool) → ma
     → HasAdvanced x z
 more_advanced x y z so_far made is has = record {
   count = so_far.count + 1;
-  some = (let some = so_far.some in omega (arith, some));
   made = one_made (λ plan modules old new. IsUpdateEvent plan modules old new) so_far.count x y z so_far.made
       (advance_made y z made is has);
 }
@@ -258,21 +231,28 @@ fewer_left y z made is has =
     let most = more.within.events in
     omega (arith, one, most)
 
--- none could be made
-pub first_stuck : (x y : Whole) → IsUnderWay x → PassesNoLimit x.stage → (made : Bool) → made ≡ false
-    → AdvancesBy x y made
-    → Cannot (IsWholeUpdate x.plan x.modules) x
-first_stuck x y under within made is has =
-    whole_stuck x x 0 (none_made (IsUpdateEvent x.plan x.modules) x under within) (inl refl)
-    (advance_none x y made is has)
-
+-- none more could be made
 pub more_stuck : (x y z : Whole) → HasAdvanced x y → is_idle (phase_of y.stage.world.tables) ≡ false → (made : Bool)
     → made ≡ false → AdvancesBy y z made → Cannot (IsWholeUpdate x.plan x.modules) x
 more_stuck x y z so_far going made is has =
     whole_stuck x y so_far.count so_far.made
-    (inr (λ idle. busy (phase_of y.stage.world.tables) going idle)) (advance_none y z made is has)
+    (λ idle. busy (phase_of y.stage.world.tables) going idle) (advance_none y z made is has)
 
+-- the updater is idle
 pub finished : (x y : Whole) → HasAdvanced x y → is_idle (phase_of y.stage.world.tables) ≡ true
     → HasMadeWithin (IsWholeUpdate x.plan x.modules) x y
 finished x y so_far idle =
-    whole_made x y so_far.count so_far.some so_far.made (idle_phase (phase_of y.stage.world.tables) idle)
+    let made = so_far.made in
+    record {
+      done = record {
+        event = record {
+          count = so_far.count;
+          events = made.done.event;
+          idle = idle_phase (phase_of y.stage.world.tables) idle;
+        };
+        plan = made.done.plan;
+        modules = made.done.modules;
+        under_way = made.done.under_way;
+      };
+      within = made.within;
+    }

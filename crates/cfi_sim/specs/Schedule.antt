@@ -16,12 +16,10 @@ abbrev pub Repeats : (Happens : (old new : Stage) → Type 0) → (count : ℕ) 
 Repeats Happens zero old new = new ≡ old
 Repeats Happens (suc count) old new = (mid : Stage) × Repeats Happens count old mid × Happens mid new
 
--- events of the updater up to the first after which no update is under way; there is one
+-- the events of the updater that are left of an update: none where none is under way, since each one has an update
 pub record IsWholeUpdate (plan : Plan) (modules : List Module) (old new : Stage) : Type 0 where
-  pub more : ℕ
-  pub before : Stage
-  pub events : Repeats (IsUpdateEvent plan modules) more old before
-  pub last : IsUpdateEvent plan modules before new
+  pub count : ℕ
+  pub events : Repeats (IsUpdateEvent plan modules) count old new
   pub idle : IsIdle new.world
 
 -- what a line makes, a case a line

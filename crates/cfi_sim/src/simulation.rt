@@ -65,7 +65,7 @@ fn follow(alloc: Global, standing: &mut Standing<'_>, schedule: &[u8]) -> Result
 ///
 /// `modules` are those of the plan, one a line. The plan's script is not run. The faults come in this order: a start
 /// module that does not join those before it, a guest without an entry, the first line of the schedule that is none,
-/// names what is not there, passes a limit, or makes nothing happen.
+/// names what is not there, passes a limit, or lacks an event that it asks for.
 pub fn simulate(
     alloc: Global,
     plan: &Plan,

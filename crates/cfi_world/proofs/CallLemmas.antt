@@ -37,7 +37,7 @@ front_keeps [] ys zs none k some = absurd (some (none k))
 front_keeps (x ∷ xs) ys zs none zero some = refl
 front_keeps (x ∷ xs) ys zs none (suc k) some = front_keeps xs ys zs none k some
 
-abbrev body : List CodeUnit → List CodeUnit
+abbrev pub body : List CodeUnit → List CodeUnit
 body later =
     units.Plain (Auipc 5 0) ∷ units.Plain (OpImm Addi 5 5 (pos 84)) ∷ units.Check true 5 (pos 0) 0
     ∷ units.Plain (OpImm Addi 17 0 (pos 3)) ∷ units.Service ∷ units.Plain (OpImm Addi 17 0 (pos 1)) ∷ units.Service

@@ -1,54 +1,42 @@
--- What a check finds and picks over a list of events.
-use Rattle.std.proofs.Common.{◌≡◌, ◌≢◌, ℕ, ◌-◌, ◌%◌, ◌<◌, List, [], ◌∷◌, ◌++◌, slice_get, Some, None, refl, sym, ◌∙◌, ap, subst, arith, inl, inr}
+-- What a check finds and picks over a run of events.
+use Rattle.std.proofs.Common.{◌≡◌, ◌≢◌, ℕ, zero, suc, ◌+◌, ◌-◌, ◌%◌, ◌<◌, ◌≤◌, List, length, slice_get, Some, None, sym, ◌∙◌, ap, subst, arith, inl, inr}
 use Rattle.std.proofs.lemmas.Bool.{cases_lt}
+use Rattle.std.proofs.lemmas.Option.{none-some}
+use Rattle.rv_insn.specs.InsnOf.{insn_of}
 use Rattle.cfi_word.specs.Table.{Epoch, Tary, Bary, slots_of}
 use Rattle.cfi_word.specs.Word.{epoch_in, policy_in}
-use Rattle.cfi_model.specs.InForce.{GoesOn, history_of, code_in_force, tary_index}
+use Rattle.cfi_model.specs.declared.act.Wait.TheVariants as waits
+use Rattle.cfi_model.specs.Begin.{begin_of}
+use Rattle.cfi_model.specs.History.{History}
+use Rattle.cfi_model.specs.InForce.{GoesOn, history_of, code_in_force, in_force, tary_index}
 use Rattle.cfi_model.specs.Raw.{Raw}
+use Rattle.cfi_model.specs.Run.{take_word}
+use Rattle.cfi_model.specs.Running.{IsRunning}
+use Rattle.cfi_model.specs.Shows.{MayWait, Shows}
+use Rattle.cfi_model.specs.State.{State, register, displaced}
 use Rattle.cfi_model.specs.TableMoments.{IsInForce}
 use Rattle.cfi_model.specs.Tables.{IsTables}
-use Rattle.cfi_model.specs.Words.{Tables, before, entry_at, epoch_in_force, policy_in_force, next_epoch, number_at, word_at}
+use Rattle.cfi_model.specs.Tries.{IsInWindow}
+use Rattle.cfi_model.specs.Words.{Tables, entry_at, epoch_in_force, policy_in_force, next_epoch, number_at, word_at}
 use Rattle.cfi_model.specs.World.{World}
+use Rattle.cfi_model.proofs.BeginLemmas.{begin_keeps_bary}
 use Rattle.cfi_model.proofs.IdLemmas.{tary_policy}
 use Rattle.cfi_model.proofs.IdLemmas as found
 use Rattle.cfi_model.proofs.InForceLemmas.{bary_epoch_is, tary_epoch_is, tary_is, history_is, force_rises, force_within}
+use Rattle.cfi_model.proofs.RunningLemmas.{running_is, running_shows}
 use Rattle.cfi_model.proofs.TableLemmas.{force_epoch, force_policy}
-use Rattle.cfi_world.specs.Checks.{bary_in, tary_in, HasStoredTary, HasBaryToStore}
-use Rattle.cfi_world.specs.Laws.{MayTurns, world_after}
-use Rattle.cfi_world.specs.Turns.{turn_of}
-use Rattle.cfi_world.specs.Worlds.{IsWorld}
+use Rattle.cfi_world.specs.Checks.{bary_in, tary_in, HasStoredTary, HasBaryToStore, IsHeldThroughout, MeetsUpdate, PicksHoldThroughout, RepeatsMeetUpdates}
+use Rattle.cfi_world.specs.Laws.{MayTurns}
+use Rattle.cfi_world.specs.Moments.{ComesFor, IsTryOf, LeavesTry, world_at}
+use Rattle.cfi_world.specs.Seats.{rested}
+use Rattle.cfi_world.specs.Worlds.{IsServing, IsWorld}
 use Rattle.cfi_world.specs.declared.event.Event.{Event}
-use Rattle.cfi_world.proofs.ForceLemmas.{self, turn_on, number_cases, bary_load, tary_load, picks}
-use Rattle.cfi_world.proofs.WorldLemmas.{stays_a_world}
-
-on_then : (t u v : Tables) → GoesOn t u → GoesOn u v → GoesOn t v
-on_then t u v one other = record {
-  code_words = other.code_words ∙ one.code_words;
-  versions = other.versions ∙ one.versions;
-  first = other.first ∙ one.first;
-  longer = omega (arith, one.longer, other.longer);
-  entries = λ number within. other.entries number (omega (arith, within, one.longer)) ∙ one.entries number within;
-  force = omega (arith, one.force, other.force);
-}
-
--- the tables go on over a list of events
-list_on : (list : List Event) (w : World) → IsWorld w → MayTurns w list → GoesOn w.tables (world_after w list).tables
-list_on [] w is may = self w.tables
-list_on (event ∷ later) w is may =
-    on_then w.tables (turn_of w event).world.tables (world_after (turn_of w event).world later).tables
-    (turn_on w is event) (list_on later (turn_of w event).world (stays_a_world w is (event ∷ []) (may.0, tt)) may.1)
-
--- a list in two parts
-parts_may : (one : List Event) (w : World) (other : List Event) → MayTurns w (one ++ other)
-    → MayTurns w one × MayTurns (world_after w one) other
-parts_may [] w other may = (tt, may)
-parts_may (event ∷ one) w other may =
-    let rest = parts_may one (turn_of w event).world other may.1 in ((may.0, rest.0), rest.1)
-
-parts_after : (one : List Event) (w : World) (other : List Event)
-    → world_after w (one ++ other) ≡ world_after (world_after w one) other
-parts_after [] w other = refl
-parts_after (event ∷ one) w other = parts_after one (turn_of w event).world other
+use Rattle.cfi_world.specs.declared.event.Event.TheVariants.{Guest}
+use Rattle.cfi_world.proofs.ForceLemmas.{number_cases, bary_load, tary_load, picks}
+use Rattle.cfi_world.proofs.MomentLemmas.{next_world, on_between, world_is}
+use Rattle.cfi_world.proofs.OwnLemmas.{after_own, taken, word_for}
+use Rattle.cfi_world.proofs.RestLemmas.{going_runs, same_bary}
+use Rattle.cfi_world.proofs.WithinLemmas.{keeps_bary, slot_low, waits_in_check}
 
 -- the policy in force where the epoch in force is that of a target's word found later
 policy_holds : (t u : Tables) (is : IsTables t) (then : IsTables u) → GoesOn t u → (target : ℕ)
@@ -63,45 +51,6 @@ policy_holds t u is then on target e =
     let n : at.epoch - u.first ≡ number_at t Epoch = omega (arith, epoch, e, force_epoch t is, on.first) in
     force_policy t is ∙ ap (λ x. x.policy) (sym (on.entries (number_at t Epoch) (force_within t is)))
     ∙ ap (λ k. (entry_at u k).policy) (sym n) ∙ sym policy
-
--- where a guest that keeps a slot's word of one world finds a target's word with its version in a later one
-module _ (w mid last : World) (is : IsWorld w) (mid_is : IsWorld mid) (last_is : IsWorld last)
-    (one : GoesOn w.tables mid.tables) (other : GoesOn mid.tables last.tables) (slot : ℕ)
-    (inside : slot < slots_of w.tables.code_words) (guest : ℕ) (r : Raw)
-    (here : slice_get last.guests guest ≡ Some r) (going : r.base.stop ≡ None)
-    (keeps : r.bary ≡ Some (bary_in w slot)) (target : ℕ)
-    (same : epoch_in (bary_in w slot) % last.tables.versions ≡ epoch_in (tary_in last target) % last.tables.versions)
-  where
-    holds_at : IsInForce mid.tables (epoch_in (tary_in last target)) (policy_in (tary_in last target))
-    holds_at =
-        let picked = picks last last_is guest r here going (bary_in w slot) target keeps same in
-        let least = (bary_load w.tables is.tables slot inside).settled in
-        let up = force_rises w.tables mid.tables is.tables mid_is.tables one in
-        let on = force_rises mid.tables last.tables mid_is.tables last_is.tables other in
-        let epoch : epoch_in_force mid.tables ≡ epoch_in (tary_in last target) =
-        omega (arith, picked.0, picked.1, least, up, on) in
-        record {
-          epoch_is = epoch;
-          policy_is = policy_holds mid.tables last.tables mid_is.tables last_is.tables other target epoch;
-        }
-
-pub picks_hold : (w : World) → IsWorld w → (before after : List Event) → MayTurns w (before ++ after)
-    → (slot : ℕ) → slot < slots_of w.tables.code_words
-    → (guest : ℕ) (r : Raw) → slice_get (world_after w (before ++ after)).guests guest ≡ Some r → r.base.stop ≡ None
-    → r.bary ≡ Some (bary_in w slot) → (target : ℕ)
-    → epoch_in (bary_in w slot) % (world_after w (before ++ after)).tables.versions
-    ≡ epoch_in (tary_in (world_after w (before ++ after)) target) % (world_after w (before ++ after)).tables.versions
-    → IsInForce (world_after w before).tables (epoch_in (tary_in (world_after w (before ++ after)) target))
-    (policy_in (tary_in (world_after w (before ++ after)) target))
-picks_hold w is before after may slot inside guest r here going keeps target same =
-    let both = parts_may before w after may in
-    let mid : World = world_after w before in
-    let mid_is = stays_a_world w is before both.0 in
-    let last_is = stays_a_world w is (before ++ after) may in
-    let other : GoesOn mid.tables (world_after w (before ++ after)).tables =
-    subst (λ v. GoesOn mid.tables v.tables) (sym (parts_after before w after)) (list_on after mid mid_is both.1) in
-    holds_at w mid (world_after w (before ++ after)) is mid_is last_is (list_on before w is both.0) other slot inside
-    guest r here going keeps target same
 
 -- a try that has to be repeated
 stored_tary : (t : Tables) (is : IsTables t) (target : ℕ)
@@ -128,30 +77,193 @@ bary_to_store t is slot epoch inside early = elim (cases_lt epoch (next_epoch t)
       ]
 ]
 
-pub repeats_meet : (w : World) → IsWorld w → (list : List Event) → MayTurns w list → (slot : ℕ)
-    → slot < slots_of w.tables.code_words → (target : ℕ)
-    → epoch_in (bary_in w slot) % (world_after w list).tables.versions
-    ≢ epoch_in (tary_in (world_after w list) target) % (world_after w list).tables.versions
-    → (epoch_in (bary_in w slot) < epoch_in (tary_in (world_after w list) target))
-    × HasStoredTary (world_after w list).tables (epoch_in (tary_in (world_after w list) target))
-    × HasBaryToStore w.tables (epoch_in (tary_in (world_after w list) target))
-repeats_meet w is list may slot inside target apart =
-    let last : World = world_after w list in
-    let last_is = stays_a_world w is list may in
-    let on = list_on list w is may in
-    let least = (bary_load w.tables is.tables slot inside).settled in
-    let most = (tary_load last.tables last_is.tables target).settled in
-    let up = force_rises w.tables last.tables is.tables last_is.tables on in
-    let first = bary_epoch_is w.tables is.tables slot in
-    let before : epoch_in (bary_in w slot) < epoch_in (tary_in last target) =
-    elim (cases_lt (epoch_in (bary_in w slot)) (epoch_in (tary_in last target))) [
-      | inl less ↦ less
-      | inr more ↦
-          let same : epoch_in (bary_in w slot) ≡ epoch_in (tary_in last target) =
-          omega (arith, more, least, up, most) in
-          absurd (apart (ap (λ e. e % last.tables.versions) same))
-    ] in (
-      before,
-      stored_tary last.tables last_is.tables target (omega (arith, before, first, on.first)),
-      bary_to_store w.tables is.tables slot (epoch_in (tary_in last target)) inside before,
-    )
+-- ---- the words of a try
+
+-- the slot's word that a guest keeps from its load to that of the target's word
+module _ (w : World) (is : IsWorld w) (run : List Event) (may : MayTurns w run) (guest slot target from to : ℕ)
+    (try : IsTryOf w run guest slot target from to) where
+  abbrev at : (moment : ℕ) → World
+  at moment = world_at w run moment
+
+  at_is : (moment : ℕ) → IsWorld (at moment)
+  at_is moment = world_is w is run may moment
+
+  abbrev word : ℕ
+  word = bary_in (at from) slot
+
+  abbrev KeepsNoOther : (moment : ℕ) → Type 0
+  KeepsNoOther moment =
+      (r : Raw) → slice_get (at moment).guests guest ≡ Some r → (kept : ℕ) → r.bary ≡ Some kept → kept ≡ word
+
+  same_guest : (x y : Raw) → Some x ≡ Some y → x ≡ y
+  same_guest x y e = cc
+
+  same_word : (x y : ℕ) → Some x ≡ Some y → x ≡ y
+  same_word x y e = cc
+
+  after_load : KeepsNoOther (from + 1)
+  after_load r there kept keeps =
+      let load = try.bary.1 in
+      let other : IsServing load.r.waits → ⊥ = λ serving. subst IsServing load.waits serving in
+      let next = ap (λ v. slice_get v.guests guest) (next_world w run from (Guest guest) load.event)
+      ∙ after_own (at from) guest load.r load.there (at_is from) load.going other in
+      let is_now = same_guest r (rested (at from).fuel (taken (at from) guest load.r load.there)) (sym there ∙ next) in
+      let found : (taken (at from) guest load.r load.there).bary ≡ Some word =
+      ap (λ x. (take_word x load.r (word_for (at from) guest load.r load.there x)).bary) load.waits in
+      same_word kept word (sym keeps ∙ ap (λ x. x.bary) is_now ∙ same_bary _ (taken (at from) guest load.r load.there)
+      ∙ found)
+
+  after_fetch : (moment : ℕ) → ComesFor w run guest None moment → KeepsNoOther moment → KeepsNoOther (moment + 1)
+  after_fetch moment load so_far r there kept keeps =
+      let other : IsServing load.r.waits → ⊥ = λ serving. subst IsServing load.waits serving in
+      let next = ap (λ v. slice_get v.guests guest) (next_world w run moment (Guest guest) load.event)
+      ∙ after_own (at moment) guest load.r load.there (at_is moment) load.going other in
+      let is_now = same_guest r (rested (at moment).fuel (taken (at moment) guest load.r load.there))
+      (sym there ∙ next) in
+      let found : ℕ = word_for (at moment) guest load.r load.there None in
+      let begun : taken (at moment) guest load.r load.there ≡ begin_of load.r found =
+      ap (λ x. take_word x load.r (word_for (at moment) guest load.r load.there x)) load.waits in
+      let after : (begin_of load.r found).bary ≡ Some kept =
+      sym (ap (λ x. x.bary) begun) ∙ sym (same_bary _ (taken (at moment) guest load.r load.there))
+      ∙ sym (ap (λ x. x.bary) is_now) ∙ keeps in
+      so_far load.r load.there kept (begin_keeps_bary load.r (insn_of found) kept after)
+
+  one_on : (moment : ℕ) → LeavesTry w run guest moment → KeepsNoOther moment → KeepsNoOther (moment + 1)
+  one_on moment (inl same) so_far = λ r there kept keeps. so_far r (sym same ∙ there) kept keeps
+  one_on moment (inr load) so_far = after_fetch moment load so_far
+
+  kept_on : (more : ℕ) → from + 1 + more ≤ to → KeepsNoOther (from + 1 + more)
+  kept_on zero within =
+      let same : from + 1 ≡ from + 1 + 0 = omega arith in
+      subst KeepsNoOther same after_load
+  kept_on (suc more) within =
+      let same : from + 1 + more + 1 ≡ from + 1 + suc more = omega arith in
+      subst KeepsNoOther same
+      (one_on (from + 1 + more) (try.between (from + 1 + more) (omega arith) (omega (arith, within)))
+      (kept_on more (omega (arith, within))))
+
+  keeps_no_other : KeepsNoOther to
+  keeps_no_other =
+      let order = try.order in
+      let same : from + 1 + (to - (from + 1)) ≡ to = omega (arith, order) in
+      subst KeepsNoOther same (kept_on (to - (from + 1)) (omega (arith, order)))
+
+  -- a guest that runs, where it waits for a table's word
+  running_at : (moment : ℕ) (r : Raw) → slice_get (at moment).guests guest ≡ Some r → r.base.stop ≡ None
+      → (retries : ℕ) × (s : State)
+      × IsRunning (history_of (at moment).tables) (code_in_force (at moment).tables) retries s r
+  running_at moment r there going =
+      let seat = (at_is moment).running guest r there in (
+        seat.retries,
+        seat.shown,
+        going_runs (history_of (at moment).tables) (code_in_force (at moment).tables) seat.retries seat.shown r
+            seat.runs going,
+      )
+
+  kept_there : try.tary.1.r.bary ≡ Some word
+  kept_there =
+      let load = try.tary.1 in
+      let t : Tables = (at to).tables in
+      let h : History = history_of t in
+      let code : List ℕ = code_in_force t in
+      let of = running_at to load.r load.there load.going in
+      let running = running_is h code (history_is t (at_is to).tables) of.0 of.1 load.r of.2 in
+      let in_check = waits_in_check h code of.1 of.0 load.r (waits.Tary target try.tary.0) (λ serving. serving)
+      load.waits running in
+      let begun = in_check.begun in
+      let keeps : load.r.bary ≡ Some begun.values.bary =
+      ap (λ x. x.bary) begun.is ∙ keeps_bary of.1 (of.0 + begun.more) in_check.slot
+      (displaced (register of.1 in_check.rs1) in_check.imm) target try.tary.0 begun.values begun.place
+      (sym (ap (λ x. x.waits) begun.is) ∙ load.waits) in
+      keeps ∙ ap Some (keeps_no_other load.r load.there begun.values.bary keeps)
+
+  -- the slot is one of the table
+  inside : slot < slots_of (at from).tables.code_words
+  inside =
+      let load = try.bary.1 in
+      let t : Tables = (at from).tables in
+      let h : History = history_of t in
+      let code : List ℕ = code_in_force t in
+      let known = history_is t (at_is from).tables in
+      let of = running_at from load.r load.there load.going in
+      inside_by t (at_is from).tables of.0 of.1 load.r load.waits
+      (running_shows h code known of.0 of.1 load.r of.2)
+    where
+      inside_by : (t : Tables) → IsTables t → (retries : ℕ) (s : State) (r : Raw)
+          → r.waits ≡ Some (waits.Bary slot try.bary.0) → Shows (history_of t) (code_in_force t) retries s r
+          → slot < slots_of t.code_words
+      inside_by t is_tables retries s r wait (inl between) =
+          absurd (none-some (waits.Bary slot try.bary.0) (sym between.idle ∙ wait))
+      inside_by t is_tables retries s r wait (inr within) =
+          let may_wait = subst (MayWait (length (code_in_force t)) within.unit s) wait within.waits in
+          let many = (is_tables.closed (in_force t) (force_within t is_tables)).1.classes.code_length in
+          subst (λ n. slot < slots_of n) many
+          (slot_low (length (code_in_force t)) within.unit s slot try.bary.0 may_wait)
+
+  -- ---- equal versions
+
+  versions_are : (moment : ℕ) → (at moment).tables.versions ≡ w.tables.versions
+  versions_are moment = (on_between w is run may 0 moment (omega arith)).versions
+
+  module _ (same : epoch_in word % w.tables.versions ≡ epoch_in (tary_in (at to) target) % w.tables.versions) where
+    same_there : epoch_in word % (at to).tables.versions ≡ epoch_in (tary_in (at to) target) % (at to).tables.versions
+    same_there =
+        subst (λ v. epoch_in word % v ≡ epoch_in (tary_in (at to) target) % v) (sym (versions_are to)) same
+
+    picked : (epoch_in word ≡ epoch_in (tary_in (at to) target))
+        × (epoch_in (tary_in (at to) target) ≡ epoch_in_force (at to).tables)
+    picked =
+        picks (at to) (at_is to) guest try.tary.1.r try.tary.1.there try.tary.1.going word target kept_there same_there
+
+    force_at : (moment : ℕ) → IsInWindow from to moment
+        → IsInForce (at moment).tables (epoch_in (tary_in (at to) target)) (policy_in (tary_in (at to) target))
+    force_at moment window =
+        let one = on_between w is run may from moment window.after in
+        let other = on_between w is run may moment to window.until in
+        let least = (bary_load (at from).tables (at_is from).tables slot inside).settled in
+        let up = force_rises (at from).tables (at moment).tables (at_is from).tables (at_is moment).tables one in
+        let on = force_rises (at moment).tables (at to).tables (at_is moment).tables (at_is to).tables other in
+        let epoch : epoch_in_force (at moment).tables ≡ epoch_in (tary_in (at to) target) =
+        omega (arith, picked.0, picked.1, least, up, on) in
+        record {
+          epoch_is = epoch;
+          policy_is = policy_holds (at moment).tables (at to).tables (at_is moment).tables (at_is to).tables other
+              target epoch;
+        }
+
+    pub held_throughout : IsHeldThroughout w run slot target from to
+    held_throughout = record { one = picked.0; force = force_at }
+
+  -- ---- different versions
+
+  pub meets_update : epoch_in word % w.tables.versions ≢ epoch_in (tary_in (at to) target) % w.tables.versions
+      → MeetsUpdate (at from) (at to) slot target
+  meets_update apart =
+      let old : Tables = (at from).tables in
+      let new : Tables = (at to).tables in
+      let order = try.order in
+      let on = on_between w is run may from to (omega (arith, order)) in
+      let least = (bary_load old (at_is from).tables slot inside).settled in
+      let most = (tary_load new (at_is to).tables target).settled in
+      let up = force_rises old new (at_is from).tables (at_is to).tables on in
+      let first = bary_epoch_is old (at_is from).tables slot in
+      let before : epoch_in word < epoch_in (tary_in (at to) target) =
+      elim (cases_lt (epoch_in word) (epoch_in (tary_in (at to) target))) [
+        | inl less ↦ less
+        | inr more ↦
+            let same : epoch_in word ≡ epoch_in (tary_in (at to) target) = omega (arith, more, least, up, most) in
+            absurd (apart (ap (λ e. e % w.tables.versions) same))
+      ] in
+      record {
+        later = before;
+        stored = stored_tary new (at_is to).tables target (omega (arith, before, first, on.first));
+        to_store = bary_to_store old (at_is from).tables slot (epoch_in (tary_in (at to) target)) inside before;
+      }
+
+pub picks_hold : PicksHoldThroughout
+picks_hold w is run may guest slot target from to try same =
+    held_throughout w is run may guest slot target from to try same
+
+pub repeats_meet : RepeatsMeetUpdates
+repeats_meet w is run may guest slot target from to try apart =
+    meets_update w is run may guest slot target from to try apart

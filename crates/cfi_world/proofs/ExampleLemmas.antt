@@ -1,11 +1,11 @@
 -- A world that opens.
-use Rattle.std.proofs.Common.{◌≡◌, ℕ, zero, suc, ◌+◌, ◌-◌, ◌*◌, List, [], ◌∷◌, length, slice_get, Some, ◌++◌, refl, sym, ◌∙◌, subst, arith, false, pos}
+use Rattle.std.proofs.Common.{◌≡◌, ℕ, zero, suc, ◌+◌, ◌-◌, ◌*◌, ◌≤◌, List, [], ◌∷◌, length, slice_get, Some, ◌++◌, refl, sym, ◌∙◌, subst, arith, false, pos}
 use Rattle.std.proofs.lemmas.List.{length-replicate}
 use Rattle.cfi_unit.specs.declared.unit.Unit.{Unit as CodeUnit}
 use Rattle.cfi_unit.specs.declared.unit.Unit.TheVariants as units
 use Rattle.cfi_word.specs.Table.{slots_of}
 use Rattle.cfi_word.specs.declared.ids.TheConstants.{FIELD_MAX}
-use Rattle.cfi_word.specs.declared.limits.TheConstants.{MIN_CODE_WORDS, MIN_VERSIONS}
+use Rattle.cfi_word.specs.declared.limits.TheConstants.{MAX_EPOCH, MIN_CODE_WORDS, MIN_VERSIONS}
 use Rattle.cfi_word.specs.declared.map.TheConstants.{FIRST_BASE}
 use Rattle.cfi_model.specs.Closed.{IsReadAs, IsStartOf, IsStartIn, StandsIn, StaysInside, IsClosed}
 use Rattle.cfi_model.specs.Raw.{Raw, raw_opened}
@@ -15,7 +15,7 @@ use Rattle.cfi_word.specs.Ids as ids
 use Rattle.rv_insn.specs.declared.insn.Insn.TheVariants.{OpImm}
 use Rattle.rv_insn.specs.declared.insn.ImmOp.TheVariants.{Addi}
 use Rattle.cfi_world.proofs.ClassLemmas.{repeated_most, repeated_zero, repeated_is}
-use Rattle.cfi_world.specs.Example.{open_image, open_guests, open_world, open_events, open_answers, turned_after, unloaded, guest_events, refresh_events, refused_events}
+use Rattle.cfi_world.specs.Example.{last_answers, last_events, last_world, open_image, open_guests, open_world, open_events, open_answers, turned_after, unloaded, guest_events, refresh_events, refused_events}
 use Rattle.cfi_world.proofs.EventLemmas.{few_after, refreshes_may}
 use Rattle.cfi_world.specs.Laws.{MayTurns, world_after}
 use Rattle.cfi_world.specs.Turns.{turn_of}
@@ -112,16 +112,39 @@ opened zero r e = placed 0 (4 * FIRST_BASE) r first (cc)
 opened (suc zero) r e = placed 1 (4 * (FIRST_BASE + 3)) r fourth (cc)
 opened (suc (suc n)) r e = absurd (cc)
 
-pub some_can : CanOpen MIN_CODE_WORDS MIN_VERSIONS 0 open_image open_guests 3
-some_can = record {
+pub can_at : (first : ℕ) → first ≤ MAX_EPOCH → CanOpen MIN_CODE_WORDS MIN_VERSIONS first open_image open_guests 3
+can_at first most = record {
   versions_least = omega arith;
   versions_most = omega arith;
-  first_most = omega arith;
+  first_most = most;
   closed = closed;
   few = omega arith;
   opened = opened;
   fuel_least = omega arith;
 }
+
+pub some_can : CanOpen MIN_CODE_WORDS MIN_VERSIONS 0 open_image open_guests 3
+some_can = can_at 0 (omega arith)
+
+pub last_can : CanOpen MIN_CODE_WORDS MIN_VERSIONS MAX_EPOCH open_image open_guests 3
+last_can = can_at MAX_EPOCH (omega arith)
+
+pub last_turns : turned_after last_world last_events ≡ last_answers
+unfolding words.epoch_in words.packed ids.id_of
+last_turns = refl
+
+pub last_events_may : MayTurns last_world last_events
+unfolding words.epoch_in words.packed ids.id_of
+last_events_may = (
+  record { room = omega arith; may = tt },
+  (
+    record {
+      room = omega arith;
+      may = record { policy = refl; most = omega arith; closed = closed; keeps = λ k some. refl };
+    },
+    (tt, tt),
+  ),
+)
 
 pub some_may_begin : MayTurn open_world (Begin (Some open_image))
 some_may_begin = record {

@@ -1,6 +1,8 @@
 pub mod RestLemmas
 pub mod VersionLemmas
 pub mod FitLemmas
+pub mod CountLemmas
+pub mod TriesLemmas
 pub mod SeatLemmas
 pub mod ServiceLemmas
 pub mod LaterLemmas
@@ -12,6 +14,9 @@ pub mod OpeningLemmas
 pub mod WorldLemmas
 pub mod ForceLemmas
 pub mod OthersLemmas
+pub mod MomentLemmas
+pub mod WithinLemmas
+pub mod OwnLemmas
 pub mod RefineLemmas
 pub mod AgreeLemmas
 pub mod EntryLemmas
@@ -22,6 +27,7 @@ pub mod CodeLemmas
 pub mod OpenLemmas
 pub mod OutcomeLemmas
 pub mod RefusalLemmas
+pub mod QuietLemmas
 pub mod ClassLemmas
 pub mod EventLemmas
 pub mod ExampleLemmas
@@ -29,4 +35,11 @@ pub mod AskLemmas
 pub mod CallLemmas
 pub mod RetryLemmas
 pub mod CheckLemmas
+pub mod TraceLemmas
+pub mod GuestLemmas
+pub mod TakenLemmas
+pub mod NextLemmas
+pub mod RunLemmas
 pub mod StopLemmas
+pub mod PassedLemmas
+pub mod PutLemmas

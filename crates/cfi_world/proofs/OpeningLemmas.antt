@@ -1,7 +1,8 @@
 -- A world as it is opened is one.
-use Rattle.std.proofs.Common.{◌≡◌, ℕ, ◌+◌, ◌-◌, ◌^◌, ◌<◌, ◌≤◌, List, length, length-append, replicate, slice_get, Some, None, refl, sym, ◌∙◌, ap, subst, arith, inl}
-use Rattle.std.proofs.lemmas.List.{get_or_append_left, get_or-replicate, length-replicate}
-use Rattle.std.proofs.lemmas.Option.{slice_get_within}
+use Rattle.std.proofs.Common.{◌≡◌, ℕ, ◌+◌, ◌-◌, ◌^◌, ◌<◌, ◌≤◌, List, [], length, length-append, replicate, slice_get, slice_index_or, Some, None, refl, sym, ◌∙◌, ap, subst, arith, inl, inr}
+use Rattle.std.proofs.lemmas.Bool.{cases_lt}
+use Rattle.std.proofs.lemmas.List.{get_or_append_left, get_or-append_right, get_or_past, get_or-replicate, length-replicate}
+use Rattle.std.proofs.lemmas.Option.{slice_get_within, slice_get-get_or, none-some}
 use Rattle.cfi_word.specs.declared.lists.Image.{Image}
 use Rattle.cfi_word.specs.declared.limits.TheConstants.{GUESTS}
 use Rattle.cfi_model.specs.declared.quiet.Point.TheVariants.{Outside}
@@ -12,17 +13,17 @@ use Rattle.cfi_unit.specs.declared.fill.Fill.{Fill}
 use Rattle.cfi_unit.specs.declared.log.Stop.TheVariants.{Fuel}
 use Rattle.cfi_word.specs.Table.{IsSize}
 use Rattle.cfi_model.specs.Closed.{IsStartIn}
-use Rattle.cfi_model.specs.History.{IsStart}
 use Rattle.cfi_model.specs.Log.{last_policy}
 use Rattle.cfi_model.specs.Running.{IsRunning}
 use Rattle.cfi_model.proofs.InForceLemmas.{force_within}
 use Rattle.cfi_model.proofs.RunningLemmas.{opened_runs}
 use Rattle.cfi_model.proofs.TableLemmas.{force_epoch, opened_are}
 use Rattle.cfi_model.specs.Raw.{Raw, raw_opened}
+use Rattle.cfi_model.specs.State.{opened as opened_state}
 use Rattle.cfi_model.specs.Tables.{IsTables}
 use Rattle.cfi_model.specs.Words.{Tables, entry_at, policy_in_force}
 use Rattle.cfi_model.specs.World.{World, opened_world, quiet_of}
-use Rattle.cfi_world.specs.Premises.{CanOpen}
+use Rattle.cfi_world.specs.Premises.{CanOpen, IsOpened}
 use Rattle.cfi_world.specs.Seats.{seat_of}
 use Rattle.cfi_world.specs.Worlds.{QuietFits, FoundFits, FitsPoint, IsWorld}
 use Rattle.cfi_world.proofs.SeatLemmas.{AreSeated}
@@ -67,18 +68,51 @@ module _ (code_words versions first : ℕ) (image : Image) (guests : List Raw) (
       (omega (arith, length-replicate (length guests) (Published first), there))
       ∙ get_or-replicate (length guests) guest (Published first) Unregistered there
 
+  -- no other number is registered
+  absent_is : (guest : ℕ) → slice_get guests guest ≡ None → quiet_of opened guest ≡ Unregistered
+  absent_is guest none =
+      let some : List Quiet = replicate (length guests) (Published first) in
+      let rest : List Quiet = replicate (GUESTS - length guests) Unregistered in
+      let past : length guests ≤ guest = elim (cases_lt guest (length guests)) [
+        | inl inside ↦ absurd (none-some _ (sym none ∙ slice_get-get_or guests guest (raw_opened 0 0 []) inside))
+        | inr past ↦ past
+      ] in
+      get_or-append_right some rest (length guests) guest Unregistered
+      (length-replicate (length guests) (Published first)) past
+      ∙ rest_of (GUESTS - length guests) (guest - length guests)
+    where
+      rest_of : (n k : ℕ) → slice_index_or (replicate n Unregistered) k Unregistered ≡ Unregistered
+      rest_of n k = elim (cases_lt k n) [
+        | inl inside ↦ get_or-replicate n k Unregistered Unregistered inside
+        | inr past ↦ get_or_past (replicate n Unregistered) k Unregistered
+            (omega (arith, past, length-replicate n Unregistered))
+      ]
+
+  -- a guest runs from where it is opened
+  opened_from : (guest : ℕ) (r : Raw) (from : IsOpened image guest r)
+      → IsRunning (history_of tables) (code_in_force tables) 0 (opened_state guest from.entry from.fills)
+      (raw_opened guest from.entry from.fills)
+  opened_from guest r from =
+      opened_runs (history_of tables) (code_in_force tables) guest from.entry from.fills (record {
+        epoch = first + 0;
+        known = record { least = omega arith; most = omega (arith, number_none) };
+        starts = subst (λ n. IsStartIn (entry_at tables n).image from.entry) (back_is first) from.start;
+      })
+
+  pub opened_guest : (guest : ℕ) (r : Raw) → slice_get guests guest ≡ Some r
+      → IsRunning (history_of tables) (code_in_force tables) 0 r.base r
+  opened_guest guest r here =
+      let from = can.opened guest r here in
+      subst (λ x. IsRunning (history_of tables) (code_in_force tables) 0 x.base x) (sym from.is)
+      (opened_from guest r from)
+
   opened_seat : (guest : ℕ) (r : Raw) → slice_get guests guest ≡ Some r
       → AreSeated tables tables_are fuel guest (seat_of opened guest r)
   opened_seat guest r here =
       let inside = slice_get_within guests guest r here in
       let from = can.opened guest r here in
       let quiet = quiet_is guest inside in
-      let start : IsStart (history_of tables) from.entry = record {
-        epoch = first + 0;
-        known = record { least = omega arith; most = omega (arith, number_none) };
-        starts = subst (λ n. IsStartIn (entry_at tables n).image from.entry) (back_is first) from.start;
-      } in
-      let runs = opened_runs (history_of tables) (code_in_force tables) guest from.entry from.fills start in
+      let runs = opened_from guest r from in
       let none : (seat_of opened guest r).point ≡ Outside = get_or-replicate GUESTS guest Outside Outside
       (omega (arith, inside, can.few)) in
       record {
@@ -116,6 +150,7 @@ module _ (code_words versions first : ℕ) (image : Image) (guests : List Raw) (
         );
     points_many = length-replicate GUESTS Outside;
     few = can.few;
+    absent = absent_is;
     room = omega arith;
     room_fits = room_fits;
     fuel_fits = fuel_fits;

@@ -93,7 +93,7 @@ guest_rests h code retries s fuel r runs = elim (rest_of fuel r) [
   | Stops ends steps ↦ inr (r, runs, ends)
 ]
 
--- of its parts it leaves the log, the kept words and the waits as they are
+-- of its parts it leaves the log, the address, the kept words, the wait and the count of units as they are
 pub same_log : (fuel : ℕ) (r : Raw) → (rested fuel r).base.log ≡ r.base.log
 same_log fuel r = elim (rest_of fuel r) [
   | Goes same left ↦ ap (λ x. x.base.log) same
@@ -104,6 +104,24 @@ pub same_bary : (fuel : ℕ) (r : Raw) → (rested fuel r).bary ≡ r.bary
 same_bary fuel r = elim (rest_of fuel r) [
   | Goes same left ↦ ap (λ x. x.bary) same
   | Stops ends steps ↦ ap (λ x. x.bary) ends.is
+]
+
+pub same_pc : (fuel : ℕ) (r : Raw) → (rested fuel r).base.pc ≡ r.base.pc
+same_pc fuel r = elim (rest_of fuel r) [
+  | Goes same left ↦ ap (λ x. x.base.pc) same
+  | Stops ends steps ↦ ap (λ x. x.base.pc) ends.is
+]
+
+pub same_waits : (fuel : ℕ) (r : Raw) → (rested fuel r).waits ≡ r.waits
+same_waits fuel r = elim (rest_of fuel r) [
+  | Goes same left ↦ ap (λ x. x.waits) same
+  | Stops ends steps ↦ ap (λ x. x.waits) ends.is
+]
+
+pub same_units : (fuel : ℕ) (r : Raw) → (rested fuel r).base.units ≡ r.base.units
+same_units fuel r = elim (rest_of fuel r) [
+  | Goes same left ↦ ap (λ x. x.base.units) same
+  | Stops ends steps ↦ ap (λ x. x.base.units) ends.is
 ]
 
 pub same_tary : (fuel : ℕ) (r : Raw) → (rested fuel r).tary ≡ r.tary

@@ -1,21 +1,26 @@
 -- What comes of the check that is tried again.
-use Rattle.std.proofs.Common.{◌≡◌, ℕ, zero, suc, ◌+◌, ◌*◌, ◌≤◌, [], ◌∷◌, ◌++◌, replicate, slice_get, Some, refl, sym, ◌∙◌, subst, arith}
+use Rattle.std.proofs.Common.{◌≡◌, ℕ, zero, suc, ◌+◌, ◌*◌, ◌-◌, ◌<◌, ◌≤◌, List, [], ◌∷◌, ◌++◌, length, replicate, slice_get, slice_index_or, Option, Some, None, refl, sym, ◌∙◌, subst, arith, inr}
+use Rattle.std.proofs.lemmas.Option.{slice_get-get_or}
 use Rattle.rv_insn.specs.InsnOf as insns
 use Rattle.cfi_word.specs.Word as words
 use Rattle.cfi_word.specs.Ids as ids
 use Rattle.cfi_word.specs.declared.limits.TheConstants.{MAX_VERSIONS, MIN_CODE_WORDS, MIN_VERSIONS}
 use Rattle.cfi_word.specs.declared.map.TheConstants.{FIRST_BASE}
-use Rattle.cfi_model.specs.Raw.{Raw}
+use Rattle.cfi_model.specs.declared.act.Wait.{Wait}
+use Rattle.cfi_model.specs.declared.act.Wait.TheVariants.{Bary, Tary}
+use Rattle.cfi_model.specs.Raw.{Raw, raw_opened}
 use Rattle.cfi_model.specs.World.{World}
 use Rattle.cfi_world.specs.Example.{turned_after}
 use Rattle.cfi_world.specs.Laws.{MayTurns, world_after}
+use Rattle.cfi_world.specs.Moments.{ComesFor, world_at}
 use Rattle.cfi_world.specs.Premises.{CanOpen, MayBegin, MayTurn, IsOpened}
 use Rattle.cfi_world.specs.Turns.{turn_of}
+use Rattle.cfi_world.specs.declared.event.Event.{Event}
 use Rattle.cfi_world.specs.declared.event.Event.TheVariants.{Begin, Guest, Update}
 use Rattle.cfi_world.proofs.CallLemmas.{call_closed, call_start, more_closed, more_keeps}
 use Rattle.cfi_world.proofs.EventLemmas.{HasBegun, turn_in, few_after, has_room, refreshes_may, may_join}
 use Rattle.cfi_world.proofs.OthersLemmas.{only_updates}
-use Rattle.cfi_world.specs.Retry.{call_guests, call_image, goes, more_image, to_bary, to_retry, call_world, endings_after, load_events, picked_ending, refresh_events, refresh_answers, kept_after, tried_words, retry_events, phases_along, forces_along, loads, load_count, load_phases, load_forces}
+use Rattle.cfi_world.specs.Retry.{HasTry, call_guests, call_image, goes, more_image, to_bary, to_retry, call_world, endings_after, load_events, picked_ending, refresh_events, refresh_answers, kept_after, tried_words, retry_events, phases_along, forces_along, loads, load_count, load_phases, load_forces}
 
 pub load_tries : kept_after (call_world MAX_VERSIONS) retry_events ≡ tried_words ∷ []
 unfolding insns.insn_of words.epoch_in words.packed words.id_in ids.id_of words.policy_in
@@ -97,3 +102,62 @@ loads_may =
 
 pub refresh_may : MayTurns (call_world MIN_VERSIONS) refresh_events
 refresh_may = refreshes_may refresh_events (call_world MIN_VERSIONS) 0 3 refl (has_begun MIN_VERSIONS) (omega arith)
+
+-- ---- one try
+
+abbrev one_run : List Event
+one_run = goes (to_bary + 4)
+
+abbrev guests_at : (moment : ℕ) → List Raw
+guests_at moment = (world_at (call_world MAX_VERSIONS) one_run moment).guests
+
+abbrev guest_at : (moment : ℕ) → Raw
+guest_at moment = slice_index_or (guests_at moment) 0 (raw_opened 0 0 [])
+
+comes_for : (wait : Option Wait) (moment : ℕ) → slice_get one_run moment ≡ Some (Guest 0) → length (guests_at moment) ≡ 1
+    → (guest_at moment).base.stop ≡ None → (guest_at moment).waits ≡ wait
+    → ComesFor (call_world MAX_VERSIONS) one_run 0 wait moment
+comes_for wait moment event one going waits_is = record {
+  event = event;
+  r = guest_at moment;
+  there = slice_get-get_or (guests_at moment) 0 (raw_opened 0 0 []) (omega (arith, one));
+  going = going;
+  waits = waits_is;
+}
+
+fetch_five : ComesFor (call_world MAX_VERSIONS) one_run 0 None 8
+unfolding insns.insn_of words.epoch_in words.packed words.id_in ids.id_of words.policy_in
+fetch_five = comes_for None 8 refl refl refl refl
+
+fetch_six : ComesFor (call_world MAX_VERSIONS) one_run 0 None 9
+unfolding insns.insn_of words.epoch_in words.packed words.id_in ids.id_of words.policy_in
+fetch_six = comes_for None 9 refl refl refl refl
+
+fetch_seven : ComesFor (call_world MAX_VERSIONS) one_run 0 None 10
+unfolding insns.insn_of words.epoch_in words.packed words.id_in ids.id_of words.policy_in
+fetch_seven = comes_for None 10 refl refl refl refl
+
+loads_slot : ComesFor (call_world MAX_VERSIONS) one_run 0 (Some (Bary 0 29)) 7
+unfolding insns.insn_of words.epoch_in words.packed words.id_in ids.id_of words.policy_in
+loads_slot = comes_for (Some (Bary 0 29)) 7 refl refl refl refl
+
+loads_target : ComesFor (call_world MAX_VERSIONS) one_run 0 (Some (Tary 148 30)) 11
+unfolding insns.insn_of words.epoch_in words.packed words.id_in ids.id_of words.policy_in
+loads_target = comes_for (Some (Tary 148 30)) 11 refl refl refl refl
+
+only_fetches : (k moment : ℕ) → moment ≡ 8 + k → k < 3
+    → ComesFor (call_world MAX_VERSIONS) one_run 0 None moment
+only_fetches zero moment at less = subst (ComesFor (call_world MAX_VERSIONS) one_run 0 None) (sym at) fetch_five
+only_fetches (suc zero) moment at less = subst (ComesFor (call_world MAX_VERSIONS) one_run 0 None) (sym at) fetch_six
+only_fetches (suc (suc zero)) moment at less =
+    subst (ComesFor (call_world MAX_VERSIONS) one_run 0 None) (sym at) fetch_seven
+only_fetches (suc (suc (suc k))) moment at less = absurd (omega (arith, less))
+
+pub has_try : HasTry
+has_try = record {
+  bary = (29, loads_slot);
+  tary = (30, loads_target);
+  order = omega arith;
+  between = λ moment after before.
+      inr (only_fetches (moment - 8) moment (omega (arith, after)) (omega (arith, after, before)));
+}

@@ -33,7 +33,8 @@ use Rattle.cfi_model.proofs.InForceLemmas.{history_is, force_within, later_rises
 use Rattle.cfi_world.specs.Laws.{IsBrought, IsStepped}
 use Rattle.cfi_world.specs.Seats.{Seat, rested}
 use Rattle.cfi_world.specs.Worlds.{IsServing, IsQuietSince, IsKeptSince, QuietFits, FoundFits, FitsPoint, IsSeat, IsRunningSeat}
-use Rattle.cfi_world.proofs.RestLemmas.{fuel_not, fuel_rests, going_runs, guest_rests, same_bary, same_tary, same_log, came}
+use Rattle.cfi_world.proofs.RestLemmas.{fuel_not, fuel_rests, going_runs, guest_rests, same_bary, same_pc, same_tary, same_log, came}
+use Rattle.cfi_world.proofs.TriesLemmas.{ended_counted}
 use Rattle.cfi_world.proofs.FitLemmas.{fetch_fits, bary_fits, bary_since, tary_fits}
 
 module _ (t : Tables) (is : IsTables t) where
@@ -91,7 +92,8 @@ module _ (t : Tables) (is : IsTables t) where
       let known = history_is t is in
       let before = running_shows h code known retries s r runs in
       let s_going : s.stop ≡ None = sym (shown_stop h code retries s r before) ∙ going in
-      elim (advance h code s retries known r (running_is h code known retries s r runs) take fits) [
+      let running = running_is h code known retries s r runs in
+      elim (advance h code s retries known r running take fits) [
         | inl within ↦ elim (goes_on h code known retries s r runs take fits) [
           | inl on ↦
               let shows = running_shows h code known retries s (take_one r take) on in
@@ -117,6 +119,7 @@ module _ (t : Tables) (is : IsTables t) where
             (λ service free. (answer step.reply
             (came (end_of r take) step.reply s step.unit service step.answered)).force free) in
             let base = e.between.base in
+            let counted = ended_counted h code known s retries r running take fits e running in
             record {
               more = retries + e.more;
               after = e.new;
@@ -127,9 +130,12 @@ module _ (t : Tables) (is : IsTables t) where
                 step = step;
                 brings = λ reply is. (answer reply is).brings;
                 least = omega arith;
-                retried = λ some. e.two (λ none. some (omega (arith, none)));
+                tries = counted.tries;
+                repeated = counted.repeated;
+                retried = ap (λ n. retries + n) counted.same;
                 logged = λ some. e.logged (λ none. some (omega (arith, none)));
                 picks = e.picks;
+                begins = λ going. (e.between.fresh going).0;
                 fresh = λ going. (e.between.fresh going).2;
               });
               runs = rests_run h code (retries + e.more) e.new (take_one r take)
@@ -181,9 +187,12 @@ module _ (t : Tables) (is : IsTables t) where
     step = stepped.step;
     brings = stepped.brings;
     least = stepped.least;
+    tries = stepped.tries;
+    repeated = stepped.repeated;
     retried = stepped.retried;
     logged = stepped.logged;
     picks = stepped.picks;
+    begins = λ going. same_pc fuel now ∙ stepped.begins going;
     fresh = λ going. same_tary fuel now ∙ stepped.fresh going;
   })
 

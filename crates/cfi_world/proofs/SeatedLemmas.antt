@@ -1,8 +1,8 @@
 -- A world with later tables, and one with another seat for a guest.
-use Rattle.std.proofs.Common.{◌≡◌, ◌≢◌, ℕ, ◌+◌, ◌<◌, ◌≤◌, List, length, length-set, slice_get, slice_set, Some, refl, sym, ◌∙◌, ap, subst, arith, inl, inr}
+use Rattle.std.proofs.Common.{◌≡◌, ◌≢◌, ℕ, ◌+◌, ◌<◌, ◌≤◌, List, length, length-set, slice_get, slice_set, Some, None, refl, sym, ◌∙◌, ap, subst, arith, inl, inr}
 use Rattle.std.proofs.lemmas.Bool.{cases_eq}
 use Rattle.std.proofs.lemmas.List.{get_or-set_same, get_or-set_other}
-use Rattle.std.proofs.lemmas.Option.{slice_get_within, slice_get-get_or, get_or_from_slice_get}
+use Rattle.std.proofs.lemmas.Option.{slice_get_within, slice_get-get_or, get_or_from_slice_get, none-some}
 use Rattle.cfi_model.specs.declared.quiet.Point.{Point}
 use Rattle.cfi_model.specs.declared.quiet.Point.TheVariants.{Outside}
 use Rattle.cfi_model.specs.declared.quiet.Quiet.{Quiet}
@@ -14,6 +14,7 @@ use Rattle.cfi_model.specs.Words.{Tables}
 use Rattle.cfi_model.specs.World.{World, quiet_of, point_of}
 use Rattle.cfi_world.specs.Seats.{Seat, seat_of, with_seat}
 use Rattle.cfi_world.specs.Worlds.{IsQuietSince, IsWorld, pending}
+use Rattle.cfi_world.proofs.OthersLemmas.{set_apart}
 use Rattle.cfi_world.proofs.LaterLemmas.{IsAdmittedAt, seat_later}
 use Rattle.cfi_world.proofs.SeatLemmas.{AreSeated}
 
@@ -59,6 +60,7 @@ module _ (w : World) (is : IsWorld w) (u : Tables) (later : IsTables u) (on : Go
         quiets_many = is.quiets_many;
         points_many = is.points_many;
         few = is.few;
+        absent = is.absent;
         room = room;
         room_fits = is.room_fits;
         fuel_fits = is.fuel_fits;
@@ -108,12 +110,25 @@ module _ (w : World) (is : IsWorld w) (guest : ℕ) (old : Raw) (here : slice_ge
         (seated_in w is other r (set_other w.guests guest other s.guest r apart e))
   ]
 
+  -- who is absent was so
+  absent_after : (other : ℕ) → slice_get after.guests other ≡ None → quiet_of after other ≡ Unregistered
+  absent_after other none = elim (cases_eq other guest) [
+    | inl same ↦
+        let within = slice_get-get_or (slice_set w.guests guest s.guest) other old
+        (omega (arith, inside, length-set w.guests guest s.guest, same)) in
+        absurd (none-some _ (sym none ∙ within))
+    | inr apart ↦
+        get_or-set_other w.quiets guest other s.quiet Unregistered apart
+        ∙ is.absent other (sym (set_apart w.guests guest other s.guest (λ e. apart (sym e))) ∙ none)
+  ]
+
   pub world_seated : IsWorld after
   world_seated = record {
     tables = is.tables;
     quiets_many = length-set w.quiets guest s.quiet ∙ is.quiets_many;
     points_many = length-set w.points guest s.point ∙ is.points_many;
     few = omega (arith, length-set w.guests guest s.guest, is.few);
+    absent = absent_after;
     room = is.room;
     room_fits = is.room_fits;
     fuel_fits = is.fuel_fits;

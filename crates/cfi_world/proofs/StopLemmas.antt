@@ -1,14 +1,17 @@
 -- Where guests stand, and what stops them with Halt.
-use Rattle.std.proofs.Common.{◌≡◌, ℕ, ◌/◌, List, slice_get, Some, None, refl, sym, ◌∙◌, ap, inl, inr}
+use Rattle.std.proofs.Common.{◌≡◌, ◌≢◌, ℕ, ◌/◌, List, [], ◌∷◌, slice_get, Some, None, refl, sym, ◌∙◌, ap, subst, inl, inr}
 use Rattle.cfi_unit.specs.declared.log.Stop.TheVariants.{Fuel, Halt}
 use Rattle.cfi_word.specs.Table.{Code}
 use Rattle.cfi_model.specs.History.{History, IsHistory}
 use Rattle.cfi_model.specs.InForce.{history_of, code_in_force}
 use Rattle.cfi_model.specs.Raw.{Raw}
-use Rattle.cfi_model.specs.Running.{IsGuest, IsSpent}
+use Rattle.cfi_model.specs.Fits.{Along}
+use Rattle.cfi_model.specs.Run.{Take, run_of}
+use Rattle.cfi_model.specs.Running.{IsGuest, IsHeld, IsRunning, IsSpent}
 use Rattle.cfi_model.specs.State.{State}
 use Rattle.cfi_model.specs.Words.{word_at}
 use Rattle.cfi_model.specs.World.{World}
+use Rattle.cfi_model.proofs.AdvanceLemmas.{goes_on}
 use Rattle.cfi_model.proofs.HaltLemmas.{only_checks_halt}
 use Rattle.cfi_model.proofs.InForceLemmas.{history_is}
 use Rattle.cfi_model.proofs.RunningLemmas.{running_shows, running_steps}
@@ -18,6 +21,7 @@ use Rattle.cfi_world.specs.Premises.{MayTurn}
 use Rattle.cfi_world.specs.Turns.{turn_of}
 use Rattle.cfi_world.specs.Worlds.{IsWorld}
 use Rattle.cfi_world.specs.declared.event.Event.{Event}
+use Rattle.cfi_world.proofs.CountLemmas.{running_repeated}
 use Rattle.cfi_world.proofs.RefineLemmas.{refines}
 use Rattle.cfi_model.proofs.ShownLemmas.{shown_stop}
 use Rattle.cfi_world.proofs.FitLemmas.{fetch_fits}
@@ -50,30 +54,54 @@ halted_shown h code known retries s r (inr over) target halts =
     let both : Some (Halt target) ≡ Some Fuel = sym halts ∙ stop in
     absurd (cc)
 
+-- a guest that has stopped has taken nothing since, and stands where it was held
+held_by : (h : History) (code : List ℕ) (retries : ℕ) (s : State) (r : Raw) (runs : IsRunning h code retries s r)
+    → s.stop ≢ None → (takes : List Take) → Along h code runs.start takes → r ≡ run_of runs.start takes
+    → IsHeld h code s r
+held_by h code retries s r runs stops [] along same = subst (IsHeld h code s) (sym same) (runs.rests.held stops)
+held_by h code retries s r runs stops (t ∷ takes) along same =
+    absurd (stops (goes_on h code s retries runs.start runs.rests.between t along.0))
+
+running_held : (h : History) (code : List ℕ) (retries : ℕ) (s : State) (r : Raw) → IsRunning h code retries s r
+    → s.stop ≢ None → IsHeld h code s r
+running_held h code retries s r runs stops = held_by h code retries s r runs stops runs.takes runs.along runs.is
+
 module _ (w : World) (is : IsWorld w) where
   -- a guest that runs, and one that the fuel stopped
   placed_by : (r : Raw) (retries : ℕ) (s : State)
       → IsGuest (history_of w.tables) (code_in_force w.tables) retries s r → IsPlaced w r
-  placed_by r retries s (inl runs) = record {
-    retries = retries;
-    s = s;
-    last = r;
-    shows = running_shows (history_of w.tables) (code_in_force w.tables) (history_is w.tables is.tables) retries s r
-        runs;
-    is = inl refl;
-    steps = λ going idle. running_steps (history_of w.tables) (code_in_force w.tables) (history_is w.tables is.tables)
-        retries s r runs idle (word_at w.tables (Code (r.base.pc / 4)))
-        (fetch_fits w.tables is.tables retries s r runs going idle);
-  }
-  placed_by r retries s (inr over) = record {
-    retries = retries;
-    s = s;
-    last = over.0;
-    shows = running_shows (history_of w.tables) (code_in_force w.tables) (history_is w.tables is.tables) retries s
-        over.0 over.1;
-    is = inr over.2;
-    steps = λ going idle. absurd (never over.0 r going over.2);
-  }
+  placed_by r retries s (inl runs) =
+      let repeated = running_repeated (history_of w.tables) (code_in_force w.tables) (history_is w.tables is.tables)
+      retries s r runs in
+      record {
+        retries = retries;
+        s = s;
+        last = r;
+        is = inl refl;
+        ready = runs.rests.ready;
+        led = runs;
+        tries = repeated.0;
+        stands = repeated.1;
+        held = running_held (history_of w.tables) (code_in_force w.tables) retries s r runs;
+        steps = λ going idle. running_steps (history_of w.tables) (code_in_force w.tables) (history_is w.tables is.tables)
+            retries s r runs idle (word_at w.tables (Code (r.base.pc / 4)))
+            (fetch_fits w.tables is.tables retries s r runs going idle);
+      }
+  placed_by r retries s (inr over) =
+      let repeated = running_repeated (history_of w.tables) (code_in_force w.tables) (history_is w.tables is.tables)
+      retries s over.0 over.1 in
+      record {
+        retries = retries;
+        s = s;
+        last = over.0;
+        is = inr over.2;
+        ready = over.1.rests.ready;
+        led = over.1;
+        tries = repeated.0;
+        stands = repeated.1;
+        held = running_held (history_of w.tables) (code_in_force w.tables) retries s over.0 over.1;
+        steps = λ going idle. absurd (never over.0 r going over.2);
+      }
 
   pub placed : (guest : ℕ) (r : Raw) → slice_get w.guests guest ≡ Some r → IsPlaced w r
   placed guest r here =

@@ -1,9 +1,9 @@
 -- A world in which each kind of turn comes: a guest of each of two modules, of which the first opens module 0.
-use Rattle.std.specs.Prelude.{ℕ, ◌-◌, ◌*◌, ◌+◌, List, [], ◌∷◌, ◌++◌, replicate, None}
+use Rattle.std.specs.Prelude.{ℕ, ◌-◌, ◌*◌, ◌+◌, List, [], ◌∷◌, ◌++◌, replicate, Some, None}
 use Rattle.cfi_word.specs.Rank.{stores_of}
 use Rattle.cfi_word.specs.Table.{slots_of}
 use Rattle.cfi_word.specs.declared.ids.TheConstants.{FIELD_MAX}
-use Rattle.cfi_word.specs.declared.limits.TheConstants.{GUESTS, MIN_CODE_WORDS, MIN_VERSIONS}
+use Rattle.cfi_word.specs.declared.limits.TheConstants.{GUESTS, MAX_EPOCH, MIN_CODE_WORDS, MIN_VERSIONS}
 use Rattle.cfi_word.specs.declared.lists.Image.{Image}
 use Rattle.cfi_word.specs.declared.map.TheConstants.{FIRST_BASE}
 use Rattle.cfi_model.specs.Raw.{Raw, raw_opened}
@@ -12,7 +12,7 @@ use Rattle.cfi_world.specs.Turns.{turn_of}
 use Rattle.cfi_world.specs.declared.event.Event.{Event}
 use Rattle.cfi_world.specs.declared.event.Event.TheVariants.{Guest, Begin, Update, Answer, Release}
 use Rattle.cfi_world.specs.declared.event.Turned.{Turned}
-use Rattle.cfi_world.specs.declared.event.Turned.TheVariants.{Did, Asks, VersionsSpent, Nothing}
+use Rattle.cfi_world.specs.declared.event.Turned.TheVariants.{Did, Asks, VersionsSpent, EpochsSpent, Nothing}
 
 -- two modules: `addi x17,x0,4`, `ecall`, `j .`, and behind it `j .` alone
 abbrev pub open_code : List ℕ
@@ -31,6 +31,16 @@ open_guests = raw_opened 0 (4 * FIRST_BASE) [] ∷ raw_opened 1 (4 * (FIRST_BASE
 -- room for three updates, and fuel for three instructions
 abbrev pub open_world : World
 open_world = opened_world MIN_CODE_WORDS MIN_VERSIONS 0 open_image open_guests 3 3
+
+-- the same world at the greatest epoch, where no update begins any more
+abbrev pub last_world : World
+last_world = opened_world MIN_CODE_WORDS MIN_VERSIONS MAX_EPOCH open_image open_guests 3 3
+
+abbrev pub last_events : List Event
+last_events = Begin None ∷ Begin (Some open_image) ∷ Update ∷ []
+
+abbrev pub last_answers : List Turned
+last_answers = EpochsSpent ∷ EpochsSpent ∷ Nothing ∷ []
 
 -- the module was not loaded
 abbrev pub unloaded : Event

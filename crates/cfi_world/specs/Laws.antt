@@ -11,11 +11,12 @@ use Rattle.cfi_model.specs.Raw.{Raw}
 use Rattle.cfi_model.specs.Running.{IsGuest}
 use Rattle.cfi_model.specs.Log.{pick_entries}
 use Rattle.cfi_model.specs.Service.{Reply}
-use Rattle.cfi_model.specs.Shows.{End, IsStep, IsRetried}
+use Rattle.cfi_model.specs.Shows.{End, IsStep}
 use Rattle.cfi_model.specs.State.{State}
 use Rattle.cfi_model.specs.Tables.{IsTables}
 use Rattle.cfi_model.specs.Words.{Tables, epoch_in_force, policy_in_force, next_epoch, word_at}
 use Rattle.cfi_model.specs.World.{World, opened_world}
+use Rattle.cfi_world.specs.Counts.{HasRepeated}
 use Rattle.cfi_world.specs.Premises.{CanOpen, MayTurn}
 use Rattle.cfi_world.specs.Turns.{reply_in, turn_of}
 use Rattle.cfi_world.specs.Worlds.{IsWorld}
@@ -33,7 +34,8 @@ IsBrought None reply = reply.cause ≡ TOO_MANY
 IsBrought (Some given) reply = reply ≡ given
 
 -- the policy machine has run one unit, a check under the policy of the two words that the guest kept, a service with
--- the answer that was given; only a check repeats tries, where words of two epochs can be found, and it logs a pick
+-- the answer that was given; the tries that it has repeated are those that the guest had repeated before, which logs a
+-- pick; and the guest stands where the next unit begins
 pub record IsStepped (h : History) (code : List ℕ) (given : Option Reply) (retries : ℕ) (s : State) (r now : Raw)
     (more : ℕ) (after : State) : Type 0 where
   pub end : End
@@ -42,9 +44,12 @@ pub record IsStepped (h : History) (code : List ℕ) (given : Option Reply) (ret
   pub step : IsStep h code end s after
   pub brings : (reply : Reply) → end.reply ≡ Some reply → IsBrought given reply
   pub least : retries ≤ more
-  pub retried : more ≢ retries → IsRetried h step.unit s
+  pub tries : ℕ
+  pub repeated : HasRepeated h code retries s r tries
+  pub retried : more ≡ retries + tries
   pub logged : more ≢ retries → 0 < pick_entries after.log
   pub picks : pick_entries s.log ≤ pick_entries after.log
+  pub begins : after.stop ≡ None → now.base.pc ≡ after.pc
   pub fresh : after.stop ≡ None → now.tary ≡ None
 
 -- a guest after an event: it shows what it showed, or the policy machine's state one unit later

@@ -4,8 +4,11 @@ pub mod Updates
 pub mod Turns
 pub mod Premises
 pub mod Worlds
+pub mod Counts
 pub mod Laws
+pub mod Moments
 pub mod Checks
+pub mod Steps
 pub mod Outcomes
 pub mod Example
 pub mod Retry

@@ -1,5 +1,5 @@
 -- When each answer comes.
-use Rattle.std.specs.Prelude.{◌≡◌, ◌≢◌, ℕ, ◌+◌, ◌-◌, ◌<◌, ◌⊎◌, true, slice_get, Some, None}
+use Rattle.std.specs.Prelude.{◌≡◌, ◌≢◌, ℕ, ◌+◌, ◌-◌, ◌<◌, ◌≤◌, ◌⊎◌, true, List, length, slice_get, Some, None}
 use Rattle.cfi_word.specs.declared.limits.TheConstants.{MAX_OPENS}
 use Rattle.cfi_word.specs.declared.services.TheConstants.{OPEN}
 use Rattle.cfi_model.specs.declared.act.Wait.TheVariants as waits
@@ -13,6 +13,9 @@ use Rattle.cfi_model.specs.Raw.{Raw}
 use Rattle.cfi_model.specs.Service.{argument}
 use Rattle.cfi_model.specs.Words.{next_epoch}
 use Rattle.cfi_model.specs.World.{World, point_of, quiet_of}
+use Rattle.cfi_world.specs.Laws.{MayTurns, world_after}
+use Rattle.cfi_world.specs.Moments.{world_at}
+use Rattle.cfi_world.specs.Worlds.{IsWorld}
 use Rattle.cfi_world.specs.declared.event.Event.{Event}
 use Rattle.cfi_world.specs.declared.event.Event.TheVariants as events
 
@@ -42,6 +45,18 @@ pub record IsRefusal (w : World) (guest quiet : ℕ) : Type 0 where
   pub tests : phase_of w.tables ≡ phases.Testing guest
   pub published : quiet_of w guest ≡ Published quiet
   pub late : quiet + w.tables.versions - 2 < next_epoch w.tables
+
+-- the guest of the number exists
+abbrev pub HasGuest : World → (guest : ℕ) → Type 0
+HasGuest w guest = (r : Raw) × (slice_get w.guests guest ≡ Some r)
+
+-- the guest that refuses an update has at no moment published a later epoch than the one that refuses it
+abbrev pub PublishesNoneAbove : Type 0
+PublishesNoneAbove =
+    (w : World) → IsWorld w → (run : List Event) → MayTurns w run →
+    (guest quiet : ℕ) → IsRefusal (world_after w run) guest quiet →
+    (moment : ℕ) → moment ≤ length run →
+    (epoch : ℕ) → quiet_of (world_at w run moment) guest ≡ Published epoch → epoch ≤ quiet
 
 abbrev pub IsLeast : World → (guest : ℕ) → Type 0
 IsLeast w guest =

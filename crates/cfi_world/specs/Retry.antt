@@ -18,8 +18,10 @@ use Rattle.cfi_model.specs.Phases.{phase_of}
 use Rattle.cfi_model.specs.Raw.{Raw, raw_opened}
 use Rattle.cfi_model.specs.Words.{Tables, epoch_in_force, policy_in_force}
 use Rattle.cfi_model.specs.World.{World, opened_world}
+use Rattle.cfi_world.specs.Checks.{IsPlaced}
 use Rattle.cfi_world.specs.Example.{refresh_count}
 use Rattle.cfi_world.specs.Laws.{world_after}
+use Rattle.cfi_world.specs.Moments.{IsTryOf}
 use Rattle.cfi_world.specs.Turns.{turn_of}
 use Rattle.cfi_world.specs.declared.event.Event.{Event}
 use Rattle.cfi_world.specs.declared.event.Event.TheVariants.{Guest, Begin, Update}
@@ -193,3 +195,14 @@ abbrev pub load_forces : List Force
 load_forces =
     replicate (1 + GUESTS + length more_code + MIN_CODE_WORDS) (record { epoch = 0; policy = 0 })
     ++ replicate (1 + slots_of MIN_CODE_WORDS) (record { epoch = 1; policy = 1 })
+
+-- without an update its check's one try: with the last of the first eight events, and with the fourth one after it
+abbrev pub HasTry : Type 0
+HasTry = IsTryOf (call_world MAX_VERSIONS) (goes (to_bary + 4)) 0 0 148 (to_bary - 1) (to_bary + 3)
+
+-- the guest on the last word of its check, the jump to the function, to which nothing has led it
+abbrev pub put_guest : Raw
+put_guest = record (raw_opened 0 (4 * (FIRST_BASE + 15)) []) { x31 = 148 }
+
+abbrev pub NobodyIsPutThere : Type 0
+NobodyIsPutThere = IsPlaced (call_world MAX_VERSIONS) put_guest → ⊥

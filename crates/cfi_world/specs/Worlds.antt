@@ -18,7 +18,7 @@ use Rattle.cfi_model.specs.Log.{last_policy, opens}
 use Rattle.cfi_model.specs.Raw.{Raw}
 use Rattle.cfi_model.specs.Tables.{IsTables}
 use Rattle.cfi_model.specs.Words.{Tables, next_epoch, epoch_in_force, policy_in_force}
-use Rattle.cfi_model.specs.World.{World}
+use Rattle.cfi_model.specs.World.{World, quiet_of}
 use Rattle.cfi_world.specs.Seats.{Seat, seat_of}
 
 -- a guest in a service
@@ -85,11 +85,13 @@ abbrev pub pending : Option Entry → ℕ
 pending None = 0
 pending (Some entry) = 1
 
+-- no number is registered that no guest has
 pub record IsWorld (w : World) : Type 0 where
   pub tables : IsTables w.tables
   pub quiets_many : length w.quiets ≡ GUESTS
   pub points_many : length w.points ≡ GUESTS
   pub few : length w.guests ≤ GUESTS
+  pub absent : (guest : ℕ) → slice_get w.guests guest ≡ None → quiet_of w guest ≡ Unregistered
   pub room : w.updates ≤ w.room
   pub room_fits : w.room < 2 ^ 32
   pub fuel_fits : w.fuel < 2 ^ 32

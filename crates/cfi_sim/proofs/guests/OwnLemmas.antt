@@ -1,5 +1,5 @@
 -- What holds of a guest holds after an event of its own.
-use Rattle.std.proofs.Common.{◌≡◌, ℕ, ◌+◌, ◌-◌, List, length, Option, Some, None, refl, sym, ◌∙◌, ap, subst, arith, inl, inr}
+use Rattle.std.proofs.Common.{◌≡◌, ◌≢◌, ℕ, ◌+◌, ◌-◌, List, length, Option, Some, None, refl, sym, ◌∙◌, ap, subst, arith, inl, inr}
 use Rattle.std.proofs.lemmas.Bool.{cases_eq}
 use Rattle.cfi_valid.specs.Running.{HasReplayed, RunsUnit}
 use Rattle.cfi_valid.proofs.RunningLemmas.{replay_goes_on}
@@ -24,6 +24,7 @@ use Rattle.cfi_model.specs.Service.{Reply}
 use Rattle.cfi_unit.specs.declared.unit.Unit.{Unit as CodeUnit}
 use Rattle.cfi_model.proofs.EndLemmas.{effect_units}
 use Rattle.cfi_model.specs.Running.{IsGuest}
+use Rattle.cfi_world.specs.Counts.{HasRepeated}
 use Rattle.cfi_world.specs.Laws.{IsBrought, IsStepped}
 use Rattle.cfi_aux.specs.declared.modules.Module.{Module}
 use Rattle.cfi_model.proofs.ShownLemmas.{never_retried, shown_stop}
@@ -123,11 +124,18 @@ module _ (plan : Plan) (modules : List Module) (state : JournalState) (aim : Opt
       | inr apart ↦ (let some = p.logged apart in absurd (omega (arith, some, none)))
     ]
 
+    none_repeated : length t.entries ≡ 1 → more ≢ run.retries → HasRepeated h code run.retries s r p.tries → ⊥
+    none_repeated one apart (inl rests) = (let sum = p.retried in apart (omega (arith, sum, rests.1)))
+    none_repeated one apart (inr tried) =
+        never_retried h code known tried.inside.unit s (omega (arith, one, force_within t is))
+        (tried.inside.retried (λ none. (let sum = p.retried in
+        let same = tried.is in
+        apart (omega (arith, sum, same, none)))))
+
     one_only : length t.entries ≡ 1 → more ≡ 0
     one_only one = elim (cases_eq more run.retries) [
       | inl same ↦ same ∙ run.single one
-      | inr apart ↦
-          absurd (never_retried h code known unit s (omega (arith, one, force_within t is)) (p.retried apart))
+      | inr apart ↦ absurd (none_repeated one apart p.repeated)
     ]
 
     -- ---- the guest after it

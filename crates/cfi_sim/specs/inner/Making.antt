@@ -78,10 +78,9 @@ abbrev pub AdvancesBy : (old new : Whole) → (happened : Bool) → Type 0
 AdvancesBy old new true = HasMadeWithin (IsUpdateEvent old.plan old.modules) old new
 AdvancesBy old new false = IsAtRest old.stage
 
--- some accesses were made
+-- so many accesses were made
 pub record HasAdvanced (old new : Whole) : Type 0 where
   pub count : ℕ
-  pub some : 1 ≤ count
   pub made : HasMadeWithin (Repeats (IsUpdateEvent old.plan old.modules) count) old new
 
 -- an update was not made

@@ -53,17 +53,13 @@ impl<'a> Standing<'a> {
         Ok(true)
     }
 
-    // All accesses that are left of an update. False where none is under way, or a limit would be passed.
+    // All accesses that are left of an update, none where none is under way. False where a limit would be passed.
     fn finish(&mut self) -> Result<bool, AllocError>
         requires under_way { IsUnderWay self.old }
         requires within { PassesNoLimit self.old.stage }
         ensures { IfOk result
             (MakesBy (IsWholeUpdate self.old.plan self.old.modules) self.old self.new) }
     {
-        let begun = self.advance()?;
-        if !begun {
-            return Ok(false);
-        }
         while !is_idle(self.world.phase()) {
             let made = self.advance()?;
             if !made {

@@ -1,6 +1,6 @@
 use Rattle.std.proofs.Common.{arith}
 use Rattle.cfi_word.specs.declared.limits.TheConstants.{MAX_VERSIONS}
-use Rattle.cfi_world.proofs.RetryLemmas.{call_can, loads_may, load_tries, load_ends}
+use Rattle.cfi_world.proofs.RetryLemmas.{call_can, has_try, loads_may, load_tries, load_ends}
 use Rattle.cfi_world.proofs.laws.a_check_is_tried_again.Goals as goal
 
 pub returns-clause-tries : goal.returns-clause-tries
@@ -14,3 +14,6 @@ returns-clause-opens c = call_can MAX_VERSIONS (omega arith) (omega arith)
 
 pub returns-clause-may : goal.returns-clause-may
 returns-clause-may c = loads_may
+
+pub returns-clause-once : goal.returns-clause-once
+returns-clause-once c = has_try

@@ -1,6 +1,7 @@
 use Rattle.cfi_world.proofs.RefineLemmas.{refines}
 use Rattle.cfi_world.proofs.OthersLemmas.{others_stay, only_updates}
 use Rattle.cfi_world.proofs.ForceLemmas.{force_stays}
+use Rattle.cfi_world.proofs.PassedLemmas.{last_words}
 use Rattle.cfi_world.proofs.StopLemmas.{halted, placed}
 use Rattle.cfi_world.proofs.laws.events_refine_guests.Goals as goal
 
@@ -22,3 +23,6 @@ returns-clause-halts c = halted
 
 pub returns-clause-units : goal.returns-clause-units
 returns-clause-units c = placed
+
+pub returns-clause-led : goal.returns-clause-led
+returns-clause-led c = last_words

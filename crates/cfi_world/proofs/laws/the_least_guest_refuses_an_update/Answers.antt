@@ -1,3 +1,4 @@
+use Rattle.cfi_world.proofs.QuietLemmas.{publishes_none_above, refusal_guest}
 use Rattle.cfi_world.proofs.RefusalLemmas.{refusal_least, refusal_many, refusal_only, refusal_spent}
 use Rattle.cfi_world.proofs.laws.the_least_guest_refuses_an_update.Goals as goal
 
@@ -12,3 +13,9 @@ returns-clause-least c = λ w guest quiet is refusal. refusal_least w is guest q
 
 pub returns-clause-many : goal.returns-clause-many
 returns-clause-many c = λ w guest quiet is refusal. refusal_many w is guest quiet refusal
+
+pub returns-clause-guest : goal.returns-clause-guest
+returns-clause-guest c = refusal_guest
+
+pub returns-clause-above : goal.returns-clause-above
+returns-clause-above c = publishes_none_above

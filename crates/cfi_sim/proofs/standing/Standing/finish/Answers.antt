@@ -1,37 +1,29 @@
 use Rattle.std.proofs.Common.{◌≡◌, true, false, sym, ap, subst, ◌∙◌}
 use Rattle.cfi_model.specs.Phases.{phase_of}
 use Rattle.cfi_sim.specs.inner.Standing.{Whole}
-use Rattle.cfi_sim.proofs.RepeatLemmas.{first_advanced, more_advanced, fewer_left, first_stuck, more_stuck, finished}
+use Rattle.cfi_sim.proofs.RepeatLemmas.{none_advanced, more_advanced, fewer_left, more_stuck, finished}
 use Rattle.cfi_world.specs.Updates.{is_idle}
 use Rattle.cfi_sim.proofs.standing.Standing.finish.Goals as goal
 
--- no update is under way, or there were too many events
-pub returns-then-not-begun : goal.returns-then-not-begun
-returns-then-not-begun c =
-    first_stuck c.args.self.now c.advance.new.self c.requires.under_way c.requires.within c.in_ok-begun.begun
-    c.if-not-begun.true c.in_ok-begun.ensures
-
 pub loop-self-init : goal.loop-self-init
-loop-self-init c =
-    first_advanced c.args.self.now c.advance.new.self c.requires.under_way c.requires.within c.in_ok-begun.begun
-    c.if-not-begun.false c.in_ok-begun.ensures
+loop-self-init c = none_advanced c.args.self.now c.requires.under_way c.requires.within
 
 -- there were too many events
 pub returns-then-not-made : goal.returns-then-not-made
 returns-then-not-made c =
-    more_stuck c.args.self.now c.loop-self.self c.advance-in-loop-self.new.self c.loop-self.invariant
+    more_stuck c.args.self.now c.loop-self.self c.advance.new.self c.loop-self.invariant
     (subst (λ (w : Whole). is_idle (phase_of w.stage.world.tables) ≡ false) c.self.view_is
     (ap is_idle (sym c.phase.ensures) ∙ sym c.is_idle.ensures ∙ c.loop-self-test.true)) c.in_ok-made.made
     c.if-not-made.true c.in_ok-made.ensures
 
 pub loop-self-smaller : goal.loop-self-smaller
 loop-self-smaller c =
-    fewer_left c.loop-self.self c.advance-in-loop-self.new.self c.in_ok-made.made c.if-not-made.false
+    fewer_left c.loop-self.self c.advance.new.self c.in_ok-made.made c.if-not-made.false
     c.in_ok-made.ensures
 
 pub loop-self-preserved : goal.loop-self-preserved
 loop-self-preserved c =
-    more_advanced c.args.self.now c.loop-self.self c.advance-in-loop-self.new.self c.loop-self.invariant
+    more_advanced c.args.self.now c.loop-self.self c.advance.new.self c.loop-self.invariant
     c.in_ok-made.made
     c.if-not-made.false c.in_ok-made.ensures
 

@@ -3,7 +3,7 @@ use Rattle.cfi_sim.specs.declared.limits.TheConstants.{MAX_EVENTS}
 use Rattle.cfi_sim.specs.inner.Making.{HasAdvanced}
 use Rattle.cfi_sim.proofs.standing.Standing.finish.Given as goal
 
--- some accesses were made
+-- so many accesses were made
 abbrev pub invariant-loop-self : goal.invariant-loop-self
 invariant-loop-self l = HasAdvanced l.fn.self l.self
 
