@@ -30,3 +30,6 @@ pub mod CallLemmas
 pub mod RetryLemmas
 pub mod CheckLemmas
 pub mod StopLemmas
+pub mod SkipLemmas
+pub mod SharedWords
+pub mod SharedLemmas

@@ -9,3 +9,4 @@ pub mod Checks
 pub mod Outcomes
 pub mod Example
 pub mod Retry
+pub mod SharedTurns

@@ -20,6 +20,7 @@ ghost use Rattle.cfi_world.specs.Retry.{load_count, load_events, load_forces, lo
 ghost use Rattle.cfi_world.specs.Retry.{picked_ending, refresh_answers, refresh_events, retry_events, tried_words};
 ghost use Rattle.cfi_world.specs.Turns.{nothing, turn_of};
 ghost use Rattle.cfi_world.specs.Worlds.{IsWorld};
+ghost use Rattle.cfi_world.specs.SharedTurns.{TurnsAreEvents};
 ghost use Rattle.cfi_world.specs.declared.event.Event.TheVariants.{Begin, Guest, Update};
 ghost use Rattle.cfi_world.specs.declared.event.Event.{Event as Happening};
 ghost use Rattle.cfi_world.specs.declared.event.Turned.TheVariants.{Asks, EpochsSpent, Nothing, VersionsSpent};
@@ -139,4 +140,11 @@ pub fn a_refresh_waits_for_a_quiescent_point()
     ensures may { MayTurns (call_world MIN_VERSIONS) refresh_events }
     ensures turns { turned_after (call_world MIN_VERSIONS) refresh_events ≡ refresh_answers }
     ensures ends { endings_after (call_world MIN_VERSIONS) refresh_events ≡ picked_ending 0 ∷ [] }
+{}
+
+/// Each turn of a world is one event on what its guests and its updater share, or changes nothing of it.
+///
+/// The events are those of the shared tables: a guest's load or store, a test or a store of the update.
+pub fn turns_are_events()
+    ensures { TurnsAreEvents }
 {}
