@@ -4,6 +4,7 @@ use Rattle.std.proofs.lemmas.Option.{slice_get_within}
 use mathlib.Core.List.{IsPrefix}
 use Rattle.cfi_aux.specs.declared.modules.Module.{Module}
 use Rattle.cfi_loader.specs.Ledger.{Ledger, IsLedger}
+use Rattle.cfi_loader.specs.Passes.{heard_from}
 use Rattle.cfi_model.specs.Came.{takes_in}
 use Rattle.cfi_model.specs.Raw.{Raw}
 use Rattle.cfi_model.specs.Words.{no_entry}
@@ -26,6 +27,30 @@ use Rattle.cfi_drive.proofs.PathLemmas.{due_later}
 use Rattle.cfi_drive.proofs.SeesLemmas.{on_noted, runner_on}
 use Rattle.cfi_drive.proofs.ServeLemmas.{opened_later}
 use Rattle.cfi_drive.proofs.ToldLemmas.{ends_later, logged_later}
+
+-- a ledger after a note is one
+pub heard_ledger : (k : Key) (plan : Plan) (modules : List Module) (p : PassView) (l : Ledger)
+    → IsLedger k plan modules l → IsLedger k plan modules (heard_from p l)
+heard_ledger k plan modules p l is = record {
+  plan_is = is.plan_is;
+  modules_are = is.modules_are;
+  can_start = is.can_start;
+  tables_are = is.tables_are;
+  course = is.course;
+  policies = is.policies;
+  entries = is.entries;
+  told = record {
+    tables = is.told.tables;
+    epoch = is.told.epoch;
+    policy = is.told.policy;
+    images = is.told.images;
+    marks = is.told.marks;
+    epochs = is.told.epochs;
+    refusals = is.told.refusals;
+    guests = is.told.guests;
+  };
+  script = is.script;
+}
 
 same_number : (first len : ℕ) → first + (len - 1) - first ≡ len - 1
 same_number first len = omega arith

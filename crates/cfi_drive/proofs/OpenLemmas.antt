@@ -1,8 +1,8 @@
 -- A runner in an open, by the answers of the loader's calls.
 use Rattle.std.proofs.Common.{◌≡◌, ◌≤◌, ◌<◌, ℕ, Some, List, [], length, refl, sym, ap, subst, ◌∙◌, arith}
 use Rattle.cfi_aux.specs.declared.modules.Module.{Module}
-use Rattle.cfi_loader.specs.Ledger.{Ledger}
-use Rattle.cfi_loader.specs.Passes.{reply_with}
+use Rattle.cfi_loader.specs.Ledger.{Ledger, IsLedger}
+use Rattle.cfi_loader.specs.Passes.{heard_from, reply_with}
 use Rattle.cfi_loader.specs.Results.{HasLoaded, IsLoadFault, loaded_line}
 use Rattle.cfi_loader.specs.declared.fault.LoadFault.{LoadFault}
 use Rattle.cfi_loader.specs.declared.loaded.Loaded.{Loaded}
@@ -26,7 +26,7 @@ use Rattle.cfi_drive.specs.Runner.{HasAsked, IsRunner, IsRunnerBy}
 use Rattle.cfi_drive.specs.Serving.{IsPassTold, cause_by}
 use Rattle.cfi_drive.proofs.AnswerLemmas.{given, policy_fits}
 use Rattle.cfi_drive.proofs.FaultLemmas.{refused_by}
-use Rattle.cfi_drive.proofs.NoteLemmas.{logged_now, planned, runner_told}
+use Rattle.cfi_drive.proofs.NoteLemmas.{heard_ledger, logged_now, planned, runner_told}
 use Rattle.cfi_drive.proofs.SeesLemmas.{asked_on, on_noted}
 
 -- a guest that has asked waits
@@ -34,7 +34,7 @@ pub asked_waits : (k : Key) (fuel : ℕ) (p : PassView) (r : Raw) (number : ℕ)
     → r.waits ≡ Some (waits.Service number)
 asked_waits k fuel p r number asked = ap (λ x. x.waits) asked.run.pauses.0 ∙ asked.run.pauses.1
 
--- what is known of a guest in an open that was told of a ledger
+-- what is known of a guest in an open that was told of a ledger, which knows then what it has published
 pub record IsToldOf (k : Key) (plan : Plan) (modules : List Module) (n : PassView) (r : Raw) (l : Ledger) : Type 0 where
   pub at : IsRunnerBy k plan modules n r l
   pub asked : HasAsked k plan.fuel n r OPEN
@@ -43,20 +43,22 @@ pub record IsToldOf (k : Key) (plan : Plan) (modules : List Module) (n : PassVie
 
 pub told_of : (k : Key) (plan : Plan) (modules : List Module) (p n : PassView) (r : Raw) (l : Ledger)
     → IsRunner k plan modules p r → HasAsked k plan.fuel p r OPEN → IsPassTold k plan modules l p n
-    → IsToldOf k plan modules n r l
+    → IsToldOf k plan modules n r (heard_from p l)
 told_of k plan modules p n r l was asked told =
-    let note : IsPassTold k plan modules l p (noted k l.keeping p) = record {
-      ledger = told.ledger;
+    let m : Ledger = heard_from p l in
+    let is : IsLedger k plan modules m = heard_ledger k plan modules p l told.ledger in
+    let note : IsPassTold k plan modules m p (noted k m.keeping p) = record {
+      ledger = is;
       agrees = told.agrees;
       is = refl;
     } in
     let seen = asked.sees.sees.is in
-    subst (λ v. IsToldOf k plan modules v r l) (sym told.is) (record {
-      at = runner_told k plan modules p r was.0 l was.1 seen told.ledger note;
-      asked = asked_on k plan.fuel p (noted k l.keeping p) r OPEN
-          (on_noted k r l.keeping p told.ledger.told.tables told.agrees seen) asked;
-      logged = logged_now k plan modules p r was.0 l was.1 seen told.ledger note;
-      planned = planned k plan modules p r was.0 l was.1 seen told.ledger note;
+    subst (λ v. IsToldOf k plan modules v r m) (sym told.is) (record {
+      at = runner_told k plan modules p r was.0 m was.1 seen is note;
+      asked = asked_on k plan.fuel p (noted k m.keeping p) r OPEN
+          (on_noted k r m.keeping p is.told.tables told.agrees seen) asked;
+      logged = logged_now k plan modules p r was.0 m was.1 seen is note;
+      planned = planned k plan modules p r was.0 m was.1 seen is note;
     })
 
 module _ (k : Key) (plan : Plan) (modules : List Module) (p n : PassView) (r : Raw) (first l : Ledger)
@@ -96,7 +98,7 @@ module _ (k : Key) (plan : Plan) (modules : List Module) (p n : PassView) (r : R
     most = omega (arith, force, policy_fits k plan modules l told.ledger);
   }
 
--- what the loader answers is of this guest, its module and the ledger of which it was told
+-- what the loader answers is of this guest, its module and the ledger as its note left it
 pub loaded_as : (k : Key) (g number : ℕ) (desk l first : Ledger) (p : PassView) (r : Raw) (loaded : Loaded)
     → g ≡ p.guest → number ≡ argument r.base → desk ≡ first → HasLoaded k (Guest g) number loaded desk l
     → HasLoaded k (Guest p.guest) (argument r.base) loaded first l

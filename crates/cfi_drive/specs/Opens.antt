@@ -2,7 +2,7 @@
 use Rattle.std.specs.Prelude.{◌≡◌, ◌⊎◌, ℕ, nat_le, Bool, true, false, List, [], length, Some}
 use Rattle.cfi_aux.specs.declared.modules.Module.{Module}
 use Rattle.cfi_loader.specs.Ledger.{Ledger}
-use Rattle.cfi_loader.specs.Passes.{reply_with}
+use Rattle.cfi_loader.specs.Passes.{heard_from, reply_with}
 use Rattle.cfi_loader.specs.Results.{HasLoaded, IsLoadFault}
 use Rattle.cfi_loader.specs.declared.fault.LoadFault.{LoadFault}
 use Rattle.cfi_loader.specs.declared.loaded.Loaded.{Loaded}
@@ -33,15 +33,16 @@ pub record IsRefusedBy (k : Key) (guest : ℕ) (before after : Ledger) (r new : 
   pub why : cause_by fault ≡ Some cause
   pub is : new ≡ serve_of r (reply_of 0 cause after.course.end.policy [])
 
--- the loader was asked: the pass has seen all that its keeper had seen before the load, and all that it had by the
--- answer
+-- the loader was asked: the pass has seen all that its keeper had seen before the load, which then knew what the guest
+-- has published, and all that it had by the answer
 pub record HasAskedLoader (k : Key) (plan : Plan) (modules : List Module) (p q : PassView) (r new : Raw) : Type 0 where
   pub before : Ledger
   pub mid : PassView
   pub told : IsPassTold k plan modules before p mid
   pub after : Ledger
   pub then : IsPassTold k plan modules after mid q
-  pub answer : IsAnsweredBy k p.guest before after r new ⊎ IsRefusedBy k p.guest before after r new
+  pub answer : IsAnsweredBy k p.guest (heard_from p before) after r new
+      ⊎ IsRefusedBy k p.guest (heard_from p before) after r new
 
 -- the loader was not asked: the answer is this cause, with the policy that the guest has logged last
 pub record IsUnasked (cause : ℕ) (p q : PassView) (r new : Raw) : Type 0 where

@@ -8,6 +8,7 @@ ghost use Rattle.cfi_model.specs.declared.act.Wait.TheVariants as waits;
 ghost use Rattle.rv_guest.specs.Guest.{MayAnswer};
 ghost use Rattle.cfi_word.specs.declared.limits.TheConstants.{MAX_OPENS};
 ghost use Rattle.cfi_word.specs.declared.services.TheConstants.{OPEN};
+ghost use Rattle.cfi_loader.specs.Passes.{heard_from};
 ghost use Rattle.cfi_drive.specs.Runner.{HasAsked, IsRunner};
 ghost use Rattle.cfi_drive.specs.Opens.{HasAskedLoader, HasOpened, HasServedElse, HasServedOpen};
 ghost use Rattle.cfi_drive.specs.Serving.{HasServed, IsPassTold, KeepsPass};
@@ -36,10 +37,10 @@ fn refuse(guest: &mut Guest, cause: u32, policy: u32)
     });
 }
 
-// Tells a pass all that the keeper has seen.
+// Tells a pass all that the keeper has seen, and the keeper what its guest has published.
 fn tell<N: LoaderName>(desk: &mut Loader<N>, tables: &Tables<N>, pass: &mut Pass<N>)
     ensures told { IsPassTold N.key N.plan N.modules desk.old pass.old pass.new }
-    ensures same { desk.new ≡ desk.old }
+    ensures kept { desk.new ≡ heard_from pass.old desk.old }
 {
     let _ = desk.journal();
     desk.note(tables, pass);

@@ -11,7 +11,7 @@ use Rattle.cfi_plan.specs.Draft.{starts}
 use Rattle.cfi_plan.specs.declared.plan.Plan.{Plan}
 use Rattle.cfi_series.specs.Fills.{fill_of, fills_of}
 use Rattle.cfi_tables.specs.Key.{Key}
-use Rattle.cfi_tables.specs.Keeping.{Keeping, AreAllOut, IsFree, is_out, let_out}
+use Rattle.cfi_tables.specs.Keeping.{Keeping, AreAllOut, IsFree, heard_of, is_out, let_out}
 use Rattle.cfi_tables.specs.declared.fault.AdmitFault.{AdmitFault}
 use Rattle.cfi_tables.specs.declared.view.PassView.{PassView}
 use Rattle.cfi_valid.specs.Journal.{JournalState}
@@ -149,6 +149,16 @@ out_kept k b keeping guest kept known =
     (slice_set keeping.quiets guest (k.first + length keeping.entries)) kept
     (λ one there.
     out_other keeping.out guest one true (length b.plan.guests) kept.ledger.told.guests (λ _. known) there)
+
+-- and what a note leaves
+pub heard_kept : (k : Key) (plan : Plan) (modules : List Module) (b : Books) (old new : Keeping) (guest quiet : ℕ)
+    → IsLoader k plan modules b old → new ≡ heard_of guest quiet old → IsLoader k plan modules b new
+heard_kept k plan modules b old new guest quiet is heard = record {
+  kept = subst (BooksAgree k b) (sym heard) (passes_kept k b old old.out (slice_set old.quiets guest (quiet + 1)) is.kept
+      is.kept.ledger.told.guests);
+  plan_is = is.plan_is;
+  modules_are = is.modules_are;
+}
 
 -- what an admission leaves
 pub admission_kept : (k : Key) (plan : Plan) (modules : List Module) (b : Books) (old new : Keeping)

@@ -1,7 +1,8 @@
 -- Passes of guests, and what the answer to an open brings.
 use Rattle.std.specs.Prelude.{ℕ, Bool, count_by, Option, Some, None}
 use Rattle.cfi_model.specs.Service.{Reply, reply_of}
-use Rattle.cfi_tables.specs.Keeping.{Keeping}
+use Rattle.cfi_tables.specs.Keeping.{Keeping, heard_of}
+use Rattle.cfi_tables.specs.declared.view.PassView.{PassView}
 use Rattle.cfi_unit.specs.declared.log.Log.{Log}
 use Rattle.cfi_valid.specs.Loaded.{fills_between}
 use Rattle.cfi_valid.specs.Replay.{given_by}
@@ -16,6 +17,10 @@ out_of l = count_by (λ (out : Bool). out) l.keeping.out
 -- the keeper of the tables keeps something else
 abbrev pub with_keeping : Keeping → Ledger → Ledger
 with_keeping keeping l = record l { keeping = keeping }
+
+-- the keeper has told a pass what it has seen, and knows what its guest has published
+abbrev pub heard_from : PassView → Ledger → Ledger
+heard_from p l = with_keeping (heard_of p.guest p.quiet l.keeping) l
 
 -- the answer to an open of a module that is loaded, by the address of its first Global function: with one, the data
 -- that the guest lacks

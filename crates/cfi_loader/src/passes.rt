@@ -5,7 +5,7 @@ ghost use Rattle.cfi_tables.specs.Faults.{epoch_after};
 ghost use Rattle.cfi_tables.specs.Keeping.{IsFree, let_in, let_out};
 ghost use Rattle.cfi_tables.specs.Rule.{AgreesWith};
 ghost use Rattle.cfi_tables.specs.Views.{admitted, noted};
-ghost use Rattle.cfi_loader.specs.Passes.{out_of, with_keeping};
+ghost use Rattle.cfi_loader.specs.Passes.{heard_from, out_of, with_keeping};
 
 use crate::loader::{Loader, LoaderName};
 use cfi_tables::{AdmitFault, Pass, Seen, Tables};
@@ -26,11 +26,12 @@ impl<N: LoaderName> Loader<N> {
         self.keeper.admit(tables)
     }
 
-    /// Tells a pass all that the keeper has seen. Its accesses stay.
+    /// Tells a pass all that the keeper has seen. Its accesses stay. No update finds less of its guest than this has
+    /// published by now.
     pub fn note(&mut self, tables: &Tables<N>, pass: &mut Pass<N>)
         ensures pass { pass.new ≡ noted N.key self.old.keeping pass.old }
         ensures agrees { AgreesWith N.key self.old.keeping.entries self.old.keeping.refusals pass.old.sight }
-        ensures same { self.new ≡ self.old }
+        ensures kept { self.new ≡ heard_from pass.old self.old }
     {
         self.keeper.note(tables, pass);
     }

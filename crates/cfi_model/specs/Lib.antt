@@ -23,3 +23,4 @@ pub mod Running
 pub mod InForce
 pub mod TableMoments
 pub mod Came
+pub mod SharedEvents

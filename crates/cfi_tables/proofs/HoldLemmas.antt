@@ -214,8 +214,14 @@ module _ (k : Key) (words : List ℕ) (u : KeeperView) (is : IsTables (tables_of
     pub heard : slice_index u.quiets p.guest ≤ p.quiet + 1
     heard = omega (arith, quiets.later p.guest held.registered.within, held.published)
 
-    -- it is told all
-    told_registered : IsRegistered k (record u { held = Some (noted k (keeping_of u) p) }) (noted k (keeping_of u) p)
+    -- it is told all, and the keeper hears what its guest has published
+    abbrev heard_in : List ℕ
+    heard_in = slice_set u.quiets p.guest (p.quiet + 1)
+
+    abbrev told_view : KeeperView
+    told_view = record u { quiets = heard_in; held = Some (noted k (keeping_of u) p) }
+
+    told_registered : IsRegistered k told_view (noted k (keeping_of u) p)
     told_registered =
         let r = held.registered in
         let force = force_is k u is idle in
@@ -237,7 +243,23 @@ module _ (k : Key) (words : List ℕ) (u : KeeperView) (is : IsTables (tables_of
           next = r.next;
         }
 
-    pub tell_next : IsNext k words u words (record u { held = Some (noted k (keeping_of u) p) })
+    -- no word is less than what was heard
+    heard_later : (guest : ℕ) → guest < GUESTS → slice_index heard_in guest ≤ slice_index words (quiet_word guest)
+    heard_later guest inside = dite (ℕ_discrete guest p.guest)
+        (λ same. omega (
+          arith,
+          ap (slice_index heard_in) same
+              ∙ get_or-set_same u.quiets p.guest (p.quiet + 1) 0
+              (omega (arith, held.registered.within, quiets.quiets_many)),
+          ap (λ g. slice_index words (quiet_word g)) same ∙ held.published,
+        ))
+        (λ apart. omega (
+          arith,
+          get_or-set_other u.quiets p.guest guest (p.quiet + 1) 0 apart,
+          quiets.later guest inside,
+        ))
+
+    pub tell_next : IsNext k words u words told_view
     tell_next = record {
       tables = is;
       many = many;
@@ -245,14 +267,14 @@ module _ (k : Key) (words : List ℕ) (u : KeeperView) (is : IsTables (tables_of
       code = code;
       quiets = record {
         out_many = quiets.out_many;
-        quiets_many = quiets.quiets_many;
-        later = quiets.later;
+        quiets_many = length-set u.quiets p.guest (p.quiet + 1) ∙ quiets.quiets_many;
+        later = heard_later;
         away = quiets.away;
         tells = quiets.tells;
       };
       held = record { registered = told_registered; published = held.published };
       each = λ q o. record {
-        registered = registered_same k u u.out u.quiets (Some (noted k (keeping_of u) p)) q o.registered o.registered.out;
+        registered = registered_same k u u.out heard_in (Some (noted k (keeping_of u) p)) q o.registered o.registered.out;
         published = o.published;
         apart = apart_of q.guest o.apart;
       };
@@ -322,8 +344,10 @@ tell_allowed k key slots id me u p same zeroth is idle is_held =
       told k u,
       subst (λ v. IsNext k s.words v (slice_set s.words 0 (slice_index s.words 0)) (told k u)) (sym e)
           (subst (λ words. IsNext k s.words u words (told k u)) (sym (set-get_or s.words 0 0))
-          (subst (λ h. IsNext k s.words u s.words (record u { held = Some (noted k (keeping_of u) (held_by h)) }))
-          (sym is_held) next)),
+          (subst (λ h. IsNext k s.words u s.words (record u {
+            quiets = slice_set u.quiets (held_by h).guest ((held_by h).quiet + 1);
+            held = Some (noted k (keeping_of u) (held_by h));
+          })) (sym is_held) next)),
       record {
         is = sym (ap (λ (z : Seated). (Keeper (told k (keeper_of z.0)), z.1)) is);
         agrees = subst (λ (z : Seated). AgreesWith k (keeper_of z.0).entries (keeper_of z.0).refusals

@@ -21,3 +21,6 @@ pub mod WordTestLemmas
 pub mod AdmissionLemmas
 pub mod KeeperLemmas
 pub mod CodeLemmas
+pub mod RelateLemmas
+pub mod EventLemmas
+pub mod TestEventLemmas

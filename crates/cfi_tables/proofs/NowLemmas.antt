@@ -1,19 +1,19 @@
 -- The moment of a load.
-use Rattle.std.proofs.Common.{◌≡◌, ℕ, ◌+◌, ◌<◌, ◌≤◌, List, [], ◌∷◌, ◌++◌, length, slice_get, take, take_all, take_at, Some, None, inr, refl, sym, ap, subst, ◌∙◌, arith}
+use Rattle.std.proofs.Common.{◌≡◌, ℕ, ◌≤◌, List, [], ◌∷◌, ◌++◌, length, take, take_all, take_at, refl, sym, ap, subst, ◌∙◌, arith}
 use mathlib.Core.List.{IsPrefix}
 use Rattle.std.proofs.lemmas.List.{take-take}
 use Rattle.cfi_word.specs.Table.{Place, IsPlace}
 use Rattle.cfi_model.specs.declared.history.Access.{Access}
 use Rattle.cfi_model.specs.declared.history.Entry.{Entry}
 use Rattle.cfi_model.specs.declared.history.Moment.{Moment}
-use Rattle.cfi_model.specs.TableMoments.{AreTimed, IsBy, IsMoment, IsTimed, moment_of, tables_at}
+use Rattle.cfi_model.specs.TableMoments.{AreTimed, IsBy, IsTimed, moment_of}
 use Rattle.cfi_model.specs.Tables.{IsTables}
 use Rattle.cfi_model.specs.Words.{HasStore, Tables, word_at}
 use Rattle.cfi_model.proofs.TableMomentLemmas.{by_same, by_trans, order_snoc}
 use Rattle.cfi_tables.specs.Key.{Key}
 use Rattle.cfi_tables.specs.Loads.{IsLoadNow, access_of}
-use Rattle.cfi_tables.specs.Rule.{AgreesWith, GoesOnTo}
-use Rattle.cfi_tables.specs.Views.{last_moment, last_tables, tables_of, tables_with, view_at}
+use Rattle.cfi_tables.specs.Rule.{GoesOnTo}
+use Rattle.cfi_tables.specs.Views.{last_moment, tables_of, tables_with, view_at}
 use Rattle.cfi_tables.specs.declared.view.KeeperView.{KeeperView}
 use Rattle.cfi_tables.specs.declared.view.Sight.{Sight}
 use Rattle.cfi_tables.proofs.MoreLemmas.{each_snoc}

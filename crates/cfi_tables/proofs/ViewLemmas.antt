@@ -25,7 +25,13 @@ returned_to me new gone u p is there goes =
 
 module _ (me : Seated) (u : KeeperView) (p : PassView) (is : me ≡ (Keeper (record u { held = Some p }), [])) where
   pub told_to : (k : Key) (new : Seated) → new ≡ (Keeper (told k (keeper_of me.0)), me.1)
-      → new ≡ (Keeper (record u { held = Some (noted k (keeping_of u) p) }), [])
+      → new ≡ (
+        Keeper (record u {
+          quiets = slice_set u.quiets p.guest (p.quiet + 1);
+          held = Some (noted k (keeping_of u) p);
+        }),
+        [],
+      )
   told_to k new goes = goes ∙ ap (λ (z : Seated). (Keeper (told k (keeper_of z.0)), z.1)) is
 
   pub agrees_to : (k : Key)

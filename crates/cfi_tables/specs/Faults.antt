@@ -34,7 +34,8 @@ pub record IsFirstBehind (k : Key) (keeping : Keeping) (quiets : List ℕ) (gues
   pub admit : AdmitBelow k keeping quiets guest
   pub rest : (other : ℕ) → guest < other → slice_index quiets other ≡ slice_index keeping.quiets other
 
--- no word is less than it was when the keeper stored or loaded it before: a guest never publishes an earlier epoch
+-- no word is less than it was when the keeper stored it, loaded it or heard of it before: a guest never publishes an
+-- earlier epoch
 pub record AreLater (old new : List ℕ) : Type 0 where
   pub many : length new ≡ length old
   pub least : (guest : ℕ) → slice_index old guest ≤ slice_index new guest

@@ -1,5 +1,6 @@
 -- What the keeper keeps: an entry for each epoch from the first on, the updates that were not admitted, and for each
--- guest number whether its pass is out, and its QUIET word as the keeper has last stored or loaded it.
+-- guest number whether its pass is out, and its QUIET word as the keeper has last stored it, loaded it or heard of it.
+-- It hears what a guest has published where it tells the pass what it has seen.
 use Rattle.std.specs.Prelude.{◌≡◌, ℕ, ◌+◌, ◌-◌, ◌<◌, List, Bool, true, false, [], ◌∷◌, ◌++◌, length, replicate, slice_index_or, slice_set}
 use Rattle.cfi_word.specs.declared.limits.TheConstants.{GUESTS}
 use Rattle.cfi_word.specs.declared.lists.Image.{Image}
@@ -64,6 +65,10 @@ let_in guest keeping = record keeping {
   out = slice_set keeping.out guest false;
   quiets = slice_set keeping.quiets guest 0;
 }
+
+-- a pass is told, whose guest has published this epoch
+abbrev pub heard_of : (guest quiet : ℕ) → Keeping → Keeping
+heard_of guest quiet keeping = record keeping { quiets = slice_set keeping.quiets guest (quiet + 1) }
 
 -- all passes are out
 abbrev pub AreAllOut : List Bool → Type 0

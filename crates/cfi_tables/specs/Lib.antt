@@ -6,3 +6,4 @@ pub mod Loads
 pub mod Rule
 pub mod Faults
 pub mod inner
+pub mod Events

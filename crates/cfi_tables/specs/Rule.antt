@@ -97,7 +97,8 @@ ShowTables k words u =
 abbrev pub TellsForce : Key → KeeperView → (word : ℕ) → Type 0
 TellsForce k u word = (word ≡ 0) ⊎ ((k.first < word) × (word ≤ epoch_in_force (tables_of k u) + 1))
 
--- that of a guest whose pass is not out is 0; none is less than it was when the keeper stored or loaded it
+-- that of a guest whose pass is not out is 0; none is less than it was when the keeper stored it, loaded it or heard of
+-- it
 pub record ShowQuiets (k : Key) (words : List ℕ) (u : KeeperView) : Type 0 where
   pub out_many : length u.out ≡ GUESTS
   pub quiets_many : length u.quiets ≡ GUESTS

@@ -3,7 +3,7 @@
 ghost use Rattle.std.specs.Prelude.{◌≡◌, ◌+◌, ◌≤◌, ◌<◌, length, slice_index, false};
 ghost use Rattle.cfi_word.specs.declared.limits.TheConstants.{GUESTS};
 ghost use Rattle.cfi_tables.specs.Faults.{epoch_after};
-ghost use Rattle.cfi_tables.specs.Keeping.{is_out, let_in, let_out};
+ghost use Rattle.cfi_tables.specs.Keeping.{heard_of, is_out, let_in, let_out};
 ghost use Rattle.cfi_tables.specs.Rule.{AgreesWith};
 ghost use Rattle.cfi_tables.specs.Views.{admitted, idle_view, noted};
 ghost use Rattle.cfi_tables.specs.inner.Stores.{IsAt, keeping_at};
@@ -45,7 +45,7 @@ pub fn register<N: TableName>(
     }
 }
 
-/// Tells a pass all that the keeper has seen.
+/// Tells a pass all that the keeper has seen. The keeper then knows what its guest has published.
 pub fn tell<N: TableName>(tables: &Tables<N>, seat: &mut Place, pass: &mut Pass<N>)
     requires seat { IsAt N.table seat.old.table_id seat.old.id seat.old.me
         (idle_view N.key (keeping_at seat.old.me)) }
@@ -54,7 +54,7 @@ pub fn tell<N: TableName>(tables: &Tables<N>, seat: &mut Place, pass: &mut Pass<
         AgreesWith N.key keeping.entries keeping.refusals pass.old.sight }
     ensures heard { slice_index (keeping_at seat.old.me).quiets pass.old.guest ≤ pass.old.quiet + 1 }
     ensures seat { IsAt N.table seat.new.table_id seat.new.id seat.new.me
-        (idle_view N.key (keeping_at seat.old.me)) }
+        (idle_view N.key (heard_of pass.old.guest pass.old.quiet (keeping_at seat.old.me))) }
 {
     let shared = &tables.words.shared;
     let vacant = shared.split_seat::<Vacate>(seat);

@@ -4,7 +4,7 @@ ghost use Rattle.std.specs.Prelude.{◌≡◌, ◌+◌, ◌-◌, ◌≤◌, leng
 ghost use Rattle.cfi_word.specs.declared.limits.TheConstants.{MAX_EPOCH};
 ghost use Rattle.cfi_model.specs.Tables.{IsTables, IsUpdate};
 ghost use Rattle.cfi_tables.specs.Faults.{AllAdmit, AreLater, FaultIs, epoch_after};
-ghost use Rattle.cfi_tables.specs.Keeping.{AreAllOut, IsFree, entry_by, grown_by, last_of, let_in, let_out, opened_keeping};
+ghost use Rattle.cfi_tables.specs.Keeping.{AreAllOut, IsFree, entry_by, grown_by, heard_of, last_of, let_in, let_out, opened_keeping};
 ghost use Rattle.cfi_tables.specs.Rule.{AgreesWith};
 ghost use Rattle.cfi_tables.specs.Views.{admitted, noted, tables_with};
 ghost use Rattle.cfi_tables.specs.declared.fault.AdmitFault.TheVariants.{NoSeat};
@@ -132,7 +132,8 @@ impl<N: TableName> Keeper<N> {
 
     /// Puts an image in force, with its policy, and answers the new epoch. The mark goes into the history, or with an
     /// update that is not admitted into the refusals. It is admitted exactly where the QUIET word of each guest is, as
-    /// this call loads them from the least guest on; none is less than the keeper has stored or loaded before.
+    /// this call loads them from the least guest on. `later`: none is less than an update has found before, nor than what
+    /// its guest had published when the keeper last let out its pass or told it.
     ///
     /// The policy is the one in force, with the image in force, or the next one, with an image that keeps the code.
     pub fn update(
@@ -175,13 +176,13 @@ impl<N: TableName> Keeper<N> {
     }
 
     /// Tells a pass all that the keeper has seen. Its accesses stay. No update has found more of its guest than this has
-    /// published.
+    /// published, and none will find less.
     pub fn note(&mut self, tables: &Tables<N>, pass: &mut Pass<N>)
         ensures pass { pass.new ≡ noted N.key self.old pass.old }
         ensures agrees { AgreesWith N.key self.old.entries self.old.refusals pass.old.sight }
         ensures heard { slice_index self.old.quiets pass.old.guest ≤ pass.old.quiet + 1 }
         ensures tables { IsTables (tables_with N.key self.old.entries) }
-        ensures same { self.new ≡ self.old }
+        ensures kept { self.new ≡ heard_of pass.old.guest pass.old.quiet self.old }
     {
         tell(tables, &mut self.seat, pass);
     }

@@ -7,6 +7,9 @@ ghost use Rattle.cfi_model.specs.declared.history.Entry.{Entry};
 ghost use Rattle.cfi_model.specs.Phases.{number_in, phase_of};
 ghost use Rattle.cfi_model.specs.Tables.{IsTables, IsUpdate};
 ghost use Rattle.cfi_model.specs.Words.{word_of_entry};
+ghost use Rattle.cfi_tables.specs.Events.{ClearsAreEvents, FetchesAreEvents, LoadsAreEvents, PublishesAreEvents};
+ghost use Rattle.cfi_tables.specs.Events.{LoadsCome, StoresAreEvents, TestsAreEvents, TestsCome};
+ghost use Rattle.cfi_tables.specs.Events.{LooksChangeNothing, RegistersSetOne, TellsChangeNothing};
 ghost use Rattle.cfi_tables.specs.Key.{Key};
 ghost use Rattle.cfi_tables.specs.Keeping.{entry_by, opened_keeping};
 ghost use Rattle.cfi_tables.specs.Rule.{KeepsRule};
@@ -38,4 +41,24 @@ pub fn some_tables_are_kept()
         (words : List ℕ) × KeepsRule k (opening words [] (opened_view k)) }
     ensures refresh { (code_words : ℕ) (last : Entry) (mark : ℕ) →
         IsUpdate code_words last (entry_by last.policy last.image mark) }
+{}
+
+/// Each step of a pass and each store and test of the keeper is one event on what is shared.
+///
+/// A pass loads a word, fetches one or publishes an epoch; the keeper tests a QUIET word, stores a word of an update,
+/// or clears the QUIET word of a guest that leaves. Three steps are none: `registers`, by which a guest comes, sets its
+/// QUIET word alone; `looks`, the keeper's load of a code word that it may store, and `tells`, its load of EPOCH with a
+/// note, change nothing. `test_comes` and `load_comes`: there are such steps.
+pub fn steps_are_events()
+    ensures loads { LoadsAreEvents }
+    ensures fetches { FetchesAreEvents }
+    ensures publishes { PublishesAreEvents }
+    ensures tests { TestsAreEvents }
+    ensures stores { StoresAreEvents }
+    ensures clears { ClearsAreEvents }
+    ensures registers { RegistersSetOne }
+    ensures looks { LooksChangeNothing }
+    ensures tells { TellsChangeNothing }
+    ensures test_comes { TestsCome }
+    ensures load_comes { LoadsCome }
 {}

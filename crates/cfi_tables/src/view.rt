@@ -45,7 +45,7 @@ pub struct KeeperView {
     pub refusals: [Refusal; 0],
     /// For each guest number, whether its pass is out.
     pub out: [bool; 0],
-    /// For each guest number, its QUIET word as the keeper has last stored or loaded it.
+    /// For each guest number, its QUIET word as the keeper has last stored it, loaded it or heard of it.
     pub quiets: [u64; 0],
     /// A pass that is out and has no seat of its own.
     pub held: Option<PassView>,

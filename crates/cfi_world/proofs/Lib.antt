@@ -43,3 +43,6 @@ pub mod RunLemmas
 pub mod StopLemmas
 pub mod PassedLemmas
 pub mod PutLemmas
+pub mod SkipLemmas
+pub mod SharedWords
+pub mod SharedLemmas

@@ -12,3 +12,4 @@ pub mod Steps
 pub mod Outcomes
 pub mod Example
 pub mod Retry
+pub mod SharedTurns

@@ -25,6 +25,7 @@ ghost use Rattle.cfi_world.specs.Retry.{picked_ending, refresh_answers, refresh_
 ghost use Rattle.cfi_world.specs.Steps.{RunsAreSteps};
 ghost use Rattle.cfi_world.specs.Turns.{nothing, turn_of};
 ghost use Rattle.cfi_world.specs.Worlds.{IsWorld};
+ghost use Rattle.cfi_world.specs.SharedTurns.{TurnsAreEvents};
 ghost use Rattle.cfi_world.specs.declared.event.Event.TheVariants.{Begin, Guest, Update};
 ghost use Rattle.cfi_world.specs.declared.event.Event.{Event as Happening};
 ghost use Rattle.cfi_world.specs.declared.event.Turned.TheVariants.{Asks, EpochsSpent, Nothing, VersionsSpent};
@@ -173,4 +174,11 @@ pub fn a_refresh_waits_for_a_quiescent_point()
     ensures may { MayTurns (call_world MIN_VERSIONS) refresh_events }
     ensures turns { turned_after (call_world MIN_VERSIONS) refresh_events ≡ refresh_answers }
     ensures ends { endings_after (call_world MIN_VERSIONS) refresh_events ≡ picked_ending 0 ∷ [] }
+{}
+
+/// Each turn of a world is one event on what its guests and its updater share, or changes nothing of it.
+///
+/// The events are those of the shared tables: a guest's load or store, a test or a store of the update.
+pub fn turns_are_events()
+    ensures { TurnsAreEvents }
 {}

@@ -1,5 +1,5 @@
 -- What each kind of step tells its seat.
-use Rattle.std.specs.Prelude.{◌≡◌, ◌≢◌, ℕ, ◌+◌, ◌-◌, nat_lt, if◌then◌else◌, Bool, true, false, List, [], ◌∷◌, ◌++◌, length, slice_index, slice_set, Some, None, ◌^◌, ◌<◌, ◌≤◌}
+use Rattle.std.specs.Prelude.{◌≡◌, ◌≢◌, ℕ, ◌+◌, ◌-◌, nat_lt, if◌then◌else◌, Bool, true, false, [], ◌∷◌, ◌++◌, length, slice_index, slice_set, Some, None, ◌^◌, ◌<◌, ◌≤◌}
 use Rattle.atomic_table.specs.Table.{Me, Step}
 use Rattle.cfi_word.specs.declared.limits.TheConstants.{GUESTS}
 use Rattle.cfi_word.specs.Rank.{rank}
@@ -70,8 +70,8 @@ tested_by k entry word u =
     if is_passed k u word then test_passed entry (loaded word u)
     else refused (test_refusal k entry.mark u word) (loaded word u)
 
--- a word that is not 0 is that of a pass that is out, and tells an epoch that is or was in force; it is not less than it
--- was when the keeper stored or loaded it before
+-- a word that is not 0 is that of a pass that is out, and tells an epoch that is or was in force; it is not less than
+-- it was when the keeper stored it, loaded it or heard of it before
 pub record Tests (k : Key) (entry : Entry) (s : Step (Unit {0})) (old : Seated) (found : ℕ) (new : Seated)
     : Type 0 where
   pub is : new ≡ (Keeper (tested_by k entry found (keeper_of old.0)), old.1)
@@ -116,9 +116,13 @@ Registers k s old found new = new ≡ (Keeper (registered k (s.word - 1) (keeper
 abbrev pub IsHeard : KeeperView → Type 0
 IsHeard u = slice_index u.quiets (held_by u.held).guest ≤ (held_by u.held).quiet + 1
 
--- the pass that is held is told all that the keeper has seen, and what it has seen agrees with it
+-- the pass that is held is told all that the keeper has seen, and the keeper hears what its guest has published; what
+-- the pass has seen agrees with what the keeper has
 abbrev pub told : Key → KeeperView → KeeperView
-told k u = record u { held = Some (noted k (keeping_of u) (held_by u.held)) }
+told k u = record u {
+  quiets = slice_set u.quiets (held_by u.held).guest ((held_by u.held).quiet + 1);
+  held = Some (noted k (keeping_of u) (held_by u.held));
+}
 
 pub record Tells (k : Key) (s : Step (Unit {0})) (old : Seated) (found : ℕ) (new : Seated) : Type 0 where
   pub is : new ≡ (Keeper (told k (keeper_of old.0)), old.1)

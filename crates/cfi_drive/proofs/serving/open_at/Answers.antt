@@ -1,24 +1,25 @@
 use Rattle.std.proofs.Common.{◌≤◌, sym, ap, subst, ◌∙◌}
 use Rattle.cfi_loader.specs.Ledger.{Ledger}
-use Rattle.cfi_loader.specs.Passes.{reply_with}
+use Rattle.cfi_loader.specs.Passes.{heard_from, reply_with}
 use Rattle.cfi_model.specs.Log.{last_policy}
 use Rattle.cfi_model.specs.Run.{serve_of}
 use Rattle.cfi_drive.proofs.OpenLemmas.{loaded_as, may_refuse, opens_loaded, opens_refused, refused_as, rises, told_of}
 use Rattle.cfi_drive.proofs.KeepsLemmas.{keeps_told, keeps_trans}
-use Rattle.cfi_drive.proofs.OpensLemmas.{asked_refused}
+use Rattle.cfi_drive.proofs.OpensLemmas.{asked_loaded, asked_refused}
 use Rattle.cfi_drive.proofs.serving.open_at.Goals as goal
 
 -- no policy that the guest has logged is above the one in force
 pub give-requires-clause-rises : goal.give-requires-clause-rises
 give-requires-clause-rises g c =
+    let first = heard_from c.args.pass.now c.args.desk.now in
     let k = g.N.TableName.key in
     let plan = g.N.LoaderName.plan in
     let modules = g.N.LoaderName.modules in
     let guest = c.args.guest.now in
     let of = told_of k plan modules c.args.pass.now c.tell.new.pass guest c.args.desk.now c.requires.runner
     c.requires.asked c.tell.ensures.told in
-    subst (λ (l : Ledger). last_policy guest.base.log ≤ l.course.end.policy) (sym c.tell-in-Ok.ensures.same)
-    (rises k plan modules c.tell.new.pass c.tell-in-Ok.new.pass guest c.args.desk.now c.load.new.self of c.requires.few
+    subst (λ (l : Ledger). last_policy guest.base.log ≤ l.course.end.policy) (sym c.tell-in-Ok.ensures.kept)
+    (rises k plan modules c.tell.new.pass c.tell-in-Ok.new.pass guest first c.load.new.self of c.requires.few
     c.tell-in-Ok.ensures.told)
 
 -- there was no memory for the load
@@ -27,68 +28,87 @@ returns-in_default-clause-runner g c =
     let k = g.N.TableName.key in
     let of = told_of k g.N.LoaderName.plan g.N.LoaderName.modules c.args.pass.now c.tell.new.pass c.args.guest.now
     c.args.desk.now c.requires.runner c.requires.asked c.tell.ensures.told in
-    (c.args.desk.now, of.at)
+    (heard_from c.args.pass.now c.args.desk.now, of.at)
 
 -- a refusal may be answered
 pub refuse-requires : goal.refuse-requires
 refuse-requires g c =
+    let first = heard_from c.args.pass.now c.args.desk.now in
     let k = g.N.TableName.key in
     let plan = g.N.LoaderName.plan in
     let modules = g.N.LoaderName.modules in
     let guest = c.args.guest.now in
     let of = told_of k plan modules c.args.pass.now c.tell.new.pass guest c.args.desk.now c.requires.runner
     c.requires.asked c.tell.ensures.told in
-    may_refuse k plan modules c.tell.new.pass c.tell-in-Err.new.pass guest c.args.desk.now c.load.new.self of
-    c.requires.few c.tell-in-Err.ensures.told c.in-Some.cause c.force.result.policy
-    (c.force.ensures.policy ∙ ap (λ (l : Ledger). l.course.end.policy) c.tell-in-Err.ensures.same)
+    may_refuse k plan modules c.tell.new.pass c.tell-in-Err.new.pass guest first
+    c.load.new.self of c.requires.few c.tell-in-Err.ensures.told c.in-Some.cause c.force.result.policy
+    (c.force.ensures.policy ∙ ap (λ (l : Ledger). l.course.end.policy) c.tell-in-Err.ensures.kept)
 
 -- the module is loaded
 pub returns-in-Ok-clause-runner : goal.returns-in-Ok-clause-runner
 returns-in-Ok-clause-runner g c =
+    let first = heard_from c.args.pass.now c.args.desk.now in
     let k = g.N.TableName.key in
     let plan = g.N.LoaderName.plan in
     let modules = g.N.LoaderName.modules in
     let guest = c.args.guest.now in
     let of = told_of k plan modules c.args.pass.now c.tell.new.pass guest c.args.desk.now c.requires.runner
     c.requires.asked c.tell.ensures.told in
-    let has = loaded_as k c.guest.result c.argument.result c.tell.new.desk c.load.new.self c.args.desk.now
-    c.tell.new.pass guest c.in-Ok.loaded c.guest.ensures c.argument.ensures c.tell.ensures.same c.in-Ok.ensures.ok in
-    opens_loaded k plan modules c.tell.new.pass c.tell-in-Ok.new.pass guest c.args.desk.now c.load.new.self of
-    c.requires.few c.tell-in-Ok.ensures.told c.in-Ok.loaded has c.give.new.guest
+    let has = loaded_as k c.guest.result c.argument.result c.tell.new.desk c.load.new.self first
+    c.tell.new.pass guest c.in-Ok.loaded c.guest.ensures c.argument.ensures c.tell.ensures.kept
+    c.in-Ok.ensures.ok in
+    opens_loaded k plan modules c.tell.new.pass c.tell-in-Ok.new.pass guest first
+    c.load.new.self of c.requires.few c.tell-in-Ok.ensures.told c.in-Ok.loaded has c.give.new.guest
     (c.give.ensures
     ∙ ap (λ (l : Ledger). serve_of guest (reply_with l guest.base.log c.in-Ok.loaded.address))
-    c.tell-in-Ok.ensures.same)
+    c.tell-in-Ok.ensures.kept)
+
+-- and that is the answer
+pub returns-in-Ok-clause-answer : goal.returns-in-Ok-clause-answer
+returns-in-Ok-clause-answer g c =
+    let first = heard_from c.args.pass.now c.args.desk.now in
+    let guest = c.args.guest.now in
+    let has = loaded_as g.N.TableName.key c.guest.result c.argument.result c.tell.new.desk c.load.new.self first
+    c.tell.new.pass guest c.in-Ok.loaded c.guest.ensures c.argument.ensures c.tell.ensures.kept c.in-Ok.ensures.ok in
+    asked_loaded g.N.TableName.key g.N.LoaderName.plan g.N.LoaderName.modules c.args.pass.now c.tell.new.pass
+    c.tell-in-Ok.new.pass guest c.give.new.guest c.args.desk.now c.load.new.self c.tell.ensures.told
+    c.tell-in-Ok.ensures.told c.in-Ok.loaded has
+    (c.give.ensures
+    ∙ ap (λ (l : Ledger). serve_of guest (reply_with l guest.base.log c.in-Ok.loaded.address))
+    c.tell-in-Ok.ensures.kept)
 
 -- or it was refused
 pub returns-in-Some-clause-runner : goal.returns-in-Some-clause-runner
 returns-in-Some-clause-runner g c =
+    let first = heard_from c.args.pass.now c.args.desk.now in
     let k = g.N.TableName.key in
     let plan = g.N.LoaderName.plan in
     let modules = g.N.LoaderName.modules in
     let guest = c.args.guest.now in
     let of = told_of k plan modules c.args.pass.now c.tell.new.pass guest c.args.desk.now c.requires.runner
     c.requires.asked c.tell.ensures.told in
-    let has = refused_as k c.guest.result c.argument.result c.tell.new.desk c.load.new.self c.args.desk.now
-    c.tell.new.pass guest c.in-Err.fault c.guest.ensures c.argument.ensures c.tell.ensures.same
+    let has = refused_as k c.guest.result c.argument.result c.tell.new.desk c.load.new.self first
+    c.tell.new.pass guest c.in-Err.fault c.guest.ensures c.argument.ensures c.tell.ensures.kept
     c.in-Err.ensures.fault in
-    opens_refused k plan modules c.tell.new.pass c.tell-in-Err.new.pass guest c.args.desk.now c.load.new.self of
-    c.requires.few c.tell-in-Err.ensures.told c.in-Err.fault c.in-Some.cause c.force.result.policy
+    opens_refused k plan modules c.tell.new.pass c.tell-in-Err.new.pass guest first
+    c.load.new.self of c.requires.few c.tell-in-Err.ensures.told c.in-Err.fault c.in-Some.cause c.force.result.policy
     (sym c.cause_by.ensures ∙ c.in-Some.is) has
-    (c.force.ensures.policy ∙ ap (λ (l : Ledger). l.course.end.policy) c.tell-in-Err.ensures.same)
+    (c.force.ensures.policy ∙ ap (λ (l : Ledger). l.course.end.policy) c.tell-in-Err.ensures.kept)
     c.refuse.new.guest c.refuse.ensures
 
 -- with the cause of its fault
 pub returns-in-Some-clause-answer : goal.returns-in-Some-clause-answer
 returns-in-Some-clause-answer g c =
+    let first = heard_from c.args.pass.now c.args.desk.now in
     let guest = c.args.guest.now in
-    let has = refused_as g.N.TableName.key c.guest.result c.argument.result c.tell.new.desk c.load.new.self
-    c.args.desk.now c.tell.new.pass guest c.in-Err.fault c.guest.ensures c.argument.ensures c.tell.ensures.same
+    let has = refused_as g.N.TableName.key c.guest.result c.argument.result c.tell.new.desk c.load.new.self first
+    c.tell.new.pass guest c.in-Err.fault c.guest.ensures c.argument.ensures c.tell.ensures.kept
     c.in-Err.ensures.fault in
     asked_refused g.N.TableName.key g.N.LoaderName.plan g.N.LoaderName.modules c.args.pass.now c.tell.new.pass
     c.tell-in-Err.new.pass guest c.refuse.new.guest c.args.desk.now c.load.new.self c.tell.ensures.told
     c.tell-in-Err.ensures.told c.in-Err.fault c.in-Some.cause c.force.result.policy
     (sym c.cause_by.ensures ∙ c.in-Some.is) has
-    (c.force.ensures.policy ∙ ap (λ (l : Ledger). l.course.end.policy) c.tell-in-Err.ensures.same) c.refuse.ensures
+    (c.force.ensures.policy ∙ ap (λ (l : Ledger). l.course.end.policy) c.tell-in-Err.ensures.kept) c.refuse.ensures
 
 -- ---- the pass goes on with each note
 

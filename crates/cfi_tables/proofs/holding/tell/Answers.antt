@@ -1,4 +1,4 @@
-use Rattle.std.proofs.Common.{◌≡◌, Some, sym, ap, ◌∙◌, refl, arith}
+use Rattle.std.proofs.Common.{◌≡◌, ◌+◌, Some, sym, ap, ◌∙◌, refl, arith, slice_set}
 use Rattle.cfi_tables.specs.Views.{idle_view, noted, pass_of}
 use Rattle.cfi_tables.specs.inner.Steps.{Seated}
 use Rattle.cfi_tables.specs.inner.Stores.{keeping_at}
@@ -70,6 +70,6 @@ split_seat-requires g c =
     let q : PassView = noted k (keeping_at c.args.seat.now.me) p in (
       l.0 ∙ (j.0 ∙ (v.0 ∙ (r.seat.table_is ∙ sym t.name))),
       omega (arith, t.many),
-      leave_splits k _ _ _ (record u { held = Some q }) q t.key (l.1 ∙ (j.1 ∙ (v.1 ∙ r.seat.id_is)))
+      leave_splits k _ _ _ (record u { quiets = slice_set u.quiets p.guest (p.quiet + 1); held = Some q }) q t.key (l.1 ∙ (j.1 ∙ (v.1 ∙ r.seat.id_is)))
           (ap (λ (z : Seated). z.0) told) refl,
     )
