@@ -133,6 +133,13 @@ module _ (k : Key) (plan : Plan) (modules : List Module) (p : PassView) (r : Raw
   no_cause : (b : ℕ) → None ≡ Some b → Answers b
   no_cause b same = absurd (cc)
 
+  -- want of memory is told as such alone
+  place_is : Place places.Memory ≡ Memory → ⊥
+  place_is same = cc
+
+  verify_is : Verify verifying.Memory ≡ Memory → ⊥
+  verify_is same = cc
+
   pub refused_by : (fault : LoadFault) (cause : ℕ) → cause_by fault ≡ Some cause
       → IsLoadFault k (Guest p.guest) number fault first l → Answers cause
   refused_by ModulesFull cause same has = some_cause causes.MODULES_FULL cause same (by_full has)
@@ -144,8 +151,8 @@ module _ (k : Key) (plan : Plan) (modules : List Module) (p : PassView) (r : Raw
       some_cause causes.NOT_PLACED cause same (by_place (Place places.DataFull) 3 has)
   refused_by (Place (places.Reloc at fault)) cause same has =
       some_cause causes.NOT_PLACED cause same (by_place (Place (places.Reloc at fault)) 4 has)
-  refused_by (Place places.Memory) cause same has = no_cause cause same
-  refused_by (Verify verifying.Memory) cause same has = no_cause cause same
+  refused_by (Place places.Memory) cause same has = absurd (place_is has.0)
+  refused_by (Verify verifying.Memory) cause same has = absurd (verify_is has.0)
   refused_by (Verify verifying.Empty) cause same has =
       some_cause causes.NOT_VERIFIED cause same (by_verify (Verify verifying.Empty) _ _ has)
   refused_by (Verify (verifying.Illegal place)) cause same has =

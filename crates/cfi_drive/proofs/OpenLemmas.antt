@@ -98,17 +98,15 @@ module _ (k : Key) (plan : Plan) (modules : List Module) (p n : PassView) (r : R
     most = omega (arith, force, policy_fits k plan modules l told.ledger);
   }
 
--- what the loader answers is of this guest, its module and the ledger as its note left it
-pub loaded_as : (k : Key) (g number : ℕ) (desk l first : Ledger) (p : PassView) (r : Raw) (loaded : Loaded)
-    → g ≡ p.guest → number ≡ argument r.base → desk ≡ first → HasLoaded k (Guest g) number loaded desk l
+-- what the loader answers is of the ledger as its note left it
+pub loaded_as : (k : Key) (desk l first : Ledger) (p : PassView) (r : Raw) (loaded : Loaded) → desk ≡ first
+    → HasLoaded k (Guest p.guest) (argument r.base) loaded desk l
     → HasLoaded k (Guest p.guest) (argument r.base) loaded first l
-loaded_as k g number desk l first p r loaded g_is number_is desk_is has =
-    subst (λ (z : (ℕ × ℕ) × Ledger). HasLoaded k (Guest z.0.0) z.0.1 loaded z.1 l)
-    (λ i. ((g_is i, number_is i), desk_is i)) has
+loaded_as k desk l first p r loaded desk_is has =
+    subst (λ (d : Ledger). HasLoaded k (Guest p.guest) (argument r.base) loaded d l) desk_is has
 
-pub refused_as : (k : Key) (g number : ℕ) (desk l first : Ledger) (p : PassView) (r : Raw) (fault : LoadFault)
-    → g ≡ p.guest → number ≡ argument r.base → desk ≡ first → IsLoadFault k (Guest g) number fault desk l
+pub refused_as : (k : Key) (desk l first : Ledger) (p : PassView) (r : Raw) (fault : LoadFault) → desk ≡ first
+    → IsLoadFault k (Guest p.guest) (argument r.base) fault desk l
     → IsLoadFault k (Guest p.guest) (argument r.base) fault first l
-refused_as k g number desk l first p r fault g_is number_is desk_is has =
-    subst (λ (z : (ℕ × ℕ) × Ledger). IsLoadFault k (Guest z.0.0) z.0.1 fault z.1 l)
-    (λ i. ((g_is i, number_is i), desk_is i)) has
+refused_as k desk l first p r fault desk_is has =
+    subst (λ (d : Ledger). IsLoadFault k (Guest p.guest) (argument r.base) fault d l) desk_is has

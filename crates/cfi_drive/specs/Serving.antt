@@ -8,14 +8,12 @@ use Rattle.cfi_loader.specs.declared.fault.LoadFault.TheVariants.{ModulesFull, P
 use Rattle.cfi_model.specs.Raw.{Raw}
 use Rattle.cfi_model.specs.Run.{serve_of}
 use Rattle.cfi_model.specs.Service.{Reply}
-use Rattle.cfi_place.specs.declared.fault.PlaceFault.TheVariants as places
 use Rattle.cfi_plan.specs.declared.plan.Plan.{Plan}
 use Rattle.cfi_tables.specs.Key.{Key}
 use Rattle.cfi_tables.specs.Rule.{AgreesWith}
 use Rattle.cfi_tables.specs.Views.{noted}
 use Rattle.cfi_tables.specs.declared.view.PassView.{PassView}
 use Rattle.cfi_valid.specs.declared.causes.TheConstants as causes
-use Rattle.cfi_verify.specs.declared.fault.VerifyFault.TheVariants as verifying
 
 -- a loader has told a pass all that its keeper has seen
 pub record IsPassTold (k : Key) (plan : Plan) (modules : List Module) (l : Ledger) (old new : PassView) : Type 0 where
@@ -26,8 +24,6 @@ pub record IsPassTold (k : Key) (plan : Plan) (modules : List Module) (l : Ledge
 -- the cause with which an open is answered whose load was refused; want of memory leaves it unanswered
 abbrev pub cause_by : LoadFault → Option ℕ
 cause_by Memory = None
-cause_by (Place places.Memory) = None
-cause_by (Verify verifying.Memory) = None
 cause_by ModulesFull = Some causes.MODULES_FULL
 cause_by (Place fault) = Some causes.NOT_PLACED
 cause_by (Verify fault) = Some causes.NOT_VERIFIED

@@ -2,14 +2,11 @@
 
 ghost use Rattle.std.specs.Prelude.{◌≡◌};
 ghost use Rattle.cfi_model.specs.Log.{last_policy, policy_after};
-ghost use Rattle.cfi_loader.specs.declared.fault.LoadFault.TheVariants.{Place, Verify};
 ghost use Rattle.cfi_drive.specs.Serving.{cause_by};
 
 use cfi_loader::LoadFault;
-use cfi_place::PlaceFault;
 use cfi_unit::Log;
 use cfi_valid::{EPOCHS_SPENT, MODULES_FULL, NOT_PLACED, NOT_VERIFIED, VERSIONS_SPENT};
-use cfi_verify::VerifyFault;
 
 /// The cause with which an open is answered whose load was refused; None for want of memory.
 pub(crate) fn cause_by(fault: &LoadFault) -> Option<u32>
@@ -17,31 +14,11 @@ pub(crate) fn cause_by(fault: &LoadFault) -> Option<u32>
 {
     match fault {
         LoadFault::ModulesFull => Some(MODULES_FULL),
-        LoadFault::Place(fault) => place_cause(fault),
-        LoadFault::Verify(fault) => verify_cause(*fault),
+        LoadFault::Place(_) => Some(NOT_PLACED),
+        LoadFault::Verify(_) => Some(NOT_VERIFIED),
         LoadFault::EpochsSpent => Some(EPOCHS_SPENT),
         LoadFault::VersionsSpent { .. } => Some(VERSIONS_SPENT),
         LoadFault::Memory => None,
-    }
-}
-
-// That of a fault of placing.
-fn place_cause(fault: &PlaceFault) -> Option<u32>
-    ensures { result ≡ cause_by (Place fault.now) }
-{
-    match fault {
-        PlaceFault::Memory => None,
-        _ => Some(NOT_PLACED),
-    }
-}
-
-// That of one of verifying.
-fn verify_cause(fault: VerifyFault) -> Option<u32>
-    ensures { result ≡ cause_by (Verify fault) }
-{
-    match fault {
-        VerifyFault::Memory => None,
-        _ => Some(NOT_VERIFIED),
     }
 }
 

@@ -1,6 +1,10 @@
 //! The services of a guest.
 
-ghost use Rattle.std.specs.Prelude.{◌≡◌, ◌≢◌, ◌<◌, length, Some, OnOk, OnErr, []};
+ghost use Rattle.std.specs.Prelude.{◌≡◌, ◌≢◌, ◌<◌, length, Some, IfOk, IfErr, OnOk, OnErr, []};
+ghost use Rattle.cfi_loader.specs.Results.{HasLoaded, IsLoadFault};
+ghost use Rattle.cfi_loader.specs.Told.{MayAskFor};
+ghost use Rattle.cfi_plan.specs.declared.journal.Who.TheVariants.{Guest as AskerGuest};
+ghost use Rattle.cfi_valid.specs.Script.{Load};
 ghost use Rattle.cfi_model.specs.Log.{opens};
 ghost use Rattle.cfi_model.specs.Run.{serve_of};
 ghost use Rattle.cfi_model.specs.Service.{argument, reply_of, too_many};
@@ -15,7 +19,7 @@ ghost use Rattle.cfi_drive.specs.Serving.{HasServed, IsPassTold, KeepsPass};
 
 use crate::causes::{cause_by, last_policy};
 use cfi_io::Gate;
-use cfi_loader::{Loader, LoaderName, Who};
+use cfi_loader::{LoadFault, Loaded, Loader, LoaderName, Who};
 use cfi_tables::{Pass, Tables};
 use cfi_unit::Answer;
 use cfi_word::limits::MAX_OPENS;
@@ -46,6 +50,23 @@ fn tell<N: LoaderName>(desk: &mut Loader<N>, tables: &Tables<N>, pass: &mut Pass
     desk.note(tables, pass);
 }
 
+// Asks the loader for the module that an open names.
+fn ask<N: LoaderName>(
+    desk: &mut Loader<N>,
+    guest: &Guest,
+    tables: &Tables<N>,
+    pass: &Pass<N>,
+) -> Result<Loaded, LoadFault>
+    requires known { argument guest.now.base < length N.plan.modules }
+    requires asks { MayAskFor desk.old (AskerGuest pass.now.guest) (Load (argument guest.now.base)) }
+    ensures ok { IfOk result (λ loaded. HasLoaded N.key (AskerGuest pass.now.guest)
+        (argument guest.now.base) loaded desk.old desk.new) }
+    ensures fault { IfErr result (λ fault. IsLoadFault N.key (AskerGuest pass.now.guest)
+        (argument guest.now.base) fault desk.old desk.new) }
+{
+    desk.load(tables, guest.argument(), Who::Guest(pass.guest()))
+}
+
 // Loads the module that an open names, and answers.
 fn open_at<N: LoaderName>(
     desk: &mut Loader<N>,
@@ -65,8 +86,7 @@ fn open_at<N: LoaderName>(
     ensures keeps { KeepsPass pass.old pass.new }
 {
     tell(desk, tables, pass);
-    let who = Who::Guest(pass.guest());
-    match desk.load(tables, guest.argument(), who) {
+    match ask(desk, guest, tables, pass) {
         Ok(loaded) => {
             tell(desk, tables, pass);
             desk.give(guest, &loaded);

@@ -133,7 +133,7 @@ fault_call number Memory = tt
 module _ (k : Key) (number : ℕ) (old new : Ledger) where
   by_line : (fault : LoadFault) (line : Option JournalLine) → IsOfLoad number line
       → RefusesBy k Script number fault line old new → Makes k (Load number) old new
-  by_line fault None of starved = inr starved
+  by_line fault None of starved = inr starved.1
   by_line fault (Some line) of refused =
       inl (record { entry = asked_by Script line; by_script = refl; is = of; told = refused.told })
 

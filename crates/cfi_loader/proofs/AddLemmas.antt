@@ -1,24 +1,28 @@
 -- What a load answers, and what it leaves.
-use Rattle.std.proofs.Common.{◌≡◌, ℕ, ◌+◌, ◌-◌, ◌<◌, ◌++◌, true, false, List, [], ◌∷◌, length, get_or, Option, Some, None, refl, sym, ap, subst, ◌∙◌, arith, length-append}
+use Rattle.std.proofs.Common.{◌≡◌, ◌≢◌, ℕ, ◌+◌, ◌-◌, ◌<◌, ◌++◌, true, false, List, [], ◌∷◌, length, get_or, Option, Some, None, refl, sym, ap, subst, ◌∙◌, arith, length-append}
 use Rattle.std.specs.Prelude.{option_map}
 use Rattle.std.proofs.lemmas.List.{get_or_push}
 use Rattle.cfi_aux.specs.declared.placed.Placed.{Placed}
 use Rattle.cfi_plan.specs.declared.journal.JournalLine.{JournalLine}
-use Rattle.cfi_plan.specs.declared.journal.JournalLine.TheVariants.{LoadOk, LoadAgain, LoadFull, LoadPlace, LoadVerify}
+use Rattle.cfi_plan.specs.declared.journal.JournalLine.TheVariants.{LoadOk, LoadAgain, LoadFull, LoadPlace, LoadVerify, LoadEpochs}
 use Rattle.cfi_plan.specs.declared.journal.ModuleLine.{ModuleLine}
 use Rattle.cfi_plan.specs.declared.journal.Who.{Who}
 use Rattle.cfi_series.specs.Numbers.{numbers_of}
-use Rattle.cfi_series.specs.Order.{IsJoinFault}
+use Rattle.cfi_series.specs.Order.{IsJoinFault, Joins}
 use Rattle.cfi_series.specs.declared.fault.JoinFault.{JoinFault}
 use Rattle.cfi_series.specs.declared.fault.JoinFault.TheVariants.{Place, Verify, Memory}
 use Rattle.cfi_series.specs.declared.numbers.FaultNumbers.{FaultNumbers}
 use Rattle.cfi_series.specs.declared.numbers.FaultNumbers.TheVariants as numbers
+use Rattle.cfi_series.proofs.NumberLemmas.{has_numbers}
+use Rattle.cfi_place.specs.declared.fault.PlaceFault.{PlaceFault}
+use Rattle.cfi_verify.specs.declared.fault.VerifyFault.{VerifyFault}
 use Rattle.cfi_tables.specs.Faults.{epoch_after, FaultIs}
 use Rattle.cfi_tables.specs.Keeping.{Keeping, entry_by, grown_by}
 use Rattle.cfi_tables.specs.Key.{Key}
 use Rattle.cfi_tables.specs.declared.fault.UpdateFault.{UpdateFault}
 use Rattle.cfi_tables.specs.declared.fault.UpdateFault.TheVariants.{EpochsSpent, VersionsSpent}
 use Rattle.cfi_valid.specs.Joining.{IsFull, HasFault}
+use Rattle.cfi_valid.specs.Journal.{IsClean}
 use Rattle.cfi_valid.specs.NumberedLine.{numbered_line}
 use Rattle.cfi_valid.specs.Loaded.{placed_modules, planned_name}
 use Rattle.cfi_valid.specs.Script.{Load}
@@ -30,9 +34,9 @@ use Rattle.cfi_loader.specs.declared.loaded.Loaded.{Loaded}
 use Rattle.cfi_loader.specs.Marks.{mark_by}
 use Rattle.cfi_loader.specs.Results.{asked_by, fault_line, IsAddressOf, SaysOf, RefusesBy}
 use Rattle.cfi_loader.specs.Told.{MayAskFor}
-use Rattle.cfi_loader.specs.inner.Books.{course_in, ledger_of, loaded_in, BooksAgree, IsAfter}
+use Rattle.cfi_loader.specs.inner.Books.{course_in, end_of_books, ledger_of, loaded_in, BooksAgree, IsAfter}
 use Rattle.cfi_loader.specs.inner.Journal.{Minutes, HasLine}
-use Rattle.cfi_loader.specs.inner.Loads.{HasPrepared, IsAbsent, IsFirstGlobal, IsListed, IsUnprepared, LoadsTo, Refuses, load_fault_of, load_fault_by, update_line}
+use Rattle.cfi_loader.specs.inner.Loads.{HasPrepared, IsAbsent, IsFirstGlobal, IsListed, IsSpent, IsUnprepared, LoadsTo, Refuses, load_fault_of, load_fault_by, update_line}
 use Rattle.cfi_loader.specs.inner.Roster.{Roster, IsImageOfRoster, line_by, without_last}
 use Rattle.cfi_loader.proofs.BooksLemmas.{after_same}
 use Rattle.cfi_loader.proofs.LineLemmas.{line_again, line_new, line_refused}
@@ -41,6 +45,17 @@ use Rattle.cfi_loader.proofs.PrepareLemmas.{clean, taken_back, load_made}
 use Rattle.cfi_loader.proofs.ReserveLemmas.{reserved_kept}
 use Rattle.cfi_loader.proofs.RosterLemmas.{listed_address, listed_loaded}
 use Rattle.cfi_loader.proofs.UpdateLemmas.{IsRight, may_ask, after_load_refused}
+
+-- ---- faults
+
+place_is : (fault : PlaceFault) → Place fault ≡ Memory → ⊥
+place_is fault same = cc
+
+verify_is : (fault : VerifyFault) → Verify fault ≡ Memory → ⊥
+verify_is fault same = cc
+
+no_numbers : (told : FaultNumbers) → ◌≡◌ {A = Option FaultNumbers} None (Some told) → ⊥
+no_numbers told is = cc
 
 module _ (k : Key) (b : Books) (keeping : Keeping) (kept : BooksAgree k b keeping) (who : Who) (number : ℕ)
     (asks : MayAskFor (ledger_of b keeping) who (Load number)) where
@@ -118,6 +133,11 @@ module _ (k : Key) (b : Books) (keeping : Keeping) (kept : BooksAgree k b keepin
         after_same k b new.journal keeping kept who (LoadVerify number kind place) has asks
         (may, (refused_by_line fault (numbers.Verify kind place) unprepared is, refl)) refl refl refl
 
+    numbered : (fault : JoinFault) → IsUnprepared b number fault → numbers_of fault ≡ None → fault ≢ Memory → ⊥
+    numbered fault unprepared none some =
+        let has = has_numbers b.roster.code_words b.roster.placed unprepared.unplaced fault unprepared.why some in
+        no_numbers has.0 (sym none ∙ has.1)
+
     says_of : (fault : JoinFault) → IsUnprepared b number fault
         → SaysOf (course_in b) number (load_fault_of fault)
     says_of (Place fault) unprepared = record {
@@ -154,18 +174,49 @@ module _ (k : Key) (b : Books) (keeping : Keeping) (kept : BooksAgree k b keepin
               (record { told = all.told; says = says_of fault unprepared });
         })
 
+    -- what has no numbers is want of memory
+    memory_is : (fault : JoinFault) → IsUnprepared b number fault → numbers_of fault ≡ None
+        → load_fault_of fault ≡ loads.Memory
+    memory_is Memory unprepared none = refl
+    memory_is (Place fault) unprepared none =
+        absurd (numbered (Place fault) unprepared none (λ same. place_is fault same))
+    memory_is (Verify fault) unprepared none =
+        absurd (numbered (Verify fault) unprepared none (λ same. verify_is fault same))
+
     -- or memory was missing
-    pub starved_refuses : (fault : JoinFault) → numbers_of fault ≡ None → new ≡ record b { starved = true }
-        → Refuses k who number (load_fault_of fault) b new keeping keeping
-    starved_refuses fault none same =
+    pub starved_refuses : (fault : JoinFault) → IsUnprepared b number fault → numbers_of fault ≡ None
+        → new ≡ record b { starved = true } → Refuses k who number (load_fault_of fault) b new keeping keeping
+    starved_refuses fault unprepared none same =
         let line : fault_line number (load_fault_of fault) ≡ None =
         line_is fault ∙ ap (option_map (numbered_line number)) none in
         let books : Books = record b { starved = true } in
         subst (λ (nb : Books). Refuses k who number (load_fault_of fault) b nb keeping keeping) (sym same) (record {
           kept = reserved_kept k b keeping b.journal true kept refl refl;
           fault_is = subst (λ (o : Option JournalLine). RefusesBy k who number (load_fault_of fault) o
-              (ledger_of b keeping) (ledger_of books keeping)) (sym line) refl;
+              (ledger_of b keeping) (ledger_of books keeping)) (sym line) (memory_is fault unprepared none, refl);
         })
+
+  -- ---- a module that joins, where no epoch is left
+
+  pub spent_refuses : (absent : IsAbsent b number) (new : Books) → IsSpent b number
+      → HasLine (asked_by who (LoadEpochs number)) b.journal new.journal → new ≡ record b { journal = new.journal }
+      → Refuses k who number loads.EpochsSpent b new keeping keeping
+  spent_refuses absent new spent has same =
+      let joins = spent.joins in
+      let there : Joins b.plan.code_words b.roster.placed joins.unplaced joins.placed =
+      subst (λ (n : ℕ). Joins n b.roster.placed joins.unplaced joins.placed) kept.roster_is.code_words_are joins.joins
+      in
+      let is_clean : IsClean b.plan b.modules (end_of_books b) number = record {
+        absent = record { unplaced = joins.unplaced; is = joins.is; absent = absent.absent; room = absent.room };
+        placed = joins.placed;
+        joins = subst (λ (ps : List Placed). Joins b.plan.code_words ps joins.unplaced joins.placed)
+            (sym (places k b keeping kept)) there;
+      } in
+      let none : epoch_after k keeping ≡ MAX_EPOCH + 1 = omega (arith, spent.last, kept.ledger.told.epoch) in
+      let all = after_load_refused k b keeping kept new.journal keeping who number EpochsSpent (λ _. refl)
+      (none, refl) has asks is_clean in
+      subst (λ (nb : Books). Refuses k who number loads.EpochsSpent b nb keeping keeping) (sym same)
+      (record { kept = all.kept; fault_is = record { told = all.told; says = tt } })
 
   -- ---- a module that joins
 
@@ -248,7 +299,15 @@ module _ (k : Key) (b : Books) (keeping : Keeping) (kept : BooksAgree k b keepin
               listed_address roster many_there number (length roster.placed - 1) listed p answer.address first;
         })
 
-    -- or it was refused
+    -- or it was refused, and the books have a line more
+    pub turned_down : new ≡ record mid { journal = new.journal; roster = without_last roster }
+        → new ≡ record b { journal = new.journal }
+    turned_down same =
+        same
+        ∙ ap (λ (m : Books). record m { journal = new.journal; roster = without_last roster }) lent
+        ∙ ap (λ (r : Roster). record b { journal = new.journal; roster = r })
+        (taken_back k b keeping kept number roster prepared absent)
+
     pub unmade_refuses : (fault : UpdateFault) → IsRight k keeping fault
         → FaultIs k (mark_by who (Load number)) keeping after fault
         → HasLine (asked_by who (update_line number fault)) mid.journal new.journal
@@ -256,11 +315,7 @@ module _ (k : Key) (b : Books) (keeping : Keeping) (kept : BooksAgree k b keepin
         → Refuses k who number (load_fault_by fault) b new keeping after
     unmade_refuses fault right is has same =
         let there : Books = record b { journal = new.journal } in
-        let new_is : new ≡ there =
-        same
-        ∙ ap (λ (m : Books). record m { journal = new.journal; roster = without_last roster }) lent
-        ∙ ap (λ (r : Roster). record b { journal = new.journal; roster = r })
-        (taken_back k b keeping kept number roster prepared absent) in
+        let new_is : new ≡ there = turned_down same in
         let all = after_load_refused k b keeping kept new.journal after who number fault right is
         (lines_there (update_line number fault) has) asks (clean k b keeping kept number roster prepared absent) in
         subst (λ (nb : Books). Refuses k who number (load_fault_by fault) b nb keeping after) (sym new_is) (record {

@@ -140,6 +140,7 @@ passes_kept k b keeping out quiets kept guests =
       layout_is = kept.layout_is;
       image_is = kept.image_is;
       starts_are = kept.starts_are;
+      found_are = kept.found_are;
     }
 
 pub out_kept : (k : Key) (b : Books) (keeping : Keeping) (guest : ℕ) → BooksAgree k b keeping

@@ -69,6 +69,7 @@ module _ (k : Key) (b : Books) (j : Minutes) (keeping : Keeping) (kept : BooksAg
           layout_is = kept.layout_is;
           image_is = kept.image_is;
           starts_are = kept.starts_are;
+          found_are = kept.found_are;
         };
         told = told;
       }
@@ -104,6 +105,7 @@ module _ (k : Key) (b : Books) (j : Minutes) (keeping : Keeping) (kept : BooksAg
           layout_is = kept.layout_is;
           image_is = kept.image_is ∙ ap (λ (all : Keeping). (last_of all.entries).image) (sym new_is);
           starts_are = kept.starts_are;
+          found_are = kept.found_are;
         };
         told = told;
       }
@@ -169,6 +171,7 @@ module _ (k : Key) (b : Books) (j : Minutes) (keeping : Keeping) (kept : BooksAg
           layout_is = kept.layout_is;
           image_is = kept.image_is ∙ ap (λ (e : TableEntry). e.image) (sym (last_more keeping.entries again));
           starts_are = kept.starts_are;
+          found_are = kept.found_are;
         };
         told = told;
       }

@@ -5,6 +5,7 @@ pub mod EpochLemmas
 pub mod TellLemmas
 pub mod PolicyLemmas
 pub mod LedgerLemmas
+pub mod FindingLemmas
 pub mod RosterLemmas
 pub mod BooksLemmas
 pub mod ReserveLemmas

@@ -45,6 +45,7 @@ use Rattle.cfi_loader.specs.inner.Journal.{Minutes, HasLine}
 use Rattle.cfi_loader.specs.inner.Roster.{Roster, line_by, origin_of}
 use Rattle.cfi_loader.proofs.BooksLemmas.{last_entry, one_left}
 use Rattle.cfi_loader.proofs.EntryLemmas.{among_self, entry_of_all, loaded_all}
+use Rattle.cfi_loader.proofs.FindingLemmas.{findings_more}
 use Rattle.cfi_loader.proofs.LedgerLemmas.{goes_later, ledger_more}
 use Rattle.cfi_loader.proofs.PolicyLemmas.{policies_below, policies_more}
 use Rattle.cfi_valid.proofs.KeptLemmas.{places_are, loaded_more}
@@ -199,6 +200,7 @@ module _ (k : Key) (b : Books) (j : Minutes) (keeping : Keeping) (kept : BooksAg
           layout_is = kept.layout_is;
           image_is = ap (λ (e : TableEntry). e.image) (sym (last_more keeping.entries new));
           starts_are = kept.starts_are;
+          found_are = findings_more b.modules b.roster b.found.items kept.found_are (b.roster.lines ++ line ∷ []) one;
         };
         told = told;
       }

@@ -1,5 +1,5 @@
 -- What a loader has at the start agrees.
-use Rattle.std.proofs.Common.{◌≡◌, ℕ, ◌<◌, ◌≤◌, ◌++◌, true, false, List, [], length, All, refl, sym, ap, subst, ◌∙◌, ⊎_elim, arith, replicate}
+use Rattle.std.proofs.Common.{◌≡◌, ℕ, ◌<◌, ◌≤◌, ◌++◌, true, false, List, [], length, None, All, refl, sym, ap, subst, ◌∙◌, ⊎_elim, arith, replicate}
 use Rattle.std.proofs.lemmas.Bool.{false≢true, cases_lt}
 use Rattle.std.proofs.lemmas.List.{get_or-replicate, get_or_past, length-replicate}
 use Rattle.std.proofs.lemmas.List.Elements.{All-nil, All-cons}
@@ -35,11 +35,13 @@ use Rattle.cfi_valid.specs.Opening.{IsFirstLost}
 use Rattle.cfi_loader.specs.Starting.{IsStarted}
 use Rattle.cfi_loader.specs.inner.Books.{course_in, end_of_books, ledger_of, BooksAgree}
 use Rattle.cfi_loader.specs.inner.Entries.{AllEnter, IsFirstOut}
+use Rattle.cfi_loader.specs.inner.Findings.{AreFindings}
 use Rattle.cfi_loader.specs.inner.Journal.{Minutes}
 use Rattle.cfi_loader.specs.inner.Opening.{books_at, AreOpeningBooks}
 use Rattle.cfi_loader.specs.inner.Roster.{Roster, IsImageOfRoster, origin_of}
 use Rattle.cfi_loader.specs.inner.Starts.{AreStarted, loaded_in, opened_state}
 use Rattle.cfi_loader.proofs.EntryLemmas.{among_self, entry_of_all, loaded_all}
+use Rattle.cfi_loader.proofs.FindingLemmas.{findings_none}
 use Rattle.cfi_loader.proofs.PolicyLemmas.{policies_below}
 use Rattle.cfi_valid.proofs.KeptLemmas.{places_are, many_are}
 use Rattle.cfi_loader.proofs.StartLemmas.{started_all, started_count}
@@ -122,7 +124,7 @@ module _ (plan : Plan) (modules : List Module) (can : CanStart plan modules) (r 
     start_closed = closed plan.code_words r.placed start_loaded r.placed image (among_self r.placed, labels)
 
     module _ (j : Minutes) (no_lines : j.lines ≡ []) (left : j.left ≡ script_calls plan.script)
-        (enter : AllEnter plan r.placed) (b : Books) where
+        (enter : AllEnter plan r.placed) (b : Books) (none_found : b.found.items ≡ replicate (length modules) None) where
       abbrev k : Key
       k = key_by plan.code_words plan.versions plan.first image
 
@@ -184,6 +186,7 @@ module _ (plan : Plan) (modules : List Module) (can : CanStart plan modules) (r 
         image_is = refl;
         starts_are =
             all.many ∙ sym (many_are origin_of r.lines r.placed all.many) ∙ started_count plan modules r all;
+        found_are = subst (AreFindings modules r) (sym none_found) (findings_none modules r);
       }
 
 -- ---- the books of a start
@@ -195,7 +198,8 @@ module _ (plan : Plan) (modules : List Module) (can : CanStart plan modules) (r 
   first_kept k k_is enter =
       let key : Key = key_by plan.code_words plan.versions plan.first b.image in
       let kept : BooksAgree key (books_at plan modules r b.image b.journal b) (opened_keeping key) =
-      start_kept plan modules can r all b.image is.image_is b.journal is.lines_are is.left_are enter b in
+      start_kept plan modules can r all b.image is.image_is b.journal is.lines_are is.left_are enter b
+      is.none_found in
       subst (λ (x : Key). BooksAgree x b (opened_keeping x)) (sym k_is)
       (subst (λ (nb : Books). BooksAgree key nb (opened_keeping key)) (sym is.is) kept)
 

@@ -71,10 +71,10 @@ pub record HasRefused (k : Key) (who : Who) (number : ℕ) (fault : LoadFault) (
   pub told : HasTold k (asked_by who line) old new
   pub says : SaysOf old.course number fault
 
--- with a line a refusal, and with none want of memory
+-- with a line a refusal; none is told of want of memory alone
 abbrev pub RefusesBy : Key → Who → (number : ℕ) → LoadFault → Option JournalLine → (old new : Ledger) → Type 0
 RefusesBy k who number fault (Some line) old new = HasRefused k who number fault line old new
-RefusesBy k who number fault None old new = HasStarved old new
+RefusesBy k who number fault None old new = (fault ≡ Memory) × HasStarved old new
 
 abbrev pub IsLoadFault : Key → Who → (number : ℕ) → LoadFault → (old new : Ledger) → Type 0
 IsLoadFault k who number fault old new = RefusesBy k who number fault (fault_line number fault) old new

@@ -5,3 +5,4 @@ pub mod Entries
 pub mod Starts
 pub mod Opening
 pub mod Loads
+pub mod Findings

@@ -1,17 +1,19 @@
 //! What a loader has beside the keeper of the tables.
 
-ghost use Rattle.std.specs.Prelude.{◌≡◌, ◌+◌, ◌<◌, true, if◌then◌else◌, IfOk, IfErr, OnOk, OnErr, length, nat_le, slice_index_or};
+ghost use Rattle.std.specs.Prelude.{◌≡◌, ◌+◌, ◌<◌, true, if◌then◌else◌, IfOk, IfErr, IfSome, OnOk, OnErr, Some, length, nat_le, slice_get, slice_index_or, slice_set};
 ghost use Rattle.cfi_plan.specs.declared.journal.JournalLine.TheVariants.{LoadOk};
 ghost use Rattle.cfi_plan.specs.declared.journal.Who.TheVariants.{Script};
 ghost use Rattle.cfi_aux.specs.declared.placed.Placed.{Placed as PlacedModule};
 ghost use Rattle.cfi_valid.specs.declared.limits.TheConstants.{MAX_LOADED};
 ghost use Rattle.cfi_loader.specs.Plans.{CanStart};
 ghost use Rattle.cfi_loader.specs.Results.{asked_by};
+ghost use Rattle.cfi_loader.specs.inner.Findings.{AreFindings, DoesJoin};
 ghost use Rattle.cfi_loader.specs.inner.Journal.{HasLine, HasRoomFor};
-ghost use Rattle.cfi_loader.specs.inner.Loads.{HasPrepared, IsUnprepared, IsFirstGlobal};
+ghost use Rattle.cfi_loader.specs.inner.Loads.{HasPrepared, IsKnown, IsUnprepared, IsFirstGlobal};
 ghost use Rattle.cfi_loader.specs.inner.Roster.{IsImageOfRoster};
 
 use crate::entrant::Entrant;
+use crate::finding::{Finding, Known, Outcome, fault_by, outcome_of};
 use crate::journal::Journal;
 use crate::roster::{Candidate, Roster};
 use cfi_aux::Module;
@@ -19,6 +21,7 @@ use cfi_plan::{JournalLine, Plan, Who};
 use cfi_series::{JoinFault, first_global, loaded_have_entries};
 use cfi_valid::MAX_LOADED;
 use cfi_values::Items;
+use cfi_word::limits::MAX_EPOCH;
 use cfi_word::{Image, Layout};
 use std::alloc::Global;
 use std::mem;
@@ -36,6 +39,8 @@ pub(crate) struct Books {
     pub(crate) policy: u32,
     // How many modules were there from the start.
     pub(crate) starts: usize,
+    // What was found of each module of the plan when it was tried, so that it is not tried twice behind the same ones.
+    pub(crate) found: Vec<Option<Finding>>,
     pub(crate) journal: Journal,
     // Whether memory was missing for a load.
     pub(crate) starved: bool,
@@ -128,6 +133,83 @@ impl Books {
                 Err(unjoined.fault)
             }
         }
+    }
+
+    // What was found of a module behind all that are loaded.
+    fn outcome(&self, number: u32) -> Option<Outcome>
+        requires { number < length self.now.found.items }
+        ensures { IfSome result (λ outcome. slice_get self.now.found.items number
+            ≡ Some (Some (record { behind = length self.now.roster.placed; outcome = outcome }))) }
+    {
+        let loaded = self.roster.lines().len();
+        match self.found[number as usize] {
+            Some(finding) => {
+                if finding.behind == loaded {
+                    Some(finding.outcome)
+                } else {
+                    None
+                }
+            }
+            None => None,
+        }
+    }
+
+    /// What is known of a module of the plan without trying it.
+    ///
+    /// The name of a fault takes memory, and want of that is a fault.
+    pub(crate) fn known(&self, number: u32) -> Known
+        requires known { number < length self.now.modules }
+        requires found { AreFindings self.now.modules self.now.roster self.now.found.items }
+        ensures { IsKnown self.now number result }
+    {
+        let Some(outcome) = self.outcome(number) else {
+            return Known::Nothing;
+        };
+        let unplaced = &self.modules.as_slice()[number as usize];
+        let Ok(fault) = fault_by(self.alloc, unplaced, outcome) else {
+            return Known::Unjoined(JoinFault::Memory);
+        };
+        if let Some(fault) = fault {
+            return Known::Unjoined(fault);
+        }
+        if self.epoch == MAX_EPOCH {
+            return Known::Spent;
+        }
+        Known::Nothing
+    }
+
+    // Notes what was found of a module behind all that are loaded.
+    fn note(&mut self, number: u32, outcome: Outcome)
+        requires { number < length self.old.found.items }
+        ensures found { self.new.found.items ≡ slice_set self.old.found.items number
+            (Some (record { behind = length self.old.roster.placed; outcome = outcome })) }
+        ensures same { self.new ≡ record self.old { found = self.new.found } }
+    {
+        let behind = self.roster.lines().len();
+        self.found[number as usize] = Some(Finding { behind, outcome });
+    }
+
+    /// Keeps why a module does not join. It takes no memory.
+    pub(crate) fn keep(&mut self, number: u32, fault: &JoinFault)
+        requires found { AreFindings self.old.modules self.old.roster self.old.found.items }
+        requires unprepared { IsUnprepared self.old number fault.now }
+        ensures found { AreFindings self.old.modules self.old.roster self.new.found.items }
+        ensures same { self.new ≡ record self.old { found = self.new.found } }
+    {
+        let unplaced = &self.modules.as_slice()[number as usize];
+        if let Some(outcome) = outcome_of(unplaced, fault) {
+            self.note(number, outcome);
+        }
+    }
+
+    /// Keeps that a module joins. It takes no memory.
+    pub(crate) fn keep_joining(&mut self, number: u32)
+        requires found { AreFindings self.old.modules self.old.roster self.old.found.items }
+        requires joins { DoesJoin self.old.modules self.old.roster number }
+        ensures found { AreFindings self.old.modules self.old.roster self.new.found.items }
+        ensures same { self.new ≡ record self.old { found = self.new.found } }
+    {
+        self.note(number, Outcome::Joins);
     }
 
     /// Puts a module in force, with its line.

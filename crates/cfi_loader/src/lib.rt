@@ -16,6 +16,7 @@ mod due;
 mod entrant;
 mod entries;
 mod fault;
+mod finding;
 mod give;
 mod journal;
 pub mod laws;
@@ -28,6 +29,7 @@ mod reading;
 mod refresh;
 mod roster;
 mod start;
+mod telling;
 
 pub use cfi_plan::{Entry, JournalLine, ModuleLine, Who};
 pub use cfi_tables::{AdmitFault, Seen, UpdateFault};

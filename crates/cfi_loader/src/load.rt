@@ -1,88 +1,30 @@
 //! Loads.
 
-ghost use Rattle.std.specs.Prelude.{◌≡◌, ◌+◌, ◌-◌, ◌<◌, false, IfOk, IfErr, length, option_map, slice_index_or};
+ghost use Rattle.std.specs.Prelude.{◌≡◌, ◌+◌, ◌-◌, ◌<◌, false, IfOk, IfErr, length, slice_index_or};
 ghost use Rattle.cfi_aux.specs.declared.placed.Placed.{Placed};
 ghost use Rattle.cfi_plan.specs.declared.journal.JournalLine.TheVariants.{LoadOk};
-ghost use Rattle.cfi_series.specs.Numbers.{numbers_of};
 ghost use Rattle.cfi_tables.specs.Keeping.{Keeping};
 ghost use Rattle.cfi_tables.specs.Key.{Key};
 ghost use Rattle.cfi_valid.specs.Script.{Load};
-ghost use Rattle.cfi_valid.specs.NumberedLine.{numbered_line};
 ghost use Rattle.cfi_loader.specs.Results.{asked_by, fault_line, HasLoaded, IsLoadFault};
 ghost use Rattle.cfi_loader.specs.Told.{MayAskFor};
 ghost use Rattle.cfi_loader.specs.inner.Books.{BooksAgree, ledger_of};
 ghost use Rattle.cfi_loader.specs.inner.Journal.{HasLine, HasRoomFor};
 ghost use Rattle.cfi_valid.specs.declared.limits.TheConstants.{MAX_LOADED};
-ghost use Rattle.cfi_loader.specs.inner.Loads.{IsAbsent, IsFirstGlobal, IsListed, IsSamePlan, IsUnprepared, LoadsTo, Refuses, load_fault_of, load_fault_by, update_line};
+ghost use Rattle.cfi_loader.specs.inner.Loads.{IsAbsent, IsFirstGlobal, IsListed, IsSamePlan, IsSpent, IsUnprepared, LoadsTo, Refuses, load_fault_of, load_fault_by, update_line};
 ghost use Rattle.cfi_loader.specs.inner.Roster.{without_last};
 
 use crate::books::Books;
 use crate::fault::LoadFault;
+use crate::finding::Known;
 use crate::loaded::Loaded;
 use crate::loader::{Loader, LoaderName};
 use crate::mark::load_mark;
 use crate::roster::Candidate;
+use crate::telling::{join_line, load_fault_by, load_fault_of, update_line};
 use cfi_plan::{JournalLine, Who};
-use cfi_series::{FaultNumbers, JoinFault};
+use cfi_series::JoinFault;
 use cfi_tables::{Keeper, TableName, Tables, UpdateFault};
-
-// The line that tells of a fault of joining; None for want of memory.
-fn join_line(number: u32, fault: &JoinFault) -> Option<JournalLine>
-    ensures { result ≡ option_map (numbered_line number) (numbers_of fault.now) }
-{
-    match fault.numbers() {
-        Some(FaultNumbers::Place { number: kind }) => Some(JournalLine::LoadPlace {
-            module: number,
-            number: kind,
-        }),
-        Some(
-            FaultNumbers::Verify {
-                number: kind,
-                place,
-            },
-        ) => Some(JournalLine::LoadVerify {
-            module: number,
-            number: kind,
-            place,
-        }),
-        None => None,
-    }
-}
-
-// The fault of joining as one of loading.
-fn load_fault_of(fault: JoinFault) -> LoadFault
-    ensures { result ≡ load_fault_of fault }
-{
-    match fault {
-        JoinFault::Place(fault) => LoadFault::Place(fault),
-        JoinFault::Verify(fault) => LoadFault::Verify(fault),
-        JoinFault::Memory => LoadFault::Memory,
-    }
-}
-
-// The fault of an update as one of loading.
-fn load_fault_by(fault: UpdateFault) -> LoadFault
-    ensures { result ≡ load_fault_by fault }
-{
-    match fault {
-        UpdateFault::EpochsSpent => LoadFault::EpochsSpent,
-        UpdateFault::VersionsSpent { guest, quiet } => LoadFault::VersionsSpent { guest, quiet },
-    }
-}
-
-// The line that tells of it.
-fn update_line(number: u32, fault: UpdateFault) -> JournalLine
-    ensures { result ≡ update_line number fault }
-{
-    match fault {
-        UpdateFault::EpochsSpent => JournalLine::LoadEpochs { module: number },
-        UpdateFault::VersionsSpent { guest, quiet } => JournalLine::LoadVersions {
-            module: number,
-            guest,
-            quiet,
-        },
-    }
-}
 
 // The answer where the module stands at this place in load order.
 fn again(books: &mut Books, who: Who, number: u32, at: usize) -> Loaded
@@ -176,8 +118,21 @@ fn commit(books: &mut Books, candidate: Candidate, who: Who, number: u32, epoch:
     }
 }
 
-// Loads a module that is not loaded, where there is room for its line.
-fn add<N: TableName>(
+// Tells that no epoch is left for a module that joins.
+fn refuse_spent(books: &mut Books, who: Who, number: u32) -> LoadFault
+    requires room { HasRoomFor who books.old.journal }
+    requires spent { IsSpent books.old number }
+    ensures after { (k : Key) (keeping : Keeping) → BooksAgree k books.old keeping →
+        MayAskFor (ledger_of books.old keeping) who (Load number) → IsAbsent books.old number →
+        Refuses k who number result books.old books.new keeping keeping }
+    ensures same { IsSamePlan books.old books.new }
+{
+    books.tell(who, JournalLine::LoadEpochs { module: number });
+    LoadFault::EpochsSpent
+}
+
+// Tries to load a module that is not loaded, where there is room for its line, and keeps why it is refused.
+fn attempt<N: TableName>(
     keeper: &mut Keeper<N>,
     books: &mut Books,
     tables: &Tables<N>,
@@ -197,12 +152,45 @@ fn add<N: TableName>(
 {
     let candidate = match books.prepare(number) {
         Ok(candidate) => candidate,
-        Err(fault) => return Err(refuse(books, who, number, fault)),
+        Err(fault) => {
+            books.keep(number, &fault);
+            return Err(refuse(books, who, number, fault));
+        }
     };
     let mark = load_mark(who, number);
     match keeper.update(tables, candidate.image(), books.policy + 1, mark) {
         Ok(epoch) => Ok(commit(books, candidate, who, number, epoch)),
-        Err(fault) => Err(turn_down(books, candidate, who, number, fault)),
+        Err(fault) => {
+            let fault = turn_down(books, candidate, who, number, fault);
+            books.keep_joining(number);
+            Err(fault)
+        }
+    }
+}
+
+// Loads a module that is not loaded, where there is room for its line. One that is known to be refused is not tried.
+fn add<N: TableName>(
+    keeper: &mut Keeper<N>,
+    books: &mut Books,
+    tables: &Tables<N>,
+    number: u32,
+    who: Who,
+) -> Result<Loaded, LoadFault>
+    requires known { number < length books.old.plan.modules }
+    requires kept { BooksAgree N.key books.old keeper.old }
+    requires asks { MayAskFor (ledger_of books.old keeper.old) who (Load number) }
+    requires room { HasRoomFor who books.old.journal }
+    requires absent { IsAbsent books.old number }
+    ensures ok { IfOk result (λ loaded.
+        LoadsTo N.key who number loaded books.old books.new keeper.old keeper.new) }
+    ensures fault { IfErr result (λ fault.
+        Refuses N.key who number fault books.old books.new keeper.old keeper.new) }
+    ensures same { IsSamePlan books.old books.new }
+{
+    match books.known(number) {
+        Known::Nothing => attempt(keeper, books, tables, number, who),
+        Known::Unjoined(fault) => Err(refuse(books, who, number, fault)),
+        Known::Spent => Err(refuse_spent(books, who, number)),
     }
 }
 

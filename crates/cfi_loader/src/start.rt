@@ -12,6 +12,7 @@ use crate::copies::plan_copy;
 use crate::entrant::Entrant;
 use crate::entries::first_lost;
 use crate::fault::OpenFault;
+use crate::finding::nothing_found;
 use crate::journal::Journal;
 use crate::roster::Roster;
 use cfi_aux::Module;
@@ -97,6 +98,7 @@ fn first_books(
     let image = roster.image()?;
     let starts = roster.lines().len();
     let journal = Journal::new(alloc, plan.script.as_slice())?;
+    let found = nothing_found(alloc, modules.len())?;
     Ok(Books {
         plan: plan_copy(alloc, plan)?,
         modules,
@@ -106,6 +108,7 @@ fn first_books(
         epoch: plan.first,
         policy: 0,
         starts,
+        found,
         journal,
         starved: false,
         alloc,

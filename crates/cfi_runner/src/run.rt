@@ -1,10 +1,23 @@
 //! A guest that runs over what its pass loads.
 
+ghost use Rattle.std.specs.Prelude.{◌≡◌, ◌==◌, ◌&&◌, not, nat_le};
+ghost use Rattle.cfi_model.specs.Raw.{reg};
 ghost use Rattle.cfi_runner.specs.Run.{CanRunOn, HasRunOn};
+ghost use Rattle.cfi_word.specs.declared.map.TheConstants.{BARY};
 
 use crate::pause::Pause;
 use cfi_tables::{Pass, TableName, Tables};
+use cfi_word::map::BARY;
 use rv_guest::{Act, Guest};
+use std::thread::yield_now;
+
+// Whether the load of a slot's word begins a try anew: in a check x30 is 0 before its first try, and before no other.
+#[inline(always)]
+fn is_repeat(guest: &Guest, address: u32) -> bool
+    ensures { result ≡ (nat_le BARY address && not (reg guest.now 30 == 0)) }
+{
+    address >= BARY && guest.register(30) != 0
+}
 
 /// Runs a guest over the words that its pass loads, until it asks for a service or stops, and says which.
 ///
@@ -27,6 +40,10 @@ pub fn run_until<N: TableName>(
         match guest.begin(word) {
             Act::Done => {}
             Act::Need(address) => {
+                // The words of the last try were of two versions, so an update is under way: its thread may go on first.
+                if is_repeat(guest, address) {
+                    yield_now();
+                }
                 let loaded = tables.load(pass, address);
                 guest.finish(loaded);
             }

@@ -12,6 +12,7 @@ use Rattle.cfi_valid.specs.Loaded.{LoadedModule, module_line_of}
 use Rattle.cfi_loader.specs.declared.books.Books.{Books}
 use Rattle.cfi_loader.specs.Ledger.{Ledger, IsLedger}
 use Rattle.cfi_loader.specs.Told.{HasTold}
+use Rattle.cfi_loader.specs.inner.Findings.{AreFindings}
 use Rattle.cfi_loader.specs.inner.Roster.{loaded_of}
 
 -- the loaded modules
@@ -46,6 +47,7 @@ pub record BooksAgree (k : Key) (b : Books) (keeping : Keeping) : Type 0 where
   pub layout_is : b.layout ≡ b.plan.code_words
   pub image_is : b.image ≡ (last_of keeping.entries).image
   pub starts_are : b.starts ≡ starts b.plan.modules
+  pub found_are : AreFindings b.modules b.roster b.found.items
 
 -- a line more, and all of it agrees again
 pub record IsAfter (k : Key) (entry : Entry) (old new : Books) (before after : Keeping) : Type 0 where

@@ -1,5 +1,5 @@
 -- What a load makes of what a loader has.
-use Rattle.std.specs.Prelude.{◌≡◌, ◌≢◌, ℕ, ◌+◌, ◌<◌, length, slice_get, slice_index_or, Option, Some, None, All}
+use Rattle.std.specs.Prelude.{◌≡◌, ◌≢◌, ℕ, ◌+◌, ◌<◌, length, slice_get, slice_index_or, Option, Some, None, All, ⊤}
 use Rattle.cfi_aux.specs.declared.modules.Module.{Module}
 use Rattle.cfi_aux.specs.declared.placed.Placed.{Placed}
 use Rattle.cfi_plan.specs.declared.journal.JournalLine.{JournalLine}
@@ -16,12 +16,16 @@ use Rattle.cfi_tables.specs.declared.fault.UpdateFault.{UpdateFault}
 use Rattle.cfi_tables.specs.declared.fault.UpdateFault.TheVariants as updates
 use Rattle.cfi_valid.specs.Loaded.{planned_name, IsLoaded}
 use Rattle.cfi_valid.specs.declared.limits.TheConstants.{MAX_LOADED}
+use Rattle.cfi_word.specs.declared.limits.TheConstants.{MAX_EPOCH}
 use Rattle.cfi_loader.specs.declared.books.Books.{Books}
 use Rattle.cfi_loader.specs.declared.fault.LoadFault.{LoadFault}
 use Rattle.cfi_loader.specs.declared.fault.LoadFault.TheVariants.{Place, Verify, EpochsSpent, VersionsSpent, Memory}
+use Rattle.cfi_loader.specs.declared.finding.Known.{Known}
+use Rattle.cfi_loader.specs.declared.finding.Known.TheVariants.{Nothing, Unjoined, Spent}
 use Rattle.cfi_loader.specs.declared.loaded.Loaded.{Loaded}
 use Rattle.cfi_loader.specs.Results.{asked_by, loaded_line, IsAddressOf, IsLoadFault}
 use Rattle.cfi_loader.specs.inner.Books.{loaded_in, ledger_of, BooksAgree, IsAfter}
+use Rattle.cfi_loader.specs.inner.Findings.{DoesJoin}
 use Rattle.cfi_loader.specs.inner.Roster.{Roster, HasJoined}
 
 -- ---- faults
@@ -68,6 +72,17 @@ pub record IsUnprepared (b : Books) (number : ℕ) (fault : JoinFault) : Type 0 
   pub unplaced : Module
   pub is : slice_get b.modules number ≡ Some unplaced
   pub why : IsJoinFault b.roster.code_words b.roster.placed unplaced fault
+
+-- it joins, and no epoch is left
+pub record IsSpent (b : Books) (number : ℕ) : Type 0 where
+  pub joins : DoesJoin b.modules b.roster number
+  pub last : b.epoch ≡ MAX_EPOCH
+
+-- what is known of it
+abbrev pub IsKnown : Books → (number : ℕ) → Known → Type 0
+IsKnown b number Nothing = ⊤
+IsKnown b number (Unjoined fault) = IsUnprepared b number fault
+IsKnown b number Spent = IsSpent b number
 
 -- what a placed module's first Global function is: its address, or that it has none
 abbrev pub IsFirstGlobal : Placed → Option ℕ → Type 0

@@ -1,5 +1,5 @@
 -- What is there before the tables have a name.
-use Rattle.std.specs.Prelude.{◌≡◌, false, List, [], length}
+use Rattle.std.specs.Prelude.{◌≡◌, false, List, [], length, None, replicate}
 use Rattle.cfi_aux.specs.declared.modules.Module.{Module}
 use Rattle.cfi_plan.specs.declared.plan.Plan.{Plan}
 use Rattle.cfi_tables.specs.Keeping.{opened_keeping}
@@ -18,7 +18,7 @@ started_of a = record { named = a.blank; ledger = ledger_of a.books (opened_keep
 abbrev pub IsReadyStart : Inside → Type 0
 IsReadyStart a = BooksAgree a.blank.key a.books (opened_keeping a.blank.key)
 
--- what a loader has at the start beside its keeper; its memory is that of another
+-- what a loader has at the start beside its keeper; its memory, and what was found, are those of another
 abbrev pub books_at : Plan → List Module → Roster → Image → Minutes → Books → Books
 books_at plan modules roster image journal b = record b {
   plan = plan;
@@ -38,3 +38,4 @@ pub record AreOpeningBooks (plan : Plan) (modules : List Module) (roster : Roste
   pub image_is : IsImageOfRoster roster b.image
   pub lines_are : b.journal.lines ≡ []
   pub left_are : b.journal.left ≡ script_calls plan.script
+  pub none_found : b.found.items ≡ replicate (length modules) None

@@ -19,7 +19,7 @@ give-requires-clause-rises g c =
     let of = told_of k plan modules c.args.pass.now c.tell.new.pass guest c.args.desk.now c.requires.runner
     c.requires.asked c.tell.ensures.told in
     subst (λ (l : Ledger). last_policy guest.base.log ≤ l.course.end.policy) (sym c.tell-in-Ok.ensures.kept)
-    (rises k plan modules c.tell.new.pass c.tell-in-Ok.new.pass guest first c.load.new.self of c.requires.few
+    (rises k plan modules c.tell.new.pass c.tell-in-Ok.new.pass guest first c.ask.new.desk of c.requires.few
     c.tell-in-Ok.ensures.told)
 
 -- there was no memory for the load
@@ -40,8 +40,8 @@ refuse-requires g c =
     let guest = c.args.guest.now in
     let of = told_of k plan modules c.args.pass.now c.tell.new.pass guest c.args.desk.now c.requires.runner
     c.requires.asked c.tell.ensures.told in
-    may_refuse k plan modules c.tell.new.pass c.tell-in-Err.new.pass guest first
-    c.load.new.self of c.requires.few c.tell-in-Err.ensures.told c.in-Some.cause c.force.result.policy
+    may_refuse k plan modules c.tell.new.pass c.tell-in-Err.new.pass guest first c.ask.new.desk of
+    c.requires.few c.tell-in-Err.ensures.told c.in-Some.cause c.force.result.policy
     (c.force.ensures.policy ∙ ap (λ (l : Ledger). l.course.end.policy) c.tell-in-Err.ensures.kept)
 
 -- the module is loaded
@@ -54,11 +54,10 @@ returns-in-Ok-clause-runner g c =
     let guest = c.args.guest.now in
     let of = told_of k plan modules c.args.pass.now c.tell.new.pass guest c.args.desk.now c.requires.runner
     c.requires.asked c.tell.ensures.told in
-    let has = loaded_as k c.guest.result c.argument.result c.tell.new.desk c.load.new.self first
-    c.tell.new.pass guest c.in-Ok.loaded c.guest.ensures c.argument.ensures c.tell.ensures.kept
-    c.in-Ok.ensures.ok in
-    opens_loaded k plan modules c.tell.new.pass c.tell-in-Ok.new.pass guest first
-    c.load.new.self of c.requires.few c.tell-in-Ok.ensures.told c.in-Ok.loaded has c.give.new.guest
+    let has = loaded_as k c.tell.new.desk c.ask.new.desk first c.tell.new.pass guest c.in-Ok.loaded
+    c.tell.ensures.kept c.in-Ok.ensures.ok in
+    opens_loaded k plan modules c.tell.new.pass c.tell-in-Ok.new.pass guest first c.ask.new.desk of
+    c.requires.few c.tell-in-Ok.ensures.told c.in-Ok.loaded has c.give.new.guest
     (c.give.ensures
     ∙ ap (λ (l : Ledger). serve_of guest (reply_with l guest.base.log c.in-Ok.loaded.address))
     c.tell-in-Ok.ensures.kept)
@@ -68,10 +67,10 @@ pub returns-in-Ok-clause-answer : goal.returns-in-Ok-clause-answer
 returns-in-Ok-clause-answer g c =
     let first = heard_from c.args.pass.now c.args.desk.now in
     let guest = c.args.guest.now in
-    let has = loaded_as g.N.TableName.key c.guest.result c.argument.result c.tell.new.desk c.load.new.self first
-    c.tell.new.pass guest c.in-Ok.loaded c.guest.ensures c.argument.ensures c.tell.ensures.kept c.in-Ok.ensures.ok in
+    let has = loaded_as g.N.TableName.key c.tell.new.desk c.ask.new.desk first c.tell.new.pass guest
+    c.in-Ok.loaded c.tell.ensures.kept c.in-Ok.ensures.ok in
     asked_loaded g.N.TableName.key g.N.LoaderName.plan g.N.LoaderName.modules c.args.pass.now c.tell.new.pass
-    c.tell-in-Ok.new.pass guest c.give.new.guest c.args.desk.now c.load.new.self c.tell.ensures.told
+    c.tell-in-Ok.new.pass guest c.give.new.guest c.args.desk.now c.ask.new.desk c.tell.ensures.told
     c.tell-in-Ok.ensures.told c.in-Ok.loaded has
     (c.give.ensures
     ∙ ap (λ (l : Ledger). serve_of guest (reply_with l guest.base.log c.in-Ok.loaded.address))
@@ -87,11 +86,10 @@ returns-in-Some-clause-runner g c =
     let guest = c.args.guest.now in
     let of = told_of k plan modules c.args.pass.now c.tell.new.pass guest c.args.desk.now c.requires.runner
     c.requires.asked c.tell.ensures.told in
-    let has = refused_as k c.guest.result c.argument.result c.tell.new.desk c.load.new.self first
-    c.tell.new.pass guest c.in-Err.fault c.guest.ensures c.argument.ensures c.tell.ensures.kept
-    c.in-Err.ensures.fault in
-    opens_refused k plan modules c.tell.new.pass c.tell-in-Err.new.pass guest first
-    c.load.new.self of c.requires.few c.tell-in-Err.ensures.told c.in-Err.fault c.in-Some.cause c.force.result.policy
+    let has = refused_as k c.tell.new.desk c.ask.new.desk first c.tell.new.pass guest c.in-Err.fault
+    c.tell.ensures.kept c.in-Err.ensures.fault in
+    opens_refused k plan modules c.tell.new.pass c.tell-in-Err.new.pass guest first c.ask.new.desk of
+    c.requires.few c.tell-in-Err.ensures.told c.in-Err.fault c.in-Some.cause c.force.result.policy
     (sym c.cause_by.ensures ∙ c.in-Some.is) has
     (c.force.ensures.policy ∙ ap (λ (l : Ledger). l.course.end.policy) c.tell-in-Err.ensures.kept)
     c.refuse.new.guest c.refuse.ensures
@@ -101,11 +99,10 @@ pub returns-in-Some-clause-answer : goal.returns-in-Some-clause-answer
 returns-in-Some-clause-answer g c =
     let first = heard_from c.args.pass.now c.args.desk.now in
     let guest = c.args.guest.now in
-    let has = refused_as g.N.TableName.key c.guest.result c.argument.result c.tell.new.desk c.load.new.self first
-    c.tell.new.pass guest c.in-Err.fault c.guest.ensures c.argument.ensures c.tell.ensures.kept
-    c.in-Err.ensures.fault in
+    let has = refused_as g.N.TableName.key c.tell.new.desk c.ask.new.desk first c.tell.new.pass guest c.in-Err.fault
+    c.tell.ensures.kept c.in-Err.ensures.fault in
     asked_refused g.N.TableName.key g.N.LoaderName.plan g.N.LoaderName.modules c.args.pass.now c.tell.new.pass
-    c.tell-in-Err.new.pass guest c.refuse.new.guest c.args.desk.now c.load.new.self c.tell.ensures.told
+    c.tell-in-Err.new.pass guest c.refuse.new.guest c.args.desk.now c.ask.new.desk c.tell.ensures.told
     c.tell-in-Err.ensures.told c.in-Err.fault c.in-Some.cause c.force.result.policy
     (sym c.cause_by.ensures ∙ c.in-Some.is) has
     (c.force.ensures.policy ∙ ap (λ (l : Ledger). l.course.end.policy) c.tell-in-Err.ensures.kept) c.refuse.ensures
@@ -124,7 +121,7 @@ returns-in-Ok-clause-keeps g c =
     let modules = g.N.LoaderName.modules in
     keeps_trans c.args.pass.now c.tell.new.pass c.tell-in-Ok.new.pass
     (keeps_told k plan modules c.args.desk.now c.args.pass.now c.tell.new.pass c.tell.ensures.told)
-    (keeps_told k plan modules c.load.new.self c.tell.new.pass c.tell-in-Ok.new.pass c.tell-in-Ok.ensures.told)
+    (keeps_told k plan modules c.ask.new.desk c.tell.new.pass c.tell-in-Ok.new.pass c.tell-in-Ok.ensures.told)
 
 pub returns-in-Some-clause-keeps : goal.returns-in-Some-clause-keeps
 returns-in-Some-clause-keeps g c =
@@ -133,4 +130,4 @@ returns-in-Some-clause-keeps g c =
     let modules = g.N.LoaderName.modules in
     keeps_trans c.args.pass.now c.tell.new.pass c.tell-in-Err.new.pass
     (keeps_told k plan modules c.args.desk.now c.args.pass.now c.tell.new.pass c.tell.ensures.told)
-    (keeps_told k plan modules c.load.new.self c.tell.new.pass c.tell-in-Err.new.pass c.tell-in-Err.ensures.told)
+    (keeps_told k plan modules c.ask.new.desk c.tell.new.pass c.tell-in-Err.new.pass c.tell-in-Err.ensures.told)

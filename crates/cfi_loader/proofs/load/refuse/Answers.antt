@@ -29,6 +29,6 @@ returns-clause-after c = λ k keeping kept asks absent.
           told.1 has w.tell.ensures.same)
       | in-None w ↦
           let none = from_none c.args.number (numbers_of fault) (sym c.join_line.ensures ∙ w.in-None.is) in
-          starved_refuses k b keeping kept c.args.who c.args.number asks absent c.match-join_line.books fault none
-          w.books-is
+          starved_refuses k b keeping kept c.args.who c.args.number asks absent c.match-join_line.books fault
+          c.requires.unprepared none w.books-is
     ])

@@ -1,0 +1,143 @@
+use Rattle.std.proofs.Common.{◌+◌, ℕ, ap, sym, subst, ◌∙◌, arith}
+use Rattle.cfi_model.specs.Tables.{IsUpdate}
+use Rattle.cfi_series.specs.Examples.{sized}
+use Rattle.cfi_tables.specs.Faults.{FaultIs}
+use Rattle.cfi_tables.specs.Keeping.{entry_by, grown_by, last_of}
+use Rattle.cfi_valid.specs.Script.{Load}
+use Rattle.cfi_word.specs.declared.lists.Image.{Image}
+use Rattle.cfi_loader.specs.declared.books.Books.{Books}
+use Rattle.cfi_loader.specs.declared.fault.LoadFault.{LoadFault}
+use Rattle.cfi_loader.specs.Told.{MayAskFor}
+use Rattle.cfi_loader.specs.inner.Books.{BooksAgree, ledger_of}
+use Rattle.cfi_loader.specs.inner.Findings.{AreFindings, DoesJoin}
+use Rattle.cfi_loader.specs.inner.Loads.{IsAbsent, IsUnprepared, Refuses}
+use Rattle.cfi_loader.proofs.AddLemmas.{made_answers, turned_down, unmade_refuses}
+use Rattle.cfi_loader.proofs.FindingLemmas.{found_kept, refuses_noted, refuses_then}
+use Rattle.cfi_loader.proofs.PrepareLemmas.{load_update}
+use Rattle.cfi_loader.proofs.UpdateLemmas.{epoch_left, not_spent, right_fault}
+use Rattle.cfi_loader.proofs.load.attempt.Goals as goal
+
+pub prepare-requires-clause-few : goal.prepare-requires-clause-few
+prepare-requires-clause-few g c =
+    omega (arith, c.requires.absent.room, c.requires.kept.ledger.policies.count)
+
+-- what was found is true of the books as they were
+pub keep-requires-clause-found : goal.keep-requires-clause-found
+keep-requires-clause-found g c =
+    subst (λ (nb : Books). AreFindings nb.modules nb.roster nb.found.items) (sym c.in-Err.ensures.same)
+    c.requires.kept.found_are
+
+pub keep-requires-clause-unprepared : goal.keep-requires-clause-unprepared
+keep-requires-clause-unprepared g c =
+    subst (λ (nb : Books). IsUnprepared nb c.args.number c.in-Err.fault) (sym c.in-Err.ensures.same)
+    c.in-Err.ensures.fault
+
+-- it does not join
+pub returns-in-Err-clause-fault : goal.returns-in-Err-clause-fault
+returns-in-Err-clause-fault g c =
+    let k = g.N.TableName.key in
+    let keeping = c.args.keeper.now in
+    let mid = c.prepare.new.self in
+    let noted = c.keep.new.self in
+    let same = c.in-Err.ensures.same in
+    let kept : BooksAgree k mid keeping =
+    subst (λ (nb : Books). BooksAgree k nb keeping) (sym same) c.requires.kept in
+    let asks : MayAskFor (ledger_of mid keeping) c.args.who (Load c.args.number) =
+    subst (λ (nb : Books). MayAskFor (ledger_of nb keeping) c.args.who (Load c.args.number)) (sym same)
+    c.requires.asks in
+    let absent : IsAbsent mid c.args.number =
+    subst (λ (nb : Books). IsAbsent nb c.args.number) (sym same) c.requires.absent in
+    let refused = c.refuse.ensures.after k keeping
+    (found_kept k mid noted c.keep.ensures.same keeping kept c.keep.ensures.found)
+    (subst (λ (nb : Books). MayAskFor (ledger_of nb keeping) c.args.who (Load c.args.number))
+    (sym c.keep.ensures.same) asks)
+    (subst (λ (nb : Books). IsAbsent nb c.args.number) (sym c.keep.ensures.same)
+    (record { absent = absent.absent; room = absent.room })) in
+    subst (λ (nb : Books). Refuses k c.args.who c.args.number c.refuse.result nb c.refuse.new.books keeping keeping) same
+    (refuses_noted k mid noted c.keep.ensures.same c.args.who c.args.number c.refuse.result keeping keeping
+    c.refuse.new.books refused)
+
+-- the next image keeps the code
+pub update-requires : goal.update-requires
+update-requires g c =
+    let k = g.N.TableName.key in
+    let b = c.args.books.now in
+    let keeping = c.args.keeper.now in
+    let p = c.in-Ok.ensures in
+    let candidate = c.in-Ok.candidate in
+    let mark = c.load_mark-mark.result in
+    let follows = load_update k b keeping c.requires.kept c.args.number candidate.roster p.ok c.requires.absent
+    candidate.image p.image mark in
+    let force = sym (ap (λ (m : Books). m.policy) p.lent) in
+    record {
+      follows = subst (λ (i : Image). IsUpdate k.code_words (last_of keeping.entries)
+          (entry_by (c.prepare.new.self.policy + 1) i mark)) (sym c.image.ensures)
+          (subst (λ (n : ℕ). IsUpdate k.code_words (last_of keeping.entries) (entry_by (n + 1) candidate.image mark))
+          force follows);
+    }
+
+-- it is in force
+pub returns-in-Ok-update-clause-ok : goal.returns-in-Ok-update-clause-ok
+returns-in-Ok-update-clause-ok g c =
+    let k = g.N.TableName.key in
+    let b = c.args.books.now in
+    let keeping = c.args.keeper.now in
+    let kept = c.requires.kept in
+    let p = c.in-Ok.ensures in
+    let candidate = c.in-Ok.candidate in
+    let mid = c.prepare.new.self in
+    let epoch = c.in-Ok-update.epoch in
+    let u = c.in-Ok-update.ensures in
+    let left = epoch_left k b keeping kept (λ spent. not_spent epoch (u.spent spent)) in
+    let grown = u.new
+    ∙ ap (λ (i : Image). grown_by (entry_by (mid.policy + 1) i c.load_mark-mark.result) c.update.new.self.quiets keeping) c.image.ensures
+    ∙ ap (λ (n : ℕ). grown_by (entry_by (mid.policy + 1) candidate.image n) c.update.new.self.quiets keeping) c.load_mark-mark.ensures in
+    let one = sized 0 0 0 0 0 0 in
+    made_answers k b keeping kept c.args.who c.args.number c.requires.asks c.requires.absent mid c.commit.new.books
+    p.lent candidate.roster p.ok c.update.new.self candidate.image p.image epoch u.ok left c.commit.ensures.line
+    c.commit.ensures.same grown c.commit.result c.commit.ensures.again c.commit.ensures.epoch
+    c.commit.ensures.policy one
+    (c.commit.ensures.address one)
+
+-- the keeper has refused it: the books are as they were, but for the line
+pub keep_joining-requires-clause-found : goal.keep_joining-requires-clause-found
+keep_joining-requires-clause-found g c =
+    let k = g.N.TableName.key in
+    let p = c.in-Ok.ensures in
+    let back = turned_down k c.args.books.now c.args.keeper.now c.requires.kept c.args.who c.args.number c.requires.asks
+    c.requires.absent c.prepare.new.self c.turn_down-fault.new.books p.lent c.in-Ok.candidate.roster p.ok
+    c.update.new.self c.turn_down-fault.ensures.same in
+    subst (λ (nb : Books). AreFindings nb.modules nb.roster nb.found.items) (sym back) c.requires.kept.found_are
+
+pub keep_joining-requires-clause-joins : goal.keep_joining-requires-clause-joins
+keep_joining-requires-clause-joins g c =
+    let k = g.N.TableName.key in
+    let p = c.in-Ok.ensures in
+    let back = turned_down k c.args.books.now c.args.keeper.now c.requires.kept c.args.who c.args.number c.requires.asks
+    c.requires.absent c.prepare.new.self c.turn_down-fault.new.books p.lent c.in-Ok.candidate.roster p.ok
+    c.update.new.self c.turn_down-fault.ensures.same in
+    subst (λ (nb : Books). DoesJoin nb.modules nb.roster c.args.number) (sym back) (record {
+      unplaced = p.ok.unplaced;
+      is = p.ok.is;
+      placed = p.ok.joined.one;
+      joins = p.ok.joined.joins;
+    })
+
+pub returns-in-Err-update-clause-fault : goal.returns-in-Err-update-clause-fault
+returns-in-Err-update-clause-fault g c =
+    let k = g.N.TableName.key in
+    let b = c.args.books.now in
+    let keeping = c.args.keeper.now in
+    let p = c.in-Ok.ensures in
+    let candidate = c.in-Ok.candidate in
+    let fault = c.in-Err-update.fault in
+    let u = c.in-Err-update.ensures in
+    let down = c.turn_down-fault in
+    let is = subst (λ (n : ℕ). FaultIs k n keeping c.update.new.self fault) c.load_mark-mark.ensures u.fault in
+    let refused = subst (λ (f : LoadFault). Refuses k c.args.who c.args.number f b down.new.books keeping c.update.new.self)
+    (sym down.ensures.fault)
+    (unmade_refuses k b keeping c.requires.kept c.args.who c.args.number c.requires.asks c.requires.absent
+    c.prepare.new.self down.new.books p.lent candidate.roster p.ok c.update.new.self fault
+    (λ spent. right_fault fault (u.spent spent)) is down.ensures.line down.ensures.same) in
+    refuses_then k down.new.books c.keep_joining.new.self c.keep_joining.ensures.same c.args.who c.args.number down.result
+    keeping c.update.new.self b refused c.keep_joining.ensures.found

@@ -1,0 +1,7 @@
+use Rattle.cfi_loader.proofs.AddLemmas.{spent_refuses}
+use Rattle.cfi_loader.proofs.load.refuse_spent.Goals as goal
+
+pub returns-clause-after : goal.returns-clause-after
+returns-clause-after c = λ k keeping kept asks absent.
+    spent_refuses k c.args.books.now keeping kept c.args.who c.args.number asks absent c.tell.new.self c.requires.spent
+    c.tell.ensures.line c.tell.ensures.same
