@@ -29,7 +29,7 @@ use Rattle.rv_text.specs.Text.{text_of}
 -- ---- what is kept of a guest from before an event
 
 -- what so many registers hold, from x0 on
-abbrev pub first_registers : Raw → (count : ℕ) → List ℕ
+unfoldable pub first_registers : Raw → (count : ℕ) → List ℕ
 first_registers r zero = []
 first_registers r (suc count) = first_registers r count ++ reg r count ∷ []
 
@@ -76,18 +76,18 @@ abbrev pub change_text : (k before value : ℕ) → List ℕ
 change_text k before value =
     if before == value then [] else codes " x" ++ dec_text k ++ codes "=" ++ hex8_text value
 
-abbrev pub changes_text : Seen → Raw → (count : ℕ) → List ℕ
+unfoldable pub changes_text : Seen → Raw → (count : ℕ) → List ℕ
 changes_text old new zero = []
 changes_text old new (suc k) = changes_text old new k ++ change_text k (slice_index old.registers k) (reg new k)
 
-abbrev pub did_text : Seen → Raw → (next : ℕ) → List ℕ
+unfoldable pub did_text : Seen → Raw → (next : ℕ) → List ℕ
 did_text old new next =
     entry_text old new.base.log ++ arrow_text new.base.stop next new.base.pc ++ changes_text old new FREE_REGISTERS
 
 -- ---- lines
 
 -- what a table word has
-abbrev pub word_text : (word : ℕ) → List ℕ
+unfoldable pub word_text : (word : ℕ) → List ℕ
 word_text word =
     codes " epoch " ++ dec_text (epoch_in word) ++ codes " policy " ++ dec_text (policy_in word)
     ++ codes " class " ++ dec_text (class_in (id_in word))
@@ -96,18 +96,25 @@ word_text word =
 abbrev pub bary_text : (slot word : ℕ) → List ℕ
 bary_text slot word = codes "bary " ++ dec_text slot ++ word_text word
 
+unfoldable pub target_text : (at : ℕ) → List ℕ
+target_text at = codes "tary " ++ hex8_text at
+
 abbrev pub tary_text : (at word : ℕ) → List ℕ
-tary_text at word = codes "tary " ++ hex8_text at ++ word_text word
+tary_text at word = target_text at ++ word_text word
 
 -- something stands behind #, or nothing does
 abbrev pub behind : List ℕ → List ℕ
 behind [] = []
 behind (byte ∷ bytes) = codes " #" ++ byte ∷ bytes
 
-abbrev pub line_of : (guest : ℕ) → Seen → (address : ℕ) → (what did : List ℕ) → Option Stop → List ℕ
+-- the guest, the number of its unit, and the unit's address
+abbrev pub head_text : (guest number address : ℕ) → List ℕ
+head_text guest number address =
+    dec_text guest ++ codes " " ++ dec_text number ++ codes " " ++ hex8_text address ++ codes " "
+
+unfoldable pub line_of : (guest : ℕ) → Seen → (address : ℕ) → (what did : List ℕ) → Option Stop → List ℕ
 line_of guest old address what did stop =
-    dec_text guest ++ codes " " ++ dec_text (old.units + 1) ++ codes " " ++ hex8_text address ++ codes " " ++ what
-    ++ behind (did ++ stop_text stop) ++ codes "\n"
+    head_text guest (old.units + 1) address ++ what ++ behind (did ++ stop_text stop) ++ codes "\n"
 
 -- the instruction at an address of the code
 abbrev pub insn_at : Tables → (address : ℕ) → Option Insn
@@ -118,25 +125,25 @@ insn_text None = []
 insn_text (Some insn) = text_of insn
 
 -- the unit that an instruction at `pc` has ended, as the instruction for which it stands
-abbrev pub unit_text : Tables → (pc : ℕ) → Span → List ℕ
+unfoldable pub unit_text : Tables → (pc : ℕ) → Span → List ℕ
 unit_text t pc span = insn_text (plain_of (insn_at t (pc - span.before)) (insn_at t (after span.after pc)))
 
 -- ---- events
 
 -- the instruction at the guest's place has ended a unit
-abbrev pub ended_text : Tables → (guest : ℕ) → Seen → Raw → Span → List ℕ
+unfoldable pub ended_text : Tables → (guest : ℕ) → Seen → Raw → Span → List ℕ
 ended_text t guest old new span =
     line_of guest old (old.pc - span.before) (unit_text t old.pc span) (did_text old new (after 4 old.pc)) new.base.stop
 
 -- it has not, and the guest has not stopped, or has for want of fuel
-abbrev pub inside_text : Tables → (guest : ℕ) → Seen → Option Stop → List ℕ
+unfoldable pub inside_text : Tables → (guest : ℕ) → Seen → Option Stop → List ℕ
 inside_text t guest old None = []
 inside_text t guest old (Some stop) =
     line_of guest old old.pc (insn_text (insn_at t old.pc)) [] (Some stop)
 
 -- An instruction was fetched. Inside a unit only the branch that begins the next try leads back; it is the twelfth
 -- instruction of the check.
-abbrev pub fetched_text : Tables → (guest : ℕ) → Seen → Raw → List ℕ
+unfoldable pub fetched_text : Tables → (guest : ℕ) → Seen → Raw → List ℕ
 fetched_text t guest old new =
     if new.base.units == old.units
     then (if nat_lt new.base.pc old.pc
@@ -145,20 +152,26 @@ fetched_text t guest old new =
     else ended_text t guest old new (span_of (insn_at t old.pc))
 
 -- a service has ended, or has not
-abbrev pub service_text : (guest : ℕ) → Seen → Raw → List ℕ
+unfoldable pub service_text : (guest : ℕ) → Seen → Raw → List ℕ
 service_text guest old new =
     if new.base.units == old.units
     then []
     else line_of guest old (old.pc - 4) (codes "ecall") (did_text old new old.pc) new.base.stop
 
--- by what the guest waited for; the two loads of a check are its fifth and its eighth instruction, and the guest stands
--- behind them
+-- a word has come: the two loads of a check are its fifth and its eighth instruction, and the guest stands behind them
+unfoldable pub bary_line : Tables → (guest : ℕ) → Seen → (slot : ℕ) → Option Stop → List ℕ
+bary_line t guest old slot stop =
+    line_of guest old (old.pc - 20) (bary_text slot (word_at t (Bary slot))) [] stop
+
+unfoldable pub tary_line : Tables → (guest : ℕ) → Seen → (at : ℕ) → Option Stop → List ℕ
+tary_line t guest old at stop =
+    line_of guest old (old.pc - 32) (tary_text at (word_at t (Tary (tary_index t.code_words at)))) [] stop
+
+-- by what the guest waited for
 abbrev pub step_by : Option Wait → Tables → (guest : ℕ) → Seen → Raw → List ℕ
 step_by None t guest old new = fetched_text t guest old new
-step_by (Some (waits.Bary slot rd)) t guest old new =
-    line_of guest old (old.pc - 20) (bary_text slot (word_at t (Bary slot))) [] new.base.stop
-step_by (Some (waits.Tary at rd)) t guest old new =
-    line_of guest old (old.pc - 32) (tary_text at (word_at t (Tary (tary_index t.code_words at)))) [] new.base.stop
+step_by (Some (waits.Bary slot rd)) t guest old new = bary_line t guest old slot new.base.stop
+step_by (Some (waits.Tary at rd)) t guest old new = tary_line t guest old at new.base.stop
 step_by (Some (waits.Service number)) t guest old new = service_text guest old new
 
 -- an event of a guest, over these tables

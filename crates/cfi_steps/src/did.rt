@@ -121,6 +121,7 @@ fn put_changes(out: &mut Vec<u8>, old: &Seen, new: &Guest) -> Result<(), AllocEr
 }
 
 /// Appends what a unit has done: what it has logged, where the guest goes on, if that is not `next`, and registers.
+#[tactic(auto, unfolding(crate::specs::Step::did_text))]
 pub fn put_did(out: &mut Vec<u8>, old: &Seen, new: &Guest, next: u32) -> Result<(), AllocError>
     ensures { OnOk result (out.new.items ≡ out.old.items ++ did_text old.now new.now next) }
 {

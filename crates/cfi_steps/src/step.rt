@@ -3,7 +3,7 @@
 ghost use Rattle.std.specs.Prelude.{◌≡◌, ◌++◌, ◌+◌, ◌^◌, ◌<◌, [], IfSome, OnOk};
 ghost use Rattle.rv_insn.specs.Insn.{InRange};
 ghost use Rattle.cfi_steps.specs.Step.{behind, ended_text, fetched_text, insn_at, insn_text, inside_text, line_of};
-ghost use Rattle.cfi_steps.specs.Step.{service_text, step_text, unit_text};
+ghost use Rattle.cfi_steps.specs.Step.{bary_line, head_text, service_text, step_text, tary_line, unit_text};
 ghost use Rattle.std.specs.Prelude.{codes};
 
 use crate::did::{put_did, put_stop};
@@ -48,7 +48,21 @@ fn put_behind(out: &mut Vec<u8>, did: &[u8]) -> Result<(), AllocError>
     out.extend_from_slice(did)
 }
 
+// Appends the guest, the number of its unit, and the unit's address.
+fn put_head(out: &mut Vec<u8>, guest: u32, number: u64, address: u32) -> Result<(), AllocError>
+    ensures { OnOk result (out.new.items ≡ out.old.items ++ head_text guest number address) }
+{
+    put_dec(out, u64::from(guest))?;
+    out.push(b' ')?;
+    put_dec(out, number)?;
+    out.push(b' ')?;
+    put_hex8(out, address)?;
+    out.push(b' ')?;
+    Ok(())
+}
+
 // Appends a line.
+#[tactic(auto, unfolding(crate::specs::Step::line_of))]
 fn put_line(
     out: &mut Vec<u8>,
     guest: u32,
@@ -63,18 +77,15 @@ fn put_line(
 {
     let mut did = did;
     put_stop(&mut did, stop)?;
-    put_dec(out, u64::from(guest))?;
-    out.push(b' ')?;
-    put_dec(out, u64::from(old.units) + 1)?;
-    out.push(b' ')?;
-    put_hex8(out, address)?;
-    out.push(b' ')?;
+    put_head(out, guest, u64::from(old.units) + 1, address)?;
     out.extend_from_slice(what)?;
     put_behind(out, &did)?;
-    out.push(b'\n')
+    out.push(b'\n')?;
+    Ok(())
 }
 
 // Appends the line of a unit that has ended.
+#[tactic(auto, unfolding(crate::specs::Step::ended_text, crate::specs::Step::unit_text))]
 fn put_ended(
     out: &mut Vec<u8>,
     world: &World,
@@ -97,6 +108,7 @@ fn put_ended(
 }
 
 // Appends the line of an instruction that has stopped the guest inside a unit, or none.
+#[tactic(auto, unfolding(crate::specs::Step::inside_text))]
 fn put_inside(
     out: &mut Vec<u8>,
     world: &World,
@@ -117,6 +129,7 @@ fn put_inside(
 }
 
 // Appends the line of an instruction that was fetched.
+#[tactic(auto, unfolding(crate::specs::Step::fetched_text))]
 fn put_fetched(
     out: &mut Vec<u8>,
     world: &World,
@@ -140,6 +153,7 @@ fn put_fetched(
 }
 
 // Appends the line of a service that has ended.
+#[tactic(auto, unfolding(crate::specs::Step::service_text))]
 fn put_service(
     out: &mut Vec<u8>,
     guest: u32,
@@ -158,6 +172,46 @@ fn put_service(
     put_line(out, guest, old, address, b"ecall", did, new.stop())
 }
 
+// Appends the line of a slot's word that has come.
+#[tactic(auto, unfolding(crate::specs::Step::bary_line))]
+fn put_bary_line(
+    out: &mut Vec<u8>,
+    world: &World,
+    guest: u32,
+    old: &Seen,
+    slot: u32,
+    stop: Option<Stop>,
+) -> Result<(), AllocError>
+    ensures { OnOk result (out.new.items ≡ out.old.items
+        ++ bary_line world.now.tables guest old.now slot stop) }
+{
+    let mut what = Vec::new(*out.allocator());
+    put_bary(&mut what, slot, world.bary(slot))?;
+    let did = Vec::new(*out.allocator());
+    let address = old.pc.saturating_sub(20);
+    put_line(out, guest, old, address, &what, did, stop)
+}
+
+// Appends the line of a target's word that has come.
+#[tactic(auto, unfolding(crate::specs::Step::tary_line))]
+fn put_tary_line(
+    out: &mut Vec<u8>,
+    world: &World,
+    guest: u32,
+    old: &Seen,
+    at: u32,
+    stop: Option<Stop>,
+) -> Result<(), AllocError>
+    ensures { OnOk result (out.new.items ≡ out.old.items
+        ++ tary_line world.now.tables guest old.now at stop) }
+{
+    let mut what = Vec::new(*out.allocator());
+    put_tary(&mut what, at, world.tary(at))?;
+    let did = Vec::new(*out.allocator());
+    let address = old.pc.saturating_sub(32);
+    put_line(out, guest, old, address, &what, did, stop)
+}
+
 /// Appends what a trace tells of an event of a guest: a line, or nothing.
 ///
 /// `old` is the guest before the event, `new` after it, and `world` the world after it.
@@ -171,19 +225,12 @@ pub fn put_step(
     ensures { OnOk result (out.new.items ≡ out.old.items
         ++ step_text world.now.tables guest old.now new.now) }
 {
-    let mut what = Vec::new(*out.allocator());
-    let address = match old.waits {
-        None => return put_fetched(out, world, guest, old, new),
-        Some(Wait::Service(_)) => return put_service(out, guest, old, new),
+    match old.waits {
+        None => put_fetched(out, world, guest, old, new),
+        Some(Wait::Service(_)) => put_service(out, guest, old, new),
         Some(Wait::Bary { slot, .. }) => {
-            put_bary(&mut what, slot, world.bary(slot))?;
-            old.pc.saturating_sub(20)
+            put_bary_line(out, world, guest, old, slot, new.stop())
         }
-        Some(Wait::Tary { at, .. }) => {
-            put_tary(&mut what, at, world.tary(at))?;
-            old.pc.saturating_sub(32)
-        }
-    };
-    let did = Vec::new(*out.allocator());
-    put_line(out, guest, old, address, &what, did, new.stop())
+        Some(Wait::Tary { at, .. }) => put_tary_line(out, world, guest, old, at, new.stop()),
+    }
 }

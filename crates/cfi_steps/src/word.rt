@@ -1,13 +1,14 @@
 //! Table words as text.
 
 ghost use Rattle.std.specs.Prelude.{◌≡◌, ◌++◌, OnOk};
-ghost use Rattle.cfi_steps.specs.Step.{bary_text, tary_text, word_text};
+ghost use Rattle.cfi_steps.specs.Step.{bary_text, target_text, tary_text, word_text};
 
 use cfi_text::{put_dec, put_hex8};
 use cfi_word::{Word, class_of};
 use std::alloc::AllocError;
 
 // Appends what a table word has.
+#[tactic(auto, unfolding(crate::specs::Step::word_text))]
 fn put_word(out: &mut Vec<u8>, word: u64) -> Result<(), AllocError>
     ensures { OnOk result (out.new.items ≡ out.old.items ++ word_text word) }
 {
@@ -28,11 +29,19 @@ pub fn put_bary(out: &mut Vec<u8>, slot: u32, word: u64) -> Result<(), AllocErro
     put_word(out, word)
 }
 
+// Appends a target.
+#[tactic(auto, unfolding(crate::specs::Step::target_text))]
+fn put_target(out: &mut Vec<u8>, at: u32) -> Result<(), AllocError>
+    ensures { OnOk result (out.new.items ≡ out.old.items ++ target_text at) }
+{
+    out.extend_from_slice(b"tary ")?;
+    put_hex8(out, at)
+}
+
 /// Appends the word that was loaded for a target.
 pub fn put_tary(out: &mut Vec<u8>, at: u32, word: u64) -> Result<(), AllocError>
     ensures { OnOk result (out.new.items ≡ out.old.items ++ tary_text at word) }
 {
-    out.extend_from_slice(b"tary ")?;
-    put_hex8(out, at)?;
+    put_target(out, at)?;
     put_word(out, word)
 }
