@@ -188,7 +188,7 @@ module _ (x : Whole) (number : ℕ) (text : List ℕ) (read : Option Line)
   pub line_told : (line : Line) → read ≡ Some line → (y : Whole) (before mid after : List ℕ) (made : Bool) → made ≡ true
       → mid ≡ before ++ heading_text number (statement_of text) line → TellsLineBy line x mid y after made
       → HasTold (LineTells x.plan x.modules number text) x before y after
-  line_told line is y before mid after true yes head has = record {
+  line_told line is y before mid after true was head has = record {
     told = record {
       line = line;
       says = subst (λ o. IfSome o (Says x.plan (words_in (statement_of text)))) is some;
@@ -201,7 +201,7 @@ module _ (x : Whole) (number : ℕ) (text : List ℕ) (read : Option Line)
     under_way = has.under_way;
     within = has.within;
   }
-  line_told line is y before mid after false yes head has = absurd (cc)
+  line_told line is y before mid after false was head has = absurd (cc)
 
 -- or makes nothing
 pub no_line : (x y : Whole) (line : Line) (mid after : List ℕ) (made : Bool) → made ≡ false

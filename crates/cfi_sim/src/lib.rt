@@ -21,7 +21,7 @@ mod simulation;
 mod spot;
 mod standing;
 mod told;
-mod trace;
+mod tracing;
 mod writer;
 
 pub use aim::Aim;
@@ -31,5 +31,5 @@ pub use limits::{MAX_EVENTS, MAX_UPDATES, NOT_LOADED};
 pub use line::{Line, read_line};
 pub use report::SimReport;
 pub use simulation::simulate;
-pub use trace::trace;
+pub use tracing::trace;
 pub use writer::write_sim;
