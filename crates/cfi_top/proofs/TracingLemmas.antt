@@ -1,6 +1,6 @@
 -- What tracing a plan comes to.
 use Rattle.std.specs.Prelude.{◌≢◌}
-use Rattle.std.proofs.Common.{◌≡◌, ◌≤◌, ◌⊎◌, ◌∙◌, ℕ, List, [], ◌∷◌, ◌++◌, length, Ok, inl, inr, refl, sym, ap, subst}
+use Rattle.std.proofs.Common.{◌≡◌, ◌≤◌, ◌⊎◌, ◌∙◌, ℕ, List, [], ◌∷◌, ◌++◌, length, Ok, inl, inr, refl, sym, ap, subst, arith}
 use Rattle.cfi_aux.specs.declared.modules.Module.{Module}
 use Rattle.cfi_plan.specs.declared.fault.PlanFault.{PlanFault}
 use Rattle.cfi_plan.specs.declared.fault.PlanFault.TheVariants as plan_faults
@@ -130,6 +130,12 @@ module _ (plan schedule bytes : List ℕ) (shelf mid shelf' : ShelfView) (later 
   outcome_trace (answers.Unread unread) goes =
       inr (bytes ∷ [], read, stops_since shelf mid shelf' _ unread later goes)
 
+-- a list of one
+pub one_file : (files : List (List ℕ)) → length files ≡ 1 → (bytes : List ℕ) × (files ≡ bytes ∷ [])
+one_file [] count = absurd (omega (arith, count))
+one_file (bytes ∷ []) count = (bytes, refl)
+one_file (bytes ∷ other ∷ files) count = absurd (omega (arith, count))
+
 -- ---- words
 
 -- two names come to what their files do
@@ -139,9 +145,9 @@ pub names_trace : (words : List (List ℕ)) (plan schedule : List ℕ) (shelf sh
 names_trace words plan schedule shelf shelf' (answers.Print text) names is = (plan, schedule, names, is)
 names_trace words plan schedule shelf shelf' (answers.Refused name refusal) names is = (plan, schedule, names, is)
 names_trace words plan schedule shelf shelf' (answers.Unread unread) names is = (plan, schedule, names, is)
-names_trace words plan schedule shelf shelf' (answers.Ran it text) names is = absurd is.2.2.1
-names_trace words plan schedule shelf shelf' (answers.Save name file) names is = absurd is.2.2.1
-names_trace words plan schedule shelf shelf' answers.Usage names is = absurd is.2.2.1
+names_trace words plan schedule shelf shelf' (answers.Ran it text) names is = absurd is.3
+names_trace words plan schedule shelf shelf' (answers.Save name file) names is = absurd is.3
+names_trace words plan schedule shelf shelf' answers.Usage names is = absurd is.3
 
 -- ---- the end
 
