@@ -23,3 +23,4 @@ pub mod LinesOnce
 pub mod SimOnce
 pub mod journal
 pub mod guests
+mod TraceLemmas

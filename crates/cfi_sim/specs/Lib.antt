@@ -11,4 +11,5 @@ pub mod Stands
 pub mod Told
 pub mod Faults
 pub mod Once
+pub mod Trace
 pub mod inner

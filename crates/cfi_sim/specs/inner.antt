@@ -5,3 +5,4 @@ pub mod Following
 pub mod Opening
 pub mod Parts
 pub mod Forms
+pub mod Tracing

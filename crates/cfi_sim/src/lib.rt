@@ -21,6 +21,7 @@ mod simulation;
 mod spot;
 mod standing;
 mod told;
+mod tracing;
 mod writer;
 
 pub use aim::Aim;
@@ -30,4 +31,5 @@ pub use limits::{MAX_EVENTS, MAX_UPDATES, NOT_LOADED};
 pub use line::{Line, read_line};
 pub use report::SimReport;
 pub use simulation::simulate;
+pub use tracing::trace;
 pub use writer::write_sim;

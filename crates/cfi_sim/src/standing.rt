@@ -17,6 +17,7 @@ mod guests;
 mod lines;
 mod loads;
 mod report;
+mod telling;
 mod updates;
 
 /// Where a schedule has come to: the world, the journal and what it says, and what the update under way is for.

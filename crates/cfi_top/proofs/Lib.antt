@@ -14,3 +14,4 @@ pub mod ValidLemmas
 pub mod EdgeLemmas
 pub mod HeadlineLemmas
 pub mod PromiseLemmas
+mod TracingLemmas

@@ -5,6 +5,7 @@ pub mod Opening
 pub mod Running
 pub mod Simulating
 pub mod Outcome
+pub mod Tracing
 pub mod Top
 pub mod Ready
 pub mod Edges

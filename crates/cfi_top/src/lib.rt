@@ -17,8 +17,10 @@ mod plans;
 mod program;
 mod refused;
 mod running;
+mod tracing;
 mod work;
 
 pub use cfi_outside::{DONE, MEMORY, NO_FILE, READ_FAULT, REFUSED, USAGE, WRITE_FAULT};
 pub use program::{Ended, Served, serve, top};
+pub use tracing::traced;
 pub use work::Ready;

@@ -65,8 +65,8 @@ pub fn graph(
     }
 }
 
-// The refusal of a plan or a schedule of which there is no simulation.
-fn sim_refused(
+/// The refusal of a plan or a schedule of which there is no simulation.
+pub fn sim_refused(
     alloc: Global,
     plan: Text,
     schedule: Text,

@@ -42,8 +42,8 @@ fn tary_index(code_words: u32, at: u32) -> u32
     if index < code_words { index } else { 0 }
 }
 
-// The Tary word of an address.
-fn tary(tables: &Tables, at: u32) -> u64
+/// The Tary word of an address.
+pub fn tary(tables: &Tables, at: u32) -> u64
     ensures word { let t = tables.now.tables in
         result ≡ word_at t (Tary (tary_index t.code_words at)) }
     ensures rises { policy_in_force tables.now.tables ≤ policy_in result }

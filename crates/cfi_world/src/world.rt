@@ -19,6 +19,7 @@ use std::alloc::{AllocError, Global};
 use std::marker::Model;
 
 mod turns;
+mod words;
 
 /// The shared tables, and the guests that run over them.
 #[derive(Drop)]
