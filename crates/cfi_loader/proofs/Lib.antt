@@ -21,6 +21,7 @@ pub mod FitLemmas
 pub mod RefusalLemmas
 pub mod PlanLemmas
 pub mod AddLemmas
+pub mod JoiningLemmas
 pub mod EnterLemmas
 pub mod ReadLemmas
 pub mod HistoryLemmas

@@ -50,10 +50,7 @@ pub(crate) enum Known {
 }
 
 /// Nothing of so many modules.
-pub(crate) fn nothing_found(
-    alloc: Global,
-    count: usize,
-) -> Result<Vec<Option<Finding>>, AllocError>
+pub(crate) fn nothing_found(alloc: Global, count: usize) -> Result<Vec<Option<Finding>>, AllocError>
     ensures { IfOk result (λ found. found.items ≡ replicate count None) }
 {
     let mut found = Vec::new(alloc);
@@ -108,9 +105,7 @@ fn undefined(alloc: Global, symbols: &[Symbol], at: usize) -> Result<JoinFault, 
         Some(symbol) => String::from_str(alloc, symbol.name.as_str())?,
         None => String::new(alloc),
     };
-    Ok(JoinFault::Place(PlaceFault::Undefined(Name::from_string(
-        name,
-    ))))
+    Ok(JoinFault::Place(PlaceFault::Undefined(Name::from_string(name))))
 }
 
 /// The fault of an outcome, as it was found; None where the module joins.

@@ -11,7 +11,7 @@ use Rattle.cfi_loader.specs.Told.{MayAskFor}
 use Rattle.cfi_loader.specs.inner.Books.{BooksAgree, ledger_of}
 use Rattle.cfi_loader.specs.inner.Findings.{AreFindings, DoesJoin}
 use Rattle.cfi_loader.specs.inner.Loads.{IsAbsent, IsUnprepared, Refuses}
-use Rattle.cfi_loader.proofs.AddLemmas.{made_answers, turned_down, unmade_refuses}
+use Rattle.cfi_loader.proofs.JoiningLemmas.{made_answers, turned_down, unmade_refuses}
 use Rattle.cfi_loader.proofs.FindingLemmas.{found_kept, refuses_noted, refuses_then}
 use Rattle.cfi_loader.proofs.PrepareLemmas.{load_update}
 use Rattle.cfi_loader.proofs.UpdateLemmas.{epoch_left, not_spent, right_fault}
