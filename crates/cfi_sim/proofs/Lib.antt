@@ -24,3 +24,4 @@ pub mod SimOnce
 pub mod journal
 pub mod guests
 mod TraceLemmas
+mod TraceUnique

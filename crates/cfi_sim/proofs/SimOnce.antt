@@ -78,7 +78,7 @@ module _ (plan : Plan) (modules : List Module) (is : IsPlan plan) (sound : All I
       guests_same
       ∙ sym q.world
 
-  start_once : a ≡ b
+  pub start_once : a ≡ b
   start_once = λ i. record {
     world = world_same i;
     journal = (p.journal ∙ sym q.journal) i;

@@ -60,9 +60,11 @@ line_makes plan modules number text old new tells = record {
 pub lines_make : (plan : Plan) (modules : List Module) (texts : List (ℕ × List ℕ)) (old new : Tracing)
     → LinesTell plan modules texts old new → LinesMake plan modules texts old.stage new.stage
 lines_make plan modules [] old new same = ap (λ (t : Tracing). t.stage) same
-lines_make plan modules (text ∷ texts) old new tells =
-    (tells.0.stage, line_makes plan modules text.0 text.1 old tells.0 tells.1,
-    lines_make plan modules texts tells.0 new tells.2)
+lines_make plan modules (text ∷ texts) old new tells = (
+  tells.0.stage,
+  line_makes plan modules text.0 text.1 old tells.0 tells.1,
+  lines_make plan modules texts tells.0 new tells.2,
+)
 
 -- ---- events of guests
 

@@ -12,4 +12,5 @@ pub mod Told
 pub mod Faults
 pub mod Once
 pub mod Trace
+pub mod TraceOnce
 pub mod inner

@@ -21,6 +21,7 @@ mod simulation;
 mod spot;
 mod standing;
 mod told;
+pub mod trace_laws;
 mod tracing;
 mod writer;
 

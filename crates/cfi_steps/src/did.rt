@@ -43,11 +43,13 @@ fn put_log(out: &mut Vec<u8>, entry: Option<Log>) -> Result<(), AllocError>
             out.extend_from_slice(b" pick ")?;
             put_dec(out, u64::from(policy))
         }
-        Some(Log::Open {
-            module,
-            address,
-            policy,
-        }) => {
+        Some(
+            Log::Open {
+                module,
+                address,
+                policy,
+            },
+        ) => {
             out.extend_from_slice(b" open ")?;
             put_dec(out, u64::from(module))?;
             out.push(b' ')?;

@@ -52,12 +52,14 @@ pub fn plain_of(first: Option<Insn>, last: Option<Insn>) -> Option<Insn>
     ensures insn { result ≡ plain_of first last }
     ensures range { IfSome result InRange }
 {
-    let Some(Insn::OpImm {
-        op: ImmOp::Addi,
-        rd: 31,
-        rs1,
-        imm,
-    }) = first
+    let Some(
+        Insn::OpImm {
+            op: ImmOp::Addi,
+            rd: 31,
+            rs1,
+            imm,
+        },
+    ) = first
     else {
         return last;
     };

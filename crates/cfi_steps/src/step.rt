@@ -154,12 +154,7 @@ fn put_fetched(
 
 // Appends the line of a service that has ended.
 #[tactic(auto, unfolding(crate::specs::Step::service_text))]
-fn put_service(
-    out: &mut Vec<u8>,
-    guest: u32,
-    old: &Seen,
-    new: &Guest,
-) -> Result<(), AllocError>
+fn put_service(out: &mut Vec<u8>, guest: u32, old: &Seen, new: &Guest) -> Result<(), AllocError>
     ensures { OnOk result
         (out.new.items ≡ out.old.items ++ service_text guest old.now new.now) }
 {
@@ -228,9 +223,7 @@ pub fn put_step(
     match old.waits {
         None => put_fetched(out, world, guest, old, new),
         Some(Wait::Service(_)) => put_service(out, guest, old, new),
-        Some(Wait::Bary { slot, .. }) => {
-            put_bary_line(out, world, guest, old, slot, new.stop())
-        }
+        Some(Wait::Bary { slot, .. }) => { put_bary_line(out, world, guest, old, slot, new.stop()) }
         Some(Wait::Tary { at, .. }) => put_tary_line(out, world, guest, old, at, new.stop()),
     }
 }
