@@ -186,8 +186,7 @@ module _ (w : World) (is : IsWorld w) where
           past = refl;
           within = at;
           here = word_is v place has ∙ store_new t is.tables place here;
-          others = λ other inside apart.
-              words_apart other inside apart;
+          others = words_apart;
         };
       }
     where
