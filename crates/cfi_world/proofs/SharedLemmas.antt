@@ -33,7 +33,7 @@ use Rattle.cfi_world.specs.declared.event.Event.{Event}
 use Rattle.cfi_world.specs.declared.event.Event.TheVariants as events
 use Rattle.cfi_world.specs.declared.event.Turned.TheVariants.{EpochsSpent}
 use Rattle.cfi_world.proofs.ChoiceLemmas.{both_hold, neither, not_some, set_again}
-use Rattle.cfi_world.proofs.SkipLemmas.{begins_stay, rank_most, same_rank, store_makes, store_stays, word_new, word_old}
+use Rattle.cfi_world.proofs.SkipLemmas.{begins_stay, rank_most, same_rank, store_new, store_stays, word_new, word_old}
 use Rattle.cfi_world.proofs.StoringLemmas.{idle_is}
 use Rattle.cfi_world.proofs.SharedWords.{quiet_set, same_by, some_word, word_is, words_by}
 
@@ -185,9 +185,8 @@ module _ (w : World) (is : IsWorld w) where
         set = record {
           past = refl;
           within = at;
-          here = word_is v place has ∙ store_makes t is.tables place here;
-          others = λ other inside apart.
-              words_apart other inside apart;
+          here = word_is v place has ∙ store_new t is.tables place here;
+          others = words_apart;
         };
       }
     where

@@ -94,9 +94,9 @@ module _ (t : Tables) (is : IsTables t) where
     ]
   ]
 
-  pub store_makes : (place : Place) → rank_at c place ≡ t.stored
+  pub store_new : (place : Place) → rank_at c place ≡ t.stored
       → word_at (stored t) place ≡ word_of_entry t (newest t) place
-  store_makes place here = word_new (stored t) place (omega (arith, here))
+  store_new place here = word_new (stored t) place (omega (arith, here))
 
 -- one entry more, of which nothing is stored yet, changes no word
 module _ (t : Tables) (is : IsTables t) (entry : Entry) (asked : IsAsked t entry) where
