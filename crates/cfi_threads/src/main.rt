@@ -3,10 +3,12 @@
 //! Stands on `cfi_engine`, `cfi_commands`, `cfi_runner` and `cfi_tables`; nothing stands on it. They are a program, so that
 //! they are proved once and run as both compilers build them; `stdout` has what it must print, and `data/` the plans that
 //! are run, their sources and their reports. Proved: that each keeps what the calls take for granted. Tested: two guests
-//! load and fetch beside 100 updates, a guest fetches beside an update that adds code, and one without quiescent points
-//! hinders an update; guests run beside refreshes, one of them repeats a try, and each pause comes; two guests of a plan
-//! are in their services at once, its script goes on beside a guest, the script and a guest load one module in both
-//! orders, and a guest runs to its end while the loader's lock is held. Open: nothing.
+//! load and fetch beside 100 updates, and find several epochs; beside quiescent points of two guests, under three versions,
+//! some updates are admitted and some are not; a guest loads while others come, are told of updates, and go; a guest
+//! fetches beside an update that adds code, and one without quiescent points hinders an update; guests run beside
+//! refreshes, one of them repeats a try, and each pause comes; two guests of a plan are in their services at once, its
+//! script goes on beside a guest, the script and a guest load one module in both orders, and a guest runs to its end while
+//! the loader's lock is held. Open: nothing.
 #![tactic(auto)]
 
 mod files;
@@ -16,6 +18,7 @@ mod marks;
 mod plans;
 mod refreshes;
 mod runs;
+mod seats;
 mod tables;
 
 use crate::plans::Texts;
@@ -46,6 +49,16 @@ fn main(rt: HostRuntime) -> io::Result<()> {
         &rt,
         "two guests beside refreshes",
         tables::two_guests_beside_refreshes(&rt, rt.alloc())?,
+    )?;
+    tell(
+        &rt,
+        "two guests beside hindered updates",
+        seats::two_guests_beside_hindered_updates(&rt, rt.alloc())?,
+    )?;
+    tell(
+        &rt,
+        "a guest beside others that go",
+        seats::a_guest_beside_others_that_go(&rt, rt.alloc())?,
     )?;
     tell(
         &rt,

@@ -2,8 +2,8 @@
 
 use std::sync::atomic::{AtomicU32, Ordering};
 
-// How often a thread looks for a mark before it gives up.
-const TURNS: u32 = 100_000_000;
+/// How often a thread looks for what it waits for before it gives up.
+pub const TURNS: u32 = 100_000_000;
 
 /// A mark that some thread puts, and others wait for.
 #[derive(Drop)]

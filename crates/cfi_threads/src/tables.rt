@@ -6,7 +6,8 @@ ghost use Rattle.cfi_model.specs.Tables.{IsLoad, KeepsCode};
 ghost use Rattle.cfi_tables.specs.Keeping.{entry_by, last_of};
 ghost use Rattle.cfi_threads.specs.Like.{IsLike};
 
-use crate::refreshes::{refresh, refresh_once};
+use crate::marks::{Mark, TURNS};
+use crate::refreshes::{refresh_around, refresh_once};
 use cfi_tables::{Blank, Keeper, Pass, Seen, TableName, Tables, UpdateFault};
 use cfi_values::Numbers;
 use cfi_word::map::{BARY, TARY};
@@ -15,9 +16,9 @@ use std::alloc::{AllocError, Global};
 use std::marker::Brand;
 use std::thread::{Threads, join};
 
-// The image of the instruction `j .`, whose word is 0x0000006f, and of this word behind it, which is another or 0: no
-// address has a class, and no slot has a target.
-fn jump_image(alloc: Global, layout: &Layout, next: u32) -> Result<Image, AllocError>
+/// The image of the instruction `j .`, whose word is 0x0000006f, and of this word behind it, which is another or 0: no
+/// address has a class, and no slot has a target.
+pub fn jump_image(alloc: Global, layout: &Layout, next: u32) -> Result<Image, AllocError>
     requires next { (next ≡ 0) ⊎ (next ≡ 111) }
     ensures closed { IfOk result (IsClosed layout.now) }
     ensures code { IfOk result (λ image.
@@ -38,34 +39,56 @@ fn jump_image(alloc: Global, layout: &Layout, next: u32) -> Result<Image, AllocE
     })
 }
 
-// A guest that loads, and whether each of its tries has found the ID of a class of some epoch, with epochs in order.
+/// A guest, and whether all that it has found was as it must be.
 #[derive(Drop)]
-struct Reader<N: TableName> {
-    pass: Pass<N>,
-    sound: bool,
+pub struct Reader<N: TableName> {
+    pub pass: Pass<N>,
+    pub sound: bool,
 }
 
-// Makes so many tries, under 16,384 versions.
-fn load<N: TableName>(tables: &Tables<N>, mut reader: Reader<N>, turns: u32) -> Reader<N> {
+// One try under 16,384 versions: the epoch of its words, where they are the IDs of no class and no target, of epochs in
+// order and not before this one.
+fn try_once<N: TableName>(tables: &Tables<N>, pass: &mut Pass<N>, latest: u32) -> Option<u32> {
+    let bary = tables.load(pass, BARY);
+    let tary = tables.load(pass, TARY + 64);
+    let instruction = tables.fetch(pass, 16);
+    let (slot_epoch, epoch) = (Word::epoch_of(bary), Word::epoch_of(tary));
+    let is_sound = instruction == 0x6f
+        && Word::id_of(bary) == id(FIELD_MAX, slot_epoch % 16384)
+        && Word::id_of(tary) == id(0, epoch % 16384)
+        && latest <= epoch
+        && slot_epoch <= epoch;
+    if is_sound { Some(epoch) } else { None }
+}
+
+/// Makes tries until one finds the last epoch, and puts its mark where one finds an epoch behind the first. It is sound
+/// that each is, and that one finds the last.
+pub fn load<N: TableName>(
+    tables: &Tables<N>,
+    mut reader: Reader<N>,
+    last: u32,
+    seen: &Mark,
+) -> Reader<N> {
+    reader.sound = false;
     let mut latest = 0;
-    for _ in 0..turns {
-        let bary = tables.load(&mut reader.pass, BARY);
-        let tary = tables.load(&mut reader.pass, TARY + 64);
-        let instruction = tables.fetch(&mut reader.pass, 16);
-        let version = Word::epoch_of(tary) % 16384;
-        reader.sound = reader.sound
-            && instruction == 0x6f
-            && Word::id_of(bary) == id(FIELD_MAX, Word::epoch_of(bary) % 16384)
-            && Word::id_of(tary) == id(0, version)
-            && latest <= Word::epoch_of(tary)
-            && Word::epoch_of(bary) <= Word::epoch_of(tary);
-        latest = Word::epoch_of(tary);
+    for _ in 0..TURNS {
+        let Some(epoch) = try_once(tables, &mut reader.pass, latest) else {
+            break;
+        };
+        latest = epoch;
+        if latest > 0 {
+            seen.put();
+        }
+        if latest == last {
+            reader.sound = true;
+            break;
+        }
     }
     reader
 }
 
-// Two guests load while the keeper refreshes. How many refreshes were made, whether all was sound for both guests, and
-// how many passes go out in all.
+// Two guests load beside 100 refreshes, half of which are made once each guest has found one. How many were
+// made, whether all was sound for both guests, and how many passes go out in all.
 fn beside<N: TableName + Send + Sync, R: Threads + Sync>(
     rt: &R,
     blank: Blank,
@@ -90,16 +113,18 @@ fn beside<N: TableName + Send + Sync, R: Threads + Sync>(
         pass: second,
         sound: true,
     };
+    let seen_by_one = Mark::new();
+    let seen_by_two = Mark::new();
     let ((mut keeper, made), (one, two)) = join(
         rt,
         || -> (Keeper<N>, u32)
             requires { IsLike image keeper.entries }
-        { refresh(&tables, keeper, &image, 100) },
+        { refresh_around(&tables, keeper, &image, 50, (&seen_by_one, &seen_by_two)) },
         || -> (Reader<N>, Reader<N>) {
             join(
                 rt,
-                || -> Reader<N> { load(&tables, one, 100_000) },
-                || -> Reader<N> { load(&tables, two, 100_000) },
+                || -> Reader<N> { load(&tables, one, 100, &seen_by_one) },
+                || -> Reader<N> { load(&tables, two, 100, &seen_by_two) },
             )
         },
     );
@@ -189,7 +214,7 @@ fn hindered<N: TableName>(
     Some(([first, second, third], seen, again.guest()))
 }
 
-/// Two guests load beside 100 refreshes, and each try finds IDs of one epoch each, in order.
+/// Two guests load beside 100 refreshes, and find several epochs: each try finds IDs of one epoch each, in order.
 pub fn two_guests_beside_refreshes<R: Threads + Sync>(
     rt: &R,
     alloc: Global,
