@@ -1,11 +1,12 @@
 //! Simulations: what a schedule makes of a plan and its modules, line by line.
 //!
-//! Stands on `cfi_world`, which makes the events, `cfi_series`, which places and verifies modules, `cfi_plan`,
-//! `cfi_report` and `cfi_text`, for what a valid simulation is on `cfi_valid`, and for the parts of guests on `cfi_part`,
-//! with what these stand on. Proved: what a schedule makes is a valid simulation, and where there is none, the fault is
-//! the first: of opening the plan, or the first line that leads nowhere; a line of a schedule is read exactly, with the
-//! guests and modules that it names; a simulation is one, and is written as its one text; a schedule goes event by event,
-//! and its journal is legal. Only tested: nothing. Open: that memory suffices.
+//! Stands on `cfi_world`, which makes the events, `cfi_steps`, which tells them, `cfi_series`, which places and
+//! verifies modules, `cfi_plan`, `cfi_report` and `cfi_text`, for what a valid simulation is on `cfi_valid`, and for
+//! the parts of guests on `cfi_part`, with what these stand on. Proved: what a schedule makes is a valid simulation,
+//! and where there is none, the fault is the first: of opening the plan, or the first line that leads nowhere; a line
+//! of a schedule is read exactly, with the guests and modules that it names; a simulation is one, and is written as its
+//! one text; a schedule goes event by event, and its journal is legal; a trace is one, and tells each event of a guest
+//! as it is made. Only tested: nothing. Open: that memory suffices.
 #![tactic(auto)]
 
 mod aim;

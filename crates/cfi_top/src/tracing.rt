@@ -18,9 +18,7 @@ use crate::refused::{module_refused, plan_refused};
 use cfi_args::split_words;
 use cfi_commands::read_modules;
 use cfi_io::{Shelf, Sink};
-use cfi_outside::{
-    Command, MEMORY, Output, USAGE, deliver, line_of, only, read_files, text_of,
-};
+use cfi_outside::{Command, MEMORY, Output, USAGE, deliver, line_of, only, read_files, text_of};
 use cfi_plan::{Plan, read_plan};
 use cfi_sim::trace;
 use cfi_values::{Bytes, Items, Text};
@@ -133,11 +131,7 @@ fn trace_files<F: Shelf>(
 }
 
 // The names that words are.
-fn pair_of(
-    alloc: Global,
-    plan: &str,
-    operands: &[&str],
-) -> Result<Option<(Text, Text)>, AllocError>
+fn pair_of(alloc: Global, plan: &str, operands: &[&str]) -> Result<Option<(Text, Text)>, AllocError>
     requires { All IsOperand (plan.now ∷ map (λ word. word.now) operands.now) }
     ensures { IfOk result (IsPair (plan.now ∷ map (λ word. word.now) operands.now)) }
 {
@@ -213,12 +207,7 @@ fn told<F: Shelf, S: Sink>(alloc: Global, answer: Answer, shelf: &mut F, sink: &
 /// unit, table word and try of a guest's events. What `sim` refuses is refused in the same words, with the same
 /// statuses: 0 where the trace was written whole, 1 where there are not two names, 2 where the shelf failed, 3 where a
 /// file is not there or too long, 4 where the sink failed, 5 where a file was refused, 6 where no memory was left.
-pub fn traced<F: Shelf, S: Sink>(
-    alloc: Global,
-    words: &[String],
-    shelf: &mut F,
-    sink: &mut S,
-) -> u8
+pub fn traced<F: Shelf, S: Sink>(alloc: Global, words: &[String], shelf: &mut F, sink: &mut S) -> u8
     ensures ends { TraceEnds (texts words.now)
         (F.seen shelf.old)
         (F.seen shelf.new)
