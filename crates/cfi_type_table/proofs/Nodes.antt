@@ -2,7 +2,7 @@
 use Rattle.std.proofs.Common.{◌≡◌, ℕ, zero, suc, ◌+◌, ◌-◌, ◌<◌, ◌≤◌, true, leb, List, [], ◌∷◌, ◌++◌, length, Result, Ok, refl, sym, ap, subst, ◌∙◌, add-one, arith}
 use Rattle.std.specs.List.{flat_map, AllByRecursion}
 use Rattle.std.proofs.lemmas.List.Concat.{flat_map-cons}
-use Rattle.cfi_type_table.specs.declared.kind.TheConstants.{FUNC}
+use Rattle.cfi_type_table.specs.declared.kind.TheConstants.{VARFUNC}
 use Rattle.cfi_type_table.specs.declared.fault.TypeFault.{TypeFault}
 use Rattle.cfi_type_table.specs.declared.fault.TypeFault.TheVariants.{BadNode}
 use Rattle.cfi_type_table.specs.Node.{Node, make_node}
@@ -54,10 +54,10 @@ pub node_takes : (k : ℕ) (bytes : List ℕ) (x : Node × List ℕ) → IsBytes
 unfolding node_at
 node_takes k bytes x fits e =
     let a = then_ok (next_word bytes)
-    (λ kind. unless_bad (leb kind.0 FUNC) (BadNode k)
+    (λ kind. unless_bad (leb kind.0 VARFUNC) (BadNode k)
     (next_word kind.1 >>= λ count. unless_bad (has_arity kind.0 count.0) (BadNode k)
     (fields_at k kind.0 0 count.0 count.1 >>= λ fields. Ok (make_node kind.0 fields.0, fields.1)))) x e in
-    let g = unless_bad_ok (leb a.0.0 FUNC) (BadNode k)
+    let g = unless_bad_ok (leb a.0.0 VARFUNC) (BadNode k)
     (next_word a.0.1 >>= λ count. unless_bad (has_arity a.0.0 count.0) (BadNode k)
     (fields_at k a.0.0 0 count.0 count.1 >>= λ fields. Ok (make_node a.0.0 fields.0, fields.1))) x a.2 in
     let b = then_ok (next_word a.0.1)

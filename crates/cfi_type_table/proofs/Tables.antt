@@ -7,7 +7,7 @@ use Rattle.std.proofs.lemmas.Bool.Decides.{nat_tests}
 use Rattle.std.proofs.lemmas.List.{append-nil, nil_from_length, drop_more, drop_all}
 use Rattle.std.proofs.lemmas.List.Concat.{flat_map-cons}
 use Rattle.std.proofs.lemmas.List.Elements.{All-from_recursion, recursion_from_All}
-use Rattle.cfi_type_table.specs.declared.kind.TheConstants.{FUNC}
+use Rattle.cfi_type_table.specs.declared.kind.TheConstants.{VARFUNC}
 use Rattle.cfi_word.specs.declared.limits.TheConstants.{MAX_FIELDS, MAX_NODES}
 use Rattle.cfi_type_table.specs.declared.fault.TypeFault.{TypeFault}
 use Rattle.cfi_type_table.specs.declared.fault.TypeFault.TheVariants.{BadNode, Short}
@@ -90,7 +90,7 @@ stray_free count k (x ∷ xs) h =
 -- ---- nodes
 
 -- a kind is known, and a number of fields small, where they fit
-arity_bounds : (kind n : ℕ) → has_arity kind n ≡ true → (kind ≤ FUNC) × (n ≤ MAX_FIELDS)
+arity_bounds : (kind n : ℕ) → has_arity kind n ≡ true → (kind ≤ VARFUNC) × (n ≤ MAX_FIELDS)
 arity_bounds kind n h = (grind (arith, nat_tests), grind (arith, nat_tests))
 
 node_again : (k : ℕ) (x : Node) (rest : List ℕ) → IsNode x → node_at k (node_bytes x ++ rest) ≡ Ok (x, rest)
@@ -98,7 +98,7 @@ unfolding node_at
 node_again k x rest node =
     let good : has_arity x.kind (length x.fields) ≡ true = node.arity in
     let bounds = arity_bounds x.kind (length x.fields) good in
-    let known : leb x.kind FUNC ≡ true = le-leb x.kind FUNC bounds.0 in
+    let known : leb x.kind VARFUNC ≡ true = le-leb x.kind VARFUNC bounds.0 in
     let regrouped : node_bytes x ++ rest ≡ word x.kind ++ (word (length x.fields) ++ (flat_map word x.fields ++ rest)) =
     append_assoc (word x.kind) (word (length x.fields) ++ flat_map word x.fields) rest
     ∙ ap (λ (t : List ℕ). word x.kind ++ t) (append_assoc (word (length x.fields)) (flat_map word x.fields) rest) in

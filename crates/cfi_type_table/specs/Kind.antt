@@ -1,6 +1,6 @@
 -- The kinds of type nodes, and which fields a node of each kind has.
 use Rattle.std.specs.Prelude.{ℕ, Bool, true, false, ◌==◌, ◌||◌, ◌&&◌, nat_le, if◌then◌else◌, List, take, drop}
-use Rattle.cfi_type_table.specs.declared.kind.TheConstants.{VOID, INT, REAL, PTR, ARRAY, STRUCT, UNION, FUNC}
+use Rattle.cfi_type_table.specs.declared.kind.TheConstants.{VOID, INT, REAL, PTR, ARRAY, STRUCT, UNION, FUNC, VARFUNC}
 use Rattle.cfi_word.specs.declared.limits.TheConstants.{MAX_FIELDS}
 use Rattle.cfi_type_table.specs.Node.{Node}
 
@@ -29,7 +29,8 @@ has_arity kind n =
     (if kind == ARRAY then n == 2 else
     (if kind == STRUCT then nat_le n MAX_FIELDS else
     (if kind == UNION then nat_le n MAX_FIELDS else
-    (if kind == FUNC then nat_le 1 n && nat_le n MAX_FIELDS else false)))))))
+    (if kind == FUNC then nat_le 1 n && nat_le n MAX_FIELDS else
+    (if kind == VARFUNC then nat_le 1 n && nat_le n MAX_FIELDS else false))))))))
 
 -- whether a word may be the field of this place: an integer has 8, 16, 32 or 64 bits, and is signed (1) or not (0)
 abbrev pub field_fits : (kind place word : ℕ) → Bool

@@ -2,7 +2,7 @@
 use Rattle.std.specs.Prelude.{◌≡◌, ℕ, zero, suc, List, [], ◌∷◌, length, take, drop, Option, Some, None, Result, Ok, Err, nat_lt, nat_le, ◌==◌, if◌then◌else◌}
 use Rattle.std.specs.List.{list_all}
 use Rattle.std.specs.Int.{w32, from_le_bytes}
-use Rattle.cfi_type_table.specs.declared.kind.TheConstants.{FUNC}
+use Rattle.cfi_type_table.specs.declared.kind.TheConstants.{VARFUNC}
 use Rattle.cfi_word.specs.declared.limits.TheConstants.{MAX_NODES}
 use Rattle.cfi_type_table.specs.declared.fault.TypeFault.{TypeFault}
 use Rattle.cfi_type_table.specs.declared.fault.TypeFault.TheVariants.{BadNode, BadIndex, Short, Memory}
@@ -38,7 +38,7 @@ fields_at k kind place (suc count) bytes =
 -- node number k: its kind, the number of its fields, and its fields
 unfoldable pub node_at : (k : ℕ) → List ℕ → Result (Node × List ℕ) TypeFault
 node_at k bytes =
-    next_word bytes >>= λ kind. unless_bad (nat_le kind.0 FUNC) (BadNode k)
+    next_word bytes >>= λ kind. unless_bad (nat_le kind.0 VARFUNC) (BadNode k)
     (next_word kind.1 >>= λ count. unless_bad (has_arity kind.0 count.0) (BadNode k)
     (fields_at k kind.0 0 count.0 count.1 >>= λ fields. Ok (make_node kind.0 fields.0, fields.1)))
 

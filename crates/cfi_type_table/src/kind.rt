@@ -21,6 +21,8 @@ pub const STRUCT: u32 = 5;
 pub const UNION: u32 = 6;
 /// The kind of a function: the node of its result, then those of its parameters.
 pub const FUNC: u32 = 7;
+/// The kind of a function with variable arguments: the node of its result, then those of its fixed parameters.
+pub const VARFUNC: u32 = 8;
 
 // How many of a node's first fields are plain numbers.
 pub(crate) fn count_numbers(kind: u32) -> usize
@@ -42,7 +44,7 @@ pub(crate) fn may_have(kind: u32, count: u32) -> bool
         INT | ARRAY => count == 2,
         REAL | PTR => count == 1,
         STRUCT | UNION => count <= MAX_FIELDS,
-        FUNC => 1 <= count && count <= MAX_FIELDS,
+        FUNC | VARFUNC => 1 <= count && count <= MAX_FIELDS,
         _ => false,
     }
 }

@@ -9,7 +9,7 @@ ghost use Rattle.cfi_type_table.specs.Spelling.{AreTypes, spelling};
 ghost use Rattle.cfi_type_table.specs.Reading.{ReadingGives, next_word, fields_at, node_at, nodes_at, stray_from, types_in};
 
 use crate::fault::TypeFault;
-use crate::kind::{FUNC, may_be_field, may_have};
+use crate::kind::{VARFUNC, may_be_field, may_have};
 use crate::node::TypeNode;
 use crate::table::TypeTable;
 use cfi_word::limits::MAX_NODES;
@@ -66,7 +66,7 @@ fn node_from(alloc: Global, number: u32, bytes: &[u8]) -> Result<(TypeNode, &[u8
     ensures { ReadingGives (λ x. (x.0, x.1.now)) result (node_at number bytes.now) }
 {
     let (kind, rest) = word_from(bytes)?;
-    if kind > FUNC {
+    if kind > VARFUNC {
         return Err(TypeFault::BadNode(number));
     }
     let (count, rest) = word_from(rest)?;

@@ -24,7 +24,7 @@ mod still;
 
 pub use book::TypeBook;
 pub use cfi_type_table::{
-    ARRAY, FUNC, INT, PTR, REAL, STRUCT, TypeFault, TypeNode, TypeTable, UNION, VOID,
+    ARRAY, FUNC, INT, PTR, REAL, STRUCT, TypeFault, TypeNode, TypeTable, UNION, VARFUNC, VOID,
     read_can_be_written, read_types, split_word, write_types, written_is_read,
 };
 pub use classes::Classes;
