@@ -2,6 +2,7 @@
 
 pub mod checks;
 pub mod instructions;
+pub mod pages;
 pub mod services;
 
 use rv_guest::{Act, Guest};

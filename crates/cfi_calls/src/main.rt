@@ -68,6 +68,7 @@ fn tell_guests(rt: &HostRuntime, alloc: Global) -> io::Result<()> {
     tell(rt, "a guest's check past the code halts", past)?;
     tell(rt, "a guest's jumps", guests::instructions::jumps(alloc)?)?;
     tell(rt, "a guest's counts", guests::instructions::counts(alloc)?)?;
+    tell(rt, "a guest's pages", guests::pages::are_made(alloc)?)?;
     tell(rt, "a guest's open", guests::services::open(alloc)?)
 }
 

@@ -6,7 +6,8 @@ use Rattle.rv_insn.specs.declared.insn.LoadKind.{LoadKind}
 use Rattle.rv_insn.specs.declared.insn.StoreKind.{StoreKind}
 use Rattle.cfi_unit.specs.declared.unit.Unit.TheVariants as units
 use Rattle.cfi_word.specs.declared.map.TheConstants.{DATA_START}
-use Rattle.cfi_model.specs.Data.{load_width, store_width, is_aligned, loaded, stored}
+use Rattle.cfi_model.specs.Data.{load_width, store_width, is_aligned, loaded}
+use Rattle.cfi_model.specs.Pages.{Memory, memory_stored}
 use Rattle.cfi_model.specs.State.{State, register, regs_with}
 use Rattle.cfi_model.specs.Raw.{Raw, reg}
 use Rattle.cfi_model.specs.Service.{Reply}
@@ -27,7 +28,7 @@ before p retries x28 x29 x30 offset =
     inner p p.units (p.pc + 4 * 5) (p.steps + 9 * retries + 5) x28 x29 x30 (0x40000000 + offset) None None None
 
 -- it has ended, or stopped the guest
-access_ends : (p : State) (retries x28 x29 x30 offset : ℕ) (regs memory : List ℕ) (fits : Bool)
+access_ends : (p : State) (retries x28 x29 x30 offset : ℕ) (regs : List ℕ) (memory : Memory) (fits : Bool)
     → p.pc + 24 < 2 ^ 32 → p.stop ≡ None
     → IsBetween retries (accessed fits offset regs memory p)
     (cond fits
@@ -55,7 +56,7 @@ load_ends p retries x28 x29 x30 kind rd rs1 imm pick allows reply free small goi
     let o : ℕ = masked_at rs1 imm p in
     let r : Raw = before p retries x28 x29 x30 o in
     let low : o < 2 ^ 20 = omega arith in
-    let value : ℕ = loaded kind p.memory o in
+    let value : ℕ = loaded kind p.memory.bytes o in
     let fits : Bool = is_aligned (load_width kind) o in
     let place = ap (λ a. load_at a kind rd (units_of (is_reserved rd || true)) r) (area_private o low) in
     let written = with_reg-free p p.units (p.pc + 4 * 5) (p.steps + 9 * retries + 5) x28 x29 x30 (0x40000000 + o)
@@ -77,6 +78,6 @@ store_ends p retries x28 x29 x30 kind rs1 rs2 imm pick allows reply free small g
     None None None rs2 free in
     let place = ap (λ a. store_at a kind (reg r rs2) r) (area_private o low) in
     let ends = ap (λ v. store_private kind o v r) value in
-    let memory : List ℕ = stored kind p.memory o (register p rs2) in
+    let memory : Memory = memory_stored kind p.memory o (register p rs2) in
     subst (IsBetween retries (accessed fits o p.regs memory p)) (sym (place ∙ ends))
     (access_ends p retries x28 x29 x30 o p.regs memory fits small going)

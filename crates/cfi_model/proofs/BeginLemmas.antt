@@ -11,7 +11,8 @@ use Rattle.cfi_unit.specs.declared.log.Stop.TheVariants as stops
 use Rattle.cfi_word.specs.declared.map.TheConstants.{DATA_START}
 use Rattle.cfi_model.specs.declared.act.Wait.TheVariants as waits
 use Rattle.cfi_model.specs.Begin.{Area, Private, TaryId, BaryId, Nothing, ran, next, stopped, waiting, judged, jalr_target, units_of, begin_as, begin_by, load_at, store_at, reads_table, area_of, picked_by}
-use Rattle.cfi_model.specs.Data.{is_aligned, load_width, store_width, loaded, stored}
+use Rattle.cfi_model.specs.Data.{is_aligned, load_width, store_width, loaded}
+use Rattle.cfi_model.specs.Pages.{memory_stored}
 use Rattle.cfi_model.specs.Raw.{Raw, with_reg, access_address}
 
 -- no check ends: the kept words and the log stay
@@ -42,7 +43,7 @@ module _ (r : Raw) where
 
   load_judges : (area : Area) (kind : LoadKind) (rd units : ℕ) → MayJudge r (load_at area kind rd units r)
   load_judges (Private offset) kind rd units =
-      let on : Raw = ran (next r) 1 (with_reg r rd (loaded kind r.base.memory offset)) in
+      let on : Raw = ran (next r) 1 (with_reg r rd (loaded kind r.base.memory.bytes offset)) in
       let off : Raw = stopped (stops.Align (DATA_START + offset)) r in
       either (is_aligned (load_width kind) offset) on off (stays on refl refl refl) (stays off refl refl refl)
   load_judges (TaryId address) kind rd units =
@@ -59,7 +60,7 @@ module _ (r : Raw) where
   store_judges : (area : Area) (kind : StoreKind) (value : ℕ) → MayJudge r (store_at area kind value r)
   store_judges (Private offset) kind value =
       let on : Raw = ran (next r) 1
-      (record r { base = record r.base { memory = stored kind r.base.memory offset value } }) in
+      (record r { base = record r.base { memory = memory_stored kind r.base.memory offset value } }) in
       let off : Raw = stopped (stops.Align (DATA_START + offset)) r in
       either (is_aligned (store_width kind) offset) on off (stays on refl refl refl) (stays off refl refl refl)
   store_judges (TaryId address) kind value = stays _ refl refl refl

@@ -3,16 +3,17 @@ use Rattle.std.proofs.Common.{◌≡◌, ℕ, ◌<◌, ◌==◌, nat_lt, true, f
 use Rattle.cfi_unit.specs.declared.log.Log.{Log}
 use Rattle.cfi_unit.specs.declared.log.Stop.{Stop}
 use Rattle.cfi_model.specs.declared.act.Wait.{Wait}
+use Rattle.cfi_model.specs.Pages.{Memory}
 use Rattle.cfi_model.specs.State.{State, register, regs_with}
 use Rattle.cfi_model.specs.Raw.{Raw, reg, with_reg}
 
 -- the policy state with some parts replaced
-abbrev pub state : State → (regs : List ℕ) → (pc : ℕ) → (memory : List ℕ) → List Log → (units steps : ℕ) → Option Stop
+abbrev pub state : State → (regs : List ℕ) → (pc : ℕ) → Memory → List Log → (units steps : ℕ) → Option Stop
     → State
 state p regs pc memory log units steps stop =
     record p { regs = regs; pc = pc; memory = memory; log = log; units = units; steps = steps; stop = stop }
 
-pub same_state : (p : State) (regs regs' : List ℕ) (pc pc' : ℕ) (memory memory' : List ℕ) (log log' : List Log)
+pub same_state : (p : State) (regs regs' : List ℕ) (pc pc' : ℕ) (memory memory' : Memory) (log log' : List Log)
     (units units' steps steps' : ℕ) (stop stop' : Option Stop)
     → regs ≡ regs' → pc ≡ pc' → memory ≡ memory' → log ≡ log' → units ≡ units' → steps ≡ steps' → stop ≡ stop'
     → state p regs pc memory log units steps stop ≡ state p regs' pc' memory' log' units' steps' stop'

@@ -13,6 +13,9 @@ pub mod ReadyLemmas
 pub mod CheckPlaces
 pub mod CheckFinish
 pub mod CheckWalk
+pub mod FillLemmas
+pub mod MakeLemmas
+pub mod PagedLemmas
 pub mod PickLemmas
 pub mod SingleLemmas
 pub mod LawLemmas

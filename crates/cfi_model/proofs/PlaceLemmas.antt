@@ -17,7 +17,8 @@ use Rattle.cfi_unit.specs.Unit.{size_of}
 use Rattle.cfi_model.specs.declared.act.Wait.{Wait}
 use Rattle.cfi_model.specs.declared.act.Wait.TheVariants as waits
 use Rattle.cfi_model.specs.Begin.{Area, Private, TaryId, BaryId, Nothing, ran, next, stopped, waiting, judged, jalr_target, units_of, begin_as, begin_by, load_at, store_at, reads_table, area_of}
-use Rattle.cfi_model.specs.Data.{is_aligned, load_width, store_width, loaded, stored}
+use Rattle.cfi_model.specs.Data.{is_aligned, load_width, store_width, loaded}
+use Rattle.cfi_model.specs.Pages.{memory_stored}
 use Rattle.cfi_model.specs.Effect.{effect}
 use Rattle.cfi_model.specs.History.{History}
 use Rattle.cfi_model.specs.Raw.{Raw, with_reg, access_address}
@@ -118,7 +119,7 @@ either b r x y one other = cond_both b x y (StaysPut r) (λ yes_is. one) (λ no_
 module _ (r : Raw) (going : r.base.stop ≡ None) where
   load_stays : (area : Area) (kind : LoadKind) (rd units : ℕ) → StaysPut r (load_at area kind rd units r)
   load_stays (Private offset) kind rd units =
-      let on : Raw = ran (next r) 1 (with_reg r rd (loaded kind r.base.memory offset)) in
+      let on : Raw = ran (next r) 1 (with_reg r rd (loaded kind r.base.memory.bytes offset)) in
       either (is_aligned (load_width kind) offset) r on (stopped (stops.Align (DATA_START + offset)) r)
       (goes r on going) (λ stops. refl)
   load_stays (TaryId address) kind rd units =
@@ -134,7 +135,7 @@ module _ (r : Raw) (going : r.base.stop ≡ None) where
   store_stays : (area : Area) (kind : StoreKind) (value : ℕ) → StaysPut r (store_at area kind value r)
   store_stays (Private offset) kind value =
       let on : Raw = ran (next r) 1
-      (record r { base = record r.base { memory = stored kind r.base.memory offset value } }) in
+      (record r { base = record r.base { memory = memory_stored kind r.base.memory offset value } }) in
       either (is_aligned (store_width kind) offset) r on (stopped (stops.Align (DATA_START + offset)) r)
       (goes r on going) (λ stops. refl)
   store_stays (TaryId address) kind value = λ stops. refl

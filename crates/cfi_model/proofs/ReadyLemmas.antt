@@ -58,7 +58,7 @@ regs_kept : (unit : CodeUnit) (pick : ℕ) (allows : ℕ → ℕ → Bool) (repl
 regs_kept (units.Plain insn) pick allows reply s is = plain_kept insn s is
 regs_kept (units.Load kind rd rs1 imm) pick allows reply s is =
     let offset : ℕ = masked_at rs1 imm s in
-    let value : ℕ = loaded kind s.memory offset in
+    let value : ℕ = loaded kind s.memory.bytes offset in
     either (λ xs. slice_index xs 0 ≡ 0) (is_aligned (load_width kind) offset) (regs_with s.regs rd value) s.regs
     (zero_kept s.regs rd value is) is
 regs_kept (units.Store kind rs1 rs2 imm) pick allows reply s is =

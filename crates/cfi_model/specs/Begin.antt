@@ -21,7 +21,8 @@ use Rattle.cfi_model.specs.declared.act.Act.{Act}
 use Rattle.cfi_model.specs.declared.act.Act.TheVariants as acts
 use Rattle.cfi_model.specs.declared.act.Wait.{Wait}
 use Rattle.cfi_model.specs.declared.act.Wait.TheVariants as waits
-use Rattle.cfi_model.specs.Data.{load_width, store_width, is_aligned, loaded, stored}
+use Rattle.cfi_model.specs.Data.{load_width, store_width, is_aligned, loaded}
+use Rattle.cfi_model.specs.Pages.{memory_stored}
 use Rattle.cfi_model.specs.Log.{picked}
 use Rattle.cfi_model.specs.State.{displaced, after}
 use Rattle.cfi_model.specs.Service.{asked}
@@ -95,7 +96,7 @@ reads_table _ = false
 abbrev pub load_private : LoadKind → (rd offset : ℕ) → Raw → Raw
 load_private kind rd offset r =
     if is_aligned (load_width kind) offset
-    then ran (next r) 1 (with_reg r rd (loaded kind r.base.memory offset))
+    then ran (next r) 1 (with_reg r rd (loaded kind r.base.memory.bytes offset))
     else stopped (stops.Align (DATA_START + offset)) r
 
 -- a load from the place of an address
@@ -112,7 +113,7 @@ load_at Nothing kind rd units r = r
 abbrev pub store_private : StoreKind → (offset value : ℕ) → Raw → Raw
 store_private kind offset value r =
     if is_aligned (store_width kind) offset
-    then ran (next r) 1 (record r { base = record r.base { memory = stored kind r.base.memory offset value } })
+    then ran (next r) 1 (record r { base = record r.base { memory = memory_stored kind r.base.memory offset value } })
     else stopped (stops.Align (DATA_START + offset)) r
 
 abbrev pub store_at : Area → StoreKind → (value : ℕ) → Raw → Raw

@@ -13,7 +13,8 @@ use Rattle.cfi_word.specs.declared.lists.Edge.{Edge}
 use Rattle.cfi_word.specs.declared.map.TheConstants.{DATA_START, DATA_BYTES, CODE_BYTES}
 use Rattle.cfi_word.specs.declared.services.TheConstants.{OPEN}
 use Rattle.cfi_word.specs.declared.limits.TheConstants.{MAX_OPENS}
-use Rattle.cfi_model.specs.Data.{load_width, store_width, is_aligned, loaded, stored}
+use Rattle.cfi_model.specs.Data.{load_width, store_width, is_aligned, loaded}
+use Rattle.cfi_model.specs.Pages.{Memory, memory_stored}
 use Rattle.cfi_model.specs.Log.{picked, opens}
 use Rattle.cfi_model.specs.State.{State, register, regs_with, displaced, after}
 use Rattle.cfi_model.specs.Service.{Reply, service_of, served, asked}
@@ -37,7 +38,7 @@ abbrev pub masked_at : (rs1 : ℕ) → ℤ → State → ℕ
 masked_at rs1 imm s = displaced (register s rs1) imm % DATA_BYTES
 
 -- an access at the offset has ended, or stopped the guest at its address
-abbrev pub accessed : (fits : Bool) → (offset : ℕ) → (regs memory : List ℕ) → State → State
+abbrev pub accessed : (fits : Bool) → (offset : ℕ) → (regs : List ℕ) → Memory → State → State
 accessed fits offset regs memory s = record s {
   regs = if fits then regs else s.regs;
   memory = if fits then memory else s.memory;
@@ -51,7 +52,7 @@ abbrev pub load_effect : (width value offset rd : ℕ) → State → State
 load_effect width value offset rd s =
     accessed (is_aligned width offset) offset (regs_with s.regs rd value) s.memory s
 
-abbrev pub store_effect : (width offset : ℕ) → (memory : List ℕ) → State → State
+abbrev pub store_effect : (width offset : ℕ) → Memory → State → State
 store_effect width offset memory s = accessed (is_aligned width offset) offset s.regs memory s
 
 -- an address of a word of the code
@@ -80,10 +81,10 @@ checked pick allowed link target s = record s {
 abbrev pub effect : CodeUnit → (pick : ℕ) → (allows : ℕ → ℕ → Bool) → Reply → State → State
 effect (units.Plain insn) pick allows reply s = going_to (after 4 s.pc) 1 (record s { regs = plain_regs insn s })
 effect (units.Load kind rd rs1 imm) pick allows reply s =
-    load_effect (load_width kind) (loaded kind s.memory (masked_at rs1 imm s)) (masked_at rs1 imm s) rd s
+    load_effect (load_width kind) (loaded kind s.memory.bytes (masked_at rs1 imm s)) (masked_at rs1 imm s) rd s
 effect (units.Store kind rs1 rs2 imm) pick allows reply s =
     store_effect
-    (store_width kind) (masked_at rs1 imm s) (stored kind s.memory (masked_at rs1 imm s) (register s rs2)) s
+    (store_width kind) (masked_at rs1 imm s) (memory_stored kind s.memory (masked_at rs1 imm s) (register s rs2)) s
 effect (units.Branch cond rs1 rs2 off) pick allows reply s =
     going_to (if takes cond (register s rs1) (register s rs2) then displaced s.pc off else after 4 s.pc) 1 s
 effect (units.Jump link off) pick allows reply s =

@@ -1,4 +1,6 @@
 pub mod Data
+pub mod Pages
+pub mod inner
 pub mod Log
 pub mod State
 pub mod Service

@@ -8,7 +8,8 @@ use Rattle.cfi_unit.specs.declared.log.Stop.TheVariants.{Exit}
 use Rattle.cfi_word.specs.declared.limits.TheConstants.{MAX_POLICY, MAX_OPENS, MAX_OUTPUT}
 use Rattle.cfi_word.specs.declared.services.TheConstants as services
 use Rattle.std.specs.List.{All}
-use Rattle.cfi_model.specs.Data.{filled_by, LiesInData}
+use Rattle.cfi_model.specs.Data.{LiesInData}
+use Rattle.cfi_model.specs.Pages.{Memory, memory_filled}
 use Rattle.cfi_model.specs.Log.{opens, last_policy}
 use Rattle.cfi_model.specs.State.{State, register}
 
@@ -81,8 +82,8 @@ served_regs Opens reply s = opened_regs reply s
 served_regs Unknown reply s = answered_by s services.REFUSED
 
 -- of private data
-abbrev pub served_memory : Service → Reply → State → List ℕ
-served_memory Opens reply s = if succeeds reply then filled_by s.memory reply.fills else s.memory
+abbrev pub served_memory : Service → Reply → State → Memory
+served_memory Opens reply s = if succeeds reply then memory_filled s.memory reply.fills else s.memory
 served_memory _ reply s = s.memory
 
 -- of the output

@@ -7,8 +7,8 @@ use Rattle.cfi_unit.specs.declared.fill.Fill.{Fill}
 use Rattle.cfi_unit.specs.declared.log.Log.{Log}
 use Rattle.cfi_unit.specs.declared.log.Stop.{Stop}
 use Rattle.cfi_word.specs.declared.services.TheConstants.{ARGUMENT}
-use Rattle.cfi_word.specs.declared.map.TheConstants.{STACK, DATA_BYTES}
-use Rattle.cfi_model.specs.Data.{zeroes, filled_by}
+use Rattle.cfi_word.specs.declared.map.TheConstants.{STACK}
+use Rattle.cfi_model.specs.Pages.{Memory, blank_memory, memory_filled}
 
 -- the guest's number, x0 to x27, the address of the next unit, private data, what was put, the log, how many units and
 -- instructions were run, and why the guest stopped
@@ -16,7 +16,7 @@ pub record State : Type 0 where
   pub number : ℕ
   pub regs : List ℕ
   pub pc : ℕ
-  pub memory : List ℕ
+  pub memory : Memory
   pub output : List ℕ
   pub log : List Log
   pub units : ℕ
@@ -29,7 +29,7 @@ opened number entry fills = record {
   number = number;
   regs = slice_set (slice_set (replicate FREE_REGISTERS 0) 2 STACK) ARGUMENT number;
   pc = entry;
-  memory = filled_by (zeroes DATA_BYTES) fills;
+  memory = memory_filled blank_memory fills;
   output = [];
   log = [];
   units = 0;

@@ -1,31 +1,11 @@
-ghost use Rattle.std.specs.Prelude.{◌≡◌, ℕ, ◌+◌, ◌-◌, ◌*◌, ◌<◌, ◌≤◌, ◌^◌, IfOk, List, length};
-ghost use Rattle.std.specs.List.{All, splice};
-ghost use Rattle.cfi_model.specs.Data.{zeroes, load_width, store_width, loaded, stored, filled, filled_by, LiesInData};
+//! Loads and stores in bytes, the least byte of a number first.
+
+ghost use Rattle.std.specs.Prelude.{◌≡◌, ◌+◌, ◌<◌, ◌≤◌, ◌^◌, length};
+ghost use Rattle.std.specs.List.{splice};
+ghost use Rattle.cfi_model.specs.Data.{load_width, store_width, loaded, stored};
 ghost use Rattle.cfi_model.specs.Data.{byte_at, half_at, word_at, with_byte, with_half, with_data_word, sign_extended};
-ghost use Rattle.cfi_word.specs.declared.map.TheConstants.{DATA_START, DATA_BYTES};
 
-use cfi_unit::Fill;
-use cfi_word::map::{DATA_BYTES, DATA_START};
 use rv_insn::{LoadKind, StoreKind};
-use std::alloc::{AllocError, Global};
-use std::marker::Model;
-
-/// A guest's private data, `DATA_BYTES` bytes; places are offsets from its first address.
-#[derive(Debug, Drop)]
-pub struct PrivateData {
-    bytes: Vec<u8>,
-}
-
-impl Model for PrivateData {
-    ghost use Rattle.std.specs.Prelude.{ℕ, ◌≡◌, List, vec_len};
-    ghost use Rattle.cfi_word.specs.declared.map.TheConstants.{DATA_BYTES};
-
-    ghost Value = { List ℕ };
-
-    ghost view = { λ d. d.bytes.items };
-
-    ghost invariant = { λ d. vec_len d.bytes ≡ DATA_BYTES };
-}
 
 /// How many bytes a load of this kind reads.
 #[inline(always)]
@@ -51,109 +31,70 @@ pub fn store_width(kind: StoreKind) -> u32
     }
 }
 
-// So many bytes of 0.
-#[tactic(auto, unfolding(crate::specs::Data::zeroes))]
-fn zero_bytes(alloc: Global, count: usize) -> Result<Vec<u8>, AllocError>
-    ensures bytes { IfOk result (λ v. v.items ≡ zeroes count) }
-    ensures length { IfOk result (λ v. length v.items ≡ count) }
+/// What a load of this kind gives at a place of these bytes.
+#[inline(always)]
+pub(crate) fn load_from(bytes: &[u8], kind: LoadKind, at: usize) -> u32
+    requires { at + load_width kind ≤ length bytes.now }
+    ensures { result ≡ loaded kind bytes.now at }
 {
-    let mut bytes = Vec::new(alloc);
-    bytes.resize(count, 0)?;
-    Ok(bytes)
+    match kind {
+        LoadKind::Lb => sign_extended_byte(byte(bytes, at)),
+        LoadKind::Lh => sign_extended_half(half(bytes, at)),
+        LoadKind::Lw => half(bytes, at) + 65536 * half(bytes, at + 2),
+        LoadKind::Lbu => byte(bytes, at),
+        LoadKind::Lhu => half(bytes, at),
+    }
 }
 
-impl PrivateData {
-    /// Bytes of 0.
-    pub fn new(alloc: Global) -> Result<PrivateData, AllocError>
-        ensures { IfOk result (λ d. d ≡ zeroes DATA_BYTES) }
-    {
-        let bytes = zero_bytes(alloc, DATA_BYTES as usize)?;
-        Ok(PrivateData { bytes })
-    }
+#[inline(always)]
+fn byte(bytes: &[u8], at: usize) -> u32
+    requires { at < length bytes.now }
+    ensures value { result ≡ byte_at bytes.now at }
+    ensures small { result < 2 ^ 8 }
+{
+    u32::from(bytes[at])
+}
 
-    /// What a load of this kind gives at an offset, all of whose bytes are there.
-    #[inline(always)]
-    pub fn load(&self, kind: LoadKind, offset: u32) -> u32
-        requires { offset + load_width kind ≤ DATA_BYTES }
-        ensures { result ≡ loaded kind self.now offset }
-    {
-        match kind {
-            LoadKind::Lb => sign_extended_byte(self.byte(offset)),
-            LoadKind::Lh => sign_extended_half(self.half(offset)),
-            LoadKind::Lw => self.half(offset) + 65536 * self.half(offset + 2),
-            LoadKind::Lbu => self.byte(offset),
-            LoadKind::Lhu => self.half(offset),
+#[inline(always)]
+fn half(bytes: &[u8], at: usize) -> u32
+    requires { at + 2 ≤ length bytes.now }
+    ensures value { result ≡ half_at bytes.now at }
+    ensures small { result < 2 ^ 16 }
+{
+    byte(bytes, at) + 256 * byte(bytes, at + 1)
+}
+
+/// Stores a value by this kind at a place of these bytes.
+#[inline(always)]
+pub(crate) fn store_into(bytes: &mut [u8], kind: StoreKind, at: usize, value: u32)
+    requires { at + store_width kind ≤ length bytes.old }
+    ensures { bytes.new ≡ stored kind bytes.old at value }
+{
+    match kind {
+        StoreKind::Sb => put_byte(bytes, at, value),
+        StoreKind::Sh => put_half(bytes, at, value),
+        StoreKind::Sw => {
+            put_half(bytes, at, value);
+            put_half(bytes, at + 2, value >> 16);
         }
     }
+}
 
-    #[inline(always)]
-    fn byte(&self, offset: u32) -> u32
-        requires { offset < DATA_BYTES }
-        ensures value { result ≡ byte_at self.now offset }
-        ensures small { result < 2 ^ 8 }
-    {
-        u32::from(self.bytes[offset as usize])
-    }
+#[inline(always)]
+fn put_byte(bytes: &mut [u8], at: usize, value: u32)
+    requires { at < length bytes.old }
+    ensures { bytes.new ≡ with_byte bytes.old at value }
+{
+    bytes[at] = (value % 256) as u8;
+}
 
-    #[inline(always)]
-    fn half(&self, offset: u32) -> u32
-        requires { offset + 2 ≤ DATA_BYTES }
-        ensures value { result ≡ half_at self.now offset }
-        ensures small { result < 2 ^ 16 }
-    {
-        self.byte(offset) + 256 * self.byte(offset + 1)
-    }
-
-    /// Stores a value by this kind at an offset, all of whose bytes are there.
-    #[inline(always)]
-    pub fn store(&mut self, kind: StoreKind, offset: u32, value: u32)
-        requires { offset + store_width kind ≤ DATA_BYTES }
-        ensures { self.new ≡ stored kind self.old offset value }
-    {
-        match kind {
-            StoreKind::Sb => self.put_byte(offset, value),
-            StoreKind::Sh => self.put_half(offset, value),
-            StoreKind::Sw => {
-                self.put_half(offset, value);
-                self.put_half(offset + 2, value >> 16);
-            }
-        }
-    }
-
-    #[inline(always)]
-    fn put_byte(&mut self, offset: u32, value: u32)
-        requires { offset < DATA_BYTES }
-        ensures { self.new ≡ with_byte self.old offset value }
-    {
-        self.bytes[offset as usize] = (value % 256) as u8;
-    }
-
-    #[inline(always)]
-    fn put_half(&mut self, offset: u32, value: u32)
-        requires { offset + 2 ≤ DATA_BYTES }
-        ensures { self.new ≡ with_half self.old offset value }
-    {
-        self.put_byte(offset, value);
-        self.put_byte(offset + 1, value >> 8);
-    }
-
-    // Writes the bytes from an offset on.
-    fn write(&mut self, offset: usize, bytes: &[u8])
-        requires { offset + length bytes.now ≤ DATA_BYTES }
-        ensures { self.new ≡ splice self.old offset (offset + length bytes.now) bytes.now }
-    {
-        write_bytes(self.bytes.as_mut_slice(), offset, bytes);
-    }
-
-    /// Writes fills one after the other; each lies inside private data.
-    pub fn fill(&mut self, fills: &[Fill])
-        requires { All LiesInData fills.now }
-        ensures { self.new ≡ filled_by self.old fills.now }
-    {
-        for fill in fills {
-            self.write((fill.at - DATA_START) as usize, fill.bytes.as_slice());
-        }
-    }
+#[inline(always)]
+fn put_half(bytes: &mut [u8], at: usize, value: u32)
+    requires { at + 2 ≤ length bytes.old }
+    ensures { bytes.new ≡ with_half bytes.old at value }
+{
+    put_byte(bytes, at, value);
+    put_byte(bytes, at + 1, value >> 8);
 }
 
 #[inline(always)]
@@ -181,7 +122,7 @@ fn sign_extended_half(number: u32) -> u32
 }
 
 // Writes the bytes into a slice from an offset on.
-fn write_bytes(to: &mut [u8], offset: usize, bytes: &[u8])
+pub(crate) fn write_bytes(to: &mut [u8], offset: usize, bytes: &[u8])
     requires { offset + length bytes.now ≤ length to.old }
     ensures { to.new ≡ splice to.old offset (offset + length bytes.now) bytes.now }
 {

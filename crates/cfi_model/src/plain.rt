@@ -7,9 +7,9 @@ ghost use Rattle.cfi_model.specs.Data.{LiesInData};
 ghost use Rattle.cfi_model.specs.Log.{last_policy};
 ghost use Rattle.cfi_unit.specs.declared.unit.TheConstants.{FREE_REGISTERS};
 
-use crate::data::PrivateData;
 use crate::log_book::LogBook;
 use crate::output::Output;
+use crate::pages::PrivateData;
 use crate::step::PlainStep;
 use cfi_unit::laws::unit_within;
 use cfi_unit::{Answer, FREE_REGISTERS, Fill, Log, Stop, Unit, next_unit};

@@ -3,7 +3,7 @@ use Rattle.std.proofs.Common.{◌≡◌, ◌≢◌, ℕ, ◌==◌, Bool, true, f
 use Rattle.std.specs.Prelude.{if◌then◌else◌, slice_set}
 use Rattle.std.proofs.lemmas.Bool.{eqb-true}
 use Rattle.cfi_unit.specs.declared.log.Log.TheVariants.{Open, Cause}
-use Rattle.cfi_model.specs.Data.{filled_by}
+use Rattle.cfi_model.specs.Pages.{memory_filled}
 use Rattle.cfi_model.specs.Service.{Reply, Service, Ends, Puts, Quiets, Opens, Unknown, service_of, served, served_log, reply_of, argument, answered_by}
 use Rattle.cfi_model.specs.State.{State}
 use Rattle.cfi_word.specs.declared.services.TheConstants as services
@@ -12,7 +12,7 @@ use Rattle.cfi_word.specs.declared.services.TheConstants as services
 abbrev pub opens_as : (works : Bool) → Reply → State → State
 opens_as works reply s = record s {
   regs = slice_set (answered_by s (if works then reply.address else 0)) services.CAUSE reply.cause;
-  memory = if works then filled_by s.memory reply.fills else s.memory;
+  memory = if works then memory_filled s.memory reply.fills else s.memory;
   log = if works then s.log ++ Open (argument s) reply.address reply.policy ∷ [] else
       (if reply.cause == services.TOO_MANY then s.log else s.log ++ Cause (argument s) reply.cause ∷ []);
 }

@@ -3,7 +3,8 @@
 ghost use Rattle.std.specs.Prelude.{◌≡◌, ◌+◌, ◌<◌, ◌≤◌, ◌^◌, false, if◌then◌else◌};
 ghost use Rattle.cfi_unit.specs.declared.unit.TheConstants.{FREE_REGISTERS};
 ghost use Rattle.cfi_unit.specs.Unit.{IsPlain, IsUnit, link_register};
-ghost use Rattle.cfi_model.specs.Data.{load_width, store_width, loaded, stored};
+ghost use Rattle.cfi_model.specs.Data.{load_width, store_width, loaded};
+ghost use Rattle.cfi_model.specs.Pages.{memory_stored};
 ghost use Rattle.cfi_model.specs.Log.{last_policy};
 ghost use Rattle.cfi_model.specs.State.{regs_with, register, displaced, after};
 ghost use Rattle.cfi_model.specs.Effect.{going_to, plain_regs, masked_at, load_effect, store_effect, checked, allows_by, accessed};
@@ -174,7 +175,7 @@ impl Plain {
         requires few { self.old.state.units + 1 < 2 ^ 32 }
         ensures { let s = self.old.state in let offset = masked_at rs1 imm s in
             self.new ≡ record self.old {
-              state = load_effect (load_width kind) (loaded kind s.memory offset) offset rd s;
+              state = load_effect (load_width kind) (loaded kind s.memory.bytes offset) offset rd s;
             } }
     {
         let offset = self.masked(rs1, imm);
@@ -194,7 +195,7 @@ impl Plain {
         ensures { let s = self.old.state in let offset = masked_at rs1 imm s in
             self.new ≡ record self.old {
               state = store_effect (store_width kind) offset
-                  (stored kind s.memory offset (register s rs2)) s;
+                  (memory_stored kind s.memory offset (register s rs2)) s;
             } }
     {
         let offset = self.masked(rs1, imm);

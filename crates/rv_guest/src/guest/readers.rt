@@ -3,6 +3,7 @@
 ghost use Rattle.std.specs.Prelude.{◌≡◌, ◌<◌, ◌≤◌};
 ghost use Rattle.cfi_word.specs.declared.limits.TheConstants.{MAX_POLICY, MAX_OPENS};
 ghost use Rattle.cfi_model.specs.Log.{last_policy, opens};
+ghost use Rattle.cfi_model.specs.Pages.{page_count};
 ghost use Rattle.cfi_model.specs.Service.{argument};
 ghost use Rattle.cfi_model.specs.Raw.{reg};
 
@@ -80,6 +81,13 @@ impl Guest {
         ensures most { result ≤ MAX_OPENS }
     {
         self.log.opens()
+    }
+
+    /// How many pages of private data are made: those of which a byte lies in a fill or a store.
+    pub fn pages(&self) -> u32
+        ensures { result ≡ page_count self.now.base.memory.made }
+    {
+        self.memory.pages()
     }
 
     /// Why the guest stopped, if it has.
