@@ -1,14 +1,13 @@
 -- Bytes that are written into pages, and the pages that they make.
-use Rattle.std.proofs.Common.{◌≡◌, ◌≢◌, ℕ, zero, suc, ◌+◌, ◌-◌, ◌*◌, ◌/◌, ◌%◌, ◌<◌, ◌≤◌, ◌==◌, Bool, true, false, cond, nat_lt, List, [], ◌∷◌, ◌++◌, length, take, drop, slice_index, slice_index_or, slice_set, min, refl, sym, ◌∙◌, ap, subst, arith}
-use Rattle.std.specs.List.{splice, fold, range_with_len}
+use Rattle.std.proofs.Common.{◌≡◌, ◌≢◌, ℕ, zero, suc, ◌+◌, ◌-◌, ◌/◌, ◌%◌, ◌<◌, ◌≤◌, ◌==◌, Bool, true, false, cond, nat_lt, List, ◌++◌, length, take, drop, slice_index, slice_index_or, slice_set, refl, sym, ◌∙◌, ap, arith}
+use Rattle.std.specs.List.{splice}
 use Rattle.std.proofs.lemmas.Bool.Decides.{nat_tests}
 use Rattle.std.proofs.lemmas.List.{append_assoc, drop-drop, get_or-append_right, get_or_append_left, get_or-drop, get_or-take, length-append, length-drop, length-take, set-set}
 use Rattle.std.proofs.Math.Seq.{take-append_seam, drop-append-add}
-use Rattle.std.proofs.lemmas.List.Sums.{fold-append}
 use Rattle.cfi_word.specs.declared.map.TheConstants.{DATA_BYTES}
-use Rattle.cfi_model.specs.declared.pages.TheConstants.{PAGE_BYTES, PAGES}
+use Rattle.cfi_model.specs.declared.pages.TheConstants.{PAGE_BYTES}
 use Rattle.cfi_model.specs.Pages.{touched, touched_from}
-use Rattle.cfi_model.specs.inner.Paged.{page_at, paged_bytes, made_by, IsPaged}
+use Rattle.cfi_model.specs.inner.Paged.{paged_bytes, made_by, IsPaged}
 use Rattle.cfi_model.proofs.PagedLemmas.{page_of, length_paged, byte_near, number_low, page_size, page_found, replaced_paged, made_number}
 
 -- ---- a list with a part written anew

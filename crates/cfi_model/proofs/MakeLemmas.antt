@@ -1,5 +1,5 @@
 -- How a page is made.
-use Rattle.std.proofs.Common.{◌≡◌, ◌≢◌, ℕ, ◌+◌, ◌*◌, ◌/◌, ◌%◌, ◌<◌, ◌≤◌, ◌==◌, Bool, true, false, cond, not, List, [], ◌∷◌, ◌++◌, length, map, replicate, get_or, set, slice_index, slice_index_or, slice_set, sum_by, refl, sym, ◌∙◌, ap, subst, arith, All}
+use Rattle.std.proofs.Common.{◌≡◌, ◌≢◌, ℕ, ◌+◌, ◌/◌, ◌%◌, ◌<◌, ◌≤◌, ◌==◌, Bool, true, false, cond, not, List, [], ◌∷◌, ◌++◌, length, replicate, get_or, set, slice_index, slice_index_or, slice_set, refl, sym, ◌∙◌, ap, arith}
 use Rattle.std.proofs.lemmas.Bool.Decides.{nat_tests}
 use Rattle.std.proofs.lemmas.List.{get_or-replicate, get_or-set_same, get_or-set_other, get_or_append_left, length-set, length-append, length-map, length-replicate, map-set, set-get_or}
 use Rattle.std.proofs.Math.Seq.{get_or-append_seam}
@@ -9,7 +9,7 @@ use Rattle.std.proofs.lemmas.Grind.{same_number_lists}
 use Rattle.cfi_word.specs.declared.map.TheConstants.{DATA_BYTES}
 use Rattle.cfi_model.specs.declared.pages.TheConstants.{PAGE_BYTES, PAGES}
 use Rattle.cfi_model.specs.Data.{zeroes}
-use Rattle.cfi_model.specs.Pages.{Memory, page_count, blank_memory, no_pages}
+use Rattle.cfi_model.specs.Pages.{Memory, page_count}
 use Rattle.cfi_model.specs.inner.Paged.{page_at, paged_byte, paged_bytes, made_by, memory_by, IsPaged}
 use Rattle.cfi_model.proofs.PagedLemmas.{length_paged, byte_paged, number_low, made_at}
 

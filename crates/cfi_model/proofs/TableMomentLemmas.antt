@@ -1,16 +1,13 @@
 -- Moments of tables, one after the other.
-use Rattle.std.proofs.Common.{◌≡◌, ℕ, zero, suc, ◌+◌, ◌-◌, ◌*◌, ◌<◌, ◌≤◌, nat_lt, cond, List, [], ◌∷◌, ◌++◌, length, slice_get, take, Some, ◌⊎◌, inl, inr, refl, sym, ap, ◌∙◌, subst, arith}
+use Rattle.std.proofs.Common.{◌≡◌, ℕ, zero, suc, ◌-◌, ◌*◌, ◌<◌, ◌≤◌, nat_lt, cond, List, [], ◌∷◌, ◌++◌, length, slice_get, take, Some, ◌⊎◌, inl, inr, refl, sym, ap, ◌∙◌, subst, arith}
 use Rattle.std.proofs.lemmas.Bool.Decides.{nat_tests}
 use Rattle.std.proofs.lemmas.List.{get_or-take, length-take-le}
 use Rattle.std.proofs.lemmas.Option.{same_Some}
-use Rattle.cfi_word.specs.Table.{Epoch}
 use Rattle.cfi_model.specs.declared.history.Access.{Access}
-use Rattle.cfi_model.specs.declared.history.Entry.{Entry}
 use Rattle.cfi_model.specs.declared.history.Moment.{Moment}
-use Rattle.cfi_model.specs.InForce.{GoesOn, in_force}
-use Rattle.cfi_model.specs.TableMoments.{AreInOrder, IsBy, IsMoment, moment_of, tables_at}
-use Rattle.cfi_model.specs.Words.{Tables, entry_at, is_stored, no_entry, number_at}
-use Rattle.cfi_model.proofs.TableLemmas.{number_within}
+use Rattle.cfi_model.specs.InForce.{GoesOn}
+use Rattle.cfi_model.specs.TableMoments.{AreInOrder, IsBy, IsMoment, tables_at}
+use Rattle.cfi_model.specs.Words.{Tables, entry_at, no_entry}
 
 pub by_same : (m : Moment) → IsBy m m
 by_same m = inr (refl, omega arith)

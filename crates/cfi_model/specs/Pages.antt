@@ -1,6 +1,6 @@
 -- Private data in pages. A page is made by the first fill or store of which a byte lies in it; one that is not made reads
 -- as zero.
-use Rattle.std.specs.Prelude.{ℕ, ◌+◌, ◌-◌, ◌*◌, ◌/◌, Bool, true, false, List, length, replicate, slice_set, sum_by, if◌then◌else◌}
+use Rattle.std.specs.Prelude.{ℕ, ◌-◌, ◌/◌, Bool, true, false, List, length, replicate, slice_set, sum_by, if◌then◌else◌}
 use Rattle.std.specs.List.{fold, range_with_len}
 use Rattle.rv_insn.specs.declared.insn.StoreKind.{StoreKind}
 use Rattle.cfi_unit.specs.declared.fill.Fill.{Fill}

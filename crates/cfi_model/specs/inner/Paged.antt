@@ -1,6 +1,6 @@
 -- How private data lies in pages: each place of a page has the number of its page in a pool, whose first page is one of
 -- zeroes for all places that are not made.
-use Rattle.std.specs.Prelude.{◌≡◌, ◌≢◌, ℕ, ◌+◌, ◌*◌, ◌/◌, ◌%◌, ◌<◌, ◌≤◌, ◌==◌, Bool, not, List, [], length, map, replicate, slice_index, slice_index_or, All}
+use Rattle.std.specs.Prelude.{◌≡◌, ◌≢◌, ℕ, ◌+◌, ◌/◌, ◌%◌, ◌<◌, ◌==◌, Bool, not, List, [], length, map, replicate, slice_index, slice_index_or, All}
 use Rattle.std.specs.List.{range_with_len}
 use Rattle.cfi_word.specs.declared.map.TheConstants.{DATA_BYTES}
 use Rattle.cfi_model.specs.declared.pages.TheConstants.{PAGE_BYTES, PAGES}

@@ -1,4 +1,4 @@
-use Rattle.std.proofs.Common.{◌≡◌, ◌≤◌, ◌+◌, ◌%◌, ◌∙◌, ap, arith, length, refl, sym, rules, ◌<◌, ℕ, List}
+use Rattle.std.proofs.Common.{◌≤◌, ◌+◌, ◌%◌, ◌∙◌, ap, arith, length, refl, sym, rules, ◌<◌, ℕ, List}
 use Rattle.std.specs.List.{splice}
 use Rattle.cfi_model.specs.declared.pages.TheConstants.{PAGE_BYTES}
 use Rattle.cfi_model.specs.Pages.{touched_from}

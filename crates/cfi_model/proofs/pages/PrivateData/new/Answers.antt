@@ -1,5 +1,4 @@
-use Rattle.std.proofs.Common.{◌≡◌, ap, arith, refl}
-use Rattle.cfi_model.specs.inner.Paged.{paged_bytes, made_by, IsPaged}
+use Rattle.std.proofs.Common.{arith, refl}
 use Rattle.cfi_model.proofs.MakeLemmas.{blank_bytes, blank_paged}
 use Rattle.cfi_model.proofs.pages.PrivateData.new.Goals as goal
 
