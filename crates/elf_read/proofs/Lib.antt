@@ -1,3 +1,4 @@
+pub mod TargetLemmas
 pub mod WordLemmas
 pub mod PlaceLemmas
 pub mod NameLemmas

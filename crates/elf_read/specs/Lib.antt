@@ -11,3 +11,4 @@ pub mod Object
 pub mod Fault
 pub mod Layout
 pub mod Sound
+pub mod inner

@@ -16,15 +16,15 @@ rela_count bytes s = if is_rela bytes s then (section_at bytes s).size / RELA_SI
 abbrev pub relas_before : List ℕ → (s : ℕ) → ℕ
 relas_before bytes s = total_of (rela_count bytes) s
 
--- the words of entry i of section s
-unfoldable pub rela_at : List ℕ → (s i : ℕ) → Rela
-rela_at bytes s i =
+-- the words of entry i of a section's contents
+abbrev pub entry_in : (entries : List ℕ) → (i : ℕ) → Rela
+entry_in entries i =
     let at = RELA_SIZE * i in
-    record {
-      offset = u32_at (contents bytes s) at;
-      info = u32_at (contents bytes s) (at + 4);
-      addend = u32_at (contents bytes s) (at + 8);
-    }
+    record { offset = u32_at entries at; info = u32_at entries (at + 4); addend = u32_at entries (at + 8) }
+
+-- entry i of section s
+unfoldable pub rela_at : List ℕ → (s i : ℕ) → Rela
+rela_at bytes s i = entry_in (contents bytes s) i
 
 -- the number of its symbol, and its kind
 abbrev pub symbol_index : Rela → ℕ
@@ -64,11 +64,15 @@ is_bad_reference bytes rela = not (symbol_index rela == 0)
 unfoldable pub is_outside : List ℕ → (target : ℕ) → Rela → Bool
 is_outside bytes target rela = nat_lt (section_at bytes target).size (rela.offset + field_size (kind_of rela))
 
--- it does not fit what the section `target` has: in text its offset is no multiple of 4 or it is a kind of data, in
--- data it is an instruction's
+-- it does not fit text or data: in text its offset is no multiple of 4 or it is a kind of data, in data it is an
+-- instruction's
+abbrev pub misfits : (text words : Bool) → Rela → Bool
+misfits text words rela = (text && (not (rela.offset % 4 == 0) || is_of_data (kind_of rela)))
+    || (words && is_of_instruction (kind_of rela))
+
+-- it does not fit what the section `target` has
 unfoldable pub is_misplaced : List ℕ → (target : ℕ) → Rela → Bool
-is_misplaced bytes target rela = (is_text bytes target && (not (rela.offset % 4 == 0) || is_of_data (kind_of rela)))
-    || (is_data bytes target && is_of_instruction (kind_of rela))
+is_misplaced bytes target rela = misfits (is_text bytes target) (is_data bytes target) rela
 
 -- entry i of section s breaks a rule
 unfoldable pub is_bad_rela_at : List ℕ → (s i : ℕ) → Bool

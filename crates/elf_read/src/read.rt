@@ -71,7 +71,7 @@ fn check_entries(alloc: Global, table: &SymbolTable<'_>) -> Result<(), ElfFault>
     ensures fault { IfErr result (IsFirstFault table.now) }
 {
     check_symbols(alloc, table)?;
-    check_relas(table)?;
+    check_relas(alloc, table)?;
     check_kinds(table)?;
     check_common(table)
 }
