@@ -23,6 +23,7 @@ use Rattle.cfi_fits.specs.inner.Signatures.{kind_of, IsSignature, IsSomeones, Ar
 use Rattle.cfi_fits.specs.inner.Nearest.{IsUpTo, IsNearest, AreNearest, IsLinked, AreLinksOf}
 use Rattle.cfi_fits.proofs.PrefixLemmas.{same_prefix, prefix_itself}
 use Rattle.cfi_fits.proofs.TypeLemmas.{node_at, key_at, IsWholePlace, FitsByKeys, keys_from_fits, fits_from_keys, same_class}
+use Rattle.cfi_fits.proofs.FitsLemmas.{AreSound, AreWhole, exactly, exact_where_none}
 use Rattle.cfi_fits.proofs.GatheringLemmas.{count_all}
 use Rattle.cfi_fits.proofs.NearestLemmas.{widens_between}
 
@@ -269,16 +270,28 @@ module _ (tables : List (List Node)) (classes : List (List ℕ)) (are : AreClass
           fits = widens_fits other.0 other.1 some.0 some.1 wide narrow other.2 some.2 (near_is.wider none);
         })
 
+    sound : AreSound tables classes links
+    sound from to h =
+        let had = made.sound from to h in
+        wider from to had.0 had.2 had.1 had.3
+
+    whole : AreWhole tables classes links
+    whole t a u b here there fits =
+        let r = all.whole t a here (inl here.0) (inr fits.variadic) in
+        let s = all.whole u b there (inl there.0) fits.callable in
+        reaches t a u b r.0 s.0 r.2 s.2 r.1 s.1 (fits_widens t a u b r.0 s.0 r.2 s.2 fits)
+
+    whole_places : (t a : ℕ) → IsNodePlace tables t a → IsCallable (node_at tables t a).kind → IsWholePlace tables t a
+    whole_places t a here callable =
+        let s = all.whole t a here (inl here.0) callable in
+        whole_place tables classes t a s.0 s.2
+
     -- the links are widenings
     pub are_widenings : AreWidenings tables classes links
     are_widenings = record {
-      sound = λ from to h.
-          let had = made.sound from to h in
-          wider from to had.0 had.2 had.1 had.3;
-      whole = λ t a u b here there fits.
-          let r = all.whole t a here (inl here.0) (inr fits.variadic) in
-          let s = all.whole u b there (inl there.0) fits.callable in
-          reaches t a u b r.0 s.0 r.2 s.2 r.1 s.1 (fits_widens t a u b r.0 s.0 r.2 s.2 fits);
+      sound = sound;
+      whole = whole;
+      exact = λ t a u b. exactly tables classes are whole_places links sound whole t a u b;
       few = omega (arith, made.few, all.few, count_all tables);
     }
 
@@ -292,3 +305,14 @@ pub widenings_when : (tables : List (List Node)) (classes : List (List ℕ)) →
 widenings_when tables classes are signatures all order nearest near (Ok links) made =
     are_widenings tables classes are signatures all order nearest near links.items made
 widenings_when tables classes are signatures all order nearest near (Err e) made = tt
+
+-- where no type has variable arguments there need to be no links
+pub no_widenings : (tables : List (List Node)) (classes : List (List ℕ)) → AreClasses tables classes
+    → ((t a : ℕ) → IsNodePlace tables t a → (node_of (table_of tables t) a).kind ≡ VARFUNC → ⊥)
+    → AreWidenings tables classes []
+no_widenings tables classes are none = record {
+  sound = λ from to h. let before : h.0 < 0 = h.1 in absurd (omega (arith, before));
+  whole = λ t a u b here there fits. absurd (none t a here fits.variadic);
+  exact = λ t a u b. exact_where_none tables classes are none t a u b;
+  few = omega arith;
+}
