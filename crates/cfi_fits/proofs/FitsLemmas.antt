@@ -1,8 +1,8 @@
 -- Fitting and links: what leads to wider classes one after another leads to what fits.
-use Rattle.std.proofs.Common.{◌≡◌, ◌∙◌, ℕ, zero, suc, ◌⊎◌, ◌<◌, List, [], refl, sym, ap, subst, inl, inr, arith}
+use Rattle.std.proofs.Common.{◌≡◌, ◌∙◌, ℕ, zero, suc, ◌⊎◌, ◌<◌, List, [], refl, sym, subst, inl, inr, arith}
 use Rattle.std.specs.Prelude.{◌↔◌}
-use Rattle.cfi_type_table.specs.declared.kind.TheConstants.{FUNC, VARFUNC}
-use Rattle.cfi_type_table.specs.Node.{Node, node_of}
+use Rattle.cfi_type_table.specs.declared.kind.TheConstants.{VARFUNC}
+use Rattle.cfi_type_table.specs.Node.{Node}
 use Rattle.cfi_types.specs.Classes.{table_of, class_of, IsNodePlace, AreClasses}
 use Rattle.cfi_flow.specs.declared.links.Link.{Link}
 use Rattle.cfi_flow.specs.Flow.{Links, IsPath, Reaches}

@@ -1,16 +1,16 @@
 -- The signatures of the function types that have come.
-use Rattle.std.proofs.Common.{◌≡◌, ◌∙◌, ℕ, zero, suc, ◌+◌, ◌<◌, ◌≤◌, ◌⊎◌, List, [], ◌∷◌, ◌++◌, length, map, get_or, All, refl, sym, ap, subst, inl, inr, arith}
+use Rattle.std.proofs.Common.{◌≡◌, ◌∙◌, ℕ, zero, suc, ◌+◌, ◌<◌, ◌⊎◌, List, [], ◌∷◌, ◌++◌, length, map, get_or, refl, sym, ap, subst, inl, inr, arith}
 use Rattle.std.specs.Prelude.{slice_index_or}
-use Rattle.std.specs.List.{Contains, flat_map}
+use Rattle.std.specs.List.{flat_map}
 use Rattle.std.specs.List.Sorted.{IsPermutation}
-use Rattle.std.proofs.lemmas.Bool.{cases_eq, cases_lt}
+use Rattle.std.proofs.lemmas.Bool.{cases_lt}
 use Rattle.std.proofs.lemmas.List.{length-append, length-map, get_or-map, get_or_read}
 use Rattle.std.proofs.lemmas.List.Concat.{flat_map-cons}
 use Rattle.std.proofs.lemmas.List.Elements.{All-nil, All-push, Contains-push, Contains-append_left}
 use Rattle.std.proofs.lemmas.List.Sorted.{All-permutation, Contains-permutation, length_permutation}
 use Rattle.cfi_type_table.specs.Node.{Node, make_node, node_of}
 use Rattle.cfi_type_table.specs.Spelling.{NamesBelow, AreTypes}
-use Rattle.cfi_types.specs.Classes.{table_of, class_of, IsNodePlace}
+use Rattle.cfi_types.specs.Classes.{table_of}
 use Rattle.cfi_fits.specs.declared.signature.Signature.{Signature}
 use Rattle.cfi_fits.specs.Fits.{IsCallable}
 use Rattle.cfi_fits.specs.inner.Signatures.{IsMadeOf, IsSignature, IsEarlier, IsSomeones, count_before, AreGathered}
@@ -100,9 +100,12 @@ module _ (tables : List (List Node)) (classes : List (List ℕ)) where
       | inl before ↦
           let had = old.whole u b place before callable in
           (had.0, Contains-append_left signatures (s ∷ []) had.0 had.1, had.2)
-      | inr here ↦
-          (s, Contains-push signatures s, subst (λ k. IsSignature tables classes k b s) (sym here.0)
-          (subst (λ k. IsSignature tables classes t k s) (sym here.1) new))
+      | inr here ↦ (
+        s,
+        Contains-push signatures s,
+        subst (λ k. IsSignature tables classes k b s) (sym here.0)
+            (subst (λ k. IsSignature tables classes t k s) (sym here.1) new),
+      )
     ];
     few = omega (arith, old.few, length-append signatures (s ∷ []));
   }

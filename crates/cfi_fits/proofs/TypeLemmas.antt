@@ -1,10 +1,10 @@
 -- Fitting told by class numbers: a type fits where the classes of what it names begin the other's.
-use Rattle.std.proofs.Common.{◌≡◌, ◌∙◌, ℕ, zero, suc, ◌<◌, ◌≤◌, List, [], ◌∷◌, length, map, take, get_or, All, refl, sym, ap, subst, inl, inr, arith}
+use Rattle.std.proofs.Common.{◌≡◌, ◌∙◌, ℕ, zero, suc, ◌<◌, ◌≤◌, List, [], ◌∷◌, length, map, take, get_or, All, refl, sym, ap, subst, arith}
 use Rattle.std.specs.List.{AllZip}
 use Rattle.std.specs.Prelude.{slice_index_or}
 use Rattle.std.proofs.lemmas.List.{length-map, get_or-map, take_all}
 use Rattle.std.proofs.lemmas.List.Elements.{All-head, All-tail, All-weaker, All-get_or, All-from_recursion}
-use Rattle.cfi_type_table.specs.declared.kind.TheConstants.{FUNC, VARFUNC}
+use Rattle.cfi_type_table.specs.declared.kind.TheConstants.{VARFUNC}
 use Rattle.cfi_type_table.specs.Node.{Node, node_of}
 use Rattle.cfi_type_table.specs.Kind.{number_count, numbers_of, nodes_of}
 use Rattle.cfi_type_table.specs.Spelling.{NamesBelow, AreTypes}
@@ -14,7 +14,7 @@ use Rattle.cfi_types.proofs.Pairs.{all_zip_at_each}
 use Rattle.cfi_fits.specs.Fits.{IsCallable, VariadicFits}
 use Rattle.cfi_fits.specs.inner.Prefix.{IsPrefix}
 use Rattle.cfi_fits.specs.inner.Signatures.{key_of}
-use Rattle.cfi_fits.proofs.PrefixLemmas.{length-prefix, prefix_itself, prefix_trans}
+use Rattle.cfi_fits.proofs.PrefixLemmas.{length-prefix, prefix_itself}
 
 -- the node of a place, and its key
 abbrev pub node_at : List (List Node) → (t a : ℕ) → Node

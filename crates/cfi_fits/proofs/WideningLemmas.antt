@@ -1,14 +1,14 @@
 -- The links of nearest wider ones are widenings.
-use Rattle.std.proofs.Common.{Result, Ok, Err, Vec, Global, ◌≡◌, ◌∙◌, ℕ, zero, suc, ◌+◌, ◌<◌, ◌≤◌, ◌⊎◌, ◌==◌, ◌&&◌, Bool, true, false, List, [], ◌∷◌, ◌++◌, length, get_or, Option, Some, None, refl, sym, ap, subst, inl, inr, arith}
-use Rattle.std.specs.Prelude.{IfOk, slice_index_or}
+use Rattle.std.proofs.Common.{Result, Ok, Err, Vec, Global, ◌≡◌, ◌∙◌, ℕ, zero, suc, ◌+◌, ◌<◌, ◌≤◌, ◌==◌, ◌&&◌, Bool, true, false, List, [], ◌∷◌, ◌++◌, length, get_or, Option, Some, None, refl, sym, ap, subst, inl, inr, arith}
+use Rattle.std.specs.Prelude.{IfOk}
 use Rattle.std.specs.declared.alloc.AllocError.{AllocError}
-use Rattle.std.specs.List.{Contains, dedup, flat_map}
-use Rattle.std.proofs.lemmas.Bool.{cases_eq, cases_lt, cases_order, eqb-true, false≢true}
+use Rattle.std.specs.List.{Contains, dedup}
+use Rattle.std.proofs.lemmas.Bool.{cases_lt, eqb-true, false≢true}
 use Rattle.std.proofs.lemmas.Option.{same_Some}
 use Rattle.std.proofs.lemmas.List.{get_or_read, get_or_default, length-append}
 use Rattle.std.proofs.lemmas.List.Elements.{All-get_or, Contains-push, Contains-push_cases, Contains-append_left}
 use Rattle.std.proofs.lemmas.List.Kept.{Contains-dedup, Contains-from_dedup}
-use Rattle.cfi_type_table.specs.declared.kind.TheConstants.{FUNC, VARFUNC}
+use Rattle.cfi_type_table.specs.declared.kind.TheConstants.{VARFUNC}
 use Rattle.cfi_type_table.specs.Node.{Node, node_of}
 use Rattle.cfi_types.specs.Classes.{table_of, class_of, IsNodePlace, AreClasses}
 use Rattle.cfi_flow.specs.declared.links.Link.{Link}
@@ -20,9 +20,9 @@ use Rattle.cfi_fits.specs.Fits.{IsCallable, VariadicFits}
 use Rattle.cfi_fits.specs.Widenings.{IsWider, AreWidenings}
 use Rattle.cfi_fits.specs.inner.Prefix.{IsPrefix}
 use Rattle.cfi_fits.specs.inner.Signatures.{kind_of, IsSignature, IsSomeones, AreGathered, Precedes, AreInOrder, Widens}
-use Rattle.cfi_fits.specs.inner.Nearest.{IsUpTo, IsNearest, AreNearest, IsLinked, AreLinksOf}
-use Rattle.cfi_fits.proofs.PrefixLemmas.{same_prefix, prefix_itself}
-use Rattle.cfi_fits.proofs.TypeLemmas.{node_at, key_at, IsWholePlace, FitsByKeys, keys_from_fits, fits_from_keys, same_class}
+use Rattle.cfi_fits.specs.inner.Nearest.{IsNearest, AreNearest, IsLinked, AreLinksOf}
+use Rattle.cfi_fits.proofs.PrefixLemmas.{same_prefix}
+use Rattle.cfi_fits.proofs.TypeLemmas.{node_at, key_at, IsWholePlace, keys_from_fits, fits_from_keys, same_class}
 use Rattle.cfi_fits.proofs.FitsLemmas.{AreSound, AreWhole, exactly, exact_where_none}
 use Rattle.cfi_fits.proofs.GatheringLemmas.{count_all}
 use Rattle.cfi_fits.proofs.NearestLemmas.{widens_between}
@@ -37,17 +37,22 @@ pub linked_at : (signatures : List Signature) (nearest : List (Option ℕ)) (pla
 linked_at signatures nearest place w p q near within is =
     let found : IsNearest signatures place (Some w) =
     subst (λ o. IsNearest signatures place o) is (near.each place within) in
-    let lower : w < place = found.before in
-    (is, λ d. (ap (λ s. s.class) (get_or_default signatures place d p within),
-    ap (λ s. s.class) (get_or_default signatures w d q (omega (arith, lower, within)))))
+    let lower : w < place = found.before in (
+      is,
+      λ d. (
+        ap (λ s. s.class) (get_or_default signatures place d p within),
+        ap (λ s. s.class) (get_or_default signatures w d q (omega (arith, lower, within))),
+      ),
+    )
 
 -- a place has one link
 pub one_link : (signatures : List Signature) (nearest : List (Option ℕ)) (place w from to v f t : ℕ) (d : Signature)
     → IsLinked signatures nearest place w from to → IsLinked signatures nearest place v f t → (f ≡ from) × (t ≡ to)
 one_link signatures nearest place w from to v f t d one other =
-    let same : w ≡ v = same_Some w v (sym one.0 ∙ other.0) in
-    (sym (other.1 d).0 ∙ (one.1 d).0,
-    sym (other.1 d).1 ∙ ap (λ k. (get_or signatures k d).class) (sym same) ∙ (one.1 d).1)
+    let same : w ≡ v = same_Some w v (sym one.0 ∙ other.0) in (
+      sym (other.1 d).0 ∙ (one.1 d).0,
+      sym (other.1 d).1 ∙ ap (λ k. (get_or signatures k d).class) (sym same) ∙ (one.1 d).1,
+    )
 
 module _ (signatures : List Signature) (nearest : List (Option ℕ)) (count : ℕ) (links : List Link)
     (old : AreLinksOf signatures nearest count links) where
@@ -81,9 +86,13 @@ module _ (signatures : List Signature) (nearest : List (Option ℕ)) (count : �
               (place.0, omega (arith, less), place.2, place.3)
           | inr is ↦
               let begin : from ≡ f = ap (λ l. l.from) is in
-              let end : to ≡ t = ap (λ l. l.to) is in
-              (count, omega arith, w, subst (λ k. IsLinked signatures nearest count w k t) begin
-              (subst (λ k. IsLinked signatures nearest count w from k) end new))
+              let end : to ≡ t = ap (λ l. l.to) is in (
+                count,
+                omega arith,
+                w,
+                subst (λ k. IsLinked signatures nearest count w k t) begin
+                    (subst (λ k. IsLinked signatures nearest count w from k) end new),
+              )
         ];
         whole = λ place v f t before is. elim (cases_lt place count) [
           | inl less ↦ elim (old.whole place v f t less is) [
@@ -198,9 +207,13 @@ module _ (tables : List (List Node)) (classes : List (List ℕ)) (are : AreClass
         let lower : w < j = nearest_is.before in
         let on = rest w lower at_most
         (widens_between signatures order v w j d at_most (omega (arith, lower)) within widens) in
-        let linked : IsLinked signatures nearest j w (get_or signatures j d).class (get_or signatures w d).class =
-        (is, λ e. (ap (λ s. s.class) (get_or_default signatures j e d within),
-        ap (λ s. s.class) (get_or_default signatures w e d (omega (arith, lower, within))))) in
+        let linked : IsLinked signatures nearest j w (get_or signatures j d).class (get_or signatures w d).class = (
+          is,
+          λ e. (
+            ap (λ s. s.class) (get_or_default signatures j e d within),
+            ap (λ s. s.class) (get_or_default signatures w e d (omega (arith, lower, within))),
+          ),
+        ) in
         elim (made.whole j w (get_or signatures j d).class (get_or signatures w d).class within linked) [
           | inl same ↦ subst (λ k. Reaches links k (get_or signatures v d).class) (sym same) on
           | inr link ↦ (suc on.0, ((get_or signatures w d).class, link, on.1))
@@ -261,14 +274,19 @@ module _ (tables : List (List Node)) (classes : List (List ℕ)) (are : AreClass
         let some : IsSomeones tables classes narrow =
         All-get_or (λ s. IsSomeones tables classes s) signatures place none within all.sound in
         let other : IsSomeones tables classes wide =
-        All-get_or (λ s. IsSomeones tables classes s) signatures w none (omega (arith, lower, within)) all.sound in
-        (other.0, other.1, some.0, some.1, record {
-          here = other.2.place;
-          there = some.2.place;
-          wider = sym other.2.made.class ∙ (linked.1 none).1;
-          narrower = sym some.2.made.class ∙ (linked.1 none).0;
-          fits = widens_fits other.0 other.1 some.0 some.1 wide narrow other.2 some.2 (near_is.wider none);
-        })
+        All-get_or (λ s. IsSomeones tables classes s) signatures w none (omega (arith, lower, within)) all.sound in (
+          other.0,
+          other.1,
+          some.0,
+          some.1,
+          record {
+            here = other.2.place;
+            there = some.2.place;
+            wider = sym other.2.made.class ∙ (linked.1 none).1;
+            narrower = sym some.2.made.class ∙ (linked.1 none).0;
+            fits = widens_fits other.0 other.1 some.0 some.1 wide narrow other.2 some.2 (near_is.wider none);
+          },
+        )
 
     sound : AreSound tables classes links
     sound from to h =

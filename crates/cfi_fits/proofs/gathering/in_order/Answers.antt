@@ -1,4 +1,4 @@
-use Rattle.std.proofs.Common.{◌≡◌, length}
+use Rattle.std.proofs.Common.{length}
 use Rattle.std.proofs.lemmas.List.Sorted.{sorted_far, ranks_by}
 use Rattle.cfi_fits.specs.contracts.signature.SignatureOrd.TheImpl.Laws.{total-law}
 use Rattle.cfi_fits.proofs.OrderLemmas.{precedes}

@@ -1,4 +1,4 @@
-use Rattle.std.proofs.Common.{◌≡◌, ◌∙◌, ◌<◌, length, get_or, Some, None, true, false, sym, ap, subst, arith}
+use Rattle.std.proofs.Common.{◌∙◌, ◌<◌, length, get_or, Some, None, sym, ap, subst, arith}
 use Rattle.std.proofs.lemmas.Bool.{true≢false}
 use Rattle.std.proofs.lemmas.List.{get_or_read}
 use Rattle.cfi_fits.specs.inner.Prefix.{IsPrefix}
@@ -18,13 +18,13 @@ loop-candidate-preserved c =
     let within : at < length signatures = omega (arith, less, c.requires.place) in
     candidate_drops signatures c.requires.order at place (get_or c.args.nearest.now at None) c.requires.place old
     (λ d begins.
-        let front = ap (λ s. s.key.items) (get_or_read signatures at c.index-signatures-at.result within
-        c.index-signatures-at.is d) in
-        let key = ap (λ s. s.key.items) (get_or_read signatures place c.index-signatures-place.result c.requires.place
-        c.index-signatures-place.is d) in
-        true≢false (sym (c.begins_with.ensures.only
-        (subst (λ l. IsPrefix l c.as_slice-key.result.now) (sym front ∙ ap (λ s. s.key.items) c.index-signatures-at.is ∙ sym c.as_slice.ensures.value)
-        (subst (λ l. IsPrefix (get_or signatures at d).key.items l) (sym key ∙ ap (λ s. s.key.items)
-        c.index-signatures-place.is ∙ sym c.as_slice-key.ensures.value) begins)))
-        ∙ c.if-begins_with.false))
+    let front = ap (λ s. s.key.items) (get_or_read signatures at c.index-signatures-at.result within
+    c.index-signatures-at.is d) in
+    let key = ap (λ s. s.key.items) (get_or_read signatures place c.index-signatures-place.result c.requires.place
+    c.index-signatures-place.is d) in
+    true≢false (sym (c.begins_with.ensures.only
+    (subst (λ l. IsPrefix l c.as_slice-key.result.now) (sym front ∙ ap (λ s. s.key.items) c.index-signatures-at.is ∙ sym c.as_slice.ensures.value)
+    (subst (λ l. IsPrefix (get_or signatures at d).key.items l) (sym key ∙ ap (λ s. s.key.items)
+    c.index-signatures-place.is ∙ sym c.as_slice-key.ensures.value) begins)))
+    ∙ c.if-begins_with.false))
     (c.requires.nearest.each at less)

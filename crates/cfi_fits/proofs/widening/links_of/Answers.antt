@@ -1,6 +1,6 @@
-use Rattle.std.proofs.Common.{◌≡◌, ◌∙◌, ℕ, ◌+◌, ◌<◌, length, get_or, Some, None, sym, ap, subst, arith}
+use Rattle.std.proofs.Common.{◌≡◌, ◌∙◌, ◌+◌, ◌<◌, length, sym, ap, subst, arith}
 use Rattle.std.proofs.lemmas.List.Filters.{dedup_is}
-use Rattle.cfi_fits.specs.inner.Nearest.{IsLinked, AreLinksOf}
+use Rattle.cfi_fits.specs.inner.Nearest.{AreLinksOf}
 use Rattle.cfi_fits.proofs.WideningLemmas.{linked_at, one_link, links_skip, links_more, links_once}
 use Rattle.cfi_fits.proofs.widening.links_of.Goals as goal
 use Rattle.cfi_fits.proofs.widening.links_of.Goals.{in-Some+then-from-to+in_ok-push, in-Some+else-from-to, in_default}

@@ -1,4 +1,4 @@
-use Rattle.std.proofs.Common.{◌≡◌, length, sym, subst}
+use Rattle.std.proofs.Common.{length, sym, subst}
 use Rattle.std.specs.Prelude.{IfOk}
 use Rattle.cfi_fits.specs.inner.Signatures.{AreInOrder}
 use Rattle.cfi_fits.specs.inner.Nearest.{AreNearest, AreLinksOf}
