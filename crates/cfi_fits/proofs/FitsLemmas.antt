@@ -1,7 +1,6 @@
 -- Fitting and links: what leads to wider classes one after another leads to what fits.
-use Rattle.std.proofs.Common.{◌≡◌, ◌∙◌, ℕ, zero, suc, ◌⊎◌, ◌<◌, List, [], refl, sym, subst, inl, inr, arith}
+use Rattle.std.proofs.Common.{◌≡◌, ◌∙◌, ℕ, zero, suc, ◌⊎◌, List, refl, sym, subst, inl, inr}
 use Rattle.std.specs.Prelude.{◌↔◌}
-use Rattle.cfi_type_table.specs.declared.kind.TheConstants.{VARFUNC}
 use Rattle.cfi_type_table.specs.Node.{Node}
 use Rattle.cfi_types.specs.Classes.{table_of, class_of, IsNodePlace, AreClasses}
 use Rattle.cfi_flow.specs.declared.links.Link.{Link}
@@ -28,6 +27,7 @@ abbrev AllFit : List (List Node) → List (List ℕ) → (from to : ℕ) → Typ
 AllFit tables classes from to = (t a u b : ℕ) → IsNodePlace tables t a → IsNodePlace tables u b
     → class_of classes t a ≡ to → class_of classes u b ≡ from → FitsByKeys tables classes t a u b
 
+-- what fits a type that fits another fits this one
 fits_trans : (tables : List (List Node)) (classes : List (List ℕ)) (t a v c u b : ℕ)
     → FitsByKeys tables classes t a v c → FitsByKeys tables classes v c u b → FitsByKeys tables classes t a u b
 fits_trans tables classes t a v c u b p q = record {
@@ -75,9 +75,11 @@ module _ (tables : List (List Node)) (classes : List (List ℕ)) (are : AreClass
               (is_from ∙ sym is.narrower) is.fits)
           | inr fits ↦ inr (λ t a u b here there is_to is_from.
               fits_trans tables classes t a s.0 s.1 u b (fits t a s.0 s.1 here is.here is_to is.wider)
-              (moved s.0 s.1 u b s.0 s.1 s.2 s.3 is.here there is.here is.there refl (is_from ∙ sym is.narrower) is.fits))
+              (moved s.0 s.1 u b s.0 s.1 s.2 s.3 is.here there is.here is.there refl (is_from ∙ sym is.narrower)
+              is.fits))
         ]
 
+    -- types of one class fit one another
     one_class : (t a u b : ℕ) → IsNodePlace tables t a → IsNodePlace tables u b → IsCallable (node_at tables t a).kind
         → class_of classes t a ≡ class_of classes u b → Fits (table_of tables t) a (table_of tables u) b
     one_class t a u b here there callable same =
@@ -90,7 +92,8 @@ module _ (tables : List (List Node)) (classes : List (List ℕ)) (are : AreClass
               inr (fits_from_keys tables classes are t a u b p q (record {
                 variadic = varied;
                 callable = inr other;
-                begins = subst (λ k. IsPrefix (key_at tables classes t a) k) (same_key tables classes are t a u b p q same)
+                begins = subst (λ k. IsPrefix (key_at tables classes t a) k)
+                    (same_key tables classes are t a u b p q same)
                     (prefix_itself (key_at tables classes t a));
               }))
         ]
@@ -108,30 +111,7 @@ module _ (tables : List (List Node)) (classes : List (List ℕ)) (are : AreClass
         | inl same ↦ one_class t a u b here there callable (sym same)
         | inr fits ↦
             let keys = fits t a u b here there refl refl in
-            inr (fits_from_keys tables classes are t a u b (names t a here callable) (names u b there keys.callable) keys)
+            inr (fits_from_keys tables classes are t a u b (names t a here callable)
+            (names u b there keys.callable) keys)
       ],
     )
-
--- without types of variable arguments, equal types alone fit
-pub exact_where_none : (tables : List (List Node)) (classes : List (List ℕ)) → AreClasses tables classes
-    → ((t a : ℕ) → IsNodePlace tables t a → (node_at tables t a).kind ≡ VARFUNC → ⊥) → (t a u b : ℕ)
-    → IsNodePlace tables t a → IsNodePlace tables u b → IsCallable (node_at tables t a).kind
-    → Fits (table_of tables t) a (table_of tables u) b ↔ Reaches [] (class_of classes u b) (class_of classes t a)
-exact_where_none tables classes are none t a u b here there callable = (
-  λ fits. elim fits [
-    | inl fixed ↦ (0, sym ((are.equal t a u b here there).1 fixed.1))
-    | inr varied ↦ absurd (none t a here varied.variadic)
-  ],
-  λ path. back path.0 path.1,
-)
-  where
-    back : (steps : ℕ) → IsPath [] steps (class_of classes u b) (class_of classes t a)
-        → Fits (table_of tables t) a (table_of tables u) b
-    back zero same = elim callable [
-      | inl fixed ↦ inl (fixed, (are.equal t a u b here there).0 (sym same))
-      | inr varied ↦ absurd (none t a here varied)
-    ]
-    back (suc steps) path =
-        let h = path.1 in
-        let before : h.0 < 0 = h.1 in
-        absurd (omega (arith, before))

@@ -18,6 +18,7 @@ use Rattle.cfi_fits.proofs.TypeLemmas.{names_at}
 
 -- ---- counts
 
+-- one more table's nodes
 count_next : (ns : List ℕ) (t : ℕ) → t < length ns → count_before ns (t + 1) ≡ count_before ns t + get_or ns t 0
 count_next [] t lt = absurd (omega (arith, lt))
 count_next (n ∷ []) zero lt = omega arith
@@ -28,6 +29,7 @@ count_next (n ∷ ns) (suc t) lt =
     ap (λ k. count_before (n ∷ ns) k) next in
     omega (arith, more, count_next ns t (omega (arith, lt)))
 
+-- the nodes of all tables
 pub count_all : (tables : List (List Node))
     → count_before (map (λ xs. length xs) tables) (length tables) ≡ length (flat_map (λ xs. xs) tables)
 count_all [] = refl
@@ -56,6 +58,7 @@ signature_at tables classes t a row nodes x s lt la row_is nodes_is x_is types m
 
 -- ---- gathering
 
+-- a node before the next one is before this one, or this one
 earlier_cases : (u b t a : ℕ) → IsEarlier u b t (a + 1) → IsEarlier u b t a ⊎ ((u ≡ t) × (b ≡ a))
 earlier_cases u b t a h =
     elim h [
@@ -67,6 +70,7 @@ earlier_cases u b t a h =
     ]
 
 module _ (tables : List (List Node)) (classes : List (List ℕ)) where
+  -- before the first table there are none
   pub gather_none : AreGathered tables classes 0 0 []
   gather_none = record {
     sound = All-nil (λ s. IsSomeones tables classes s);

@@ -4,4 +4,5 @@ pub mod OrderLemmas
 pub mod NearestLemmas
 pub mod FitsLemmas
 pub mod GatheringLemmas
+pub mod LinkLemmas
 pub mod WideningLemmas

@@ -40,16 +40,19 @@ module _ (signatures : List Signature) (order : AreInOrder signatures) where
             holds v d lower (widens_between v p place d at_most (omega (arith, less)) within wide)
       ]
 
+  -- what is found before an earlier place is before a later one
   before_too : (p place : ℕ) (found : Option ℕ) → p < place → IfSome found (λ at. at < p)
       → IfSome found (λ at. at < place)
   before_too p place None less h = tt
   before_too p place (Some at) less h = omega (arith, less, h)
 
+  -- what is wider has variable arguments
   variadic_too : (p : ℕ) (found : Option ℕ) → IfSome found (λ at. WidensAt signatures at p)
       → IfSome found (λ at. IsVariadicAt signatures at)
   variadic_too p None h = tt
   variadic_too p (Some at) h = λ d. (h d).0
 
+  -- the nearest of a place that is no wider is a candidate
   candidate_on : (p place : ℕ) (found : Option ℕ) → p < place → place < length signatures
       → ((v : ℕ) (d : Signature) → v < place → Widens (get_or signatures v d) (get_or signatures place d) → v ≤ p)
       → ((d : Signature) → Widens (get_or signatures p d) (get_or signatures place d) → ⊥)
@@ -86,6 +89,7 @@ nearest_found signatures at place old begins = record {
   holds = old.holds;
 }
 
+-- where no candidate is left there is none
 pub nearest_none : (signatures : List Signature) (place : ℕ) → IsCandidate signatures place None
     → IsNearest signatures place None
 nearest_none signatures place old = record { before = tt; wider = tt; holds = old.holds }

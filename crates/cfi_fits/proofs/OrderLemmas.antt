@@ -46,6 +46,7 @@ abbrev pub order_of : Signature → Signature → Ordering
 order_of x y = ordering_then (slice_cmp nat_cmp x.key.items y.key.items)
     (ordering_then (bool_cmp x.fixed y.fixed) (nat_cmp x.class y.class))
 
+-- a signature before which another does not come precedes it
 pub precedes : (x y : Signature) → is_lt (order_of y x) ≡ false → Precedes x y
 precedes x y h = record {
   keys = not_after x.key.items y.key.items (ordering_then (bool_cmp y.fixed x.fixed) (nat_cmp y.class x.class)) h;

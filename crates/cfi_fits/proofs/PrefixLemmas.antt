@@ -13,6 +13,7 @@ prefix_from_take (x ∷ xs) (y ∷ ys) e =
     let tail : xs ≡ take (length xs) ys = cc in
     (head, prefix_from_take xs ys tail)
 
+-- and the other way round
 take_from_prefix : (xs ys : List ℕ) → IsPrefix xs ys → xs ≡ take (length xs) ys
 take_from_prefix [] ys h = refl
 take_from_prefix (x ∷ xs) [] h = absurd h
@@ -26,6 +27,7 @@ pub prefix_from_test : (xs ys : List ℕ) (r : Bool) → r ≡ pointwise nat_eq 
     → IsPrefix xs ys
 prefix_from_test xs ys r is holds = prefix_from_take xs ys (same_text xs (take (length xs) ys) (sym holds ∙ is))
 
+-- and the other way round
 pub test_from_prefix : (xs ys : List ℕ) (r : Bool) → r ≡ pointwise nat_eq xs (take (length xs) ys) → IsPrefix xs ys
     → r ≡ true
 test_from_prefix xs ys r is h =
@@ -42,6 +44,7 @@ pub prefix_itself : (xs : List ℕ) → IsPrefix xs xs
 prefix_itself [] = tt
 prefix_itself (x ∷ xs) = (refl, prefix_itself xs)
 
+-- what begins what begins a list begins the list
 pub prefix_trans : (xs ys zs : List ℕ) → IsPrefix xs ys → IsPrefix ys zs → IsPrefix xs zs
 prefix_trans [] ys zs p q = tt
 prefix_trans (x ∷ xs) [] zs p q = absurd p

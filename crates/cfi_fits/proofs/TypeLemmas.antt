@@ -72,11 +72,13 @@ row_length tables classes are t lt =
     ∙ ap (λ ns. get_or ns t 0) are.shape ∙ get_or-map (λ (x : List Node). length x) tables t [] 0 lt
 
 module _ (tables : List (List Node)) (classes : List (List ℕ)) (are : AreClasses tables classes) where
+  -- what a whole place names is there
   named : (t a : ℕ) → IsWholePlace tables t a → All (λ k. IsNodePlace tables t k) (nodes_of (node_at tables t a))
   named t a at =
       All-weaker (λ k. k < length (table_of tables t)) (λ k. IsNodePlace tables t k) (λ k lt. (at.place.0, lt))
       (nodes_of (node_at tables t a)) at.names
 
+  -- equal nodes, pair by pair, have one class each
   prefix_from_zip : (t u : ℕ) (ns ms : List ℕ) → All (λ k. IsNodePlace tables t k) ns
       → All (λ k. IsNodePlace tables u k) ms → length ns ≤ length ms
       → AllZip (λ c d. Equal (table_of tables t) c (table_of tables u) d) ns (take (length ns) ms)
@@ -90,6 +92,7 @@ module _ (tables : List (List Node)) (classes : List (List ℕ)) (are : AreClass
         (All-tail (λ k. IsNodePlace tables u k) m ms q) (omega (arith, enough)) h.1,
   )
 
+  -- and the other way round
   zip_from_prefix : (t u : ℕ) (ns ms : List ℕ) → All (λ k. IsNodePlace tables t k) ns
       → All (λ k. IsNodePlace tables u k) ms
       → IsPrefix (map (λ k. class_of classes t k) ns) (map (λ k. class_of classes u k) ms)
@@ -103,6 +106,7 @@ module _ (tables : List (List Node)) (classes : List (List ℕ)) (are : AreClass
         (All-tail (λ k. IsNodePlace tables u k) m ms q) h.1,
   )
 
+  -- lists of equal nodes have one list of classes
   keys_from_zip : (t u : ℕ) (ns ms : List ℕ) → All (λ k. IsNodePlace tables t k) ns
       → All (λ k. IsNodePlace tables u k) ms
       → AllZip (λ c d. Equal (table_of tables t) c (table_of tables u) d) ns ms
@@ -129,6 +133,7 @@ module _ (tables : List (List Node)) (classes : List (List ℕ)) (are : AreClass
         (named u b there) h.enough h.begins;
   }
 
+  -- and the other way round
   pub fits_from_keys : (t a u b : ℕ) → IsWholePlace tables t a → IsWholePlace tables u b
       → FitsByKeys tables classes t a u b → VariadicFits (table_of tables t) a (table_of tables u) b
   fits_from_keys t a u b here there h =
@@ -144,11 +149,12 @@ module _ (tables : List (List Node)) (classes : List (List ℕ)) (are : AreClass
         begins = zip_from_prefix t u ns ms (named t a here) (named u b there) h.begins;
       }
 
-  -- types of one class have one kind and one key
+  -- types of one class have one kind
   pub same_kind : (t a u b : ℕ) → IsNodePlace tables t a → IsNodePlace tables u b
       → class_of classes t a ≡ class_of classes u b → (node_at tables t a).kind ≡ (node_at tables u b).kind
   same_kind t a u b here there same = (((are.equal t a u b here there).0 same) 1).0
 
+  -- types of one class have one key
   pub same_key : (t a u b : ℕ) → IsWholePlace tables t a → IsWholePlace tables u b
       → class_of classes t a ≡ class_of classes u b → key_at tables classes t a ≡ key_at tables classes u b
   same_key t a u b here there same =

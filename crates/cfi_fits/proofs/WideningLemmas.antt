@@ -1,20 +1,16 @@
 -- The links of nearest wider ones are widenings.
-use Rattle.std.proofs.Common.{Result, Ok, Err, Vec, Global, ◌≡◌, ◌∙◌, ℕ, zero, suc, ◌+◌, ◌<◌, ◌≤◌, ◌==◌, ◌&&◌, Bool, true, false, List, [], ◌∷◌, ◌++◌, length, get_or, Option, Some, None, refl, sym, ap, subst, inl, inr, arith}
+use Rattle.std.proofs.Common.{Result, Ok, Err, Vec, Global, ◌≡◌, ◌∙◌, ℕ, zero, suc, ◌<◌, ◌≤◌, Bool, true, false, List, [], ◌∷◌, length, get_or, Option, Some, None, refl, sym, ap, subst, inl, inr, arith}
 use Rattle.std.specs.Prelude.{IfOk}
 use Rattle.std.specs.declared.alloc.AllocError.{AllocError}
-use Rattle.std.specs.List.{Contains, dedup}
-use Rattle.std.proofs.lemmas.Bool.{cases_lt, eqb-true, false≢true}
-use Rattle.std.proofs.lemmas.Option.{same_Some}
-use Rattle.std.proofs.lemmas.List.{get_or_read, get_or_default, length-append}
-use Rattle.std.proofs.lemmas.List.Elements.{All-get_or, Contains-push, Contains-push_cases, Contains-append_left}
-use Rattle.std.proofs.lemmas.List.Kept.{Contains-dedup, Contains-from_dedup}
+use Rattle.std.specs.List.{Contains}
+use Rattle.std.proofs.lemmas.Bool.{cases_lt}
+use Rattle.std.proofs.lemmas.List.{get_or_read, get_or_default}
+use Rattle.std.proofs.lemmas.List.Elements.{All-get_or}
 use Rattle.cfi_type_table.specs.declared.kind.TheConstants.{VARFUNC}
-use Rattle.cfi_type_table.specs.Node.{Node, node_of}
+use Rattle.cfi_type_table.specs.Node.{Node}
 use Rattle.cfi_types.specs.Classes.{table_of, class_of, IsNodePlace, AreClasses}
 use Rattle.cfi_flow.specs.declared.links.Link.{Link}
-use Rattle.cfi_flow.specs.Flow.{Links, Reaches}
-use Rattle.cfi_flow.specs.contracts.links.LinkEq.TheImpl.Laws.{laws-law}
-use Rattle.cfi_flow.proofs.OrderLemmas.{length-dedup}
+use Rattle.cfi_flow.specs.Flow.{Reaches}
 use Rattle.cfi_fits.specs.declared.signature.Signature.{Signature}
 use Rattle.cfi_fits.specs.Fits.{IsCallable, VariadicFits}
 use Rattle.cfi_fits.specs.Widenings.{IsWider, AreWidenings}
@@ -23,120 +19,9 @@ use Rattle.cfi_fits.specs.inner.Signatures.{kind_of, IsSignature, IsSomeones, Ar
 use Rattle.cfi_fits.specs.inner.Nearest.{IsNearest, AreNearest, IsLinked, AreLinksOf}
 use Rattle.cfi_fits.proofs.PrefixLemmas.{same_prefix}
 use Rattle.cfi_fits.proofs.TypeLemmas.{node_at, key_at, IsWholePlace, keys_from_fits, fits_from_keys, same_class}
-use Rattle.cfi_fits.proofs.FitsLemmas.{AreSound, AreWhole, exactly, exact_where_none}
+use Rattle.cfi_fits.proofs.FitsLemmas.{AreSound, AreWhole, exactly}
 use Rattle.cfi_fits.proofs.GatheringLemmas.{count_all}
 use Rattle.cfi_fits.proofs.NearestLemmas.{widens_between}
-
--- ---- links
-
--- what is found gives a link
-pub linked_at : (signatures : List Signature) (nearest : List (Option ℕ)) (place w : ℕ) (p q : Signature)
-    → AreNearest signatures nearest (length signatures) → place < length signatures
-    → get_or nearest place None ≡ Some w
-    → IsLinked signatures nearest place w (get_or signatures place p).class (get_or signatures w q).class
-linked_at signatures nearest place w p q near within is =
-    let found : IsNearest signatures place (Some w) =
-    subst (λ o. IsNearest signatures place o) is (near.each place within) in
-    let lower : w < place = found.before in (
-      is,
-      λ d. (
-        ap (λ s. s.class) (get_or_default signatures place d p within),
-        ap (λ s. s.class) (get_or_default signatures w d q (omega (arith, lower, within))),
-      ),
-    )
-
--- a place has one link
-pub one_link : (signatures : List Signature) (nearest : List (Option ℕ)) (place w from to v f t : ℕ) (d : Signature)
-    → IsLinked signatures nearest place w from to → IsLinked signatures nearest place v f t → (f ≡ from) × (t ≡ to)
-one_link signatures nearest place w from to v f t d one other =
-    let same : w ≡ v = same_Some w v (sym one.0 ∙ other.0) in (
-      sym (other.1 d).0 ∙ (one.1 d).0,
-      sym (other.1 d).1 ∙ ap (λ k. (get_or signatures k d).class) (sym same) ∙ (one.1 d).1,
-    )
-
-module _ (signatures : List Signature) (nearest : List (Option ℕ)) (count : ℕ) (links : List Link)
-    (old : AreLinksOf signatures nearest count links) where
-  -- the next place needs no link
-  pub links_skip : ((w f t : ℕ) → IsLinked signatures nearest count w f t → f ≡ t)
-      → AreLinksOf signatures nearest (count + 1) links
-  links_skip none = record {
-    sound = λ from to h.
-        let had = old.sound from to h in
-        let less : had.0 < count = had.1 in
-        (had.0, omega (arith, less), had.2, had.3);
-    whole = λ place w f t before is. elim (cases_lt place count) [
-      | inl less ↦ old.whole place w f t less is
-      | inr last ↦
-          let here : place ≡ count = omega (arith, before, last) in
-          inl (none w f t (subst (λ k. IsLinked signatures nearest k w f t) here is))
-    ];
-    few = omega (arith, old.few);
-  }
-
-  -- the next place's link is added
-  pub links_more : (w from to : ℕ) (d : Signature) → IsLinked signatures nearest count w from to
-      → AreLinksOf signatures nearest (count + 1) (links ++ record { from = from; to = to } ∷ [])
-  links_more w from to d new =
-      let link : Link = record { from = from; to = to } in
-      record {
-        sound = λ f t h. elim (Contains-push_cases links link (record { from = f; to = t }) h) [
-          | inl had ↦
-              let place = old.sound f t had in
-              let less : place.0 < count = place.1 in
-              (place.0, omega (arith, less), place.2, place.3)
-          | inr is ↦
-              let begin : from ≡ f = ap (λ l. l.from) is in
-              let end : to ≡ t = ap (λ l. l.to) is in (
-                count,
-                omega arith,
-                w,
-                subst (λ k. IsLinked signatures nearest count w k t) begin
-                    (subst (λ k. IsLinked signatures nearest count w from k) end new),
-              )
-        ];
-        whole = λ place v f t before is. elim (cases_lt place count) [
-          | inl less ↦ elim (old.whole place v f t less is) [
-            | inl same ↦ inl same
-            | inr had ↦ inr (Contains-append_left links (link ∷ []) (record { from = f; to = t }) had)
-          ]
-          | inr last ↦
-              let here : place ≡ count = omega (arith, before, last) in
-              let both = one_link signatures nearest count w from to v f t d new
-              (subst (λ k. IsLinked signatures nearest k v f t) here is) in
-              inr (subst (λ k. Links (links ++ link ∷ []) k t) (sym both.0)
-              (subst (λ k. Links (links ++ link ∷ []) from k) (sym both.1) (Contains-push links link)))
-        ];
-        few = omega (arith, old.few, length-append links (link ∷ []));
-      }
-
-both_hold : (a b : Bool) → (a && b) ≡ true → (a ≡ true) × (b ≡ true)
-both_hold true b h = (refl, h)
-both_hold false b h = absurd (false≢true h)
-
-abbrev same_ends : Link → Link → Bool
-same_ends a b = a.from == b.from && a.to == b.to
-
-make_link : ℕ → ℕ → Link
-make_link a b = record { from = a; to = b }
-
-same_link : (a b : Link) → same_ends a b ≡ true → a ≡ b
-unfolding make_link
-same_link a b h =
-    let both = both_hold (a.from == b.from) (a.to == b.to) h in
-    ap (λ n. make_link n a.to) (eqb-true a.from b.from both.0)
-    ∙ ap (λ n. make_link b.from n) (eqb-true a.to b.to both.1)
-
--- each link once
-pub links_once : (signatures : List Signature) (nearest : List (Option ℕ)) (count : ℕ) (links : List Link)
-    → AreLinksOf signatures nearest count links → AreLinksOf signatures nearest count (dedup same_ends links)
-links_once signatures nearest count links old = record {
-  sound = λ from to h. old.sound from to (Contains-from_dedup same_ends links (record { from = from; to = to }) h);
-  whole = λ place w f t before is. elim (old.whole place w f t before is) [
-    | inl same ↦ inl same
-    | inr had ↦ inr (Contains-dedup laws-law same_link links (record { from = f; to = t }) had)
-  ];
-  few = omega (arith, old.few, length-dedup same_ends links);
-}
 
 -- ---- signatures of places
 
@@ -145,19 +30,23 @@ some_of : (signatures : List Signature) (k : ℕ) → k < length signatures → 
 some_of [] k lt = absurd (omega (arith, lt))
 some_of (s ∷ signatures) k lt = s
 
+-- a place with a signature names nodes that are there
 whole_place : (tables : List (List Node)) (classes : List (List ℕ)) (t a : ℕ) (s : Signature)
     → IsSignature tables classes t a s → IsWholePlace tables t a
 whole_place tables classes t a s is = record { place = is.place; names = is.names }
 
+-- a signature of a kind with variable arguments has them
 fixed_cases : (fixed : Bool) (kind : ℕ) → kind ≡ kind_of fixed → kind ≡ VARFUNC → fixed ≡ false
 fixed_cases true kind is varied = absurd (omega (arith, is, varied))
 fixed_cases false kind is varied = refl
 
+-- the kind of a signature is a function's
 callable_kind : (fixed : Bool) (kind : ℕ) → kind ≡ kind_of fixed → IsCallable kind
 callable_kind true kind is = inl is
 callable_kind false kind is = inr is
 
 module _ (tables : List (List Node)) (classes : List (List ℕ)) (are : AreClasses tables classes) where
+  -- what fits by types widens by signatures
   fits_widens : (t a u b : ℕ) (r s : Signature) → IsSignature tables classes t a r → IsSignature tables classes u b s
       → VariadicFits (table_of tables t) a (table_of tables u) b → Widens r s
   fits_widens t a u b r s one other fits =
@@ -168,6 +57,7 @@ module _ (tables : List (List Node)) (classes : List (List ℕ)) (are : AreClass
             (subst (λ k. IsPrefix (key_at tables classes t a) k) (sym other.made.key) keys.begins),
       )
 
+  -- and the other way round
   widens_fits : (t a u b : ℕ) (r s : Signature) → IsSignature tables classes t a r → IsSignature tables classes u b s
       → Widens r s → VariadicFits (table_of tables t) a (table_of tables u) b
   widens_fits t a u b r s one other widens =
@@ -179,6 +69,7 @@ module _ (tables : List (List Node)) (classes : List (List ℕ)) (are : AreClass
             (subst (λ k. IsPrefix r.key.items k) other.made.key widens.1);
       })
 
+  -- signatures with variable arguments and one key are of one class
   twins_class : (t a u b : ℕ) (r s : Signature) → IsSignature tables classes t a r → IsSignature tables classes u b s
       → r.fixed ≡ false → s.fixed ≡ false → r.key.items ≡ s.key.items → class_of classes t a ≡ class_of classes u b
   twins_class t a u b r s one other r_varied s_varied same =
@@ -192,6 +83,7 @@ module _ (tables : List (List Node)) (classes : List (List ℕ)) (are : AreClass
       (order : AreInOrder signatures) (nearest : List (Option ℕ))
       (near : AreNearest signatures nearest (length signatures)) (links : List Link)
       (made : AreLinksOf signatures nearest (length signatures) links) where
+    -- the class of a place
     class_at : ℕ → Signature → ℕ
     class_at k d = (get_or signatures k d).class
 
@@ -288,17 +180,20 @@ module _ (tables : List (List Node)) (classes : List (List ℕ)) (are : AreClass
           },
         )
 
+    -- each link leads to a wider class
     sound : AreSound tables classes links
     sound from to h =
         let had = made.sound from to h in
         wider from to had.0 had.2 had.1 had.3
 
+    -- the links lead to all wider classes
     whole : AreWhole tables classes links
     whole t a u b here there fits =
         let r = all.whole t a here (inl here.0) (inr fits.variadic) in
         let s = all.whole u b there (inl there.0) fits.callable in
         reaches t a u b r.0 s.0 r.2 s.2 r.1 s.1 (fits_widens t a u b r.0 s.0 r.2 s.2 fits)
 
+    -- places of functions' types name nodes that are there
     whole_places : (t a : ℕ) → IsNodePlace tables t a → IsCallable (node_at tables t a).kind → IsWholePlace tables t a
     whole_places t a here callable =
         let s = all.whole t a here (inl here.0) callable in
@@ -323,14 +218,3 @@ pub widenings_when : (tables : List (List Node)) (classes : List (List ℕ)) →
 widenings_when tables classes are signatures all order nearest near (Ok links) made =
     are_widenings tables classes are signatures all order nearest near links.items made
 widenings_when tables classes are signatures all order nearest near (Err e) made = tt
-
--- where no type has variable arguments there need to be no links
-pub no_widenings : (tables : List (List Node)) (classes : List (List ℕ)) → AreClasses tables classes
-    → ((t a : ℕ) → IsNodePlace tables t a → (node_of (table_of tables t) a).kind ≡ VARFUNC → ⊥)
-    → AreWidenings tables classes []
-no_widenings tables classes are none = record {
-  sound = λ from to h. let before : h.0 < 0 = h.1 in absurd (omega (arith, before));
-  whole = λ t a u b here there fits. absurd (none t a here fits.variadic);
-  exact = λ t a u b. exact_where_none tables classes are none t a u b;
-  few = omega arith;
-}

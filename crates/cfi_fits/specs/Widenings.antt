@@ -16,9 +16,8 @@ pub record IsWider (tables : List (List Node)) (classes : List (List ℕ)) (narr
   pub narrower : class_of classes u b ≡ narrow
   pub fits : VariadicFits (table_of tables t) a (table_of tables u) b
 
--- each link leads to a wider class, the links lead from each class to all wider ones, so that they lead from the class
--- of a type to that of a function's exactly where pointers to this may reach functions of that; and there are at most as
--- many as there are nodes
+-- each link leads to a wider class, and the links lead from each class to all wider ones: they lead from the class of a
+-- function's type to that of a pointer's exactly where the one fits the other; there are no more links than nodes
 pub record AreWidenings (tables : List (List Node)) (classes : List (List ℕ)) (links : List Link) : Type 0 where
   pub sound : (from to : ℕ) → Links links from to
       → (t : ℕ) × (a : ℕ) × (u : ℕ) × (b : ℕ) × IsWider tables classes from to t a u b

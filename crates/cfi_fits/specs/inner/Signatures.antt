@@ -26,7 +26,8 @@ pub record IsMadeOf (row : List ℕ) (x : Node) (number : ℕ) (signature : Sign
   pub class : signature.class ≡ number
 
 -- the signature of node a of table t, which names nodes that are there
-pub record IsSignature (tables : List (List Node)) (classes : List (List ℕ)) (t a : ℕ) (signature : Signature) : Type 0 where
+pub record IsSignature (tables : List (List Node)) (classes : List (List ℕ)) (t a : ℕ) (signature : Signature)
+    : Type 0 where
   pub place : IsNodePlace tables t a
   pub names : NamesBelow (length (table_of tables t)) (node_of (table_of tables t) a)
   pub made : IsMadeOf (slice_index_or classes t []) (node_of (table_of tables t) a) (class_of classes t a) signature

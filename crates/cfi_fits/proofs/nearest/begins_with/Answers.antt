@@ -5,4 +5,5 @@ pub returns-clause-yes : goal.returns-clause-yes
 returns-clause-yes c = prefix_from_test c.args.front.now c.args.key.now c.starts_with.result c.starts_with.ensures.value
 
 pub returns-clause-only : goal.returns-clause-only
-returns-clause-only c = test_from_prefix c.args.front.now c.args.key.now c.starts_with.result c.starts_with.ensures.value
+returns-clause-only c =
+    test_from_prefix c.args.front.now c.args.key.now c.starts_with.result c.starts_with.ensures.value

@@ -23,7 +23,8 @@ loop-candidate-preserved c =
     let key = ap (λ s. s.key.items) (get_or_read signatures place c.index-signatures-place.result c.requires.place
     c.index-signatures-place.is d) in
     true≢false (sym (c.begins_with.ensures.only
-    (subst (λ l. IsPrefix l c.as_slice-key.result.now) (sym front ∙ ap (λ s. s.key.items) c.index-signatures-at.is ∙ sym c.as_slice.ensures.value)
+    (subst (λ l. IsPrefix l c.as_slice-key.result.now) (sym front ∙ ap (λ s. s.key.items)
+    c.index-signatures-at.is ∙ sym c.as_slice.ensures.value)
     (subst (λ l. IsPrefix (get_or signatures at d).key.items l) (sym key ∙ ap (λ s. s.key.items)
     c.index-signatures-place.is ∙ sym c.as_slice-key.ensures.value) begins)))
     ∙ c.if-begins_with.false))

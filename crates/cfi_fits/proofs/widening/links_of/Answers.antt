@@ -1,7 +1,7 @@
 use Rattle.std.proofs.Common.{◌≡◌, ◌∙◌, ◌+◌, ◌<◌, length, sym, ap, subst, arith}
 use Rattle.std.proofs.lemmas.List.Filters.{dedup_is}
 use Rattle.cfi_fits.specs.inner.Nearest.{AreLinksOf}
-use Rattle.cfi_fits.proofs.WideningLemmas.{linked_at, one_link, links_skip, links_more, links_once}
+use Rattle.cfi_fits.proofs.LinkLemmas.{linked_at, one_link, links_skip, links_more, links_once}
 use Rattle.cfi_fits.proofs.widening.links_of.Goals as goal
 use Rattle.cfi_fits.proofs.widening.links_of.Goals.{in-Some+then-from-to+in_ok-push, in-Some+else-from-to, in_default}
 
@@ -11,7 +11,8 @@ loop-place-preserved c =
     let nearest = c.args.nearest.now in
     let place = c.loop-place.place in
     let old = c.loop-place.links.items in
-    let within : c.loop-place.place < length c.args.signatures.now = omega (arith, c.loop-place-test.true, c.requires.len) in
+    let within : c.loop-place.place < length c.args.signatures.now =
+    omega (arith, c.loop-place-test.true, c.requires.len) in
     elim c.match-found.branch [
       | in-Some+then-from-to+in_ok-push w ↦
           let linked = linked_at signatures nearest place w.in-Some.wide w.index-signatures-place.result
@@ -26,7 +27,8 @@ loop-place-preserved c =
           subst (λ v. AreLinksOf c.args.signatures.now c.args.nearest.now (c.loop-place.place + 1) v.items)
           (sym w.links-is)
           (links_skip signatures nearest place old c.loop-place.invariant (λ v f t is.
-          let both = one_link signatures nearest place w.in-Some.wide _ _ v f t w.index-signatures-place.result linked is in
+          let both = one_link signatures nearest place w.in-Some.wide _ _ v f t w.index-signatures-place.result linked
+          is in
           both.0 ∙ w.if-from-to.false ∙ sym both.1))
       | in_default w ↦
           subst (λ v. AreLinksOf c.args.signatures.now c.args.nearest.now (c.loop-place.place + 1) v.items)

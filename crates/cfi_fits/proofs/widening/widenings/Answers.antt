@@ -10,13 +10,17 @@ nearest_all-requires c = subst AreInOrder (sym c.as_slice.ensures.value) c.in_ok
 
 pub returns : goal.returns
 returns c =
-    let near : AreNearest c.in_ok-signatures.signatures.items c.in_ok-nearest.nearest.items (length c.in_ok-signatures.signatures.items) =
-    subst (λ l. AreNearest l c.in_ok-nearest.nearest.items (length l)) c.as_slice.ensures.value c.in_ok-nearest.ensures in
-    let made : IfOk c.links_of.result (λ links. AreLinksOf c.in_ok-signatures.signatures.items c.in_ok-nearest.nearest.items (length c.in_ok-signatures.signatures.items) links.items) =
+    let near : AreNearest c.in_ok-signatures.signatures.items c.in_ok-nearest.nearest.items
+    (length c.in_ok-signatures.signatures.items) =
+    subst (λ l. AreNearest l c.in_ok-nearest.nearest.items (length l)) c.as_slice.ensures.value
+    c.in_ok-nearest.ensures in
+    let made : IfOk c.links_of.result (λ links. AreLinksOf c.in_ok-signatures.signatures.items
+    c.in_ok-nearest.nearest.items (length c.in_ok-signatures.signatures.items) links.items) =
     subst (λ l. IfOk c.links_of.result (λ links. AreLinksOf l c.in_ok-nearest.nearest.items (length l) links.items))
     c.as_slice-2.ensures.value
-    (subst (λ n. IfOk c.links_of.result (λ links. AreLinksOf c.as_slice-2.result.now n (length c.as_slice-2.result.now) links.items))
+    (subst (λ n. IfOk c.links_of.result
+    (λ links. AreLinksOf c.as_slice-2.result.now n (length c.as_slice-2.result.now) links.items))
     c.as_slice-3.ensures.value c.links_of.ensures) in
     widenings_when c.args.book.now c.args.classes.now c.requires c.in_ok-signatures.signatures.items
-    c.in_ok-signatures.ensures.all c.in_ok-signatures.ensures.order c.in_ok-nearest.nearest.items near c.links_of.result
-    made
+    c.in_ok-signatures.ensures.all c.in_ok-signatures.ensures.order c.in_ok-nearest.nearest.items near
+    c.links_of.result made
