@@ -1,0 +1,8 @@
+pub mod PrefixLemmas
+pub mod TypeLemmas
+pub mod OrderLemmas
+pub mod NearestLemmas
+pub mod FitsLemmas
+pub mod GatheringLemmas
+pub mod LinkLemmas
+pub mod WideningLemmas
