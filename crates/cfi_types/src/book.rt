@@ -3,14 +3,14 @@
 ghost use Rattle.std.specs.Prelude.{◌≡◌, ◌<◌, ◌^◌, [], ◌∷◌, ◌++◌, length, OnOk, OnErr, IfOk};
 ghost use Rattle.std.specs.List.{flat_map, AllByRecursion};
 ghost use Rattle.cfi_type_table.specs.Spelling.{AreTypes};
-ghost use Rattle.cfi_types.specs.Classes.{AreClasses};
+ghost use Rattle.cfi_types.specs.Classes.{AreClasses, table_of};
 
 use crate::classes::{Classes, by_table};
 use crate::graph::join;
 use crate::linked::Lent;
 use crate::numbering::number;
 use crate::refining::leaders;
-use cfi_type_table::TypeTable;
+use cfi_type_table::{TypeNode, TypeTable};
 use std::alloc::{AllocError, Global};
 use std::marker::Model;
 
@@ -63,6 +63,22 @@ impl<'a> TypeBook<'a> {
     {
         self.tables.push(Lent::new(table))?;
         Ok(())
+    }
+
+    /// How many tables there are.
+    pub fn count(&self) -> usize
+        ensures { result ≡ length self.now }
+    {
+        self.tables.len()
+    }
+
+    /// The nodes of the table of this number, from 0.
+    pub fn nodes(&self, table: usize) -> &'a [TypeNode]
+        requires { table < length self.now }
+        ensures nodes { result.now ≡ table_of self.now table }
+        ensures types { AreTypes result.now }
+    {
+        self.tables[table].nodes()
     }
 
     /// A number for each node of each table: two nodes have one number exactly where their types are

@@ -32,6 +32,14 @@ impl Classes {
         let row = &self.rows[table as usize];
         row[node as usize]
     }
+
+    /// The numbers of the nodes of the table of this number, from 0.
+    pub fn row(&self, table: usize) -> &[u32]
+        requires { table < length self.now }
+        ensures { result.now ≡ slice_index_or self.now table [] }
+    {
+        self.rows[table].as_slice()
+    }
 }
 
 // The numbers of the tables' nodes, table by table.

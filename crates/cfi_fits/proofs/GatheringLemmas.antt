@@ -1,0 +1,122 @@
+-- The signatures of the function types that have come.
+use Rattle.std.proofs.Common.{◌≡◌, ◌∙◌, ℕ, zero, suc, ◌+◌, ◌<◌, ◌≤◌, ◌⊎◌, List, [], ◌∷◌, ◌++◌, length, map, get_or, All, refl, sym, ap, subst, inl, inr, arith}
+use Rattle.std.specs.Prelude.{slice_index_or}
+use Rattle.std.specs.List.{Contains, flat_map}
+use Rattle.std.specs.List.Sorted.{IsPermutation}
+use Rattle.std.proofs.lemmas.Bool.{cases_eq, cases_lt}
+use Rattle.std.proofs.lemmas.List.{length-append, length-map, get_or-map}
+use Rattle.std.proofs.lemmas.List.Concat.{flat_map-cons}
+use Rattle.std.proofs.lemmas.List.Elements.{All-nil, All-push, Contains-push, Contains-append_left}
+use Rattle.std.proofs.lemmas.List.Sorted.{All-permutation, Contains-permutation, length_permutation}
+use Rattle.cfi_type_table.specs.Node.{Node, node_of}
+use Rattle.cfi_types.specs.Classes.{table_of, class_of, IsNodePlace}
+use Rattle.cfi_fits.specs.declared.signature.Signature.{Signature}
+use Rattle.cfi_fits.specs.Fits.{IsCallable}
+use Rattle.cfi_fits.specs.inner.Signatures.{IsSignature, IsEarlier, IsSomeones, count_before, AreGathered}
+
+-- ---- counts
+
+count_next : (ns : List ℕ) (t : ℕ) → t < length ns → count_before ns (t + 1) ≡ count_before ns t + get_or ns t 0
+count_next [] t lt = absurd (omega (arith, lt))
+count_next (n ∷ []) zero lt = omega arith
+count_next (n ∷ m ∷ ns) zero lt = omega arith
+count_next (n ∷ ns) (suc t) lt =
+    let next : suc t + 1 ≡ suc (t + 1) = omega arith in
+    let more : count_before (n ∷ ns) (suc t + 1) ≡ n + count_before ns (t + 1) =
+    ap (λ k. count_before (n ∷ ns) k) next in
+    omega (arith, more, count_next ns t (omega (arith, lt)))
+
+pub count_all : (tables : List (List Node))
+    → count_before (map (λ xs. length xs) tables) (length tables) ≡ length (flat_map (λ xs. xs) tables)
+count_all [] = refl
+count_all (xs ∷ tables) =
+    let whole = ap (λ l. length l) (flat_map-cons (λ (ys : List Node). ys) xs tables) in
+    omega (arith, count_all tables, whole, length-append xs (flat_map (λ ys. ys) tables))
+
+-- ---- gathering
+
+earlier_cases : (u b t a : ℕ) → IsEarlier u b t (a + 1) → IsEarlier u b t a ⊎ ((u ≡ t) × (b ≡ a))
+earlier_cases u b t a h =
+    elim h [
+      | inl less ↦ inl (inl less)
+      | inr here ↦ elim (cases_lt b a) [
+        | inl less ↦ inl (inr (here.0, less))
+        | inr last ↦ inr (here.0, omega (arith, here.1, last))
+      ]
+    ]
+
+module _ (tables : List (List Node)) (classes : List (List ℕ)) where
+  pub gather_none : AreGathered tables classes 0 0 []
+  gather_none = record {
+    sound = All-nil (λ s. IsSomeones tables classes s);
+    whole = λ u b place early callable. elim early [
+      | inl less ↦ absurd (omega (arith, less))
+      | inr here ↦ absurd (omega (arith, here.1))
+    ];
+    few = omega arith;
+  }
+
+  -- the next node is no function's
+  pub gather_skip : (t a : ℕ) (signatures : List Signature) → AreGathered tables classes t a signatures
+      → (IsCallable (node_of (table_of tables t) a).kind → ⊥) → AreGathered tables classes t (a + 1) signatures
+  gather_skip t a signatures old none = record {
+    sound = old.sound;
+    whole = λ u b place early callable. elim (earlier_cases u b t a early) [
+      | inl before ↦ old.whole u b place before callable
+      | inr here ↦ absurd (none (subst (λ k. IsCallable (node_of (table_of tables t) k).kind) here.1
+          (subst (λ k. IsCallable (node_of (table_of tables k) b).kind) here.0 callable)))
+    ];
+    few = omega (arith, old.few);
+  }
+
+  -- the next node's signature is added
+  pub gather_more : (t a : ℕ) (signatures : List Signature) (s : Signature)
+      → AreGathered tables classes t a signatures → IsSignature tables classes t a s
+      → AreGathered tables classes t (a + 1) (signatures ++ s ∷ [])
+  gather_more t a signatures s old new = record {
+    sound = All-push (λ s. IsSomeones tables classes s) signatures s old.sound (t, a, new);
+    whole = λ u b place early callable. elim (earlier_cases u b t a early) [
+      | inl before ↦
+          let had = old.whole u b place before callable in
+          (had.0, Contains-append_left signatures (s ∷ []) had.0 had.1, had.2)
+      | inr here ↦
+          (s, Contains-push signatures s, subst (λ k. IsSignature tables classes k b s) (sym here.0)
+          (subst (λ k. IsSignature tables classes t k s) (sym here.1) new))
+    ];
+    few = omega (arith, old.few, length-append signatures (s ∷ []));
+  }
+
+  -- the next table
+  pub gather_next : (t : ℕ) (signatures : List Signature) → t < length tables
+      → AreGathered tables classes t (length (table_of tables t)) signatures
+      → AreGathered tables classes (t + 1) 0 signatures
+  gather_next t signatures lt old =
+      let ns = map (λ (xs : List Node). length xs) tables in
+      let len = length-map tables (λ (xs : List Node). length xs) in
+      let next = count_next ns t (omega (arith, lt, len)) in
+      let here : get_or ns t 0 ≡ length (table_of tables t) =
+      get_or-map (λ (xs : List Node). length xs) tables t [] 0 lt in
+      record {
+        sound = old.sound;
+        whole = λ u b place early callable. elim early [
+          | inl less ↦ elim (cases_lt u t) [
+            | inl before ↦ old.whole u b place (inl before) callable
+            | inr last ↦
+                let at : u ≡ t = omega (arith, less, last) in
+                old.whole u b place (inr (at, subst (λ k. b < length (table_of tables k)) at place.1)) callable
+          ]
+          | inr none ↦ absurd (omega (arith, none.1))
+        ];
+        few = omega (arith, old.few, next, here);
+      }
+
+  -- the same in another order
+  pub gather_moved : (t a : ℕ) (old new : List Signature) → AreGathered tables classes t a old
+      → IsPermutation old new → AreGathered tables classes t a new
+  gather_moved t a old new are moved = record {
+    sound = All-permutation (λ s. IsSomeones tables classes s) old new moved are.sound;
+    whole = λ u b place early callable.
+        let had = are.whole u b place early callable in
+        (had.0, Contains-permutation old new had.0 moved had.1, had.2);
+    few = omega (arith, are.few, length_permutation old new moved);
+  }

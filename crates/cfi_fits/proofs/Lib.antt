@@ -1,0 +1,6 @@
+pub mod PrefixLemmas
+pub mod TypeLemmas
+pub mod OrderLemmas
+pub mod NearestLemmas
+pub mod GatheringLemmas
+pub mod WideningLemmas

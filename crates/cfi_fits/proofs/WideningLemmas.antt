@@ -1,0 +1,2 @@
+-- The links of nearest wider ones are widenings.
+use Rattle.std.proofs.Common.{◌≡◌, ℕ}

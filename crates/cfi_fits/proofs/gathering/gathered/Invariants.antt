@@ -1,0 +1,5 @@
+use Rattle.cfi_fits.specs.inner.Signatures.{AreGathered}
+use Rattle.cfi_fits.proofs.gathering.gathered.Given as goal
+
+abbrev pub invariant-loop-table : goal.invariant-loop-table
+invariant-loop-table l = AreGathered l.book l.classes l.table 0 l.signatures.items

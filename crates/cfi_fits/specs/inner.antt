@@ -1,0 +1,4 @@
+-- What only private clauses cite.
+pub mod Prefix
+pub mod Signatures
+pub mod Nearest
