@@ -4,3 +4,4 @@ pub mod OrderLemmas
 pub mod NearestLemmas
 pub mod GatheringLemmas
 pub mod WideningLemmas
+pub mod ReachLemmas
