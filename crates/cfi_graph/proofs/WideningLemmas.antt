@@ -1,17 +1,18 @@
 -- The links between the classes of types, as links between the nodes of types.
-use Rattle.std.proofs.Common.{◌≡◌, ◌∙◌, ℕ, zero, suc, ◌+◌, ◌-◌, ◌<◌, ◌≤◌, ◌^◌, List, length, map, get_or, Some, refl, sym, ap, subst, inl, inr, arith, rules}
-use Rattle.std.specs.Prelude.{slice_get}
-use Rattle.std.specs.List.{Contains}
-use Rattle.std.proofs.lemmas.List.Elements.{Contains-get_or}
+use Rattle.std.proofs.Common.{◌≡◌, ℕ, zero, suc, ◌+◌, ◌-◌, ◌<◌, ◌^◌, List, length, map, get_or, Some, refl, sym, ap, subst, inl, inr, arith}
+use Rattle.std.specs.Prelude.{slice_get, All}
+use Rattle.std.proofs.lemmas.List.Elements.{Contains-get_or, All-map}
 use Rattle.cfi_word.specs.declared.limits.TheConstants.{MAX_CODE_WORDS}
 use Rattle.cfi_flow.specs.declared.links.Link.{Link}
 use Rattle.cfi_flow.specs.Flow.{Links, IsPath, Reaches, AreBelow}
 use Rattle.cfi_flow.proofs.Members.{member_map, from_map}
 use Rattle.cfi_flow.proofs.RowLemmas.{make_link}
 use Rattle.cfi_type_table.specs.Node.{node_of}
+use Rattle.cfi_type_table.specs.Spelling.{AreTypes}
 use Rattle.cfi_types.specs.Classes.{table_of, class_of, IsNodePlace, AreClasses}
 use Rattle.cfi_fits.specs.Fits.{IsCallable, Fits}
 use Rattle.cfi_fits.specs.Widenings.{AreWidenings}
+use Rattle.cfi_fits.proofs.ReachLemmas.{reaches_fits}
 use Rattle.cfi_aux.specs.declared.placed.Placed.{Placed}
 use Rattle.cfi_graph.specs.Facts.{type_node}
 use Rattle.cfi_graph.specs.Reading.{tables_of, type_count, node_count, HaveGraph}
@@ -131,9 +132,13 @@ module _ (ms : List Placed) (classes : List (List ℕ)) (are : AreClasses (table
           (down i j m n m_is n_is a b a_in b_in callable, up i j m n m_is n_is a b a_in b_in);
     }
 
+-- the tables of modules are type tables
+tables_are_types : (ms : List Placed) → HaveGraph ms → All AreTypes (tables_of ms)
+tables_are_types ms graph = All-map AreTypes (λ m. m.types) ms graph.types
+
 -- the links of modules' types
 pub links_are_wider : (ms : List Placed) (classes : List (List ℕ)) → HaveGraph ms → AreClasses (tables_of ms) classes
     → (links : List Link) → AreWidenings (tables_of ms) classes links → AreWider ms classes (map type_link links)
 links_are_wider ms classes graph are links wide =
     are_wider ms classes are links wide
-    (λ t a u b here there callable reach. search rules)
+    (reaches_fits (tables_of ms) (tables_are_types ms graph) classes are links wide)

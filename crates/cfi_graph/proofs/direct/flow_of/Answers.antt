@@ -1,4 +1,4 @@
-use Rattle.std.proofs.Common.{◌≡◌, ◌∙◌, ◌-◌, ◌^◌, ◌≤◌, length, map, sym, ap, subst, arith}
+use Rattle.std.proofs.Common.{◌∙◌, ◌-◌, ◌^◌, ◌≤◌, length, map, sym, ap, subst, arith}
 use Rattle.std.specs.Prelude.{sum_by}
 use Rattle.std.specs.List.{flat_map}
 use Rattle.cfi_word.specs.declared.limits.TheConstants.{MAX_CODE_WORDS}
@@ -6,7 +6,6 @@ use Rattle.cfi_flow.specs.Flow.{AreBelow, IsSound, link_count}
 use Rattle.cfi_types.specs.Classes.{AreClasses}
 use Rattle.cfi_fits.specs.Widenings.{AreWidenings}
 use Rattle.cfi_graph.specs.Facts.{AreFacts}
-use Rattle.cfi_graph.specs.Reading.{tables_of}
 use Rattle.cfi_graph.specs.Edges.{told_most, links_most}
 use Rattle.cfi_graph.specs.inner.Flows.{type_link, IsFlowOf, GoesAs}
 use Rattle.cfi_values.proofs.ThenLemmas.{if_ok}
@@ -19,9 +18,9 @@ pub classes-requires : goal.classes-requires
 classes-requires c =
     omega (arith, c.requires.nodes, ap (λ ts. length (flat_map (λ xs. xs) ts)) c.in_ok-book.ensures)
 
-pub widenings-requires-clause-fits : goal.widenings-requires-clause-fits
-widenings-requires-clause-fits c =
-    omega (arith, c.requires.nodes, ap (λ ts. length (flat_map (λ xs. xs) ts)) c.in_ok-book.ensures)
+pub widenings-requires : goal.widenings-requires
+widenings-requires c =
+    c.in_ok-classes.ensures
 
 pub type_links-requires : goal.type_links-requires
 type_links-requires c =

@@ -1,5 +1,4 @@
-use Rattle.std.proofs.Common.{◌-◌, ◌<◌, ◌^◌, get_or, arith}
-use Rattle.cfi_word.specs.declared.limits.TheConstants.{MAX_CODE_WORDS}
+use Rattle.std.proofs.Common.{arith}
 use Rattle.cfi_flow.proofs.RowLemmas.{make_link}
 use Rattle.cfi_graph.proofs.direct.type_links.Goals as goal
 
