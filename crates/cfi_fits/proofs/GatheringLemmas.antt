@@ -1,18 +1,20 @@
 -- The signatures of the function types that have come.
-use Rattle.std.proofs.Common.{◌≡◌, ◌∙◌, ℕ, zero, suc, ◌+◌, ◌<◌, ◌≤◌, ◌⊎◌, List, [], ◌∷◌, ◌++◌, length, map, get_or, All, refl, sym, ap, subst, inl, inr, arith}
+use Rattle.std.proofs.Common.{◌≡◌, ◌∙◌, ℕ, zero, suc, ◌+◌, ◌<◌, ◌⊎◌, List, [], ◌∷◌, ◌++◌, length, map, get_or, refl, sym, ap, subst, inl, inr, arith}
 use Rattle.std.specs.Prelude.{slice_index_or}
-use Rattle.std.specs.List.{Contains, flat_map}
+use Rattle.std.specs.List.{flat_map}
 use Rattle.std.specs.List.Sorted.{IsPermutation}
-use Rattle.std.proofs.lemmas.Bool.{cases_eq, cases_lt}
-use Rattle.std.proofs.lemmas.List.{length-append, length-map, get_or-map}
+use Rattle.std.proofs.lemmas.Bool.{cases_lt}
+use Rattle.std.proofs.lemmas.List.{length-append, length-map, get_or-map, get_or_read}
 use Rattle.std.proofs.lemmas.List.Concat.{flat_map-cons}
 use Rattle.std.proofs.lemmas.List.Elements.{All-nil, All-push, Contains-push, Contains-append_left}
 use Rattle.std.proofs.lemmas.List.Sorted.{All-permutation, Contains-permutation, length_permutation}
-use Rattle.cfi_type_table.specs.Node.{Node, node_of}
-use Rattle.cfi_types.specs.Classes.{table_of, class_of, IsNodePlace}
+use Rattle.cfi_type_table.specs.Node.{Node, make_node, node_of}
+use Rattle.cfi_type_table.specs.Spelling.{NamesBelow, AreTypes}
+use Rattle.cfi_types.specs.Classes.{table_of}
 use Rattle.cfi_fits.specs.declared.signature.Signature.{Signature}
 use Rattle.cfi_fits.specs.Fits.{IsCallable}
-use Rattle.cfi_fits.specs.inner.Signatures.{IsSignature, IsEarlier, IsSomeones, count_before, AreGathered}
+use Rattle.cfi_fits.specs.inner.Signatures.{IsMadeOf, IsSignature, IsEarlier, IsSomeones, count_before, AreGathered}
+use Rattle.cfi_fits.proofs.TypeLemmas.{names_at}
 
 -- ---- counts
 
@@ -32,6 +34,25 @@ count_all [] = refl
 count_all (xs ∷ tables) =
     let whole = ap (λ l. length l) (flat_map-cons (λ (ys : List Node). ys) xs tables) in
     omega (arith, count_all tables, whole, length-append xs (flat_map (λ ys. ys) tables))
+
+-- ---- one signature
+
+-- what is made of a table's node is its signature
+pub signature_at : (tables : List (List Node)) (classes : List (List ℕ)) (t a : ℕ) (row : List ℕ) (nodes : List Node)
+    (x : Node) (s : Signature) → t < length tables → a < length nodes → row ≡ slice_index_or classes t []
+    → nodes ≡ table_of tables t → x ≡ get_or nodes a x → AreTypes nodes → IsMadeOf row x (get_or row a 0) s
+    → IsSignature tables classes t a s
+signature_at tables classes t a row nodes x s lt la row_is nodes_is x_is types made =
+    let len = ap (λ l. length l) nodes_is in
+    let node : x ≡ node_of (table_of tables t) a =
+    get_or_read nodes a x la x_is (make_node 0 []) ∙ ap (λ l. node_of l a) nodes_is in
+    record {
+      place = (lt, omega (arith, la, len));
+      names = subst (λ y. NamesBelow (length (table_of tables t)) y) node
+          (names_at nodes a (length (table_of tables t)) x la x_is types (sym len));
+      made = subst (λ l. IsMadeOf l (node_of (table_of tables t) a) (get_or l a 0) s) row_is
+          (subst (λ y. IsMadeOf row y (get_or row a 0) s) node made);
+    }
 
 -- ---- gathering
 
@@ -79,9 +100,12 @@ module _ (tables : List (List Node)) (classes : List (List ℕ)) where
       | inl before ↦
           let had = old.whole u b place before callable in
           (had.0, Contains-append_left signatures (s ∷ []) had.0 had.1, had.2)
-      | inr here ↦
-          (s, Contains-push signatures s, subst (λ k. IsSignature tables classes k b s) (sym here.0)
-          (subst (λ k. IsSignature tables classes t k s) (sym here.1) new))
+      | inr here ↦ (
+        s,
+        Contains-push signatures s,
+        subst (λ k. IsSignature tables classes k b s) (sym here.0)
+            (subst (λ k. IsSignature tables classes t k s) (sym here.1) new),
+      )
     ];
     few = omega (arith, old.few, length-append signatures (s ∷ []));
   }

@@ -1,12 +1,12 @@
 -- The nearest wider one of signatures that are in order.
-use Rattle.std.proofs.Common.{◌≡◌, ◌∙◌, ℕ, zero, suc, ◌+◌, ◌-◌, ◌<◌, ◌≤◌, Bool, true, false, List, [], ◌∷◌, ◌++◌, length, get_or, Option, Some, None, refl, sym, ap, subst, inl, inr, arith}
+use Rattle.std.proofs.Common.{◌≡◌, ◌∙◌, ℕ, ◌+◌, ◌<◌, ◌≤◌, true, List, [], ◌∷◌, ◌++◌, length, get_or, Option, Some, None, sym, ap, subst, inl, inr, arith}
 use Rattle.std.specs.Prelude.{IfSome}
 use Rattle.std.proofs.lemmas.Bool.{cases_eq, cases_lt, true≢false}
 use Rattle.std.proofs.lemmas.List.{get_or_append_left, get_or-append-add, length-append}
 use Rattle.cfi_fits.specs.declared.signature.Signature.{Signature}
 use Rattle.cfi_fits.specs.inner.Prefix.{IsPrefix}
 use Rattle.cfi_fits.specs.inner.Signatures.{Widens, AreInOrder}
-use Rattle.cfi_fits.specs.inner.Nearest.{IsUpTo, HoldsWider, IsVariadicAt, IsCandidate, WidensAt, IsNearest, AreNearest}
+use Rattle.cfi_fits.specs.inner.Nearest.{HoldsWider, IsVariadicAt, IsCandidate, WidensAt, IsNearest, AreNearest}
 use Rattle.cfi_fits.proofs.PrefixLemmas.{prefix_between}
 
 -- one more than the place that is found

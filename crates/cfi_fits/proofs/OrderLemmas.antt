@@ -1,7 +1,7 @@
 -- Signatures that are sorted are in order.
-use Rattle.std.proofs.Common.{◌≡◌, ◌∙◌, ℕ, ◌<◌, ◌≤◌, Bool, true, false, List, [], ◌∷◌, length, get_or, refl, sym, ap, subst, inl, inr, arith}
+use Rattle.std.proofs.Common.{◌≡◌, ◌∙◌, ℕ, Bool, true, false, List, [], ◌∷◌, refl, sym, ap, inl, inr, arith}
 use Rattle.std.specs.declared.cmp.Ordering.{Ordering}
-use Rattle.std.specs.declared.cmp.Ordering.TheVariants.{Less, Equal, Greater}
+use Rattle.std.specs.declared.cmp.Ordering.TheVariants.{Less, Equal}
 use Rattle.std.specs.Ordering.{nat_cmp, bool_cmp, ordering_then, is_lt}
 use Rattle.std.specs.Cmp.{nat_cmp_is}
 use Rattle.std.specs.Cmp.Lexicographic.{slice_cmp}
@@ -9,7 +9,7 @@ use Rattle.std.proofs.lemmas.Bool.{cases_eq, cases_lt, true≢false}
 use Rattle.std.proofs.lemmas.Cmp.{nat_list_cmp_total, tied_itself}
 use Rattle.cfi_fits.specs.declared.signature.Signature.{Signature}
 use Rattle.cfi_fits.specs.inner.Prefix.{NotAfter}
-use Rattle.cfi_fits.specs.inner.Signatures.{Precedes, AreInOrder}
+use Rattle.cfi_fits.specs.inner.Signatures.{Precedes}
 
 -- where the second key does not come before the first, the first is not after it
 not_after : (xs ys : List ℕ) (rest : Ordering) → is_lt (ordering_then (slice_cmp nat_cmp ys xs) rest) ≡ false
@@ -22,8 +22,11 @@ not_after (x ∷ xs) (y ∷ ys) rest h =
       | inr more ↦ elim (cases_eq y x) [
         | inl same ↦
             let tie : Equal ≡ nat_cmp y x = nat_cmp_is y x Equal same in
-            inr (sym same, not_after xs ys rest
-            (ap (λ o. is_lt (ordering_then (ordering_then o (slice_cmp nat_cmp ys xs)) rest)) tie ∙ h))
+            inr (
+              sym same,
+              not_after xs ys rest
+                  (ap (λ o. is_lt (ordering_then (ordering_then o (slice_cmp nat_cmp ys xs)) rest)) tie ∙ h),
+            )
         | inr differ ↦
             let less : Less ≡ nat_cmp y x = nat_cmp_is y x Less (omega (arith, more, differ)) in
             absurd (true≢false

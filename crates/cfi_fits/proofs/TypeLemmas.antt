@@ -1,20 +1,20 @@
 -- Fitting told by class numbers: a type fits where the classes of what it names begin the other's.
-use Rattle.std.proofs.Common.{◌≡◌, ◌∙◌, ℕ, zero, suc, ◌<◌, ◌≤◌, List, [], ◌∷◌, length, map, take, All, refl, sym, ap, subst, inl, inr, arith}
+use Rattle.std.proofs.Common.{◌≡◌, ◌∙◌, ℕ, zero, suc, ◌<◌, ◌≤◌, List, [], ◌∷◌, length, map, take, get_or, All, refl, sym, ap, subst, arith}
 use Rattle.std.specs.List.{AllZip}
 use Rattle.std.specs.Prelude.{slice_index_or}
-use Rattle.std.proofs.lemmas.List.{length-map, take_all}
-use Rattle.std.proofs.lemmas.List.Elements.{All-head, All-tail, All-weaker}
-use Rattle.cfi_type_table.specs.declared.kind.TheConstants.{FUNC, VARFUNC}
+use Rattle.std.proofs.lemmas.List.{length-map, get_or-map, take_all}
+use Rattle.std.proofs.lemmas.List.Elements.{All-head, All-tail, All-weaker, All-get_or, All-from_recursion}
+use Rattle.cfi_type_table.specs.declared.kind.TheConstants.{VARFUNC}
 use Rattle.cfi_type_table.specs.Node.{Node, node_of}
 use Rattle.cfi_type_table.specs.Kind.{number_count, numbers_of, nodes_of}
-use Rattle.cfi_type_table.specs.Spelling.{NamesBelow}
+use Rattle.cfi_type_table.specs.Spelling.{NamesBelow, AreTypes}
 use Rattle.cfi_types.specs.Same.{Same, Equal}
 use Rattle.cfi_types.specs.Classes.{table_of, class_of, IsNodePlace, AreClasses}
 use Rattle.cfi_types.proofs.Pairs.{all_zip_at_each}
 use Rattle.cfi_fits.specs.Fits.{IsCallable, VariadicFits}
 use Rattle.cfi_fits.specs.inner.Prefix.{IsPrefix}
 use Rattle.cfi_fits.specs.inner.Signatures.{key_of}
-use Rattle.cfi_fits.proofs.PrefixLemmas.{length-prefix, prefix_itself, prefix_trans}
+use Rattle.cfi_fits.proofs.PrefixLemmas.{length-prefix, prefix_itself}
 
 -- the node of a place, and its key
 abbrev pub node_at : List (List Node) → (t a : ℕ) → Node
@@ -52,6 +52,24 @@ equal_from_zip xs ys a b kinds numbers zip (suc n) = (
   numbers,
   at_depth (λ m c d. Same m xs c ys d) n (nodes_of (node_of xs a)) (nodes_of (node_of ys b)) zip,
 )
+
+-- a node of a table names nodes that are there
+pub names_at : (xs : List Node) (a n : ℕ) (x : Node) → a < length xs → x ≡ get_or xs a x → AreTypes xs → n ≡ length xs
+    → NamesBelow n x
+names_at xs a n x lt is types len =
+    let all = All-from_recursion (NamesBelow (length xs)) xs types.names in
+    subst (λ k. NamesBelow k x) (sym len) (subst (λ y. NamesBelow (length xs) y) (sym is)
+    (All-get_or (NamesBelow (length xs)) xs a x lt all))
+
+-- a table's row has a number for each node
+pub row_length : (tables : List (List Node)) (classes : List (List ℕ)) → AreClasses tables classes → (t : ℕ)
+    → t < length tables → length (slice_index_or classes t []) ≡ length (table_of tables t)
+row_length tables classes are t lt =
+    let many : length classes ≡ length tables =
+    sym (length-map classes (λ (x : List ℕ). length x)) ∙ ap (λ ns. length ns) are.shape
+    ∙ length-map tables (λ (x : List Node). length x) in
+    sym (get_or-map (λ (x : List ℕ). length x) classes t [] 0 (omega (arith, many, lt)))
+    ∙ ap (λ ns. get_or ns t 0) are.shape ∙ get_or-map (λ (x : List Node). length x) tables t [] 0 lt
 
 module _ (tables : List (List Node)) (classes : List (List ℕ)) (are : AreClasses tables classes) where
   named : (t a : ℕ) → IsWholePlace tables t a → All (λ k. IsNodePlace tables t k) (nodes_of (node_at tables t a))

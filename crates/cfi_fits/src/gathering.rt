@@ -31,11 +31,7 @@ fn add_table(
 }
 
 // The signatures of all tables.
-fn gathered(
-    alloc: Global,
-    book: &TypeBook,
-    classes: &Classes,
-) -> Result<Vec<Signature>, AllocError>
+fn gathered(alloc: Global, book: &TypeBook, classes: &Classes) -> Result<Vec<Signature>, AllocError>
     requires { AreClasses book.now classes.now }
     ensures { IfOk result (λ signatures.
         AreGathered book.now classes.now (length book.now) 0 signatures.items) }

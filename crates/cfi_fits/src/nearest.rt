@@ -20,11 +20,7 @@ fn begins_with(key: &[u32], front: &[u32]) -> bool
 }
 
 // The signature ahead of this place, or what is the nearest of that.
-fn candidate_of(
-    signatures: &[Signature],
-    nearest: &[Option<usize>],
-    place: usize,
-) -> Option<usize>
+fn candidate_of(signatures: &[Signature], nearest: &[Option<usize>], place: usize) -> Option<usize>
     requires place { place < length signatures.now }
     requires order { AreInOrder signatures.now }
     requires nearest { AreNearest signatures.now nearest.now place }
@@ -42,11 +38,7 @@ fn candidate_of(
 // The nearest wider one of this place.
 //
 // Each candidate that is dropped is none for a later place: the work is proportional to the places.
-fn nearest_of(
-    signatures: &[Signature],
-    nearest: &[Option<usize>],
-    place: usize,
-) -> Option<usize>
+fn nearest_of(signatures: &[Signature], nearest: &[Option<usize>], place: usize) -> Option<usize>
     requires place { place < length signatures.now }
     requires order { AreInOrder signatures.now }
     requires nearest { AreNearest signatures.now nearest.now place }

@@ -68,11 +68,7 @@ fn links_of(
 /// A pointer to a type with variable arguments may reach functions of its class, and of each class from which links lead
 /// to it. There are at most as many links as nodes; the work is proportional to the fields of function types, but for
 /// sorting, and one look at each node's kind where no type has variable arguments. MCFI (Niu and Tan, PLDI 2014).
-pub fn widenings(
-    alloc: Global,
-    book: &TypeBook,
-    classes: &Classes,
-) -> Result<Vec<Link>, AllocError>
+pub fn widenings(alloc: Global, book: &TypeBook, classes: &Classes) -> Result<Vec<Link>, AllocError>
     requires { AreClasses book.now classes.now }
     ensures { IfOk result (λ links. AreWidenings book.now classes.now links.items) }
 {

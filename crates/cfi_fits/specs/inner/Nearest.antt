@@ -1,5 +1,5 @@
 -- The nearest wider one of each of signatures that are in order, and the links that they make.
-use Rattle.std.specs.Prelude.{◌≡◌, ◌<◌, ◌≤◌, ◌+◌, ◌⊎◌, ℕ, Bool, false, List, length, slice_index_or, Option, None, Some, IfSome}
+use Rattle.std.specs.Prelude.{◌≡◌, ◌<◌, ◌≤◌, ◌⊎◌, ℕ, false, List, length, slice_index_or, Option, None, Some, IfSome}
 use Rattle.cfi_flow.specs.declared.links.Link.{Link}
 use Rattle.cfi_flow.specs.Flow.{Links}
 use Rattle.cfi_fits.specs.declared.signature.Signature.{Signature}

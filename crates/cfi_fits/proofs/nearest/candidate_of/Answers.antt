@@ -13,5 +13,5 @@ returns-then-signatures-place c =
     candidate_past_fixed signatures c.requires.order (place - 1) place (get_or c.args.nearest.now (place - 1) None) next
     c.requires.place
     (λ d. sym (ap (λ s. s.fixed) (get_or_read signatures (place - 1) c.index-signatures-place.result within
-    c.index-signatures-place.is d)) ∙ c.if-signatures-place.true)
+    c.index-signatures-place.is d)) ∙ ap (λ s. s.fixed) c.index-signatures-place.is ∙ c.if-signatures-place.true)
     (c.requires.nearest.each (place - 1) (omega (arith, next)))

@@ -1,5 +1,3 @@
-use Rattle.std.proofs.Common.{◌≡◌, get_or}
-use Rattle.cfi_fits.specs.declared.signature.Signature.{Signature}
 use Rattle.cfi_fits.specs.inner.Nearest.{IsCandidate}
 use Rattle.cfi_fits.proofs.NearestLemmas.{height}
 use Rattle.cfi_fits.proofs.nearest.nearest_of.Given as goal
