@@ -5,4 +5,3 @@ pub mod NearestLemmas
 pub mod FitsLemmas
 pub mod GatheringLemmas
 pub mod WideningLemmas
-pub mod ReachLemmas

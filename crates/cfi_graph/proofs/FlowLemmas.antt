@@ -14,7 +14,7 @@ use Rattle.cfi_graph.specs.Reading.{tables_of, node_count, HaveGraph}
 use Rattle.cfi_graph.specs.Edges.{told_most, links_most}
 use Rattle.cfi_graph.specs.inner.Flows.{type_link, IsFlowOf, GoesAs}
 use Rattle.cfi_graph.proofs.WiderLemmas.{AreWider}
-use Rattle.cfi_graph.proofs.WideningLemmas.{links_are_wider}
+use Rattle.cfi_graph.proofs.WideningLemmas.{are_wider}
 use Rattle.cfi_graph.proofs.ReadLemmas.{TellsFlow, tells_flow}
 use Rattle.cfi_graph.proofs.SoundLemmas.{goes_direct}
 use Rattle.cfi_graph.proofs.DirectLemmas.{direct_goes}
@@ -38,7 +38,7 @@ module _ (ms : List Placed) (classes : List (List ℕ)) (wider : List Link) (lis
   flow_wider : AreWider ms classes flow.widenings.items
   flow_wider =
       subst (λ ls. AreWider ms classes ls) (sym (is.widenings ∙ made.linked))
-      (links_are_wider ms classes made.graph made.typed wider made.wide)
+      (are_wider ms classes made.typed wider made.wide)
 
   flow_tells : TellsFlow ms classes flow
   flow_tells = tells_flow ms classes list made.facts links count flow is

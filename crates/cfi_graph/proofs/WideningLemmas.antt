@@ -1,21 +1,19 @@
 -- The links between the classes of types, as links between the nodes of types.
 use Rattle.std.proofs.Common.{◌≡◌, ℕ, zero, suc, ◌+◌, ◌-◌, ◌<◌, ◌^◌, List, length, map, get_or, Some, refl, sym, ap, subst, inl, inr, arith}
-use Rattle.std.specs.Prelude.{slice_get, All}
-use Rattle.std.proofs.lemmas.List.Elements.{Contains-get_or, All-map}
+use Rattle.std.specs.Prelude.{slice_get}
+use Rattle.std.proofs.lemmas.List.Elements.{Contains-get_or}
 use Rattle.cfi_word.specs.declared.limits.TheConstants.{MAX_CODE_WORDS}
 use Rattle.cfi_flow.specs.declared.links.Link.{Link}
 use Rattle.cfi_flow.specs.Flow.{Links, IsPath, Reaches, AreBelow}
 use Rattle.cfi_flow.proofs.Members.{member_map, from_map}
 use Rattle.cfi_flow.proofs.RowLemmas.{make_link}
 use Rattle.cfi_type_table.specs.Node.{node_of}
-use Rattle.cfi_type_table.specs.Spelling.{AreTypes}
 use Rattle.cfi_types.specs.Classes.{table_of, class_of, IsNodePlace, AreClasses}
 use Rattle.cfi_fits.specs.Fits.{IsCallable, Fits}
 use Rattle.cfi_fits.specs.Widenings.{AreWidenings}
-use Rattle.cfi_fits.proofs.ReachLemmas.{reaches_fits}
 use Rattle.cfi_aux.specs.declared.placed.Placed.{Placed}
 use Rattle.cfi_graph.specs.Facts.{type_node}
-use Rattle.cfi_graph.specs.Reading.{tables_of, type_count, node_count, HaveGraph}
+use Rattle.cfi_graph.specs.Reading.{tables_of, type_count, node_count}
 use Rattle.cfi_graph.specs.inner.Flows.{type_link}
 use Rattle.cfi_graph.proofs.NodeLemmas.{table_is, place_is}
 use Rattle.cfi_graph.proofs.ClassLemmas.{class_low}
@@ -85,60 +83,61 @@ module _ (ms : List Placed) (classes : List (List ℕ)) (are : AreClasses (table
       let low = ends_low is.from is.to is.has in
       (omega (arith, low.0, is.begins), omega (arith, low.1, is.ends))
 
-  module _ (reaches_fits : (t a u b : ℕ) → IsNodePlace (tables_of ms) t a → IsNodePlace (tables_of ms) u b
-      → IsCallable (node_of (table_of (tables_of ms) u) b).kind → Reaches links (class_of classes u b) (class_of classes t a)
-      → Fits (table_of (tables_of ms) t) a (table_of (tables_of ms) u) b) where
-    -- the nodes of types, by their classes
-    module _ (i j : ℕ) (m n : Placed) (m_is : slice_get ms i ≡ Some m) (n_is : slice_get ms j ≡ Some n) (a b : ℕ)
-        (a_in : a < length m.types) (b_in : b < length n.types) where
-      down : IsCallable (node_of n.types b).kind
-          → Reaches (map type_link links) (type_node classes j b) (type_node classes i a) → Fits m.types a n.types b
-      down callable (steps, path) =
-          let one = table_is ms i m m_is in
-          let other = table_is ms j n n_is in
-          let reach = class_path links steps (type_node classes j b) (type_node classes i a) (class_of classes j b)
-          (class_of classes i a) refl refl path in
-          subst (λ xs. Fits xs a n.types b) one (subst (λ ys. Fits (table_of (tables_of ms) i) a ys b) other
-          (reaches_fits i a j b (place_is ms i m m_is a a_in) (place_is ms j n n_is b b_in)
-          (subst (λ ys. IsCallable (node_of ys b).kind) (sym other) callable) (steps, reach)))
+  -- what is reached from a function's type is one
+  reached_callable : (steps t a u b : ℕ) → IsNodePlace (tables_of ms) t a → IsNodePlace (tables_of ms) u b
+      → IsCallable (node_of (table_of (tables_of ms) u) b).kind
+      → IsPath links steps (class_of classes u b) (class_of classes t a)
+      → IsCallable (node_of (table_of (tables_of ms) t) a).kind
+  reached_callable zero t a u b here there callable same =
+      subst IsCallable ((are.equal u b t a there here).0 same 1).0 callable
+  reached_callable (suc steps) t a u b here there callable (next, link, rest) =
+      let all = wide.sound (class_of classes u b) next link in
+      let is = all.4 in
+      reached_callable steps t a all.0 all.1 here is.here (inr is.fits.variadic)
+      (subst (λ k. IsPath links steps k (class_of classes t a)) (sym is.wider) rest)
 
-      class_reaches : Fits (table_of (tables_of ms) i) a (table_of (tables_of ms) j) b
-          → Reaches links (class_of classes j b) (class_of classes i a)
-      class_reaches fits =
-          let here = place_is ms i m m_is a a_in in
-          let there = place_is ms j n n_is b b_in in
-          elim fits [
-            | inl same ↦ (zero, sym ((are.equal i a j b here there).1 same.1))
-            | inr variadic ↦ wide.whole i a j b here there variadic
-          ]
+  -- the nodes of types, by their classes
+  module _ (i j : ℕ) (m n : Placed) (m_is : slice_get ms i ≡ Some m) (n_is : slice_get ms j ≡ Some n) (a b : ℕ)
+      (a_in : a < length m.types) (b_in : b < length n.types) where
+    down : IsCallable (node_of n.types b).kind
+        → Reaches (map type_link links) (type_node classes j b) (type_node classes i a) → Fits m.types a n.types b
+    down callable (steps, path) =
+        let one = table_is ms i m m_is in
+        let other = table_is ms j n n_is in
+        let here = place_is ms i m m_is a a_in in
+        let there = place_is ms j n n_is b b_in in
+        let reach = class_path links steps (type_node classes j b) (type_node classes i a) (class_of classes j b)
+        (class_of classes i a) refl refl path in
+        subst (λ xs. Fits xs a n.types b) one (subst (λ ys. Fits (table_of (tables_of ms) i) a ys b) other
+        ((wide.exact i a j b here there (reached_callable steps i a j b here there
+        (subst (λ ys. IsCallable (node_of ys b).kind) (sym other) callable) reach)).1 (steps, reach)))
 
-      up : Fits m.types a n.types b
-          → Reaches (map type_link links) (type_node classes j b) (type_node classes i a)
-      up fits =
-          let one = table_is ms i m m_is in
-          let other = table_is ms j n n_is in
-          let reach = class_reaches (subst (λ xs. Fits xs a (table_of (tables_of ms) j) b) (sym one)
-          (subst (λ ys. Fits m.types a ys b) (sym other) fits)) in
-          (reach.0, type_path links reach.0 (class_of classes j b) (class_of classes i a) reach.1)
+    class_reaches : Fits (table_of (tables_of ms) i) a (table_of (tables_of ms) j) b
+        → Reaches links (class_of classes j b) (class_of classes i a)
+    class_reaches fits =
+        let here = place_is ms i m m_is a a_in in
+        let there = place_is ms j n n_is b b_in in
+        elim fits [
+          | inl same ↦ (zero, sym ((are.equal i a j b here there).1 same.1))
+          | inr variadic ↦ wide.whole i a j b here there variadic
+        ]
 
-    -- links from types' nodes to wider ones
-    pub are_wider : AreWider ms classes (map type_link links)
-    are_wider = record {
-      high = λ a b has.
-          let is = is_type_link links a b has in
-          (omega (arith, is.begins), omega (arith, is.ends));
-      low = links_low;
-      fits = λ i j m n m_is n_is a b a_in b_in callable.
-          (down i j m n m_is n_is a b a_in b_in callable, up i j m n m_is n_is a b a_in b_in);
-    }
+    up : Fits m.types a n.types b
+        → Reaches (map type_link links) (type_node classes j b) (type_node classes i a)
+    up fits =
+        let one = table_is ms i m m_is in
+        let other = table_is ms j n n_is in
+        let reach = class_reaches (subst (λ xs. Fits xs a (table_of (tables_of ms) j) b) (sym one)
+        (subst (λ ys. Fits m.types a ys b) (sym other) fits)) in
+        (reach.0, type_path links reach.0 (class_of classes j b) (class_of classes i a) reach.1)
 
--- the tables of modules are type tables
-tables_are_types : (ms : List Placed) → HaveGraph ms → All AreTypes (tables_of ms)
-tables_are_types ms graph = All-map AreTypes (λ m. m.types) ms graph.types
-
--- the links of modules' types
-pub links_are_wider : (ms : List Placed) (classes : List (List ℕ)) → HaveGraph ms → AreClasses (tables_of ms) classes
-    → (links : List Link) → AreWidenings (tables_of ms) classes links → AreWider ms classes (map type_link links)
-links_are_wider ms classes graph are links wide =
-    are_wider ms classes are links wide
-    (reaches_fits (tables_of ms) (tables_are_types ms graph) classes are links wide)
+  -- links from types' nodes to wider ones
+  pub are_wider : AreWider ms classes (map type_link links)
+  are_wider = record {
+    high = λ a b has.
+        let is = is_type_link links a b has in
+        (omega (arith, is.begins), omega (arith, is.ends));
+    low = links_low;
+    fits = λ i j m n m_is n_is a b a_in b_in callable.
+        (down i j m n m_is n_is a b a_in b_in callable, up i j m n m_is n_is a b a_in b_in);
+  }
