@@ -24,8 +24,10 @@ pub record SpanDirectEdges (ms : List Placed) (edges : List Edge) : Type 0 where
 
 -- how many entries a branch lists
 abbrev pub entry_count : Kind → ℕ
+entry_count (kinds.Call node) = 0
+entry_count (kinds.Tail node) = 0
+entry_count kinds.Return = 0
 entry_count (kinds.Switch entries) = length entries
-entry_count kind = 0
 
 -- how much a module tells at most of where control may go: one fact for each word of its code, two for each function,
 -- and one for each entry that a branch lists

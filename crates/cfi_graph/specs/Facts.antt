@@ -59,14 +59,17 @@ IsBranchFact classes number m at slot (kinds.Call node) (facts.Pointer l) =
     (l.from ≡ type_node classes number node) × (l.to ≡ slot)
 IsBranchFact classes number m at slot (kinds.Call node) (facts.Site l) =
     (l.from ≡ type_node classes number node) × (l.to ≡ code_address m (at + CHECK_WORDS))
+IsBranchFact classes number m at slot (kinds.Call node) fact = ⊥
 IsBranchFact classes number m at slot (kinds.Tail node) (facts.Pointer l) =
     (l.from ≡ type_node classes number node) × (l.to ≡ slot)
 IsBranchFact classes number m at slot (kinds.Tail node) (facts.Arrow l) =
     LiesInNode m at l.from × (l.to ≡ type_node classes number node)
+IsBranchFact classes number m at slot (kinds.Tail node) fact = ⊥
 IsBranchFact classes number m at slot kinds.Return (facts.Return l) = LiesInNode m at l.from × (l.to ≡ slot)
+IsBranchFact classes number m at slot kinds.Return fact = ⊥
 IsBranchFact classes number m at slot (kinds.Switch entries) (facts.Listed l) =
     (l.from ≡ slot) × ((entry : ℕ) × Contains entries entry × (l.to ≡ 4 * m.base + entry))
-IsBranchFact classes number m at slot kind fact = ⊥
+IsBranchFact classes number m at slot (kinds.Switch entries) fact = ⊥
 
 -- what a unit at a word of the module tells
 abbrev pub IsUnitFact : (classes : List (List ℕ)) → (number : ℕ) → Placed → (at : ℕ) → CodeUnit → Fact → Type 0
