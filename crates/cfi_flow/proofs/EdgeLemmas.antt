@@ -1,5 +1,5 @@
 -- Edges of fans.
-use Rattle.std.proofs.Common.{◌≡◌, ℕ, zero, suc, ◌+◌, ◌*◌, ◌≤◌, List, [], ◌++◌, length, map, refl, sym, ap, subst, inl, inr, arith}
+use Rattle.std.proofs.Common.{◌≡◌, ℕ, zero, suc, ◌+◌, ◌*◌, ◌≤◌, List, ◌++◌, length, map, ap, subst, inl, inr, arith}
 use Rattle.std.specs.List.{Contains, flat_map}
 use Rattle.std.proofs.lemmas.List.{length-append, length-map}
 use Rattle.std.proofs.lemmas.List.Elements.{Contains-append_left, Contains-append_right, Contains-append_cases}
@@ -8,11 +8,11 @@ use Rattle.cfi_word.specs.Chain.{ChainOf, Chain}
 use Rattle.cfi_flow.specs.declared.links.Link.{Link}
 use Rattle.cfi_flow.specs.declared.links.Flow.{Flow}
 use Rattle.cfi_flow.specs.declared.fan.Fan.{Fan}
-use Rattle.cfi_flow.specs.Flow.{Links, IsPath, Goes, IsSound, link_count}
+use Rattle.cfi_flow.specs.Flow.{Links, Goes, IsSound, link_count}
 use Rattle.cfi_flow.specs.Fans.{Joins, AreFans, link_edge, all_of, IsListed}
 use Rattle.cfi_flow.specs.inner.Ways.{AreWays}
 use Rattle.cfi_word.specs.Edge.{edge_of}
-use Rattle.cfi_flow.proofs.Members.{no_member, member_map, from_map, member_flat, from_flat}
+use Rattle.cfi_flow.proofs.Members.{member_map, from_map, member_flat, from_flat}
 use Rattle.cfi_flow.proofs.RowLemmas.{make_link, link_is}
 use Rattle.cfi_flow.proofs.FanLemmas.{below_nodes}
 
@@ -87,10 +87,6 @@ chain_in xs ys kept slot address c = record {
   chain = chain_up (IsListed xs) (IsListed ys) (λ s t m. kept (edge_of s t) m) c.more slot address c.chain;
 }
 
-stays_put : (steps a b : ℕ) → IsPath [] steps a b → a ≡ b
-stays_put zero a b e = e
-stays_put (suc steps) a b w = absurd (no_member (make_link a w.0) w.1)
-
 -- what is said of slices, said of the lists in them
 pub ways_of : (ls arrows ss sites rs returns : List Link) (edges : List Edge) → ls ≡ arrows → ss ≡ sites → rs ≡ returns
     → AreWays ls ss rs edges → AreWays arrows sites returns edges
@@ -100,7 +96,7 @@ ways_of ls arrows ss sites rs returns edges e f g w =
 
 -- edges of pointers and of returns, behind the listed ones
 module _ (flow : Flow) (pointing returning : List Edge)
-    (points : AreWays [] flow.entries.items flow.pointers.items pointing)
+    (points : AreWays flow.widenings.items flow.entries.items flow.pointers.items pointing)
     (backs : AreWays flow.arrows.items flow.sites.items flow.returns.items returning) where
   abbrev pub listed : List Edge
   listed = map link_edge flow.listed.items
@@ -115,14 +111,7 @@ module _ (flow : Flow) (pointing returning : List Edge)
           | inl b ↦ inl (listed_link flow.listed.items slot address b)
           | inr b ↦
               let w = points.sound slot address b in
-              let same : w.returning ≡ w.node = sym (stays_put w.reached.0 w.node w.returning w.reached.1) in
-              inr (
-                w.node,
-                inl (record {
-                  pointer = subst (λ k. Links flow.pointers.items k slot) same w.back;
-                  entry = w.site;
-                }),
-              )
+              inr (w.node, inl (record { entry = w.site; pointing = w.returning; wider = w.reached; pointer = w.back }))
         ]
         | inr a ↦
             let w = backs.sound slot address a in
@@ -146,8 +135,8 @@ module _ (flow : Flow) (pointing returning : List Edge)
               (points.whole slot address (record {
                 node = b.0;
                 site = p.entry;
-                returning = b.0;
-                reached = (zero, refl);
+                returning = p.pointing;
+                reached = p.wider;
                 back = p.pointer;
               }))
           | inr r ↦
@@ -168,5 +157,4 @@ module _ (flow : Flow) (pointing returning : List Edge)
       length-append (listed ++ pointing) returning in
       let other : length (listed ++ pointing) ≡ length listed + length pointing = length-append listed pointing in
       let own : length listed ≡ length flow.listed.items = length-map flow.listed.items link_edge in
-      let none : length {A = Link} [] ≡ 0 = refl in
-      omega (arith, one, other, own, none, points.few, backs.few)
+      omega (arith, one, other, own, points.few, backs.few)

@@ -9,9 +9,9 @@ use Rattle.cfi_flow.specs.declared.fan.Fan.{Fan}
 use Rattle.cfi_flow.specs.declared.fans.FlowRows.{FlowRows}
 use Rattle.cfi_flow.specs.Rows.{AreRows}
 use Rattle.cfi_flow.specs.inner.Reach.{IsWalk}
-use Rattle.cfi_flow.specs.Flow.{Links, IsPath, PointsAt, ReturnsAt, GoesBy, IsSound, AreBelow, BeginBelow}
+use Rattle.cfi_flow.specs.Flow.{Links, IsPath, Reaches, PointsAt, ReturnsAt, GoesBy, IsSound, AreBelow, BeginBelow}
 use Rattle.cfi_flow.specs.Fans.{Joins, JoinsOne, AreFans}
-use Rattle.cfi_flow.specs.inner.FlowRows.{flow_row, AreFlowRows, HaveNodes, IsPointerFan, IsReturnFan}
+use Rattle.cfi_flow.specs.inner.FlowRows.{flow_row, AreFlowRows, AreInside, HaveNodes, IsFan, IsPointerFan, IsReturnFan}
 use Rattle.cfi_flow.proofs.Members.{no_member, member_flat, from_flat}
 use Rattle.cfi_flow.proofs.RowLemmas.{from_row, to_row}
 
@@ -38,15 +38,22 @@ starts count links a b all h =
     let both = All-contains (λ link. (link.from < count) × (link.to < count)) links (record { from = a; to = b }) all h in
     both.0
 
-row_inside : (flow : Flow) (rows : FlowRows) → IsSound flow → AreFlowRows flow rows → (i : ℕ) → i < length rows.arrows
-    → All (λ k. k < flow.nodes) (flow_row rows.arrows i)
-row_inside flow rows s r i h =
-    let within : i < flow.nodes = omega (arith, h, r.arrows.len) in
-    All-from_get_or (λ k. k < flow.nodes) (flow_row rows.arrows i) 0 (λ j lt.
-    let end = get_or (flow_row rows.arrows i) j 0 in
-    ends flow.nodes flow.arrows.items i end s.arrows
-    (row_link flow.nodes flow.arrows.items rows.arrows i end r.arrows within
-    (Contains-get_or (flow_row rows.arrows i) j 0 lt)))
+row_inside : (count : ℕ) (links : List Link) (rows : List (List ℕ)) → AreBelow count links → AreRows count links rows
+    → (i : ℕ) → i < length rows → All (λ k. k < length rows) (flow_row rows i)
+row_inside count links rows all r i h =
+    let within : i < count = omega (arith, h, r.len) in
+    All-from_get_or (λ k. k < length rows) (flow_row rows i) 0 (λ j lt.
+    let end = get_or (flow_row rows i) j 0 in
+    let low : end < count =
+    ends count links i end all (row_link count links rows i end r within (Contains-get_or (flow_row rows i) j 0 lt)) in
+    omega (arith, low, r.len))
+
+-- rows of links between nodes lead to others of them
+pub are_inside : (count : ℕ) (links : List Link) (rows : List (List ℕ)) → AreBelow count links → AreRows count links rows
+    → AreInside rows
+are_inside count links rows all r =
+    recursion_from_All (All (λ k. k < length rows)) rows
+    (All-from_get_or (All (λ k. k < length rows)) rows [] (λ i h. row_inside count links rows all r i h))
 
 -- rows of a sound flow have its nodes
 pub rows_have_nodes : (flow : Flow) (rows : FlowRows) → IsSound flow → AreFlowRows flow rows
@@ -57,8 +64,9 @@ rows_have_nodes flow rows s r = record {
   returns = r.returns.len;
   pointers = r.pointers.len;
   entries = r.entries.len;
-  inside = recursion_from_All (All (λ k. k < flow.nodes)) rows.arrows
-      (All-from_get_or (All (λ k. k < flow.nodes)) rows.arrows [] (λ i h. row_inside flow rows s r i h));
+  widenings = r.widenings.len;
+  arrows_inside = are_inside flow.nodes flow.arrows.items rows.arrows s.arrows r.arrows;
+  widenings_inside = are_inside flow.nodes flow.widenings.items rows.widenings s.widenings r.widenings;
 }
 
 -- a walk along rows is a path along arrows
@@ -80,60 +88,72 @@ path_walk count links rows all r (suc steps) a b w = (
 
 -- ---- the fans of a node
 
-pub pointer_sound : (flow : Flow) (rows : FlowRows) (node : ℕ) (fan : Fan) (slot address : ℕ) → AreFlowRows flow rows
-    → node < flow.nodes → IsPointerFan rows node fan → Joins fan slot address → PointsAt flow node slot address
-pointer_sound flow rows node fan slot address r h f j = record {
-  pointer = row_link flow.nodes flow.pointers.items rows.pointers node slot r.pointers h
-      (subst (λ ys. Contains ys slot) f.slots j.0);
-  entry = row_link flow.nodes flow.entries.items rows.entries node address r.entries h
-      (subst (λ ys. Contains ys address) f.targets j.1);
-}
-
-pub pointer_whole : (flow : Flow) (rows : FlowRows) (node : ℕ) (fan : Fan) (slot address : ℕ) → AreFlowRows flow rows
-    → node < flow.nodes → IsPointerFan rows node fan → PointsAt flow node slot address → Joins fan slot address
-pointer_whole flow rows node fan slot address r h f p = (
-  subst (λ ys. Contains ys slot) (sym f.slots)
-      (link_row flow.nodes flow.pointers.items rows.pointers node slot r.pointers h p.pointer),
-  subst (λ ys. Contains ys address) (sym f.targets)
-      (link_row flow.nodes flow.entries.items rows.entries node address r.entries h p.entry),
-)
-
 some_member : (xs : List ℕ) (x : ℕ) → Contains xs x → 0 < length xs
 some_member xs x h = omega (arith, h.1)
 
-pub return_sound : (flow : Flow) (rows : FlowRows) (node : ℕ) (fan : Fan) (slot address : ℕ) → IsSound flow
-    → AreFlowRows flow rows → node < flow.nodes → IsReturnFan rows node fan → Joins fan slot address
-    → ReturnsAt flow node slot address
-return_sound flow rows node fan slot address s r h f j =
-    let from = from_flat (flow_row rows.returns) f.order slot (subst (λ ys. Contains ys slot) f.slots j.0) in
-    let all = f.reached (some_member fan.targets.items address j.1) in
-    let within : from.0 < flow.nodes = omega (arith, all.within from.0 from.1, r.arrows.len) in
-    let walk = all.sound from.0 from.1 in
-    record {
-      site = row_link flow.nodes flow.sites.items rows.sites node address r.sites h
-          (subst (λ ys. Contains ys address) f.targets j.1);
-      returning = from.0;
-      reached = (walk.0, walk_path flow.nodes flow.arrows.items rows.arrows s.arrows r.arrows walk.0 node from.0 h walk.1);
-      back = row_link flow.nodes flow.returns.items rows.returns from.0 slot r.returns within from.2;
-    }
+-- links of a node, and of what it reaches along others
+pub record Meets (along branches addresses : List Link) (node slot address : ℕ) : Type 0 where
+  pub here : Links addresses node address
+  pub there : ℕ
+  pub reached : Reaches along node there
+  pub branch : Links branches there slot
 
-pub return_whole : (flow : Flow) (rows : FlowRows) (node : ℕ) (fan : Fan) (slot address : ℕ) → IsSound flow
-    → AreFlowRows flow rows → node < flow.nodes → IsReturnFan rows node fan → ReturnsAt flow node slot address
-    → Joins fan slot address
-return_whole flow rows node fan slot address s r h f p =
-    let here : Contains fan.targets.items address =
-    subst (λ ys. Contains ys address) (sym f.targets)
-    (link_row flow.nodes flow.sites.items rows.sites node address r.sites h p.site) in
-    let all = f.reached (some_member fan.targets.items address here) in
-    let in_order : Contains f.order p.returning =
-    all.whole p.returning p.reached.0
-    (path_walk flow.nodes flow.arrows.items rows.arrows s.arrows r.arrows p.reached.0 node p.returning p.reached.1) in
-    let below : p.returning < flow.nodes = begins flow.nodes flow.returns.items p.returning slot s.returns p.back in (
-      subst (λ ys. Contains ys slot) (sym f.slots)
-          (member_flat (flow_row rows.returns) f.order p.returning slot in_order
-          (link_row flow.nodes flow.returns.items rows.returns p.returning slot r.returns below p.back)),
-      here,
-    )
+module _ (count : ℕ) (along branches addresses : List Link) (paths slots ends : List (List ℕ))
+    (all : AreBelow count along) (path_rows : AreRows count along paths) (slot_rows : AreRows count branches slots)
+    (end_rows : AreRows count addresses ends) (node : ℕ) (h : node < count) (fan : Fan)
+    (f : IsFan paths slots ends node fan) (slot address : ℕ) where
+  fan_sound : Joins fan slot address → Meets along branches addresses node slot address
+  fan_sound j =
+      let from = from_flat (flow_row slots) f.order slot (subst (λ ys. Contains ys slot) f.slots j.0) in
+      let reach = f.reached (some_member fan.targets.items address j.1) in
+      let within : from.0 < count = omega (arith, reach.within from.0 from.1, path_rows.len) in
+      let walk = reach.sound from.0 from.1 in
+      record {
+        here = row_link count addresses ends node address end_rows h (subst (λ ys. Contains ys address) f.targets j.1);
+        there = from.0;
+        reached = (walk.0, walk_path count along paths all path_rows walk.0 node from.0 h walk.1);
+        branch = row_link count branches slots from.0 slot slot_rows within from.2;
+      }
+
+  fan_whole : BeginBelow count branches → Meets along branches addresses node slot address → Joins fan slot address
+  fan_whole begin m =
+      let here : Contains fan.targets.items address =
+      subst (λ ys. Contains ys address) (sym f.targets) (link_row count addresses ends node address end_rows h m.here) in
+      let reach = f.reached (some_member fan.targets.items address here) in
+      let in_order : Contains f.order m.there =
+      reach.whole m.there m.reached.0 (path_walk count along paths all path_rows m.reached.0 node m.there m.reached.1) in
+      let below : m.there < count = begins count branches m.there slot begin m.branch in (
+        subst (λ ys. Contains ys slot) (sym f.slots)
+            (member_flat (flow_row slots) f.order m.there slot in_order
+            (link_row count branches slots m.there slot slot_rows below m.branch)),
+        here,
+      )
+
+module _ (flow : Flow) (rows : FlowRows) (s : IsSound flow) (r : AreFlowRows flow rows) (node : ℕ)
+    (h : node < flow.nodes) (fan : Fan) (slot address : ℕ) where
+  pointer_sound : IsPointerFan rows node fan → Joins fan slot address → PointsAt flow node slot address
+  pointer_sound f j =
+      let m = fan_sound flow.nodes flow.widenings.items flow.pointers.items flow.entries.items rows.widenings
+      rows.pointers rows.entries s.widenings r.widenings r.pointers r.entries node h fan f slot address j in
+      record { entry = m.here; pointing = m.there; wider = m.reached; pointer = m.branch }
+
+  pointer_whole : IsPointerFan rows node fan → PointsAt flow node slot address → Joins fan slot address
+  pointer_whole f p =
+      fan_whole flow.nodes flow.widenings.items flow.pointers.items flow.entries.items rows.widenings
+      rows.pointers rows.entries s.widenings r.widenings r.pointers r.entries node h fan f slot address s.pointers
+      (record { here = p.entry; there = p.pointing; reached = p.wider; branch = p.pointer })
+
+  return_sound : IsReturnFan rows node fan → Joins fan slot address → ReturnsAt flow node slot address
+  return_sound f j =
+      let m = fan_sound flow.nodes flow.arrows.items flow.returns.items flow.sites.items rows.arrows
+      rows.returns rows.sites s.arrows r.arrows r.returns r.sites node h fan f slot address j in
+      record { site = m.here; returning = m.there; reached = m.reached; back = m.branch }
+
+  return_whole : IsReturnFan rows node fan → ReturnsAt flow node slot address → Joins fan slot address
+  return_whole f p =
+      fan_whole flow.nodes flow.arrows.items flow.returns.items flow.sites.items rows.arrows
+      rows.returns rows.sites s.arrows r.arrows r.returns r.sites node h fan f slot address s.returns
+      (record { here = p.site; there = p.returning; reached = p.reached; branch = p.back })
 
 -- ---- the fans of the nodes below a count
 
@@ -166,8 +186,8 @@ this_node : (flow : Flow) (rows : FlowRows) (node : ℕ) (fans : List Fan) (p r 
 this_node flow rows node fans p r s are h pointers returns slot address g =
     elim g [
       | inl a ↦ joins_more (fans ++ p ∷ []) r slot address
-          (joins_last fans p slot address (pointer_whole flow rows node p slot address are h pointers a))
-      | inr a ↦ joins_last (fans ++ p ∷ []) r slot address (return_whole flow rows node r slot address s are h returns a)
+          (joins_last fans p slot address (pointer_whole flow rows s are node h p slot address pointers a))
+      | inr a ↦ joins_last (fans ++ p ∷ []) r slot address (return_whole flow rows s are node h r slot address returns a)
     ]
 
 pub more_fans : (flow : Flow) (rows : FlowRows) (node : ℕ) (fans : List Fan) (p r : Fan) → IsSound flow
@@ -177,9 +197,9 @@ more_fans flow rows node fans p r s are h before pointers returns = record {
   sound = λ slot address j. elim (joins_cases (fans ++ p ∷ []) r slot address j) [
     | inl k ↦ elim (joins_cases fans p slot address k) [
       | inl a ↦ before.sound slot address a
-      | inr a ↦ (node, inl (pointer_sound flow rows node p slot address are h pointers a))
+      | inr a ↦ (node, inl (pointer_sound flow rows s are node h p slot address pointers a))
     ]
-    | inr a ↦ (node, inr (return_sound flow rows node r slot address s are h returns a))
+    | inr a ↦ (node, inr (return_sound flow rows s are node h r slot address returns a))
   ];
   whole = λ slot address n below g. elim (cases_lt n node) [
     | inl less ↦
@@ -196,9 +216,6 @@ pub below_nodes : (flow : Flow) (node slot address : ℕ) → IsSound flow → G
     → node < flow.nodes
 below_nodes flow node slot address s g =
     elim g [
-      | inl p ↦ begins flow.nodes flow.pointers.items node slot s.pointers p.pointer
+      | inl p ↦ begins flow.nodes flow.entries.items node address s.entries p.entry
       | inr r ↦ begins flow.nodes flow.sites.items node address s.sites r.site
     ]
-
-pub have_own_nodes : (nodes : ℕ) (rows : FlowRows) → HaveNodes nodes rows → HaveNodes (length rows.arrows) rows
-have_own_nodes nodes rows h = subst (λ n. HaveNodes n rows) (sym h.arrows) h

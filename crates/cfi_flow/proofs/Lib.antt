@@ -6,4 +6,5 @@ pub mod FanLemmas
 pub mod EdgeLemmas
 pub mod OrderLemmas
 pub mod SpreadLemmas
+pub mod PathLemmas
 pub mod WayLemmas

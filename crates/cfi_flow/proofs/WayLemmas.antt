@@ -1,20 +1,21 @@
 -- Few edges of what comes back from nodes.
-use Rattle.std.proofs.Common.{◌≡◌, ℕ, zero, suc, ◌+◌, ◌*◌, ◌<◌, ◌≤◌, Option, Some, None, List, [], ◌∷◌, ◌++◌, length, map, get_or, slice_index_or, All, refl, sym, ap, subst, inl, inr, arith}
-use Rattle.std.specs.List.{Contains, flat_map, AllByRecursion}
+use Rattle.std.proofs.Common.{◌≡◌, ℕ, zero, suc, ◌+◌, ◌*◌, ◌<◌, ◌≤◌, Option, Some, None, List, [], ◌∷◌, ◌++◌, length, map, get_or, refl, sym, ap, subst, inl, inr, arith}
+use Rattle.std.specs.List.{Contains, flat_map}
 use Rattle.std.proofs.lemmas.List.{length-append}
-use Rattle.std.proofs.lemmas.List.Elements.{All-contains, All-from_get_or, recursion_from_All, Contains-get_or, Contains-append_left, Contains-append_right, Contains-append_cases}
+use Rattle.std.proofs.lemmas.List.Elements.{All-contains, Contains-get_or, Contains-append_left, Contains-append_right, Contains-append_cases}
 use Rattle.cfi_word.specs.declared.lists.Edge.{Edge}
 use Rattle.cfi_word.specs.Chain.{ChainOf, Chain}
 use Rattle.cfi_word.specs.Edge.{edge_of}
 use Rattle.cfi_flow.specs.declared.links.Link.{Link}
-use Rattle.cfi_flow.specs.Flow.{Links, IsPath, Reaches, BeginBelow, AreBelow}
+use Rattle.cfi_flow.specs.Flow.{Links, flipped, IsPath, Reaches, BeginBelow, AreBelow}
 use Rattle.cfi_flow.specs.Rows.{AreRows}
 use Rattle.cfi_flow.specs.Fans.{IsListed}
 use Rattle.cfi_flow.specs.inner.Spread.{tag_of, HasTag, AreSpread}
-use Rattle.cfi_flow.specs.inner.Ways.{flipped, between, return_edges, site_edges, arrow_edges, tied, ComesBack, AreWays}
-use Rattle.cfi_flow.proofs.Members.{no_member, member_first, member_of_one, member_map, from_map, member_flat, from_flat}
+use Rattle.cfi_flow.specs.inner.Ways.{between, return_edges, site_edges, arrow_edges, tied, ComesBack, AreWays}
+use Rattle.cfi_flow.proofs.Members.{no_member, member_first, member_of_one, from_map, member_flat, from_flat}
 use Rattle.cfi_flow.proofs.RowLemmas.{make_link, link_is}
-use Rattle.cfi_flow.proofs.FanLemmas.{walk_path, path_walk, begins, ends, row_link}
+use Rattle.cfi_flow.proofs.PathLemmas.{reaches_then, one_arrow, flip, unflip}
+use Rattle.cfi_flow.proofs.FanLemmas.{walk_path, path_walk, begins}
 use Rattle.cfi_flow.proofs.SpreadLemmas.{same_tag}
 
 -- ---- chains
@@ -30,23 +31,6 @@ pub snoc : (R : (slot address : ℕ) → Type 0) (s t s' t' : ℕ) → Chain R s
 snoc R s t s' t' c old new = record { more = suc c.more; chain = snoc_of R c.more s t s' t' c.chain old new }
 
 -- ---- paths
-
-reaches_then : (arrows : List Link) (steps a b c : ℕ) → IsPath arrows steps a b → Reaches arrows b c
-    → Reaches arrows a c
-reaches_then arrows zero a b c e r = subst (λ n. Reaches arrows n c) (sym e) r
-reaches_then arrows (suc steps) a b c w r =
-    let on = reaches_then arrows steps w.0 b c w.2 r in (suc on.0, (w.0, w.1, on.1))
-
-one_arrow : (arrows : List Link) (a b : ℕ) → Links arrows a b → Reaches arrows a b
-one_arrow arrows a b h = (suc zero, (b, h, refl))
-
-unflip : (arrows : List Link) (a b : ℕ) → Links (map flipped arrows) a b → Links arrows b a
-unflip arrows a b h =
-    let m = from_map flipped arrows (make_link a b) h in
-    subst (λ l. Contains arrows l) (link_is m.0 b a (ap (λ l. l.to) m.2) (ap (λ l. l.from) m.2)) m.1
-
-flip : (arrows : List Link) (a b : ℕ) → Links arrows a b → Links (map flipped arrows) b a
-flip arrows a b h = member_map flipped arrows (make_link a b) h
 
 back_path : (arrows : List Link) (steps a b : ℕ) → IsPath (map flipped arrows) steps a b → Reaches arrows b a
 back_path arrows zero a b e = (zero, sym e)
@@ -66,23 +50,6 @@ flipped_below count arrows all = λ k d lt.
     let has = from_map flipped arrows (get_or (map flipped arrows) k d) (Contains-get_or (map flipped arrows) k d lt) in
     let both = All-contains (λ link. (link.from < count) × (link.to < count)) arrows has.0 all has.1 in
     subst (λ l. (l.from < count) × (l.to < count)) has.2 (both.1, both.0)
-
-row_inside : (count : ℕ) (links : List Link) (rows : List (List ℕ)) → AreBelow count links → AreRows count links rows
-    → (i : ℕ) → i < length rows → All (λ k. k < length rows) (slice_index_or rows i [])
-row_inside count links rows all r i h =
-    let within : i < count = omega (arith, h, r.len) in
-    All-from_get_or (λ k. k < length rows) (slice_index_or rows i []) 0 (λ j lt.
-    let end = get_or (slice_index_or rows i []) j 0 in
-    let below : end < count = ends count links i end all
-    (row_link count links rows i end r within (Contains-get_or (slice_index_or rows i []) j 0 lt)) in
-    omega (arith, below, r.len))
-
--- rows of arrows between nodes lead to nodes
-pub inside : (count : ℕ) (links : List Link) (rows : List (List ℕ)) → AreBelow count links → AreRows count links rows
-    → AllByRecursion (All (λ k. k < length rows)) rows
-inside count links rows all r =
-    recursion_from_All (All (λ k. k < length rows)) rows
-    (All-from_get_or (All (λ k. k < length rows)) rows [] (λ i h. row_inside count links rows all r i h))
 
 -- ---- edges between
 

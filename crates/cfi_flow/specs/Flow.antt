@@ -8,6 +8,10 @@ use Rattle.cfi_flow.specs.declared.links.Flow.{Flow}
 abbrev pub Links : List Link → (from to : ℕ) → Type 0
 Links links a b = Contains links (record { from = a; to = b })
 
+-- the link from its end to its beginning
+abbrev pub flipped : Link → Link
+flipped link = record { from = link.to; to = link.from }
+
 -- so many arrows lead from one node to the other
 abbrev pub IsPath : (arrows : List Link) → (steps : ℕ) → (from to : ℕ) → Type 0
 IsPath arrows zero a b = a ≡ b
@@ -17,10 +21,12 @@ IsPath arrows (suc steps) a b = (next : ℕ) × Links arrows a next × IsPath ar
 abbrev pub Reaches : (arrows : List Link) → (from to : ℕ) → Type 0
 Reaches arrows a b = (steps : ℕ) × IsPath arrows steps a b
 
--- the branch points to what the node stands for, and the address is one that it may point to
+-- pointers to what the node stands for may lead to the address, and the branch points to that or to something wider
 pub record PointsAt (flow : Flow) (node slot address : ℕ) : Type 0 where
-  pub pointer : Links flow.pointers.items node slot
   pub entry : Links flow.entries.items node address
+  pub pointing : ℕ
+  pub wider : Reaches flow.widenings.items node pointing
+  pub pointer : Links flow.pointers.items pointing slot
 
 -- what enters the node comes back to the address, and gets to where the branch returns
 pub record ReturnsAt (flow : Flow) (node slot address : ℕ) : Type 0 where
@@ -41,7 +47,8 @@ Goes flow slot address = Links flow.listed.items slot address ⊎ ((node : ℕ) 
 abbrev pub link_count : Flow → ℕ
 link_count flow =
     length flow.arrows.items + length flow.sites.items + length flow.returns.items
-    + length flow.pointers.items + length flow.entries.items + length flow.listed.items
+    + length flow.pointers.items + length flow.entries.items + length flow.widenings.items
+    + length flow.listed.items
 
 -- links that begin below the count
 abbrev pub BeginBelow : (count : ℕ) → List Link → Type 0
@@ -58,3 +65,4 @@ pub record IsSound (flow : Flow) : Type 0 where
   pub returns : BeginBelow flow.nodes flow.returns.items
   pub pointers : BeginBelow flow.nodes flow.pointers.items
   pub entries : BeginBelow flow.nodes flow.entries.items
+  pub widenings : AreBelow flow.nodes flow.widenings.items

@@ -87,7 +87,8 @@ pub fn few_edges(alloc: Global, flow: &Flow) -> Result<Vec<Edge>, AllocError>
 {
     let mut edges = edges_of(alloc, flow.listed.as_slice())?;
     let (entries, pointers) = (flow.entries.as_slice(), flow.pointers.as_slice());
-    add_ways(alloc, &mut edges, flow.nodes, &[], entries, pointers)?;
+    let widenings = flow.widenings.as_slice();
+    add_ways(alloc, &mut edges, flow.nodes, widenings, entries, pointers)?;
     let (sites, returns) = (flow.sites.as_slice(), flow.returns.as_slice());
     let arrows = flow.arrows.as_slice();
     add_ways(alloc, &mut edges, flow.nodes, arrows, sites, returns)?;

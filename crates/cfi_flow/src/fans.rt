@@ -5,7 +5,7 @@ ghost use Rattle.std.specs.List.{flat_map};
 ghost use Rattle.cfi_flow.specs.Flow.{IsSound};
 ghost use Rattle.cfi_flow.specs.Fans.{AreFans};
 ghost use Rattle.cfi_flow.specs.inner.Reach.{AreClear};
-ghost use Rattle.cfi_flow.specs.inner.FlowRows.{flow_row, AreFlowRows, HaveNodes, IsPointerFan, IsReturnFan};
+ghost use Rattle.cfi_flow.specs.inner.FlowRows.{flow_row, AreFlowRows, AreInside, IsFan};
 
 use crate::fan::Fan;
 use crate::links::Flow;
@@ -21,6 +21,7 @@ struct FlowRows {
     returns: Rows,
     pointers: Rows,
     entries: Rows,
+    widenings: Rows,
 }
 
 // The rows of a flow.
@@ -35,6 +36,7 @@ fn flow_rows(alloc: Global, flow: &Flow) -> Result<FlowRows, AllocError>
         returns: rows_of(alloc, nodes, flow.returns.as_slice())?,
         pointers: rows_of(alloc, nodes, flow.pointers.as_slice())?,
         entries: rows_of(alloc, nodes, flow.entries.as_slice())?,
+        widenings: rows_of(alloc, nodes, flow.widenings.as_slice())?,
     })
 }
 
@@ -60,42 +62,34 @@ fn joined(alloc: Global, nodes: &[u32], rows: &Rows) -> Result<Vec<u32>, AllocEr
     Ok(numbers)
 }
 
-// The fan of the pointers at a node.
-fn pointer_fan(alloc: Global, rows: &FlowRows, node: u32) -> Result<Fan, AllocError>
-    requires pointers { node < length rows.now.pointers }
-    requires entries { node < length rows.now.entries }
-    ensures { IfOk result (λ fan. IsPointerFan rows.now node fan) }
-{
-    Ok(Fan {
-        slots: Vec::from_slice(alloc, rows.pointers.row(node))?,
-        targets: Vec::from_slice(alloc, rows.entries.row(node))?,
-    })
-}
-
-// The fan of the returns from a node. No node is marked before, and none afterwards.
-fn return_fan(
+// The fan of a node: its addresses, and the branches at what it reaches. No node is marked before, and none afterwards.
+fn fan_of(
     alloc: Global,
     marks: &mut Vec<bool>,
-    rows: &FlowRows,
+    along: &Rows,
+    branches: &Rows,
+    addresses: &Rows,
     node: u32,
 ) -> Result<Fan, AllocError>
-    requires nodes { HaveNodes (length rows.now.arrows) rows.now }
-    requires node { node < length rows.now.arrows }
-    requires clear { AreClear (length rows.now.arrows) marks.old.items }
-    ensures fan { IfOk result (λ fan. IsReturnFan rows.now node fan) }
-    ensures clear { OnOk result (AreClear (length rows.now.arrows) marks.new.items) }
+    requires inside { AreInside along.now }
+    requires branches { length branches.now ≡ length along.now }
+    requires addresses { length addresses.now ≡ length along.now }
+    requires node { node < length along.now }
+    requires clear { AreClear (length along.now) marks.old.items }
+    ensures fan { IfOk result (IsFan along.now branches.now addresses.now node) }
+    ensures clear { OnOk result (AreClear (length along.now) marks.new.items) }
 {
-    let sites = rows.sites.row(node);
-    if sites.is_empty() {
+    let targets = addresses.row(node);
+    if targets.is_empty() {
         return Ok(Fan {
             slots: Vec::new(alloc),
             targets: Vec::new(alloc),
         });
     }
-    let order = reached(alloc, marks, &rows.arrows, node)?;
+    let order = reached(alloc, marks, along, node)?;
     Ok(Fan {
-        slots: joined(alloc, order.as_slice(), &rows.returns)?,
-        targets: Vec::from_slice(alloc, sites)?,
+        slots: joined(alloc, order.as_slice(), branches)?,
+        targets: Vec::from_slice(alloc, targets)?,
     })
 }
 
@@ -108,8 +102,12 @@ pub(crate) fn fans(alloc: Global, flow: &Flow) -> Result<Vec<Fan>, AllocError>
     let mut marks = vec![in alloc; false; rows.arrows.count()]?;
     let mut fans = Vec::new(alloc);
     for node in 0..flow.nodes {
-        fans.push(pointer_fan(alloc, &rows, node)?)?;
-        fans.push(return_fan(alloc, &mut marks, &rows, node)?)?;
+        let (wider, pointers) = (&rows.widenings, &rows.pointers);
+        let points = fan_of(alloc, &mut marks, wider, pointers, &rows.entries, node)?;
+        let (arrows, returns) = (&rows.arrows, &rows.returns);
+        let backs = fan_of(alloc, &mut marks, arrows, returns, &rows.sites, node)?;
+        fans.push(points)?;
+        fans.push(backs)?;
     }
     Ok(fans)
 }

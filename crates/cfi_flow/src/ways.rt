@@ -2,8 +2,8 @@
 
 ghost use Rattle.std.specs.Prelude.{◌≡◌, ◌<◌, ◌++◌, length, map, IfOk, OnOk};
 ghost use Rattle.std.specs.List.{flat_map};
-ghost use Rattle.cfi_flow.specs.Flow.{BeginBelow, AreBelow};
-ghost use Rattle.cfi_flow.specs.inner.Ways.{flipped, between, return_edges, site_edges, arrow_edges, tied, AddsWays};
+ghost use Rattle.cfi_flow.specs.Flow.{flipped, BeginBelow, AreBelow};
+ghost use Rattle.cfi_flow.specs.inner.Ways.{between, return_edges, site_edges, arrow_edges, tied, AddsWays};
 
 use crate::links::Link;
 use crate::rows::rows_of;
@@ -15,13 +15,7 @@ use std::alloc::{AllocError, Global};
 fn flipped(alloc: Global, links: &[Link]) -> Result<Vec<Link>, AllocError>
     ensures { IfOk result (λ others. others.items ≡ map flipped links.now) }
 {
-    links
-        .iter()
-        .map(|link| Link {
-            from: link.to,
-            to: link.from,
-        })
-        .collect(alloc)
+    links.iter().map(|link| link.flipped()).collect(alloc)
 }
 
 // Adds the edge from a branch to an address, where both are there.

@@ -1,7 +1,7 @@
 -- A flow that says what modules tell names its own nodes.
 use Rattle.std.proofs.Common.{◌≡◌, ℕ, ◌<◌, ◌≤◌, Bool, true, false, ℤ, List, length, get_or, Some, sym, subst, inl, inr, arith}
 use Rattle.std.specs.Prelude.{slice_get, All}
-use Rattle.std.proofs.lemmas.List.Elements.{Contains-get_or}
+use Rattle.std.proofs.lemmas.List.Elements.{All-contains, Contains-get_or}
 use Rattle.cfi_flow.specs.declared.links.Link.{Link}
 use Rattle.cfi_flow.specs.declared.links.Flow.{Flow}
 use Rattle.cfi_flow.specs.Flow.{BeginBelow, AreBelow, IsSound}
@@ -18,7 +18,9 @@ use Rattle.cfi_graph.specs.Facts.{type_node, LiesInNode, IsJumpFact, IsBranchFac
 use Rattle.cfi_graph.specs.Reading.{tables_of, node_count}
 use Rattle.cfi_graph.proofs.BoundLemmas.{inside, branch_names}
 use Rattle.cfi_graph.proofs.NodeLemmas.{StandsAt, shaped_at, node_low}
-use Rattle.cfi_graph.proofs.ReadLemmas.{TellsFlow, Tell, unit_cases}
+use Rattle.cfi_graph.proofs.WiderLemmas.{AreWider}
+use Rattle.cfi_graph.proofs.ReadLemmas.{IsArrow, TellsFlow, Tell, unit_cases}
+use Rattle.cfi_flow.proofs.RowLemmas.{make_link}
 use Rattle.cfi_graph.proofs.GoesLemmas.{lies_there}
 use Rattle.cfi_graph.proofs.ClassLemmas.{type_low}
 
@@ -132,11 +134,25 @@ module _ (ms : List Placed) (classes : List (List ℕ)) (apart : AreApart ms)
       let l = get_or links k d in
       holds l ((tell l.from l.to).0 (Contains-get_or links k d within))
 
-  pub below_nodes : (flow : Flow) → TellsFlow ms classes flow → flow.nodes ≡ node_count ms → IsSound flow
-  below_nodes flow tells is = record {
-    arrows = subst (λ n. AreBelow n flow.arrows.items) (sym is)
-        (all_by (λ l. facts.Arrow l) flow.arrows.items tells.arrows
-        (λ l. (l.from < node_count ms) × (l.to < node_count ms)) (λ l told. told_low (facts.Arrow l) told));
+  -- an arrow's ends are nodes of the flow
+  arrow_low : (flow : Flow) → AreBelow (node_count ms) flow.widenings.items → (a b : ℕ) → IsArrow ms classes flow a b
+      → (a < node_count ms) × (b < node_count ms)
+  arrow_low flow low a b arrow =
+      elim arrow [
+        | inl told ↦ told_low (facts.Arrow (make_link a b)) told
+        | inr link ↦
+            let both = All-contains (λ l. (l.from < node_count ms) × (l.to < node_count ms)) flow.widenings.items
+            (make_link b a) low link in
+            (both.1, both.0)
+      ]
+
+  pub below_nodes : (flow : Flow) → AreWider ms classes flow.widenings.items → TellsFlow ms classes flow
+      → flow.nodes ≡ node_count ms → IsSound flow
+  below_nodes flow wider tells is = record {
+    arrows = subst (λ n. AreBelow n flow.arrows.items) (sym is) (λ k d within.
+        let l = get_or flow.arrows.items k d in
+        arrow_low flow wider.low l.from l.to
+        ((tells.arrows l.from l.to).0 (Contains-get_or flow.arrows.items k d within)));
     sites = subst (λ n. BeginBelow n flow.sites.items) (sym is)
         (all_by (λ l. facts.Site l) flow.sites.items tells.sites (λ l. l.from < node_count ms)
         (λ l told. told_low (facts.Site l) told));
@@ -149,4 +165,5 @@ module _ (ms : List Placed) (classes : List (List ℕ)) (apart : AreApart ms)
     entries = subst (λ n. BeginBelow n flow.entries.items) (sym is)
         (all_by (λ l. facts.Entry l) flow.entries.items tells.entries (λ l. l.from < node_count ms)
         (λ l told. told_low (facts.Entry l) told));
+    widenings = subst (λ n. AreBelow n flow.widenings.items) (sym is) wider.low;
   }

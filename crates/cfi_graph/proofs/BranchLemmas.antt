@@ -1,5 +1,5 @@
 -- What calls and switches tell, and functions, as the facts that are added for them.
-use Rattle.std.proofs.Common.{◌≡◌, ◌⊎◌, ◌∙◌, ℕ, ◌+◌, ◌*◌, Bool, true, ℤ, List, [], ◌∷◌, ◌++◌, map, Some, refl, sym, ap, subst, inl, inr, arith}
+use Rattle.std.proofs.Common.{◌≡◌, ◌⊎◌, ◌∙◌, ℕ, ◌+◌, ◌*◌, Bool, ℤ, List, [], ◌∷◌, ◌++◌, map, Some, refl, sym, ap, subst, inl, inr, arith}
 use Rattle.std.specs.List.{Contains}
 use Rattle.std.specs.Prelude.{slice_get}
 use Rattle.std.proofs.lemmas.Option.{same_Some, none-some}
@@ -15,7 +15,7 @@ use Rattle.cfi_graph.specs.declared.fact.Fact.TheVariants as facts
 use Rattle.cfi_graph.specs.Code.{entry_of}
 use Rattle.cfi_graph.specs.Shaped.{slot_of}
 use Rattle.cfi_graph.specs.Calls.{HasKind}
-use Rattle.cfi_graph.specs.Facts.{type_node, function_node, listed_fact, IsBranchFact, IsUnitFact, IsFunctionFact, Adds}
+use Rattle.cfi_graph.specs.Facts.{type_node, function_node, listed_fact, IsBranchFact, IsUnitFact, IsOpen, IsFunctionFact, Adds}
 use Rattle.cfi_graph.proofs.AddsLemmas.{adds_two, adds_list, adds_as}
 use Rattle.cfi_flow.proofs.RowLemmas.{make_link, link_is}
 
@@ -107,12 +107,12 @@ module _ (classes : List (List ℕ)) (number : ℕ) (m : Placed) (f : PlacedFunc
   two_of_function (facts.Pointer l) told = absurd told
   two_of_function (facts.Listed l) told = absurd told
 
-  pub function_adds : (from to : ℕ) (old : List Fact) → f.taken ≡ true → from ≡ type_node classes number f.ty
+  pub function_adds : (from to : ℕ) (old : List Fact) → IsOpen m f → from ≡ type_node classes number f.ty
       → to ≡ entry_of m f
       → Adds old
       ((old ++ facts.Arrow (make_link from (function_node m f)) ∷ []) ++ facts.Entry (make_link from to) ∷ [])
       (IsFunctionFact classes number m f)
-  function_adds from to old taken is after =
+  function_adds from to old opened is after =
       subst (λ k. Adds old
       ((old ++ facts.Arrow (make_link k (function_node m f)) ∷ []) ++ facts.Entry (make_link k to) ∷ [])
       (IsFunctionFact classes number m f)) (sym is)
@@ -121,4 +121,4 @@ module _ (classes : List (List ℕ)) (number : ℕ) (m : Placed) (f : PlacedFunc
       (IsFunctionFact classes number m f)) (sym after)
       (adds_two old (facts.Arrow (make_link (type_node classes number f.ty) (function_node m f)))
       (facts.Entry (make_link (type_node classes number f.ty) (entry_of m f)))
-      (IsFunctionFact classes number m f) (taken, refl, refl) (taken, refl, refl) two_of_function))
+      (IsFunctionFact classes number m f) (opened, refl, refl) (opened, refl, refl) two_of_function))

@@ -1,13 +1,12 @@
 -- Where there is a direct edge, control goes along a flow that says what modules tell.
-use Rattle.std.proofs.Common.{◌≡◌, ◌∙◌, ℕ, zero, suc, ◌+◌, ◌<◌, Bool, true, false, ℤ, List, length, Some, refl, sym, ap, subst, inl, inr}
-use Rattle.std.specs.Prelude.{slice_get, IsTrue}
+use Rattle.std.proofs.Common.{◌≡◌, ◌∙◌, ℕ, zero, suc, ◌+◌, ◌<◌, Bool, true, false, ℤ, List, length, Some, refl, ap, subst, inl, inr}
+use Rattle.std.specs.Prelude.{slice_get}
 use Rattle.std.specs.List.{Contains}
 use Rattle.cfi_flow.specs.declared.links.Flow.{Flow}
-use Rattle.cfi_flow.specs.Flow.{Links, Reaches, Goes}
+use Rattle.cfi_flow.specs.Flow.{Links, IsPath, Reaches, Goes}
 use Rattle.cfi_unit.specs.declared.unit.Unit.{Unit as CodeUnit}
 use Rattle.cfi_unit.specs.declared.unit.Unit.TheVariants as units
 use Rattle.cfi_unit.specs.Unit.{size_of}
-use Rattle.cfi_types.specs.Classes.{AreClasses}
 use Rattle.cfi_aux.specs.declared.placed.Placed.{Placed}
 use Rattle.cfi_aux.specs.declared.placed.PlacedFunction.{PlacedFunction}
 use Rattle.cfi_aux.specs.declared.records.Kind.{Kind}
@@ -19,11 +18,11 @@ use Rattle.cfi_graph.specs.Shaped.{AreApart}
 use Rattle.cfi_graph.specs.Calls.{HasKind, IsFunction, MayPoint, IsCall, IsTailCall, IsReached}
 use Rattle.cfi_aux.specs.Extent.{LiesIn}
 use Rattle.cfi_graph.specs.Direct.{IsPointee, IsReturnTarget, GoesTo, DirectEdge}
-use Rattle.cfi_graph.specs.Facts.{type_node, function_node, LeadsToWord, LiesInNode, IsUnitFact, IsTold}
-use Rattle.cfi_graph.specs.Reading.{tables_of}
+use Rattle.cfi_graph.specs.Facts.{type_node, function_node, LeadsToWord, LiesInNode, IsOpen, IsUnitFact, IsTold}
 use Rattle.cfi_flow.proofs.RowLemmas.{make_link}
 use Rattle.cfi_graph.proofs.BoundLemmas.{at_contains, inside, branch_names}
-use Rattle.cfi_graph.proofs.NodeLemmas.{StandsAt, same_types, shaped_at, node_low}
+use Rattle.cfi_graph.proofs.NodeLemmas.{StandsAt, shaped_at, node_low}
+use Rattle.cfi_graph.proofs.WiderLemmas.{AreWider, fits_callable}
 use Rattle.cfi_graph.proofs.ReadLemmas.{TellsFlow}
 
 -- the number of a function's module
@@ -35,8 +34,12 @@ lies_node : (m : Placed) (f : PlacedFunction) (at : ℕ) → Contains m.function
     → LiesInNode m at (function_node m f)
 lies_node m f at has lies = (f.first, record { function = f; has = has; lies = lies; is = refl }, refl)
 
-module _ (ms : List Placed) (classes : List (List ℕ)) (apart : AreApart ms)
-    (are : AreClasses (tables_of ms) classes) (flow : Flow) (tells : TellsFlow ms classes flow) where
+-- pointers lead to open functions
+may_open : (m : Placed) (node : ℕ) (n : Placed) (g : PlacedFunction) → MayPoint m node n g → IsOpen n g
+may_open m node n g may = record { taken = may.taken; callable = fits_callable m.types node n.types g.ty may.fits }
+
+module _ (ms : List Placed) (classes : List (List ℕ)) (apart : AreApart ms) (flow : Flow)
+    (wider : AreWider ms classes flow.widenings.items) (tells : TellsFlow ms classes flow) where
   by_unit : (number : ℕ) (m : Placed) → slice_get ms number ≡ Some m → (at : ℕ) (unit : CodeUnit) → Stands m at unit
       → (fact : Fact) → IsUnitFact classes number m at unit fact → IsTold ms classes fact
   by_unit number m is at unit stands fact told = record {
@@ -49,24 +52,43 @@ module _ (ms : List Placed) (classes : List (List ℕ)) (apart : AreApart ms)
   step : (a b c : ℕ) → Links flow.arrows.items a b → Reaches flow.arrows.items b c → Reaches flow.arrows.items a c
   step a b c arrow (steps, path) = (suc steps, (b, arrow, path))
 
-  -- the node of a taken function's type leads to the function
-  type_arrow : (number : ℕ) (n : Placed) (g : PlacedFunction) → StandsAt ms number n g → IsTrue g.taken
+  told_arrow : (a b : ℕ) → IsTold ms classes (facts.Arrow (make_link a b)) → Links flow.arrows.items a b
+  told_arrow a b told = (tells.arrows a b).1 (inl told)
+
+  -- the node of an open function's type leads to the function
+  type_arrow : (number : ℕ) (n : Placed) (g : PlacedFunction) → StandsAt ms number n g → IsOpen n g
       → Links flow.arrows.items (type_node classes number g.ty) (function_node n g)
-  type_arrow number n g at taken =
-      (tells.arrows (type_node classes number g.ty) (function_node n g)).1 (record {
+  type_arrow number n g at opened =
+      told_arrow (type_node classes number g.ty) (function_node n g) (record {
         number = number;
         owner = n;
         is = at.is;
-        tells = inr (record { function = g; has = at.has; tells = (taken, refl, refl) });
+        tells = inr (record { function = g; has = at.has; tells = (opened, refl, refl) });
       })
 
-  -- the node of a pointer's type is that of the function to which it may lead
-  same_node : (i j : ℕ) (m n : Placed) (node : ℕ) (g : PlacedFunction) → slice_get ms i ≡ Some m
+  -- what is reached from a type's node is reached from a wider one's
+  narrow_path : (steps a b to : ℕ) → IsPath flow.widenings.items steps a b → Reaches flow.arrows.items a to
+      → Reaches flow.arrows.items b to
+  narrow_path zero a b to same rest = subst (λ k. Reaches flow.arrows.items k to) same rest
+  narrow_path (suc steps) a b to (next, link, path) rest =
+      narrow_path steps next b to path (step next a to ((tells.arrows next a).1 (inr link)) rest)
+
+  -- the node of a pointer's type is reached from that of a function to which it may lead
+  wider_node : (i j : ℕ) (m n : Placed) (node : ℕ) (g : PlacedFunction) → slice_get ms i ≡ Some m
       → node < length m.types → StandsAt ms j n g → MayPoint m node n g
-      → type_node classes i node ≡ type_node classes j g.ty
-  same_node i j m n node g is within at may =
+      → Reaches flow.widenings.items (type_node classes j g.ty) (type_node classes i node)
+  wider_node i j m n node g is within at may =
       let typed = (inside n (shaped_at ms apart j n at.is) g at.has).typed in
-      (same_types ms classes are i j m n is at.is node g.ty within typed).1 may.equal
+      (wider.fits i j m n is at.is node g.ty within typed (may_open m node n g may).callable).1 may.fits
+
+  -- the node of a pointer's type leads to what such a function leads to
+  pointer_reaches : (i j : ℕ) (m n : Placed) (node : ℕ) (g : PlacedFunction) → slice_get ms i ≡ Some m
+      → node < length m.types → StandsAt ms j n g → MayPoint m node n g → (to : ℕ)
+      → Reaches flow.arrows.items (function_node n g) to → Reaches flow.arrows.items (type_node classes i node) to
+  pointer_reaches i j m n node g is within at may to rest =
+      let up = wider_node i j m n node g is within at may in
+      narrow_path up.0 (type_node classes j g.ty) (type_node classes i node) to up.1
+      (step (type_node classes j g.ty) (function_node n g) to (type_arrow j n g at (may_open m node n g may)) rest)
 
   leads_word : (m : Placed) (at : ℕ) (off : ℤ) (number : ℕ) (n : Placed) (g : PlacedFunction) → StandsAt ms number n g
       → Leads (code_address m at) off (entry_of n g) → LeadsToWord (m.base + at) off (function_node n g)
@@ -80,19 +102,17 @@ module _ (ms : List Placed) (classes : List (List ℕ)) (apart : AreApart ms)
       → (to : ℕ) → Reaches flow.arrows.items (function_node n g) to → Reaches flow.arrows.items (function_node m f) to
   tail_step i m f m_at j n g n_at at lies (units.Jump false off) stands call to rest =
       step (function_node m f) (function_node n g) to
-      ((tells.arrows (function_node m f) (function_node n g)).1 (by_unit i m m_at.is at (units.Jump false off) stands
+      (told_arrow (function_node m f) (function_node n g) (by_unit i m m_at.is at (units.Jump false off) stands
       (facts.Arrow (make_link (function_node m f) (function_node n g)))
       (lies_node m f at m_at.has lies, leads_word m at off j n g n_at call))) rest
   tail_step i m f m_at j n g n_at at lies (units.Check linked rs1 imm slot) stands (type, has, may) to rest =
       let within = branch_names m (shaped_at ms apart i m m_at.is) slot (kinds.Tail type) has in
-      let same = same_node i j m n type g m_at.is within n_at may in
       let node = type_node classes i type in
       step (function_node m f) node to
-      ((tells.arrows (function_node m f) node).1 (by_unit i m m_at.is at (units.Check linked rs1 imm slot) stands
+      (told_arrow (function_node m f) node (by_unit i m m_at.is at (units.Check linked rs1 imm slot) stands
       (facts.Arrow (make_link (function_node m f) node))
       (kinds.Tail type, has, (lies_node m f at m_at.has lies, refl))))
-      (step node (function_node n g) to
-      (subst (λ a. Links flow.arrows.items a (function_node n g)) (sym same) (type_arrow j n g n_at may.taken)) rest)
+      (pointer_reaches i j m n type g m_at.is within n_at may to rest)
   tail_step i m f m_at j n g n_at at lies (units.Jump true off) stands call to rest = absurd call
   tail_step i m f m_at j n g n_at at lies (units.Plain insn) stands call to rest = absurd call
   tail_step i m f m_at j n g n_at at lies (units.Load kind rd rs1 imm) stands call to rest = absurd call
@@ -130,15 +150,12 @@ module _ (ms : List Placed) (classes : List (List ℕ)) (apart : AreApart ms)
   )
   call_site i m is j n g n_at at (units.Check linked rs1 imm slot) stands (type, has, may) address after to rest =
       let within = branch_names m (shaped_at ms apart i m is) slot (kinds.Call type) has in
-      let same = same_node i j m n type g is within n_at may in
       let node = type_node classes i type in (
         node,
         (
           (tells.sites node address).1 (by_unit i m is at (units.Check linked rs1 imm slot) stands
               (facts.Site (make_link node address)) (kinds.Call type, has, (refl, after))),
-          step node (function_node n g) to
-              (subst (λ a. Links flow.arrows.items a (function_node n g)) (sym same) (type_arrow j n g n_at may.taken))
-              rest,
+          pointer_reaches i j m n type g is within n_at may to rest,
         ),
       )
   call_site i m is j n g n_at at (units.Jump false off) stands call address after to rest = absurd call
@@ -155,18 +172,21 @@ module _ (ms : List Placed) (classes : List (List ℕ)) (apart : AreApart ms)
       → Goes flow slot address
   pointee_goes i m is type slot address within told p =
       let n_at = number_of ms p.owner p.function p.is in
-      let node = type_node classes i type in
-      let same = same_node i n_at.0 m p.owner type p.function is within n_at.1 p.may in
+      let pointing = type_node classes i type in
+      let node = type_node classes n_at.0 p.function.ty in
+      let opened = may_open m type p.owner p.function p.may in
       inr (
         node,
         inl (record {
-          pointer = (tells.pointers node slot).1 told;
           entry = (tells.entries node address).1 (record {
             number = n_at.0;
             owner = p.owner;
             is = n_at.1.is;
-            tells = inr (record { function = p.function; has = n_at.1.has; tells = (p.may.taken, same, p.entry) });
+            tells = inr (record { function = p.function; has = n_at.1.has; tells = (opened, refl, p.entry) });
           });
+          pointing = pointing;
+          wider = wider_node i n_at.0 m p.owner type p.function is within n_at.1 p.may;
+          pointer = (tells.pointers pointing slot).1 told;
         }),
       )
 

@@ -1,11 +1,11 @@
 -- Where control goes along a flow that says what modules tell, there is a direct edge.
 use Rattle.std.proofs.Common.{◌≡◌, ◌⊎◌, ◌∙◌, ℕ, zero, suc, ◌+◌, ◌*◌, ◌<◌, Bool, true, false, ℤ, List, length, Some, refl, sym, ap, subst, inl, inr, arith}
-use Rattle.std.specs.Prelude.{slice_get, IsTrue}
+use Rattle.std.specs.Prelude.{slice_get}
 use Rattle.std.specs.List.{Contains}
+use Rattle.cfi_flow.specs.declared.links.Link.{Link}
 use Rattle.cfi_flow.specs.declared.links.Flow.{Flow}
-use Rattle.cfi_flow.specs.Flow.{IsPath}
+use Rattle.cfi_flow.specs.Flow.{Links, IsPath, Reaches}
 use Rattle.cfi_unit.specs.declared.unit.Unit.TheVariants as units
-use Rattle.cfi_types.specs.Classes.{AreClasses}
 use Rattle.cfi_aux.specs.declared.placed.Placed.{Placed}
 use Rattle.cfi_aux.specs.declared.placed.PlacedFunction.{PlacedFunction}
 use Rattle.cfi_aux.specs.declared.records.Kind.{Kind}
@@ -15,15 +15,16 @@ use Rattle.cfi_graph.specs.Code.{Stands, code_address, entry_of, Leads}
 use Rattle.cfi_graph.specs.Shaped.{AreApart}
 use Rattle.cfi_graph.specs.Calls.{HasKind, IsFunction, MayPoint, TailCalls, IsReached}
 use Rattle.cfi_aux.specs.Extent.{LiesIn}
-use Rattle.cfi_graph.specs.Facts.{type_node, function_node, LeadsToWord, LiesInNode, IsJumpFact, IsBranchFact, IsTold}
-use Rattle.cfi_graph.specs.Reading.{tables_of}
+use Rattle.cfi_graph.specs.Facts.{type_node, function_node, LeadsToWord, LiesInNode, IsOpen, IsJumpFact, IsBranchFact, IsTold}
 use Rattle.cfi_flow.proofs.RowLemmas.{make_link}
+use Rattle.cfi_flow.proofs.PathLemmas.{reaches_then, one_arrow}
 use Rattle.cfi_graph.proofs.BoundLemmas.{contains_at, inside, branch_names}
-use Rattle.cfi_graph.proofs.NodeLemmas.{StandsAt, same_types, shaped_at, node_low, same_numbers, same_functions}
-use Rattle.cfi_graph.proofs.ReadLemmas.{TellsFlow, unit_cases}
+use Rattle.cfi_graph.proofs.NodeLemmas.{StandsAt, shaped_at, node_low, same_numbers, same_modules, same_functions}
+use Rattle.cfi_graph.proofs.WiderLemmas.{AreWider, reaches_high}
+use Rattle.cfi_graph.proofs.ReadLemmas.{IsArrow, TellsFlow, unit_cases}
 
 -- the node stands for a function from which f of m is reached
-pub record IsEntered (ms : List Placed) (classes : List (List ℕ)) (m : Placed) (f : PlacedFunction)
+pub record IsEntered (ms : List Placed) (classes : List (List ℕ)) (links : List Link) (m : Placed) (f : PlacedFunction)
     (node : ℕ) : Type 0 where
   pub number : ℕ
   pub owner : Placed
@@ -32,7 +33,7 @@ pub record IsEntered (ms : List Placed) (classes : List (List ℕ)) (m : Placed)
   pub steps : ℕ
   pub reached : IsReached ms steps owner entered m f
   pub enters : (node ≡ function_node owner entered)
-      ⊎ (IsTrue entered.taken × (node ≡ type_node classes number entered.ty))
+      ⊎ (IsOpen owner entered × Reaches links (type_node classes number entered.ty) node)
 
 -- the word of a module lies in the function of a node
 pub record LiesThere (m : Placed) (at node : ℕ) : Type 0 where
@@ -57,8 +58,8 @@ pub leads_entry : (address : ℕ) (off : ℤ) (word : ℕ) (n : Placed) (g : Pla
 leads_entry address off word n g leads is =
     subst (λ w. Leads address off (4 * w)) is leads
 
-module _ (ms : List Placed) (classes : List (List ℕ)) (apart : AreApart ms)
-    (are : AreClasses (tables_of ms) classes) where
+module _ (ms : List Placed) (classes : List (List ℕ)) (apart : AreApart ms) (flow : Flow)
+    (wider : AreWider ms classes flow.widenings.items) where
   pub is_function : (number : ℕ) (m : Placed) (f : PlacedFunction) → StandsAt ms number m f → IsFunction ms m f
   is_function number m f at = record { placed = contains_at ms number m at.is; function = at.has }
 
@@ -69,20 +70,30 @@ module _ (ms : List Placed) (classes : List (List ℕ)) (apart : AreApart ms)
       let low = (node_low ms apart number m f at).1 in
       omega (arith, low, same)
 
-  -- a pointer whose type's node is a taken function's may lead there
+  -- no function's node is reached from a type's
+  pub never_reached : (number other node : ℕ) (m : Placed) (f : PlacedFunction) → StandsAt ms number m f
+      → Reaches flow.widenings.items (type_node classes other node) (function_node m f) → ⊥
+  never_reached number other node m f at reach =
+      let low = (node_low ms apart number m f at).1 in
+      let high = reaches_high ms classes flow.widenings.items wider other node (function_node m f) reach in
+      omega (arith, low, high)
+
+  -- a pointer whose type's node is reached from that of an open function's type may lead there
   pub may_point : (i j : ℕ) (m n : Placed) (node : ℕ) (g : PlacedFunction) → slice_get ms i ≡ Some m
-      → node < length m.types → StandsAt ms j n g → IsTrue g.taken
-      → type_node classes i node ≡ type_node classes j g.ty → MayPoint m node n g
-  may_point i j m n node g is within at taken same =
-      let typed = (inside n (shaped_at ms apart j n at.is) g at.has).typed in
-      record { taken = taken; equal = (same_types ms classes are i j m n is at.is node g.ty within typed).0 same }
+      → node < length m.types → StandsAt ms j n g → IsOpen n g
+      → Reaches flow.widenings.items (type_node classes j g.ty) (type_node classes i node) → MayPoint m node n g
+  may_point i j m n node g is within at opened reach =
+      let typed = (inside n (shaped_at ms apart j n at.is) g at.has).typed in record {
+        taken = opened.taken;
+        fits = (wider.fits i j m n is at.is node g.ty within typed opened.callable).0 reach;
+      }
 
   module _ (m : Placed) (f : PlacedFunction) where
     -- a tail call more
     one_more : (number : ℕ) (o : Placed) → slice_get ms number ≡ Some o → (at node next : ℕ) → LiesInNode o at node
-        → (e : IsEntered ms classes m f next)
+        → (e : IsEntered ms classes flow.widenings.items m f next)
         → ((h : PlacedFunction) → Contains o.functions h → LiesIn h at → TailCalls o h e.owner e.entered)
-        → IsEntered ms classes m f node
+        → IsEntered ms classes flow.widenings.items m f node
     one_more number o is at node next lies e calls =
         let there = lies_there o at node lies in
         record {
@@ -103,7 +114,7 @@ module _ (ms : List Placed) (classes : List (List ℕ)) (apart : AreApart ms)
 
     jump_step : (number : ℕ) (o : Placed) → slice_get ms number ≡ Some o → (at : ℕ) (off : ℤ)
         → Stands o at (units.Jump false off) → (node next : ℕ) → LiesInNode o at node
-        → LeadsToWord (o.base + at) off next → IsEntered ms classes m f next → IsEntered ms classes m f node
+        → LeadsToWord (o.base + at) off next → IsEntered ms classes flow.widenings.items m f next → IsEntered ms classes flow.widenings.items m f node
     jump_step number o is at off stands node next lies leads e =
         elim e.enters [
           | inl same ↦
@@ -114,21 +125,21 @@ module _ (ms : List Placed) (classes : List (List ℕ)) (apart : AreApart ms)
                 stands = stands;
                 call = leads_entry (code_address o at) off next e.owner e.entered leads.leads same;
               })
-          | inr taken ↦
+          | inr opened ↦
               let low = leads.within in
-              let high = taken.1 in
+              let high = reaches_high ms classes flow.widenings.items wider e.number e.entered.ty next opened.1 in
               absurd (omega (arith, low, high))
         ]
 
     tail_step : (number : ℕ) (o : Placed) → slice_get ms number ≡ Some o → (at : ℕ) (linked : Bool) (rs1 : ℕ) (imm : ℤ)
         (slot : ℕ) → Stands o at (units.Check linked rs1 imm slot) → (type : ℕ) → HasKind o slot (kinds.Tail type)
         → (node next : ℕ) → LiesInNode o at node → next ≡ type_node classes number type
-        → IsEntered ms classes m f next → IsEntered ms classes m f node
+        → IsEntered ms classes flow.widenings.items m f next → IsEntered ms classes flow.widenings.items m f node
     tail_step number o is at linked rs1 imm slot stands type has node next lies to e =
         elim e.enters [
           | inl same ↦
               absurd (apart_nodes e.number number type e.owner e.entered e.at (sym same ∙ to))
-          | inr taken ↦
+          | inr opened ↦
               one_more number o is at node next lies e (λ h h_has in_h. record {
                 at = at;
                 lies = in_h;
@@ -138,21 +149,24 @@ module _ (ms : List Placed) (classes : List (List ℕ)) (apart : AreApart ms)
                   type,
                   has,
                   may_point number e.number o e.owner type e.entered is
-                      (branch_names o (shaped_at ms apart number o is) slot (kinds.Tail type) has) e.at taken.0
-                      (sym to ∙ taken.1),
+                      (branch_names o (shaped_at ms apart number o is) slot (kinds.Tail type) has) e.at opened.0
+                      (subst (λ k. Reaches flow.widenings.items (type_node classes e.number e.entered.ty) k) to opened.1),
                 );
               })
         ]
 
-    taken_step : (number : ℕ) (o : Placed) (h : PlacedFunction) → StandsAt ms number o h → IsTrue h.taken
+    open_step : (number : ℕ) (o : Placed) (h : PlacedFunction) → StandsAt ms number o h → IsOpen o h
         → (node next : ℕ) → node ≡ type_node classes number h.ty → next ≡ function_node o h
-        → IsEntered ms classes m f next → IsEntered ms classes m f node
-    taken_step number o h at taken node next from to e =
+        → IsEntered ms classes flow.widenings.items m f next → IsEntered ms classes flow.widenings.items m f node
+    open_step number o h at opened node next from to e =
         elim e.enters [
           | inl same ↦
               let one : function_node o h ≡ function_node e.owner e.entered = sym to ∙ same in
               let numbers = same_numbers ms apart number e.number o e.owner h e.entered at e.at one in
+              let owners = same_modules ms apart number e.number o e.owner h e.entered at e.at one in
               let functions = same_functions ms apart number e.number o e.owner h e.entered at e.at one in
+              let is : node ≡ type_node classes e.number e.entered.ty =
+              from ∙ ap (λ k. type_node classes k h.ty) numbers ∙ ap (λ g. type_node classes e.number g.ty) functions in
               record {
                 number = e.number;
                 owner = e.owner;
@@ -161,18 +175,42 @@ module _ (ms : List Placed) (classes : List (List ℕ)) (apart : AreApart ms)
                 steps = e.steps;
                 reached = e.reached;
                 enters = inr (
-                  subst (λ g. IsTrue g.taken) functions taken,
-                  from ∙ ap (λ k. type_node classes k h.ty) numbers
-                      ∙ ap (λ g. type_node classes e.number g.ty) functions,
+                  subst (λ g. IsOpen e.owner g) functions (subst (λ n. IsOpen n h) owners opened),
+                  (zero, sym is),
                 );
               }
-          | inr type ↦ absurd (apart_nodes number e.number e.entered.ty o h at (sym to ∙ type.1))
+          | inr type ↦
+              absurd (never_reached number e.number e.entered.ty o h at
+              (subst (λ k. Reaches flow.widenings.items (type_node classes e.number e.entered.ty) k) to type.1))
+        ]
+
+    wider_step : (node next : ℕ) → Links flow.widenings.items next node
+        → IsEntered ms classes flow.widenings.items m f next → IsEntered ms classes flow.widenings.items m f node
+    wider_step node next link e =
+        elim e.enters [
+          | inl same ↦
+              let low = (node_low ms apart e.number e.owner e.entered e.at).1 in
+              let high = (wider.high next node link).0 in
+              absurd (omega (arith, low, high, same))
+          | inr opened ↦ record {
+            number = e.number;
+            owner = e.owner;
+            entered = e.entered;
+            at = e.at;
+            steps = e.steps;
+            reached = e.reached;
+            enters = inr (
+              opened.0,
+              reaches_then flow.widenings.items opened.1.0 (type_node classes e.number e.entered.ty) next node opened.1.1
+                  (one_arrow flow.widenings.items next node link),
+            );
+          }
         ]
 
     jump_arrow : (number : ℕ) (o : Placed) → slice_get ms number ≡ Some o → (at : ℕ) (linked : Bool) (off : ℤ)
         → Stands o at (units.Jump linked off) → (node next : ℕ)
-        → IsJumpFact o at linked off (facts.Arrow (make_link node next)) → IsEntered ms classes m f next
-        → IsEntered ms classes m f node
+        → IsJumpFact o at linked off (facts.Arrow (make_link node next)) → IsEntered ms classes flow.widenings.items m f next
+        → IsEntered ms classes flow.widenings.items m f node
     jump_arrow number o is at true off stands node next told e = absurd told
     jump_arrow number o is at false off stands node next told e =
         jump_step number o is at off stands node next told.0 told.1 e
@@ -181,16 +219,16 @@ module _ (ms : List Placed) (classes : List (List ℕ)) (apart : AreApart ms)
         → (at : ℕ) (linked : Bool) (rs1 : ℕ) (imm : ℤ) (slot : ℕ) → Stands o at (units.Check linked rs1 imm slot)
         → (kind : Kind) → HasKind o slot kind
         → (node next : ℕ) → IsBranchFact classes number o at slot kind (facts.Arrow (make_link node next))
-        → IsEntered ms classes m f next → IsEntered ms classes m f node
+        → IsEntered ms classes flow.widenings.items m f next → IsEntered ms classes flow.widenings.items m f node
     check_arrow number o is at linked rs1 imm slot stands (kinds.Tail type) has node next told e =
         tail_step number o is at linked rs1 imm slot stands type has node next told.0 told.1 e
     check_arrow number o is at linked rs1 imm slot stands (kinds.Call type) has node next told e = absurd told
     check_arrow number o is at linked rs1 imm slot stands kinds.Return has node next told e = absurd told
     check_arrow number o is at linked rs1 imm slot stands (kinds.Switch entries) has node next told e = absurd told
 
-    arrow_step : (node next : ℕ) → IsTold ms classes (facts.Arrow (make_link node next)) → IsEntered ms classes m f next
-        → IsEntered ms classes m f node
-    arrow_step node next told e =
+    told_step : (node next : ℕ) → IsTold ms classes (facts.Arrow (make_link node next)) → IsEntered ms classes flow.widenings.items m f next
+        → IsEntered ms classes flow.widenings.items m f node
+    told_step node next told e =
         elim told.tells [
           | inl unit ↦ elim (unit_cases classes told.number told.owner (facts.Arrow (make_link node next)) unit) [
             | inl check ↦
@@ -204,13 +242,19 @@ module _ (ms : List Placed) (classes : List (List ℕ)) (apart : AreApart ms)
               let at : StandsAt ms told.number told.owner function.function =
               record { is = told.is; has = function.has } in
               let tells = function.tells in
-              taken_step told.number told.owner function.function at tells.0 node next tells.1 tells.2 e
+              open_step told.number told.owner function.function at tells.0 node next tells.1 tells.2 e
         ]
 
+    arrow_step : (node next : ℕ) → IsArrow ms classes flow node next
+        → IsEntered ms classes flow.widenings.items m f next → IsEntered ms classes flow.widenings.items m f node
+    arrow_step node next arrow e =
+        elim arrow [ inl told ↦ told_step node next told e | inr link ↦ wider_step node next link e ]
+
     -- the nodes from which a function's node is reached
-    pub entered_by : (flow : Flow) → TellsFlow ms classes flow → (number : ℕ) → StandsAt ms number m f
-        → (steps node : ℕ) → IsPath flow.arrows.items steps node (function_node m f) → IsEntered ms classes m f node
-    entered_by flow tells number at zero node path = record {
+    pub entered_by : TellsFlow ms classes flow → (number : ℕ) → StandsAt ms number m f
+        → (steps node : ℕ) → IsPath flow.arrows.items steps node (function_node m f)
+        → IsEntered ms classes flow.widenings.items m f node
+    entered_by tells number at zero node path = record {
       number = number;
       owner = m;
       entered = f;
@@ -219,5 +263,5 @@ module _ (ms : List Placed) (classes : List (List ℕ)) (apart : AreApart ms)
       reached = (refl, refl);
       enters = inl path;
     }
-    entered_by flow tells number at (suc steps) node (next, arrow, rest) =
-        arrow_step node next ((tells.arrows node next).0 arrow) (entered_by flow tells number at steps next rest)
+    entered_by tells number at (suc steps) node (next, arrow, rest) =
+        arrow_step node next ((tells.arrows node next).0 arrow) (entered_by tells number at steps next rest)

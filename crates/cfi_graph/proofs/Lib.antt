@@ -7,12 +7,15 @@ mod BranchLemmas
 mod TellLemmas
 mod ReadLemmas
 mod NodeLemmas
+mod WiderLemmas
+mod WideningLemmas
 mod GoesLemmas
 mod ReturnLemmas
 mod SoundLemmas
 mod DirectLemmas
 mod ClassLemmas
 mod BelowLemmas
+mod FlowLemmas
 pub mod EndLemmas
 pub mod HandMadeLemmas
 pub mod CallRows

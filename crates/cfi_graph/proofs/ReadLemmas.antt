@@ -1,10 +1,11 @@
 -- The links of a flow that is made of facts, and the facts by the units that tell them.
-use Rattle.std.proofs.Common.{◌≡◌, ◌↔◌, ◌⊎◌, ◌∙◌, ℕ, Bool, ℤ, List, [], ◌∷◌, Option, Some, None, refl, sym, ap, subst, inl, inr}
+use Rattle.std.proofs.Common.{◌≡◌, ◌↔◌, ◌⊎◌, ◌∙◌, ℕ, ◌++◌, Bool, ℤ, List, [], ◌∷◌, Option, Some, None, map, refl, sym, ap, subst, inl, inr}
 use Rattle.std.specs.List.{Contains, filter_map, cons_option}
+use Rattle.std.proofs.lemmas.List.Elements.{Contains-append_left, Contains-append_right, Contains-append_cases}
 use Rattle.std.proofs.lemmas.Option.{none-some, same_Some}
 use Rattle.cfi_flow.specs.declared.links.Link.{Link}
 use Rattle.cfi_flow.specs.declared.links.Flow.{Flow}
-use Rattle.cfi_flow.specs.Flow.{Links}
+use Rattle.cfi_flow.specs.Flow.{flipped, Links}
 use Rattle.cfi_flow.proofs.Members.{member_first, member_later, no_member, member_cases}
 use Rattle.cfi_unit.specs.declared.unit.Unit.{Unit as CodeUnit}
 use Rattle.cfi_unit.specs.declared.unit.Unit.TheVariants as units
@@ -17,6 +18,7 @@ use Rattle.cfi_graph.specs.Calls.{HasKind}
 use Rattle.cfi_graph.specs.Facts.{IsJumpFact, IsBranchFact, IsUnitFact, UnitTells, IsTold, AreFacts}
 use Rattle.cfi_graph.specs.inner.Flows.{arrow_in, site_in, return_in, pointer_in, entry_in, listed_in, IsFlowOf}
 use Rattle.cfi_flow.proofs.RowLemmas.{make_link}
+use Rattle.cfi_flow.proofs.PathLemmas.{flip, unflip}
 
 -- ---- members of what a function picks
 
@@ -109,9 +111,13 @@ listed_only (facts.Entry k) l is = absurd (none-some l is)
 abbrev pub Tell : (ms : List Placed) → (classes : List (List ℕ)) → (Link → Fact) → List Link → Type 0
 Tell ms classes make links = (a b : ℕ) → Links links a b ↔ IsTold ms classes (make (make_link a b))
 
+-- an arrow is told, or leads from a wider type's node to a narrower one's
+abbrev pub IsArrow : (ms : List Placed) → (classes : List (List ℕ)) → Flow → (a b : ℕ) → Type 0
+IsArrow ms classes flow a b = IsTold ms classes (facts.Arrow (make_link a b)) ⊎ Links flow.widenings.items b a
+
 -- a flow that says what the modules tell
 pub record TellsFlow (ms : List Placed) (classes : List (List ℕ)) (flow : Flow) : Type 0 where
-  pub arrows : Tell ms classes (λ l. facts.Arrow l) flow.arrows.items
+  pub arrows : (a b : ℕ) → Links flow.arrows.items a b ↔ IsArrow ms classes flow a b
   pub sites : Tell ms classes (λ l. facts.Site l) flow.sites.items
   pub returns : Tell ms classes (λ l. facts.Return l) flow.returns.items
   pub pointers : Tell ms classes (λ l. facts.Pointer l) flow.pointers.items
@@ -133,9 +139,42 @@ module _ (ms : List Placed) (classes : List (List ℕ)) (list : List Fact) (are 
         (member_picked pick list (make link) link (are.whole (make link) told) (gives link)),
   )
 
-  pub tells_flow : (nodes : ℕ) (flow : Flow) → IsFlowOf list nodes flow → TellsFlow ms classes flow
-  tells_flow nodes flow is = record {
-    arrows = told_by (λ l. facts.Arrow l) arrow_in flow.arrows.items is.arrows (λ l. refl) arrow_only;
+  told_arrow : Tell ms classes (λ l. facts.Arrow l) (filter_map arrow_in list)
+  told_arrow = told_by (λ l. facts.Arrow l) arrow_in (filter_map arrow_in list) refl (λ l. refl) arrow_only
+
+  from_arrow : (widenings : List Link) (a b : ℕ) → Links (filter_map arrow_in list ++ map flipped widenings) a b
+      → IsTold ms classes (facts.Arrow (make_link a b)) ⊎ Links widenings b a
+  from_arrow widenings a b has =
+      elim (Contains-append_cases (filter_map arrow_in list) (map flipped widenings) (make_link a b) has) [
+        | inl told ↦ inl ((told_arrow a b).0 told)
+        | inr back ↦ inr (unflip widenings a b back)
+      ]
+
+  to_arrow : (widenings : List Link) (a b : ℕ)
+      → IsTold ms classes (facts.Arrow (make_link a b)) ⊎ Links widenings b a
+      → Links (filter_map arrow_in list ++ map flipped widenings) a b
+  to_arrow widenings a b is =
+      elim is [
+        | inl told ↦ Contains-append_left (filter_map arrow_in list) (map flipped widenings) (make_link a b)
+            ((told_arrow a b).1 told)
+        | inr back ↦ Contains-append_right (filter_map arrow_in list) (map flipped widenings) (make_link a b)
+            (flip widenings b a back)
+      ]
+
+  -- ---- the flow
+
+  pub tells_flow : (widenings : List Link) (nodes : ℕ) (flow : Flow) → IsFlowOf list widenings nodes flow
+      → TellsFlow ms classes flow
+  tells_flow widenings nodes flow is = record {
+    arrows = λ a b. (
+      λ has.
+          subst (λ ws. IsTold ms classes (facts.Arrow (make_link a b)) ⊎ Links ws b a) (sym is.widenings)
+          (from_arrow widenings a b (subst (λ ls. Links ls a b) is.arrows has)),
+      λ arrow.
+          subst (λ ls. Links ls a b) (sym is.arrows)
+          (to_arrow widenings a b
+          (subst (λ ws. IsTold ms classes (facts.Arrow (make_link a b)) ⊎ Links ws b a) is.widenings arrow)),
+    );
     sites = told_by (λ l. facts.Site l) site_in flow.sites.items is.sites (λ l. refl) site_only;
     returns = told_by (λ l. facts.Return l) return_in flow.returns.items is.returns (λ l. refl) return_only;
     pointers = told_by (λ l. facts.Pointer l) pointer_in flow.pointers.items is.pointers (λ l. refl) pointer_only;

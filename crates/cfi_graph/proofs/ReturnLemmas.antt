@@ -5,7 +5,6 @@ use Rattle.std.specs.List.{Contains}
 use Rattle.cfi_flow.specs.declared.links.Flow.{Flow}
 use Rattle.cfi_flow.specs.Flow.{Reaches, ReturnsAt}
 use Rattle.cfi_unit.specs.declared.unit.Unit.TheVariants as units
-use Rattle.cfi_types.specs.Classes.{AreClasses}
 use Rattle.cfi_aux.specs.declared.placed.Placed.{Placed}
 use Rattle.cfi_aux.specs.declared.placed.PlacedFunction.{PlacedFunction}
 use Rattle.cfi_aux.specs.declared.records.Kind.{Kind}
@@ -15,20 +14,20 @@ use Rattle.cfi_graph.specs.Code.{Stands, code_address}
 use Rattle.cfi_graph.specs.Shaped.{AreApart}
 use Rattle.cfi_graph.specs.Calls.{HasKind, ReturnsTo}
 use Rattle.cfi_graph.specs.Direct.{DirectEdge}
-use Rattle.cfi_graph.specs.Facts.{IsJumpFact, IsBranchFact, IsTold}
-use Rattle.cfi_graph.specs.Reading.{tables_of}
+use Rattle.cfi_graph.specs.Facts.{type_node, IsJumpFact, IsBranchFact, IsTold}
 use Rattle.cfi_flow.proofs.RowLemmas.{make_link}
 use Rattle.cfi_graph.proofs.BoundLemmas.{contains_at, branch_names}
 use Rattle.cfi_graph.proofs.NodeLemmas.{shaped_at}
+use Rattle.cfi_graph.proofs.WiderLemmas.{AreWider, reaches_high}
 use Rattle.cfi_graph.proofs.ReadLemmas.{TellsFlow, unit_cases}
 use Rattle.cfi_graph.proofs.GoesLemmas.{IsEntered, lies_there, leads_entry, is_function, apart_nodes, may_point, entered_by}
 
-module _ (ms : List Placed) (classes : List (List ℕ)) (apart : AreApart ms)
-    (are : AreClasses (tables_of ms) classes) where
+module _ (ms : List Placed) (classes : List (List ℕ)) (apart : AreApart ms) (flow : Flow)
+    (wider : AreWider ms classes flow.widenings.items) (tells : TellsFlow ms classes flow) where
   module _ (m : Placed) (f : PlacedFunction) where
     site_jump : (caller : Placed) → Contains ms caller → (at : ℕ) (linked : Bool) (off : ℤ)
         → Stands caller at (units.Jump linked off) → (node address : ℕ)
-        → IsJumpFact caller at linked off (facts.Site (make_link node address)) → (e : IsEntered ms classes m f node)
+        → IsJumpFact caller at linked off (facts.Site (make_link node address)) → (e : IsEntered ms classes flow.widenings.items m f node)
         → ReturnsTo ms e.owner e.entered address
     site_jump caller placed at false off stands node address told e = absurd told
     site_jump caller placed at true off stands node address told e =
@@ -43,9 +42,9 @@ module _ (ms : List Placed) (classes : List (List ℕ)) (apart : AreApart ms)
             call = leads_entry (code_address caller at) off node e.owner e.entered leads.leads same;
             after = told.1;
           }
-          | inr taken ↦
+          | inr opened ↦
               let low = leads.within in
-              let high = taken.1 in
+              let high = reaches_high ms classes flow.widenings.items wider e.number e.entered.ty node opened.1 in
               absurd (omega (arith, low, high))
         ]
 
@@ -53,12 +52,12 @@ module _ (ms : List Placed) (classes : List (List ℕ)) (apart : AreApart ms)
         → (at : ℕ) (linked : Bool) (rs1 : ℕ) (imm : ℤ) (own : ℕ)
         → Stands caller at (units.Check linked rs1 imm own) → (kind : Kind) → HasKind caller own kind
         → (node address : ℕ) → IsBranchFact classes number caller at own kind (facts.Site (make_link node address))
-        → (e : IsEntered ms classes m f node) → ReturnsTo ms e.owner e.entered address
+        → (e : IsEntered ms classes flow.widenings.items m f node) → ReturnsTo ms e.owner e.entered address
     site_check number caller is at linked rs1 imm own stands (kinds.Call type) has node address told e =
         elim e.enters [
           | inl same ↦
-              absurd (apart_nodes ms classes apart are e.number number type e.owner e.entered e.at (sym same ∙ told.0))
-          | inr taken ↦ record {
+              absurd (apart_nodes ms classes apart flow wider e.number number type e.owner e.entered e.at (sym same ∙ told.0))
+          | inr opened ↦ record {
             caller = caller;
             placed = contains_at ms number caller is;
             at = at;
@@ -67,9 +66,9 @@ module _ (ms : List Placed) (classes : List (List ℕ)) (apart : AreApart ms)
             call = (
               type,
               has,
-              may_point ms classes apart are number e.number caller e.owner type e.entered is
-                  (branch_names caller (shaped_at ms apart number caller is) own (kinds.Call type) has) e.at taken.0
-                  (sym told.0 ∙ taken.1),
+              may_point ms classes apart flow wider number e.number caller e.owner type e.entered is
+                  (branch_names caller (shaped_at ms apart number caller is) own (kinds.Call type) has) e.at opened.0
+                  (subst (λ k. Reaches flow.widenings.items (type_node classes e.number e.entered.ty) k) told.0 opened.1),
             );
             after = told.1;
           }
@@ -80,7 +79,7 @@ module _ (ms : List Placed) (classes : List (List ℕ)) (apart : AreApart ms)
         absurd told
 
     site_returns : (node address : ℕ) → IsTold ms classes (facts.Site (make_link node address))
-        → (e : IsEntered ms classes m f node) → ReturnsTo ms e.owner e.entered address
+        → (e : IsEntered ms classes flow.widenings.items m f node) → ReturnsTo ms e.owner e.entered address
     site_returns node address told e =
         elim told.tells [
           | inl unit ↦ elim (unit_cases classes told.number told.owner (facts.Site (make_link node address)) unit) [
@@ -94,16 +93,16 @@ module _ (ms : List Placed) (classes : List (List ℕ)) (apart : AreApart ms)
           | inr function ↦ absurd function.tells
         ]
 
-  return_edge : (flow : Flow) → TellsFlow ms classes flow → (number : ℕ) (m : Placed) → slice_get ms number ≡ Some m
+  return_edge : (number : ℕ) (m : Placed) → slice_get ms number ≡ Some m
       → (at : ℕ) (linked : Bool) (rs1 : ℕ) (imm : ℤ) (own : ℕ) → Stands m at (units.Check linked rs1 imm own)
       → (kind : Kind) → HasKind m own kind → (node slot address : ℕ) → (r : ReturnsAt flow node slot address)
       → IsBranchFact classes number m at own kind (facts.Return (make_link r.returning slot))
       → DirectEdge ms slot address
-  return_edge flow tells number m is at linked rs1 imm own stands kinds.Return has node slot address r told =
+  return_edge number m is at linked rs1 imm own stands kinds.Return has node slot address r told =
       let there = lies_there m at r.returning told.0 in
       let f = there.function in
       let path = subst (λ to. Reaches flow.arrows.items node to) there.is r.reached in
-      let e = entered_by ms classes apart are m f flow tells number (record { is = is; has = there.has }) path.0 node
+      let e = entered_by ms classes apart flow wider m f tells number (record { is = is; has = there.has }) path.0 node
       path.1 in
       record {
         owner = m;
@@ -121,17 +120,17 @@ module _ (ms : List Placed) (classes : List (List ℕ)) (apart : AreApart ms)
           lies = there.lies;
           owner = e.owner;
           entered = e.entered;
-          is = is_function ms classes apart are e.number e.owner e.entered e.at;
+          is = is_function ms classes apart flow wider e.number e.owner e.entered e.at;
           steps = e.steps;
           reached = e.reached;
           returns = site_returns m f node address ((tells.sites node address).0 r.site) e;
         };
       }
-  return_edge flow tells number m is at linked rs1 imm own stands (kinds.Call type) has node slot address r told =
+  return_edge number m is at linked rs1 imm own stands (kinds.Call type) has node slot address r told =
       absurd told
-  return_edge flow tells number m is at linked rs1 imm own stands (kinds.Tail type) has node slot address r told =
+  return_edge number m is at linked rs1 imm own stands (kinds.Tail type) has node slot address r told =
       absurd told
-  return_edge flow tells number m is at linked rs1 imm own stands (kinds.Switch entries) has node slot address r told =
+  return_edge number m is at linked rs1 imm own stands (kinds.Switch entries) has node slot address r told =
       absurd told
 
   no_return_jump : (m : Placed) (at : ℕ) (linked : Bool) (off : ℤ) (node slot : ℕ)
@@ -140,14 +139,13 @@ module _ (ms : List Placed) (classes : List (List ℕ)) (apart : AreApart ms)
   no_return_jump m at false off node slot told = told
 
   -- a return goes along direct edges
-  pub returned_edge : (flow : Flow) → TellsFlow ms classes flow → (node slot address : ℕ)
-      → ReturnsAt flow node slot address → DirectEdge ms slot address
-  returned_edge flow tells node slot address r =
+  pub returned_edge : (node slot address : ℕ) → ReturnsAt flow node slot address → DirectEdge ms slot address
+  returned_edge node slot address r =
       let told = (tells.returns r.returning slot).0 r.back in
       elim told.tells [
         | inl unit ↦ elim (unit_cases classes told.number told.owner (facts.Return (make_link r.returning slot)) unit) [
           | inl check ↦
-              return_edge flow tells told.number told.owner told.is check.at check.linked check.rs1 check.imm check.slot
+              return_edge told.number told.owner told.is check.at check.linked check.rs1 check.imm check.slot
               check.stands check.kind check.has node slot address r check.tells
           | inr jump ↦
               absurd (no_return_jump told.owner jump.at jump.linked jump.off r.returning slot jump.tells)

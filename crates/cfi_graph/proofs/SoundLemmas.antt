@@ -1,11 +1,10 @@
 -- What a flow that says what modules tell joins is a direct edge.
-use Rattle.std.proofs.Common.{◌≡◌, ◌∙◌, ℕ, ◌<◌, Bool, true, false, ℤ, List, length, Some, sym, subst, inl, inr}
-use Rattle.std.specs.Prelude.{slice_get, IsTrue}
+use Rattle.std.proofs.Common.{◌≡◌, ℕ, ◌<◌, Bool, true, false, ℤ, List, length, Some, sym, subst, inl, inr}
+use Rattle.std.specs.Prelude.{slice_get}
 use Rattle.std.specs.List.{Contains}
 use Rattle.cfi_flow.specs.declared.links.Flow.{Flow}
-use Rattle.cfi_flow.specs.Flow.{Goes}
+use Rattle.cfi_flow.specs.Flow.{Reaches, Goes}
 use Rattle.cfi_unit.specs.declared.unit.Unit.TheVariants as units
-use Rattle.cfi_types.specs.Classes.{AreClasses}
 use Rattle.cfi_aux.specs.declared.placed.Placed.{Placed}
 use Rattle.cfi_aux.specs.declared.placed.PlacedFunction.{PlacedFunction}
 use Rattle.cfi_aux.specs.declared.records.Kind.{Kind}
@@ -15,11 +14,11 @@ use Rattle.cfi_graph.specs.Code.{Stands, entry_of}
 use Rattle.cfi_graph.specs.Shaped.{AreApart}
 use Rattle.cfi_graph.specs.Calls.{HasKind}
 use Rattle.cfi_graph.specs.Direct.{IsPointee, DirectEdge}
-use Rattle.cfi_graph.specs.Facts.{type_node, IsJumpFact, IsBranchFact, IsTold}
-use Rattle.cfi_graph.specs.Reading.{tables_of}
+use Rattle.cfi_graph.specs.Facts.{type_node, IsOpen, IsJumpFact, IsBranchFact, IsTold}
 use Rattle.cfi_flow.proofs.RowLemmas.{make_link}
 use Rattle.cfi_graph.proofs.BoundLemmas.{contains_at, branch_names}
 use Rattle.cfi_graph.proofs.NodeLemmas.{StandsAt, shaped_at}
+use Rattle.cfi_graph.proofs.WiderLemmas.{AreWider}
 use Rattle.cfi_graph.proofs.ReadLemmas.{TellsFlow, unit_cases}
 use Rattle.cfi_graph.proofs.ReturnLemmas.{returned_edge}
 use Rattle.cfi_graph.proofs.GoesLemmas.{is_function, may_point}
@@ -30,12 +29,12 @@ pub record IsEntry (ms : List Placed) (classes : List (List ℕ)) (node address 
   pub owner : Placed
   pub function : PlacedFunction
   pub at : StandsAt ms number owner function
-  pub taken : IsTrue function.taken
+  pub opened : IsOpen owner function
   pub is : node ≡ type_node classes number function.ty
   pub entry : address ≡ entry_of owner function
 
-module _ (ms : List Placed) (classes : List (List ℕ)) (apart : AreApart ms)
-    (are : AreClasses (tables_of ms) classes) where
+module _ (ms : List Placed) (classes : List (List ℕ)) (apart : AreApart ms) (flow : Flow)
+    (wider : AreWider ms classes flow.widenings.items) (tells : TellsFlow ms classes flow) where
   -- ---- listed addresses
 
   listed_check : (m : Placed) → Contains ms m → (number at : ℕ) (linked : Bool) (rs1 : ℕ) (imm : ℤ) (own : ℕ)
@@ -105,30 +104,32 @@ module _ (ms : List Placed) (classes : List (List ℕ)) (apart : AreApart ms)
               owner = told.owner;
               function = function.function;
               at = record { is = told.is; has = function.has };
-              taken = tells.0;
+              opened = tells.0;
               is = tells.1;
               entry = tells.2;
             }
       ]
 
   pointee : (number : ℕ) (m : Placed) → slice_get ms number ≡ Some m → (type : ℕ) → type < length m.types
-      → (node address : ℕ) → node ≡ type_node classes number type → IsEntry ms classes node address
-      → IsPointee ms m type address
-  pointee number m is type within node address from e = record {
+      → (pointing node address : ℕ) → pointing ≡ type_node classes number type
+      → Reaches flow.widenings.items node pointing → IsEntry ms classes node address → IsPointee ms m type address
+  pointee number m is type within pointing node address from reach e = record {
     owner = e.owner;
     function = e.function;
-    is = is_function ms classes apart are e.number e.owner e.function e.at;
-    may = may_point ms classes apart are number e.number m e.owner type e.function is within e.at e.taken
-        (sym from ∙ e.is);
+    is = is_function ms classes apart flow wider e.number e.owner e.function e.at;
+    may = may_point ms classes apart flow wider number e.number m e.owner type e.function is within e.at e.opened
+        (subst (λ k. Reaches flow.widenings.items (type_node classes e.number e.function.ty) k) from
+        (subst (λ k. Reaches flow.widenings.items k pointing) e.is reach));
     entry = e.entry;
   }
 
   pointer_check : (number : ℕ) (m : Placed) → slice_get ms number ≡ Some m
       → (at : ℕ) (linked : Bool) (rs1 : ℕ) (imm : ℤ) (own : ℕ) → Stands m at (units.Check linked rs1 imm own)
       → (kind : Kind) → HasKind m own kind
-      → (node slot address : ℕ) → IsBranchFact classes number m at own kind (facts.Pointer (make_link node slot))
-      → IsEntry ms classes node address → DirectEdge ms slot address
-  pointer_check number m is at linked rs1 imm own stands (kinds.Call type) has node slot address told e = record {
+      → (pointing node slot address : ℕ)
+      → IsBranchFact classes number m at own kind (facts.Pointer (make_link pointing slot))
+      → Reaches flow.widenings.items node pointing → IsEntry ms classes node address → DirectEdge ms slot address
+  pointer_check number m is at linked rs1 imm own stands (kinds.Call type) has pointing node slot address told reach e = record {
     owner = m;
     placed = contains_at ms number m is;
     at = at;
@@ -138,10 +139,10 @@ module _ (ms : List Placed) (classes : List (List ℕ)) (apart : AreApart ms)
     stands = subst (λ s. Stands m at (units.Check linked rs1 imm s)) (sym told.1) stands;
     kind = kinds.Call type;
     has = subst (λ s. HasKind m s (kinds.Call type)) (sym told.1) has;
-    goes = pointee number m is type (branch_names m (shaped_at ms apart number m is) own (kinds.Call type) has) node
-        address told.0 e;
+    goes = pointee number m is type (branch_names m (shaped_at ms apart number m is) own (kinds.Call type) has)
+        pointing node address told.0 reach e;
   }
-  pointer_check number m is at linked rs1 imm own stands (kinds.Tail type) has node slot address told e = record {
+  pointer_check number m is at linked rs1 imm own stands (kinds.Tail type) has pointing node slot address told reach e = record {
     owner = m;
     placed = contains_at ms number m is;
     at = at;
@@ -151,11 +152,11 @@ module _ (ms : List Placed) (classes : List (List ℕ)) (apart : AreApart ms)
     stands = subst (λ s. Stands m at (units.Check linked rs1 imm s)) (sym told.1) stands;
     kind = kinds.Tail type;
     has = subst (λ s. HasKind m s (kinds.Tail type)) (sym told.1) has;
-    goes = pointee number m is type (branch_names m (shaped_at ms apart number m is) own (kinds.Tail type) has) node
-        address told.0 e;
+    goes = pointee number m is type (branch_names m (shaped_at ms apart number m is) own (kinds.Tail type) has)
+        pointing node address told.0 reach e;
   }
-  pointer_check number m is at linked rs1 imm own stands kinds.Return has node slot address told e = absurd told
-  pointer_check number m is at linked rs1 imm own stands (kinds.Switch entries) has node slot address told e =
+  pointer_check number m is at linked rs1 imm own stands kinds.Return has pointing node slot address told reach e = absurd told
+  pointer_check number m is at linked rs1 imm own stands (kinds.Switch entries) has pointing node slot address told reach e =
       absurd told
 
   pointer_jump : (m : Placed) (at : ℕ) (linked : Bool) (off : ℤ) (node slot : ℕ)
@@ -163,29 +164,29 @@ module _ (ms : List Placed) (classes : List (List ℕ)) (apart : AreApart ms)
   pointer_jump m at true off node slot told = told
   pointer_jump m at false off node slot told = told
 
-  pointer_edge : (node slot address : ℕ) → IsTold ms classes (facts.Pointer (make_link node slot))
-      → IsTold ms classes (facts.Entry (make_link node address)) → DirectEdge ms slot address
-  pointer_edge node slot address told entry =
+  pointer_edge : (pointing node slot address : ℕ) → IsTold ms classes (facts.Pointer (make_link pointing slot))
+      → Reaches flow.widenings.items node pointing → IsTold ms classes (facts.Entry (make_link node address))
+      → DirectEdge ms slot address
+  pointer_edge pointing node slot address told reach entry =
       elim told.tells [
-        | inl unit ↦ elim (unit_cases classes told.number told.owner (facts.Pointer (make_link node slot)) unit) [
+        | inl unit ↦ elim (unit_cases classes told.number told.owner (facts.Pointer (make_link pointing slot)) unit) [
           | inl check ↦
               pointer_check told.number told.owner told.is check.at check.linked check.rs1 check.imm check.slot
-              check.stands check.kind check.has node slot address check.tells (entry_told node address entry)
-          | inr jump ↦ absurd (pointer_jump told.owner jump.at jump.linked jump.off node slot jump.tells)
+              check.stands check.kind check.has pointing node slot address check.tells reach (entry_told node address entry)
+          | inr jump ↦ absurd (pointer_jump told.owner jump.at jump.linked jump.off pointing slot jump.tells)
         ]
         | inr function ↦ absurd function.tells
       ]
 
   -- where control goes there is a direct edge
-  pub goes_direct : (flow : Flow) → TellsFlow ms classes flow → (slot address : ℕ) → Goes flow slot address
-      → DirectEdge ms slot address
-  goes_direct flow tells slot address goes =
+  pub goes_direct : (slot address : ℕ) → Goes flow slot address → DirectEdge ms slot address
+  goes_direct slot address goes =
       elim goes [
         | inl listed ↦ listed_edge slot address ((tells.listed slot address).0 listed)
         | inr by ↦ elim by.1 [
           | inl points ↦
-              pointer_edge by.0 slot address ((tells.pointers by.0 slot).0 points.pointer)
-              ((tells.entries by.0 address).0 points.entry)
-          | inr returns ↦ returned_edge ms classes apart are flow tells by.0 slot address returns
+              pointer_edge points.pointing by.0 slot address ((tells.pointers points.pointing slot).0 points.pointer)
+              points.wider ((tells.entries by.0 address).0 points.entry)
+          | inr returns ↦ returned_edge ms classes apart flow wider tells by.0 slot address returns
         ]
       ]

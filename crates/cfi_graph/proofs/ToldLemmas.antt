@@ -1,7 +1,8 @@
 -- How much modules tell at most.
-use Rattle.std.proofs.Common.{◌≡◌, ◌∙◌, ℕ, suc, ◌+◌, ◌-◌, ◌<◌, ◌≤◌, Option, Some, None, List, [], ◌∷◌, length, take, get_or, refl, sym, ap, arith, length-append}
+use Rattle.std.proofs.Common.{◌≡◌, ◌∙◌, ℕ, suc, ◌+◌, ◌*◌, ◌-◌, ◌<◌, ◌≤◌, Option, Some, None, List, [], ◌∷◌, length, map, take, get_or, refl, sym, ap, arith, length-append}
 use Rattle.std.specs.Prelude.{slice_get, sum_by}
 use Rattle.std.specs.List.{flat_map, filter_map, cons_option}
+use Rattle.std.proofs.lemmas.List.{length-map}
 use Rattle.std.proofs.lemmas.List.Sums.{sum_by-cons, sum_by_more}
 use Rattle.std.proofs.lemmas.Option.{same_Some, slice_get_within, slice_get-get_or}
 use Rattle.cfi_unit.specs.declared.unit.Unit.{Unit as CodeUnit}
@@ -9,8 +10,9 @@ use Rattle.cfi_unit.specs.declared.spot.Spot.{Spot}
 use Rattle.cfi_unit.specs.Unit.{words_of, size_of}
 use Rattle.cfi_unit.specs.Spots.{spots_of}
 use Rattle.cfi_unit.proofs.CodeLemmas.{length-words_of}
+use Rattle.cfi_flow.specs.declared.links.Link.{Link}
 use Rattle.cfi_flow.specs.declared.links.Flow.{Flow}
-use Rattle.cfi_flow.specs.Flow.{link_count}
+use Rattle.cfi_flow.specs.Flow.{flipped, link_count}
 use Rattle.cfi_aux.specs.declared.placed.Placed.{Placed}
 use Rattle.cfi_aux.specs.declared.records.Kind.{Kind}
 use Rattle.cfi_graph.specs.declared.fact.Fact.{Fact}
@@ -114,13 +116,17 @@ module _ where
   one_each (facts.Entry l ∷ list) = let rest = one_each list in omega (arith, rest)
   one_each (facts.Listed l ∷ list) = let rest = one_each list in omega (arith, rest)
 
-pub as_many_links : (list : List Fact) (count : ℕ) (flow : Flow) → IsFlowOf list count flow
-    → link_count flow ≡ length list
-as_many_links list count flow is =
+-- one for each fact, and two for each link to a wider type
+pub as_many_links : (list : List Fact) (widenings : List Link) (count : ℕ) (flow : Flow)
+    → IsFlowOf list widenings count flow → link_count flow ≡ length list + 2 * length widenings
+as_many_links list widenings count flow is =
     omega (
       arith,
       one_each list,
       ap (λ ls. length ls) is.arrows,
+      length-append (filter_map arrow_in list) (map flipped widenings),
+      length-map widenings flipped,
+      ap (λ ls. length ls) is.widenings,
       ap (λ ls. length ls) is.sites,
       ap (λ ls. length ls) is.returns,
       ap (λ ls. length ls) is.pointers,

@@ -1,12 +1,12 @@
 -- Calls and tail calls of placed modules (MCFI, Niu and Tan, PLDI 2014: an indirect call through a pointer may reach
--- each function whose address is taken and whose type is equal).
+-- each function whose address is taken and whose type fits the pointer's).
 -- A function is told by its module and its record there, a branch by its module and its slot.
 use Rattle.std.specs.Prelude.{◌≡◌, ℕ, zero, suc, ◌+◌, true, false, List, slice_get, Some, IsTrue}
 use Rattle.std.specs.List.{Contains}
 use Rattle.cfi_unit.specs.declared.unit.Unit.{Unit as CodeUnit}
 use Rattle.cfi_unit.specs.declared.unit.Unit.TheVariants as units
 use Rattle.cfi_unit.specs.Unit.{size_of}
-use Rattle.cfi_types.specs.Same.{Equal}
+use Rattle.cfi_fits.specs.Fits.{Fits}
 use Rattle.cfi_aux.specs.declared.placed.Placed.{Placed}
 use Rattle.cfi_aux.specs.declared.placed.PlacedFunction.{PlacedFunction}
 use Rattle.cfi_aux.specs.declared.records.Kind.{Kind}
@@ -26,7 +26,7 @@ pub record IsFunction (ms : List Placed) (n : Placed) (f : PlacedFunction) : Typ
 -- a pointer to the type of a node of m may lead to f of n
 pub record MayPoint (m : Placed) (node : ℕ) (n : Placed) (f : PlacedFunction) : Type 0 where
   pub taken : IsTrue f.taken
-  pub equal : Equal m.types node n.types f.ty
+  pub fits : Fits m.types node n.types f.ty
 
 -- the unit at a word of m is a call that may enter f of n: a jump that links, or a branch of kind Call
 abbrev pub IsCall : (m : Placed) (at : ℕ) → CodeUnit → (n : Placed) → PlacedFunction → Type 0

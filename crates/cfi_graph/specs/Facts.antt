@@ -5,7 +5,9 @@ use Rattle.std.specs.List.{Contains}
 use Rattle.cfi_unit.specs.declared.unit.Unit.{Unit as CodeUnit}
 use Rattle.cfi_unit.specs.declared.unit.Unit.TheVariants as units
 use Rattle.cfi_word.specs.declared.limits.TheConstants.{MAX_CODE_WORDS}
+use Rattle.cfi_type_table.specs.Node.{node_of}
 use Rattle.cfi_types.specs.Classes.{class_of}
+use Rattle.cfi_fits.specs.Fits.{IsCallable}
 use Rattle.cfi_aux.specs.declared.placed.Placed.{Placed}
 use Rattle.cfi_aux.specs.declared.placed.PlacedFunction.{PlacedFunction}
 use Rattle.cfi_aux.specs.declared.records.Kind.{Kind}
@@ -57,14 +59,17 @@ IsBranchFact classes number m at slot (kinds.Call node) (facts.Pointer l) =
     (l.from ≡ type_node classes number node) × (l.to ≡ slot)
 IsBranchFact classes number m at slot (kinds.Call node) (facts.Site l) =
     (l.from ≡ type_node classes number node) × (l.to ≡ code_address m (at + CHECK_WORDS))
+IsBranchFact classes number m at slot (kinds.Call node) fact = ⊥
 IsBranchFact classes number m at slot (kinds.Tail node) (facts.Pointer l) =
     (l.from ≡ type_node classes number node) × (l.to ≡ slot)
 IsBranchFact classes number m at slot (kinds.Tail node) (facts.Arrow l) =
     LiesInNode m at l.from × (l.to ≡ type_node classes number node)
+IsBranchFact classes number m at slot (kinds.Tail node) fact = ⊥
 IsBranchFact classes number m at slot kinds.Return (facts.Return l) = LiesInNode m at l.from × (l.to ≡ slot)
+IsBranchFact classes number m at slot kinds.Return fact = ⊥
 IsBranchFact classes number m at slot (kinds.Switch entries) (facts.Listed l) =
     (l.from ≡ slot) × ((entry : ℕ) × Contains entries entry × (l.to ≡ 4 * m.base + entry))
-IsBranchFact classes number m at slot kind fact = ⊥
+IsBranchFact classes number m at slot (kinds.Switch entries) fact = ⊥
 
 -- what a unit at a word of the module tells
 abbrev pub IsUnitFact : (classes : List (List ℕ)) → (number : ℕ) → Placed → (at : ℕ) → CodeUnit → Fact → Type 0
@@ -73,12 +78,17 @@ IsUnitFact classes number m at (units.Check link rs1 imm slot) fact =
     (kind : Kind) × HasKind m slot kind × IsBranchFact classes number m at slot kind fact
 IsUnitFact classes number m at unit fact = ⊥
 
+-- pointers may lead to the function: it is taken, and its type is a function's
+pub record IsOpen (m : Placed) (f : PlacedFunction) : Type 0 where
+  pub taken : IsTrue f.taken
+  pub callable : IsCallable (node_of m.types f.ty).kind
+
 -- what a function of the module tells
 abbrev pub IsFunctionFact : (classes : List (List ℕ)) → (number : ℕ) → Placed → PlacedFunction → Fact → Type 0
 IsFunctionFact classes number m f (facts.Arrow l) =
-    IsTrue f.taken × (l.from ≡ type_node classes number f.ty) × (l.to ≡ function_node m f)
+    IsOpen m f × (l.from ≡ type_node classes number f.ty) × (l.to ≡ function_node m f)
 IsFunctionFact classes number m f (facts.Entry l) =
-    IsTrue f.taken × (l.from ≡ type_node classes number f.ty) × (l.to ≡ entry_of m f)
+    IsOpen m f × (l.from ≡ type_node classes number f.ty) × (l.to ≡ entry_of m f)
 IsFunctionFact classes number m f fact = ⊥
 
 -- some unit of the module tells the fact

@@ -1,7 +1,8 @@
 //! What the units and functions of a module tell of where control may go.
 
-ghost use Rattle.std.specs.Prelude.{◌≡◌, IfOk};
+ghost use Rattle.std.specs.Prelude.{◌≡◌, ◌++◌, map, IfOk};
 ghost use Rattle.std.specs.List.{filter_map};
+ghost use Rattle.cfi_flow.specs.Flow.{flipped};
 ghost use Rattle.cfi_graph.specs.inner.Flows.{arrow_in, site_in, return_in, pointer_in, entry_in, listed_in, IsFlowOf};
 
 use cfi_flow::{Flow, Link};
@@ -81,13 +82,25 @@ fn listed_in(fact: &Fact) -> Option<Link>
     }
 }
 
-fn arrows(alloc: Global, facts: &[Fact]) -> Result<Vec<Link>, AllocError>
+fn told_arrows(alloc: Global, facts: &[Fact]) -> Result<Vec<Link>, AllocError>
     ensures { IfOk result (λ links. links.items ≡ filter_map arrow_in facts.now) }
 {
     facts
         .iter()
         .filter_map(|fact| arrow_in(fact))
         .collect(alloc)
+}
+
+// The arrows that are told, and those from wider types to narrower ones.
+fn arrows(alloc: Global, facts: &[Fact], widenings: &[Link]) -> Result<Vec<Link>, AllocError>
+    ensures { IfOk result (λ links. links.items ≡
+        filter_map arrow_in facts.now ++ map flipped widenings.now) }
+{
+    let mut arrows = told_arrows(alloc, facts)?;
+    for link in widenings {
+        arrows.push(link.flipped())?;
+    }
+    Ok(arrows)
 }
 
 fn sites(alloc: Global, facts: &[Fact]) -> Result<Vec<Link>, AllocError>
@@ -132,17 +145,23 @@ fn listed(alloc: Global, facts: &[Fact]) -> Result<Vec<Link>, AllocError>
         .collect(alloc)
 }
 
-// The flow of these facts, over so many nodes.
-pub(crate) fn flow_by(alloc: Global, facts: &[Fact], nodes: u32) -> Result<Flow, AllocError>
-    ensures { IfOk result (IsFlowOf facts.now nodes) }
+// The flow of these facts, over so many nodes, and of links from types' nodes to wider ones.
+pub(crate) fn flow_by(
+    alloc: Global,
+    facts: &[Fact],
+    widenings: Vec<Link>,
+    nodes: u32,
+) -> Result<Flow, AllocError>
+    ensures { IfOk result (IsFlowOf facts.now widenings.items nodes) }
 {
     Ok(Flow {
         nodes,
-        arrows: arrows(alloc, facts)?,
+        arrows: arrows(alloc, facts, widenings.as_slice())?,
         sites: sites(alloc, facts)?,
         returns: returns(alloc, facts)?,
         pointers: pointers(alloc, facts)?,
         entries: entries(alloc, facts)?,
+        widenings,
         listed: listed(alloc, facts)?,
     })
 }

@@ -12,7 +12,7 @@ ghost use Rattle.cfi_graph.specs.inner.Told.{listed_by, unit_told};
 
 use crate::branch_facts::add_branch;
 use crate::fact::Fact;
-use crate::place::{first_at, kind_of, type_node, word_to};
+use crate::place::{first_at, is_open, kind_of, type_node, word_to};
 use crate::spot::spots;
 use cfi_aux::{Placed, PlacedFunction};
 use cfi_flow::Link;
@@ -133,7 +133,7 @@ fn add_function(
     ensures few { OnOk result
         (length facts.new.items ≤ length facts.old.items + 2) }
 {
-    if !function.taken {
+    if !is_open(placed, function) {
         return Ok(());
     }
     let from = type_node(classes, number, function.ty);

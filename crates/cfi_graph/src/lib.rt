@@ -1,6 +1,7 @@
 //! The control-flow graph of placed modules: which code addresses each of their branches may go to.
 //!
-//! Stands on `cfi_unit`, `cfi_word`, `cfi_type_table`, `cfi_types`, `cfi_aux` and `cfi_flow`; `cfi_policy` calls it.
+//! Stands on `cfi_unit`, `cfi_word`, `cfi_type_table`, `cfi_types`, `cfi_aux`, `cfi_flow` and `cfi_fits`; `cfi_policy`
+//! calls it.
 //! Proved: the direct edges of modules are exactly those of `specs/Direct.antt`, in order, each once; a few of them, in
 //! number bound by what the modules hold, have chains that join what any joins; the units of a module's code are read
 //! with the words at which they stand; shaped modules, each of which follows the one before, are apart; the policy

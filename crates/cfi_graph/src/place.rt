@@ -1,14 +1,15 @@
-//! Where offsets lead, in which function a word lies, and what a slot's branch is.
+//! Where offsets lead, in which function a word lies, what a slot's branch is, and whether pointers lead to a function.
 
-ghost use Rattle.std.specs.Prelude.{◌≡◌, ℕ, ◌<◌, ◌≤◌, ◌^◌, [], length, slice_index_or, IfSome, IsSomeAnd, Some};
+ghost use Rattle.std.specs.Prelude.{◌≡◌, ◌↔◌, ℕ, ◌<◌, ◌≤◌, ◌^◌, [], length, slice_index_or, IfSome, IsSomeAnd, IsTrue, Some};
 ghost use Rattle.std.specs.List.{AllPairs};
 ghost use Rattle.cfi_word.specs.declared.limits.TheConstants.{MAX_CODE_WORDS};
 ghost use Rattle.cfi_aux.specs.declared.records.Kind.{Kind};
 ghost use Rattle.cfi_graph.specs.Shaped.{FunctionPrecedes};
 ghost use Rattle.cfi_graph.specs.Calls.{HasKind};
-ghost use Rattle.cfi_graph.specs.Facts.{LeadsToWord, IsFirst, type_node};
+ghost use Rattle.cfi_graph.specs.Facts.{LeadsToWord, IsFirst, IsOpen, type_node};
 
 use cfi_aux::{Kind, Placed, PlacedFunction};
+use cfi_type_table::{FUNC, VARFUNC};
 use cfi_types::Classes;
 use cfi_word::limits::MAX_CODE_WORDS;
 
@@ -54,6 +55,15 @@ pub(crate) fn kind_of(placed: &Placed, slot: u32) -> Option<&Kind>
         .branches
         .as_slice()
         .get((slot - placed.slot_base) as usize)
+}
+
+// Whether pointers may lead to a function.
+pub(crate) fn is_open(placed: &Placed, function: &PlacedFunction) -> bool
+    requires { function.now.ty < length placed.now.types }
+    ensures { IsTrue result ↔ IsOpen placed.now function.now }
+{
+    let kind = placed.types.nodes()[function.ty as usize].kind();
+    function.taken && (kind == FUNC || kind == VARFUNC)
 }
 
 // The node of a type of a module.

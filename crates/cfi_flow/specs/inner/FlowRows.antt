@@ -18,24 +18,34 @@ pub record AreFlowRows (flow : Flow) (rows : FlowRows) : Type 0 where
   pub returns : AreRows flow.nodes flow.returns.items rows.returns
   pub pointers : AreRows flow.nodes flow.pointers.items rows.pointers
   pub entries : AreRows flow.nodes flow.entries.items rows.entries
+  pub widenings : AreRows flow.nodes flow.widenings.items rows.widenings
 
--- as many rows of each kind as there are nodes, and arrows lead to nodes
+-- rows that lead to others of them
+abbrev pub AreInside : (rows : List (List ℕ)) → Type 0
+AreInside rows = AllByRecursion (All (λ k. k < length rows)) rows
+
+-- as many rows of each kind as there are nodes, and arrows and widenings lead to nodes
 pub record HaveNodes (nodes : ℕ) (rows : FlowRows) : Type 0 where
   pub arrows : length rows.arrows ≡ nodes
   pub sites : length rows.sites ≡ nodes
   pub returns : length rows.returns ≡ nodes
   pub pointers : length rows.pointers ≡ nodes
   pub entries : length rows.entries ≡ nodes
-  pub inside : AllByRecursion (All (λ k. k < nodes)) rows.arrows
+  pub widenings : length rows.widenings ≡ nodes
+  pub arrows_inside : AreInside rows.arrows
+  pub widenings_inside : AreInside rows.widenings
 
--- the fan of the pointers at a node
-pub record IsPointerFan (rows : FlowRows) (node : ℕ) (fan : Fan) : Type 0 where
-  pub slots : fan.slots.items ≡ flow_row rows.pointers node
-  pub targets : fan.targets.items ≡ flow_row rows.entries node
-
--- the fan of the returns from a node: where nothing comes back, no branch needs to be in it
-pub record IsReturnFan (rows : FlowRows) (node : ℕ) (fan : Fan) : Type 0 where
-  pub targets : fan.targets.items ≡ flow_row rows.sites node
+-- the fan of a node: its addresses, and the branches at what it reaches; none needs to be in it where it has no address
+pub record IsFan (along branches addresses : List (List ℕ)) (node : ℕ) (fan : Fan) : Type 0 where
+  pub targets : fan.targets.items ≡ flow_row addresses node
   pub order : List ℕ
-  pub reached : 0 < length fan.targets.items → AreReached rows.arrows node order
-  pub slots : fan.slots.items ≡ flat_map (flow_row rows.returns) order
+  pub reached : 0 < length fan.targets.items → AreReached along node order
+  pub slots : fan.slots.items ≡ flat_map (flow_row branches) order
+
+-- the fan of the pointers to what a node stands for, and to something wider
+abbrev pub IsPointerFan : (rows : FlowRows) (node : ℕ) (fan : Fan) → Type 0
+IsPointerFan rows node fan = IsFan rows.widenings rows.pointers rows.entries node fan
+
+-- the fan of the returns from what a node gets to
+abbrev pub IsReturnFan : (rows : FlowRows) (node : ℕ) (fan : Fan) → Type 0
+IsReturnFan rows node fan = IsFan rows.arrows rows.returns rows.sites node fan

@@ -9,10 +9,6 @@ use Rattle.cfi_flow.specs.Flow.{Links, Reaches}
 use Rattle.cfi_flow.specs.Fans.{IsListed}
 use Rattle.cfi_flow.specs.inner.Spread.{tag_of}
 
--- the link from its end to its beginning
-abbrev pub flipped : Link → Link
-flipped link = record { from = link.to; to = link.from }
-
 -- the edge of a branch and an address, where both are there
 abbrev pub between : (slot target : Option ℕ) → List Edge
 between (Some slot) (Some target) = edge_of slot target ∷ []

@@ -1,9 +1,10 @@
 -- The flow of placed modules: its links are what the modules tell.
-use Rattle.std.specs.Prelude.{◌≡◌, ◌↔◌, ℕ, List, Option, Some, None}
+use Rattle.std.specs.Prelude.{◌≡◌, ◌↔◌, ℕ, ◌+◌, ◌++◌, List, Option, Some, None, map}
 use Rattle.std.specs.List.{filter_map}
+use Rattle.cfi_word.specs.declared.limits.TheConstants.{MAX_CODE_WORDS}
 use Rattle.cfi_flow.specs.declared.links.Link.{Link}
 use Rattle.cfi_flow.specs.declared.links.Flow.{Flow}
-use Rattle.cfi_flow.specs.Flow.{Goes}
+use Rattle.cfi_flow.specs.Flow.{flipped, Goes}
 use Rattle.cfi_aux.specs.declared.placed.Placed.{Placed}
 use Rattle.cfi_graph.specs.Direct.{DirectEdge}
 use Rattle.cfi_graph.specs.declared.fact.Fact.{Fact}
@@ -34,14 +35,20 @@ abbrev pub listed_in : Fact → Option Link
 listed_in (facts.Listed link) = Some link
 listed_in fact = None
 
--- the flow of these facts, over so many nodes
-pub record IsFlowOf (list : List Fact) (count : ℕ) (flow : Flow) : Type 0 where
+-- the link between the nodes of two types, from one between their classes
+abbrev pub type_link : Link → Link
+type_link link = record { from = MAX_CODE_WORDS + link.from; to = MAX_CODE_WORDS + link.to }
+
+-- the flow of these facts, over so many nodes, and of links from types' nodes to wider ones: what enters a wider one
+-- gets to a narrower one
+pub record IsFlowOf (list : List Fact) (links : List Link) (count : ℕ) (flow : Flow) : Type 0 where
   pub nodes : flow.nodes ≡ count
-  pub arrows : flow.arrows.items ≡ filter_map arrow_in list
+  pub arrows : flow.arrows.items ≡ filter_map arrow_in list ++ map flipped links
   pub sites : flow.sites.items ≡ filter_map site_in list
   pub returns : flow.returns.items ≡ filter_map return_in list
   pub pointers : flow.pointers.items ≡ filter_map pointer_in list
   pub entries : flow.entries.items ≡ filter_map entry_in list
+  pub widenings : flow.widenings.items ≡ links
   pub listed : flow.listed.items ≡ filter_map listed_in list
 
 -- control may go along the flow exactly where the modules have a direct edge

@@ -1,5 +1,5 @@
 -- What the policy of the two modules of the run with a load allows: the call of the opened function, and its return.
-use Rattle.std.proofs.Common.{ℕ, zero, suc, pos, true, false, List, [], ◌∷◌, refl, arith}
+use Rattle.std.proofs.Common.{ℕ, zero, suc, pos, true, false, List, [], ◌∷◌, refl, inl, arith}
 use Rattle.std.specs.Prelude.{codes}
 use Rattle.std.specs.List.{AllZip}
 use Rattle.cfi_aux.specs.declared.placed.Placed.{Placed}
@@ -56,7 +56,7 @@ call_kind : HasKind opener_placed 0 (Call FUNCTION_TYPE)
 call_kind = (0, refl, refl)
 
 points : MayPoint opener_placed FUNCTION_TYPE plug_placed entered
-points = record { taken = refl; equal = λ depth. type_same depth bare_types FUNCTION_TYPE }
+points = record { taken = refl; fits = inl (refl, λ depth. type_same depth bare_types FUNCTION_TYPE) }
 
 is_entered : IsFunction both plug_placed entered
 is_entered = record {

@@ -1,5 +1,5 @@
 -- What the policies of the run with tables allow.
-use Rattle.std.proofs.Common.{ℕ, zero, suc, pos, negsuc, true, false, List, [], ◌∷◌, refl, arith}
+use Rattle.std.proofs.Common.{ℕ, zero, suc, pos, negsuc, true, false, List, [], ◌∷◌, refl, inl, arith}
 use Rattle.cfi_aux.specs.declared.placed.Placed.{Placed}
 use Rattle.cfi_aux.specs.declared.records.Kind.TheVariants.{Call, Tail, Return, Switch}
 use Rattle.cfi_graph.specs.Calls.{HasKind, IsFunction, MayPoint, TailCalls}
@@ -51,7 +51,7 @@ tail_kind : HasKind lib_placed 2 (Tail 1)
 tail_kind = (2, refl, refl)
 
 tail_points : MayPoint lib_placed 1 lib_placed twice
-tail_points = record { taken = refl; equal = λ depth. type_same depth lib_types 1 }
+tail_points = record { taken = refl; fits = inl (refl, λ depth. type_same depth lib_types 1) }
 
 tail_edge : DirectEdge before 2 64
 tail_edge = record {
@@ -229,7 +229,7 @@ call_kind : HasKind main_placed 6 (Call 1)
 call_kind = (0, refl, refl)
 
 call_points : MayPoint main_placed 1 plug_placed plus60
-call_points = record { taken = refl; equal = type_equal }
+call_points = record { taken = refl; fits = inl (refl, type_equal) }
 
 call_edge : DirectEdge all 6 632
 call_edge = record {

@@ -1,4 +1,4 @@
-use Rattle.std.proofs.Common.{◌≡◌, ◌∙◌, ◌++◌, [], length, map, refl, ap, sym, subst, arith}
+use Rattle.std.proofs.Common.{◌≡◌, ◌∙◌, ◌++◌, length, map, ap, sym, subst, arith}
 use Rattle.cfi_word.specs.Chain.{Chain}
 use Rattle.cfi_word.specs.Edge.{edge_of}
 use Rattle.cfi_flow.specs.Fans.{link_edge, IsListed}
@@ -11,8 +11,9 @@ returns-clause-edges c =
     let flow = c.args.flow.now in
     let one = c.in_ok-add_ways.ensures in
     let other = c.in_ok-add_ways-2.ensures in
-    let points : AreWays [] flow.entries.items flow.pointers.items one.added =
-    ways_of _ _ _ _ _ _ one.added refl c.as_slice-entries.ensures.value c.as_slice-pointers.ensures.value one.ways in
+    let points : AreWays flow.widenings.items flow.entries.items flow.pointers.items one.added =
+    ways_of _ _ _ _ _ _ one.added c.as_slice-widenings.ensures.value c.as_slice-entries.ensures.value
+    c.as_slice-pointers.ensures.value one.ways in
     let backs : AreWays flow.arrows.items flow.sites.items flow.returns.items other.added =
     ways_of _ _ _ _ _ _ other.added c.as_slice-arrows.ensures.value c.as_slice-sites.ensures.value
     c.as_slice-returns.ensures.value other.ways in
@@ -35,8 +36,9 @@ returns-clause-few c =
     let flow = c.args.flow.now in
     let one = c.in_ok-add_ways.ensures in
     let other = c.in_ok-add_ways-2.ensures in
-    let points : AreWays [] flow.entries.items flow.pointers.items one.added =
-    ways_of _ _ _ _ _ _ one.added refl c.as_slice-entries.ensures.value c.as_slice-pointers.ensures.value one.ways in
+    let points : AreWays flow.widenings.items flow.entries.items flow.pointers.items one.added =
+    ways_of _ _ _ _ _ _ one.added c.as_slice-widenings.ensures.value c.as_slice-entries.ensures.value
+    c.as_slice-pointers.ensures.value one.ways in
     let backs : AreWays flow.arrows.items flow.sites.items flow.returns.items other.added =
     ways_of _ _ _ _ _ _ other.added c.as_slice-arrows.ensures.value c.as_slice-sites.ensures.value
     c.as_slice-returns.ensures.value other.ways in

@@ -1,13 +1,14 @@
 use Rattle.std.proofs.Common.{◌≡◌, ◌∙◌, ◌++◌, length, map, sym, ap, subst}
-use Rattle.cfi_flow.specs.Flow.{AreBelow, BeginBelow}
+use Rattle.cfi_flow.specs.Flow.{flipped, AreBelow, BeginBelow}
 use Rattle.cfi_flow.specs.Rows.{AreRows}
-use Rattle.cfi_flow.specs.inner.Ways.{flipped, tied}
-use Rattle.cfi_flow.proofs.WayLemmas.{ways, flipped_below, inside}
+use Rattle.cfi_flow.specs.inner.Ways.{tied}
+use Rattle.cfi_flow.proofs.FanLemmas.{are_inside}
+use Rattle.cfi_flow.proofs.WayLemmas.{ways, flipped_below}
 use Rattle.cfi_flow.proofs.ways.add_some_ways.Goals as goal
 
 pub spread-requires-clause-arrows : goal.spread-requires-clause-arrows
 spread-requires-clause-arrows c =
-    inside c.args.nodes c.args.arrows.now c.in_ok-forth.forth c.requires.arrows c.in_ok-forth.ensures
+    are_inside c.args.nodes c.args.arrows.now c.in_ok-forth.forth c.requires.arrows c.in_ok-forth.ensures
 
 pub rows_of-requires-2 : goal.rows_of-requires-2
 rows_of-requires-2 c =
@@ -20,7 +21,7 @@ pub spread-requires-2-clause-arrows : goal.spread-requires-2-clause-arrows
 spread-requires-2-clause-arrows c =
     let is : c.as_slice.result.now ≡ map flipped c.args.arrows.now =
     c.as_slice.ensures.value ∙ c.in_ok-flipped.ensures in
-    inside c.args.nodes (map flipped c.args.arrows.now) c.in_ok-back.back
+    are_inside c.args.nodes (map flipped c.args.arrows.now) c.in_ok-back.back
     (flipped_below c.args.nodes c.args.arrows.now c.requires.arrows)
     (subst (λ ls. AreRows c.args.nodes ls c.in_ok-back.back) is c.in_ok-back.ensures)
 

@@ -1,8 +1,7 @@
 use Rattle.std.proofs.Common.{◌*◌, ◌≤◌, length, arith}
-use Rattle.std.specs.Prelude.{sum_by}
 use Rattle.cfi_flow.specs.Flow.{link_count}
 use Rattle.cfi_flow.specs.Fans.{AreFewEdges}
-use Rattle.cfi_graph.specs.Edges.{SpanDirectEdges, told_most}
+use Rattle.cfi_graph.specs.Edges.{SpanDirectEdges, links_most}
 use Rattle.cfi_values.proofs.ThenLemmas.{if_ok}
 use Rattle.cfi_graph.proofs.direct.spanning.Goals as goal
 
@@ -22,6 +21,6 @@ pub returns-clause-few : goal.returns-clause-few
 returns-clause-few c =
     let ms = c.args.modules.now in
     if_ok c.few_edges.result (λ edges. length edges.items ≤ 2 * link_count c.in_ok-flow.flow)
-    (λ edges. length edges.items ≤ 2 * sum_by told_most ms)
+    (λ edges. length edges.items ≤ 2 * links_most ms)
     (λ edges few. omega (arith, few, c.in_ok-flow.ensures.few))
     c.few_edges.ensures.few

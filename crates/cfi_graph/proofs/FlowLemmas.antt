@@ -1,0 +1,60 @@
+-- The flow of modules, of what they tell and of the links between their types: where it goes, and how many links it has.
+use Rattle.std.proofs.Common.{◌≡◌, ◌∙◌, ℕ, ◌≤◌, List, length, map, sym, ap, subst, arith}
+use Rattle.std.specs.Prelude.{sum_by}
+use Rattle.std.proofs.lemmas.List.{length-map}
+use Rattle.cfi_flow.specs.declared.links.Link.{Link}
+use Rattle.cfi_flow.specs.declared.links.Flow.{Flow}
+use Rattle.cfi_flow.specs.Flow.{IsSound, link_count}
+use Rattle.cfi_types.specs.Classes.{AreClasses}
+use Rattle.cfi_fits.specs.Widenings.{AreWidenings}
+use Rattle.cfi_aux.specs.declared.placed.Placed.{Placed}
+use Rattle.cfi_graph.specs.declared.fact.Fact.{Fact}
+use Rattle.cfi_graph.specs.Facts.{AreFacts}
+use Rattle.cfi_graph.specs.Reading.{tables_of, node_count, HaveGraph}
+use Rattle.cfi_graph.specs.Edges.{told_most, links_most}
+use Rattle.cfi_graph.specs.inner.Flows.{type_link, IsFlowOf, GoesAs}
+use Rattle.cfi_graph.proofs.WiderLemmas.{AreWider}
+use Rattle.cfi_graph.proofs.WideningLemmas.{are_wider}
+use Rattle.cfi_graph.proofs.ReadLemmas.{TellsFlow, tells_flow}
+use Rattle.cfi_graph.proofs.SoundLemmas.{goes_direct}
+use Rattle.cfi_graph.proofs.DirectLemmas.{direct_goes}
+use Rattle.cfi_graph.proofs.BelowLemmas.{below_nodes}
+use Rattle.cfi_graph.proofs.ToldLemmas.{as_many_links}
+
+-- what the flow of modules is made of
+pub record IsMade (ms : List Placed) (classes : List (List ℕ)) (wider : List Link) (list : List Fact) (links : List Link)
+    (count : ℕ) : Type 0 where
+  pub graph : HaveGraph ms
+  pub typed : AreClasses (tables_of ms) classes
+  pub wide : AreWidenings (tables_of ms) classes wider
+  pub facts : AreFacts ms classes list
+  pub few : length list ≤ sum_by told_most ms
+  pub linked : links ≡ map type_link wider
+  pub nodes : count ≡ node_count ms
+
+module _ (ms : List Placed) (classes : List (List ℕ)) (wider : List Link) (list : List Fact) (links : List Link)
+    (count : ℕ) (made : IsMade ms classes wider list links count) (flow : Flow)
+    (is : IsFlowOf list links count flow) where
+  flow_wider : AreWider ms classes flow.widenings.items
+  flow_wider =
+      subst (λ ls. AreWider ms classes ls) (sym (is.widenings ∙ made.linked))
+      (are_wider ms classes made.typed wider made.wide)
+
+  flow_tells : TellsFlow ms classes flow
+  flow_tells = tells_flow ms classes list made.facts links count flow is
+
+  pub flow_sound : IsSound flow
+  flow_sound =
+      below_nodes ms classes made.graph.apart made.typed flow flow_wider flow_tells (is.nodes ∙ made.nodes)
+
+  pub flow_goes : GoesAs ms flow
+  flow_goes = λ slot address. (
+    goes_direct ms classes made.graph.apart flow flow_wider flow_tells slot address,
+    direct_goes ms classes made.graph.apart flow flow_wider flow_tells slot address,
+  )
+
+  pub flow_few : link_count flow ≤ links_most ms
+  flow_few =
+      let all = as_many_links list links count flow is in
+      let same : length links ≡ length wider = ap (λ ls. length ls) made.linked ∙ length-map wider type_link in
+      omega (arith, all, same, made.wide.few, made.few)

@@ -1,0 +1,6 @@
+use Rattle.std.proofs.Common.{◌≡◌, map, take}
+use Rattle.cfi_graph.specs.inner.Flows.{type_link}
+use Rattle.cfi_graph.proofs.direct.type_links.Given as goal
+
+abbrev pub invariant-loop-link : goal.invariant-loop-link
+invariant-loop-link l = l.widenings.items ≡ map type_link (take l.link-index l.links)
