@@ -46,28 +46,29 @@ places_of (Tail node) = []
 places_of Return = []
 places_of (Switch places) = places
 
-call_good : (version : RecordVersion) (types : List Node) (kind n : ℕ) (b : Kind) → kind ≡ CALL → IsBody version types kind n b
-    → Passes (is_type version types) (node_of b) × (Call (node_of b) ≡ b)
+call_good : (version : RecordVersion) (types : List Node) (kind n : ℕ) (b : Kind) → kind ≡ CALL
+    → IsBody version types kind n b → Passes (is_type version types) (node_of b) × (Call (node_of b) ≡ b)
 call_good version types kind n (Call node) is h = (h.words.0, refl)
 call_good version types kind n (Tail node) is h = let no : TAIL ≡ CALL = h.number ∙ is in absurd (omega arith)
 call_good version types kind n Return is h = let no : RETURN ≡ CALL = h.number ∙ is in absurd (omega arith)
 call_good version types kind n (Switch places) is h = let no : SWITCH ≡ CALL = h.number ∙ is in absurd (omega arith)
 
-tail_good : (version : RecordVersion) (types : List Node) (kind n : ℕ) (b : Kind) → kind ≡ TAIL → IsBody version types kind n b
-    → Passes (is_type version types) (node_of b) × (Tail (node_of b) ≡ b)
+tail_good : (version : RecordVersion) (types : List Node) (kind n : ℕ) (b : Kind) → kind ≡ TAIL
+    → IsBody version types kind n b → Passes (is_type version types) (node_of b) × (Tail (node_of b) ≡ b)
 tail_good version types kind n (Call node) is h = let no : CALL ≡ TAIL = h.number ∙ is in absurd (omega arith)
 tail_good version types kind n (Tail node) is h = (h.words.0, refl)
 tail_good version types kind n Return is h = let no : RETURN ≡ TAIL = h.number ∙ is in absurd (omega arith)
 tail_good version types kind n (Switch places) is h = let no : SWITCH ≡ TAIL = h.number ∙ is in absurd (omega arith)
 
-return_good : (version : RecordVersion) (types : List Node) (kind n : ℕ) (b : Kind) → kind ≡ RETURN → IsBody version types kind n b → Return ≡ b
+return_good : (version : RecordVersion) (types : List Node) (kind n : ℕ) (b : Kind) → kind ≡ RETURN
+    → IsBody version types kind n b → Return ≡ b
 return_good version types kind n (Call node) is h = let no : CALL ≡ RETURN = h.number ∙ is in absurd (omega arith)
 return_good version types kind n (Tail node) is h = let no : TAIL ≡ RETURN = h.number ∙ is in absurd (omega arith)
 return_good version types kind n Return is h = refl
 return_good version types kind n (Switch places) is h = let no : SWITCH ≡ RETURN = h.number ∙ is in absurd (omega arith)
 
-switch_good : (version : RecordVersion) (types : List Node) (kind n : ℕ) (b : Kind) → kind ≡ SWITCH → IsBody version types kind n b
-    → AreGood (Passes is_whole) n (places_of b) × (Switch (places_of b) ≡ b)
+switch_good : (version : RecordVersion) (types : List Node) (kind n : ℕ) (b : Kind) → kind ≡ SWITCH
+    → IsBody version types kind n b → AreGood (Passes is_whole) n (places_of b) × (Switch (places_of b) ≡ b)
 switch_good version types kind n (Call node) is h = let no : CALL ≡ SWITCH = h.number ∙ is in absurd (omega arith)
 switch_good version types kind n (Tail node) is h = let no : TAIL ≡ SWITCH = h.number ∙ is in absurd (omega arith)
 switch_good version types kind n Return is h = let no : RETURN ≡ SWITCH = h.number ∙ is in absurd (omega arith)
@@ -104,7 +105,8 @@ switches_agree version types kind n is = record {
 Reads-return : (version : RecordVersion) (types : List Node) (kind n : ℕ) → kind ≡ RETURN → n ≡ 0
     → Reads Kind body_bytes (IsBody version types kind n) (λ bytes. Ok (Return, bytes))
 Reads-return version types kind n is none = record {
-  takes = λ bytes x fits e. subst (λ (y : Kind × List ℕ). Takes bytes (body_bytes y.0) y.1 × IsBody version types kind n y.0)
+  takes = λ bytes x fits e. subst
+      (λ (y : Kind × List ℕ). Takes bytes (body_bytes y.0) y.1 × IsBody version types kind n y.0)
       (ok_is (Return, bytes) x e)
       (record { parts = refl; rest_fits = fits }, record { number = sym is; count = sym none; words = tt });
   again = λ b rest h. let same : Return ≡ b = return_good version types kind n b is h in rw (← same) refl;
@@ -127,8 +129,8 @@ last_kind : (kind : ℕ) → leb kind SWITCH ≡ true → eqb kind CALL ≡ fals
     → eqb kind RETURN ≡ false → kind ≡ SWITCH
 last_kind kind le a b c = grind (arith, nat_tests)
 
-Reads-body : (version : RecordVersion) (types : List Node) (k kind n : ℕ) → leb kind SWITCH ≡ true → has_count kind n ≡ true
-    → Reads Kind body_bytes (IsBody version types kind n) (body_at version types k kind n)
+Reads-body : (version : RecordVersion) (types : List Node) (k kind n : ℕ) → leb kind SWITCH ≡ true
+    → has_count kind n ≡ true → Reads Kind body_bytes (IsBody version types kind n) (body_at version types k kind n)
 unfolding body_at
 Reads-body version types k kind n known counted =
     let node = word_where (is_type version types) (BadRecord k) in
@@ -137,16 +139,18 @@ Reads-body version types k kind n known counted =
     Reads-if Kind body_bytes (IsBody version types kind n) (seen_as Call node) _ (eqb kind CALL)
     (λ e. let is : kind ≡ CALL = eqb-true kind CALL e in
     Reads-as word (Passes (is_type version types)) node body_bytes (IsBody version types kind n) Call node_of
-    (calls_agree version types kind n is (one_word kind n counted (omega arith))) (Reads-word (is_type version types) (BadRecord k)))
+    (calls_agree version types kind n is (one_word kind n counted (omega arith)))
+    (Reads-word (is_type version types) (BadRecord k)))
     (λ no_call. Reads-if Kind body_bytes (IsBody version types kind n) (seen_as Tail node) _ (eqb kind TAIL)
     (λ e. let is : kind ≡ TAIL = eqb-true kind TAIL e in
     Reads-as word (Passes (is_type version types)) node body_bytes (IsBody version types kind n) Tail node_of
-    (tails_agree version types kind n is (one_word kind n counted (omega arith))) (Reads-word (is_type version types) (BadRecord k)))
+    (tails_agree version types kind n is (one_word kind n counted (omega arith)))
+    (Reads-word (is_type version types) (BadRecord k)))
     (λ no_tail. Reads-if Kind body_bytes (IsBody version types kind n) back (seen_as Switch places) (eqb kind RETURN)
     (λ e. let is : kind ≡ RETURN = eqb-true kind RETURN e in
     Reads-return version types kind n is (no_word kind n counted is))
-    (λ no_return. Reads-as (flat_map word) (AreGood (Passes is_whole) n) places body_bytes (IsBody version types kind n) Switch
-    places_of (switches_agree version types kind n (last_kind kind known no_call no_tail no_return))
+    (λ no_return. Reads-as (flat_map word) (AreGood (Passes is_whole) n) places body_bytes
+    (IsBody version types kind n) Switch places_of (switches_agree version types kind n (last_kind kind known no_call no_tail no_return))
     (Reads-each word (Passes is_whole) (place_at k) (λ i. Reads-word is_whole (BadRecord k)) 0 n))))
 
 -- a branch as it is read: its kind, the number of its words, and what it is
@@ -175,7 +179,8 @@ pub few_words : (kind n : ℕ) → has_count kind n ≡ true → n ≤ MAX_ENTRI
 few_words kind n h = grind (arith, nat_tests)
 
 branches_agree : (version : RecordVersion) (types : List Node)
-    → Agree Counted Kind counted_bytes (IsCounted version types) branch_bytes (IsBranchIn version types) (λ x. x.1.1) counted_of
+    → Agree Counted Kind counted_bytes (IsCounted version types) branch_bytes (IsBranchIn version types) (λ x. x.1.1)
+    counted_of
 branches_agree version types = record {
   spelled = λ x h. let number = h.1.1.number in let count = h.1.1.count in
       ap (λ (kind : ℕ). word kind ++ (word (length (kind_words x.1.1)) ++ body_bytes x.1.1)) number
@@ -195,14 +200,15 @@ branches_agree version types = record {
   view_back = λ b h. refl;
 }
 
-pub Reads-branch : (version : RecordVersion) (types : List Node) (k : ℕ) → Reads Kind branch_bytes (IsBranchIn version types) (branch_at version types k)
+pub Reads-branch : (version : RecordVersion) (types : List Node) (k : ℕ)
+    → Reads Kind branch_bytes (IsBranchIn version types) (branch_at version types k)
 unfolding branch_at
 Reads-branch version types k =
     let bad = BadRecord k in
     let body : ℕ → ℕ → Reader Kind = λ kind n. body_at version types k kind n in
     let rest : ℕ → Reader (ℕ × Kind) = λ kind. and_with (word_where (has_count kind) bad) (body kind) in
-    Reads-as counted_bytes (IsCounted version types) (and_with (word_where is_known bad) rest) branch_bytes (IsBranchIn version types)
-    (λ x. x.1.1) counted_of (branches_agree version types)
+    Reads-as counted_bytes (IsCounted version types) (and_with (word_where is_known bad) rest) branch_bytes
+    (IsBranchIn version types) (λ x. x.1.1) counted_of (branches_agree version types)
     (Reads-with word (Passes is_known) (word_where is_known bad) (λ kind x. word x.0 ++ body_bytes x.1)
     (λ kind x. Passes (has_count kind) x.0 × IsBody version types kind x.0 x.1) rest (Reads-word is_known bad)
     (λ kind known. Reads-with word (Passes (has_count kind)) (word_where (has_count kind) bad)

@@ -84,7 +84,8 @@ flag_passes true = (lit< tt, refl)
 flag_passes false = (lit< tt, refl)
 
 functions_agree : (version : RecordVersion) (types : List Node)
-    → Agree Parts Function parts_bytes (AreParts version types) function_bytes (IsFunctionIn version types) function_of parts_of
+    → Agree Parts Function parts_bytes (AreParts version types) function_bytes (IsFunctionIn version types) function_of
+    parts_of
 functions_agree version types = record {
   spelled = λ x h. ap
       (λ (flags : ℕ). word x.0 ++ (word x.1.0 ++ (word x.1.1.0 ++ (word flags ++ name_bytes x.1.1.1.1))))

@@ -69,7 +69,8 @@ version_takes bytes x fits e =
     let read : next_word bytes ≡ Ok (n, drop 4 bytes) = rw long refl in
     let taken = (word_takes bytes n (drop 4 bytes) fits read).0 in
     subst (λ (rest : List ℕ). Takes bytes (word (version_word x.0)) rest) v.1.1
-    (subst (λ (m : ℕ). Takes bytes (word m) (drop 4 bytes)) (version_is n (eqb n 1) (eqb n 2) x.0 refl refl v.1.0) taken)
+    (subst (λ (m : ℕ). Takes bytes (word m) (drop 4 bytes))
+    (version_is n (eqb n 1) (eqb n 2) x.0 refl refl v.1.0) taken)
 
 version_again : (version : RecordVersion) (rest : List ℕ)
     → version_at (word (version_word version) ++ rest) ≡ Ok (version, rest)
