@@ -72,11 +72,7 @@ pub fn equal_types(alloc: Global) -> Result<bool, AllocError> {
 }
 
 // Whether these are the links between the classes of a table's types.
-fn are_widenings(
-    alloc: Global,
-    words: &[u32],
-    wanted: &[(u32, u32)],
-) -> Result<bool, AllocError> {
+fn are_widenings(alloc: Global, words: &[u32], wanted: &[(u32, u32)]) -> Result<bool, AllocError> {
     let Some(types) = table(alloc, words)? else {
         return Ok(false);
     };
@@ -94,9 +90,13 @@ fn are_widenings(
 /// Types with variable arguments, whose pointers reach functions of other types too.
 pub fn wider_types(alloc: Global) -> Result<bool, AllocError> {
     // Int(32, 1), Func(0, 0), Func(0, 0, 0), VarFunc(0, 0), Func(0): the pointer reaches the nodes 1 and 2.
-    let one = [5, 1, 2, 32, 1, 7, 2, 0, 0, 7, 3, 0, 0, 0, 8, 2, 0, 0, 7, 1, 0];
+    let one = [
+        5, 1, 2, 32, 1, 7, 2, 0, 0, 7, 3, 0, 0, 0, 8, 2, 0, 0, 7, 1, 0,
+    ];
     // VarFunc(1, 1), Int(32, 1), VarFunc(1), Func(1, 1, 0), Func(3, 1): the last has another result.
-    let two = [5, 8, 2, 1, 1, 1, 2, 32, 1, 8, 1, 1, 7, 3, 1, 1, 0, 7, 2, 3, 1];
+    let two = [
+        5, 8, 2, 1, 1, 1, 2, 32, 1, 8, 1, 1, 7, 3, 1, 1, 0, 7, 2, 3, 1,
+    ];
     let none = [3, 1, 2, 32, 1, 7, 1, 0, 7, 2, 0, 0];
     Ok(
         are_widenings(alloc, &one, &[(1, 3), (2, 3)])?
