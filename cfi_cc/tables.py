@@ -32,8 +32,8 @@ class Types:
 
 
 def records_of(module: Module, types: Types) -> Iterator[list[int]]:
-    """The records, each as its words."""
-    yield [1, len(module.functions), len(module.branches)]
+    """The records, each as its words; the first has the version."""
+    yield [2, len(module.functions), len(module.branches)]
     for it in module.functions:
         padded = it.name + bytes(-len(it.name) % 4)
         letters = [int.from_bytes(padded[at:at + 4], "little") for at in range(0, len(padded), 4)]

@@ -9,7 +9,7 @@
     .word 7, 2, 0, 0            # node 1: kind 7, two fields: a function that gives a node 0 and takes a node 0
 
     .section .cfi_records,"",@progbits
-    .word 1, 1, 1               # version 1, one function, one indirect jump
+    .word 2, 1, 1               # version 2, one function, one indirect jump
     .word 0, plus60_bytes       # the function's place in the text and its length, in bytes
     .word 1, 1, 6               # its type is node 1, its address is taken, and its name has six bytes
     .ascii "plus60"

@@ -5,7 +5,8 @@ use Rattle.std.proofs.lemmas.Bool.{and_from, eq-eqb, ne_eqb, le-leb, false≢tru
 use Rattle.std.proofs.lemmas.List.Elements.{All-nil, All-cons, All-append}
 use Rattle.std.proofs.lemmas.Str.{IsUtf8-from_ascii, is_utf8-from_IsUtf8}
 use Rattle.cfi_word.specs.declared.limits.TheConstants.{MAX_NAME}
-use Rattle.cfi_aux.specs.Format.{is_length, is_func as names_func}
+use Rattle.cfi_type_table.specs.Kind.{is_callable as names_callable}
+use Rattle.cfi_aux.specs.Format.{is_length}
 use Rattle.cfi_aux.specs.Records.{IsName, IsFunction}
 use Rattle.cfi_aux.specs.declared.records.Function.{Function}
 use Rattle.elf_read.specs.declared.object.Area.TheVariants as areas
@@ -15,7 +16,7 @@ use Rattle.rv_line.specs.declared.statement.Statement.TheVariants as statements
 use Rattle.rv_asm.specs.declared.file.File.{File}
 use Rattle.rv_asm.specs.Fault.{Found, Totals, is_bare, line_fault, fault_at, found_at, totals_at}
 use Rattle.rv_asm.specs.Made.{begun, opened, open_after, ended, functions_in, functions_at, functions_of, nodes_of}
-use Rattle.rv_asm.specs.Node.{func_in}
+use Rattle.rv_asm.specs.Node.{callable_in}
 use Rattle.rv_asm.specs.Placed.{Placed, placed_behind, end_after}
 use Rattle.rv_asm.specs.Symbols.{kinds_in}
 use Rattle.rv_asm.proofs.DraftedLemmas.{open-push}
@@ -25,7 +26,7 @@ use Rattle.cfi_made_law.proofs.AsmFormLemmas.{SaidFormed, IsFormedLine}
 use Rattle.cfi_made_law.proofs.AsmLimitLemmas.{IsClear, clear-said, room}
 use Rattle.cfi_made_law.proofs.AsmExactLemmas.{by-parts, before-le}
 use Rattle.cfi_made_law.proofs.AsmSymbolLemmas.{end-aligned}
-use Rattle.cfi_file_law.proofs.AsmTypeLemmas.{formed-at, func-good}
+use Rattle.cfi_file_law.proofs.AsmTypeLemmas.{formed-at, callable-good}
 use Rattle.cfi_made_law.proofs.AsmWholeLemmas.{plain-ascii}
 
 -- a name of a source is one of records
@@ -46,7 +47,7 @@ module _ (file : File) (lines : List Line) (formed : AllByRecursion IsFormedLine
   record IsOpen (end : ℕ) (f : Function) : Type 0 where
     whole : f.offset % 4 ≡ 0
     below : f.offset ≤ end
-    ty : (f.ty < 2 ^ 32) × IsTrue (names_func (nodes_of lines) f.ty)
+    ty : (f.ty < 2 ^ 32) × IsTrue (names_callable (nodes_of lines) f.ty)
     name : IsShort f.name
 
   abbrev OpenIs : (end : ℕ) → Option Function → Type 0
@@ -70,11 +71,11 @@ module _ (file : File) (lines : List Line) (formed : AllByRecursion IsFormedLine
     made : All IsGood (functions_in end held (Some s))
     left : OpenIs next (unwrap_or (opened file.kinds end (Some s)) held)
 
-  begun-open : (end next : ℕ) (name : List ℕ) (taken : Bool) (node : ℤ) (o : Option ℕ) → func_in file.kinds node ≡ o
+  begun-open : (end next : ℕ) (name : List ℕ) (taken : Bool) (node : ℤ) (o : Option ℕ) → callable_in file.kinds node ≡ o
       → end % 4 ≡ 0 → end ≤ next → IsShort name → OpenIs next (option_map (begun end name taken) o)
   begun-open end next name taken node None is whole up short = tt
   begun-open end next name taken node (Some ty) is whole up short =
-      record { whole = whole; below = up; ty = func-good file lines formed clear own node ty is; name = short }
+      record { whole = whole; below = up; ty = callable-good file lines formed clear own node ty is; name = short }
 
   ended-good : (end : ℕ) (f : Function) → IsOpen end f → end % 4 ≡ 0 → end < 2 ^ 32 → f.offset ≢ end
       → IsGood (ended end f)
@@ -104,7 +105,7 @@ module _ (file : File) (lines : List Line) (formed : AllByRecursion IsFormedLine
       → end % 4 ≡ 0 → end < 2 ^ 32 → end ≤ next → Adds end next held s
   said-adds end next held found totals (statements.Func name node taken) short clear at is now whole small up = record {
     made = All-nil IsGood;
-    left = begun-open end next name taken node (func_in file.kinds node) refl whole up short;
+    left = begun-open end next name taken node (callable_in file.kinds node) refl whole up short;
   }
   said-adds end next held found totals statements.EndFunc short clear at is now whole small up =
       ended-all end next held now whole small

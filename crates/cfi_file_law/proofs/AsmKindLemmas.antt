@@ -22,7 +22,7 @@ use Rattle.rv_names.specs.Names.{is_named, definition_in, value_by, value_in_tex
 use Rattle.rv_asm.specs.declared.file.File.{File}
 use Rattle.rv_asm.specs.Fault.{Found, Totals, line_fault, fault_at, found_at, totals_at}
 use Rattle.rv_asm.specs.Made.{value_in, values_in, kind_set, kind_after, branches_in, branches_at, branches_of, nodes_of}
-use Rattle.rv_asm.specs.Node.{func_in}
+use Rattle.rv_asm.specs.Node.{callable_in}
 use Rattle.rv_asm.specs.Placed.{Placed, placed_behind, end_after}
 use Rattle.rv_asm.specs.Symbols.{kinds_in}
 use Rattle.rv_asm.proofs.PlacedLemmas.{at_line, made-push, last-said}
@@ -31,7 +31,7 @@ use Rattle.cfi_made_law.proofs.AsmFormLemmas.{SaidFormed, IsFormedLine}
 use Rattle.cfi_made_law.proofs.AsmLimitLemmas.{IsClear, clear-said}
 use Rattle.cfi_made_law.proofs.AsmExactLemmas.{by-parts}
 use Rattle.cfi_made_law.proofs.AsmSymbolLemmas.{IsAligned, IsInside, HasInside}
-use Rattle.cfi_file_law.proofs.AsmTypeLemmas.{formed-at, func-good}
+use Rattle.cfi_file_law.proofs.AsmTypeLemmas.{formed-at, callable-good}
 
 -- ---- a branch
 
@@ -107,15 +107,15 @@ module _ (file : File) (lines : List Line) (formed : AllByRecursion IsFormedLine
     made : All IsGood (branches_in held (Some s))
     left : KindIs (unwrap_or (kind_set file (Some s)) held)
 
-  call-good : (node : ℤ) (o : Option ℕ) → func_in file.kinds node ≡ o → KindIs (option_map branches.Call o)
+  call-good : (node : ℤ) (o : Option ℕ) → callable_in file.kinds node ≡ o → KindIs (option_map branches.Call o)
   call-good node None is = tt
   call-good node (Some n) is =
-      record { entries = tt; words = (func-good file lines formed clear own node n is, tt) }
+      record { entries = tt; words = (callable-good file lines formed clear own node n is, tt) }
 
-  tail-good : (node : ℤ) (o : Option ℕ) → func_in file.kinds node ≡ o → KindIs (option_map branches.Tail o)
+  tail-good : (node : ℤ) (o : Option ℕ) → callable_in file.kinds node ≡ o → KindIs (option_map branches.Tail o)
   tail-good node None is = tt
   tail-good node (Some n) is =
-      record { entries = tt; words = (func-good file lines formed clear own node n is, tt) }
+      record { entries = tt; words = (callable-good file lines formed clear own node n is, tt) }
 
   return-good : IsGood branches.Return
   return-good = record { entries = tt; words = tt }
@@ -131,9 +131,9 @@ module _ (file : File) (lines : List Line) (formed : AllByRecursion IsFormedLine
   said-adds held found totals statements.Ret formed clear is =
       record { made = jump-good held is; left = tt }
   said-adds held found totals (statements.KindCall node) formed clear is =
-      record { made = All-nil IsGood; left = call-good node (func_in file.kinds node) refl }
+      record { made = All-nil IsGood; left = call-good node (callable_in file.kinds node) refl }
   said-adds held found totals (statements.KindTail node) formed clear is =
-      record { made = All-nil IsGood; left = tail-good node (func_in file.kinds node) refl }
+      record { made = All-nil IsGood; left = tail-good node (callable_in file.kinds node) refl }
   said-adds held found totals statements.KindReturn formed clear is =
       record { made = All-nil IsGood; left = return-good }
   said-adds held found totals (statements.KindSwitch names) formed clear is = record {

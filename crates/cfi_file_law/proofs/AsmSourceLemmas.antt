@@ -15,6 +15,7 @@ use Rattle.cfi_aux.specs.declared.fault.AuxFault.TheVariants.{NoRecords, BadReco
 use Rattle.cfi_aux.specs.declared.records.Kind.{Kind}
 use Rattle.cfi_aux.specs.declared.records.Kind.TheVariants as branches
 use Rattle.cfi_aux.specs.Module.{AreSpelled, module_in}
+use Rattle.cfi_aux.specs.declared.version.TheConstants.{LATEST}
 use Rattle.cfi_aux.specs.Records.{spelling as records_spelling, IsFunction, IsBranch, AreRecords}
 use Rattle.rv_line.specs.declared.line.Line.{Line}
 use Rattle.rv_names.specs.Names.{is_local, is_seen}
@@ -103,6 +104,7 @@ module _ (text : List ℕ) (object : Object) (is : object_in text ≡ Ok object)
   source-spelled on few = record {
     table = types;
     types_spelled = types-are on;
+    version = LATEST;
     good = good on few;
     records_spelled = records-are on;
   }

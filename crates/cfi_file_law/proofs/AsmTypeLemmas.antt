@@ -6,11 +6,10 @@ use Rattle.std.proofs.lemmas.List.{map-append, length-map, get_or-map, drop-map}
 use Rattle.std.proofs.lemmas.List.Elements.{All-nil, All-cons, All-append, recursion_from_All, filter_map-append}
 use Rattle.std.proofs.lemmas.Option.{slice_get_within, get_or_from_slice_get}
 use Rattle.cfi_word.specs.declared.limits.TheConstants.{MAX_FIELDS, MAX_NODES}
-use Rattle.cfi_type_table.specs.declared.kind.TheConstants.{VOID, INT, REAL, PTR, ARRAY, STRUCT, UNION, FUNC}
-use Rattle.cfi_type_table.specs.Kind.{number_count, has_arity, field_fits}
+use Rattle.cfi_type_table.specs.declared.kind.TheConstants.{VOID, INT, REAL, PTR, ARRAY, STRUCT, UNION, FUNC, VARFUNC}
+use Rattle.cfi_type_table.specs.Kind.{number_count, has_arity, field_fits, is_callable_kind, is_callable as names_callable}
 use Rattle.cfi_type_table.specs.Node.{Node, make_node}
 use Rattle.cfi_type_table.specs.Spelling.{AreFields, IsNode, NamesBelow, AreTypes}
-use Rattle.cfi_aux.specs.Format.{is_func as names_func}
 use Rattle.rv_line.specs.declared.line.Line.{Line}
 use Rattle.rv_line.specs.declared.statement.NodeKind.{NodeKind}
 use Rattle.rv_line.specs.declared.statement.NodeKind.TheVariants as kinds
@@ -20,12 +19,12 @@ use Rattle.rv_line.specs.Statement.{has_count}
 use Rattle.rv_asm.specs.declared.file.File.{File}
 use Rattle.rv_asm.specs.Fault.{Found, Totals, line_fault, fault_at, found_at, totals_at}
 use Rattle.rv_asm.specs.Made.{listed, nodes_in, nodes_of}
-use Rattle.rv_asm.specs.Node.{number_of, is_node, is_func, func_in, names_nodes, is_word, is_integer, fits, node_of}
+use Rattle.rv_asm.specs.Node.{number_of, is_node, is_callable, callable_in, names_nodes, is_word, is_integer, fits, node_of}
 use Rattle.rv_asm.specs.Placed.{Placed, placed_behind}
 use Rattle.rv_asm.specs.Symbols.{node_kind, kinds_in}
 use Rattle.rv_asm.specs.Words.{low_word}
 use Rattle.rv_asm.proofs.PlacedLemmas.{at_line, made-push}
-use Rattle.cfi_made_law.proofs.LinkLemmas.{no_node, func-from}
+use Rattle.cfi_made_law.proofs.LinkLemmas.{no_node, callable-from}
 use Rattle.cfi_made_law.proofs.AsmOperandLemmas.{IsFormed}
 use Rattle.cfi_made_law.proofs.AsmFormLemmas.{SaidFormed, IsFormedLine}
 use Rattle.cfi_made_law.proofs.AsmLimitLemmas.{IsClear, clear-said}
@@ -44,6 +43,7 @@ arity-of kinds.Array n is few = is
 arity-of kinds.Struct n is few = few
 arity-of kinds.Union n is few = few
 arity-of kinds.Func n is few = and_from _ _ is few
+arity-of kinds.VarFunc n is few = and_from _ _ is few
 
 word-small : (number : ℤ) → is_word number ≡ true → low_word number < 2 ^ 32
 word-small (pos n) is = omega arith
@@ -79,6 +79,7 @@ fields-of kinds.Array fields is all fit = plain-fields ARRAY 0 fields refl all
 fields-of kinds.Struct fields is all fit = plain-fields STRUCT 0 fields refl all
 fields-of kinds.Union fields is all fit = plain-fields UNION 0 fields refl all
 fields-of kinds.Func fields is all fit = plain-fields FUNC 0 fields refl all
+fields-of kinds.VarFunc fields is all fit = plain-fields VARFUNC 0 fields refl all
 
 name-below : (count : ℕ) (number : ℤ) → is_node count number ≡ true → low_word number < count
 name-below count (pos n) is = let less : n < count = ltb-true n count is in omega (arith, less)
@@ -249,31 +250,33 @@ module _ (file : File) (lines : List Line) (formed : AllByRecursion IsFormedLine
   }
 
   -- the number of a node of functions is that of one in the table
-  func-there : (n : ℕ) → slice_get file.kinds n ≡ Some kinds.Func → IsTrue (names_func (nodes_of lines) n)
-  func-there n is =
-      let within : n < length file.kinds = slice_get_within file.kinds n kinds.Func is in
+  callable-there : (n : ℕ) (kind : NodeKind) → slice_get file.kinds n ≡ Some kind
+      → is_callable_kind (number_of kind) ≡ true → IsTrue (names_callable (nodes_of lines) n)
+  callable-there n kind is callable =
+      let within : n < length file.kinds = slice_get_within file.kinds n kind is in
       let below : n < length (nodes_of lines) = omega (arith, within, count-is) in
-      let at : get_or file.kinds n kinds.Func ≡ kinds.Func =
-      get_or_from_slice_get file.kinds n kinds.Func kinds.Func is in
-      func-from (nodes_of lines) n below
-      (sym (get_or-map kind_of (nodes_of lines) n no_node 0 below)
-      ∙ ap (λ (xs : List ℕ). get_or xs n 0) kinds-are ∙ get_or-map number_of file.kinds n kinds.Func 0 within
-      ∙ ap number_of at)
+      let at : get_or file.kinds n kind ≡ kind = get_or_from_slice_get file.kinds n kind kind is in
+      let same : kind_of (get_or (nodes_of lines) n no_node) ≡ number_of kind =
+      sym (get_or-map kind_of (nodes_of lines) n no_node 0 below)
+      ∙ ap (λ (xs : List ℕ). get_or xs n 0) kinds-are ∙ get_or-map number_of file.kinds n kind 0 within
+      ∙ ap number_of at in
+      callable-from (nodes_of lines) n below
+      (subst (λ (k : ℕ). IsTrue (is_callable_kind k)) (sym same) callable)
 
-  pub func-good : (number : ℤ) (n : ℕ) → func_in file.kinds number ≡ Some n
-      → (n < 2 ^ 32) × IsTrue (names_func (nodes_of lines) n)
-  func-good (negsuc m) n is = absurd (cc)
-  func-good (pos m) n is =
-      let found = found-by (nat_lt m (2 ^ 32) && is_func (slice_get file.kinds m)) m n is in
-      let parts = and_parts (nat_lt m (2 ^ 32)) (is_func (slice_get file.kinds m)) found.0 in
-      subst (λ (k : ℕ). (k < 2 ^ 32) × IsTrue (names_func (nodes_of lines) k)) found.1
-      (ltb-true m (2 ^ 32) parts.0, func-there m (func-kind (slice_get file.kinds m) parts.1))
+  pub callable-good : (number : ℤ) (n : ℕ) → callable_in file.kinds number ≡ Some n
+      → (n < 2 ^ 32) × IsTrue (names_callable (nodes_of lines) n)
+  callable-good (negsuc m) n is = absurd (cc)
+  callable-good (pos m) n is =
+      let found = found-by (nat_lt m (2 ^ 32) && is_callable (slice_get file.kinds m)) m n is in
+      let parts = and_parts (nat_lt m (2 ^ 32)) (is_callable (slice_get file.kinds m)) found.0 in
+      subst (λ (k : ℕ). (k < 2 ^ 32) × IsTrue (names_callable (nodes_of lines) k)) found.1
+      (ltb-true m (2 ^ 32) parts.0, kind-there m (slice_get file.kinds m) refl parts.1)
     where
       found-by : (b : Bool) (k o : ℕ) → (if b then Some k else None) ≡ Some o → (b ≡ true) × (k ≡ o)
       found-by true k o e = (refl, cc)
       found-by false k o e = absurd (cc)
 
-      func-kind : (o : Option NodeKind) → is_func o ≡ true → o ≡ Some kinds.Func
-      func-kind None e = absurd (cc)
-      func-kind (Some kinds.Func) e = refl
-      func-kind (Some kind) e = absurd (cc)
+      kind-there : (k : ℕ) (o : Option NodeKind) → slice_get file.kinds k ≡ o → is_callable o ≡ true
+          → IsTrue (names_callable (nodes_of lines) k)
+      kind-there k None at e = absurd (cc)
+      kind-there k (Some kind) at e = callable-there k kind at e

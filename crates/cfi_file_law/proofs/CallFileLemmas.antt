@@ -18,6 +18,7 @@ use Rattle.cfi_aux.specs.Format.{is_length}
 use Rattle.cfi_aux.specs.Module.{AreSpelled}
 use Rattle.cfi_aux.specs.Sound.{IsSoundModule}
 use Rattle.cfi_aux.specs.Records.{AreRecords}
+use Rattle.cfi_aux.specs.declared.version.TheConstants.{LATEST}
 use Rattle.cfi_commands.specs.Reading.{IsModuleFile}
 use Rattle.cfi_made_law.specs.Read.{IsReadOf}
 use Rattle.cfi_made_law.proofs.ReadLemmas.{IsFit}
@@ -68,7 +69,7 @@ module _ (text : List ℕ) (call bytes words : ℕ) (size : length text ≡ 4 * 
   }
 
   spelled : AreSpelled object call_types (call_records bytes)
-  spelled = record { table = table; types_spelled = refl; good = good; records_spelled = refl }
+  spelled = record { table = table; types_spelled = refl; version = LATEST; good = good; records_spelled = refl }
 
   symbol : IsSoundSymbol object call_symbol
   symbol = record {

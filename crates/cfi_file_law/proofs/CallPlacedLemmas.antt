@@ -13,8 +13,8 @@ use Rattle.cfi_place.specs.Relocated.{areas_of, relocated_from}
 use Rattle.cfi_place.specs.Slots.{ReadFrom}
 use Rattle.cfi_place.specs.Placed.{IsRoom, IsPlaced, bytes_as_words, placed_in}
 use Rattle.std.proofs.lemmas.List.Elements.{All-nil, All-cons}
-use Rattle.cfi_aux.specs.Format.{is_func}
-use Rattle.cfi_instr_law.specs.Proper.{NamesFunc, IsTyped, IsMadeAt}
+use Rattle.cfi_type_table.specs.Kind.{is_callable}
+use Rattle.cfi_instr_law.specs.Proper.{NamesCallable, IsTyped, IsMadeAt}
 use Rattle.cfi_file_law.specs.Example.{call_source, call_made, call_placed, call_units, call_words, call_types}
 use Rattle.cfi_file_law.proofs.CallLemmas.{instrumented}
 
@@ -77,9 +77,9 @@ placed = record {
 
 typed : IsTyped call_made
 typed = record {
-  functions = All-cons (λ f. IsTrue (is_func call_types f.ty)) _ [] refl
-      (All-nil (λ f. IsTrue (is_func call_types f.ty)));
-  branches = All-cons (NamesFunc call_types) _ [] tt (All-nil (NamesFunc call_types));
+  functions = All-cons (λ f. IsTrue (is_callable call_types f.ty)) _ [] refl
+      (All-nil (λ f. IsTrue (is_callable call_types f.ty)));
+  branches = All-cons (NamesCallable call_types) _ [] tt (All-nil (NamesCallable call_types));
 }
 
 pub made : IsMadeAt call_source call_made loop_room no_names call_placed

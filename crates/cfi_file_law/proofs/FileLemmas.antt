@@ -29,6 +29,7 @@ kept m is = record {
   parts = record {
     table = is.table;
     types_spelled = is.types_spelled;
+    version = is.version;
     good = is.good;
     records_spelled = is.records_spelled;
   };

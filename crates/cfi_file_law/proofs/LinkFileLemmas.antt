@@ -4,10 +4,11 @@ use Rattle.std.proofs.lemmas.List.Elements.{All-nil, All-cons, All-head, All-tai
 use Rattle.elf_read.specs.Sound.{IsSoundObject}
 use Rattle.elf_read.specs.declared.object.Reloc.{Reloc}
 use Rattle.cfi_type_table.specs.Node.{Node}
-use Rattle.cfi_aux.specs.Records.{AreRecords, CanBeWritten}
+use Rattle.cfi_aux.specs.Records.{AreRecordsIn, CanBeWritten}
 use Rattle.cfi_aux.specs.Sound.{IsSoundModule}
 use Rattle.cfi_aux.specs.declared.modules.Module.{Module}
 use Rattle.cfi_aux.specs.declared.records.Records.{Records}
+use Rattle.cfi_aux.specs.declared.version.RecordVersion.{RecordVersion}
 use Rattle.cfi_link.specs.Joined.{joined_of}
 use Rattle.cfi_link.specs.Chosen.{chosen_in, numbers_of, reaches_of}
 use Rattle.cfi_link.specs.Applied.{kept_in, by_area}
@@ -52,7 +53,8 @@ read-modules sound files modules are =
     (record { bytes = bytes; object = is.object; is = is.is; whole = is.whole })) files modules are
 
 pub are-modules : ReadIsSound
-    → ((types : List Node) (records : Records) → AreRecords types records → CanBeWritten records)
+    → ((version : RecordVersion) (types : List Node) (records : Records) → AreRecordsIn version types records
+    → CanBeWritten records)
     → (files : List (List ℕ)) (modules : List Module) → AreModuleFiles files modules → length files < 2 ^ 32
     → AreModules modules
 are-modules sound written files modules are few =

@@ -15,10 +15,12 @@ use Rattle.cfi_aux.specs.declared.fault.AuxFault.TheVariants.{BadRecord}
 use Rattle.cfi_aux.specs.declared.records.Kind.{Kind}
 use Rattle.cfi_aux.specs.declared.records.Kind.TheVariants.{Switch}
 use Rattle.cfi_aux.specs.declared.records.Records.{Records}
+use Rattle.cfi_aux.specs.declared.version.RecordVersion.{RecordVersion}
+use Rattle.cfi_aux.specs.declared.version.TheConstants.{LATEST}
 use Rattle.cfi_aux.specs.Format.{has_count}
 use Rattle.cfi_aux.specs.Records.{function_bytes, branch_bytes, spelling, IsFunction, IsBranch, IsWordSized}
 use Rattle.cfi_aux.specs.Reading.{Reader, word_where, and_with, and_also, seen_as, each}
-use Rattle.cfi_aux.specs.Faults.{function_at, branch_at, version_at, count_at, lists_at, body_at, records_of, records_at, records_in}
+use Rattle.cfi_aux.specs.Faults.{function_at, branch_at, version_at, count_at, lists_at, body_at, records_of, records_at, whole_at, records_in}
 use Rattle.cfi_aux.proofs.Formats.{Reads, Reads-also}
 use Rattle.cfi_aux.proofs.Words.{Passes, word_again, Reads-word}
 use Rattle.cfi_aux.proofs.Lists.{Reads-each}
@@ -59,22 +61,23 @@ where-bad test fault n rest small bad = rw (word_again n rest small, bad) refl
 many : (n : ℕ) → MAX_ENTRIES < n → has_count SWITCH n ≡ false
 many n more = grind (arith, nat_tests)
 
-switch-bad : (types : List Node) (k : ℕ) (places rest : List ℕ) → length places < 2 ^ 32
-    → MAX_ENTRIES < length places → branch_at types k (branch_bytes (Switch places) ++ rest) ≡ Err (BadRecord k)
+switch-bad : (version : RecordVersion) (types : List Node) (k : ℕ) (places rest : List ℕ) → length places < 2 ^ 32
+    → MAX_ENTRIES < length places
+    → branch_at version types k (branch_bytes (Switch places) ++ rest) ≡ Err (BadRecord k)
 unfolding branch_at
-switch-bad types k places rest small more =
+switch-bad version types k places rest small more =
     let n = length places in
     let bad = BadRecord k in
     let words = flat_map word places in
     let known : ℕ → Bool = λ kind. nat_le kind SWITCH in
-    let body : ℕ → ℕ → Reader Kind = λ kind m. body_at types k kind m in
+    let body : ℕ → ℕ → Reader Kind = λ kind m. body_at version types k kind m in
     let counted : ℕ → Reader (ℕ × Kind) = λ kind. and_with (word_where (has_count kind) bad) (body kind) in
     let view : (ℕ × (ℕ × Kind)) → Kind = λ branch. branch.1.1 in
     let after = word n ++ (words ++ rest) in
     let regroup : (word SWITCH ++ (word n ++ words)) ++ rest ≡ word SWITCH ++ after =
     append_assoc (word SWITCH) (word n ++ words) rest
     ∙ ap (λ (bytes : List ℕ). word SWITCH ++ bytes) (append_assoc (word n) words rest) in
-    ap (branch_at types k) regroup
+    ap (branch_at version types k) regroup
     ∙ seen-bad view (and_with (word_where known bad) counted) (word SWITCH ++ after) bad
     (with-bad (word_where known bad) counted (word SWITCH ++ after) SWITCH after bad
     ((Reads-word known bad).again SWITCH after (lit< tt, refl))
@@ -112,7 +115,7 @@ pub records-bad : (types : List Node) (r : Records) (number : ℕ) (places : Lis
     → ((i : ℕ) (b : Kind) → i < number → slice_get r.branches i ≡ Some b → IsBranch types b)
     → length places < 2 ^ 32 → MAX_ENTRIES < length places
     → records_in types (spelling r) ≡ Err (BadRecord (length r.functions + number))
-unfolding records_in records_at
+unfolding records_in whole_at records_at
 records-bad types r number places few few' functions is before small more =
     let f = length r.functions in
     let b = length r.branches in
@@ -127,15 +130,19 @@ records-bad types r number places few few' functions is before small more =
       (omega (arith, few), le-leb f MAX_FUNCTIONS few),
       (omega (arith, few'), le-leb b MAX_BRANCHES few'),
     ) in
-    let first = (Reads-each function_bytes (IsFunction types) (function_at types) (Reads-function types) 0 f).again
-    r.functions tail (refl, functions) in
-    let last = each-bad branch_bytes (IsBranch types) (branch_at types) (Reads-branch types) f r.branches number
-    (Switch places) is before (λ i rest. switch-bad types i places rest small more) (f + number) refl in
-    let numbers = and_with (and_also (count_at MAX_FUNCTIONS) (count_at MAX_BRANCHES)) (lists_at types) in
+    let first = (Reads-each function_bytes (IsFunction types) (function_at LATEST types) (Reads-function LATEST types) 0
+    f).again r.functions tail (refl, functions) in
+    let last = each-bad branch_bytes (IsBranch types) (branch_at LATEST types) (Reads-branch LATEST types) f r.branches
+    number (Switch places) is before (λ i rest. switch-bad LATEST types i places rest small more) (f + number) refl in
+    let numbers = and_with (and_also (count_at MAX_FUNCTIONS) (count_at MAX_BRANCHES)) (lists_at LATEST types) in
     let after = (word f ++ word b) ++ lists in
-    let whole : records_at types (spelling r) ≡ Err bad =
-    seen-bad records_of (and_also version_at numbers) (spelling r) bad
-    (also-bad version_at numbers (spelling r) tt after bad (Reads-version.again tt after tt)
-    (with-bad (and_also (count_at MAX_FUNCTIONS) (count_at MAX_BRANCHES)) (lists_at types) after (f, b) lists bad read
-    (also-bad (each (function_at types) 0 f) (each (branch_at types) f b) lists r.functions tail bad first last))) in
+    let behind : records_at LATEST types after ≡ Err bad =
+    seen-bad records_of numbers after bad
+    (with-bad (and_also (count_at MAX_FUNCTIONS) (count_at MAX_BRANCHES)) (lists_at LATEST types) after (f, b) lists bad
+    read
+    (also-bad (each (function_at LATEST types) 0 f) (each (branch_at LATEST types) f b) lists r.functions tail bad first
+    last)) in
+    let whole : whole_at types (spelling r) ≡ Err bad =
+    with-bad version_at (λ version. records_at version types) (spelling r) LATEST after bad
+    (Reads-version.again LATEST after tt) behind in
     rw whole refl

@@ -8,7 +8,7 @@ use Rattle.rv_insn.specs.InsnOf.{insn_of}
 use Rattle.rv_reloc.specs.Bytes.{word_at}
 use Rattle.cfi_unit.specs.declared.unit.Unit.{Unit as CodeUnit}
 use Rattle.cfi_unit.specs.declared.unit.Unit.TheVariants as units
-use Rattle.cfi_aux.specs.Format.{is_func}
+use Rattle.cfi_type_table.specs.Kind.{is_callable}
 use Rattle.cfi_items.specs.Words.{Words, words_by, read_words}
 use Rattle.cfi_items.specs.Fault.{input_by, IsInstrumentable}
 use Rattle.cfi_items.proofs.RowTests.{PassesAll, instrumentable}
@@ -20,7 +20,7 @@ use Rattle.cfi_place.specs.Relocated.{areas_of, relocated_from}
 use Rattle.cfi_place.specs.Slots.{ReadFrom}
 use Rattle.cfi_place.specs.Placed.{IsRoom, IsPlaced, bytes_as_words}
 use Rattle.cfi_verify.specs.Example.{loop_module}
-use Rattle.cfi_instr_law.specs.Proper.{NamesFunc, IsTyped, IsMadeAt}
+use Rattle.cfi_instr_law.specs.Proper.{NamesCallable, IsTyped, IsMadeAt}
 use Rattle.cfi_instr_law.specs.Example.{loop_records, loop_object, loop_source, loop_room, no_names}
 use Rattle.cfi_place.proofs.ExampleLemmas.{loop_read}
 
@@ -120,9 +120,9 @@ instrumented = record {
 
 typed : IsTyped loop_source
 typed = record {
-  functions = All-cons (λ f. IsTrue (is_func loop_module.types f.ty)) _ [] refl
-      (All-nil (λ f. IsTrue (is_func loop_module.types f.ty)));
-  branches = All-nil (NamesFunc loop_module.types);
+  functions = All-cons (λ f. IsTrue (is_callable loop_module.types f.ty)) _ [] refl
+      (All-nil (λ f. IsTrue (is_callable loop_module.types f.ty)));
+  branches = All-nil (NamesCallable loop_module.types);
 }
 
 room : IsRoom loop_room

@@ -7,7 +7,7 @@ use Rattle.elf_read.specs.declared.object.Symbol.{Symbol}
 use Rattle.cfi_type_table.specs.Node.{Node}
 use Rattle.cfi_unit.specs.declared.unit.Unit.{Unit as CodeUnit}
 use Rattle.cfi_unit.specs.Unit.{size_of}
-use Rattle.cfi_aux.specs.Format.{is_func}
+use Rattle.cfi_type_table.specs.Kind.{is_callable}
 use Rattle.cfi_aux.specs.declared.modules.Module.{Module}
 use Rattle.cfi_aux.specs.declared.placed.Placed.{Placed}
 use Rattle.cfi_aux.specs.declared.records.Function.{Function}
@@ -31,7 +31,7 @@ use Rattle.cfi_unit.specs.Spots.{spots_of}
 use Rattle.rv_insn.specs.InsnOf.{insn_of}
 use Rattle.rv_reloc.specs.Bytes.{word_at}
 use Rattle.cfi_unit.specs.declared.spot.Spot.{Spot}
-use Rattle.cfi_instr_law.specs.Proper.{NamesFunc, IsTyped, IsMadeAt}
+use Rattle.cfi_instr_law.specs.Proper.{NamesCallable, IsTyped, IsMadeAt}
 use Rattle.cfi_instr_law.proofs.SeenLemmas.{seen_from, size-seen}
 use Rattle.cfi_instr_law.proofs.CodeLemmas.{words_in, words-cons}
 use Rattle.cfi_instr_law.proofs.ItemLemmas.{place-item, item-some}
@@ -72,8 +72,8 @@ pub record IsFrom (source : Module) (placed : Placed) : Type 0 where
       source.records.functions)
   pub branches : placed.branches
       ≡ map (moved_kind (read_words source.object) (offsets_of (read_words source.object) long)) source.records.branches
-  pub func_types : All (λ f. IsTrue (is_func placed.types f.ty)) source.records.functions
-  pub branch_types : All (NamesFunc placed.types) placed.branches
+  pub func_types : All (λ f. IsTrue (is_callable placed.types f.ty)) source.records.functions
+  pub branch_types : All (NamesCallable placed.types) placed.branches
 
 -- its words end where the last item does
 laid-end : (t : Words) (symbols : List Symbol) (long : List Bool) (offsets : List ℕ) (touched : ℕ → Bool)
@@ -103,12 +103,12 @@ made-some source long sound some =
     omega (arith, first, count, some, total-grows (size_at t long) 1 (count_of t) (omega (arith, count, some)))
 
 typed-before : (types : List Node) (moves : Function → Function) (functions : List Function)
-    → ((f : Function) → (moves f).ty ≡ f.ty) → All (λ f. IsTrue (is_func types f.ty)) (map moves functions)
-    → All (λ f. IsTrue (is_func types f.ty)) functions
+    → ((f : Function) → (moves f).ty ≡ f.ty) → All (λ f. IsTrue (is_callable types f.ty)) (map moves functions)
+    → All (λ f. IsTrue (is_callable types f.ty)) functions
 typed-before types moves functions same all k d inside =
     let f = get_or functions k d in
     let there : get_or (map moves functions) k d ≡ moves f = get_or-map moves functions k d d inside in
-    subst (λ (n : ℕ). IsTrue (is_func types n)) (ap (λ (g : Function). g.ty) there ∙ same f)
+    subst (λ (n : ℕ). IsTrue (is_callable types n)) (ap (λ (g : Function). g.ty) there ∙ same f)
     (all k d (subst (λ (n : ℕ). k < n) (sym (length-map functions moves)) inside))
 
 -- a module that is another one, made by instrumenting, but for the order of its relocations
@@ -159,12 +159,12 @@ from-made-like source out m room names placed made like some typed fits stands =
           ∙ ap (λ (xs : List ℕ). map (moved_kind t xs) source.records.branches) same;
       func_types =
           typed-before placed.types moves source.records.functions (λ f. refl)
-          (subst (λ (fs : List Function). All (λ f. IsTrue (is_func placed.types f.ty)) fs) functions
-          (subst (λ (ns : List Node). All (λ f. IsTrue (is_func ns f.ty)) m.records.functions)
+          (subst (λ (fs : List Function). All (λ f. IsTrue (is_callable placed.types f.ty)) fs) functions
+          (subst (λ (ns : List Node). All (λ f. IsTrue (is_callable ns f.ty)) m.records.functions)
           (sym stands.types) typed.functions));
       branch_types =
-          subst (λ (ks : List Kind). All (NamesFunc placed.types) ks) (sym stands.branches)
-          (subst (λ (ns : List Node). All (NamesFunc ns) m.records.branches) (sym stands.types) typed.branches);
+          subst (λ (ks : List Kind). All (NamesCallable placed.types) ks) (sym stands.branches)
+          (subst (λ (ns : List Node). All (NamesCallable ns) m.records.branches) (sym stands.types) typed.branches);
     }
 
 pub from-made : (source m : Module) (room : Room) (names : Names) (placed : Placed)

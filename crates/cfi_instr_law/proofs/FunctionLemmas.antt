@@ -5,7 +5,7 @@ use Rattle.std.specs.Option.{option_map}
 use Rattle.std.proofs.lemmas.Bool.{cases_lt}
 use Rattle.std.proofs.lemmas.List.{length-map}
 use Rattle.std.proofs.lemmas.Option.{slice_get-map, slice_get-get_or, slice_get_within, get_or_from_slice_get}
-use Rattle.cfi_aux.specs.Format.{is_func}
+use Rattle.cfi_type_table.specs.Kind.{is_callable}
 use Rattle.cfi_aux.specs.Placed.{is_global}
 use Rattle.cfi_aux.specs.declared.modules.Module.{Module}
 use Rattle.cfi_aux.specs.declared.placed.Placed.{Placed}
@@ -172,7 +172,7 @@ module _ (source : Module) (placed : Placed) (s : IsFrom source placed) where
         ends =
             subst (λ (n : ℕ). (n ≡ length placed.words) ⊎ BeginsUnit spots n) (sym end) (ends-at (byte_end f) is.ends);
         typed =
-            subst (λ (n : ℕ). IsTrue (is_func placed.types n))
+            subst (λ (n : ℕ). IsTrue (is_callable placed.types n))
             (ap (λ (x : Function). x.ty) (get_or_from_slice_get functions k f f from.1)
             ∙ sym (ap (λ (x : PlacedFunction). x.ty) from.2))
             (s.func_types k f within);

@@ -25,7 +25,7 @@ use Rattle.cfi_unit.specs.Spots.{spots_of}
 use Rattle.cfi_verify.specs.Spots.{checks_of}
 use Rattle.cfi_verify.specs.declared.checks.CheckSpot.{CheckSpot}
 use Rattle.cfi_unit.specs.declared.spot.Spot.{Spot}
-use Rattle.cfi_instr_law.specs.Proper.{NamesFunc}
+use Rattle.cfi_instr_law.specs.Proper.{NamesCallable}
 use Rattle.cfi_instr_law.proofs.SeenLemmas.{bare, of-map, same-checks}
 use Rattle.cfi_instr_law.proofs.ItemLemmas.{spots_to}
 use Rattle.cfi_instr_law.proofs.CheckLemmas.{IsCheckOf, check-of, count-checks}
@@ -33,7 +33,7 @@ use Rattle.cfi_instr_law.proofs.FromLemmas.{IsFrom}
 
 -- a record with a call exactly where the jump links, whose node is one of functions, fits
 kind-of : (types : List Node) (link : Bool) (kind : Kind) → same (is_call kind) link ≡ true
-    → NamesFunc types kind → IsKindOf types link kind
+    → NamesCallable types kind → IsKindOf types link kind
 kind-of types true (Call node) h func = func
 kind-of types false (Call node) h func = absurd (false≢true h)
 kind-of types true (Tail node) h func = absurd (false≢true h)
@@ -125,8 +125,8 @@ module _ (source : Module) (placed : Placed) (s : IsFrom source placed) where
   kinds k check at =
       let found = kind-at k check at in
       let moved = moved_kind t offsets found.0 in
-      let func : NamesFunc placed.types moved =
-      subst (NamesFunc placed.types) (get_or_from_slice_get placed.branches k moved moved found.2)
+      let func : NamesCallable placed.types moved =
+      subst (NamesCallable placed.types) (get_or_from_slice_get placed.branches k moved moved found.2)
       (s.branch_types k moved (slice_get_within placed.branches k moved found.2)) in
       let call : same (is_call moved) check.link ≡ true =
       ap (λ (b : Bool). same b check.link) (call-moved t offsets found.0) ∙ found.3 in

@@ -2,7 +2,7 @@
 -- elsewhere. Where a jump leads to another module is known only where both are placed.
 use Rattle.std.specs.Prelude.{◌≡◌, ℕ, ◌≤◌, List, length, All, IsTrue, ⊤}
 use Rattle.cfi_type_table.specs.Node.{Node}
-use Rattle.cfi_aux.specs.Format.{is_func}
+use Rattle.cfi_type_table.specs.Kind.{is_callable}
 use Rattle.cfi_aux.specs.declared.modules.Module.{Module}
 use Rattle.cfi_aux.specs.declared.placed.Placed.{Placed}
 use Rattle.cfi_aux.specs.declared.records.Kind.{Kind}
@@ -16,16 +16,16 @@ use Rattle.cfi_verify.specs.declared.fault.VerifyFault.TheVariants.{Target}
 use Rattle.cfi_verify.specs.Faults.{FaultStands}
 
 -- the node that a branch names is the type of a function
-abbrev pub NamesFunc : (types : List Node) → Kind → Type 0
-NamesFunc types (Call node) = IsTrue (is_func types node)
-NamesFunc types (Tail node) = IsTrue (is_func types node)
-NamesFunc types Return = ⊤
-NamesFunc types (Switch entries) = ⊤
+abbrev pub NamesCallable : (types : List Node) → Kind → Type 0
+NamesCallable types (Call node) = IsTrue (is_callable types node)
+NamesCallable types (Tail node) = IsTrue (is_callable types node)
+NamesCallable types Return = ⊤
+NamesCallable types (Switch entries) = ⊤
 
 -- the nodes of functions and of branches are types of functions
 pub record IsTyped (m : Module) : Type 0 where
-  pub functions : All (λ f. IsTrue (is_func m.types f.ty)) m.records.functions
-  pub branches : All (NamesFunc m.types) m.records.branches
+  pub functions : All (λ f. IsTrue (is_callable m.types f.ty)) m.records.functions
+  pub branches : All (NamesCallable m.types) m.records.branches
 
 -- a module with types of functions was made by instrumenting another, which has a word of text, and is placed in a room
 pub record IsMadeAt (source m : Module) (room : Room) (names : Names) (placed : Placed) : Type 0 where

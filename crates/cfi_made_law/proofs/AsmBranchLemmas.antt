@@ -17,7 +17,7 @@ use Rattle.rv_asm.specs.declared.file.File.{File}
 use Rattle.rv_asm.specs.declared.spot.Spot.{Spot}
 use Rattle.rv_asm.specs.Fault.{Totals, jump_fits, statement_fits, line_fault, fault_at, found_at, totals_at}
 use Rattle.rv_asm.specs.Made.{value_in, kind_set, kind_after, branches_in, branches_at, branches_of}
-use Rattle.rv_asm.specs.Node.{func_in, fits}
+use Rattle.rv_asm.specs.Node.{callable_in, fits}
 use Rattle.rv_asm.specs.Placed.{Placed, placed_behind, spot_after, lines_in}
 use Rattle.rv_asm.specs.inner.Count.{most_of, said_of, count_of}
 use Rattle.rv_asm.proofs.CountLemmas.{bytes_of, lines-left}
@@ -69,8 +69,8 @@ said-words : (file : File) (kind : Option Kind) (s : Statement)
     ≤ held_words kind + most_of s
 said-words file kind (statements.Jalr rd rs1 imm) = omega (arith, jump-words kind)
 said-words file kind statements.Ret = omega (arith, jump-words kind)
-said-words file kind (statements.KindCall node) = omega (arith, call-words (func_in file.kinds node))
-said-words file kind (statements.KindTail node) = omega (arith, tail-words (func_in file.kinds node))
+said-words file kind (statements.KindCall node) = omega (arith, call-words (callable_in file.kinds node))
+said-words file kind (statements.KindTail node) = omega (arith, tail-words (callable_in file.kinds node))
 said-words file kind statements.KindReturn = omega arith
 said-words file kind (statements.KindSwitch names) =
     omega (arith, length-map names (value_in file.names))

@@ -11,7 +11,8 @@ use Rattle.cfi_type_table.specs.Spelling.{word, node_bytes, spelling as types_sp
 use Rattle.cfi_aux.specs.declared.records.Kind.{Kind}
 use Rattle.cfi_aux.specs.declared.records.Records.{Records}
 use Rattle.cfi_aux.specs.Records.{function_bytes, kind_number, kind_words, branch_bytes, spelling as records_spelling}
-use Rattle.cfi_aux.specs.declared.format.TheConstants.{VERSION}
+use Rattle.cfi_aux.specs.declared.version.TheConstants.{LATEST}
+use Rattle.cfi_aux.specs.Version.{version_word}
 use Rattle.elf_read.specs.declared.object.Area.TheVariants as areas
 use Rattle.elf_read.specs.declared.object.Object.{Object}
 use Rattle.elf_read.specs.declared.object.Reloc.{Reloc}
@@ -92,11 +93,11 @@ records-few r few names count words =
     let counts = word (length r.functions) ++ word (length r.branches) in
     omega (
       arith,
-      length-append (word VERSION) (counts ++ (functions ++ branches)),
+      length-append (word (version_word LATEST)) (counts ++ (functions ++ branches)),
       length-append counts (functions ++ branches),
       length-append (word (length r.functions)) (word (length r.branches)),
       length-append functions branches,
-      d VERSION,
+      d (version_word LATEST),
       d (length r.functions),
       d (length r.branches),
       pieces-short function_bytes 276 r.functions

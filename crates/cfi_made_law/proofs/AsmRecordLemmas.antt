@@ -16,7 +16,7 @@ use Rattle.rv_asm.specs.declared.file.File.{File}
 use Rattle.rv_asm.specs.declared.spot.Spot.{Spot}
 use Rattle.rv_asm.specs.Fault.{Found, Totals, statement_fits, line_fault, fault_at, found_at, totals_at}
 use Rattle.rv_asm.specs.Made.{listed, nodes_in, nodes_of, begun, opened, open_after, ended, functions_in, functions_at, functions_of}
-use Rattle.rv_asm.specs.Node.{func_in, is_word, fits, node_by, node_of, number_of}
+use Rattle.rv_asm.specs.Node.{callable_in, is_word, fits, node_by, node_of, number_of}
 use Rattle.rv_asm.specs.Placed.{Placed, placed_behind, end_after, spot_after}
 use Rattle.rv_asm.specs.Words.{low_word}
 use Rattle.rv_asm.proofs.DraftedLemmas.{open-push}
@@ -171,7 +171,7 @@ said-functions : (file : File) (spot : Spot) (totals : Totals) (kinds : List Nod
     → FewMore totals.functions (functions_in end o (Some s)) (unwrap_or (opened kinds end (Some s)) o)
 said-functions file spot totals kinds end o (statements.Func name node taken) few short fits =
     let parts = and_parts (nat_lt totals.functions MAX_FUNCTIONS) (nat_le (length name) MAX_NAME) fits in
-    opened-few totals.functions end name taken (func_in kinds node) (ltb-true _ _ parts.0) (leb-true _ _ parts.1)
+    opened-few totals.functions end name taken (callable_in kinds node) (ltb-true _ _ parts.0) (leb-true _ _ parts.1)
 said-functions file spot totals kinds end o statements.EndFunc few short fits =
     ended-few totals.functions end o few short
 said-functions file spot totals kinds end o s few short fits = record {

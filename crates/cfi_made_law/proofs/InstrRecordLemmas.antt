@@ -12,6 +12,7 @@ use Rattle.cfi_aux.specs.Format.{is_whole, is_length, has_count}
 use Rattle.cfi_aux.specs.Module.{AreSpelled}
 use Rattle.cfi_aux.specs.Records.{IsFunction, IsBranch, AreRecords}
 use Rattle.cfi_aux.specs.declared.format.TheConstants.{SWITCH}
+use Rattle.cfi_aux.specs.declared.version.TheConstants.{LATEST}
 use Rattle.cfi_aux.specs.declared.modules.Module.{Module}
 use Rattle.cfi_aux.specs.declared.records.Function.{Function}
 use Rattle.cfi_aux.specs.declared.records.Kind.{Kind}
@@ -145,6 +146,7 @@ module _ (source out : Module) (made : IsInstrumented source out) where
   spelled types records = record {
     table = subst AreTypes (sym made.types) types;
     types_spelled = made.object.types ∙ ap (λ (ns : List Node). Some (types_spelling ns)) (sym made.types);
+    version = LATEST;
     good = subst (λ (ns : List Node). AreRecords ns out.records) (sym made.types) (records-good source.types records);
     records_spelled = made.object.records;
   }

@@ -14,13 +14,14 @@ use Rattle.elf_read.specs.declared.object.Symbol.{Symbol}
 use Rattle.elf_read.specs.declared.object.Reloc.{Reloc}
 use Rattle.elf_read.specs.Sound.{IsInsideArea}
 use Rattle.cfi_word.specs.declared.limits.TheConstants.{MAX_WORDS, MAX_DATA, MAX_NODES}
-use Rattle.cfi_type_table.specs.declared.kind.TheConstants.{FUNC}
 use Rattle.cfi_type_table.specs.Node.{Node, make_node, node_of}
-use Rattle.cfi_aux.specs.Format.{is_whole, is_func, has_count}
+use Rattle.cfi_type_table.specs.Kind.{is_callable_kind, is_callable}
+use Rattle.cfi_aux.specs.Format.{is_whole, has_count}
 use Rattle.cfi_aux.specs.Module.{AreSpelled}
 use Rattle.cfi_aux.specs.Records.{IsFunction, IsBranch, AreRecords}
 use Rattle.cfi_aux.specs.Sound.{IsSoundModule}
 use Rattle.cfi_aux.specs.declared.format.TheConstants.{SWITCH}
+use Rattle.cfi_aux.specs.declared.version.TheConstants.{LATEST}
 use Rattle.cfi_aux.specs.declared.modules.Module.{Module}
 use Rattle.cfi_aux.specs.declared.records.Function.{Function}
 use Rattle.cfi_aux.specs.declared.records.Kind.{Kind}
@@ -49,34 +50,34 @@ get-left [] ys n d less = absurd (omega (arith, less))
 get-left (x ∷ xs) ys zero d less = refl
 get-left (x ∷ xs) ys (suc n) d less = get-left xs ys n d (omega (arith, less))
 
-func-parts : (types : List Node) (n : ℕ) → IsTrue (is_func types n)
-    → (n < length types) × ((node_of types n).kind ≡ FUNC)
-func-parts types n is =
+callable-parts : (types : List Node) (n : ℕ) → IsTrue (is_callable types n)
+    → (n < length types) × IsTrue (is_callable_kind (node_of types n).kind)
+callable-parts types n is =
     let both = and_parts _ _ is in
-    (ltb-true n (length types) both.0, eqb-true _ FUNC both.1)
+    (ltb-true n (length types) both.0, both.1)
 
-pub func-from : (types : List Node) (n : ℕ) → n < length types → (node_of types n).kind ≡ FUNC
-    → IsTrue (is_func types n)
-func-from types n less is = and_from _ _ (lt-ltb n (length types) less) (eq-eqb _ FUNC is)
+pub callable-from : (types : List Node) (n : ℕ) → n < length types
+    → IsTrue (is_callable_kind (node_of types n).kind) → IsTrue (is_callable types n)
+callable-from types n less is = and_from _ _ (lt-ltb n (length types) less) is
 
 abbrev pub no_node : Node
 no_node = make_node 0 []
 
-func-left : (old more : List Node) (n : ℕ) → IsTrue (is_func old n) → IsTrue (is_func (old ++ more) n)
-func-left old more n is =
-    let parts = func-parts old n is in
-    func-from (old ++ more) n (omega (arith, parts.0, length-append old more))
-    (ap (λ (x : Node). x.kind) (get-left old more n no_node parts.0) ∙ parts.1)
+callable-left : (old more : List Node) (n : ℕ) → IsTrue (is_callable old n) → IsTrue (is_callable (old ++ more) n)
+callable-left old more n is =
+    let parts = callable-parts old n is in
+    callable-from (old ++ more) n (omega (arith, parts.0, length-append old more))
+    (subst (λ (x : Node). IsTrue (is_callable_kind x.kind)) (sym (get-left old more n no_node parts.0)) parts.1)
 
-func-right : (start : Start) (old more : List Node) (n : ℕ) → IsTrue (is_func more n)
-    → IsTrue (is_func (old ++ map (node_at start) more) (length old + n))
-func-right start old more n is =
-    let parts = func-parts more n is in
+callable-right : (start : Start) (old more : List Node) (n : ℕ) → IsTrue (is_callable more n)
+    → IsTrue (is_callable (old ++ map (node_at start) more) (length old + n))
+callable-right start old more n is =
+    let parts = callable-parts more n is in
     let there = get_or-append-add old (map (node_at start) more) n no_node in
     let moved = get_or-map (node_at start) more n no_node no_node parts.0 in
-    func-from (old ++ map (node_at start) more) (length old + n)
+    callable-from (old ++ map (node_at start) more) (length old + n)
     (omega (arith, parts.0, length-append old (map (node_at start) more), length-map more (node_at start)))
-    (ap (λ (x : Node). x.kind) (there ∙ moved) ∙ parts.1)
+    (subst (λ (x : Node). IsTrue (is_callable_kind x.kind)) (sym (there ∙ moved)) parts.1)
 
 -- ---- what joined modules keep
 
@@ -142,18 +143,19 @@ function-left : (old more : List Node) (f : Function) → IsFunction old f → I
 function-left old more f is = record {
   offset = is.offset;
   length = is.length;
-  ty = (is.ty.0, func-left old more f.ty is.ty.1);
+  ty = (is.ty.0, callable-left old more f.ty is.ty.1);
   name = is.name;
 }
 
-func-shifted : (start : Start) (old more : List Node) (n : ℕ) → start.types ≡ length old
-    → length old + length more < 2 ^ 32 → IsTrue (is_func more n)
-    → IsTrue (is_func (old ++ map (node_at start) more) (shifted start.types n))
-func-shifted start old more n same room is =
-    let parts = func-parts more n is in
+callable-shifted : (start : Start) (old more : List Node) (n : ℕ) → start.types ≡ length old
+    → length old + length more < 2 ^ 32 → IsTrue (is_callable more n)
+    → IsTrue (is_callable (old ++ map (node_at start) more) (shifted start.types n))
+callable-shifted start old more n same room is =
+    let parts = callable-parts more n is in
     let to : shifted start.types n ≡ length old + n =
     shifted-is start.types n (omega (arith, same, room, parts.0)) ∙ ap (λ (k : ℕ). k + n) same in
-    subst (λ (k : ℕ). IsTrue (is_func (old ++ map (node_at start) more) k)) (sym to) (func-right start old more n is)
+    subst (λ (k : ℕ). IsTrue (is_callable (old ++ map (node_at start) more) k)) (sym to)
+    (callable-right start old more n is)
 
 whole-shifted : (by n : ℕ) → by % 4 ≡ 0 → IsTrue (is_whole n) → IsTrue (is_whole (shifted by n))
 whole-shifted by n one is = eq-eqb _ 0 (shifted-whole by n one (eqb-true (n % 4) 0 is))
@@ -164,18 +166,18 @@ function-right : (start : Start) (old more : List Node) (f : Function) → start
 function-right start old more f same whole room is = record {
   offset = (shifted-small start.text f.offset, whole-shifted start.text f.offset whole is.offset.1);
   length = is.length;
-  ty = (shifted-small start.types f.ty, func-shifted start old more f.ty same room is.ty.1);
+  ty = (shifted-small start.types f.ty, callable-shifted start old more f.ty same room is.ty.1);
   name = is.name;
 }
 
 branch-left : (old more : List Node) (b : Kind) → IsBranch old b → IsBranch (old ++ more) b
 branch-left old more (branches.Call node) is = record {
   count = is.count;
-  words = ((is.words.0.0, func-left old more node is.words.0.1), tt);
+  words = ((is.words.0.0, callable-left old more node is.words.0.1), tt);
 }
 branch-left old more (branches.Tail node) is = record {
   count = is.count;
-  words = ((is.words.0.0, func-left old more node is.words.0.1), tt);
+  words = ((is.words.0.0, callable-left old more node is.words.0.1), tt);
 }
 branch-left old more branches.Return is = record { count = is.count; words = tt }
 branch-left old more (branches.Switch entries) is = record { count = is.count; words = is.words }
@@ -188,11 +190,11 @@ branch-right : (start : Start) (old more : List Node) (b : Kind) → start.types
     → IsBranch (old ++ map (node_at start) more) (branch_at start b)
 branch-right start old more (branches.Call node) same whole room is = record {
   count = is.count;
-  words = ((shifted-small start.types node, func-shifted start old more node same room is.words.0.1), tt);
+  words = ((shifted-small start.types node, callable-shifted start old more node same room is.words.0.1), tt);
 }
 branch-right start old more (branches.Tail node) same whole room is = record {
   count = is.count;
-  words = ((shifted-small start.types node, func-shifted start old more node same room is.words.0.1), tt);
+  words = ((shifted-small start.types node, callable-shifted start old more node same room is.words.0.1), tt);
 }
 branch-right start old more branches.Return same whole room is = record { count = is.count; words = tt }
 branch-right start old more (branches.Switch entries) same whole room is = record {
@@ -377,6 +379,7 @@ module _ (modules : List Module) (are : AreModules modules) (output : Module) (l
       record {
         table = linked-sound.table;
         types_spelled = made.types_spelled;
+        version = LATEST;
         good = record {
           function_count = omega (arith, ap length made.functions, limits.functions);
           branch_count = omega (arith, ap length made.branches, limits.branches);

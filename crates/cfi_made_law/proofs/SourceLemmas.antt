@@ -4,6 +4,7 @@ use Rattle.elf_read.specs.Fault.{IsObject}
 use Rattle.elf_read.specs.Sound.{IsSoundObject}
 use Rattle.elf_read.specs.declared.object.Object.{Object}
 use Rattle.cfi_aux.specs.declared.modules.Module.{Module}
+use Rattle.cfi_aux.proofs.VersionLemmas.{records-later}
 use Rattle.cfi_made_law.specs.Read.{IsReadOf}
 use Rattle.cfi_made_law.proofs.ReadLemmas.{IsSmall, read-small}
 use Rattle.cfi_made_law.proofs.LinkLemmas.{IsReadModule}
@@ -19,5 +20,5 @@ small-source sound m read =
 pub read-source : ReadIsSound → (m : Module) → IsReadOf m → IsReadModule m
 read-source sound m read = record {
   words = (small-source sound m read).sound.words;
-  records = read.whole.parts.good;
+  records = records-later read.whole.parts.version m.types m.records read.whole.parts.good;
 }

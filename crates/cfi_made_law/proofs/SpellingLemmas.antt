@@ -10,11 +10,12 @@ use Rattle.cfi_word.specs.declared.limits.TheConstants.{MAX_FIELDS, MAX_NAME}
 use Rattle.cfi_type_table.specs.Node.{Node}
 use Rattle.cfi_type_table.specs.Kind.{has_arity}
 use Rattle.cfi_type_table.specs.Spelling.{word, node_bytes, spelling as types_spelling, IsNode, AreTypes}
-use Rattle.cfi_aux.specs.declared.format.TheConstants.{VERSION}
 use Rattle.cfi_aux.specs.declared.records.Function.{Function}
 use Rattle.cfi_aux.specs.declared.records.Kind.{Kind}
 use Rattle.cfi_aux.specs.declared.records.Records.{Records}
-use Rattle.cfi_aux.specs.Records.{padding, name_bytes, flag_of, function_bytes, kind_number, kind_words, branch_bytes, spelling as records_spelling, IsFunction, IsBranch, AreRecords}
+use Rattle.cfi_aux.specs.Records.{padding, name_bytes, flag_of, function_bytes, kind_number, kind_words, branch_bytes, records_bytes, spelling_in, IsFunctionIn, IsBranchIn, AreRecordsIn}
+use Rattle.cfi_aux.specs.declared.version.RecordVersion.{RecordVersion}
+use Rattle.cfi_aux.specs.Version.{version_word}
 use Rattle.cfi_aux.specs.Module.{AreSpelled}
 use Rattle.cfi_aux.proofs.Functions.{short_name}
 use Rattle.cfi_aux.proofs.Branches.{few_words}
@@ -104,11 +105,13 @@ function-bytes f few =
       name-short f.name few,
     )
 
-function-short : (types : List Node) (f : Function) → IsFunction types f → length (function_bytes f) ≤ 276
-function-short types f is = function-bytes f (short_name (length f.name) is.name.count)
+function-short : (version : RecordVersion) (types : List Node) (f : Function) → IsFunctionIn version types f
+    → length (function_bytes f) ≤ 276
+function-short version types f is = function-bytes f (short_name (length f.name) is.name.count)
 
-branch-short : (types : List Node) (b : Kind) → IsBranch types b → length (branch_bytes b) ≤ 4104
-branch-short types b is =
+branch-short : (version : RecordVersion) (types : List Node) (b : Kind) → IsBranchIn version types b
+    → length (branch_bytes b) ≤ 4104
+branch-short version types b is =
     let one : length (word (kind_number b)) ≡ 4 = refl in
     let two : length (word (length (kind_words b))) ≡ 4 = refl in
     omega (
@@ -121,28 +124,28 @@ branch-short types b is =
       few_words (kind_number b) (length (kind_words b)) is.count,
     )
 
-pub records-short : (types : List Node) (r : Records) → AreRecords types r
-    → length (records_spelling r) ≤ MAX_RECORDS
-records-short types r are =
+pub records-short : (version : RecordVersion) (types : List Node) (r : Records) → AreRecordsIn version types r
+    → length (spelling_in version r) ≤ MAX_RECORDS
+records-short version types r are =
     let d : (n : ℕ) → length (word n) ≡ 4 = λ n. refl in
     let functions = flat_map function_bytes r.functions in
     let branches = flat_map branch_bytes r.branches in
     let counts = word (length r.functions) ++ word (length r.branches) in
     omega (
       arith,
-      length-append (word VERSION) (counts ++ (functions ++ branches)),
+      length-append (word (version_word version)) (records_bytes r),
       length-append counts (functions ++ branches),
       length-append (word (length r.functions)) (word (length r.branches)),
       length-append functions branches,
-      d VERSION,
+      d (version_word version),
       d (length r.functions),
       d (length r.branches),
       pieces-short function_bytes 276 r.functions
-          (All-weaker (IsFunction types) (λ f. length (function_bytes f) ≤ 276) (function-short types) r.functions
-          (All-from_recursion (IsFunction types) r.functions are.functions)),
+          (All-weaker (IsFunctionIn version types) (λ f. length (function_bytes f) ≤ 276) (function-short version types)
+          r.functions (All-from_recursion (IsFunctionIn version types) r.functions are.functions)),
       pieces-short branch_bytes 4104 r.branches
-          (All-weaker (IsBranch types) (λ b. length (branch_bytes b) ≤ 4104) (branch-short types) r.branches
-          (All-from_recursion (IsBranch types) r.branches are.branches)),
+          (All-weaker (IsBranchIn version types) (λ b. length (branch_bytes b) ≤ 4104) (branch-short version types)
+          r.branches (All-from_recursion (IsBranchIn version types) r.branches are.branches)),
       are.function_count,
       are.branch_count,
     )
@@ -154,6 +157,6 @@ spelled-few object types records is = record {
   records = omega (
     arith,
     ap (λ o. length (bytes_or_none o)) is.records_spelled,
-    records-short types records is.good,
+    records-short is.version types records is.good,
   );
 }

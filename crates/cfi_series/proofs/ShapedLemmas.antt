@@ -10,7 +10,7 @@ use Rattle.std.proofs.lemmas.Option.{slice_get-get_or, slice_get-map, slice_get_
 use Rattle.cfi_type_table.specs.Node.{Node}
 use Rattle.cfi_word.specs.declared.map.TheConstants.{FIRST_BASE}
 use Rattle.cfi_word.specs.declared.limits.TheConstants.{MAX_CODE_WORDS}
-use Rattle.cfi_aux.specs.Format.{is_func}
+use Rattle.cfi_type_table.specs.Kind.{is_callable}
 use Rattle.cfi_aux.specs.declared.placed.Placed.{Placed}
 use Rattle.cfi_aux.specs.declared.placed.PlacedFunction.{PlacedFunction}
 use Rattle.cfi_aux.specs.declared.records.Kind.{Kind}
@@ -29,7 +29,7 @@ use Rattle.cfi_series.proofs.SlotLemmas.{slots_are}
 use Rattle.cfi_unit.proofs.SpotLemmas.{place_number, last_place, place_mono}
 
 -- the type of a function is there
-func_there : (types : List Node) (n : ℕ) → IsTrue (is_func types n) → n < length types
+func_there : (types : List Node) (n : ℕ) → IsTrue (is_callable types n) → n < length types
 func_there types n is = ltb-true n (length types) (and_parts (nat_lt n (length types)) _ is).0
 
 abbrev none : CheckSpot

@@ -37,7 +37,8 @@ begins : BeginsUnit spots 0
 begins = (spot, has_spot, refl)
 
 -- a module of this word, at any place, whose one function has the type of a function
-module _ (base slot_base data_base ty : ℕ) (name : List ℕ) (types : List Node) (typed : IsTrue (is_callable types ty)) where
+module _ (base slot_base data_base ty : ℕ) (name : List ℕ) (types : List Node)
+    (typed : IsTrue (is_callable types ty)) where
   abbrev function : PlacedFunction
   function = record { first = 0; count = 1; ty = ty; taken = false; global = false; name = name }
 

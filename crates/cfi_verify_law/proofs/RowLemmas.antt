@@ -6,7 +6,7 @@ use Rattle.rv_insn.specs.declared.insn.Insn.TheVariants as insns
 use Rattle.rv_insn.specs.declared.insn.ImmOp.TheVariants.{Addi}
 use Rattle.cfi_type_table.specs.Node.{Node}
 use Rattle.cfi_aux.specs.Extent.{end_of, LiesIn}
-use Rattle.cfi_aux.specs.Format.{is_func}
+use Rattle.cfi_type_table.specs.Kind.{is_callable}
 use Rattle.cfi_aux.specs.Records.{AllEntries, AllEntriesIn}
 use Rattle.cfi_aux.specs.declared.placed.Placed.{Placed}
 use Rattle.cfi_aux.specs.declared.placed.PlacedFunction.{PlacedFunction}
@@ -61,7 +61,7 @@ Extends m before f = (0 < f.count) × (before ≤ f.first) × (end_of f ≤ leng
 abbrev Bounded : (m : Placed) (spots : List Spot) (before : ℕ) (f : PlacedFunction) → Type 0
 Bounded m spots before f =
     BeginsUnit spots f.first × ((end_of f ≡ length m.words) ⊎ BeginsUnit spots (end_of f))
-    × (is_func m.types f.ty ≡ true) × IsIdle spots before f.first
+    × (is_callable m.types f.ty ≡ true) × IsIdle spots before f.first
 
 fits : (m : Placed) (spots : List Spot) (before : ℕ) (f : PlacedFunction) → Decided (FunctionFits m spots before f)
 fits m spots before f =
@@ -72,7 +72,7 @@ fits m spots before f =
     (both (three (less 0 f.count) (at_most before f.first) (at_most (end_of f) (length m.words)))
     (four (begins_unit spots f.first)
     (either (equal (end_of f) (length m.words)) (begins_unit spots (end_of f)))
-    (is_true (is_func m.types f.ty)) (idle spots before f.first)))
+    (is_true (is_callable m.types f.ty)) (idle spots before f.first)))
 
 pub fits_behind : (m : Placed) (spots : List Spot) (number : ℕ) (f : PlacedFunction) →
     Decided (FitsBehind m spots number f)
@@ -165,10 +165,10 @@ pub names_slot : (m : Placed) (number : ℕ) (check : CheckSpot) → Decided (Na
 names_slot m number check = equal check.slot (m.slot_base + number)
 
 kind_of : (types : List Node) (link : Bool) (kind : Kind) → Decided (IsKindOf types link kind)
-kind_of types true (Call node) = is_true (is_func types node)
+kind_of types true (Call node) = is_true (is_callable types node)
 kind_of types true kind = inr (λ none. none)
 kind_of types false (Call node) = inr (λ none. none)
-kind_of types false (Tail node) = is_true (is_func types node)
+kind_of types false (Tail node) = is_true (is_callable types node)
 kind_of types false Return = inl tt
 kind_of types false (Switch entries) = inl tt
 

@@ -12,7 +12,8 @@ instrument-requires c =
     record {
       nodes = small_count unplaced.types table;
       fields = small_fields unplaced.types table;
-      written = c.read_can_be_written.ensures unplaced.types unplaced.records file.whole.parts.good;
+      written = c.read_can_be_written.ensures.sized file.whole.parts.version unplaced.types unplaced.records
+          file.whole.parts.good;
       text = short_text c.args.bytes.now unplaced file;
       relocs = few_relocs c.args.bytes.now unplaced file;
     }

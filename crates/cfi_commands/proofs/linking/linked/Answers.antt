@@ -14,7 +14,7 @@ link-requires c =
     let read = c.in_ok-modules.ensures in
     subst AreModules (sym c.as_slice.ensures)
     (linkable c.args.files c.in_ok-modules.modules read.ok c.requires.count read.sound
-    c.read_can_be_written.ensures)
+    c.read_can_be_written.ensures.sized)
 
 -- the object is within the limits of a file
 pub write_object-requires : goal.write_object-requires
@@ -23,7 +23,7 @@ write_object-requires c =
     let read = c.in_ok-modules.ensures in
     let modules = c.in_ok-modules.modules in
     let output = c.in-Ok.output in
-    let are = linkable files modules read.ok c.requires.count read.sound c.read_can_be_written.ensures in
+    let are = linkable files modules read.ok c.requires.count read.sound c.read_can_be_written.ensures.sized in
     let linked = subst (λ (ms : List Module). Linked ms output) c.as_slice.ensures c.in-Ok.ensures.ok in
     record {
       writable = c.limits_fit.ensures.writable output.object

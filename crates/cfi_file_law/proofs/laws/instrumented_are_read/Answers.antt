@@ -1,4 +1,5 @@
 use Rattle.std.proofs.Common.{List, ℕ, sym, subst}
+use Rattle.cfi_aux.proofs.VersionLemmas.{records-later}
 use Rattle.cfi_commands.specs.Reading.{IsModuleFile}
 use Rattle.cfi_made_law.specs.Order.{module_of_file}
 use Rattle.cfi_made_law.proofs.ReadLemmas.{IsFit, read-fit}
@@ -14,6 +15,7 @@ returns c bytes file all is short =
     let fit : IsFit source.object =
     subst IsFit (sym is.is.whole.object_kept)
     (read-fit bytes is.is.object all read (c.what_is_read_is_sound.ensures bytes is.is.object read)) in
+    let good = records-later is.is.whole.parts.version source.types source.records is.is.whole.parts.good in
     subst (λ (xs : List ℕ). IsModuleFile xs (module_of_file is.out)) (sym is.written)
     (module-file c.written_is_read.ensures is.out (object-fits source is.out is.made fit)
-    (spelled source is.out is.made is.is.whole.parts.table is.is.whole.parts.good))
+    (spelled source is.out is.made is.is.whole.parts.table good))

@@ -8,7 +8,7 @@ use Rattle.cfi_file_law.proofs.laws.linked_are_read.Goals as goal
 pub returns : goal.returns
 returns c files file all few is short =
     let sound = c.what_is_read_is_sound.ensures in
-    let are = are-modules sound c.read_can_be_written.ensures files is.modules is.are few in
+    let are = are-modules sound c.read_can_be_written.ensures.sized files is.modules is.are few in
     let fit = fit-modules sound files is.modules all is.are in
     let read = read-modules sound files is.modules is.are in
     let out = is.output in
