@@ -81,7 +81,7 @@ pub record HasHeader (object : Object) (bytes : List ℕ) : Type 0 where
   pub count : section_count bytes ≡ length (sections_of object)
   pub names : header.names_number bytes ≡ length (sections_of object) - 1
 
-fields_of_header : (table count : ℕ) (rest : List ℕ) → table < 2 ^ 32 → count < 2 ^ 16
+pub fields_of_header : (table count : ℕ) (rest : List ℕ) → table < 2 ^ 32 → count < 2 ^ 16
     → (is_elf32 (file_header table count ++ rest) ≡ true) × (type_of (file_header table count
     ++ rest) ≡ 1) × (machine_of (file_header table count ++ rest) ≡ 243)
     × (table_offset (file_header table count ++ rest) ≡ table) × (entry_size (file_header table count ++ rest) ≡ 40)
@@ -92,7 +92,7 @@ fields_of_header table count rest placed few =
     (refl, refl, refl, word_read table placed, refl, half_read count few, half_read (count - 1) (omega arith))
 
 -- the file in three parts
-pub front_of : Object → List ℕ
+unfoldable pub front_of : Object → List ℕ
 front_of object = file_header (table_place object) (length (sections_of object))
 
 unfoldable pub headers_of : Object → List ℕ

@@ -15,5 +15,6 @@ pub mod KeptLemmas
 pub mod RelocLemmas
 pub mod RelaLemmas
 pub mod GoodLemmas
+pub mod CutLemmas
 pub mod SoundLemmas
 pub mod WitnessLemmas

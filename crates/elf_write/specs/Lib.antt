@@ -4,3 +4,4 @@ pub mod Contents
 pub mod File
 pub mod Limits
 pub mod Whole
+pub mod Cut
