@@ -1,8 +1,9 @@
-//! Which types of two tables are equal.
+//! Which types of tables are equal, and which are wider than others.
 
 ghost use Rattle.std.specs.Prelude.{IfOk, IfSome};
 ghost use Rattle.cfi_type_table.specs.Spelling.{AreTypes};
 
+use cfi_fits::widenings;
 use cfi_type_table::{TypeTable, read_types};
 use cfi_types::TypeBook;
 use std::alloc::{AllocError, Global};
@@ -67,5 +68,39 @@ pub fn equal_types(alloc: Global) -> Result<bool, AllocError> {
         are_classes(alloc, &list, &same, &[0, 1, 2, 2, 1, 0])?
             && are_classes(alloc, &list, &longer, &[0, 1, 2, 2, 3, 4])?
             && are_classes(alloc, &function, &pointer, &[0, 1, 1, 2])?,
+    )
+}
+
+// Whether these are the links between the classes of a table's types.
+fn are_widenings(
+    alloc: Global,
+    words: &[u32],
+    wanted: &[(u32, u32)],
+) -> Result<bool, AllocError> {
+    let Some(types) = table(alloc, words)? else {
+        return Ok(false);
+    };
+    let mut book = TypeBook::new(alloc);
+    book.add(&types)?;
+    let classes = book.classes()?;
+    let links = widenings(alloc, &book, &classes)?;
+    let mut agree = links.len() == wanted.len();
+    for (link, ends) in links.iter().zip(wanted) {
+        agree = agree && (link.from, link.to) == *ends;
+    }
+    Ok(agree)
+}
+
+/// Types with variable arguments, whose pointers reach functions of other types too.
+pub fn wider_types(alloc: Global) -> Result<bool, AllocError> {
+    // Int(32, 1), Func(0, 0), Func(0, 0, 0), VarFunc(0, 0), Func(0): the pointer reaches the nodes 1 and 2.
+    let one = [5, 1, 2, 32, 1, 7, 2, 0, 0, 7, 3, 0, 0, 0, 8, 2, 0, 0, 7, 1, 0];
+    // VarFunc(1, 1), Int(32, 1), VarFunc(1), Func(1, 1, 0), Func(3, 1): the last has another result.
+    let two = [5, 8, 2, 1, 1, 1, 2, 32, 1, 8, 1, 1, 7, 3, 1, 1, 0, 7, 2, 3, 1];
+    let none = [3, 1, 2, 32, 1, 7, 1, 0, 7, 2, 0, 0];
+    Ok(
+        are_widenings(alloc, &one, &[(1, 3), (2, 3)])?
+            && are_widenings(alloc, &two, &[(0, 2), (3, 0)])?
+            && are_widenings(alloc, &none, &[])?,
     )
 }
