@@ -11,8 +11,10 @@ use Rattle.cfi_word.specs.declared.limits.TheConstants.{MAX_ENTRIES}
 use Rattle.cfi_aux.specs.declared.fault.AuxFault.TheVariants.{BadRecord}
 use Rattle.cfi_aux.specs.declared.records.Kind.{Kind}
 use Rattle.cfi_aux.specs.declared.records.Kind.TheVariants.{Call, Tail, Return, Switch}
-use Rattle.cfi_aux.specs.Format.{is_whole, is_func, has_count}
-use Rattle.cfi_aux.specs.Records.{kind_number, kind_words, branch_bytes, IsBranchWord, IsBranch}
+use Rattle.cfi_aux.specs.Format.{is_whole, has_count}
+use Rattle.cfi_aux.specs.declared.version.RecordVersion.{RecordVersion}
+use Rattle.cfi_aux.specs.Version.{is_type}
+use Rattle.cfi_aux.specs.Records.{kind_number, kind_words, branch_bytes, IsBranchWordIn, IsBranchIn}
 use Rattle.cfi_aux.specs.Reading.{Reader, word_where, and_with, seen_as, each}
 use Rattle.cfi_aux.specs.Faults.{place_at, body_at, branch_at}
 use Rattle.cfi_type_table.proofs.Parts.{Takes}
@@ -26,10 +28,10 @@ abbrev body_bytes : Kind → List ℕ
 body_bytes b = flat_map word (kind_words b)
 
 -- a branch of a kind with n words
-record IsBody (types : List Node) (kind n : ℕ) (b : Kind) : Type 0 where
+record IsBody (version : RecordVersion) (types : List Node) (kind n : ℕ) (b : Kind) : Type 0 where
   number : kind_number b ≡ kind
   count : length (kind_words b) ≡ n
-  words : AllByRecursion (IsBranchWord types b) (kind_words b)
+  words : AllByRecursion (IsBranchWordIn version types b) (kind_words b)
 
 -- the node that a call names, and the places of a switch
 abbrev node_of : Kind → ℕ
@@ -44,68 +46,70 @@ places_of (Tail node) = []
 places_of Return = []
 places_of (Switch places) = places
 
-call_good : (types : List Node) (kind n : ℕ) (b : Kind) → kind ≡ CALL → IsBody types kind n b
-    → Passes (is_func types) (node_of b) × (Call (node_of b) ≡ b)
-call_good types kind n (Call node) is h = (h.words.0, refl)
-call_good types kind n (Tail node) is h = let no : TAIL ≡ CALL = h.number ∙ is in absurd (omega arith)
-call_good types kind n Return is h = let no : RETURN ≡ CALL = h.number ∙ is in absurd (omega arith)
-call_good types kind n (Switch places) is h = let no : SWITCH ≡ CALL = h.number ∙ is in absurd (omega arith)
+call_good : (version : RecordVersion) (types : List Node) (kind n : ℕ) (b : Kind) → kind ≡ CALL
+    → IsBody version types kind n b → Passes (is_type version types) (node_of b) × (Call (node_of b) ≡ b)
+call_good version types kind n (Call node) is h = (h.words.0, refl)
+call_good version types kind n (Tail node) is h = let no : TAIL ≡ CALL = h.number ∙ is in absurd (omega arith)
+call_good version types kind n Return is h = let no : RETURN ≡ CALL = h.number ∙ is in absurd (omega arith)
+call_good version types kind n (Switch places) is h = let no : SWITCH ≡ CALL = h.number ∙ is in absurd (omega arith)
 
-tail_good : (types : List Node) (kind n : ℕ) (b : Kind) → kind ≡ TAIL → IsBody types kind n b
-    → Passes (is_func types) (node_of b) × (Tail (node_of b) ≡ b)
-tail_good types kind n (Call node) is h = let no : CALL ≡ TAIL = h.number ∙ is in absurd (omega arith)
-tail_good types kind n (Tail node) is h = (h.words.0, refl)
-tail_good types kind n Return is h = let no : RETURN ≡ TAIL = h.number ∙ is in absurd (omega arith)
-tail_good types kind n (Switch places) is h = let no : SWITCH ≡ TAIL = h.number ∙ is in absurd (omega arith)
+tail_good : (version : RecordVersion) (types : List Node) (kind n : ℕ) (b : Kind) → kind ≡ TAIL
+    → IsBody version types kind n b → Passes (is_type version types) (node_of b) × (Tail (node_of b) ≡ b)
+tail_good version types kind n (Call node) is h = let no : CALL ≡ TAIL = h.number ∙ is in absurd (omega arith)
+tail_good version types kind n (Tail node) is h = (h.words.0, refl)
+tail_good version types kind n Return is h = let no : RETURN ≡ TAIL = h.number ∙ is in absurd (omega arith)
+tail_good version types kind n (Switch places) is h = let no : SWITCH ≡ TAIL = h.number ∙ is in absurd (omega arith)
 
-return_good : (types : List Node) (kind n : ℕ) (b : Kind) → kind ≡ RETURN → IsBody types kind n b → Return ≡ b
-return_good types kind n (Call node) is h = let no : CALL ≡ RETURN = h.number ∙ is in absurd (omega arith)
-return_good types kind n (Tail node) is h = let no : TAIL ≡ RETURN = h.number ∙ is in absurd (omega arith)
-return_good types kind n Return is h = refl
-return_good types kind n (Switch places) is h = let no : SWITCH ≡ RETURN = h.number ∙ is in absurd (omega arith)
+return_good : (version : RecordVersion) (types : List Node) (kind n : ℕ) (b : Kind) → kind ≡ RETURN
+    → IsBody version types kind n b → Return ≡ b
+return_good version types kind n (Call node) is h = let no : CALL ≡ RETURN = h.number ∙ is in absurd (omega arith)
+return_good version types kind n (Tail node) is h = let no : TAIL ≡ RETURN = h.number ∙ is in absurd (omega arith)
+return_good version types kind n Return is h = refl
+return_good version types kind n (Switch places) is h = let no : SWITCH ≡ RETURN = h.number ∙ is in absurd (omega arith)
 
-switch_good : (types : List Node) (kind n : ℕ) (b : Kind) → kind ≡ SWITCH → IsBody types kind n b
-    → AreGood (Passes is_whole) n (places_of b) × (Switch (places_of b) ≡ b)
-switch_good types kind n (Call node) is h = let no : CALL ≡ SWITCH = h.number ∙ is in absurd (omega arith)
-switch_good types kind n (Tail node) is h = let no : TAIL ≡ SWITCH = h.number ∙ is in absurd (omega arith)
-switch_good types kind n Return is h = let no : RETURN ≡ SWITCH = h.number ∙ is in absurd (omega arith)
-switch_good types kind n (Switch places) is h = ((h.count, h.words), refl)
+switch_good : (version : RecordVersion) (types : List Node) (kind n : ℕ) (b : Kind) → kind ≡ SWITCH
+    → IsBody version types kind n b → AreGood (Passes is_whole) n (places_of b) × (Switch (places_of b) ≡ b)
+switch_good version types kind n (Call node) is h = let no : CALL ≡ SWITCH = h.number ∙ is in absurd (omega arith)
+switch_good version types kind n (Tail node) is h = let no : TAIL ≡ SWITCH = h.number ∙ is in absurd (omega arith)
+switch_good version types kind n Return is h = let no : RETURN ≡ SWITCH = h.number ∙ is in absurd (omega arith)
+switch_good version types kind n (Switch places) is h = ((h.count, h.words), refl)
 
-calls_agree : (types : List Node) (kind n : ℕ) → kind ≡ CALL → n ≡ 1
-    → Agree ℕ Kind word (Passes (is_func types)) body_bytes (IsBody types kind n) Call node_of
-calls_agree types kind n is one = record {
+calls_agree : (version : RecordVersion) (types : List Node) (kind n : ℕ) → kind ≡ CALL → n ≡ 1
+    → Agree ℕ Kind word (Passes (is_type version types)) body_bytes (IsBody version types kind n) Call node_of
+calls_agree version types kind n is one = record {
   spelled = λ node h. append-nil (word node);
   viewed = λ node h. record { number = sym is; count = sym one; words = (h, tt) };
-  good_back = λ b h. (call_good types kind n b is h).0;
-  view_back = λ b h. (call_good types kind n b is h).1;
+  good_back = λ b h. (call_good version types kind n b is h).0;
+  view_back = λ b h. (call_good version types kind n b is h).1;
 }
 
-tails_agree : (types : List Node) (kind n : ℕ) → kind ≡ TAIL → n ≡ 1
-    → Agree ℕ Kind word (Passes (is_func types)) body_bytes (IsBody types kind n) Tail node_of
-tails_agree types kind n is one = record {
+tails_agree : (version : RecordVersion) (types : List Node) (kind n : ℕ) → kind ≡ TAIL → n ≡ 1
+    → Agree ℕ Kind word (Passes (is_type version types)) body_bytes (IsBody version types kind n) Tail node_of
+tails_agree version types kind n is one = record {
   spelled = λ node h. append-nil (word node);
   viewed = λ node h. record { number = sym is; count = sym one; words = (h, tt) };
-  good_back = λ b h. (tail_good types kind n b is h).0;
-  view_back = λ b h. (tail_good types kind n b is h).1;
+  good_back = λ b h. (tail_good version types kind n b is h).0;
+  view_back = λ b h. (tail_good version types kind n b is h).1;
 }
 
-switches_agree : (types : List Node) (kind n : ℕ) → kind ≡ SWITCH
-    → Agree (List ℕ) Kind (flat_map word) (AreGood (Passes is_whole) n) body_bytes (IsBody types kind n) Switch
+switches_agree : (version : RecordVersion) (types : List Node) (kind n : ℕ) → kind ≡ SWITCH
+    → Agree (List ℕ) Kind (flat_map word) (AreGood (Passes is_whole) n) body_bytes (IsBody version types kind n) Switch
     places_of
-switches_agree types kind n is = record {
+switches_agree version types kind n is = record {
   spelled = λ places h. refl;
   viewed = λ places h. record { number = sym is; count = h.0; words = h.1 };
-  good_back = λ b h. (switch_good types kind n b is h).0;
-  view_back = λ b h. (switch_good types kind n b is h).1;
+  good_back = λ b h. (switch_good version types kind n b is h).0;
+  view_back = λ b h. (switch_good version types kind n b is h).1;
 }
 
-Reads-return : (types : List Node) (kind n : ℕ) → kind ≡ RETURN → n ≡ 0
-    → Reads Kind body_bytes (IsBody types kind n) (λ bytes. Ok (Return, bytes))
-Reads-return types kind n is none = record {
-  takes = λ bytes x fits e. subst (λ (y : Kind × List ℕ). Takes bytes (body_bytes y.0) y.1 × IsBody types kind n y.0)
+Reads-return : (version : RecordVersion) (types : List Node) (kind n : ℕ) → kind ≡ RETURN → n ≡ 0
+    → Reads Kind body_bytes (IsBody version types kind n) (λ bytes. Ok (Return, bytes))
+Reads-return version types kind n is none = record {
+  takes = λ bytes x fits e. subst
+      (λ (y : Kind × List ℕ). Takes bytes (body_bytes y.0) y.1 × IsBody version types kind n y.0)
       (ok_is (Return, bytes) x e)
       (record { parts = refl; rest_fits = fits }, record { number = sym is; count = sym none; words = tt });
-  again = λ b rest h. let same : Return ≡ b = return_good types kind n b is h in rw (← same) refl;
+  again = λ b rest h. let same : Return ≡ b = return_good version types kind n b is h in rw (← same) refl;
 }
 
 -- one of two readers
@@ -125,26 +129,28 @@ last_kind : (kind : ℕ) → leb kind SWITCH ≡ true → eqb kind CALL ≡ fals
     → eqb kind RETURN ≡ false → kind ≡ SWITCH
 last_kind kind le a b c = grind (arith, nat_tests)
 
-Reads-body : (types : List Node) (k kind n : ℕ) → leb kind SWITCH ≡ true → has_count kind n ≡ true
-    → Reads Kind body_bytes (IsBody types kind n) (body_at types k kind n)
+Reads-body : (version : RecordVersion) (types : List Node) (k kind n : ℕ) → leb kind SWITCH ≡ true
+    → has_count kind n ≡ true → Reads Kind body_bytes (IsBody version types kind n) (body_at version types k kind n)
 unfolding body_at
-Reads-body types k kind n known counted =
-    let node = word_where (is_func types) (BadRecord k) in
+Reads-body version types k kind n known counted =
+    let node = word_where (is_type version types) (BadRecord k) in
     let places = each (place_at k) 0 n in
     let back : Reader Kind = λ bytes. Ok (Return, bytes) in
-    Reads-if Kind body_bytes (IsBody types kind n) (seen_as Call node) _ (eqb kind CALL)
+    Reads-if Kind body_bytes (IsBody version types kind n) (seen_as Call node) _ (eqb kind CALL)
     (λ e. let is : kind ≡ CALL = eqb-true kind CALL e in
-    Reads-as word (Passes (is_func types)) node body_bytes (IsBody types kind n) Call node_of
-    (calls_agree types kind n is (one_word kind n counted (omega arith))) (Reads-word (is_func types) (BadRecord k)))
-    (λ no_call. Reads-if Kind body_bytes (IsBody types kind n) (seen_as Tail node) _ (eqb kind TAIL)
+    Reads-as word (Passes (is_type version types)) node body_bytes (IsBody version types kind n) Call node_of
+    (calls_agree version types kind n is (one_word kind n counted (omega arith)))
+    (Reads-word (is_type version types) (BadRecord k)))
+    (λ no_call. Reads-if Kind body_bytes (IsBody version types kind n) (seen_as Tail node) _ (eqb kind TAIL)
     (λ e. let is : kind ≡ TAIL = eqb-true kind TAIL e in
-    Reads-as word (Passes (is_func types)) node body_bytes (IsBody types kind n) Tail node_of
-    (tails_agree types kind n is (one_word kind n counted (omega arith))) (Reads-word (is_func types) (BadRecord k)))
-    (λ no_tail. Reads-if Kind body_bytes (IsBody types kind n) back (seen_as Switch places) (eqb kind RETURN)
+    Reads-as word (Passes (is_type version types)) node body_bytes (IsBody version types kind n) Tail node_of
+    (tails_agree version types kind n is (one_word kind n counted (omega arith)))
+    (Reads-word (is_type version types) (BadRecord k)))
+    (λ no_tail. Reads-if Kind body_bytes (IsBody version types kind n) back (seen_as Switch places) (eqb kind RETURN)
     (λ e. let is : kind ≡ RETURN = eqb-true kind RETURN e in
-    Reads-return types kind n is (no_word kind n counted is))
-    (λ no_return. Reads-as (flat_map word) (AreGood (Passes is_whole) n) places body_bytes (IsBody types kind n) Switch
-    places_of (switches_agree types kind n (last_kind kind known no_call no_tail no_return))
+    Reads-return version types kind n is (no_word kind n counted is))
+    (λ no_return. Reads-as (flat_map word) (AreGood (Passes is_whole) n) places body_bytes
+    (IsBody version types kind n) Switch places_of (switches_agree version types kind n (last_kind kind known no_call no_tail no_return))
     (Reads-each word (Passes is_whole) (place_at k) (λ i. Reads-word is_whole (BadRecord k)) 0 n))))
 
 -- a branch as it is read: its kind, the number of its words, and what it is
@@ -157,8 +163,8 @@ is_known kind = leb kind SWITCH
 abbrev counted_bytes : Counted → List ℕ
 counted_bytes x = word x.0 ++ (word x.1.0 ++ body_bytes x.1.1)
 
-abbrev IsCounted : (types : List Node) → Counted → Type 0
-IsCounted types x = Passes is_known x.0 × (Passes (has_count x.0) x.1.0 × IsBody types x.0 x.1.0 x.1.1)
+abbrev IsCounted : (version : RecordVersion) (types : List Node) → Counted → Type 0
+IsCounted version types x = Passes is_known x.0 × (Passes (has_count x.0) x.1.0 × IsBody version types x.0 x.1.0 x.1.1)
 
 abbrev counted_of : Kind → Counted
 counted_of b = (kind_number b, (length (kind_words b), b))
@@ -172,9 +178,10 @@ number_known (Switch places) = (lit< tt, refl)
 pub few_words : (kind n : ℕ) → has_count kind n ≡ true → n ≤ MAX_ENTRIES
 few_words kind n h = grind (arith, nat_tests)
 
-branches_agree : (types : List Node)
-    → Agree Counted Kind counted_bytes (IsCounted types) branch_bytes (IsBranch types) (λ x. x.1.1) counted_of
-branches_agree types = record {
+branches_agree : (version : RecordVersion) (types : List Node)
+    → Agree Counted Kind counted_bytes (IsCounted version types) branch_bytes (IsBranchIn version types) (λ x. x.1.1)
+    counted_of
+branches_agree version types = record {
   spelled = λ x h. let number = h.1.1.number in let count = h.1.1.count in
       ap (λ (kind : ℕ). word kind ++ (word (length (kind_words x.1.1)) ++ body_bytes x.1.1)) number
       ∙ ap (λ (n : ℕ). word x.0 ++ (word n ++ body_bytes x.1.1)) count;
@@ -193,16 +200,17 @@ branches_agree types = record {
   view_back = λ b h. refl;
 }
 
-pub Reads-branch : (types : List Node) (k : ℕ) → Reads Kind branch_bytes (IsBranch types) (branch_at types k)
+pub Reads-branch : (version : RecordVersion) (types : List Node) (k : ℕ)
+    → Reads Kind branch_bytes (IsBranchIn version types) (branch_at version types k)
 unfolding branch_at
-Reads-branch types k =
+Reads-branch version types k =
     let bad = BadRecord k in
-    let body : ℕ → ℕ → Reader Kind = λ kind n. body_at types k kind n in
+    let body : ℕ → ℕ → Reader Kind = λ kind n. body_at version types k kind n in
     let rest : ℕ → Reader (ℕ × Kind) = λ kind. and_with (word_where (has_count kind) bad) (body kind) in
-    Reads-as counted_bytes (IsCounted types) (and_with (word_where is_known bad) rest) branch_bytes (IsBranch types)
-    (λ x. x.1.1) counted_of (branches_agree types)
+    Reads-as counted_bytes (IsCounted version types) (and_with (word_where is_known bad) rest) branch_bytes
+    (IsBranchIn version types) (λ x. x.1.1) counted_of (branches_agree version types)
     (Reads-with word (Passes is_known) (word_where is_known bad) (λ kind x. word x.0 ++ body_bytes x.1)
-    (λ kind x. Passes (has_count kind) x.0 × IsBody types kind x.0 x.1) rest (Reads-word is_known bad)
+    (λ kind x. Passes (has_count kind) x.0 × IsBody version types kind x.0 x.1) rest (Reads-word is_known bad)
     (λ kind known. Reads-with word (Passes (has_count kind)) (word_where (has_count kind) bad)
-    (λ n b. body_bytes b) (λ n b. IsBody types kind n b) (body kind) (Reads-word (has_count kind) bad)
-    (λ n counted. Reads-body types k kind n known.1 counted.1)))
+    (λ n b. body_bytes b) (λ n b. IsBody version types kind n b) (body kind) (Reads-word (has_count kind) bad)
+    (λ n counted. Reads-body version types k kind n known.1 counted.1)))

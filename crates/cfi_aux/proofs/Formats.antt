@@ -1,9 +1,8 @@
 -- What readers read is spelled so, and what is spelled so is read.
-use Rattle.std.proofs.Common.{◌≡◌, ℕ, Bool, true, false, List, ◌++◌, Result, Ok, Err, refl, sym, ap, subst, ◌∙◌, append_assoc}
+use Rattle.std.proofs.Common.{◌≡◌, ℕ, List, ◌++◌, Ok, refl, sym, ap, subst, ◌∙◌, append_assoc}
 use Rattle.cfi_type_table.proofs.Parts.{IsBytes, Takes, Takes-then}
-use Rattle.cfi_aux.specs.declared.fault.AuxFault.{AuxFault}
 use Rattle.cfi_aux.specs.Reading.{Reader, and_with, and_also, seen_as}
-use Rattle.cfi_values.specs.Then.{◌>>=◌, unless_bad}
+use Rattle.cfi_values.specs.Then.{◌>>=◌}
 use Rattle.cfi_values.proofs.ThenLemmas.{then_ok, ok_is}
 
 -- a reader reads exactly what is spelled: `spell` is the spelling of a value, `good` says which values have one

@@ -6,8 +6,10 @@ use Rattle.cfi_type_table.specs.Spelling.{word}
 use Rattle.cfi_word.specs.declared.limits.TheConstants.{MAX_NAME}
 use Rattle.cfi_aux.specs.declared.fault.AuxFault.TheVariants.{BadRecord}
 use Rattle.cfi_aux.specs.declared.records.Function.{Function}
-use Rattle.cfi_aux.specs.Format.{is_whole, is_length, is_flag, is_name_length, is_func}
-use Rattle.cfi_aux.specs.Records.{padding, name_bytes, flag_of, function_bytes, IsName, IsFunction}
+use Rattle.cfi_aux.specs.Format.{is_whole, is_length, is_flag, is_name_length}
+use Rattle.cfi_aux.specs.declared.version.RecordVersion.{RecordVersion}
+use Rattle.cfi_aux.specs.Version.{is_type}
+use Rattle.cfi_aux.specs.Records.{padding, name_bytes, flag_of, function_bytes, IsName, IsFunctionIn}
 use Rattle.cfi_aux.specs.Reading.{word_where, and_with, and_also}
 use Rattle.cfi_aux.specs.Faults.{text_at, zeroes_at, name_at, function_of, function_at}
 use Rattle.cfi_aux.proofs.Formats.{Reads, Reads-with, Reads-also, Agree, Reads-as}
@@ -62,9 +64,9 @@ Parts = ℕ × (ℕ × (ℕ × (ℕ × List ℕ)))
 abbrev parts_bytes : Parts → List ℕ
 parts_bytes x = word x.0 ++ (word x.1.0 ++ (word x.1.1.0 ++ (word x.1.1.1.0 ++ name_bytes x.1.1.1.1)))
 
-abbrev AreParts : (types : List Node) → Parts → Type 0
-AreParts types x =
-    Passes is_whole x.0 × (Passes is_length x.1.0 × (Passes (is_func types) x.1.1.0
+abbrev AreParts : (version : RecordVersion) (types : List Node) → Parts → Type 0
+AreParts version types x =
+    Passes is_whole x.0 × (Passes is_length x.1.0 × (Passes (is_type version types) x.1.1.0
     × (Passes is_flag x.1.1.1.0 × IsName x.1.1.1.1)))
 
 abbrev parts_of : Function → Parts
@@ -81,9 +83,10 @@ flag_passes : (b : Bool) → Passes is_flag (flag_of b)
 flag_passes true = (lit< tt, refl)
 flag_passes false = (lit< tt, refl)
 
-functions_agree : (types : List Node)
-    → Agree Parts Function parts_bytes (AreParts types) function_bytes (IsFunction types) function_of parts_of
-functions_agree types = record {
+functions_agree : (version : RecordVersion) (types : List Node)
+    → Agree Parts Function parts_bytes (AreParts version types) function_bytes (IsFunctionIn version types) function_of
+    parts_of
+functions_agree version types = record {
   spelled = λ x h. ap
       (λ (flags : ℕ). word x.0 ++ (word x.1.0 ++ (word x.1.1.0 ++ (word flags ++ name_bytes x.1.1.1.1))))
       (flag_again x.1.1.1.0 h.1.1.1.0.1);
@@ -92,30 +95,30 @@ functions_agree types = record {
   view_back = λ f h. ap (λ (b : Bool). record f { taken = b }) (flag_back f.taken);
 }
 
-pub Reads-function : (types : List Node) (k : ℕ)
-    → Reads Function function_bytes (IsFunction types) (function_at types k)
+pub Reads-function : (version : RecordVersion) (types : List Node) (k : ℕ)
+    → Reads Function function_bytes (IsFunctionIn version types) (function_at version types k)
 unfolding function_at
-Reads-function types k =
+Reads-function version types k =
     let bad = BadRecord k in
     let last = Reads-also word (Passes is_flag) (word_where is_flag bad) name_bytes IsName (name_at k)
     (Reads-word is_flag bad) (Reads-name k) in
-    let third = Reads-also word (Passes (is_func types)) (word_where (is_func types) bad)
+    let third = Reads-also word (Passes (is_type version types)) (word_where (is_type version types) bad)
     (λ (x : ℕ × List ℕ). word x.0 ++ name_bytes x.1) (λ (x : ℕ × List ℕ). Passes is_flag x.0 × IsName x.1)
-    (and_also (word_where is_flag bad) (name_at k)) (Reads-word (is_func types) bad) last in
+    (and_also (word_where is_flag bad) (name_at k)) (Reads-word (is_type version types) bad) last in
     let second = Reads-also word (Passes is_length) (word_where is_length bad)
     (λ (x : ℕ × (ℕ × List ℕ)). word x.0 ++ (word x.1.0 ++ name_bytes x.1.1))
-    (λ (x : ℕ × (ℕ × List ℕ)). Passes (is_func types) x.0 × (Passes is_flag x.1.0 × IsName x.1.1))
-    (and_also (word_where (is_func types) bad) (and_also (word_where is_flag bad) (name_at k)))
+    (λ (x : ℕ × (ℕ × List ℕ)). Passes (is_type version types) x.0 × (Passes is_flag x.1.0 × IsName x.1.1))
+    (and_also (word_where (is_type version types) bad) (and_also (word_where is_flag bad) (name_at k)))
     (Reads-word is_length bad) third in
     let first = Reads-also word (Passes is_whole) (word_where is_whole bad)
     (λ (x : ℕ × (ℕ × (ℕ × List ℕ))). word x.0 ++ (word x.1.0 ++ (word x.1.1.0 ++ name_bytes x.1.1.1)))
     (λ (x : ℕ × (ℕ × (ℕ × List ℕ))). Passes is_length x.0
-    × (Passes (is_func types) x.1.0 × (Passes is_flag x.1.1.0 × IsName x.1.1.1)))
+    × (Passes (is_type version types) x.1.0 × (Passes is_flag x.1.1.0 × IsName x.1.1.1)))
     (and_also (word_where is_length bad)
-    (and_also (word_where (is_func types) bad) (and_also (word_where is_flag bad) (name_at k))))
+    (and_also (word_where (is_type version types) bad) (and_also (word_where is_flag bad) (name_at k))))
     (Reads-word is_whole bad) second in
-    Reads-as parts_bytes (AreParts types)
+    Reads-as parts_bytes (AreParts version types)
     (and_also (word_where is_whole bad)
     (and_also (word_where is_length bad)
-    (and_also (word_where (is_func types) bad) (and_also (word_where is_flag bad) (name_at k)))))
-    function_bytes (IsFunction types) function_of parts_of (functions_agree types) first
+    (and_also (word_where (is_type version types) bad) (and_also (word_where is_flag bad) (name_at k)))))
+    function_bytes (IsFunctionIn version types) function_of parts_of (functions_agree version types) first

@@ -7,6 +7,7 @@ pub mod Lists
 pub mod Functions
 pub mod Branches
 pub mod Whole
+pub mod VersionLemmas
 pub mod Appends
 pub mod ModuleLemmas
 pub mod JoinedLists

@@ -1,5 +1,5 @@
--- All of the records: what is read is spelled so, and what is spelled so is read.
-use Rattle.std.proofs.Common.{◌≡◌, ℕ, ◌≤◌, Bool, true, false, cond, eqb, ltb, leb, List, [], ◌++◌, length, take, drop, Result, Ok, Err, refl, sym, ap, subst, ◌∙◌, arith}
+-- All of the records: what is read is spelled so, and what is spelled so is read, in each version.
+use Rattle.std.proofs.Common.{◌≡◌, ℕ, ◌≤◌, Bool, true, false, cond, eqb, ltb, leb, List, [], ◌++◌, length, take, drop, Option, Some, None, Result, Ok, Err, refl, sym, ap, subst, ◌∙◌, arith}
 use Rattle.std.specs.Prelude.{IfOk}
 use Rattle.std.specs.List.{flat_map}
 use Rattle.std.specs.Int.{w32, from_le_bytes}
@@ -7,17 +7,19 @@ use Rattle.std.proofs.lemmas.Bool.{eqb-true, leb-true, le-leb, le-ltb}
 use Rattle.std.proofs.lemmas.List.{append-nil, nil_from_length, length-append}
 use Rattle.cfi_type_table.specs.Node.{Node}
 use Rattle.cfi_type_table.specs.Spelling.{word}
-use Rattle.cfi_aux.specs.declared.format.TheConstants.{VERSION}
 use Rattle.cfi_word.specs.declared.limits.TheConstants.{MAX_FUNCTIONS, MAX_BRANCHES}
 use Rattle.cfi_aux.specs.declared.fault.AuxFault.{AuxFault}
 use Rattle.cfi_aux.specs.declared.fault.AuxFault.TheVariants.{Version, Short, BadRecord}
 use Rattle.cfi_aux.specs.declared.records.Function.{Function}
 use Rattle.cfi_aux.specs.declared.records.Records.{Records}
 use Rattle.cfi_aux.specs.declared.records.Kind.{Kind}
-use Rattle.cfi_aux.specs.Records.{function_bytes, branch_bytes, spelling, IsFunction, IsBranch, AreRecords}
+use Rattle.cfi_aux.specs.Records.{function_bytes, branch_bytes, records_bytes, spelling_in, IsFunctionIn, IsBranchIn, AreRecordsIn, Spells}
+use Rattle.cfi_aux.specs.declared.version.RecordVersion.{RecordVersion}
+use Rattle.cfi_aux.specs.declared.version.RecordVersion.TheVariants.{One, Two}
+use Rattle.cfi_aux.specs.Version.{version_word, version_of}
 use Rattle.cfi_aux.specs.Reading.{ReadingGives, next_word, and_with, and_also, each}
 use Rattle.cfi_values.specs.Then.{unless_bad}
-use Rattle.cfi_aux.specs.Faults.{function_at, branch_at, version_at, count_at, lists_at, records_of, records_at, records_in}
+use Rattle.cfi_aux.specs.Faults.{function_at, branch_at, version_or, version_at, count_at, lists_at, records_of, records_at, whole_at, records_in}
 use Rattle.cfi_type_table.proofs.Parts.{IsBytes, Takes}
 use Rattle.cfi_aux.proofs.Formats.{Reads, Reads-with, Reads-also, Agree, Reads-as}
 use Rattle.cfi_values.proofs.ThenLemmas.{then_ok, unless_bad_ok, ok_is}
@@ -28,132 +30,172 @@ use Rattle.cfi_aux.proofs.Branches.{Reads-branch}
 
 -- ---- the version
 
-version_by : (b : Bool) (n : ℕ) (rest : List ℕ) (x : (Unit {0}) × List ℕ)
-    → cond b (Err Version) (unless_bad (eqb n VERSION) Version (Ok (tt, rest))) ≡ Ok x
-    → (b ≡ false) × (n ≡ VERSION) × (rest ≡ x.1)
-version_by true n rest x e = absurd cc
-version_by false n rest x e =
-    let made : (Unit {0}) × List ℕ = (tt, rest) in
-    let g = unless_bad_ok (eqb n VERSION) Version (Ok made) x e in
-    (refl, eqb-true n VERSION g.0, ap (λ (y : (Unit {0}) × List ℕ). y.1) (ok_is made x g.1))
+-- a word that has a version is that version's
+version_is : (n : ℕ) (one two : Bool) (version : RecordVersion) → eqb n 1 ≡ one → eqb n 2 ≡ two
+    → cond one (Some One) (cond two (Some Two) None) ≡ Some version → n ≡ version_word version
+version_is n true two One first second e = eqb-true n 1 first
+version_is n true two Two first second e = absurd cc
+version_is n false true One first second e = absurd cc
+version_is n false true Two first second e = eqb-true n 2 second
+version_is n false false version first second e = absurd cc
 
-version_takes : (bytes : List ℕ) (x : (Unit {0}) × List ℕ) → IsBytes bytes → version_at bytes ≡ Ok x
-    → Takes bytes (word VERSION) x.1
+-- the word of a version has it
+version_back : (version : RecordVersion) → version_of (version_word version) ≡ Some version
+version_back One = refl
+version_back Two = refl
+
+some_is : (o : Option RecordVersion) (rest : List ℕ) (x : RecordVersion × List ℕ) → version_or o rest ≡ Ok x
+    → (o ≡ Some x.0) × (rest ≡ x.1)
+some_is None rest x e = absurd cc
+some_is (Some version) rest x e =
+    let made : RecordVersion × List ℕ = (version, rest) in
+    let same = ok_is made x e in (
+      ap (λ (y : RecordVersion × List ℕ). Some y.0) same,
+      ap (λ (y : RecordVersion × List ℕ). y.1) same,
+    )
+
+version_by : (b : Bool) (o : Option RecordVersion) (rest : List ℕ) (x : RecordVersion × List ℕ)
+    → cond b (Err Version) (version_or o rest) ≡ Ok x → (b ≡ false) × ((o ≡ Some x.0) × (rest ≡ x.1))
+version_by true o rest x e = absurd cc
+version_by false o rest x e = (refl, some_is o rest x e)
+
+version_takes : (bytes : List ℕ) (x : RecordVersion × List ℕ) → IsBytes bytes → version_at bytes ≡ Ok x
+    → Takes bytes (word (version_word x.0)) x.1
 unfolding version_at
 version_takes bytes x fits e =
     let n = from_le_bytes w32 (take 4 bytes) in
-    let v = version_by (ltb (length bytes) 4) n (drop 4 bytes) x e in
+    let v = version_by (ltb (length bytes) 4) (version_of n) (drop 4 bytes) x e in
     let long : ltb (length bytes) 4 ≡ false = v.0 in
     let read : next_word bytes ≡ Ok (n, drop 4 bytes) = rw long refl in
     let taken = (word_takes bytes n (drop 4 bytes) fits read).0 in
-    subst (λ (rest : List ℕ). Takes bytes (word VERSION) rest) v.2
-    (subst (λ (m : ℕ). Takes bytes (word m) (drop 4 bytes)) v.1 taken)
+    subst (λ (rest : List ℕ). Takes bytes (word (version_word x.0)) rest) v.1.1
+    (subst (λ (m : ℕ). Takes bytes (word m) (drop 4 bytes))
+    (version_is n (eqb n 1) (eqb n 2) x.0 refl refl v.1.0) taken)
 
-pub Reads-version : Reads (Unit {0}) (λ x. word VERSION) (λ x. Unit {0}) version_at
+version_again : (version : RecordVersion) (rest : List ℕ)
+    → version_at (word (version_word version) ++ rest) ≡ Ok (version, rest)
 unfolding version_at
+version_again One rest =
+    let long : ltb (length (word 1 ++ rest)) 4 ≡ false =
+    le-ltb _ _ (omega (arith, length-append (word 1) rest)) in rw long refl
+version_again Two rest =
+    let long : ltb (length (word 2 ++ rest)) 4 ≡ false =
+    le-ltb _ _ (omega (arith, length-append (word 2) rest)) in rw long refl
+
+pub Reads-version : Reads RecordVersion (λ version. word (version_word version)) (λ x. Unit {0}) version_at
 Reads-version = record {
   takes = λ bytes x fits e. (version_takes bytes x fits e, tt);
-  again = λ x rest h.
-      let long : ltb (length (word VERSION ++ rest)) 4 ≡ false =
-      le-ltb _ _ (omega (arith, length-append (word VERSION) rest)) in rw long refl;
+  again = λ version rest h. version_again version rest;
 }
 
--- ---- all records
+-- ---- what stands behind the version
 
--- records as they are read: the version, the numbers, and the lists
+-- records as they are read: the numbers, and the lists
 abbrev Lists : Type 0
-Lists = (Unit {0}) × ((ℕ × ℕ) × (List Function × List Kind))
+Lists = (ℕ × ℕ) × (List Function × List Kind)
 
 abbrev is_below : ℕ → ℕ → Bool
 is_below limit n = leb n limit
 
 abbrev lists_bytes : Lists → List ℕ
-lists_bytes x =
-    word VERSION ++ ((word x.1.0.0 ++ word x.1.0.1)
-    ++ (flat_map function_bytes x.1.1.0 ++ flat_map branch_bytes x.1.1.1))
+lists_bytes x = (word x.0.0 ++ word x.0.1) ++ (flat_map function_bytes x.1.0 ++ flat_map branch_bytes x.1.1)
 
-abbrev AreLists : (types : List Node) → Lists → Type 0
-AreLists types x =
-    (Unit {0}) × ((Passes (is_below MAX_FUNCTIONS) x.1.0.0 × Passes (is_below MAX_BRANCHES) x.1.0.1)
-    × (AreGood (IsFunction types) x.1.0.0 x.1.1.0 × AreGood (IsBranch types) x.1.0.1 x.1.1.1))
+abbrev AreLists : RecordVersion → (types : List Node) → Lists → Type 0
+AreLists version types x =
+    (Passes (is_below MAX_FUNCTIONS) x.0.0 × Passes (is_below MAX_BRANCHES) x.0.1)
+    × (AreGood (IsFunctionIn version types) x.0.0 x.1.0 × AreGood (IsBranchIn version types) x.0.1 x.1.1)
 
 abbrev lists_of : Records → Lists
-lists_of r = (tt, ((length r.functions, length r.branches), (r.functions, r.branches)))
+lists_of r = ((length r.functions, length r.branches), (r.functions, r.branches))
 
-records_agree : (types : List Node)
-    → Agree Lists Records lists_bytes (AreLists types) spelling (AreRecords types) records_of lists_of
-records_agree types = record {
-  spelled = λ x h. ap (λ (n : ℕ). word VERSION ++ ((word n ++ word (length x.1.1.1))
-      ++ (flat_map function_bytes x.1.1.0 ++ flat_map branch_bytes x.1.1.1))) h.1.1.0.0
-      ∙ ap (λ (n : ℕ). word VERSION ++ ((word x.1.0.0 ++ word n)
-      ++ (flat_map function_bytes x.1.1.0 ++ flat_map branch_bytes x.1.1.1))) h.1.1.1.0;
+records_agree : (version : RecordVersion) (types : List Node)
+    → Agree Lists Records lists_bytes (AreLists version types) records_bytes (AreRecordsIn version types) records_of
+    lists_of
+records_agree version types = record {
+  spelled = λ x h. ap (λ (n : ℕ). (word n ++ word (length x.1.1))
+      ++ (flat_map function_bytes x.1.0 ++ flat_map branch_bytes x.1.1)) h.1.0.0
+      ∙ ap (λ (n : ℕ). (word x.0.0 ++ word n)
+      ++ (flat_map function_bytes x.1.0 ++ flat_map branch_bytes x.1.1)) h.1.1.0;
   viewed = λ x h. record {
-    function_count = subst (λ (n : ℕ). n ≤ MAX_FUNCTIONS) (sym h.1.1.0.0) (leb-true x.1.0.0 MAX_FUNCTIONS h.1.0.0.1);
-    branch_count = subst (λ (n : ℕ). n ≤ MAX_BRANCHES) (sym h.1.1.1.0) (leb-true x.1.0.1 MAX_BRANCHES h.1.0.1.1);
-    functions = h.1.1.0.1;
-    branches = h.1.1.1.1;
+    function_count = subst (λ (n : ℕ). n ≤ MAX_FUNCTIONS) (sym h.1.0.0) (leb-true x.0.0 MAX_FUNCTIONS h.0.0.1);
+    branch_count = subst (λ (n : ℕ). n ≤ MAX_BRANCHES) (sym h.1.1.0) (leb-true x.0.1 MAX_BRANCHES h.0.1.1);
+    functions = h.1.0.1;
+    branches = h.1.1.1;
   };
   good_back = λ r h. (
-    tt,
     (
-      (
-        (omega (arith, h.function_count), le-leb (length r.functions) MAX_FUNCTIONS h.function_count),
-        (omega (arith, h.branch_count), le-leb (length r.branches) MAX_BRANCHES h.branch_count),
-      ),
-      ((refl, h.functions), (refl, h.branches)),
+      (omega (arith, h.function_count), le-leb (length r.functions) MAX_FUNCTIONS h.function_count),
+      (omega (arith, h.branch_count), le-leb (length r.branches) MAX_BRANCHES h.branch_count),
     ),
+    ((refl, h.functions), (refl, h.branches)),
   );
   view_back = λ r h. refl;
 }
 
-pub Reads-records : (types : List Node) → Reads Records spelling (AreRecords types) (records_at types)
+pub Reads-records : (version : RecordVersion) (types : List Node)
+    → Reads Records records_bytes (AreRecordsIn version types) (records_at version types)
 unfolding records_at
-Reads-records types =
-    let lists = Reads-with (λ (x : ℕ × ℕ). word x.0 ++ word x.1)
+Reads-records version types =
+    let IsOne = IsFunctionIn version types in
+    let IsOther = IsBranchIn version types in
+    let numbers = and_with (and_also (count_at MAX_FUNCTIONS) (count_at MAX_BRANCHES)) (lists_at version types) in
+    Reads-as lists_bytes (AreLists version types) numbers records_bytes (AreRecordsIn version types) records_of lists_of
+    (records_agree version types)
+    (Reads-with (λ (x : ℕ × ℕ). word x.0 ++ word x.1)
     (λ (x : ℕ × ℕ). Passes (is_below MAX_FUNCTIONS) x.0 × Passes (is_below MAX_BRANCHES) x.1)
     (and_also (count_at MAX_FUNCTIONS) (count_at MAX_BRANCHES))
     (λ (counts : ℕ × ℕ) (x : List Function × List Kind). flat_map function_bytes x.0 ++ flat_map branch_bytes x.1)
-    (λ (counts : ℕ × ℕ) (x : List Function × List Kind). AreGood (IsFunction types) counts.0 x.0
-    × AreGood (IsBranch types) counts.1 x.1) (lists_at types)
+    (λ (counts : ℕ × ℕ) (x : List Function × List Kind). AreGood IsOne counts.0 x.0 × AreGood IsOther counts.1 x.1)
+    (lists_at version types)
     (Reads-also word (Passes (is_below MAX_FUNCTIONS)) (count_at MAX_FUNCTIONS) word
     (Passes (is_below MAX_BRANCHES)) (count_at MAX_BRANCHES)
     (Reads-word (is_below MAX_FUNCTIONS) (BadRecord MAX_FUNCTIONS))
     (Reads-word (is_below MAX_BRANCHES) (BadRecord MAX_BRANCHES)))
-    (λ counts h. Reads-also (flat_map function_bytes) (AreGood (IsFunction types) counts.0)
-    (each (function_at types) 0 counts.0) (flat_map branch_bytes) (AreGood (IsBranch types) counts.1)
-    (each (branch_at types) counts.0 counts.1)
-    (Reads-each function_bytes (IsFunction types) (function_at types) (Reads-function types) 0 counts.0)
-    (Reads-each branch_bytes (IsBranch types) (branch_at types) (Reads-branch types) counts.0 counts.1)) in
-    let numbers = and_with (and_also (count_at MAX_FUNCTIONS) (count_at MAX_BRANCHES)) (lists_at types) in
-    Reads-as lists_bytes (AreLists types) (and_also version_at numbers) spelling (AreRecords types) records_of lists_of
-    (records_agree types)
-    (Reads-also (λ (x : Unit {0}). word VERSION) (λ (x : Unit {0}). Unit {0}) version_at
-    (λ (x : (ℕ × ℕ) × (List Function × List Kind)). (word x.0.0 ++ word x.0.1)
-    ++ (flat_map function_bytes x.1.0 ++ flat_map branch_bytes x.1.1))
-    (λ (x : (ℕ × ℕ) × (List Function × List Kind)).
-    (Passes (is_below MAX_FUNCTIONS) x.0.0 × Passes (is_below MAX_BRANCHES) x.0.1)
-    × (AreGood (IsFunction types) x.0.0 x.1.0 × AreGood (IsBranch types) x.0.1 x.1.1)) numbers Reads-version lists)
+    (λ counts h. Reads-also (flat_map function_bytes) (AreGood IsOne counts.0)
+    (each (function_at version types) 0 counts.0) (flat_map branch_bytes) (AreGood IsOther counts.1)
+    (each (branch_at version types) counts.0 counts.1)
+    (Reads-each function_bytes IsOne (function_at version types) (Reads-function version types) 0 counts.0)
+    (Reads-each branch_bytes IsOther (branch_at version types) (Reads-branch version types) counts.0 counts.1)))
+
+-- ---- all of the bytes
+
+pub Reads-whole : (types : List Node)
+    → Reads (RecordVersion × Records) (λ x. spelling_in x.0 x.1) (λ x. (Unit {0}) × AreRecordsIn x.0 types x.1)
+    (whole_at types)
+unfolding whole_at
+Reads-whole types =
+    Reads-with (λ version. word (version_word version)) (λ version. Unit {0}) version_at (λ version r. records_bytes r)
+    (λ version r. AreRecordsIn version types r) (λ version. records_at version types) Reads-version
+    (λ version h. Reads-records version types)
 
 records_take : (types : List Node) (bytes : List ℕ) (r : Records) → IsBytes bytes → records_in types bytes ≡ Ok r
-    → AreRecords types r × (bytes ≡ spelling r)
+    → Spells types bytes r
 unfolding records_in
 records_take types bytes r fits e =
-    let a = then_ok (records_at types bytes) (λ found. unless_bad (eqb (length found.1) 0) Short (Ok found.0)) r e in
-    let g = unless_bad_ok (eqb (length a.0.1) 0) Short (Ok a.0.0) r a.2 in
+    let a = then_ok (whole_at types bytes) (λ found. unless_bad (eqb (length found.1) 0) Short (Ok found.0.1)) r e in
+    let g = unless_bad_ok (eqb (length a.0.1) 0) Short (Ok a.0.0.1) r a.2 in
     let nothing : a.0.1 ≡ [] = nil_from_length a.0.1 (eqb-true _ _ g.0) in
-    let taken = (Reads-records types).takes bytes a.0 fits a.1 in
-    let whole : bytes ≡ spelling a.0.0 =
-    taken.0.parts ∙ ap (λ (rest : List ℕ). spelling a.0.0 ++ rest) nothing ∙ append-nil (spelling a.0.0) in
-    subst (λ (v : Records). AreRecords types v × (bytes ≡ spelling v)) (ok_is a.0.0 r g.1) (taken.1, whole)
+    let taken = (Reads-whole types).takes bytes a.0 fits a.1 in
+    let spelled : List ℕ = spelling_in a.0.0.0 a.0.0.1 in
+    let whole : bytes ≡ spelled =
+    taken.0.parts ∙ ap (λ (rest : List ℕ). spelled ++ rest) nothing ∙ append-nil spelled in
+    subst (Spells types bytes) (ok_is a.0.0.1 r g.1)
+    (record { version = a.0.0.0; good = taken.1.1; spelled = whole })
 
-pub records_again : (types : List Node) (r : Records) → AreRecords types r → records_in types (spelling r) ≡ Ok r
+pub records_again : (types : List Node) (version : RecordVersion) (r : Records) → AreRecordsIn version types r
+    → records_in types (spelling_in version r) ≡ Ok r
 unfolding records_in
-records_again types r h =
-    let read : records_at types (spelling r) ≡ Ok (r, []) =
-    ap (records_at types) (sym (append-nil (spelling r))) ∙ (Reads-records types).again r [] h in
+records_again types version r h =
+    let bytes : List ℕ = spelling_in version r in
+    let read : whole_at types bytes ≡ Ok ((version, r), []) =
+    ap (whole_at types) (sym (append-nil bytes)) ∙ (Reads-whole types).again (version, r) [] (tt, h) in
     rw read refl
 
+pub spelled_again : (types : List Node) (bytes : List ℕ) (r : Records) → Spells types bytes r
+    → records_in types bytes ≡ Ok r
+spelled_again types bytes r h = ap (records_in types) h.spelled ∙ records_again types h.version r h.good
+
 pub is_read : (types : List Node) (bytes : List ℕ) (answer : Result Records AuxFault) → IsBytes bytes
-    → ReadingGives (λ r. r) answer (records_in types bytes) → IfOk answer (λ r. AreRecords types r × (bytes ≡ spelling r))
+    → ReadingGives (λ r. r) answer (records_in types bytes) → IfOk answer (Spells types bytes)
 is_read types bytes (Ok r) fits given = records_take types bytes r fits given
 is_read types bytes (Err e) fits given = tt

@@ -1,7 +1,5 @@
 -- Which words the records of functions and branches may have.
-use Rattle.std.specs.Prelude.{ℕ, Bool, false, not, ◌==◌, ◌&&◌, ◌||◌, ◌%◌, nat_le, nat_lt, if◌then◌else◌, List, length}
-use Rattle.cfi_type_table.specs.declared.kind.TheConstants.{FUNC}
-use Rattle.cfi_type_table.specs.Node.{Node, node_of}
+use Rattle.std.specs.Prelude.{ℕ, Bool, false, not, ◌==◌, ◌&&◌, ◌||◌, ◌%◌, nat_le, if◌then◌else◌}
 use Rattle.cfi_aux.specs.declared.format.TheConstants.{CALL, TAIL, RETURN, SWITCH}
 use Rattle.cfi_word.specs.declared.limits.TheConstants.{MAX_NAME, MAX_ENTRIES}
 
@@ -20,10 +18,6 @@ is_flag n = nat_le n 1
 -- the number of bytes of a name
 abbrev pub is_name_length : ℕ → Bool
 is_name_length n = nat_le 1 n && nat_le n MAX_NAME
-
--- the number of a node that is there and is the type of a function
-abbrev pub is_func : (types : List Node) → ℕ → Bool
-is_func types n = nat_lt n (length types) && (node_of types n).kind == FUNC
 
 -- whether a branch of the kind may have n words: a call and a tail call one, a return none, a switch its entries
 abbrev pub has_count : (kind n : ℕ) → Bool

@@ -1,4 +1,5 @@
 pub mod Format
+pub mod Version
 pub mod Records
 pub mod Reading
 pub mod Faults

@@ -10,16 +10,18 @@ use Rattle.cfi_aux.specs.declared.fault.AuxFault.{AuxFault}
 use Rattle.cfi_aux.specs.declared.fault.AuxFault.TheVariants.{NoRecords, Types, Memory}
 use Rattle.cfi_aux.specs.declared.modules.Module.{Module}
 use Rattle.cfi_aux.specs.declared.records.Records.{Records}
-use Rattle.cfi_aux.specs.Records.{AreRecords, spelling}
+use Rattle.cfi_aux.specs.declared.version.RecordVersion.{RecordVersion}
+use Rattle.cfi_aux.specs.Records.{AreRecordsIn, spelling_in}
 use Rattle.cfi_values.specs.Then.{◌>>=◌}
 use Rattle.cfi_aux.specs.Faults.{records_in}
 
--- a type table and records, spelled by the two sections of the object
+-- a type table and records, spelled by the two sections of the object, in a version that the second names
 pub record AreSpelled (object : Object) (types : List Node) (records : Records) : Type 0 where
   pub table : spelled.AreTypes types
   pub types_spelled : object.types ≡ Some (spelled.spelling types)
-  pub good : AreRecords types records
-  pub records_spelled : object.records ≡ Some (spelling records)
+  pub version : RecordVersion
+  pub good : AreRecordsIn version types records
+  pub records_spelled : object.records ≡ Some (spelling_in version records)
 
 -- the object, with the type table and the records that its two sections spell
 pub record IsModuleOf (object : Object) (m : Module) : Type 0 where

@@ -1,17 +1,20 @@
 -- What records are, and the bytes of each: words with the version, the number of functions and the number of branches,
 -- then each function, then each branch. A word is four bytes, the lowest first.
-use Rattle.std.specs.Prelude.{ℕ, ◌-◌, ◌%◌, ◌<◌, ◌≤◌, ◌^◌, Bool, if◌then◌else◌, List, [], ◌∷◌, ◌++◌, length, replicate, IsTrue, All, Option, Some, None, ⊤}
+use Rattle.std.specs.Prelude.{◌≡◌, ℕ, ◌-◌, ◌%◌, ◌<◌, ◌≤◌, ◌^◌, Bool, if◌then◌else◌, List, [], ◌∷◌, ◌++◌, length, replicate, IsTrue, All, Option, Some, None, ⊤}
 use Rattle.std.specs.List.{flat_map, AllByRecursion}
 use Rattle.std.specs.Str.{is_utf8}
 use Rattle.cfi_type_table.specs.Node.{Node}
 use Rattle.cfi_type_table.specs.Spelling.{word}
-use Rattle.cfi_aux.specs.declared.format.TheConstants.{VERSION, CALL, TAIL, RETURN, SWITCH}
+use Rattle.cfi_aux.specs.declared.format.TheConstants.{CALL, TAIL, RETURN, SWITCH}
 use Rattle.cfi_word.specs.declared.limits.TheConstants.{MAX_FUNCTIONS, MAX_BRANCHES}
 use Rattle.cfi_aux.specs.declared.records.Function.{Function}
 use Rattle.cfi_aux.specs.declared.records.Records.{Records}
 use Rattle.cfi_aux.specs.declared.records.Kind.{Kind}
 use Rattle.cfi_aux.specs.declared.records.Kind.TheVariants.{Call, Tail, Return, Switch}
-use Rattle.cfi_aux.specs.Format.{is_whole, is_length, is_name_length, is_func, has_count}
+use Rattle.cfi_aux.specs.declared.version.RecordVersion.{RecordVersion}
+use Rattle.cfi_aux.specs.declared.version.TheConstants.{LATEST}
+use Rattle.cfi_aux.specs.Format.{is_whole, is_length, is_name_length, has_count}
+use Rattle.cfi_aux.specs.Version.{version_word, is_type}
 
 -- how many zero bytes follow n bytes up to the next multiple of four
 abbrev pub padding : ℕ → ℕ
@@ -43,9 +46,19 @@ kind_words (Switch places) = places
 abbrev pub branch_bytes : Kind → List ℕ
 branch_bytes b = word (kind_number b) ++ (word (length (kind_words b)) ++ flat_map word (kind_words b))
 
+-- what stands behind the version
+abbrev pub records_bytes : Records → List ℕ
+records_bytes r =
+    (word (length r.functions) ++ word (length r.branches))
+    ++ (flat_map function_bytes r.functions ++ flat_map branch_bytes r.branches)
+
+-- the bytes of records in a version
+abbrev pub spelling_in : RecordVersion → Records → List ℕ
+spelling_in version r = word (version_word version) ++ records_bytes r
+
+-- the bytes that are written
 abbrev pub spelling : Records → List ℕ
-spelling r = word VERSION ++ ((word (length r.functions) ++ word (length r.branches))
-    ++ (flat_map function_bytes r.functions ++ flat_map branch_bytes r.branches))
+spelling r = spelling_in LATEST r
 
 -- a number that a word has
 abbrev pub IsWordSized : ℕ → Type 0
@@ -56,28 +69,54 @@ pub record IsName (name : List ℕ) : Type 0 where
   pub count : IsTrue (is_name_length (length name))
   pub text : IsTrue (is_utf8 name)
 
--- a function begins at an instruction, has whole ones, at least one, and its type is one of functions
-pub record IsFunction (types : List Node) (f : Function) : Type 0 where
+-- a function begins at an instruction, has whole ones, at least one, and its type is one that the version takes
+pub record IsFunctionIn (version : RecordVersion) (types : List Node) (f : Function) : Type 0 where
   pub offset : IsWordSized f.offset × IsTrue (is_whole f.offset)
   pub length : IsWordSized f.length × IsTrue (is_length f.length)
-  pub ty : IsWordSized f.ty × IsTrue (is_func types f.ty)
+  pub ty : IsWordSized f.ty × IsTrue (is_type version types f.ty)
   pub name : IsName f.name
 
--- a word of a branch: the type of a call and of a tail call is one of functions, and a switch leads to instructions
-abbrev pub IsBranchWord : (types : List Node) → Kind → ℕ → Type 0
-IsBranchWord types (Switch places) n = IsWordSized n × IsTrue (is_whole n)
-IsBranchWord types b n = IsWordSized n × IsTrue (is_func types n)
+-- a word of a branch: the type of a call and of a tail call is one that the version takes, and a switch leads to
+-- instructions
+abbrev pub IsBranchWordIn : RecordVersion → (types : List Node) → Kind → ℕ → Type 0
+IsBranchWordIn version types (Switch places) n = IsWordSized n × IsTrue (is_whole n)
+IsBranchWordIn version types b n = IsWordSized n × IsTrue (is_type version types n)
 
-pub record IsBranch (types : List Node) (b : Kind) : Type 0 where
+-- a branch has the number of words of its kind, each as it is wanted
+pub record IsBranchIn (version : RecordVersion) (types : List Node) (b : Kind) : Type 0 where
   pub count : IsTrue (has_count (kind_number b) (length (kind_words b)))
-  pub words : AllByRecursion (IsBranchWord types b) (kind_words b)
+  pub words : AllByRecursion (IsBranchWordIn version types b) (kind_words b)
 
--- records: not too many, each as it is wanted
-pub record AreRecords (types : List Node) (r : Records) : Type 0 where
+-- records of a version: not too many, each as it is wanted
+pub record AreRecordsIn (version : RecordVersion) (types : List Node) (r : Records) : Type 0 where
   pub function_count : length r.functions ≤ MAX_FUNCTIONS
   pub branch_count : length r.branches ≤ MAX_BRANCHES
-  pub functions : AllByRecursion (IsFunction types) r.functions
-  pub branches : AllByRecursion (IsBranch types) r.branches
+  pub functions : AllByRecursion (IsFunctionIn version types) r.functions
+  pub branches : AllByRecursion (IsBranchIn version types) r.branches
+
+-- ---- records of the version that is written, which takes what the earlier ones take
+
+-- such a function
+abbrev pub IsFunction : (types : List Node) → Function → Type 0
+IsFunction types f = IsFunctionIn LATEST types f
+
+-- a word of such a branch
+abbrev pub IsBranchWord : (types : List Node) → Kind → ℕ → Type 0
+IsBranchWord types b n = IsBranchWordIn LATEST types b n
+
+-- such a branch
+abbrev pub IsBranch : (types : List Node) → Kind → Type 0
+IsBranch types b = IsBranchIn LATEST types b
+
+-- such records
+abbrev pub AreRecords : (types : List Node) → Records → Type 0
+AreRecords types r = AreRecordsIn LATEST types r
+
+-- the bytes spell the records: in a version of which they are records
+pub record Spells (types : List Node) (bytes : List ℕ) (r : Records) : Type 0 where
+  pub version : RecordVersion
+  pub good : AreRecordsIn version types r
+  pub spelled : bytes ≡ spelling_in version r
 
 -- records whose numbers of functions, of branches, of a name's bytes and of a branch's words have words of four bytes
 pub record CanBeWritten (r : Records) : Type 0 where

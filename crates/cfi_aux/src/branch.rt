@@ -7,7 +7,8 @@ ghost use Rattle.cfi_aux.specs.Faults.{place_at, body_at, branch_at};
 use crate::fault::AuxFault;
 use crate::format::{CALL, RETURN, TAIL};
 use crate::records::Kind;
-use crate::word::{func_from, kind_from, place_from, word_count_from};
+use crate::version::RecordVersion;
+use crate::word::{kind_from, place_from, type_from, word_count_from};
 use cfi_type_table::TypeTable;
 use cfi_values::Items;
 use cfi_word::limits::{MAX_BRANCHES, MAX_FUNCTIONS};
@@ -35,21 +36,22 @@ fn places_from(
 #[tactic(auto, unfolding(crate::specs::Faults::body_at, crate::specs::Reading::seen_as))]
 fn body_from<'a>(
     alloc: Global,
+    version: RecordVersion,
     types: &TypeTable,
     number: u32,
     kind: u32,
     count: u32,
     bytes: &'a [u8],
 ) -> Result<(Kind, &'a [u8]), AuxFault>
-    ensures { ReadingGives (λ x. (x.0, x.1.now)) result (body_at types.now number kind count bytes.now) }
+    ensures { ReadingGives (λ x. (x.0, x.1.now)) result (body_at version types.now number kind count bytes.now) }
 {
     match kind {
         CALL => {
-            let (node, rest) = func_from(types, number, bytes)?;
+            let (node, rest) = type_from(version, types, number, bytes)?;
             Ok((Kind::Call(node), rest))
         }
         TAIL => {
-            let (node, rest) = func_from(types, number, bytes)?;
+            let (node, rest) = type_from(version, types, number, bytes)?;
             Ok((Kind::Tail(node), rest))
         }
         RETURN => Ok((Kind::Return, bytes)),
@@ -63,20 +65,22 @@ fn body_from<'a>(
 #[tactic(auto, unfolding(crate::specs::Faults::branch_at, crate::specs::Reading::seen_as, crate::specs::Reading::and_with))]
 fn branch_from<'a>(
     alloc: Global,
+    version: RecordVersion,
     types: &TypeTable,
     number: u32,
     bytes: &'a [u8],
 ) -> Result<(Kind, &'a [u8]), AuxFault>
-    ensures { ReadingGives (λ x. (x.0, x.1.now)) result (branch_at types.now number bytes.now) }
+    ensures { ReadingGives (λ x. (x.0, x.1.now)) result (branch_at version types.now number bytes.now) }
 {
     let (kind, rest) = kind_from(number, bytes)?;
     let (count, rest) = word_count_from(kind, number, rest)?;
-    body_from(alloc, types, number, kind, count, rest)
+    body_from(alloc, version, types, number, kind, count, rest)
 }
 
 /// The branches of the records from `first` on, `count` of them.
 pub fn branches_from<'a>(
     alloc: Global,
+    version: RecordVersion,
     types: &TypeTable,
     first: u32,
     count: u32,
@@ -85,12 +89,12 @@ pub fn branches_from<'a>(
     requires functions { first ≤ MAX_FUNCTIONS }
     requires branches { count ≤ MAX_BRANCHES }
     ensures { ReadingGives (λ x. (x.0.items, x.1.now)) result
-        (each (branch_at types.now) first count bytes.now) }
+        (each (branch_at version types.now) first count bytes.now) }
 {
     let mut branches = Vec::new(alloc);
     let mut rest = bytes;
     for number in first..first + count {
-        let (branch, after) = branch_from(alloc, types, number, rest)?;
+        let (branch, after) = branch_from(alloc, version, types, number, rest)?;
         branches.push(branch)?;
         rest = after;
     }

@@ -16,7 +16,7 @@ pub enum AuxFault {
     /// The section of types is no type table.
     #[error("{0}")]
     Types(TypeFault),
-    /// The records do not begin with the word `VERSION`.
+    /// The records do not begin with the word of a version.
     #[error("the records have another version")]
     Version,
     /// Bytes are missing, or left over.

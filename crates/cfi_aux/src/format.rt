@@ -1,13 +1,10 @@
 //! The numbers of the record section, and which words its records may have.
 
 ghost use Rattle.std.specs.Prelude.{◌≡◌};
-ghost use Rattle.cfi_aux.specs.Format.{is_whole, is_length, is_flag, is_name_length, is_func, has_count};
+ghost use Rattle.cfi_aux.specs.Format.{is_whole, is_length, is_flag, is_name_length, has_count};
 
-use cfi_type_table::{FUNC, TypeTable};
 use cfi_word::limits::{MAX_ENTRIES, MAX_NAME};
 
-/// The first word of the section.
-pub const VERSION: u32 = 1;
 /// The kind of a branch that is an indirect call.
 pub const CALL: u32 = 0;
 /// The kind of a branch that is an indirect tail call.
@@ -43,15 +40,6 @@ pub fn is_name_length(word: u32) -> bool
     ensures { result ≡ is_name_length word }
 {
     1 <= word && word as usize <= MAX_NAME
-}
-
-/// Whether the word is the number of a node that is there and is the type of a function.
-pub fn is_func(types: &TypeTable, word: u32) -> bool
-    ensures { result ≡ is_func types.now word }
-{
-    let nodes = types.nodes();
-    let number = word as usize;
-    number < nodes.len() && nodes[number].kind() == FUNC
 }
 
 /// Whether a branch of the kind may have `count` words.

@@ -1,8 +1,8 @@
 //! Reads records from their bytes.
 
-ghost use Rattle.std.specs.Prelude.{◌≡◌, IfOk, Ok};
+ghost use Rattle.std.specs.Prelude.{IfOk, Ok};
 ghost use Rattle.cfi_aux.specs.declared.records.Records.{Records};
-ghost use Rattle.cfi_aux.specs.Records.{AreRecords, spelling};
+ghost use Rattle.cfi_aux.specs.Records.{Spells};
 ghost use Rattle.cfi_aux.specs.Reading.{ReadingGives};
 ghost use Rattle.cfi_aux.specs.Faults.{records_at, records_in};
 
@@ -10,7 +10,8 @@ use crate::branch::branches_from;
 use crate::fault::AuxFault;
 use crate::function::functions_from;
 use crate::records::Records;
-use crate::word::{after_version, count_from};
+use crate::version::RecordVersion;
+use crate::word::{count_from, version_from};
 use cfi_type_table::TypeTable;
 use cfi_values::Items;
 use cfi_word::limits::{MAX_BRANCHES, MAX_FUNCTIONS};
@@ -19,16 +20,23 @@ use std::alloc::Global;
 #[tactic(auto, unfolding(crate::specs::Faults::records_at, crate::specs::Reading::seen_as, crate::specs::Reading::and_with, crate::specs::Reading::and_also))]
 fn records_from<'a>(
     alloc: Global,
-    bytes: &'a [u8],
+    version: RecordVersion,
     types: &TypeTable,
+    bytes: &'a [u8],
 ) -> Result<(Records, &'a [u8]), AuxFault>
-    ensures { ReadingGives (λ x. (x.0, x.1.now)) result (records_at types.now bytes.now) }
+    ensures { ReadingGives (λ x. (x.0, x.1.now)) result (records_at version types.now bytes.now) }
 {
-    let rest = after_version(bytes)?;
-    let (function_count, rest) = count_from(MAX_FUNCTIONS, rest)?;
+    let (function_count, rest) = count_from(MAX_FUNCTIONS, bytes)?;
     let (branch_count, rest) = count_from(MAX_BRANCHES, rest)?;
-    let (functions, rest) = functions_from(alloc, types, function_count, rest)?;
-    let (branches, rest) = branches_from(alloc, types, function_count, branch_count, rest)?;
+    let (functions, rest) = functions_from(alloc, version, types, function_count, rest)?;
+    let (branches, rest) = branches_from(
+        alloc,
+        version,
+        types,
+        function_count,
+        branch_count,
+        rest,
+    )?;
     let records = Records {
         functions: Items::from_vec(functions),
         branches: Items::from_vec(branches),
@@ -36,11 +44,12 @@ fn records_from<'a>(
     Ok((records, rest))
 }
 
-#[tactic(auto, unfolding(crate::specs::Faults::records_in))]
+#[tactic(auto, unfolding(crate::specs::Faults::records_in, crate::specs::Faults::whole_at, crate::specs::Reading::and_with))]
 fn all_of(alloc: Global, bytes: &[u8], types: &TypeTable) -> Result<Records, AuxFault>
     ensures { ReadingGives (λ records. records) result (records_in types.now bytes.now) }
 {
-    let (records, rest) = records_from(alloc, bytes, types)?;
+    let (version, rest) = version_from(bytes)?;
+    let (records, rest) = records_from(alloc, version, types, rest)?;
     if !rest.is_empty() {
         return Err(AuxFault::Short);
     }
@@ -51,14 +60,14 @@ fn all_of(alloc: Global, bytes: &[u8], types: &TypeTable) -> Result<Records, Aux
 ///
 /// Words with the version, the number of functions and the number of branches; then each function as its offset, its
 /// length, its type, its flags and its name; then each branch as its kind, the number of its words, and these. Words
-/// are of four bytes, the lowest first. A fault is the first from left to right. MCFI, auxiliary information.
+/// are of four bytes, the lowest first. In version 1 types are functions with fixed arguments, in version 2 they may
+/// have variable ones. A fault is the first from left to right. MCFI, auxiliary information.
 pub fn read_records(alloc: Global, bytes: &[u8], types: &TypeTable) -> Result<Records, AuxFault>
-    // What is read are records, and the bytes are their spelling.
-    ensures ok { IfOk result (λ records.
-        AreRecords types.now records × (bytes.now ≡ spelling records)) }
+    // What is read are records of a version, and the bytes are their spelling in it.
+    ensures ok { IfOk result (Spells types.now bytes.now) }
     // What is spelled so is read.
-    ensures only { (records : Records) → AreRecords types.now records →
-        bytes.now ≡ spelling records → ReadingGives (λ found. found) result (Ok records) }
+    ensures only { (records : Records) → Spells types.now bytes.now records →
+        ReadingGives (λ found. found) result (Ok records) }
     // Which fault it is.
     ensures fault { ReadingGives (λ found. found) result (records_in types.now bytes.now) }
 {

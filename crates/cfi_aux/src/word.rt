@@ -3,28 +3,25 @@
 ghost use Rattle.std.specs.Prelude.{◌≤◌, nat_le, IfOk};
 ghost use Rattle.cfi_aux.specs.declared.fault.AuxFault.TheVariants.{BadRecord};
 ghost use Rattle.cfi_aux.specs.Reading.{ReadingGives, word_where};
-ghost use Rattle.cfi_aux.specs.Format.{is_whole, is_length, is_flag, is_name_length, is_func, has_count};
+ghost use Rattle.cfi_aux.specs.Format.{is_whole, is_length, is_flag, is_name_length, has_count};
+ghost use Rattle.cfi_aux.specs.Version.{is_type};
 ghost use Rattle.cfi_aux.specs.Faults.{count_at, version_at};
 
 use crate::fault::AuxFault;
-use crate::format::{
-    SWITCH, VERSION, has_count, is_flag, is_func, is_length, is_name_length, is_whole,
-};
+use crate::format::{SWITCH, has_count, is_flag, is_length, is_name_length, is_whole};
+use crate::version::{RecordVersion, is_type, version_of};
 use cfi_type_table::{TypeTable, split_word};
 
-/// The bytes after the word of the version, which stands first.
+/// The version, whose word stands first.
 #[tactic(auto, unfolding(crate::specs::Faults::version_at))]
-pub fn after_version(bytes: &[u8]) -> Result<&[u8], AuxFault>
-    ensures { ReadingGives (λ x. (tt, x.now)) result (version_at bytes.now) }
+pub fn version_from(bytes: &[u8]) -> Result<(RecordVersion, &[u8]), AuxFault>
+    ensures { ReadingGives (λ x. (x.0, x.1.now)) result (version_at bytes.now) }
 {
-    if bytes.len() < 4 {
-        return Err(AuxFault::Version);
+    let (word, rest) = split_word(bytes).ok_or(AuxFault::Version)?;
+    match version_of(word) {
+        Some(version) => Ok((version, rest)),
+        None => Err(AuxFault::Version),
     }
-    let (front, rest) = bytes.split_at(4);
-    if u32::from_le_bytes([front[0], front[1], front[2], front[3]]) != VERSION {
-        return Err(AuxFault::Version);
-    }
-    Ok(rest)
 }
 
 /// A number of records, at most `limit`.
@@ -68,16 +65,17 @@ pub fn length_from(number: u32, bytes: &[u8]) -> Result<(u32, &[u8]), AuxFault>
 
 /// The type of record `number`, one of functions.
 #[tactic(auto, unfolding(crate::specs::Reading::word_where))]
-pub fn func_from<'a>(
+pub fn type_from<'a>(
+    version: RecordVersion,
     types: &TypeTable,
     number: u32,
     bytes: &'a [u8],
 ) -> Result<(u32, &'a [u8]), AuxFault>
     ensures { ReadingGives (λ x. (x.0, x.1.now)) result
-        (word_where (is_func types.now) (BadRecord number) bytes.now) }
+        (word_where (is_type version types.now) (BadRecord number) bytes.now) }
 {
     let (word, rest) = split_word(bytes).ok_or(AuxFault::Short)?;
-    if !is_func(types, word) {
+    if !is_type(version, types, word) {
         return Err(AuxFault::BadRecord(number));
     }
     Ok((word, rest))

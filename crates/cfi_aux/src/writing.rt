@@ -5,12 +5,14 @@ ghost use Rattle.std.specs.List.{flat_map};
 ghost use Rattle.cfi_type_table.specs.Node.{Node};
 ghost use Rattle.cfi_type_table.specs.Spelling.{word};
 ghost use Rattle.cfi_aux.specs.declared.records.Records.{Records};
-ghost use Rattle.cfi_aux.specs.Records.{AreRecords, CanBeWritten, kind_words, name_bytes, function_bytes, branch_bytes, spelling};
+ghost use Rattle.cfi_aux.specs.Records.{AreRecordsIn, AreRecords, CanBeWritten, kind_words, name_bytes, function_bytes, branch_bytes, spelling_in, spelling};
+ghost use Rattle.cfi_aux.specs.declared.version.RecordVersion.{RecordVersion};
 ghost use Rattle.cfi_aux.specs.Faults.{records_in};
 
-use crate::format::{CALL, RETURN, SWITCH, TAIL, VERSION};
+use crate::format::{CALL, RETURN, SWITCH, TAIL};
 use crate::name::padding;
 use crate::records::{Function, Kind, Records};
+use crate::version::{LATEST, version_word};
 use elf_read::Name;
 use std::alloc::{AllocError, Global};
 
@@ -89,7 +91,8 @@ fn put_branches(out: &mut Vec<u8>, branches: &[Kind]) -> Result<(), AllocError>
     Ok(())
 }
 
-/// The bytes that spell the records. `read_records` reads them from these where they are records of a type table.
+/// The bytes that spell the records, in version 2. `read_records` reads them from these where they are records of a
+/// type table.
 ///
 /// The numbers of functions, of branches, of a name's bytes and of a branch's words are below 2^32.
 pub fn write_records(alloc: Global, records: &Records) -> Result<Vec<u8>, AllocError>
@@ -99,7 +102,7 @@ pub fn write_records(alloc: Global, records: &Records) -> Result<Vec<u8>, AllocE
     let mut out = Vec::new(alloc);
     let functions = records.functions.as_slice();
     let branches = records.branches.as_slice();
-    put_word(&mut out, VERSION)?;
+    put_word(&mut out, version_word(LATEST))?;
     put_word(&mut out, functions.len() as u32)?;
     put_word(&mut out, branches.len() as u32)?;
     put_functions(&mut out, functions)?;
@@ -107,14 +110,17 @@ pub fn write_records(alloc: Global, records: &Records) -> Result<Vec<u8>, AllocE
     Ok(out)
 }
 
-/// What is written is read again, whatever the records and the type table that they name nodes of.
+/// What is spelled in a version is read again, whatever the records and the type table that they name nodes of.
 pub fn written_is_read()
-    ensures { (types : List Node) → (records : Records) → AreRecords types records →
-        records_in types (spelling records) ≡ Ok records }
+    ensures { (version : RecordVersion) → (types : List Node) → (records : Records) →
+        AreRecordsIn version types records →
+        records_in types (spelling_in version records) ≡ Ok records }
 {}
 
-/// Records of any type table can be written.
+/// What is read can be written: records of a version are records of the one that is written.
 pub fn read_can_be_written()
-    ensures { (types : List Node) → (records : Records) → AreRecords types records →
-        CanBeWritten records }
+    ensures good { (version : RecordVersion) → (types : List Node) → (records : Records) →
+        AreRecordsIn version types records → AreRecords types records }
+    ensures sized { (version : RecordVersion) → (types : List Node) → (records : Records) →
+        AreRecordsIn version types records → CanBeWritten records }
 {}

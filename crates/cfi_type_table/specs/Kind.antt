@@ -1,8 +1,8 @@
 -- The kinds of type nodes, and which fields a node of each kind has.
-use Rattle.std.specs.Prelude.{ℕ, Bool, true, false, ◌==◌, ◌||◌, ◌&&◌, nat_le, if◌then◌else◌, List, take, drop}
+use Rattle.std.specs.Prelude.{ℕ, Bool, true, false, ◌==◌, ◌||◌, ◌&&◌, nat_lt, nat_le, if◌then◌else◌, List, length, take, drop}
 use Rattle.cfi_type_table.specs.declared.kind.TheConstants.{VOID, INT, REAL, PTR, ARRAY, STRUCT, UNION, FUNC, VARFUNC}
 use Rattle.cfi_word.specs.declared.limits.TheConstants.{MAX_FIELDS}
-use Rattle.cfi_type_table.specs.Node.{Node}
+use Rattle.cfi_type_table.specs.Node.{Node, node_of}
 
 -- how many of a node's fields, from the first on, are plain numbers; the others name nodes of its table
 abbrev pub number_count : (kind : ℕ) → ℕ
@@ -37,3 +37,11 @@ abbrev pub field_fits : (kind place word : ℕ) → Bool
 field_fits kind place word =
     if kind == INT then (if place == 0 then word == 8 || word == 16 || word == 32 || word == 64 else nat_le word 1)
     else true
+
+-- the kinds of functions, with fixed and with variable arguments
+abbrev pub is_callable_kind : (kind : ℕ) → Bool
+is_callable_kind kind = kind == FUNC || kind == VARFUNC
+
+-- the number of a node that is there and is the type of a function
+abbrev pub is_callable : (types : List Node) → (number : ℕ) → Bool
+is_callable types number = nat_lt number (length types) && is_callable_kind (node_of types number).kind

@@ -1,7 +1,7 @@
 //! The kinds of type nodes, and which fields a node of each kind has.
 
 ghost use Rattle.std.specs.Prelude.{◌≡◌};
-ghost use Rattle.cfi_type_table.specs.Kind.{number_count, has_arity, field_fits};
+ghost use Rattle.cfi_type_table.specs.Kind.{number_count, has_arity, field_fits, is_callable_kind};
 
 use cfi_word::limits::MAX_FIELDS;
 
@@ -23,6 +23,13 @@ pub const UNION: u32 = 6;
 pub const FUNC: u32 = 7;
 /// The kind of a function with variable arguments: the node of its result, then those of its fixed parameters.
 pub const VARFUNC: u32 = 8;
+
+/// Whether nodes of the kind are types of functions, with fixed or with variable arguments.
+pub fn is_callable_kind(kind: u32) -> bool
+    ensures { result ≡ is_callable_kind kind }
+{
+    kind == FUNC || kind == VARFUNC
+}
 
 // How many of a node's first fields are plain numbers.
 pub(crate) fn count_numbers(kind: u32) -> usize

@@ -13,7 +13,7 @@ mod table;
 mod writing;
 
 pub use fault::TypeFault;
-pub use kind::{ARRAY, FUNC, INT, PTR, REAL, STRUCT, UNION, VARFUNC, VOID};
+pub use kind::{ARRAY, FUNC, INT, PTR, REAL, STRUCT, UNION, VARFUNC, VOID, is_callable_kind};
 pub use node::TypeNode;
 pub use reading::{read_types, split_word};
 pub use table::TypeTable;

@@ -2,6 +2,7 @@
 
 ghost use Rattle.std.specs.Prelude.{◌≡◌, IfOk};
 
+use crate::kind::is_callable_kind;
 use crate::node::TypeNode;
 use std::alloc::{AllocError, Global};
 use std::marker::Model;
@@ -22,6 +23,8 @@ impl Model for TypeTable {
 }
 
 impl TypeTable {
+    ghost use Rattle.cfi_type_table.specs.Kind.{is_callable};
+
     /// The table of these nodes.
     pub fn from_vec(nodes: Vec<TypeNode>) -> TypeTable
         ensures { result ≡ nodes.items }
@@ -41,6 +44,15 @@ impl TypeTable {
         ensures { result.items ≡ self }
     {
         self.nodes
+    }
+
+    /// Whether the number is that of a node which is there and is the type of a function, with fixed or with variable
+    /// arguments.
+    pub fn is_callable(&self, number: u32) -> bool
+        ensures { result ≡ is_callable self.now number }
+    {
+        let number = number as usize;
+        number < self.nodes.len() && is_callable_kind(self.nodes[number].kind())
     }
 
     /// The same table in memory of its own.

@@ -1,11 +1,11 @@
 -- Modules that verify: those of the one word `j .`.
-use Rattle.std.proofs.Common.{◌≡◌, ℕ, zero, suc, pos, Bool, false, IsTrue, List, [], ◌∷◌, length, inl, refl, ap, subst, arith}
+use Rattle.std.proofs.Common.{◌≡◌, ℕ, zero, suc, pos, false, IsTrue, List, [], ◌∷◌, length, inl, refl, ap, subst, arith}
 use Rattle.std.specs.List.{Contains}
 use Rattle.cfi_type_table.specs.Node.{Node}
 use Rattle.cfi_unit.specs.declared.unit.Unit.TheVariants.{Jump}
 use Rattle.cfi_unit.specs.declared.spot.Spot.{Spot}
 use Rattle.cfi_unit.specs.Spots.{BeginsUnit}
-use Rattle.cfi_aux.specs.Format.{is_func}
+use Rattle.cfi_type_table.specs.Kind.{is_callable}
 use Rattle.cfi_aux.specs.declared.placed.Placed.{Placed}
 use Rattle.cfi_aux.specs.declared.placed.PlacedFunction.{PlacedFunction}
 use Rattle.elf_read.specs.Lists.{Each}
@@ -37,7 +37,7 @@ begins : BeginsUnit spots 0
 begins = (spot, has_spot, refl)
 
 -- a module of this word, at any place, whose one function has the type of a function
-module _ (base slot_base data_base ty : ℕ) (name : List ℕ) (types : List Node) (typed : IsTrue (is_func types ty)) where
+module _ (base slot_base data_base ty : ℕ) (name : List ℕ) (types : List Node) (typed : IsTrue (is_callable types ty)) where
   abbrev function : PlacedFunction
   function = record { first = 0; count = 1; ty = ty; taken = false; global = false; name = name }
 

@@ -1,7 +1,7 @@
 -- Which slot a check names, and which record it has: the check of a number has the branch of that number.
-use Rattle.std.specs.Prelude.{◌≡◌, ℕ, ◌+◌, ◌*◌, Bool, true, false, IsTrue, List, slice_get, Option, Some, None, All, ⊤}
+use Rattle.std.specs.Prelude.{◌≡◌, ℕ, ◌+◌, ◌*◌, Bool, true, false, IsTrue, List, slice_get, Option, Some, None, ⊤}
 use Rattle.cfi_type_table.specs.Node.{Node}
-use Rattle.cfi_aux.specs.Format.{is_func}
+use Rattle.cfi_type_table.specs.Kind.{is_callable}
 use Rattle.cfi_aux.specs.declared.placed.Placed.{Placed}
 use Rattle.cfi_aux.specs.declared.records.Kind.{Kind}
 use Rattle.cfi_aux.specs.declared.records.Kind.TheVariants.{Call, Tail, Return, Switch}
@@ -16,10 +16,10 @@ NamesSlot m number check = check.slot ≡ m.slot_base + number
 
 -- a check that links is a call, and no other is; the type of a call and of a tail call is one of functions
 abbrev pub IsKindOf : (types : List Node) → (link : Bool) → Kind → Type 0
-IsKindOf types true (Call node) = IsTrue (is_func types node)
+IsKindOf types true (Call node) = IsTrue (is_callable types node)
 IsKindOf types true kind = ⊥
 IsKindOf types false (Call node) = ⊥
-IsKindOf types false (Tail node) = IsTrue (is_func types node)
+IsKindOf types false (Tail node) = IsTrue (is_callable types node)
 IsKindOf types false Return = ⊤
 IsKindOf types false (Switch entries) = ⊤
 

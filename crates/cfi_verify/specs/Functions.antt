@@ -1,11 +1,11 @@
 -- Where the functions of a module may lie, and how they may end.
-use Rattle.std.specs.Prelude.{◌≡◌, ◌⊎◌, ℕ, zero, suc, ◌+◌, ◌<◌, ◌≤◌, pos, Bool, true, false, not, IsTrue, List, length, slice_get, Option, Some, None}
+use Rattle.std.specs.Prelude.{◌≡◌, ◌⊎◌, ℕ, zero, suc, ◌<◌, ◌≤◌, pos, Bool, true, false, not, IsTrue, List, length, slice_get, Option, Some, None}
 use Rattle.std.specs.List.{Contains}
 use Rattle.rv_insn.specs.declared.insn.Insn.TheVariants.{OpImm}
 use Rattle.rv_insn.specs.declared.insn.ImmOp.TheVariants.{Addi}
 use Rattle.cfi_unit.specs.declared.unit.Unit.{Unit as CodeUnit}
 use Rattle.cfi_unit.specs.declared.unit.Unit.TheVariants.{Plain, Jump, Check}
-use Rattle.cfi_aux.specs.Format.{is_func}
+use Rattle.cfi_type_table.specs.Kind.{is_callable}
 use Rattle.cfi_aux.specs.declared.placed.Placed.{Placed}
 use Rattle.cfi_aux.specs.declared.placed.PlacedFunction.{PlacedFunction}
 use Rattle.cfi_unit.specs.declared.spot.Spot.{Spot}
@@ -35,7 +35,7 @@ pub record FunctionFits (m : Placed) (spots : List Spot) (before : ℕ) (f : Pla
   pub within : end_of f ≤ length m.words
   pub begins : BeginsUnit spots f.first
   pub ends : (end_of f ≡ length m.words) ⊎ BeginsUnit spots (end_of f)
-  pub typed : IsTrue (is_func m.types f.ty)
+  pub typed : IsTrue (is_callable m.types f.ty)
   pub idle : IsIdle spots before f.first
 
 -- the function of the number fits

@@ -1,13 +1,10 @@
 -- The units of a module's words and where they stand. Words are numbered from the module's first, from 0; places that
 -- faults name are in bytes.
-use Rattle.std.specs.Prelude.{◌≡◌, ℕ, ◌*◌, ◌<◌, List, length, take, slice_index, Option, Some, None}
-use Rattle.std.specs.List.{Contains, filter_map}
-use Rattle.rv_insn.specs.declared.insn.Insn.{Insn}
-use Rattle.rv_insn.specs.Insn.{IsWord}
+use Rattle.std.specs.Prelude.{◌≡◌, ℕ, ◌*◌, ◌<◌, List, length, Option, Some, None}
+use Rattle.std.specs.List.{filter_map}
 use Rattle.cfi_unit.specs.declared.unit.Unit.{Unit as CodeUnit}
 use Rattle.cfi_unit.specs.declared.unit.Unit.TheVariants as units
-use Rattle.cfi_unit.specs.Spots.{spots_of, StopsAt, IsInsnAt}
-use Rattle.cfi_unit.specs.Code.{BeginsAt, UnitCode}
+use Rattle.cfi_unit.specs.Spots.{StopsAt, IsInsnAt}
 use Rattle.cfi_unit.specs.declared.spot.Spot.{Spot}
 use Rattle.cfi_verify.specs.declared.checks.CheckSpot.{CheckSpot}
 

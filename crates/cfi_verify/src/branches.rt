@@ -7,7 +7,6 @@ ghost use Rattle.cfi_verify.specs.Faults.{check_place};
 ghost use Rattle.cfi_verify.specs.inner.Places.{AreRising, AreSmallChecks, AreFunctionsApart, AreInRange, IsFirstMisfit};
 
 use crate::checks::CheckSpot;
-use crate::functions::is_func;
 use crate::home::is_at_home;
 use cfi_aux::{Kind, Placed};
 use cfi_type_table::TypeTable;
@@ -32,8 +31,8 @@ fn is_kind_of(types: &TypeTable, link: bool, kind: &Kind) -> bool
     ensures { IsTrue result ↔ IsKindOf types.now link kind.now }
 {
     match kind {
-        Kind::Call(node) => link && is_func(types, *node),
-        Kind::Tail(node) => !link && is_func(types, *node),
+        Kind::Call(node) => link && types.is_callable(*node),
+        Kind::Tail(node) => !link && types.is_callable(*node),
         Kind::Return | Kind::Switch(_) => !link,
     }
 }

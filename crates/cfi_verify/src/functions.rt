@@ -1,14 +1,12 @@
 //! Where functions lie, and how they end.
 
 ghost use Rattle.std.specs.Prelude.{◌≡◌, ℕ, ◌+◌, ◌*◌, ◌<◌, ◌^◌, length, IfSome, IfNone, IsTrue, ◌↔◌};
-ghost use Rattle.cfi_aux.specs.Format.{is_func};
 ghost use Rattle.elf_read.specs.Lists.{Each, IsFirstBreak, own_number};
 ghost use Rattle.cfi_verify.specs.Functions.{IsIdle, FunctionFits, FitsBehind, IsIdleBehind, may_be_last, EndsWell};
 ghost use Rattle.cfi_verify.specs.inner.Places.{AreRising, AreInRange, FollowsWithin, IsFirstUnfit};
 
 use crate::search::{begins_at, number_at};
 use cfi_aux::{Placed, PlacedFunction};
-use cfi_type_table::{FUNC, TypeTable};
 use cfi_unit::{Spot, Unit};
 use rv_insn::{ImmOp, Insn};
 
@@ -19,15 +17,6 @@ const IDLE: Unit = Unit::Plain(Insn::OpImm {
     rs1: 0,
     imm: 0,
 });
-
-/// Whether the node of the number is there and is the type of a function.
-pub fn is_func(types: &TypeTable, number: u32) -> bool
-    ensures { result ≡ is_func types.now number }
-{
-    let nodes = types.nodes();
-    let number = number as usize;
-    number < nodes.len() && nodes[number].kind() == FUNC
-}
 
 // Whether each unit from one word up to another is padding.
 fn is_idle(spots: &[Spot], from: u32, to: u32) -> bool
@@ -65,7 +54,7 @@ fn fits_behind(placed: &Placed, spots: &[Spot], before: u32, function: &PlacedFu
     let end = function.first + function.count;
     begins_at(spots, function.first)
         && (end as usize == length || begins_at(spots, end))
-        && is_func(&placed.types, function.ty)
+        && placed.types.is_callable(function.ty)
         && is_idle(spots, before, function.first)
 }
 

@@ -21,7 +21,7 @@ use Rattle.rv_asm.specs.declared.file.File.{File}
 use Rattle.rv_asm.specs.declared.spot.Spot.{Spot}
 use Rattle.rv_asm.specs.declared.words.Words.{Words}
 use Rattle.rv_asm.specs.inner.Draft.{Draft, with_words, with_code, with_data, with_zeros, with_node, closed, with_kind, with_switch, with_statement}
-use Rattle.rv_asm.specs.Node.{func_in, node_of}
+use Rattle.rv_asm.specs.Node.{callable_in, node_of}
 use Rattle.rv_asm.specs.Relocs.{reloc_by, relocs_of}
 use Rattle.rv_asm.specs.Words.{word_bytes, low_word, words_of}
 use Rattle.rv_asm.specs.Made.{listed, bytes_of, text_in, data_in, relocs_in, nodes_in, begun, opened, ended, functions_in, value_in, values_in, kind_set}
@@ -248,22 +248,22 @@ module _ (names : List Entry) (kinds : List NodeKind) (t d p : ℕ) (dr : Draft)
       node records areas.Data (statements.Node kind_of fields) (node_of kind_of fields) (simp append-nil)
   grows records areas.Data (statements.Func name number taken) is = absurd (cc)
   grows records areas.Text (statements.Func name number taken) is =
-      func records (statements.Func name number taken) name taken (func_in kinds number)
-      (or_parts (is_some dr.function) (is_none (func_in kinds number)) is).1 (simp append-nil)
+      func records (statements.Func name number taken) name taken (callable_in kinds number)
+      (or_parts (is_some dr.function) (is_none (callable_in kinds number)) is).1 (simp append-nil)
   grows records areas.Text statements.EndFunc is = close records areas.Text is (simp append-nil)
   grows records areas.Data statements.EndFunc is = close records areas.Data is (simp append-nil)
   grows records areas.Text (statements.KindCall number) is =
-      kind records areas.Text (statements.KindCall number) branches.Call (func_in kinds number)
-      (or_parts (is_none (func_in kinds number)) (not jump) is).0 (simp append-nil)
+      kind records areas.Text (statements.KindCall number) branches.Call (callable_in kinds number)
+      (or_parts (is_none (callable_in kinds number)) (not jump) is).0 (simp append-nil)
   grows records areas.Data (statements.KindCall number) is =
-      kind records areas.Data (statements.KindCall number) branches.Call (func_in kinds number)
-      (or_parts (is_none (func_in kinds number)) (not jump) is).0 (simp append-nil)
+      kind records areas.Data (statements.KindCall number) branches.Call (callable_in kinds number)
+      (or_parts (is_none (callable_in kinds number)) (not jump) is).0 (simp append-nil)
   grows records areas.Text (statements.KindTail number) is =
-      kind records areas.Text (statements.KindTail number) branches.Tail (func_in kinds number)
-      (or_parts (is_none (func_in kinds number)) (not jump) is).0 (simp append-nil)
+      kind records areas.Text (statements.KindTail number) branches.Tail (callable_in kinds number)
+      (or_parts (is_none (callable_in kinds number)) (not jump) is).0 (simp append-nil)
   grows records areas.Data (statements.KindTail number) is =
-      kind records areas.Data (statements.KindTail number) branches.Tail (func_in kinds number)
-      (or_parts (is_none (func_in kinds number)) (not jump) is).0 (simp append-nil)
+      kind records areas.Data (statements.KindTail number) branches.Tail (callable_in kinds number)
+      (or_parts (is_none (callable_in kinds number)) (not jump) is).0 (simp append-nil)
   grows records areas.Text statements.KindReturn is = ap (λ (x : Draft). Some x) (simp append-nil)
   grows records areas.Data statements.KindReturn is = ap (λ (x : Draft). Some x) (simp append-nil)
   grows records areas.Text (statements.KindSwitch places) is =

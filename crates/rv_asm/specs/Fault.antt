@@ -22,7 +22,7 @@ use Rattle.rv_asm.specs.declared.file.File.{File}
 use Rattle.rv_asm.specs.declared.spot.Spot.{Spot}
 use Rattle.rv_asm.specs.declared.words.Words.{Words}
 use Rattle.rv_asm.specs.Made.{relocs_by, nodes_of, open_after, functions_of, kind_after, branches_of}
-use Rattle.rv_asm.specs.Node.{func_in, names_nodes, node_of}
+use Rattle.rv_asm.specs.Node.{callable_in, names_nodes, node_of}
 use Rattle.rv_asm.specs.Placed.{Placed, placed, spot_after}
 use Rattle.rv_asm.specs.Reference.{reference_of, is_partner}
 use Rattle.rv_asm.specs.Relocs.{relocs_of}
@@ -94,10 +94,10 @@ is_misplaced file found (statements.Word datum) = not (is_data found.spot.area) 
 is_misplaced file found (statements.Zero number) = not (is_data found.spot.area)
 is_misplaced file found (statements.Node kind fields) = not (names_nodes (length file.kinds) kind fields)
 is_misplaced file found (statements.Func name node taken) =
-    is_data found.spot.area || is_some found.function || is_none (func_in file.kinds node)
+    is_data found.spot.area || is_some found.function || is_none (callable_in file.kinds node)
 is_misplaced file found statements.EndFunc = is_bare found.spot.text_end found.function
-is_misplaced file found (statements.KindCall node) = is_none (func_in file.kinds node) || not found.jump
-is_misplaced file found (statements.KindTail node) = is_none (func_in file.kinds node) || not found.jump
+is_misplaced file found (statements.KindCall node) = is_none (callable_in file.kinds node) || not found.jump
+is_misplaced file found (statements.KindTail node) = is_none (callable_in file.kinds node) || not found.jump
 is_misplaced file found statements.KindReturn = not found.jump
 is_misplaced file found (statements.KindSwitch names) = not found.jump
 is_misplaced file found (statements.Jalr rd rs1 imm) =

@@ -23,7 +23,7 @@ use Rattle.rv_names.specs.Names.{symbol_of, text_value}
 use Rattle.rv_asm.specs.declared.file.File.{File}
 use Rattle.rv_asm.specs.declared.spot.Spot.{Spot}
 use Rattle.rv_asm.specs.declared.words.Words.{Words}
-use Rattle.rv_asm.specs.Node.{func_in, node_of}
+use Rattle.rv_asm.specs.Node.{callable_in, node_of}
 use Rattle.rv_asm.specs.Placed.{Placed, placed, last_said, area_after, end_after, spot_after}
 use Rattle.rv_asm.specs.Relocs.{relocs_of}
 use Rattle.rv_asm.specs.Words.{word_bytes, words_bytes, low_word, words_of}
@@ -95,7 +95,7 @@ begun offset name taken ty = record { offset = offset; length = 0; ty = ty; take
 
 abbrev pub opened : (kinds : List NodeKind) → (end : ℕ) → Option Statement → Option (Option Function)
 opened kinds end (Some (statements.Func name node taken)) =
-    Some (option_map (begun end name taken) (func_in kinds node))
+    Some (option_map (begun end name taken) (callable_in kinds node))
 opened kinds end (Some statements.EndFunc) = Some None
 opened kinds end other = None
 
@@ -130,8 +130,8 @@ values_in table names = map (value_in table) names
 
 -- the kind that a `.kind` sets; an indirect jump leaves none
 abbrev pub kind_set : File → Option Statement → Option (Option Kind)
-kind_set file (Some (statements.KindCall node)) = Some (option_map branches.Call (func_in file.kinds node))
-kind_set file (Some (statements.KindTail node)) = Some (option_map branches.Tail (func_in file.kinds node))
+kind_set file (Some (statements.KindCall node)) = Some (option_map branches.Call (callable_in file.kinds node))
+kind_set file (Some (statements.KindTail node)) = Some (option_map branches.Tail (callable_in file.kinds node))
 kind_set file (Some statements.KindReturn) = Some (Some branches.Return)
 kind_set file (Some (statements.KindSwitch names)) = Some (Some (branches.Switch (values_in file.names names)))
 kind_set file (Some (statements.Jalr rd rs1 imm)) = Some None

@@ -1,9 +1,9 @@
 -- The nodes of a source: each `.node` is the next one, and its fields are numbers of its kind, then numbers of nodes.
 use Rattle.std.specs.Prelude.{ℕ, ◌^◌, Bool, true, false, ◌&&◌, nat_lt, nat_le, ℤ, pos, negsuc, List, [], ◌∷◌, length, map, drop, if◌then◌else◌, Option, Some, None, slice_get}
 use Rattle.std.specs.List.{list_all}
-use Rattle.cfi_type_table.specs.declared.kind.TheConstants.{VOID, INT, REAL, PTR, ARRAY, STRUCT, UNION, FUNC}
+use Rattle.cfi_type_table.specs.declared.kind.TheConstants.{VOID, INT, REAL, PTR, ARRAY, STRUCT, UNION, FUNC, VARFUNC}
 use Rattle.cfi_word.specs.declared.limits.TheConstants.{MAX_FIELDS}
-use Rattle.cfi_type_table.specs.Kind.{number_count, field_fits}
+use Rattle.cfi_type_table.specs.Kind.{number_count, field_fits, is_callable_kind}
 use Rattle.cfi_type_table.specs.Node.{Node, make_node}
 use Rattle.rv_line.specs.declared.statement.NodeKind.{NodeKind}
 use Rattle.rv_line.specs.declared.statement.NodeKind.TheVariants as kinds
@@ -19,23 +19,22 @@ number_of kinds.Array = ARRAY
 number_of kinds.Struct = STRUCT
 number_of kinds.Union = UNION
 number_of kinds.Func = FUNC
+number_of kinds.VarFunc = VARFUNC
 
--- the number of a node that is there, and of one that is of functions
+-- the number of a node that is there
 abbrev pub is_node : (count : ℕ) → ℤ → Bool
 is_node count (pos n) = nat_lt n count
 is_node count (negsuc n) = false
 
-abbrev pub is_func_kind : NodeKind → Bool
-is_func_kind kinds.Func = true
-is_func_kind other = false
+-- a kind of functions, with fixed or with variable arguments
+abbrev pub is_callable : Option NodeKind → Bool
+is_callable None = false
+is_callable (Some kind) = is_callable_kind (number_of kind)
 
-abbrev pub is_func : Option NodeKind → Bool
-is_func None = false
-is_func (Some kind) = is_func_kind kind
-
-abbrev pub func_in : (nodes : List NodeKind) → ℤ → Option ℕ
-func_in nodes (pos n) = if nat_lt n (2 ^ 32) && is_func (slice_get nodes n) then Some n else None
-func_in nodes (negsuc n) = None
+-- the number of a node of functions
+abbrev pub callable_in : (nodes : List NodeKind) → ℤ → Option ℕ
+callable_in nodes (pos n) = if nat_lt n (2 ^ 32) && is_callable (slice_get nodes n) then Some n else None
+callable_in nodes (negsuc n) = None
 
 -- the fields that name nodes name some that are there
 abbrev pub names_nodes : (count : ℕ) → NodeKind → (fields : List ℤ) → Bool

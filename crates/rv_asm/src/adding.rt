@@ -6,7 +6,7 @@ ghost use Rattle.rv_asm.specs.inner.Passes.{or_range, Gives};
 use crate::draft::Draft;
 use crate::fault::AsmFault;
 use crate::file::File;
-use crate::node::func_in;
+use crate::node::callable_in;
 use crate::spot::Spot;
 use crate::switch::values_of;
 use cfi_aux::Kind;
@@ -42,11 +42,11 @@ impl Draft {
             Statement::EndFunc => self.end_function(spot),
             Statement::KindCall(node) => self.set_kind(
                 number,
-                func_in(file.kinds.as_slice(), *node).map(Kind::Call),
+                callable_in(file.kinds.as_slice(), *node).map(Kind::Call),
             ),
             Statement::KindTail(node) => self.set_kind(
                 number,
-                func_in(file.kinds.as_slice(), *node).map(Kind::Tail),
+                callable_in(file.kinds.as_slice(), *node).map(Kind::Tail),
             ),
             Statement::KindReturn => self.set_kind(number, Some(Kind::Return)),
             Statement::KindSwitch(names) => {

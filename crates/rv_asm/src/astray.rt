@@ -7,7 +7,7 @@ ghost use Rattle.rv_asm.specs.inner.Fault.{is_astray};
 use crate::check::jump_follows;
 use crate::draft::Draft;
 use crate::file::File;
-use crate::node::{func_in, names_nodes};
+use crate::node::{callable_in, names_nodes};
 use crate::row::Row;
 use crate::spot::Spot;
 use elf_read::Area;
@@ -65,11 +65,11 @@ impl Draft {
                 !names_nodes(kinds.len(), *kind, fields.as_slice())
             }
             Statement::Func { node, .. } => {
-                in_data || self.function.is_some() || func_in(kinds, *node).is_none()
+                in_data || self.function.is_some() || callable_in(kinds, *node).is_none()
             }
             Statement::EndFunc => self.is_bare(spot.text_end),
             Statement::KindCall(node) | Statement::KindTail(node) => {
-                func_in(kinds, *node).is_none() || !jump_follows(rest)
+                callable_in(kinds, *node).is_none() || !jump_follows(rest)
             }
             Statement::KindReturn | Statement::KindSwitch(_) => !jump_follows(rest),
             Statement::Jalr { .. } => in_data || (file.records && self.kind.is_none()),

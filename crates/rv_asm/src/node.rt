@@ -4,11 +4,13 @@ ghost use Rattle.std.specs.Prelude.{◌≡◌, ◌≤◌, ◌<◌, length, map, 
 ghost use Rattle.cfi_word.specs.declared.limits.TheConstants.{MAX_FIELDS};
 ghost use Rattle.std.specs.List.{list_all};
 ghost use Rattle.cfi_type_table.specs.Kind.{number_count};
-ghost use Rattle.rv_asm.specs.Node.{number_of, is_node, is_func_kind, is_func, func_in, names_nodes, is_word, is_integer, fits, node_of};
+ghost use Rattle.rv_asm.specs.Node.{number_of, is_node, is_callable, callable_in, names_nodes, is_word, is_integer, fits, node_of};
 ghost use Rattle.rv_asm.specs.Words.{low_word};
 
 use crate::words::low_word;
-use cfi_type_table::{ARRAY, FUNC, INT, PTR, REAL, STRUCT, TypeNode, UNION, VOID};
+use cfi_type_table::{
+    ARRAY, FUNC, INT, PTR, REAL, STRUCT, TypeNode, UNION, VARFUNC, VOID, is_callable_kind,
+};
 use cfi_word::limits::MAX_FIELDS;
 use rv_line::NodeKind;
 use std::alloc::{AllocError, Global};
@@ -26,36 +28,28 @@ fn number_of(kind: NodeKind) -> u32
         NodeKind::Struct => STRUCT,
         NodeKind::Union => UNION,
         NodeKind::Func => FUNC,
+        NodeKind::VarFunc => VARFUNC,
     }
 }
 
-// Whether a node is of functions.
-fn is_func(node: Option<NodeKind>) -> bool
-    ensures { result ≡ is_func node }
+// Whether a node is of functions, with fixed or with variable arguments.
+fn is_callable(node: Option<NodeKind>) -> bool
+    ensures { result ≡ is_callable node }
 {
     match node {
-        Some(kind) => is_func_kind(kind),
+        Some(kind) => is_callable_kind(number_of(kind)),
         None => false,
     }
 }
 
-fn is_func_kind(kind: NodeKind) -> bool
-    ensures { result ≡ is_func_kind kind }
-{
-    match kind {
-        NodeKind::Func => true,
-        _ => false,
-    }
-}
-
 /// The number of a node of functions. `None` where the number is none of these nodes, or another kind's.
-pub fn func_in(nodes: &[NodeKind], number: i64) -> Option<u32>
-    ensures same { result ≡ func_in nodes.now number }
+pub fn callable_in(nodes: &[NodeKind], number: i64) -> Option<u32>
+    ensures same { result ≡ callable_in nodes.now number }
 {
     let Ok(number) = u32::try_from(number) else {
         return None;
     };
-    if is_func(nodes.get(number as usize).copied()) {
+    if is_callable(nodes.get(number as usize).copied()) {
         Some(number)
     } else {
         None

@@ -10,7 +10,7 @@ ghost use Rattle.rv_asm.specs.inner.Passes.{or_range, Gives};
 use crate::draft::Draft;
 use crate::fault::AsmFault;
 use crate::file::File;
-use crate::node::{func_in, node_of};
+use crate::node::{callable_in, node_of};
 use crate::spot::Spot;
 use cfi_aux::{Function, Kind};
 use cfi_values::Items;
@@ -54,7 +54,7 @@ impl Draft {
             (or_range number (with_function file.now.kinds spot self.old name.now node taken)) }
     {
         let name = name.as_str();
-        let Some(ty) = func_in(file.kinds.as_slice(), node) else {
+        let Some(ty) = callable_in(file.kinds.as_slice(), node) else {
             return Err(AsmFault::Range(number));
         };
         if self.functions.len() >= MAX_FUNCTIONS as usize || name.len() > MAX_NAME as usize {

@@ -80,4 +80,5 @@ node_kind_called word =
     else (if bytes_eq word (codes "array") then Some nodes.Array
     else (if bytes_eq word (codes "struct") then Some nodes.Struct
     else (if bytes_eq word (codes "union") then Some nodes.Union
-    else (if bytes_eq word (codes "func") then Some nodes.Func else None)))))))
+    else (if bytes_eq word (codes "func") then Some nodes.Func
+    else (if bytes_eq word (codes "varfunc") then Some nodes.VarFunc else None))))))))

@@ -197,6 +197,7 @@ has_count nodes.Array count = count == 2
 has_count nodes.Struct count = true
 has_count nodes.Union count = true
 has_count nodes.Func count = nat_le 1 count
+has_count nodes.VarFunc count = nat_le 1 count
 
 abbrev pub node_by : NodeKind → (fields : List ℤ) → Option Statement
 node_by kind fields = if has_count kind (length fields) then Some (statements.Node kind fields) else None

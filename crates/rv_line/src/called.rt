@@ -222,6 +222,7 @@ pub fn node_kind_called(word: &[u8]) -> Option<NodeKind>
         ("struct", NodeKind::Struct),
         ("union", NodeKind::Union),
         ("func", NodeKind::Func),
+        ("varfunc", NodeKind::VarFunc),
     ];
     called_in(word, &rows)
 }

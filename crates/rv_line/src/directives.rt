@@ -58,7 +58,7 @@ fn has_count(kind: NodeKind, count: usize) -> bool
         NodeKind::Int | NodeKind::Array => count == 2,
         NodeKind::Real | NodeKind::Ptr => count == 1,
         NodeKind::Struct | NodeKind::Union => true,
-        NodeKind::Func => 1 <= count,
+        NodeKind::Func | NodeKind::VarFunc => 1 <= count,
     }
 }
 

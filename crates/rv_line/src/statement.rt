@@ -64,6 +64,8 @@ pub enum NodeKind {
     Union,
     /// A result and parameters.
     Func,
+    /// A result and fixed parameters, behind which there may be others.
+    VarFunc,
 }
 
 /// A statement, its numbers not looked at yet.

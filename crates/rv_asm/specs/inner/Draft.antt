@@ -20,7 +20,7 @@ use Rattle.rv_asm.specs.declared.file.File.{File}
 use Rattle.rv_asm.specs.declared.spot.Spot.{Spot}
 use Rattle.rv_asm.specs.declared.words.Words.{Words}
 use Rattle.rv_asm.specs.Made.{ended, values_in}
-use Rattle.rv_asm.specs.Node.{func_in, node_of}
+use Rattle.rv_asm.specs.Node.{callable_in, node_of}
 use Rattle.rv_asm.specs.Relocs.{reloc_by, relocs_of}
 use Rattle.rv_asm.specs.Words.{word_bytes, words_bytes, size_of, low_word, words_of}
 
@@ -113,7 +113,7 @@ with_node draft (Some node) =
 abbrev pub with_function : (kinds : List NodeKind) → Spot → Draft → (name : List ℕ) → (node : ℤ) → (taken : Bool) →
     Option Draft
 with_function kinds spot draft name node taken = do
-  ty ← func_in kinds node
+  ty ← callable_in kinds node
   if nat_lt (length draft.functions) MAX_FUNCTIONS && nat_le (length name) MAX_NAME
       then Some (record draft {
         function = Some (record { offset = spot.text_end; length = 0; ty = ty; taken = taken; name = name });
@@ -148,9 +148,9 @@ with_statement file spot draft (statements.Node kind fields) = with_node draft (
 with_statement file spot draft (statements.Func name node taken) = with_function file.kinds spot draft name node taken
 with_statement file spot draft statements.EndFunc = Some (closed spot draft draft.function)
 with_statement file spot draft (statements.KindCall node) =
-    with_kind draft (option_map branches.Call (func_in file.kinds node))
+    with_kind draft (option_map branches.Call (callable_in file.kinds node))
 with_statement file spot draft (statements.KindTail node) =
-    with_kind draft (option_map branches.Tail (func_in file.kinds node))
+    with_kind draft (option_map branches.Tail (callable_in file.kinds node))
 with_statement file spot draft statements.KindReturn = with_kind draft (Some branches.Return)
 with_statement file spot draft (statements.KindSwitch names) = with_switch draft (values_in file.names names)
 with_statement file spot draft (statements.Jalr rd rs1 imm) = do

@@ -7,5 +7,5 @@ use Rattle.cfi_aux.proofs.function.functions_from.Given as goal
 -- the functions so far and what is still read are what all reading gives
 abbrev pub invariant-loop-number : goal.invariant-loop-number
 invariant-loop-number l =
-    with_front l.functions.items (each (function_at l.types) l.number (l.count - l.number) l.rest) ≡ each (function_at
-    l.types) 0 l.count l.bytes
+    with_front l.functions.items (each (function_at l.version l.types) l.number (l.count - l.number) l.rest)
+    ≡ each (function_at l.version l.types) 0 l.count l.bytes

@@ -1,7 +1,6 @@
-use Rattle.std.proofs.Common.{ap, subst, ◌∙◌, arith}
+use Rattle.std.proofs.Common.{subst, arith}
 use Rattle.cfi_aux.specs.Reading.{ReadingGives}
-use Rattle.cfi_aux.specs.Faults.{records_in}
-use Rattle.cfi_aux.proofs.Whole.{is_read, records_again}
+use Rattle.cfi_aux.proofs.Whole.{is_read, spelled_again}
 use Rattle.cfi_aux.proofs.reading.read_records.Goals as goal
 
 pub returns-clause-ok : goal.returns-clause-ok
@@ -10,5 +9,5 @@ returns-clause-ok c =
 
 pub returns-clause-only : goal.returns-clause-only
 returns-clause-only c =
-    λ records good e. subst (λ due. ReadingGives (λ found. found) c.all_of.result due)
-    (ap (records_in c.args.types.now) e ∙ records_again c.args.types.now records good) c.all_of.ensures
+    λ records spells. subst (λ due. ReadingGives (λ found. found) c.all_of.result due)
+    (spelled_again c.args.types.now c.args.bytes.now records spells) c.all_of.ensures
