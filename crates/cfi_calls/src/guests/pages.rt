@@ -1,6 +1,7 @@
 //! Which pages of private data a guest makes.
 
 use super::{goes, put_into};
+use cfi_values::Items;
 use rv_guest::{Fill, Guest};
 use std::alloc::{AllocError, Global};
 
@@ -27,7 +28,7 @@ pub fn are_made(alloc: Global) -> Result<bool, AllocError> {
     let again = touches(&mut guest, 0x40000000);
     let fill = Fill {
         at: 0x40000ffe,
-        bytes: vec![in alloc; 1u8; 4_099]?,
+        bytes: Items::from_vec(vec![in alloc; 1u8; 4_099]?),
     };
     let filled = Guest::open(alloc, 1, 64, vec![in alloc; fill]?.as_slice())?;
     Ok((none, last, next, again, filled.pages()) == (0, (0, 1), (1, 2), (2, 2), 3))
