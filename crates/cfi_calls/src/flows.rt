@@ -72,6 +72,7 @@ fn flow_of(
         sites: links_of(alloc, sites)?,
         returns: links_of(alloc, returns)?,
         pointers: links_of(alloc, &[(3, 0)])?,
+        widenings: arrows_of(alloc, &[])?,
         entries: links_of(alloc, entries)?,
         listed: links_of(alloc, &[(1, 0x44)])?,
     })
