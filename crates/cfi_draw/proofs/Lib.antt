@@ -1,0 +1,3 @@
+mod DrawsLemmas
+mod LineLemmas
+pub mod SizeLemmas
