@@ -32,3 +32,12 @@ pub refused_is_none : (bytes : List ℕ) (object : Object) (fault : AuxFault) (m
 refused_is_none bytes object fault m is refused file =
     let same : object ≡ file.object = one_object bytes object file.object is.kept file.is.kept in
     ok_or_err (sym (module_again file.object m file.whole) ∙ ap module_in (sym same) ∙ refused)
+
+-- what is found is the module that the file is
+pub found_is_it : (bytes : List ℕ) (object : Object) (found m : Module) → IsObject bytes object
+    → module_in object ≡ Ok found → IsModuleFile bytes m → found ≡ m
+found_is_it bytes object found m is read file =
+    let same : object ≡ file.object = one_object bytes object file.object is.kept file.is.kept in
+    let both : ◌≡◌ {A = Result Module AuxFault} (Ok found) (Ok m) =
+    sym read ∙ ap module_in same ∙ module_again file.object m file.whole in
+    cc
