@@ -204,9 +204,10 @@ Reads-return : (version : RecordVersion) (types : List Node) (size : Option ℕ)
 Reads-return version types size kind n is none = record {
   takes = λ bytes x fits e. subst
       (λ (y : Kind × List ℕ). Takes bytes (body_bytes y.0) y.1 × IsBody version types size kind n y.0)
-      (ok_is (Return, bytes) x e)
-      (record { parts = refl; rest_fits = fits },
-      record { number = sym is; count = sym none; words = tt; named = tt; cell = refl });
+      (ok_is (Return, bytes) x e) (
+        record { parts = refl; rest_fits = fits },
+        record { number = sym is; count = sym none; words = tt; named = tt; cell = refl },
+      );
   again = λ b rest h. let same : Return ≡ b = return_good version types size kind n b is h in rw (← same) refl;
 }
 

@@ -130,12 +130,15 @@ records_agree version types size = record {
       ++ (flat_map function_bytes x.1.0 ++ flat_map branch_bytes x.1.1)) h.1.0.0
       ∙ ap (λ (n : ℕ). (word x.0.0 ++ word n)
       ++ (flat_map function_bytes x.1.0 ++ flat_map branch_bytes x.1.1)) h.1.1.0;
-  viewed = λ x h. let branches = branches_parts version types size x.1.1 h.1.1.1 in (record {
-    function_count = subst (λ (n : ℕ). n ≤ MAX_FUNCTIONS) (sym h.1.0.0) (leb-true x.0.0 MAX_FUNCTIONS h.0.0.1);
-    branch_count = subst (λ (n : ℕ). n ≤ MAX_BRANCHES) (sym h.1.1.0) (leb-true x.0.1 MAX_BRANCHES h.0.1.1);
-    functions = h.1.0.1;
-    branches = branches.0;
-  }, branches.1);
+  viewed = λ x h. let branches = branches_parts version types size x.1.1 h.1.1.1 in (
+    record {
+      function_count = subst (λ (n : ℕ). n ≤ MAX_FUNCTIONS) (sym h.1.0.0) (leb-true x.0.0 MAX_FUNCTIONS h.0.0.1);
+      branch_count = subst (λ (n : ℕ). n ≤ MAX_BRANCHES) (sym h.1.1.0) (leb-true x.0.1 MAX_BRANCHES h.0.1.1);
+      functions = h.1.0.1;
+      branches = branches.0;
+    },
+    branches.1,
+  );
   good_back = λ r h. (
     (
       (omega (arith, h.0.function_count), le-leb (length r.functions) MAX_FUNCTIONS h.0.function_count),
