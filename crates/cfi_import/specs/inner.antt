@@ -1,0 +1,3 @@
+-- What only private clauses cite.
+pub mod Found
+pub mod Capped
