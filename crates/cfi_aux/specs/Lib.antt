@@ -1,5 +1,6 @@
 pub mod Format
 pub mod Version
+pub mod Cells
 pub mod Records
 pub mod Reading
 pub mod Faults

@@ -1,5 +1,6 @@
--- Which module an object is: its records are read with its types, and both sections are used up.
-use Rattle.std.specs.Prelude.{◌≡◌, ℕ, List, Option, Some, None, Result, Ok, Err}
+-- Which module an object is: its records are read with its types, both sections are used up, and the cells of imports lie
+-- within its data.
+use Rattle.std.specs.Prelude.{◌≡◌, ℕ, IsTrue, List, length, Option, Some, None, Result, Ok, Err}
 use Rattle.elf_read.specs.declared.object.Object.{Object}
 use Rattle.cfi_type_table.specs.declared.fault.TypeFault.{TypeFault}
 use Rattle.cfi_type_table.specs.declared.fault.TypeFault.TheVariants as faults
@@ -12,15 +13,25 @@ use Rattle.cfi_aux.specs.declared.modules.Module.{Module}
 use Rattle.cfi_aux.specs.declared.records.Records.{Records}
 use Rattle.cfi_aux.specs.declared.version.RecordVersion.{RecordVersion}
 use Rattle.cfi_aux.specs.Records.{AreRecordsIn, spelling_in}
+use Rattle.cfi_aux.specs.Cells.{have_cells}
 use Rattle.cfi_values.specs.Then.{◌>>=◌}
-use Rattle.cfi_aux.specs.Faults.{records_in}
+use Rattle.cfi_aux.specs.Faults.{records_within}
 
--- a type table and records, spelled by the two sections of the object, in a version that the second names
+-- the bytes spell the records, in a version of which they are records, and cells lie within `size` bytes of data
+pub record SpellsWithin (types : List Node) (size : ℕ) (bytes : List ℕ) (r : Records) : Type 0 where
+  pub version : RecordVersion
+  pub good : AreRecordsIn version types r
+  pub cells : IsTrue (have_cells size r.branches)
+  pub spelled : bytes ≡ spelling_in version r
+
+-- a type table and records, spelled by the two sections of the object, in a version that the second names, with cells
+-- within the object's data
 pub record AreSpelled (object : Object) (types : List Node) (records : Records) : Type 0 where
   pub table : spelled.AreTypes types
   pub types_spelled : object.types ≡ Some (spelled.spelling types)
   pub version : RecordVersion
   pub good : AreRecordsIn version types records
+  pub cells : IsTrue (have_cells (length object.static_data) records.branches)
   pub records_spelled : object.records ≡ Some (spelling_in version records)
 
 -- the object, with the type table and the records that its two sections spell
@@ -40,15 +51,11 @@ as_types (Ok table) = Ok table
 as_types (Err fault) = Err (fault_of fault)
 
 -- what the two sections give, or what stands first: a section is missing, the types have a fault, the records have one
-abbrev pub parts_by : (types records : Option (List ℕ)) → Result (List Node × Records) AuxFault
-parts_by None records = Err NoRecords
-parts_by (Some types) None = Err NoRecords
-parts_by (Some types) (Some records) =
-    as_types (types_in types) >>= λ table. records_in table records >>= λ found. Ok (table, found)
+abbrev pub parts_by : (size : ℕ) → (types records : Option (List ℕ)) → Result (List Node × Records) AuxFault
+parts_by size None records = Err NoRecords
+parts_by size (Some types) None = Err NoRecords
+parts_by size (Some types) (Some records) =
+    as_types (types_in types) >>= λ table. records_within table (Some size) records >>= λ found. Ok (table, found)
 
 abbrev pub parts_in : Object → Result (List Node × Records) AuxFault
-parts_in object = parts_by object.types object.records
-
--- the module that they give with the object
-abbrev pub module_in : Object → Result Module AuxFault
-module_in object = parts_in object >>= λ parts. Ok (record { object = object; types = parts.0; records = parts.1 })
+parts_in object = parts_by (length object.static_data) object.types object.records

@@ -1,7 +1,7 @@
 //! The numbers of the record section, and which words its records may have.
 
 ghost use Rattle.std.specs.Prelude.{◌≡◌};
-ghost use Rattle.cfi_aux.specs.Format.{is_whole, is_length, is_flag, is_name_length, has_count};
+ghost use Rattle.cfi_aux.specs.Format.{is_whole, is_length, is_flag, is_name_length, import_words, fits_import, is_cell, is_cell_in, has_count};
 
 use cfi_word::limits::{MAX_ENTRIES, MAX_NAME};
 
@@ -13,6 +13,12 @@ pub const TAIL: u32 = 1;
 pub const RETURN: u32 = 2;
 /// The kind of a branch that is the jump of a switch.
 pub const SWITCH: u32 = 3;
+/// The kind of a branch that is an import.
+pub const IMPORT: u32 = 4;
+/// The number of words of an import whose name has one byte.
+pub const MIN_IMPORT: u32 = 3;
+/// The number of words of an import whose name has `MAX_NAME` bytes.
+pub const MAX_IMPORT: u32 = 66;
 
 /// Whether the word counts bytes of whole instructions.
 pub fn is_whole(word: u32) -> bool
@@ -42,6 +48,23 @@ pub fn is_name_length(word: u32) -> bool
     1 <= word && word as usize <= MAX_NAME
 }
 
+/// Whether the word may be the length of the name of an import of `count` words.
+pub fn fits_import(count: u32, word: u32) -> bool
+    ensures { result ≡ fits_import count word }
+{
+    is_name_length(word) && 2 + word.div_ceil(4) == count
+}
+
+/// Whether the word may be where the cell of an import begins, in data of `size` bytes where that is known.
+pub fn is_cell_in(size: Option<usize>, word: u32) -> bool
+    ensures { result ≡ is_cell_in size word }
+{
+    match size {
+        Some(size) => is_whole(word) && word as usize + 4 <= size,
+        None => is_whole(word),
+    }
+}
+
 /// Whether a branch of the kind may have `count` words.
 pub fn has_count(kind: u32, count: u32) -> bool
     ensures { result ≡ has_count kind count }
@@ -50,6 +73,7 @@ pub fn has_count(kind: u32, count: u32) -> bool
         CALL | TAIL => count == 1,
         RETURN => count == 0,
         SWITCH => 1 <= count && count <= MAX_ENTRIES,
+        IMPORT => MIN_IMPORT <= count && count <= MAX_IMPORT,
         _ => false,
     }
 }

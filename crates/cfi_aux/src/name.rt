@@ -1,12 +1,13 @@
-//! Names of functions.
+//! Names of functions and of imports.
 
 ghost use Rattle.std.specs.Prelude.{◌≡◌};
 ghost use Rattle.cfi_aux.specs.Reading.{ReadingGives};
+ghost use Rattle.cfi_aux.specs.Format.{fits_import};
 ghost use Rattle.cfi_aux.specs.Records.{padding};
-ghost use Rattle.cfi_aux.specs.Faults.{text_at, zeroes_at, name_at};
+ghost use Rattle.cfi_aux.specs.Faults.{text_at, zeroes_at, padded_at, name_where, name_at};
 
 use crate::fault::AuxFault;
-use crate::word::name_length_from;
+use crate::word::{import_length_from, name_length_from};
 use elf_read::Name;
 use std::alloc::Global;
 
@@ -55,13 +56,42 @@ pub fn padding(length: usize) -> usize
     (4 - length % 4) % 4
 }
 
+#[tactic(auto, unfolding(crate::specs::Faults::padded_at, crate::specs::Reading::seen_as, crate::specs::Reading::and_also))]
+fn padded_from(
+    alloc: Global,
+    number: u32,
+    length: usize,
+    bytes: &[u8],
+) -> Result<(Name, &[u8]), AuxFault>
+    ensures { ReadingGives (λ x. (x.0, x.1.now)) result (padded_at number length bytes.now) }
+{
+    let (name, rest) = text_from(alloc, number, length, bytes)?;
+    let rest = after_zeroes(number, padding(length), rest)?;
+    Ok((name, rest))
+}
+
 /// The name in record `number`, with its length before it and zero bytes after it.
-#[tactic(auto, unfolding(crate::specs::Faults::name_at, crate::specs::Reading::seen_as, crate::specs::Reading::and_with, crate::specs::Reading::and_also))]
+#[tactic(auto, unfolding(crate::specs::Faults::name_where, crate::specs::Reading::seen_as, crate::specs::Reading::and_with))]
 pub fn name_from(alloc: Global, number: u32, bytes: &[u8]) -> Result<(Name, &[u8]), AuxFault>
     ensures { ReadingGives (λ x. (x.0, x.1.now)) result (name_at number bytes.now) }
 {
     let (length, rest) = name_length_from(number, bytes)?;
-    let (name, rest) = text_from(alloc, number, length as usize, rest)?;
-    let rest = after_zeroes(number, padding(length as usize), rest)?;
+    let (name, rest) = padded_from(alloc, number, length as usize, rest)?;
+    Ok((name, rest))
+}
+
+/// The same name, of an import that has `count` words.
+#[tactic(auto, unfolding(crate::specs::Faults::name_where, crate::specs::Reading::seen_as, crate::specs::Reading::and_with))]
+pub fn import_name_from(
+    alloc: Global,
+    number: u32,
+    count: u32,
+    bytes: &[u8],
+) -> Result<(Name, &[u8]), AuxFault>
+    ensures { ReadingGives (λ x. (x.0, x.1.now)) result
+        (name_where (fits_import count) number bytes.now) }
+{
+    let (length, rest) = import_length_from(number, count, bytes)?;
+    let (name, rest) = padded_from(alloc, number, length as usize, rest)?;
     Ok((name, rest))
 }

@@ -1,6 +1,7 @@
 //! Placed modules, and what the symbols of an object say of its functions.
 
-ghost use Rattle.std.specs.Prelude.{◌≡◌, ◌<◌, ◌^◌, All, IfOk};
+ghost use Rattle.std.specs.Prelude.{◌≡◌, ◌<◌, ◌^◌, All, IfOk, IsTrue, length};
+ghost use Rattle.cfi_aux.specs.Cells.{have_cells};
 ghost use Rattle.cfi_aux.specs.Placed.{names_function, is_global, is_export, address_of, exports_of};
 
 use crate::records::{Function, Kind};
@@ -47,6 +48,8 @@ pub struct Placed {
     pub types: TypeTable,
     /// The names that it defines for other modules, with their addresses: `exports` of its symbols.
     pub exports: Items<(Name, u32)>,
+    /// The cell of each import is a whole word of the data.
+    pub ghost cells: { IsTrue (have_cells (length static_data) branches) },
 }
 
 fn names_function(function: &Function, symbol: &Symbol) -> bool

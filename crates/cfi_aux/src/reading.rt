@@ -1,10 +1,11 @@
 //! Reads records from their bytes.
 
-ghost use Rattle.std.specs.Prelude.{IfOk, Ok};
+ghost use Rattle.std.specs.Prelude.{IfOk, Ok, Some};
 ghost use Rattle.cfi_aux.specs.declared.records.Records.{Records};
 ghost use Rattle.cfi_aux.specs.Records.{Spells};
+ghost use Rattle.cfi_aux.specs.Module.{SpellsWithin};
 ghost use Rattle.cfi_aux.specs.Reading.{ReadingGives};
-ghost use Rattle.cfi_aux.specs.Faults.{records_at, records_in};
+ghost use Rattle.cfi_aux.specs.Faults.{records_at, records_within, records_in};
 
 use crate::branch::branches_from;
 use crate::fault::AuxFault;
@@ -22,9 +23,10 @@ fn records_from<'a>(
     alloc: Global,
     version: RecordVersion,
     types: &TypeTable,
+    size: Option<usize>,
     bytes: &'a [u8],
 ) -> Result<(Records, &'a [u8]), AuxFault>
-    ensures { ReadingGives (λ x. (x.0, x.1.now)) result (records_at version types.now bytes.now) }
+    ensures { ReadingGives (λ x. (x.0, x.1.now)) result (records_at version types.now size bytes.now) }
 {
     let (function_count, rest) = count_from(MAX_FUNCTIONS, bytes)?;
     let (branch_count, rest) = count_from(MAX_BRANCHES, rest)?;
@@ -33,6 +35,7 @@ fn records_from<'a>(
         alloc,
         version,
         types,
+        size,
         function_count,
         branch_count,
         rest,
@@ -44,12 +47,17 @@ fn records_from<'a>(
     Ok((records, rest))
 }
 
-#[tactic(auto, unfolding(crate::specs::Faults::records_in, crate::specs::Faults::whole_at, crate::specs::Reading::and_with))]
-fn all_of(alloc: Global, bytes: &[u8], types: &TypeTable) -> Result<Records, AuxFault>
-    ensures { ReadingGives (λ records. records) result (records_in types.now bytes.now) }
+#[tactic(auto, unfolding(crate::specs::Faults::records_within, crate::specs::Faults::whole_at, crate::specs::Reading::and_with))]
+fn all_of(
+    alloc: Global,
+    bytes: &[u8],
+    types: &TypeTable,
+    size: Option<usize>,
+) -> Result<Records, AuxFault>
+    ensures { ReadingGives (λ records. records) result (records_within types.now size bytes.now) }
 {
     let (version, rest) = version_from(bytes)?;
-    let (records, rest) = records_from(alloc, version, types, rest)?;
+    let (records, rest) = records_from(alloc, version, types, size, rest)?;
     if !rest.is_empty() {
         return Err(AuxFault::Short);
     }
@@ -61,7 +69,8 @@ fn all_of(alloc: Global, bytes: &[u8], types: &TypeTable) -> Result<Records, Aux
 /// Words with the version, the number of functions and the number of branches; then each function as its offset, its
 /// length, its type, its flags and its name; then each branch as its kind, the number of its words, and these. Words
 /// are of four bytes, the lowest first. In version 1 types are functions with fixed arguments, in version 2 they may
-/// have variable ones. A fault is the first from left to right. MCFI, auxiliary information.
+/// have variable ones, and in version 3 branches may be imports as well. A fault is the first from left to right. MCFI,
+/// auxiliary information.
 pub fn read_records(alloc: Global, bytes: &[u8], types: &TypeTable) -> Result<Records, AuxFault>
     // What is read are records of a version, and the bytes are their spelling in it.
     ensures ok { IfOk result (Spells types.now bytes.now) }
@@ -71,5 +80,21 @@ pub fn read_records(alloc: Global, bytes: &[u8], types: &TypeTable) -> Result<Re
     // Which fault it is.
     ensures fault { ReadingGives (λ found. found) result (records_in types.now bytes.now) }
 {
-    all_of(alloc, bytes, types)
+    all_of(alloc, bytes, types, None)
+}
+
+/// The records that the bytes spell, as `read_records` reads them, of a module with `size` bytes of data: an import whose
+/// cell does not lie within these is malformed.
+pub fn records_of_data(
+    alloc: Global,
+    bytes: &[u8],
+    types: &TypeTable,
+    size: usize,
+) -> Result<Records, AuxFault>
+    // What is read are records of a version, with cells within the data, and the bytes are their spelling in it.
+    ensures ok { IfOk result (SpellsWithin types.now size bytes.now) }
+    // Which fault it is.
+    ensures fault { ReadingGives (λ found. found) result (records_within types.now (Some size) bytes.now) }
+{
+    all_of(alloc, bytes, types, Some(size))
 }

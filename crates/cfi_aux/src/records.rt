@@ -29,6 +29,14 @@ pub enum Kind {
     Return,
     /// A jump to one of these places, in bytes from the start of the text.
     Switch(Items<u32>),
+    /// A tail call of the global function of this name, which may be in a module that comes later.
+    Import {
+        /// The function's name.
+        name: Name,
+        /// Where its address stands, in bytes from the start of the data: a cell of four bytes, which a module keeps
+        /// within its data.
+        cell: u32,
+    },
 }
 
 /// The functions of a module, and what its indirect jumps are: entry k is that of the k-th.

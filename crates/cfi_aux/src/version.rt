@@ -1,8 +1,10 @@
-//! The versions of records, and which nodes the records of each may name.
+//! The versions of records, which nodes the records of each may name, and which branches it has.
 
 ghost use Rattle.std.specs.Prelude.{◌≡◌};
-ghost use Rattle.cfi_aux.specs.Version.{version_word, version_of, is_func, is_type};
+ghost use Rattle.cfi_aux.specs.Version.{version_word, version_of, is_func, is_type, last_kind, is_import, version_for};
 
+use crate::format::{IMPORT, SWITCH};
+use crate::records::Kind;
 use cfi_type_table::{FUNC, TypeTable};
 
 /// A version of records. The section begins with its word.
@@ -12,10 +14,12 @@ pub enum RecordVersion {
     One,
     /// Word 2: functions may have variable arguments.
     Two,
+    /// Word 3: and branches may be imports.
+    Three,
 }
 
-/// The version that is written.
-pub const LATEST: RecordVersion = RecordVersion::Two;
+/// The version that takes what the others take.
+pub const LATEST: RecordVersion = RecordVersion::Three;
 
 /// The word of the version.
 pub fn version_word(version: RecordVersion) -> u32
@@ -24,6 +28,7 @@ pub fn version_word(version: RecordVersion) -> u32
     match version {
         RecordVersion::One => 1,
         RecordVersion::Two => 2,
+        RecordVersion::Three => 3,
     }
 }
 
@@ -34,6 +39,7 @@ pub fn version_of(word: u32) -> Option<RecordVersion>
     match word {
         1 => Some(RecordVersion::One),
         2 => Some(RecordVersion::Two),
+        3 => Some(RecordVersion::Three),
         _ => None,
     }
 }
@@ -52,6 +58,36 @@ pub fn is_type(version: RecordVersion, types: &TypeTable, word: u32) -> bool
 {
     match version {
         RecordVersion::One => is_func(types, word),
-        RecordVersion::Two => types.is_callable(word),
+        RecordVersion::Two | RecordVersion::Three => types.is_callable(word),
+    }
+}
+
+/// The greatest kind of a branch.
+pub fn last_kind(version: RecordVersion) -> u32
+    ensures { result ≡ last_kind version }
+{
+    match version {
+        RecordVersion::One | RecordVersion::Two => SWITCH,
+        RecordVersion::Three => IMPORT,
+    }
+}
+
+fn is_import(branch: &Kind) -> bool
+    ensures { result ≡ is_import branch.now }
+{
+    match branch {
+        Kind::Import { .. } => true,
+        Kind::Call(_) | Kind::Tail(_) | Kind::Return | Kind::Switch(_) => false,
+    }
+}
+
+/// The version in which records with these branches are written: 3 where one is an import, else 2.
+pub fn version_for(branches: &[Kind]) -> RecordVersion
+    ensures { result ≡ version_for branches.now }
+{
+    if branches.iter().any(is_import) {
+        RecordVersion::Three
+    } else {
+        RecordVersion::Two
     }
 }

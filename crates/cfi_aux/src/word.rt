@@ -3,13 +3,15 @@
 ghost use Rattle.std.specs.Prelude.{◌≤◌, nat_le, IfOk};
 ghost use Rattle.cfi_aux.specs.declared.fault.AuxFault.TheVariants.{BadRecord};
 ghost use Rattle.cfi_aux.specs.Reading.{ReadingGives, word_where};
-ghost use Rattle.cfi_aux.specs.Format.{is_whole, is_length, is_flag, is_name_length, has_count};
-ghost use Rattle.cfi_aux.specs.Version.{is_type};
+ghost use Rattle.cfi_aux.specs.Format.{is_whole, is_length, is_flag, is_name_length, fits_import, is_cell_in, has_count};
+ghost use Rattle.cfi_aux.specs.Version.{is_type, last_kind};
 ghost use Rattle.cfi_aux.specs.Faults.{count_at, version_at};
 
 use crate::fault::AuxFault;
-use crate::format::{SWITCH, has_count, is_flag, is_length, is_name_length, is_whole};
-use crate::version::{RecordVersion, is_type, version_of};
+use crate::format::{
+    fits_import, has_count, is_cell_in, is_flag, is_length, is_name_length, is_whole,
+};
+use crate::version::{RecordVersion, is_type, last_kind, version_of};
 use cfi_type_table::{TypeTable, split_word};
 
 /// The version, whose word stands first.
@@ -106,14 +108,44 @@ pub fn name_length_from(number: u32, bytes: &[u8]) -> Result<(u32, &[u8]), AuxFa
     Ok((word, rest))
 }
 
-/// The kind of the branch of record `number`.
+/// The number of bytes of the name of the import of record `number`, which has `count` words.
 #[tactic(auto, unfolding(crate::specs::Reading::word_where))]
-pub fn kind_from(number: u32, bytes: &[u8]) -> Result<(u32, &[u8]), AuxFault>
+pub fn import_length_from(number: u32, count: u32, bytes: &[u8]) -> Result<(u32, &[u8]), AuxFault>
     ensures { ReadingGives (λ x. (x.0, x.1.now)) result
-        (word_where (λ kind. nat_le kind SWITCH) (BadRecord number) bytes.now) }
+        (word_where (fits_import count) (BadRecord number) bytes.now) }
 {
     let (word, rest) = split_word(bytes).ok_or(AuxFault::Short)?;
-    if word > SWITCH {
+    if !fits_import(count, word) {
+        return Err(AuxFault::BadRecord(number));
+    }
+    Ok((word, rest))
+}
+
+/// Where the cell of the import of record `number` begins, in data of `size` bytes where that is known.
+#[tactic(auto, unfolding(crate::specs::Reading::word_where))]
+pub fn cell_from(size: Option<usize>, number: u32, bytes: &[u8]) -> Result<(u32, &[u8]), AuxFault>
+    ensures { ReadingGives (λ x. (x.0, x.1.now)) result
+        (word_where (is_cell_in size) (BadRecord number) bytes.now) }
+{
+    let (word, rest) = split_word(bytes).ok_or(AuxFault::Short)?;
+    if !is_cell_in(size, word) {
+        return Err(AuxFault::BadRecord(number));
+    }
+    Ok((word, rest))
+}
+
+/// The kind of the branch of record `number`, which the version has.
+#[tactic(auto, unfolding(crate::specs::Reading::word_where))]
+pub fn kind_from(
+    version: RecordVersion,
+    number: u32,
+    bytes: &[u8],
+) -> Result<(u32, &[u8]), AuxFault>
+    ensures { ReadingGives (λ x. (x.0, x.1.now)) result
+        (word_where (λ kind. nat_le kind (last_kind version)) (BadRecord number) bytes.now) }
+{
+    let (word, rest) = split_word(bytes).ok_or(AuxFault::Short)?;
+    if word > last_kind(version) {
         return Err(AuxFault::BadRecord(number));
     }
     Ok((word, rest))

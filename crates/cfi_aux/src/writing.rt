@@ -5,14 +5,17 @@ ghost use Rattle.std.specs.List.{flat_map};
 ghost use Rattle.cfi_type_table.specs.Node.{Node};
 ghost use Rattle.cfi_type_table.specs.Spelling.{word};
 ghost use Rattle.cfi_aux.specs.declared.records.Records.{Records};
-ghost use Rattle.cfi_aux.specs.Records.{AreRecordsIn, AreRecords, CanBeWritten, kind_words, name_bytes, function_bytes, branch_bytes, spelling_in, spelling};
+ghost use Rattle.cfi_aux.specs.Records.{AreRecordsIn, AreRecords, CanBeWritten, kind_words, import_name, name_bytes, function_bytes, branch_bytes, spelling_in, spelling};
+ghost use Rattle.cfi_aux.specs.Format.{import_words};
+ghost use Rattle.cfi_aux.specs.Version.{version_for};
+ghost use Rattle.cfi_aux.specs.declared.format.TheConstants.{IMPORT};
 ghost use Rattle.cfi_aux.specs.declared.version.RecordVersion.{RecordVersion};
 ghost use Rattle.cfi_aux.specs.Faults.{records_in};
 
-use crate::format::{CALL, RETURN, SWITCH, TAIL};
+use crate::format::{CALL, IMPORT, RETURN, SWITCH, TAIL};
 use crate::name::padding;
 use crate::records::{Function, Kind, Records};
-use crate::version::{LATEST, version_word};
+use crate::version::{version_for, version_word};
 use elf_read::Name;
 use std::alloc::{AllocError, Global};
 
@@ -59,8 +62,22 @@ fn put_words(out: &mut Vec<u8>, kind: u32, words: &[u32]) -> Result<(), AllocErr
     Ok(())
 }
 
+fn put_import(out: &mut Vec<u8>, name: &Name, cell: u32) -> Result<(), AllocError>
+    requires { length name.now < 2 ^ 32 }
+    ensures { OnOk result (out.new.items ≡ out.old.items ++
+        (word IMPORT ++ (word (import_words (length name.now)) ++ (word cell ++ name_bytes name.now)))) }
+{
+    let length = name.as_str().len() as u32;
+    put_word(out, IMPORT)?;
+    put_word(out, 2 + length.div_ceil(4))?;
+    put_word(out, cell)?;
+    put_name(out, name)?;
+    Ok(())
+}
+
 fn put_branch(out: &mut Vec<u8>, branch: &Kind) -> Result<(), AllocError>
-    requires { length (kind_words branch.now) < 2 ^ 32 }
+    requires words { length (kind_words branch.now) < 2 ^ 32 }
+    requires name { length (import_name branch.now) < 2 ^ 32 }
     ensures { OnOk result (out.new.items ≡ out.old.items ++ branch_bytes branch.now) }
 {
     match branch {
@@ -68,6 +85,7 @@ fn put_branch(out: &mut Vec<u8>, branch: &Kind) -> Result<(), AllocError>
         Kind::Tail(node) => put_words(out, TAIL, &[*node]),
         Kind::Return => put_words(out, RETURN, &[]),
         Kind::Switch(places) => put_words(out, SWITCH, places.as_slice()),
+        Kind::Import { name, cell } => put_import(out, name, *cell),
     }
 }
 
@@ -82,7 +100,8 @@ fn put_functions(out: &mut Vec<u8>, functions: &[Function]) -> Result<(), AllocE
 }
 
 fn put_branches(out: &mut Vec<u8>, branches: &[Kind]) -> Result<(), AllocError>
-    requires { All (λ b. length (kind_words b) < 2 ^ 32) branches.now }
+    requires words { All (λ b. length (kind_words b) < 2 ^ 32) branches.now }
+    requires names { All (λ b. length (import_name b) < 2 ^ 32) branches.now }
     ensures { OnOk result (out.new.items ≡ out.old.items ++ flat_map branch_bytes branches.now) }
 {
     for branch in branches {
@@ -91,10 +110,10 @@ fn put_branches(out: &mut Vec<u8>, branches: &[Kind]) -> Result<(), AllocError>
     Ok(())
 }
 
-/// The bytes that spell the records, in version 2. `read_records` reads them from these where they are records of a
-/// type table.
+/// The bytes that spell the records, in version 3 where a branch is an import and else in version 2. `read_records` reads
+/// them from these where they are records of a type table.
 ///
-/// The numbers of functions, of branches, of a name's bytes and of a branch's words are below 2^32.
+/// The numbers of functions, of branches, of a name's bytes and of a branch's numbers are below 2^32.
 pub fn write_records(alloc: Global, records: &Records) -> Result<Vec<u8>, AllocError>
     requires { CanBeWritten records.now }
     ensures { IfOk result (λ bytes. bytes.items ≡ spelling records.now) }
@@ -102,7 +121,7 @@ pub fn write_records(alloc: Global, records: &Records) -> Result<Vec<u8>, AllocE
     let mut out = Vec::new(alloc);
     let functions = records.functions.as_slice();
     let branches = records.branches.as_slice();
-    put_word(&mut out, version_word(LATEST))?;
+    put_word(&mut out, version_word(version_for(branches)))?;
     put_word(&mut out, functions.len() as u32)?;
     put_word(&mut out, branches.len() as u32)?;
     put_functions(&mut out, functions)?;
@@ -117,10 +136,12 @@ pub fn written_is_read()
         records_in types (spelling_in version records) ≡ Ok records }
 {}
 
-/// What is read can be written: records of a version are records of the one that is written.
+/// What is read can be written: records of a version are records of the latest, and these of the one that is written.
 pub fn read_can_be_written()
     ensures good { (version : RecordVersion) → (types : List Node) → (records : Records) →
         AreRecordsIn version types records → AreRecords types records }
+    ensures written { (types : List Node) → (records : Records) → AreRecords types records →
+        AreRecordsIn (version_for records.branches) types records }
     ensures sized { (version : RecordVersion) → (types : List Node) → (records : Records) →
         AreRecordsIn version types records → CanBeWritten records }
 {}
