@@ -1,7 +1,7 @@
 -- Where stubs go: their text at the end of the text, their cells at the end of the data, which is padded to whole words,
 -- their type at the end of the types, and their symbols before the first symbol that is not local.
 use Rattle.std.specs.Prelude.{ℕ, ◌+◌, ◌*◌, Bool, true, false, not, length, List, [], ◌∷◌, if◌then◌else◌}
-use Rattle.std.specs.List.{position_or_len, list_any}
+use Rattle.std.specs.List.{list_any}
 use Rattle.elf_read.specs.Sound.{is_exported}
 use Rattle.elf_read.specs.declared.object.Symbol.{Symbol}
 use Rattle.elf_read.specs.declared.object.Reloc.{Reloc}
@@ -14,7 +14,8 @@ use Rattle.cfi_import.specs.declared.start.TheConstants.{STUB_BYTES, CELL_BYTES,
 
 -- the number of the first symbol that is not local
 abbrev pub first_shared : List Symbol → ℕ
-first_shared symbols = position_or_len (λ symbol. is_exported symbol.binding) symbols
+first_shared [] = 0
+first_shared (symbol ∷ symbols) = if is_exported symbol.binding then 0 else 1 + first_shared symbols
 
 -- where stubs go in a module, how many they are
 abbrev pub start_of : Module → (count : ℕ) → Start

@@ -3,6 +3,7 @@
 -- stays as it is.
 use Rattle.std.specs.Prelude.{◌≡◌, ℕ, ◌*◌, List, [], ◌∷◌, ◌++◌, length, map, take, drop, replicate, Option, Some, None, ⊤}
 use Rattle.std.specs.List.{enumerate_from}
+use Rattle.elf_read.specs.Places.{joined}
 use Rattle.elf_read.specs.declared.fault.Limit.{Limit}
 use Rattle.elf_read.specs.declared.object.Symbol.{Symbol}
 use Rattle.elf_read.specs.declared.object.Reloc.{Reloc}
@@ -20,7 +21,7 @@ use Rattle.cfi_import.specs.declared.start.Start.{Start}
 use Rattle.cfi_import.specs.declared.start.TheConstants.{CELL_BYTES}
 use Rattle.cfi_import.specs.Imports.{imports_of, names_of, place_of}
 use Rattle.cfi_import.specs.Start.{start_of, text_end}
-use Rattle.cfi_import.specs.Stubs.{stub_bytes, stub_nodes, stub_function, stub_kind, stub_symbols, stub_relocs, for_each_stub, moved}
+use Rattle.cfi_import.specs.Stubs.{stub_bytes, stub_nodes, stub_function, stub_kind, stub_symbols, stub_relocs, moved}
 
 -- what a module has
 pub record Parts : Type 0 where
@@ -52,20 +53,20 @@ with_cells count bytes = bytes ++ replicate (padding (length bytes)) 0 ++ replic
 -- the symbols, with those of the stubs before the first one that is not local
 abbrev pub with_symbols : Start → List Symbol → List Symbol
 with_symbols start symbols =
-    take start.symbols symbols ++ for_each_stub (stub_symbols start) start.count ++ drop start.symbols symbols
+    take start.symbols symbols ++ joined (stub_symbols start) start.count ++ drop start.symbols symbols
 
 -- the relocations, with those of the stubs straight after the last one in text; those that call or jump to an import
 -- lead to its stub, whose place `find` says
 abbrev pub with_relocs : Start → (find : ℕ → Option ℕ) → List Reloc → List Reloc
 with_relocs start find relocs =
     map (moved start find) (take (text_end relocs) relocs)
-    ++ for_each_stub (stub_relocs start) start.count
+    ++ joined (stub_relocs start) start.count
     ++ map (moved start find) (drop (text_end relocs) relocs)
 
 -- a module with a stub for each of these names
 abbrev pub with_stubs_for : Start → (find : ℕ → Option ℕ) → (names : List (List ℕ)) → Parts → Parts
 with_stubs_for start find names parts = record {
-  text = parts.text ++ for_each_stub (λ place. stub_bytes) start.count;
+  text = parts.text ++ joined (λ place. stub_bytes) start.count;
   static_data = with_cells start.count parts.static_data;
   symbols = with_symbols start parts.symbols;
   relocs = with_relocs start find parts.relocs;

@@ -82,11 +82,6 @@ stub_relocs start place =
     cell_reloc start place (stub_offset start place) HI20
     ∷ cell_reloc start place (stub_offset start place + 4) LO12_I ∷ []
 
--- what several stubs add, where `add` says it for the stub of a place: the places are from 0 on
-abbrev pub for_each_stub : {T : Type 0} → (add : (place : ℕ) → List T) → (count : ℕ) → List T
-for_each_stub add zero = []
-for_each_stub add (suc place) = for_each_stub add place ++ add place
-
 -- ---- what stands
 
 -- the number of a symbol, once those of the stubs stand before the first one that is not local

@@ -4,8 +4,8 @@
 //! sizes pass, by `specs/Limits.antt`, and `sizes_of` how much a module has. Only tested: nothing. Open: nothing.
 #![tactic(auto)]
 
-mod passed;
+mod limit;
 mod sizes;
 
-pub use passed::passed;
+pub use limit::passed;
 pub use sizes::{Sizes, sizes_of};
