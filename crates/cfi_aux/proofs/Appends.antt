@@ -11,6 +11,10 @@ pub five_parts : (o a b c d e o1 o2 o3 o4 o5 : List ℕ) → o1 ≡ o ++ a → o
     → o5 ≡ o4 ++ e → o5 ≡ o ++ (a ++ (b ++ (c ++ (d ++ e))))
 five_parts o a b c d e o1 o2 o3 o4 o5 h1 h2 h3 h4 h5 = rw (h5, h4, h3, h2, h1) (simp append_assoc)
 
+pub four_puts : (o a b c d o1 o2 o3 o4 : List ℕ) → o1 ≡ o ++ a → o2 ≡ o1 ++ b → o3 ≡ o2 ++ c → o4 ≡ o3 ++ d
+    → o4 ≡ o ++ (a ++ (b ++ (c ++ d)))
+four_puts o a b c d o1 o2 o3 o4 h1 h2 h3 h4 = rw (h4, h3, h2, h1) (simp append_assoc)
+
 abbrev three_zeroes : List ℕ
 three_zeroes = 0 ∷ 0 ∷ 0 ∷ []
 

@@ -104,3 +104,11 @@ Reads-as spell good read spell' good' view back agree reads = record {
   takes = as_takes spell good read spell' good' view back agree reads;
   again = as_again spell good read spell' good' view back agree reads;
 }
+
+-- the same values, told good in other words
+pub Reads-good : {X : Type 0} (spell : X → List ℕ) (good good' : X → Type 0) (read : Reader X)
+    → ((x : X) → good x → good' x) → ((x : X) → good' x → good x) → Reads X spell good read → Reads X spell good' read
+Reads-good spell good good' read there back reads = record {
+  takes = λ bytes x fits e. let one = reads.takes bytes x fits e in (one.0, there x.0 one.1);
+  again = λ x rest h. reads.again x rest (back x h);
+}

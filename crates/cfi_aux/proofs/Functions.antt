@@ -1,5 +1,6 @@
 -- Records of functions are read exactly as they are spelled.
 use Rattle.std.proofs.Common.{◌≡◌, ℕ, ◌≤◌, Bool, true, false, eqb, List, ◌++◌, length, replicate, IsTrue, lit<, refl, sym, ap, subst, arith}
+use Rattle.std.specs.Str.{is_utf8}
 use Rattle.std.proofs.lemmas.Bool.Decides.{nat_tests}
 use Rattle.cfi_type_table.specs.Node.{Node}
 use Rattle.cfi_type_table.specs.Spelling.{word}
@@ -11,49 +12,70 @@ use Rattle.cfi_aux.specs.declared.version.RecordVersion.{RecordVersion}
 use Rattle.cfi_aux.specs.Version.{is_type}
 use Rattle.cfi_aux.specs.Records.{padding, name_bytes, flag_of, function_bytes, IsName, IsFunctionIn}
 use Rattle.cfi_aux.specs.Reading.{word_where, and_with, and_also}
-use Rattle.cfi_aux.specs.Faults.{text_at, zeroes_at, name_at, function_of, function_at}
-use Rattle.cfi_aux.proofs.Formats.{Reads, Reads-with, Reads-also, Agree, Reads-as}
+use Rattle.cfi_aux.specs.Faults.{text_at, zeroes_at, padded_at, name_where, name_at, function_of, function_at}
+use Rattle.cfi_aux.proofs.Formats.{Reads, Reads-with, Reads-also, Agree, Reads-as, Reads-good}
 use Rattle.cfi_aux.proofs.Words.{Passes, Reads-word}
 use Rattle.cfi_aux.proofs.Lists.{IsText, Reads-text, Reads-zeroes}
 
 -- ---- names
 
--- a name as it is read: its length, its bytes, and what follows
-abbrev Named : Type 0
-Named = ℕ × (List ℕ × (Unit {0}))
+-- n bytes of text, padded
+Reads-padded : (k n : ℕ)
+    → Reads (List ℕ) (λ name. name ++ replicate (padding n) 0) (IsText n) (padded_at k n)
+unfolding padded_at
+Reads-padded k n =
+    Reads-as (λ (x : List ℕ × (Unit {0})). x.0 ++ replicate (padding n) 0) (λ x. IsText n x.0 × (Unit {0}))
+    (and_also (text_at k n) (zeroes_at k (padding n))) (λ name. name ++ replicate (padding n) 0) (IsText n) (λ x. x.0)
+    (λ name. (name, tt)) (record {
+      spelled = λ x h. refl;
+      viewed = λ x h. h.0;
+      good_back = λ name h. (h, tt);
+      view_back = λ name h. refl;
+    })
+    (Reads-also (λ text. text) (IsText n) (text_at k n) (λ x. replicate (padding n) 0) (λ x. Unit {0})
+    (zeroes_at k (padding n)) (Reads-text k n) (Reads-zeroes k (padding n)))
 
-abbrev named_bytes : Named → List ℕ
-named_bytes x = word x.0 ++ (x.1.0 ++ replicate (padding x.0) 0)
+-- a name whose number of bytes passes a test
+abbrev pub IsNameOf : (test : ℕ → Bool) → List ℕ → Type 0
+IsNameOf test name = Passes test (length name) × (is_utf8 name ≡ true)
 
-abbrev IsNamed : Named → Type 0
-IsNamed x = Passes is_name_length x.0 × (IsText x.0 x.1.0 × (Unit {0}))
+-- a name as it is read: its length and its bytes
+abbrev named_bytes : ℕ × List ℕ → List ℕ
+named_bytes x = word x.0 ++ (x.1 ++ replicate (padding x.0) 0)
 
-abbrev named_of : List ℕ → Named
-named_of name = (length name, (name, tt))
+abbrev IsRead : (test : ℕ → Bool) → ℕ × List ℕ → Type 0
+IsRead test x = Passes test x.0 × IsText x.0 x.1
+
+names_agree : (test : ℕ → Bool)
+    → Agree (ℕ × List ℕ) (List ℕ) named_bytes (IsRead test) name_bytes (IsNameOf test) (λ x. x.1)
+    (λ name. (length name, name))
+names_agree test = record {
+  spelled = λ x h. ap (λ (n : ℕ). word n ++ (x.1 ++ replicate (padding n) 0)) h.1.0;
+  viewed = λ x h. (subst (λ (n : ℕ). Passes test n) (sym h.1.0) h.0, h.1.1);
+  good_back = λ name h. (h.0, (refl, h.1));
+  view_back = λ name h. refl;
+}
+
+pub Reads-name_where : (test : ℕ → Bool) (k : ℕ) → Reads (List ℕ) name_bytes (IsNameOf test) (name_where test k)
+unfolding name_where
+Reads-name_where test k =
+    Reads-as named_bytes (IsRead test) (and_with (word_where test (BadRecord k)) (padded_at k)) name_bytes
+    (IsNameOf test) (λ x. x.1) (λ name. (length name, name)) (names_agree test)
+    (Reads-with word (Passes test) (word_where test (BadRecord k)) (λ n name. name ++ replicate (padding n) 0)
+    (λ n name. IsText n name) (padded_at k) (Reads-word test (BadRecord k)) (λ n h. Reads-padded k n))
 
 pub short_name : (n : ℕ) → is_name_length n ≡ true → n ≤ MAX_NAME
 short_name n h = grind (arith, nat_tests)
 
-names_agree : Agree Named (List ℕ) named_bytes IsNamed name_bytes IsName (λ x. x.1.0) named_of
-names_agree = record {
-  spelled = λ x h. ap (λ (n : ℕ). word n ++ (x.1.0 ++ replicate (padding n) 0)) h.1.0.0;
-  viewed =
-      λ x h. record { count = subst (λ (n : ℕ). IsTrue (is_name_length n)) (sym h.1.0.0) h.0.1; text = h.1.0.1 };
-  good_back = λ name h. ((omega (arith, short_name (length name) h.count), h.count), ((refl, h.text), tt));
-  view_back = λ name h. refl;
-}
+-- the length of a name has a word
+pub sized_name : (n : ℕ) → is_name_length n ≡ true → Passes is_name_length n
+sized_name n h = (omega (arith, short_name n h), h)
 
-pub Reads-name : (k : ℕ) → Reads (List ℕ) name_bytes IsName (name_at k)
-unfolding name_at
+Reads-name : (k : ℕ) → Reads (List ℕ) name_bytes IsName (name_at k)
 Reads-name k =
-    Reads-as named_bytes IsNamed
-    (and_with (word_where is_name_length (BadRecord k)) (λ n. and_also (text_at k n) (zeroes_at k (padding n))))
-    name_bytes IsName (λ x. x.1.0) named_of names_agree
-    (Reads-with word (Passes is_name_length) (word_where is_name_length (BadRecord k))
-    (λ n x. x.0 ++ replicate (padding n) 0) (λ n x. IsText n x.0 × (Unit {0}))
-    (λ n. and_also (text_at k n) (zeroes_at k (padding n))) (Reads-word is_name_length (BadRecord k))
-    (λ n h. Reads-also (λ text. text) (IsText n) (text_at k n) (λ x. replicate (padding n) 0) (λ x. Unit {0})
-    (zeroes_at k (padding n)) (Reads-text k n) (Reads-zeroes k (padding n))))
+    Reads-good name_bytes (IsNameOf is_name_length) IsName (name_at k)
+    (λ name h. record { count = h.0.1; text = h.1 }) (λ name h. (sized_name (length name) h.count, h.text))
+    (Reads-name_where is_name_length k)
 
 -- ---- functions
 

@@ -5,9 +5,14 @@ pub mod Formats
 pub mod Words
 pub mod Lists
 pub mod Functions
+pub mod Bodies
 pub mod Branches
+pub mod CellLemmas
+pub mod HaveCells
+pub mod SizeLemmas
 pub mod Whole
 pub mod VersionLemmas
+pub mod WrittenLemmas
 pub mod Appends
 pub mod ModuleLemmas
 pub mod JoinedLists

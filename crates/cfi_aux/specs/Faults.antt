@@ -1,6 +1,6 @@
 -- Records from their bytes: each list of bytes has its records, or the fault that stands first in the order of the
 -- bytes. A record is named by its number: functions from 0, and branches on from there.
-use Rattle.std.specs.Prelude.{ℕ, zero, suc, List, [], ◌∷◌, length, take, drop, ◌==◌, nat_lt, nat_le, if◌then◌else◌, Option, Some, None, Result, Ok, Err}
+use Rattle.std.specs.Prelude.{ℕ, zero, suc, Bool, List, [], ◌∷◌, length, take, drop, ◌==◌, nat_lt, nat_le, if◌then◌else◌, Option, Some, None, Result, Ok, Err}
 use Rattle.std.specs.Int.{w32, from_le_bytes}
 use Rattle.std.specs.Str.{is_utf8}
 use Rattle.cfi_type_table.specs.Node.{Node}

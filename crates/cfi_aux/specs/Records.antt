@@ -45,14 +45,6 @@ kind_words Return = []
 kind_words (Switch places) = places
 kind_words (Import name cell) = cell ∷ []
 
--- the name of an import; other branches have none
-abbrev pub import_name : Kind → List ℕ
-import_name (Import name cell) = name
-import_name (Call node) = []
-import_name (Tail node) = []
-import_name Return = []
-import_name (Switch places) = []
-
 -- the words behind a branch's kind and their number: a node, the places of a switch, or the cell and name of an import
 abbrev pub body_bytes : Kind → List ℕ
 body_bytes (Call node) = word node
@@ -158,13 +150,20 @@ pub record Spells (types : List Node) (bytes : List ℕ) (r : Records) : Type 0 
   pub good : AreRecordsIn version types r
   pub spelled : bytes ≡ spelling_in version r
 
--- records whose numbers of functions, of branches, of a name's bytes and of a branch's numbers have words of four bytes
+-- how long the list of a branch is: the places of a switch, the bytes of an import's name; a node counts one
+abbrev pub list_length : Kind → ℕ
+list_length (Call node) = 1
+list_length (Tail node) = 1
+list_length Return = 0
+list_length (Switch places) = length places
+list_length (Import name cell) = length name
+
+-- records whose numbers of functions, of branches, of a name's bytes and of a switch's places have words of four bytes
 pub record CanBeWritten (r : Records) : Type 0 where
   pub functions : length r.functions < 2 ^ 32
   pub branches : length r.branches < 2 ^ 32
   pub names : All (λ f. length f.name < 2 ^ 32) r.functions
-  pub words : All (λ b. length (kind_words b) < 2 ^ 32) r.branches
-  pub imports : All (λ b. length (import_name b) < 2 ^ 32) r.branches
+  pub words : All (λ b. list_length b < 2 ^ 32) r.branches
 
 -- each entry of a switch has P; other branches have no entries
 abbrev pub AllEntries : (P : ℕ → Type 0) → Kind → Type 0

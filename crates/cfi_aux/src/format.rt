@@ -48,11 +48,18 @@ pub fn is_name_length(word: u32) -> bool
     1 <= word && word as usize <= MAX_NAME
 }
 
+/// How many words an import has whose name has so many bytes.
+pub fn import_words(length: u32) -> u32
+    ensures { result ≡ import_words length }
+{
+    2 + length.div_ceil(4)
+}
+
 /// Whether the word may be the length of the name of an import of `count` words.
 pub fn fits_import(count: u32, word: u32) -> bool
     ensures { result ≡ fits_import count word }
 {
-    is_name_length(word) && 2 + word.div_ceil(4) == count
+    is_name_length(word) && import_words(word) == count
 }
 
 /// Whether the word may be where the cell of an import begins, in data of `size` bytes where that is known.

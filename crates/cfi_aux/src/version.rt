@@ -1,6 +1,7 @@
 //! The versions of records, which nodes the records of each may name, and which branches it has.
 
 ghost use Rattle.std.specs.Prelude.{◌≡◌};
+ghost use Rattle.std.specs.List.{list_any};
 ghost use Rattle.cfi_aux.specs.Version.{version_word, version_of, is_func, is_type, last_kind, is_import, version_for};
 
 use crate::format::{IMPORT, SWITCH};
@@ -81,11 +82,17 @@ fn is_import(branch: &Kind) -> bool
     }
 }
 
+fn has_import(branches: &[Kind]) -> bool
+    ensures { result ≡ list_any is_import branches.now }
+{
+    branches.iter().any(|branch| is_import(branch))
+}
+
 /// The version in which records with these branches are written: 3 where one is an import, else 2.
 pub fn version_for(branches: &[Kind]) -> RecordVersion
     ensures { result ≡ version_for branches.now }
 {
-    if branches.iter().any(is_import) {
+    if has_import(branches) {
         RecordVersion::Three
     } else {
         RecordVersion::Two

@@ -5,14 +5,14 @@ ghost use Rattle.std.specs.List.{flat_map};
 ghost use Rattle.cfi_type_table.specs.Node.{Node};
 ghost use Rattle.cfi_type_table.specs.Spelling.{word};
 ghost use Rattle.cfi_aux.specs.declared.records.Records.{Records};
-ghost use Rattle.cfi_aux.specs.Records.{AreRecordsIn, AreRecords, CanBeWritten, kind_words, import_name, name_bytes, function_bytes, branch_bytes, spelling_in, spelling};
+ghost use Rattle.cfi_aux.specs.Records.{AreRecordsIn, AreRecords, CanBeWritten, list_length, name_bytes, function_bytes, branch_bytes, spelling_in, spelling};
 ghost use Rattle.cfi_aux.specs.Format.{import_words};
 ghost use Rattle.cfi_aux.specs.Version.{version_for};
 ghost use Rattle.cfi_aux.specs.declared.format.TheConstants.{IMPORT};
 ghost use Rattle.cfi_aux.specs.declared.version.RecordVersion.{RecordVersion};
 ghost use Rattle.cfi_aux.specs.Faults.{records_in};
 
-use crate::format::{CALL, IMPORT, RETURN, SWITCH, TAIL};
+use crate::format::{CALL, IMPORT, RETURN, SWITCH, TAIL, import_words};
 use crate::name::padding;
 use crate::records::{Function, Kind, Records};
 use crate::version::{version_for, version_word};
@@ -67,17 +67,16 @@ fn put_import(out: &mut Vec<u8>, name: &Name, cell: u32) -> Result<(), AllocErro
     ensures { OnOk result (out.new.items ≡ out.old.items ++
         (word IMPORT ++ (word (import_words (length name.now)) ++ (word cell ++ name_bytes name.now)))) }
 {
-    let length = name.as_str().len() as u32;
+    let words = import_words(name.as_str().len() as u32);
     put_word(out, IMPORT)?;
-    put_word(out, 2 + length.div_ceil(4))?;
+    put_word(out, words)?;
     put_word(out, cell)?;
     put_name(out, name)?;
     Ok(())
 }
 
 fn put_branch(out: &mut Vec<u8>, branch: &Kind) -> Result<(), AllocError>
-    requires words { length (kind_words branch.now) < 2 ^ 32 }
-    requires name { length (import_name branch.now) < 2 ^ 32 }
+    requires { list_length branch.now < 2 ^ 32 }
     ensures { OnOk result (out.new.items ≡ out.old.items ++ branch_bytes branch.now) }
 {
     match branch {
@@ -100,8 +99,7 @@ fn put_functions(out: &mut Vec<u8>, functions: &[Function]) -> Result<(), AllocE
 }
 
 fn put_branches(out: &mut Vec<u8>, branches: &[Kind]) -> Result<(), AllocError>
-    requires words { All (λ b. length (kind_words b) < 2 ^ 32) branches.now }
-    requires names { All (λ b. length (import_name b) < 2 ^ 32) branches.now }
+    requires { All (λ b. list_length b < 2 ^ 32) branches.now }
     ensures { OnOk result (out.new.items ≡ out.old.items ++ flat_map branch_bytes branches.now) }
 {
     for branch in branches {
@@ -113,7 +111,7 @@ fn put_branches(out: &mut Vec<u8>, branches: &[Kind]) -> Result<(), AllocError>
 /// The bytes that spell the records, in version 3 where a branch is an import and else in version 2. `read_records` reads
 /// them from these where they are records of a type table.
 ///
-/// The numbers of functions, of branches, of a name's bytes and of a branch's numbers are below 2^32.
+/// The numbers of functions, of branches, of a name's bytes and of a switch's places are below 2^32.
 pub fn write_records(alloc: Global, records: &Records) -> Result<Vec<u8>, AllocError>
     requires { CanBeWritten records.now }
     ensures { IfOk result (λ bytes. bytes.items ≡ spelling records.now) }

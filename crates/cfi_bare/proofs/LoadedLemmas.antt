@@ -10,7 +10,6 @@ use Rattle.cfi_verify.specs.Faults.{IsVerified}
 use Rattle.cfi_series.specs.Loaded.{IsVerifiedAmong, AreLoaded}
 use Rattle.cfi_series.proofs.LoadedLemmas.{begins}
 use Rattle.cfi_aux.specs.declared.placed.PlacedFunction.{PlacedFunction}
-use Rattle.cfi_aux.specs.declared.records.Kind.{Kind}
 use Rattle.cfi_place.specs.declared.room.Room.{Room}
 use Rattle.cfi_place.specs.Names.{Names}
 use Rattle.cfi_place.specs.Placed.{IsPlaced}
@@ -28,8 +27,8 @@ abbrev pub no_names : Names
 no_names name = None
 
 -- that module at its place
-abbrev pub IsPlacedFile : (bytes : List ℕ) → (branches : List Kind) → Placed → Type 0
-IsPlacedFile bytes branches placed = IsPlaced (bare_module bytes branches) bare_room no_names placed
+abbrev pub IsPlacedFile : (bytes : List ℕ) → Placed → Type 0
+IsPlacedFile bytes placed = IsPlaced (bare_module bytes) bare_room no_names placed
 
 -- the words are a module's at that place, and its only function has them all
 pub record IsWhole (m : Placed) (words : List ℕ) : Type 0 where

@@ -11,7 +11,7 @@ few : (bytes : List ℕ) → length (bare_functions bytes) ≤ 1
 few [] = omega arith
 few (byte ∷ bytes) = omega arith
 
-pub taken : (bytes : List ℕ) → length bytes % 4 ≡ 0 → length bytes ≤ MAX_FILE_BYTES → CanBeTaken (bare_module bytes [])
+pub taken : (bytes : List ℕ) → length bytes % 4 ≡ 0 → length bytes ≤ MAX_FILE_BYTES → CanBeTaken (bare_module bytes)
 taken bytes whole short = record {
   sound = record {
     object_sound = record {

@@ -8,7 +8,6 @@ ghost use Rattle.cfi_word.specs.declared.limits.TheConstants.{MAX_FILE_BYTES};
 use crate::fault::BareFault;
 use crate::modules::module_of;
 use cfi_aux::Module;
-use cfi_values::Items;
 use std::alloc::Global;
 
 /// The module of a bare file, or why it is none.
@@ -24,5 +23,5 @@ pub fn read_bare(alloc: Global, bytes: &[u8]) -> Result<Module, BareFault>
     if bytes.len() % 4 != 0 {
         return Err(BareFault::Length(bytes.len()));
     }
-    Ok(module_of(alloc, bytes, Items::from_vec(Vec::new(alloc)))?)
+    Ok(module_of(alloc, bytes)?)
 }

@@ -6,5 +6,5 @@ ghost use Rattle.cfi_bare.specs.Module.{bare_module};
 
 /// The bytes of the one word `j .` are a bare file.
 pub fn some_file_is_bare()
-    ensures { let bytes = 0x6f ∷ 0 ∷ 0 ∷ 0 ∷ [] in IsBareFile bytes (bare_module bytes []) }
+    ensures { let bytes = 0x6f ∷ 0 ∷ 0 ∷ 0 ∷ [] in IsBareFile bytes (bare_module bytes) }
 {}

@@ -4,7 +4,7 @@ ghost use Rattle.std.specs.Prelude.{◌≡◌, ◌≤◌, length, IfOk};
 ghost use Rattle.cfi_bare.specs.Module.{bare_types, bare_functions, bare_object, bare_module};
 ghost use Rattle.cfi_word.specs.declared.limits.TheConstants.{MAX_FILE_BYTES};
 
-use cfi_aux::{Function, Kind, Module, Records};
+use cfi_aux::{Function, Module, Records};
 use cfi_type_table::{FUNC, TypeNode, TypeTable, VOID};
 use cfi_values::{Bytes, Items};
 use elf_read::{Name, Object, Relocs, Symbols};
@@ -55,10 +55,10 @@ fn object_of(alloc: Global, bytes: &[u8]) -> Result<Object, AllocError>
     })
 }
 
-/// The module of a bare file's bytes, whose checks have these records. `Err` where memory is out.
-pub fn module_of(alloc: Global, bytes: &[u8], branches: Items<Kind>) -> Result<Module, AllocError>
+/// The module of a bare file's bytes, in which no check has a record. `Err` where memory is out.
+pub fn module_of(alloc: Global, bytes: &[u8]) -> Result<Module, AllocError>
     requires { length bytes.now ≤ MAX_FILE_BYTES }
-    ensures { IfOk result (λ made. made ≡ bare_module bytes.now branches) }
+    ensures { IfOk result (λ made. made ≡ bare_module bytes.now) }
 {
     let functions = functions_of(alloc, bytes)?;
     Ok(Module {
@@ -66,7 +66,7 @@ pub fn module_of(alloc: Global, bytes: &[u8], branches: Items<Kind>) -> Result<M
         types: types_of(alloc)?,
         records: Records {
             functions,
-            branches,
+            branches: Items::from_vec(Vec::new(alloc)),
         },
     })
 }

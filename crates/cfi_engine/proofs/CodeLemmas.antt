@@ -18,7 +18,7 @@ one_function [] some = some
 one_function (byte ∷ bytes) some = omega arith
 
 -- a bare file's has its module
-pub bare_code : (bytes : List ℕ) (m : Module) → m ≡ bare_module bytes [] → HasCode bare_plan (m ∷ [])
+pub bare_code : (bytes : List ℕ) (m : Module) → m ≡ bare_module bytes → HasCode bare_plan (m ∷ [])
 bare_code bytes m is bare = record {
   line = bare_one;
   line_is = refl;

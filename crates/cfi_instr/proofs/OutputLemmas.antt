@@ -1,5 +1,5 @@
 -- The parts of the output joined.
-use Rattle.std.proofs.Common.{◌≡◌, ℕ, zero, suc, ◌<◌, ◌≤◌, ◌^◌, Bool, List, map, All, length, get_or, refl, sym, ap, ◌∙◌, subst, arith}
+use Rattle.std.proofs.Common.{◌≡◌, ℕ, zero, suc, ◌<◌, ◌≤◌, ◌^◌, Bool, IsTrue, List, map, All, length, get_or, refl, sym, ap, ◌∙◌, subst, arith}
 use Rattle.std.specs.List.{flat_map, AllByRecursion}
 use Rattle.std.proofs.lemmas.List.{length-map}
 use Rattle.std.proofs.lemmas.List.Elements.{All-map}
@@ -16,6 +16,8 @@ use Rattle.cfi_aux.specs.declared.records.Kind.{Kind}
 use Rattle.cfi_aux.specs.declared.records.Kind.TheVariants as kinds
 use Rattle.cfi_aux.specs.Records.{CanBeWritten}
 use Rattle.cfi_aux.specs.Records as aux
+use Rattle.cfi_aux.specs.Cells.{has_cell, have_cells}
+use Rattle.cfi_aux.proofs.HaveCells.{cells-map}
 use Rattle.cfi_items.specs.Words.{Words, AreInsnsInRange, read_words, count_of}
 use Rattle.cfi_items.specs.Fault.{input_of, IsInstrumentable}
 use Rattle.cfi_items.proofs.RowTests.{PassesWords, good-words}
@@ -72,12 +74,31 @@ relocs-are t source long offsets symbols symbols_is relocs slice found same symb
 
 -- ---- records
 
-words-moved : (t : Words) (offsets : List ℕ) (kind : Kind)
-    → length (aux.kind_words (moved_kind t offsets kind)) ≡ length (aux.kind_words kind)
-words-moved t offsets (kinds.Call node) = refl
-words-moved t offsets (kinds.Tail node) = refl
-words-moved t offsets kinds.Return = refl
-words-moved t offsets (kinds.Switch entries) = length-map entries (moved t offsets)
+list-moved : (t : Words) (offsets : List ℕ) (kind : Kind)
+    → aux.list_length (moved_kind t offsets kind) ≡ aux.list_length kind
+list-moved t offsets (kinds.Call node) = refl
+list-moved t offsets (kinds.Tail node) = refl
+list-moved t offsets kinds.Return = refl
+list-moved t offsets (kinds.Switch entries) = length-map entries (moved t offsets)
+list-moved t offsets (kinds.Import name cell) = refl
+
+cell-moved : (t : Words) (offsets : List ℕ) (size : ℕ) (kind : Kind) → IsTrue (has_cell size kind)
+    → IsTrue (has_cell size (moved_kind t offsets kind))
+cell-moved t offsets size (kinds.Call node) is = refl
+cell-moved t offsets size (kinds.Tail node) is = refl
+cell-moved t offsets size kinds.Return is = refl
+cell-moved t offsets size (kinds.Switch entries) is = refl
+cell-moved t offsets size (kinds.Import name cell) is = is
+
+-- the output's data and records have the cells of the module
+pub cells-moved : (m : Module) (t : Words) (offsets : List ℕ) (bytes : List ℕ) (branches : List Kind)
+    → bytes ≡ m.object.static_data → branches ≡ map (moved_kind t offsets) m.records.branches
+    → IsTrue (have_cells (length bytes) branches)
+cells-moved m t offsets bytes branches same moved_is =
+    let size = length m.object.static_data in
+    subst (λ (xs : List ℕ). IsTrue (have_cells (length xs) branches)) (sym same)
+    (subst (λ (bs : List Kind). IsTrue (have_cells size bs)) (sym moved_is)
+    (cells-map size size (moved_kind t offsets) (cell-moved t offsets size) m.records.branches m.cells))
 
 pub moved-written : (m : Module) (offsets : List ℕ) (r : Records) → AreMoved m offsets r
     → CanBeWritten m.records → CanBeWritten r
@@ -99,9 +120,9 @@ moved-written m offsets r moved_is can =
           subst (λ (xs : List Function). All (λ f. length f.name < 2 ^ 32) xs) (sym moved_is.functions)
           (All-map (λ (f : Function). length f.name < 2 ^ 32) (moved_function t offsets) functions can.names);
       words =
-          subst (λ (xs : List Kind). All (λ b. length (aux.kind_words b) < 2 ^ 32) xs) (sym moved_is.branches)
-          (All-map (λ (b : Kind). length (aux.kind_words b) < 2 ^ 32) (moved_kind t offsets) branches
-          (λ i d lt. subst (λ (n : ℕ). n < 2 ^ 32) (sym (words-moved t offsets (get_or branches i d))) (can.words i d lt)));
+          subst (λ (xs : List Kind). All (λ b. aux.list_length b < 2 ^ 32) xs) (sym moved_is.branches)
+          (All-map (λ (b : Kind). aux.list_length b < 2 ^ 32) (moved_kind t offsets) branches
+          (λ i d lt. subst (λ (n : ℕ). n < 2 ^ 32) (sym (list-moved t offsets (get_or branches i d))) (can.words i d lt)));
     }
 
 -- ---- what the steps before give to the object

@@ -87,3 +87,4 @@ moved_kind t offsets (kinds.Switch entries) = kinds.Switch (map (moved t offsets
 moved_kind t offsets (kinds.Call node) = kinds.Call node
 moved_kind t offsets (kinds.Tail node) = kinds.Tail node
 moved_kind t offsets kinds.Return = kinds.Return
+moved_kind t offsets (kinds.Import name cell) = kinds.Import name cell

@@ -86,6 +86,10 @@ fn moved_kind(
             offsets,
             entries.as_slice(),
         )?)),
+        Kind::Import { name, cell } => Kind::Import {
+            name: Name::from_string(String::from_str(alloc, name.as_str())?),
+            cell: *cell,
+        },
     })
 }
 

@@ -9,7 +9,7 @@ use Rattle.cfi_type_table.specs.Node.{Node}
 use Rattle.cfi_aux.specs.declared.modules.Module.{Module}
 use Rattle.cfi_aux.specs.declared.placed.Placed.{Placed}
 use Rattle.cfi_aux.specs.declared.records.Kind.{Kind}
-use Rattle.cfi_aux.specs.declared.records.Kind.TheVariants.{Call, Tail, Return, Switch}
+use Rattle.cfi_aux.specs.declared.records.Kind.TheVariants.{Call, Tail, Return, Switch, Import}
 use Rattle.cfi_items.specs.Words.{Words, insn_at, read_words, count_of}
 use Rattle.cfi_items.specs.Insns.{is_linked}
 use Rattle.cfi_values.specs.Some.{holds}
@@ -42,6 +42,8 @@ kind-of types true Return h func = absurd (false≢true h)
 kind-of types false Return h func = tt
 kind-of types true (Switch entries) h func = absurd (false≢true h)
 kind-of types false (Switch entries) h func = tt
+kind-of types true (Import name cell) h func = absurd (false≢true h)
+kind-of types false (Import name cell) h func = tt
 
 -- moving a record leaves it a call or not
 call-moved : (t : Words) (offsets : List ℕ) (kind : Kind) → is_call (moved_kind t offsets kind) ≡ is_call kind
@@ -49,6 +51,7 @@ call-moved t offsets (Call node) = refl
 call-moved t offsets (Tail node) = refl
 call-moved t offsets Return = refl
 call-moved t offsets (Switch entries) = refl
+call-moved t offsets (Import name cell) = refl
 
 some-kind : (linked : Bool) (found : Option Kind) → has_fitting_kind linked found ≡ true
     → (kind : Kind) × (found ≡ Some kind) × (same (is_call kind) linked ≡ true)

@@ -9,7 +9,7 @@ use Rattle.cfi_aux.specs.declared.modules.Module.{Module}
 use Rattle.cfi_aux.specs.declared.placed.Placed.{Placed}
 use Rattle.cfi_aux.specs.declared.records.Function.{Function}
 use Rattle.cfi_aux.specs.declared.records.Kind.{Kind}
-use Rattle.cfi_aux.specs.declared.records.Kind.TheVariants.{Call, Tail, Return, Switch}
+use Rattle.cfi_aux.specs.declared.records.Kind.TheVariants.{Call, Tail, Return, Switch, Import}
 use Rattle.cfi_items.specs.Words.{Words, read_words, count_of}
 use Rattle.cfi_items.specs.Items.{is_inner}
 use Rattle.cfi_items.specs.inner.Items.{is_item_at}
@@ -107,6 +107,7 @@ module _ (source : Module) (placed : Placed) (s : IsFrom source placed) where
   entries-of w (Call node) inside outer h = tt
   entries-of w (Tail node) inside outer h = tt
   entries-of w Return inside outer h = tt
+  entries-of w (Import name cell) inside outer h = tt
   entries-of w (Switch entries) inside outer h = λ k d within.
       let moves = moved t offsets in
       let less : k < length entries = subst (λ (n : ℕ). k < n) (length-map entries moves) within in

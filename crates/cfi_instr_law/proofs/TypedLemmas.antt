@@ -9,7 +9,7 @@ use Rattle.cfi_aux.specs.Records.{IsFunction, IsBranch}
 use Rattle.cfi_aux.specs.declared.modules.Module.{Module}
 use Rattle.cfi_aux.specs.declared.records.Function.{Function}
 use Rattle.cfi_aux.specs.declared.records.Kind.{Kind}
-use Rattle.cfi_aux.specs.declared.records.Kind.TheVariants.{Call, Tail, Return, Switch}
+use Rattle.cfi_aux.specs.declared.records.Kind.TheVariants.{Call, Tail, Return, Switch, Import}
 use Rattle.cfi_aux.proofs.VersionLemmas.{records-later}
 use Rattle.cfi_items.specs.Words.{Words, read_words}
 use Rattle.cfi_instr.specs.Moves.{moved_function, moved_kind}
@@ -21,6 +21,7 @@ branch-names types (Call node) is = is.words.0.1
 branch-names types (Tail node) is = is.words.0.1
 branch-names types Return is = tt
 branch-names types (Switch entries) is = tt
+branch-names types (Import name cell) is = tt
 
 pub typed : (object : Object) (m : Module) → IsModuleOf object m → IsTyped m
 typed object m is =
@@ -41,6 +42,7 @@ moved-names types t offsets (Call node) is = is
 moved-names types t offsets (Tail node) is = is
 moved-names types t offsets Return is = tt
 moved-names types t offsets (Switch entries) is = tt
+moved-names types t offsets (Import name cell) is = tt
 
 pub stay-typed : (source m : Module) → IsInstrumented source m → IsTyped source → IsTyped m
 stay-typed source m made is =

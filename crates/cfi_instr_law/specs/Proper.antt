@@ -6,7 +6,7 @@ use Rattle.cfi_type_table.specs.Kind.{is_callable}
 use Rattle.cfi_aux.specs.declared.modules.Module.{Module}
 use Rattle.cfi_aux.specs.declared.placed.Placed.{Placed}
 use Rattle.cfi_aux.specs.declared.records.Kind.{Kind}
-use Rattle.cfi_aux.specs.declared.records.Kind.TheVariants.{Call, Tail, Return, Switch}
+use Rattle.cfi_aux.specs.declared.records.Kind.TheVariants.{Call, Tail, Return, Switch, Import}
 use Rattle.cfi_instr.specs.Output.{IsInstrumented}
 use Rattle.cfi_place.specs.declared.room.Room.{Room}
 use Rattle.cfi_place.specs.Names.{Names}
@@ -21,6 +21,7 @@ NamesCallable types (Call node) = IsTrue (is_callable types node)
 NamesCallable types (Tail node) = IsTrue (is_callable types node)
 NamesCallable types Return = ⊤
 NamesCallable types (Switch entries) = ⊤
+NamesCallable types (Import name cell) = ⊤
 
 -- the nodes of functions and of branches are types of functions
 pub record IsTyped (m : Module) : Type 0 where

@@ -30,10 +30,12 @@ kind-holds true (Some (kinds.Call node)) h = tt
 kind-holds true (Some (kinds.Tail node)) h = absurd (false≢true h)
 kind-holds true (Some kinds.Return) h = absurd (false≢true h)
 kind-holds true (Some (kinds.Switch entries)) h = absurd (false≢true h)
+kind-holds true (Some (kinds.Import name cell)) h = absurd (false≢true h)
 kind-holds false (Some (kinds.Call node)) h = absurd (false≢true h)
 kind-holds false (Some (kinds.Tail node)) h = tt
 kind-holds false (Some kinds.Return) h = tt
 kind-holds false (Some (kinds.Switch entries)) h = tt
+kind-holds false (Some (kinds.Import name cell)) h = tt
 
 kind-clear : (linked : Bool) (kind : Option Kind) → LinksAsIn linked kind → has_fitting_kind linked kind ≡ true
 kind-clear linked None good = absurd good
@@ -41,10 +43,12 @@ kind-clear true (Some (kinds.Call node)) good = refl
 kind-clear true (Some (kinds.Tail node)) good = absurd good
 kind-clear true (Some kinds.Return) good = absurd good
 kind-clear true (Some (kinds.Switch entries)) good = absurd good
+kind-clear true (Some (kinds.Import name cell)) good = absurd good
 kind-clear false (Some (kinds.Call node)) good = absurd good
 kind-clear false (Some (kinds.Tail node)) good = refl
 kind-clear false (Some kinds.Return) good = refl
 kind-clear false (Some (kinds.Switch entries)) good = refl
+kind-clear false (Some (kinds.Import name cell)) good = refl
 
 module _ (t : Words) (branches : List Kind) where
   abbrev fits_at : ℕ → Bool
@@ -119,6 +123,7 @@ module _ (t : Words) (functions : List Function) (at : ℕ) where
   switch-holds (Some (kinds.Call node)) h = tt
   switch-holds (Some (kinds.Tail node)) h = tt
   switch-holds (Some kinds.Return) h = tt
+  switch-holds (Some (kinds.Import name cell)) h = tt
 
   switch-clear : (kind : Option Kind) → AllEntriesIn (IsOwnItem t functions at) kind → switches_astray_by t functions at kind ≡ false
   switch-clear None good = refl
@@ -126,6 +131,7 @@ module _ (t : Words) (functions : List Function) (at : ℕ) where
   switch-clear (Some (kinds.Call node)) good = refl
   switch-clear (Some (kinds.Tail node)) good = refl
   switch-clear (Some kinds.Return) good = refl
+  switch-clear (Some (kinds.Import name cell)) good = refl
 
 module _ (t : Words) (functions : List Function) (branches : List Kind) where
   fits-holds : (w : ℕ) (x : Option Insn) → has_bad_switch t functions branches w ≡ false

@@ -86,7 +86,7 @@ impl Source {
     {
         match kind {
             Kind::Switch(entries) => self.lead_out(functions, at, entries.as_slice()),
-            Kind::Call(_) | Kind::Tail(_) | Kind::Return => false,
+            Kind::Call(_) | Kind::Tail(_) | Kind::Return | Kind::Import { .. } => false,
         }
     }
 

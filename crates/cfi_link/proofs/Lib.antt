@@ -4,6 +4,7 @@ pub mod LimitLemmas
 pub mod TextLemmas
 pub mod ChosenLemmas
 pub mod NodeLemmas
+pub mod CellLemmas
 pub mod SoundLemmas
 pub mod OutputLemmas
 pub mod MadeLemmas

@@ -15,7 +15,7 @@ use Rattle.cfi_type_table.specs.Spelling.{IsNode, NamesBelow}
 use Rattle.cfi_aux.specs.declared.modules.Module.{Module}
 use Rattle.cfi_aux.specs.declared.records.Kind.{Kind}
 use Rattle.cfi_aux.specs.declared.records.Kind.TheVariants as branches
-use Rattle.cfi_aux.specs.Records.{kind_words, CanBeWritten}
+use Rattle.cfi_aux.specs.Records.{list_length, CanBeWritten}
 use Rattle.cfi_aux.specs.Sound.{IsSoundModule}
 use Rattle.elf_read.specs.Sound.{IsInsideArea, HasField, HasSymbol, IsSoundSymbol, IsSoundReloc}
 use Rattle.cfi_link.specs.declared.start.Start.{Start}
@@ -23,6 +23,7 @@ use Rattle.cfi_link.specs.Joined.{Joined, nothing, with_module, joined_of, start
 use Rattle.cfi_link.specs.inner.Room.{HasRoom}
 use Rattle.cfi_link.specs.Faults.{sizes_of, passed, passed_by}
 use Rattle.cfi_link.specs.inner.Made.{object_of, AreSound}
+use Rattle.cfi_link.proofs.CellLemmas.{cells_added}
 use Rattle.cfi_link.proofs.JoinedLemmas.{with_module-lengths, fold-below}
 use Rattle.cfi_link.proofs.LimitLemmas.{few, room_of}
 use Rattle.cfi_link.proofs.RoomLemmas.{room_nodes}
@@ -125,12 +126,13 @@ all_enumerated P n (x ∷ xs) all =
     All-cons (λ p. P p.1) (n, x) (enumerate_from (n + 1) xs) (All-head P x xs all)
     (all_enumerated P (n + 1) xs (All-tail P x xs all))
 
-few_words : (start : Start) (b : Kind) → length (kind_words b) < 2 ^ 32 → length (kind_words (branch_at start b)) < 2 ^ 32
+few_words : (start : Start) (b : Kind) → list_length b < 2 ^ 32 → list_length (branch_at start b) < 2 ^ 32
 few_words start (branches.Call node) few = few
 few_words start (branches.Tail node) few = few
 few_words start branches.Return few = few
 few_words start (branches.Switch entries) few =
     subst (λ (n : ℕ). n < 2 ^ 32) (sym (length-map entries (shifted start.text))) few
+few_words start (branches.Import name cell) few = few
 
 pub sound_none : AreSound nothing
 sound_none = record {
@@ -141,6 +143,7 @@ sound_none = record {
   names = All-nil _;
   functions = All-nil _;
   branches = All-nil _;
+  cells = refl;
 }
 
 holds_before : (joined : Joined) (m : Module) → AreSound joined
@@ -209,12 +212,13 @@ sound_more joined m sound good written has =
           (map (function_at start) m.records.functions)
           sound.functions
           (All-map (λ f. length f.name < 2 ^ 32) (function_at start) m.records.functions written.names);
-      branches = All-append (λ b. length (kind_words b) < 2 ^ 32) joined.branches
+      branches = All-append (λ b. list_length b < 2 ^ 32) joined.branches
           (map (branch_at start) m.records.branches)
           sound.branches
-          (All-map (λ b. length (kind_words b) < 2 ^ 32) (branch_at start) m.records.branches
-          (All-weaker (λ b. length (kind_words b) < 2 ^ 32) (λ b. length (kind_words (branch_at start b)) < 2 ^ 32)
+          (All-map (λ b. list_length b < 2 ^ 32) (branch_at start) m.records.branches
+          (All-weaker (λ b. list_length b < 2 ^ 32) (λ b. list_length (branch_at start b) < 2 ^ 32)
           (few_words start) m.records.branches written.words));
+      cells = cells_added joined m has sound.cells;
     }
 
 -- ---- all modules

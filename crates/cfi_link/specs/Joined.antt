@@ -1,6 +1,6 @@
 -- Modules joined in order. What a module brings comes after what stands, and its numbers go up by what stands: places
--- in text by the bytes of text, places in data by where its data begins, numbers of symbols by the symbols, numbers of
--- nodes by the nodes. The data of a module begins at a multiple of 16; a gap is zero.
+-- in text by the bytes of text, places in data and cells by where its data begins, numbers of symbols by the symbols,
+-- numbers of nodes by the nodes. The data of a module begins at a multiple of 16; a gap is zero.
 use Rattle.std.specs.Prelude.{ℕ, ◌+◌, ◌%◌, ◌^◌, List, [], ◌++◌, length, map, fold, replicate, option_map}
 use Rattle.std.specs.List.{enumerate_from}
 use Rattle.elf_read.specs.declared.object.Symbol.{Symbol}
@@ -95,6 +95,7 @@ branch_at start (branches.Call node) = branches.Call (shifted start.types node)
 branch_at start (branches.Tail node) = branches.Tail (shifted start.types node)
 branch_at start branches.Return = branches.Return
 branch_at start (branches.Switch entries) = branches.Switch (map (shifted start.text) entries)
+branch_at start (branches.Import name cell) = branches.Import name (shifted start.static_data cell)
 
 -- ---- modules
 

@@ -57,6 +57,10 @@ fn branch_at(alloc: Global, start: Start, branch: &Kind) -> Result<Kind, AllocEr
         Kind::Switch(entries) => {
             Kind::Switch(Items::from_vec(entries_at(alloc, start, entries.as_slice())?))
         }
+        Kind::Import { name, cell } => Kind::Import {
+            name: Name::from_string(String::from_str(alloc, name.as_str())?),
+            cell: cell.wrapping_add(start.static_data),
+        },
     })
 }
 

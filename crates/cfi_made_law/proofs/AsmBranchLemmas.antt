@@ -6,7 +6,7 @@ use Rattle.std.proofs.lemmas.List.{length-map}
 use Rattle.std.proofs.lemmas.List.Sums.{sum_by-cons, sum_by_push, sum_by-append}
 use Rattle.cfi_word.specs.declared.limits.TheConstants.{MAX_BRANCHES}
 use Rattle.cfi_text.specs.Lines.{lines_of}
-use Rattle.cfi_aux.specs.Records.{kind_words}
+use Rattle.cfi_aux.specs.Records.{word_count}
 use Rattle.cfi_aux.specs.declared.records.Kind.{Kind}
 use Rattle.cfi_aux.specs.declared.records.Kind.TheVariants as branches
 use Rattle.rv_line.specs.declared.line.Line.{Line}
@@ -28,7 +28,7 @@ use Rattle.cfi_made_law.proofs.AsmLimitLemmas.{by-lines, clear-said}
 -- ---- branches
 
 abbrev pub words_of : Kind → ℕ
-words_of kind = length (kind_words kind)
+words_of kind = word_count kind
 
 abbrev held_words : Option Kind → ℕ
 held_words None = 0

@@ -10,9 +10,9 @@ use Rattle.cfi_type_table.specs.Node.{Node}
 use Rattle.cfi_type_table.specs.Spelling.{word, node_bytes, spelling as types_spelling}
 use Rattle.cfi_aux.specs.declared.records.Kind.{Kind}
 use Rattle.cfi_aux.specs.declared.records.Records.{Records}
-use Rattle.cfi_aux.specs.Records.{function_bytes, kind_number, kind_words, branch_bytes, spelling as records_spelling}
-use Rattle.cfi_aux.specs.declared.version.TheConstants.{LATEST}
-use Rattle.cfi_aux.specs.Version.{version_word}
+use Rattle.cfi_aux.specs.Records.{function_bytes, branch_bytes, spelling as records_spelling}
+use Rattle.cfi_aux.specs.Version.{version_word, version_for}
+use Rattle.cfi_aux.proofs.SizeLemmas.{branch-size}
 use Rattle.elf_read.specs.declared.object.Area.TheVariants as areas
 use Rattle.elf_read.specs.declared.object.Object.{Object}
 use Rattle.elf_read.specs.declared.object.Reloc.{Reloc}
@@ -33,7 +33,7 @@ use Rattle.rv_asm.specs.inner.Count.{count_of}
 use Rattle.rv_asm.proofs.CountLemmas.{bytes_of, lines-left}
 use Rattle.cfi_made_law.proofs.AsmFormLemmas.{IsFormedLine}
 use Rattle.cfi_made_law.proofs.AsmLimitLemmas.{room, relocs-few, names-few}
-use Rattle.cfi_made_law.proofs.SpellingLemmas.{words-length, pieces-short, node-bytes, function-bytes}
+use Rattle.cfi_made_law.proofs.SpellingLemmas.{pieces-short, node-bytes, function-bytes}
 use Rattle.cfi_made_law.proofs.AsmRecordLemmas.{nodes-few, functions-few}
 use Rattle.cfi_made_law.proofs.AsmBranchLemmas.{words_of, branches-few, text-names}
 use Rattle.cfi_made_law.proofs.AsmNameLemmas.{order-length, lines-short, symbols-short}
@@ -60,17 +60,7 @@ types-few nodes few all =
     )
 
 branch-length : (b : Kind) → length (branch_bytes b) ≡ 8 + 4 * words_of b
-branch-length b =
-    let one : length (word (kind_number b)) ≡ 4 = refl in
-    let two : length (word (length (kind_words b))) ≡ 4 = refl in
-    omega (
-      arith,
-      length-append (word (kind_number b)) (word (length (kind_words b)) ++ flat_map word (kind_words b)),
-      length-append (word (length (kind_words b))) (flat_map word (kind_words b)),
-      one,
-      two,
-      words-length (kind_words b),
-    )
+branch-length b = branch-size b
 
 branches-length : (bs : List Kind) → length (flat_map branch_bytes bs) ≡ 8 * length bs + 4 * sum_by words_of bs
 branches-length [] = refl
@@ -93,11 +83,11 @@ records-few r few names count words =
     let counts = word (length r.functions) ++ word (length r.branches) in
     omega (
       arith,
-      length-append (word (version_word LATEST)) (counts ++ (functions ++ branches)),
+      length-append (word (version_word (version_for r.branches))) (counts ++ (functions ++ branches)),
       length-append counts (functions ++ branches),
       length-append (word (length r.functions)) (word (length r.branches)),
       length-append functions branches,
-      d (version_word LATEST),
+      d (version_word (version_for r.branches)),
       d (length r.functions),
       d (length r.branches),
       pieces-short function_bytes 276 r.functions

@@ -12,11 +12,12 @@ use Rattle.cfi_aux.specs.Format.{is_whole, is_length, has_count}
 use Rattle.cfi_aux.specs.Module.{AreSpelled}
 use Rattle.cfi_aux.specs.Records.{IsFunction, IsBranch, AreRecords}
 use Rattle.cfi_aux.specs.declared.format.TheConstants.{SWITCH}
-use Rattle.cfi_aux.specs.declared.version.TheConstants.{LATEST}
+use Rattle.cfi_aux.specs.Version.{version_for}
+use Rattle.cfi_aux.proofs.VersionLemmas.{records-written}
 use Rattle.cfi_aux.specs.declared.modules.Module.{Module}
 use Rattle.cfi_aux.specs.declared.records.Function.{Function}
 use Rattle.cfi_aux.specs.declared.records.Kind.{Kind}
-use Rattle.cfi_aux.specs.declared.records.Kind.TheVariants.{Call, Tail, Return, Switch}
+use Rattle.cfi_aux.specs.declared.records.Kind.TheVariants.{Call, Tail, Return, Switch, Import}
 use Rattle.cfi_items.specs.Words.{Words}
 use Rattle.cfi_items.specs.Functions.{byte_end_before}
 use Rattle.cfi_instr.specs.Sizes.{moved}
@@ -94,11 +95,14 @@ module _ (source out : Module) (made : IsInstrumented source out) where
   branch-good types (Call node) good = good
   branch-good types (Tail node) good = good
   branch-good types Return good = good
+  branch-good types (Import name cell) good = good
   branch-good types (Switch entries) good = record {
+    kind = good.kind;
     count = subst (λ (n : ℕ). IsTrue (has_count SWITCH n)) (sym (length-map entries to)) good.count;
     words = recursion_from_All (λ n. (n < 2 ^ 32) × IsTrue (is_whole n)) (map to entries)
         (All-map (λ n. (n < 2 ^ 32) × IsTrue (is_whole n)) to entries
         (λ k d inside. whole-place _ (has-word (get_or entries k d))));
+    named = tt;
   }
 
   branches-good : (types : List Node) → All (IsBranch types) source.records.branches
@@ -146,7 +150,9 @@ module _ (source out : Module) (made : IsInstrumented source out) where
   spelled types records = record {
     table = subst AreTypes (sym made.types) types;
     types_spelled = made.object.types ∙ ap (λ (ns : List Node). Some (types_spelling ns)) (sym made.types);
-    version = LATEST;
-    good = subst (λ (ns : List Node). AreRecords ns out.records) (sym made.types) (records-good source.types records);
+    version = version_for out.records.branches;
+    good = records-written out.types out.records
+        (subst (λ (ns : List Node). AreRecords ns out.records) (sym made.types) (records-good source.types records));
+    cells = out.cells;
     records_spelled = made.object.records;
   }

@@ -21,7 +21,8 @@ use Rattle.cfi_aux.specs.Module.{AreSpelled}
 use Rattle.cfi_aux.specs.Records.{IsFunction, IsBranch, AreRecords}
 use Rattle.cfi_aux.specs.Sound.{IsSoundModule}
 use Rattle.cfi_aux.specs.declared.format.TheConstants.{SWITCH}
-use Rattle.cfi_aux.specs.declared.version.TheConstants.{LATEST}
+use Rattle.cfi_aux.specs.Version.{version_for}
+use Rattle.cfi_aux.proofs.VersionLemmas.{records-written}
 use Rattle.cfi_aux.specs.declared.modules.Module.{Module}
 use Rattle.cfi_aux.specs.declared.records.Function.{Function}
 use Rattle.cfi_aux.specs.declared.records.Kind.{Kind}
@@ -37,6 +38,7 @@ use Rattle.cfi_link.specs.Linked.{AreModules, Linked}
 use Rattle.cfi_link.proofs.JoinedLemmas.{with_module-lengths, fold-below}
 use Rattle.cfi_link.proofs.LimitLemmas.{few}
 use Rattle.cfi_link.proofs.OutputLemmas.{length-in_order}
+use Rattle.cfi_link.proofs.CellLemmas.{start_whole}
 use Rattle.cfi_link.proofs.SoundLemmas.{all_enumerated, sound_all}
 use Rattle.cfi_link.proofs.MadeLemmas.{sound_made}
 use Rattle.cfi_link.proofs.TextSizeLemmas.{text_size}
@@ -172,38 +174,73 @@ function-right start old more f same whole room is = record {
 
 branch-left : (old more : List Node) (b : Kind) → IsBranch old b → IsBranch (old ++ more) b
 branch-left old more (branches.Call node) is = record {
+  kind = is.kind;
   count = is.count;
   words = ((is.words.0.0, callable-left old more node is.words.0.1), tt);
+  named = tt;
 }
 branch-left old more (branches.Tail node) is = record {
+  kind = is.kind;
   count = is.count;
   words = ((is.words.0.0, callable-left old more node is.words.0.1), tt);
+  named = tt;
 }
-branch-left old more branches.Return is = record { count = is.count; words = tt }
-branch-left old more (branches.Switch entries) is = record { count = is.count; words = is.words }
+branch-left old more branches.Return is = record { kind = is.kind; count = is.count; words = tt; named = tt }
+branch-left old more (branches.Switch entries) is = record {
+  kind = is.kind;
+  count = is.count;
+  words = is.words;
+  named = tt;
+}
+branch-left old more (branches.Import name cell) is = record {
+  kind = is.kind;
+  count = is.count;
+  words = is.words;
+  named = is.named;
+}
 
 abbrev IsEntry : ℕ → Type 0
 IsEntry n = (n < 2 ^ 32) × IsTrue (is_whole n)
 
 branch-right : (start : Start) (old more : List Node) (b : Kind) → start.types ≡ length old
-    → start.text % 4 ≡ 0 → length old + length more < 2 ^ 32 → IsBranch more b
+    → start.text % 4 ≡ 0 → start.static_data % 4 ≡ 0 → length old + length more < 2 ^ 32 → IsBranch more b
     → IsBranch (old ++ map (node_at start) more) (branch_at start b)
-branch-right start old more (branches.Call node) same whole room is = record {
+branch-right start old more (branches.Call node) same whole cells room is = record {
+  kind = is.kind;
   count = is.count;
   words = ((shifted-small start.types node, callable-shifted start old more node same room is.words.0.1), tt);
+  named = tt;
 }
-branch-right start old more (branches.Tail node) same whole room is = record {
+branch-right start old more (branches.Tail node) same whole cells room is = record {
+  kind = is.kind;
   count = is.count;
   words = ((shifted-small start.types node, callable-shifted start old more node same room is.words.0.1), tt);
+  named = tt;
 }
-branch-right start old more branches.Return same whole room is = record { count = is.count; words = tt }
-branch-right start old more (branches.Switch entries) same whole room is = record {
+branch-right start old more branches.Return same whole cells room is = record {
+  kind = is.kind;
+  count = is.count;
+  words = tt;
+  named = tt;
+}
+branch-right start old more (branches.Import name cell) same whole cells room is = record {
+  kind = is.kind;
+  count = is.count;
+  words = (
+    (shifted-small start.static_data cell, whole-shifted start.static_data cell cells is.words.0.1),
+    tt,
+  );
+  named = is.named;
+}
+branch-right start old more (branches.Switch entries) same whole cells room is = record {
+  kind = is.kind;
   count = subst (λ (n : ℕ). IsTrue (has_count SWITCH n)) (sym (length-map entries (shifted start.text))) is.count;
   words = recursion_from_All IsEntry (map (shifted start.text) entries)
       (All-map IsEntry (shifted start.text) entries
       (All-weaker IsEntry (λ n. IsEntry (shifted start.text n))
       (λ n one. (shifted-small start.text n, whole-shifted start.text n whole one.1)) entries
       (All-from_recursion IsEntry entries is.words)));
+  named = tt;
 }
 
 -- ---- one module more
@@ -235,7 +272,7 @@ kept-more joined m kept is room =
           joined.branches kept.branches)
           (All-map (IsBranch all) (branch_at start) m.records.branches
           (All-weaker (IsBranch more) (λ b. IsBranch all (branch_at start b))
-          (λ b one. branch-right start old more b refl kept.words room one) m.records.branches
+          (λ b one. branch-right start old more b refl kept.words (start_whole (length joined.static_data)) room one) m.records.branches
           (All-from_recursion (IsBranch more) m.records.branches is.records.branches)));
     }
 
@@ -379,8 +416,8 @@ module _ (modules : List Module) (are : AreModules modules) (output : Module) (l
       record {
         table = linked-sound.table;
         types_spelled = made.types_spelled;
-        version = LATEST;
-        good = record {
+        version = version_for output.records.branches;
+        good = records-written output.types output.records (record {
           function_count = omega (arith, ap length made.functions, limits.functions);
           branch_count = omega (arith, ap length made.branches, limits.branches);
           functions = subst (λ (ns : List Node). AllByRecursion (IsFunction ns) output.records.functions)
@@ -391,6 +428,7 @@ module _ (modules : List Module) (are : AreModules modules) (output : Module) (l
               (sym made.types)
               (subst (λ (ks : List Kind). AllByRecursion (IsBranch joined.types) ks) (sym made.branches)
               (recursion_from_All (IsBranch joined.types) joined.branches kept.branches));
-        };
+        });
+        cells = output.cells;
         records_spelled = made.records_spelled;
       }

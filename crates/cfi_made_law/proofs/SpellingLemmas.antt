@@ -13,12 +13,13 @@ use Rattle.cfi_type_table.specs.Spelling.{word, node_bytes, spelling as types_sp
 use Rattle.cfi_aux.specs.declared.records.Function.{Function}
 use Rattle.cfi_aux.specs.declared.records.Kind.{Kind}
 use Rattle.cfi_aux.specs.declared.records.Records.{Records}
-use Rattle.cfi_aux.specs.Records.{padding, name_bytes, flag_of, function_bytes, kind_number, kind_words, branch_bytes, records_bytes, spelling_in, IsFunctionIn, IsBranchIn, AreRecordsIn}
+use Rattle.cfi_aux.specs.Records.{padding, name_bytes, flag_of, function_bytes, kind_number, word_count, branch_bytes, records_bytes, spelling_in, IsFunctionIn, IsBranchIn, AreRecordsIn}
 use Rattle.cfi_aux.specs.declared.version.RecordVersion.{RecordVersion}
 use Rattle.cfi_aux.specs.Version.{version_word}
 use Rattle.cfi_aux.specs.Module.{AreSpelled}
 use Rattle.cfi_aux.proofs.Functions.{short_name}
 use Rattle.cfi_aux.proofs.Branches.{few_words}
+use Rattle.cfi_aux.proofs.SizeLemmas.{branch-size}
 use Rattle.elf_read.specs.declared.object.Object.{Object}
 use Rattle.elf_write.specs.declared.limits.TheConstants.{MAX_TYPES, MAX_RECORDS}
 use Rattle.elf_write.specs.File.{bytes_or_none}
@@ -112,17 +113,7 @@ function-short version types f is = function-bytes f (short_name (length f.name)
 branch-short : (version : RecordVersion) (types : List Node) (b : Kind) → IsBranchIn version types b
     → length (branch_bytes b) ≤ 4104
 branch-short version types b is =
-    let one : length (word (kind_number b)) ≡ 4 = refl in
-    let two : length (word (length (kind_words b))) ≡ 4 = refl in
-    omega (
-      arith,
-      length-append (word (kind_number b)) (word (length (kind_words b)) ++ flat_map word (kind_words b)),
-      length-append (word (length (kind_words b))) (flat_map word (kind_words b)),
-      one,
-      two,
-      words-length (kind_words b),
-      few_words (kind_number b) (length (kind_words b)) is.count,
-    )
+    omega (arith, branch-size b, few_words (kind_number b) (word_count b) is.count)
 
 pub records-short : (version : RecordVersion) (types : List Node) (r : Records) → AreRecordsIn version types r
     → length (spelling_in version r) ≤ MAX_RECORDS

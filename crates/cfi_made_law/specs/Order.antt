@@ -9,4 +9,4 @@ abbrev pub object_of_file : Object → Object
 object_of_file object = record object { relocs = by_area object.relocs }
 
 abbrev pub module_of_file : Module → Module
-module_of_file m = record m { object = object_of_file m.object }
+module_of_file m = record m { object = object_of_file m.object; cells = m.cells }

@@ -30,6 +30,7 @@ pub fn placed_bytes(
     ensures ok { IfOk result (λ bytes. placed_by object.now room.now values.now
         ≡ Ok (areas_of bytes.0.items bytes.1.items)) }
     ensures same { IfOk result (λ bytes. length bytes.0.items ≡ length object.now.text) }
+    ensures kept { IfOk result (λ bytes. length bytes.1.items ≡ length object.now.static_data) }
     ensures words { IfOk result (λ _. length object.now.text < 2 ^ 19) }
     ensures fault { IfErr result (λ fault.
         IsFault fault (placed_by object.now room.now values.now)) }

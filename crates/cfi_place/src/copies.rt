@@ -4,6 +4,7 @@ ghost use Rattle.std.specs.Prelude.{◌≡◌, IfOk};
 
 use cfi_aux::Kind;
 use cfi_values::Items;
+use elf_read::Name;
 use std::alloc::{AllocError, Global};
 
 fn kind_copy(alloc: Global, kind: &Kind) -> Result<Kind, AllocError>
@@ -16,6 +17,10 @@ fn kind_copy(alloc: Global, kind: &Kind) -> Result<Kind, AllocError>
         Kind::Switch(entries) => {
             Kind::Switch(Items::from_vec(Vec::from_slice(alloc, entries.as_slice())?))
         }
+        Kind::Import { name, cell } => Kind::Import {
+            name: Name::from_string(String::from_str(alloc, name.as_str())?),
+            cell: *cell,
+        },
     })
 }
 

@@ -16,7 +16,7 @@ hello_bytes =
     ∷ 0x6f ∷ 0x00 ∷ 0x00 ∷ 0x00 ∷ []
 
 abbrev pub hello_module : Module
-hello_module = bare_module hello_bytes []
+hello_module = bare_module hello_bytes
 
 abbrev pub hello_line : ModuleLine
 hello_line = record {

@@ -4,7 +4,7 @@ use Rattle.cfi_type_table.specs.Node.{Node}
 use Rattle.cfi_type_table.specs.Kind.{is_callable}
 use Rattle.cfi_aux.specs.declared.placed.Placed.{Placed}
 use Rattle.cfi_aux.specs.declared.records.Kind.{Kind}
-use Rattle.cfi_aux.specs.declared.records.Kind.TheVariants.{Call, Tail, Return, Switch}
+use Rattle.cfi_aux.specs.declared.records.Kind.TheVariants.{Call, Tail, Return, Switch, Import}
 use Rattle.cfi_unit.specs.declared.spot.Spot.{Spot}
 use Rattle.cfi_verify.specs.declared.checks.CheckSpot.{CheckSpot}
 use Rattle.cfi_verify.specs.Target.{IsAtHome}
@@ -22,6 +22,7 @@ IsKindOf types false (Call node) = ⊥
 IsKindOf types false (Tail node) = IsTrue (is_callable types node)
 IsKindOf types false Return = ⊤
 IsKindOf types false (Switch entries) = ⊤
+IsKindOf types false (Import name cell) = ⊤
 
 -- there is a record, and it fits
 abbrev pub IsRecordOf : (types : List Node) → (link : Bool) → Option Kind → Type 0

@@ -33,7 +33,7 @@ fn is_kind_of(types: &TypeTable, link: bool, kind: &Kind) -> bool
     match kind {
         Kind::Call(node) => link && types.is_callable(*node),
         Kind::Tail(node) => !link && types.is_callable(*node),
-        Kind::Return | Kind::Switch(_) => !link,
+        Kind::Return | Kind::Switch(_) | Kind::Import { .. } => !link,
     }
 }
 
@@ -108,7 +108,7 @@ fn switch_fits(placed: &Placed, spots: &[Spot], at: u32, kind: &Kind) -> bool
 {
     match kind {
         Kind::Switch(offsets) => are_entries(placed, spots, at, offsets.as_slice()),
-        Kind::Call(_) | Kind::Tail(_) | Kind::Return => true,
+        Kind::Call(_) | Kind::Tail(_) | Kind::Return | Kind::Import { .. } => true,
     }
 }
 

@@ -11,7 +11,7 @@ use Rattle.cfi_aux.specs.Records.{AllEntries, AllEntriesIn}
 use Rattle.cfi_aux.specs.declared.placed.Placed.{Placed}
 use Rattle.cfi_aux.specs.declared.placed.PlacedFunction.{PlacedFunction}
 use Rattle.cfi_aux.specs.declared.records.Kind.{Kind}
-use Rattle.cfi_aux.specs.declared.records.Kind.TheVariants.{Call, Tail, Return, Switch}
+use Rattle.cfi_aux.specs.declared.records.Kind.TheVariants.{Call, Tail, Return, Switch, Import}
 use Rattle.cfi_unit.specs.declared.unit.Unit.{Unit as CodeUnit}
 use Rattle.cfi_unit.specs.declared.unit.Unit.TheVariants as units
 use Rattle.cfi_unit.specs.declared.spot.Spot.{Spot}
@@ -171,6 +171,7 @@ kind_of types false (Call node) = inr (λ none. none)
 kind_of types false (Tail node) = is_true (is_callable types node)
 kind_of types false Return = inl tt
 kind_of types false (Switch entries) = inl tt
+kind_of types false (Import name cell) = inl tt
 
 record_of : (types : List Node) (link : Bool) (kind : Option Kind) → Decided (IsRecordOf types link kind)
 record_of types link None = inr (λ none. none)

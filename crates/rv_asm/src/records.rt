@@ -2,7 +2,7 @@
 
 ghost use Rattle.std.specs.Prelude.{◌<◌, ◌^◌, length, Ok};
 ghost use Rattle.std.specs.Option.{ForSome};
-ghost use Rattle.cfi_aux.specs.Records.{kind_words};
+ghost use Rattle.cfi_aux.specs.Records.{list_length};
 ghost use Rattle.rv_asm.specs.Node.{node_of};
 ghost use Rattle.rv_asm.specs.inner.Draft.{with_node, with_function, closed, with_kind, with_switch};
 ghost use Rattle.rv_asm.specs.inner.Passes.{or_range, Gives};
@@ -84,7 +84,7 @@ impl Draft {
     }
 
     pub(crate) fn set_kind(&mut self, number: u32, kind: Option<Kind>) -> Result<(), AsmFault>
-        requires { ForSome kind (λ kind. length (kind_words kind) < 2 ^ 32) }
+        requires { ForSome kind (λ kind. list_length kind < 2 ^ 32) }
         ensures { Gives result self.new (or_range number (with_kind self.old kind)) }
     {
         match kind {

@@ -15,6 +15,7 @@ is_call (kinds.Call node) = true
 is_call (kinds.Tail node) = false
 is_call kinds.Return = false
 is_call (kinds.Switch entries) = false
+is_call (kinds.Import name cell) = false
 
 abbrev pub same : Bool → Bool → Bool
 same a b = if a then b else not b
@@ -39,6 +40,7 @@ switches_astray t functions at (kinds.Switch entries) = lead_out t functions at 
 switches_astray t functions at (kinds.Call node) = false
 switches_astray t functions at (kinds.Tail node) = false
 switches_astray t functions at kinds.Return = false
+switches_astray t functions at (kinds.Import name cell) = false
 
 abbrev pub switches_astray_by : Words → List Function → (at : ℕ) → Option Kind → Bool
 switches_astray_by t functions at None = false

@@ -1,8 +1,9 @@
 -- Joined modules that break no rule, and why they make no module.
-use Rattle.std.specs.Prelude.{◌≡◌, ◌%◌, ◌<◌, ◌^◌, length, map, All, Some, None, Err, ⊤}
+use Rattle.std.specs.Prelude.{◌≡◌, ◌%◌, ◌<◌, ◌^◌, IsTrue, length, map, All, Some, None, Err, ⊤}
 use Rattle.elf_read.specs.declared.object.Object.{Object}
 use Rattle.cfi_type_table.specs.Spelling.{IsNode, NamesBelow}
-use Rattle.cfi_aux.specs.Records.{kind_words}
+use Rattle.cfi_aux.specs.Records.{list_length}
+use Rattle.cfi_aux.specs.Cells.{have_cells}
 use Rattle.elf_read.specs.Sound.{IsSoundSymbol, IsSoundReloc}
 use Rattle.cfi_link.specs.declared.fault.LinkFault.{LinkFault}
 use Rattle.cfi_link.specs.declared.fault.LinkFault.TheVariants as faults
@@ -29,7 +30,8 @@ pub record AreSound (joined : Joined) : Type 0 where
   pub nodes : All IsNode joined.types
   pub names : All (NamesBelow (length joined.types)) joined.types
   pub functions : All (λ f. length f.name < 2 ^ 32) joined.functions
-  pub branches : All (λ b. length (kind_words b) < 2 ^ 32) joined.branches
+  pub branches : All (λ b. list_length b < 2 ^ 32) joined.branches
+  pub cells : IsTrue (have_cells (length joined.static_data) joined.branches)
 
 -- a refusal for a name or a relocation, unless memory ran out
 abbrev pub IsMakeFault : Joined → LinkFault → Type 0

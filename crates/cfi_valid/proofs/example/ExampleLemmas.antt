@@ -118,7 +118,7 @@ read = (
   ),
 )
 
-pub is_placed : IsPlacedFile hello_bytes [] hello_placed
+pub is_placed : IsPlacedFile hello_bytes hello_placed
 unfolding relocated_from word_at
 is_placed = record {
   bytes = areas_of hello_bytes [];

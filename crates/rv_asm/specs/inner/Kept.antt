@@ -2,7 +2,7 @@
 use Rattle.std.specs.Prelude.{◌<◌, ◌≤◌, ◌^◌, length, All}
 use Rattle.std.specs.Option.{ForSome}
 use Rattle.cfi_word.specs.declared.limits.TheConstants.{MAX_NODES, MAX_FUNCTIONS, MAX_BRANCHES}
-use Rattle.cfi_aux.specs.Records.{kind_words}
+use Rattle.cfi_aux.specs.Records.{list_length}
 use Rattle.rv_asm.specs.declared.survey.Survey.TheInside.{Inside as Surveyed}
 use Rattle.rv_asm.specs.declared.draft.Draft.TheInside.{Inside as Drafted}
 use Rattle.rv_asm.specs.inner.Draft.{Draft}
@@ -35,5 +35,5 @@ pub record IsWritable (a : Drafted) : Type 0 where
   pub name : ForSome a.function (λ function. length function.name < 2 ^ 32)
   pub room : ForSome a.function (λ function. length a.functions.items < MAX_FUNCTIONS)
   pub branch_count : length a.branches.items ≤ MAX_BRANCHES
-  pub words : All (λ kind. length (kind_words kind) < 2 ^ 32) a.branches.items
-  pub word : ForSome a.kind (λ kind. length (kind_words kind) < 2 ^ 32)
+  pub words : All (λ kind. list_length kind < 2 ^ 32) a.branches.items
+  pub word : ForSome a.kind (λ kind. list_length kind < 2 ^ 32)

@@ -7,5 +7,5 @@ use Rattle.cfi_aux.proofs.branch.branches_from.Given as goal
 -- the branches so far and what is still read are what all reading gives
 abbrev pub invariant-loop-number : goal.invariant-loop-number
 invariant-loop-number l =
-    with_front l.branches.items (each (branch_at l.version l.types) l.number (l.number-end - l.number) l.rest)
-    ≡ each (branch_at l.version l.types) l.first l.count l.bytes
+    with_front l.branches.items (each (branch_at l.version l.types l.size) l.number (l.number-end - l.number) l.rest)
+    ≡ each (branch_at l.version l.types l.size) l.first l.count l.bytes
