@@ -1,8 +1,8 @@
 -- What making stubs takes for granted holds of a sound module whose stubs pass no limit.
-use Rattle.std.proofs.Common.{◌≡◌, ◌∙◌, ℕ, zero, suc, ◌+◌, ◌*◌, ◌%◌, ◌<◌, ◌≤◌, ◌^◌, ◌&&◌, Bool, true, false, IsTrue, List, [], ◌∷◌, ◌++◌, length, map, All, Option, Some, None, option_map, refl, sym, ap, subst, inl, inr, arith, length-append}
-use Rattle.std.specs.List.{enumerate_from, list_all}
+use Rattle.std.proofs.Common.{◌≡◌, ◌∙◌, ℕ, zero, suc, ◌+◌, ◌*◌, ◌%◌, ◌<◌, ◌≤◌, ◌^◌, eqb, IsTrue, List, [], ◌∷◌, ◌++◌, length, map, All, Option, Some, None, option_map, refl, sym, ap, subst, inl, inr, arith, length-append}
+use Rattle.std.specs.List.{enumerate_from}
 use Rattle.std.proofs.Math.Path.{fun_ext}
-use Rattle.std.proofs.lemmas.Bool.{cases_Bool, and_parts, and_from, eq-eqb, eqb-true, le-leb, leb-true}
+use Rattle.std.proofs.lemmas.Bool.{cases_Bool, and_from}
 use Rattle.std.proofs.lemmas.List.Elements.{All-nil, All-cons, All-append, All-map, All-weaker, All-filter, All-head, All-tail}
 use Rattle.cfi_word.specs.declared.limits.TheConstants.{MAX_SYMBOLS, MAX_NAME}
 use Rattle.elf_read.specs.Places.{joined}
@@ -12,14 +12,13 @@ use Rattle.elf_read.specs.declared.object.Symbol.{Symbol}
 use Rattle.elf_read.specs.declared.object.Reloc.{Reloc}
 use Rattle.cfi_type_table.specs.Node.{Node}
 use Rattle.cfi_type_table.proofs.Tables.{small_fields}
-use Rattle.cfi_aux.specs.Cells.{is_cell, has_cell, have_cells}
-use Rattle.cfi_aux.specs.Format.{is_whole}
-use Rattle.cfi_aux.specs.Records.{CanBeWritten, kind_words, import_name, padding}
+use Rattle.cfi_aux.proofs.HaveCells.{cell-from, cells-append, cells-more}
+use Rattle.cfi_aux.specs.Cells.{have_cells}
+use Rattle.cfi_aux.specs.Records.{CanBeWritten, list_length, padding}
 use Rattle.cfi_aux.specs.Sound.{IsSoundModule}
 use Rattle.cfi_aux.specs.declared.modules.Module.{Module}
 use Rattle.cfi_aux.specs.declared.records.Function.{Function}
 use Rattle.cfi_aux.specs.declared.records.Kind.{Kind}
-use Rattle.cfi_aux.specs.declared.records.Kind.TheVariants as branches
 use Rattle.cfi_aux.specs.declared.records.Records.{Records}
 use Rattle.cfi_limits.proofs.LimitLemmas.{AreFew, few}
 use Rattle.cfi_import.specs.declared.start.Start.{Start}
@@ -184,19 +183,12 @@ can-write start names old new good are short functions branches =
           (All-weaker (λ (one : ℕ × List ℕ). IsShortName one.1)
           (λ (one : ℕ × List ℕ). length (stub_function start one).name < 2 ^ 32) (λ one is. is)
           (enumerate_from 0 names) numbered)));
-      words = subst (All (λ b. length (kind_words b) < 2 ^ 32)) (sym are.branches)
-          (All-append (λ b. length (kind_words b) < 2 ^ 32) old.branches
+      words = subst (All (λ b. list_length b < 2 ^ 32)) (sym are.branches)
+          (All-append (λ b. list_length b < 2 ^ 32) old.branches
           (map (stub_kind start) (enumerate_from 0 names)) good.words
-          (All-map (λ b. length (kind_words b) < 2 ^ 32) (stub_kind start) (enumerate_from 0 names)
+          (All-map (λ b. list_length b < 2 ^ 32) (stub_kind start) (enumerate_from 0 names)
           (All-weaker (λ (one : ℕ × List ℕ). IsShortName one.1)
-          (λ (one : ℕ × List ℕ). length (kind_words (stub_kind start one)) < 2 ^ 32) (λ one is. omega arith)
-          (enumerate_from 0 names) numbered)));
-      imports = subst (All (λ b. length (import_name b) < 2 ^ 32)) (sym are.branches)
-          (All-append (λ b. length (import_name b) < 2 ^ 32) old.branches
-          (map (stub_kind start) (enumerate_from 0 names)) good.imports
-          (All-map (λ b. length (import_name b) < 2 ^ 32) (stub_kind start) (enumerate_from 0 names)
-          (All-weaker (λ (one : ℕ × List ℕ). IsShortName one.1)
-          (λ (one : ℕ × List ℕ). length (import_name (stub_kind start one)) < 2 ^ 32) (λ one is. is)
+          (λ (one : ℕ × List ℕ). list_length (stub_kind start one) < 2 ^ 32) (λ one is. is)
           (enumerate_from 0 names) numbered)));
     }
 
@@ -233,26 +225,6 @@ are-writable m types records sound good some limits is are =
 
 -- ---- cells
 
-cell-more : (size size' cell : ℕ) → size ≤ size' → IsTrue (is_cell size cell) → IsTrue (is_cell size' cell)
-cell-more size size' cell le is =
-    let both = and_parts _ _ is in
-    let within = leb-true (cell + 4) size both.1 in
-    and_from _ _ both.0 (le-leb (cell + 4) size' (omega (arith, within, le)))
-
-kind-more : (size size' : ℕ) (kind : Kind) → size ≤ size' → IsTrue (has_cell size kind) → IsTrue (has_cell size' kind)
-kind-more size size' (branches.Import name cell) le is = cell-more size size' cell le is
-kind-more size size' (branches.Call node) le is = refl
-kind-more size size' (branches.Tail node) le is = refl
-kind-more size size' branches.Return le is = refl
-kind-more size size' (branches.Switch entries) le is = refl
-
-kinds-more : (size size' : ℕ) (kinds : List Kind) → size ≤ size' → IsTrue (have_cells size kinds)
-    → IsTrue (have_cells size' kinds)
-kinds-more size size' [] le is = refl
-kinds-more size size' (kind ∷ kinds) le is =
-    let both = and_parts _ _ is in
-    and_from _ _ (kind-more size size' kind le both.0) (kinds-more size size' kinds le both.1)
-
 cell-whole : (n place : ℕ) → (n + padding n + CELL_BYTES * place) % 4 ≡ 0
 cell-whole n place = omega arith
 
@@ -264,16 +236,8 @@ stub-cells m count n [] size all is = refl
 stub-cells m count n (name ∷ names) size all is =
     let start = start_of m count in
     and_from _ _
-    (and_from _ _ (eq-eqb _ 0 (cell-whole (length m.object.static_data) n))
-    (le-leb (cell_offset start n + 4) size (omega (arith, all, is))))
+    (cell-from size (cell_offset start n) (cell-whole (length m.object.static_data) n) (omega (arith, all, is)))
     (stub-cells m count (n + 1) names size (omega (arith, all)) is)
-
-both-cells : (size : ℕ) (old new : List Kind) → IsTrue (have_cells size old) → IsTrue (have_cells size new)
-    → IsTrue (have_cells size (old ++ new))
-both-cells size [] new one other = other
-both-cells size (kind ∷ old) new one other =
-    let both = and_parts _ _ one in
-    and_from _ _ both.0 (both-cells size old new both.1 other)
 
 pub cells-made : (m : Module) (imports : List (ℕ × Symbol)) (records : Records) (static_data : List ℕ)
     → static_data ≡ with_cells (length imports) m.object.static_data
@@ -285,8 +249,8 @@ cells-made m imports records static_data is are =
     let size = ap length is ∙ length-cells (length imports) m.object.static_data in
     let count = length-map-names imports in
     subst (λ (kinds : List Kind). IsTrue (have_cells (length static_data) kinds)) (sym are.branches)
-    (both-cells (length static_data) m.records.branches (map (stub_kind start) (enumerate_from 0 names))
-    (kinds-more (length m.object.static_data) (length static_data) m.records.branches (omega (arith, size)) m.cells)
+    (cells-append (length static_data) m.records.branches (map (stub_kind start) (enumerate_from 0 names))
+    (cells-more (length m.object.static_data) (length static_data) (omega (arith, size)) m.records.branches m.cells)
     (stub-cells m (length imports) 0 names (length static_data) (omega (arith, count)) size))
   where
     length-map-names : (imports : List (ℕ × Symbol)) → length (names_of imports) ≡ length imports

@@ -47,6 +47,10 @@ abbrev pub is_in_text : Area → Bool
 is_in_text areas.Text = true
 is_in_text areas.Data = false
 
+-- the end that a relocation of this area gives, where it is in text, and else the one before
+abbrev pub end_after : (end next : ℕ) → Area → ℕ
+end_after end next area = if is_in_text area then next else end
+
 -- how many relocations there are up to the last one in text
 abbrev pub text_end : List Reloc → ℕ
 text_end [] = 0

@@ -2,7 +2,7 @@
 
 ghost use Rattle.std.specs.Prelude.{◌≡◌, ◌+◌, ◌*◌, ◌<◌, ◌≤◌, length};
 ghost use Rattle.cfi_aux.specs.Records.{padding};
-ghost use Rattle.cfi_import.specs.Start.{first_shared, start_of, stub_offset, cell_offset, stub_symbol, cell_symbol, text_end};
+ghost use Rattle.cfi_import.specs.Start.{first_shared, start_of, stub_offset, cell_offset, stub_symbol, cell_symbol, end_after, text_end};
 ghost use Rattle.cfi_import.specs.inner.Room.{HasRoom, IsSmall};
 
 use cfi_aux::Module;
@@ -106,15 +106,21 @@ impl Start {
     }
 }
 
+// The end that a relocation gives, where it is in text, and else the one before.
+fn end_after(end: usize, next: usize, reloc: &Reloc) -> usize
+    ensures { result ≡ end_after end next reloc.now.area }
+{
+    if reloc.area == Area::Text { next } else { end }
+}
+
 /// How many relocations there are up to the last one in text.
 pub fn text_end(relocs: &[Reloc]) -> usize
-    ensures { result ≡ text_end relocs.now }
+    ensures is { result ≡ text_end relocs.now }
+    ensures within { result ≤ length relocs.now }
 {
     let mut end = 0;
     for (k, reloc) in relocs.iter().enumerate() {
-        if reloc.area == Area::Text {
-            end = k + 1;
-        }
+        end = end_after(end, k + 1, reloc);
     }
     end
 }
