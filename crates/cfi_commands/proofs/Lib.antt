@@ -5,3 +5,4 @@ pub mod ModulesLemmas
 pub mod LinkingLemmas
 pub mod FileLemmas
 pub mod TextLemmas
+pub mod StubbingLemmas

@@ -1,6 +1,7 @@
 pub mod Fault
 pub mod Assembling
 pub mod Instrumenting
+pub mod Stubbing
 pub mod Linking
 pub mod Listing
 pub mod Modules
@@ -12,6 +13,7 @@ pub mod Asm
 pub mod Aux
 pub mod Bare
 pub mod Elf
+pub mod Import
 pub mod Instr
 pub mod Link
 pub mod Place

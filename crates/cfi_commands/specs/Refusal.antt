@@ -2,11 +2,12 @@
 use Rattle.std.specs.Prelude.{ℕ, List, ◌++◌, codes}
 use Rattle.std.specs.Fmt.{decimal}
 use Rattle.cfi_commands.specs.declared.refusal.Refusal.{Refusal}
-use Rattle.cfi_commands.specs.declared.refusal.Refusal.TheVariants.{Bare, Elf, Aux, Instr, Asm, Link, Plan, Place, Verify, Entry, Sim}
+use Rattle.cfi_commands.specs.declared.refusal.Refusal.TheVariants.{Bare, Elf, Aux, Instr, Asm, Link, Import, Plan, Place, Verify, Entry, Sim}
 use Rattle.cfi_commands.specs.Asm.{asm_text}
 use Rattle.cfi_commands.specs.Aux.{aux_text}
 use Rattle.cfi_commands.specs.Bare.{bare_text}
 use Rattle.cfi_commands.specs.Elf.{elf_text}
+use Rattle.cfi_commands.specs.Import.{import_text}
 use Rattle.cfi_commands.specs.Instr.{instr_text}
 use Rattle.cfi_commands.specs.Link.{link_text}
 use Rattle.cfi_commands.specs.Place.{place_text}
@@ -20,6 +21,7 @@ refusal_text (Aux fault) = aux_text fault
 refusal_text (Instr fault) = codes "instr " ++ instr_text fault
 refusal_text (Asm fault) = codes "asm " ++ asm_text fault
 refusal_text (Link fault) = codes "link " ++ link_text fault
+refusal_text (Import fault) = codes "import " ++ import_text fault
 refusal_text (Plan fault) = codes "plan " ++ plan_text fault
 refusal_text (Place fault) = codes "place " ++ place_text fault
 refusal_text (Verify fault) = verify_text fault

@@ -5,6 +5,7 @@ use crate::asm::put_asm;
 use crate::aux::put_aux;
 use crate::bare::put_bare;
 use crate::elf::put_elf;
+use crate::import::put_import;
 use crate::instr::put_instr;
 use crate::link::put_link;
 use crate::place::put_place;
@@ -12,6 +13,7 @@ use crate::plan::put_plan;
 use crate::verify::put_verify_fault;
 use cfi_aux::AuxFault;
 use cfi_bare::BareFault;
+use cfi_import::StubFault;
 use cfi_instr::InstrFault;
 use cfi_link::LinkFault;
 use cfi_place::PlaceFault;
@@ -36,6 +38,8 @@ pub enum Refusal {
     Asm(AsmFault),
     /// As modules to be linked.
     Link(LinkFault),
+    /// As a module to be given stubs.
+    Import(StubFault),
     /// As a plan.
     Plan(PlanFault),
     /// As a module to be placed.
@@ -77,6 +81,10 @@ pub fn put_refusal(text: &mut String, refusal: &Refusal) -> Result<(), AllocErro
         Refusal::Link(fault) => {
             text.push_str("link ")?;
             put_link(text, fault)
+        }
+        Refusal::Import(fault) => {
+            text.push_str("import ")?;
+            put_import(text, *fault)
         }
         Refusal::Plan(fault) => {
             text.push_str("plan ")?;

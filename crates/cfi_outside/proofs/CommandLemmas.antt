@@ -24,7 +24,8 @@ command_from (name ∷ input ∷ output ∷ []) =
     if bytes_eq name (codes "asm") then Some (commands.Asm input output)
     else (if bytes_eq name (codes "instrument") then Some (commands.Instrument input output)
     else (if bytes_eq name (codes "sim") then Some (commands.Sim input output)
-    else (if bytes_eq name (codes "link") then Some (commands.Link input (output ∷ [])) else None)))
+    else (if bytes_eq name (codes "stub") then Some (commands.Stub input output)
+    else (if bytes_eq name (codes "link") then Some (commands.Link input (output ∷ [])) else None))))
 command_from (name ∷ output ∷ input ∷ more ∷ rest) =
     if bytes_eq name (codes "link") then Some (commands.Link output (input ∷ more ∷ rest)) else None
 
@@ -44,6 +45,7 @@ from_spelled (commands.Verify plan) number = refl
 from_spelled (commands.Graph plan) number = refl
 from_spelled (commands.Sim plan schedule) number = refl
 from_spelled (commands.Run input) number = refl
+from_spelled (commands.Stub input output) number = refl
 
 -- words are one command at most
 pub one_command : (words : List (List ℕ)) (a b : Command) → IsCommand words a → IsCommand words b → a ≡ b

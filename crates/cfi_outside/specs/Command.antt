@@ -16,6 +16,7 @@ command_word (commands.Verify plan) = codes "verify"
 command_word (commands.Graph plan) = codes "graph"
 command_word (commands.Sim plan schedule) = codes "sim"
 command_word (commands.Run input) = codes "run"
+command_word (commands.Stub input output) = codes "stub"
 
 abbrev pub operands_of : Command → List (List ℕ)
 operands_of (commands.Asm input output) = input ∷ output ∷ []
@@ -26,6 +27,7 @@ operands_of (commands.Verify plan) = plan ∷ []
 operands_of (commands.Graph plan) = plan ∷ []
 operands_of (commands.Sim plan schedule) = plan ∷ schedule ∷ []
 operands_of (commands.Run input) = input ∷ []
+operands_of (commands.Stub input output) = input ∷ output ∷ []
 
 -- a command that takes any number of inputs has one at least, and not too many
 abbrev pub HasInputs : Command → Type 0
@@ -57,6 +59,7 @@ inputs_of (commands.Verify plan) = plan ∷ []
 inputs_of (commands.Graph plan) = plan ∷ []
 inputs_of (commands.Sim plan schedule) = plan ∷ []
 inputs_of (commands.Run input) = input ∷ []
+inputs_of (commands.Stub input output) = input ∷ []
 
 -- the files that it reads after them, in order: those that its inputs, of these bytes, name, and then a schedule
 abbrev pub more_of : Command → (files : List (List ℕ)) → List (List ℕ)
@@ -76,3 +79,4 @@ saved_name (commands.Verify plan) = None
 saved_name (commands.Graph plan) = None
 saved_name (commands.Sim plan schedule) = None
 saved_name (commands.Run input) = None
+saved_name (commands.Stub input output) = Some output

@@ -9,7 +9,7 @@ use Rattle.cfi_outside.specs.declared.reading.Cause.TheVariants.{Failed, Absent,
 use Rattle.cfi_outside.specs.declared.reading.Unread.{Unread}
 
 abbrev pub usage_line : List ℕ
-usage_line = codes "usage: cfi asm|list|instrument|link|verify|graph|sim|run|gen\n"
+usage_line = codes "usage: cfi asm|list|instrument|link|verify|graph|sim|run|gen|stub\n"
 
 -- the file, and why it was not read
 abbrev pub unread_line : (name : List ℕ) → Cause → List ℕ

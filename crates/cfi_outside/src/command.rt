@@ -63,6 +63,13 @@ pub enum Command {
         /// The file.
         input: Text,
     },
+    /// Gives a module stubs for the functions that it calls and that may come later.
+    Stub {
+        /// The module's file.
+        input: Text,
+        /// The file of the module with stubs.
+        output: Text,
+    },
 }
 
 impl Command {
@@ -79,6 +86,7 @@ impl Command {
             Command::Graph { plan } => one_name(alloc, plan),
             Command::Sim { plan, .. } => one_name(alloc, plan),
             Command::Run { input } => one_name(alloc, input),
+            Command::Stub { input, .. } => one_name(alloc, input),
         }
     }
 
@@ -100,6 +108,7 @@ impl Command {
             Command::Graph { .. } => named_files(alloc, only(files)),
             Command::Sim { schedule, .. } => named_files_and(alloc, only(files), schedule),
             Command::Run { .. } => run_files(alloc, only(files)),
+            Command::Stub { .. } => Ok(Vec::new(alloc)),
         }
     }
 }
@@ -149,6 +158,9 @@ fn binary(
             plan: input,
             schedule: output,
         }));
+    }
+    if name == "stub" {
+        return Ok(Some(Command::Stub { input, output }));
     }
     Ok(None)
 }

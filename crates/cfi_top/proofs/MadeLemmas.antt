@@ -16,7 +16,7 @@ use Rattle.cfi_io.specs.Seen.{ShelfView, SinkView}
 use Rattle.cfi_outside.specs.Plans.{named_files, named_files_and, run_files}
 use Rattle.cfi_outside.specs.Reading.{AreRead}
 use Rattle.cfi_top.specs.Outcome.{IsMade}
-use Rattle.cfi_top.specs.Top.{Ends, HasRun, HasSimulated, HasListed, HasAssembled, HasInstrumented, HasLinked, HasVerified, HasGraphed}
+use Rattle.cfi_top.specs.Top.{Ends, HasRun, HasSimulated, HasListed, HasAssembled, HasInstrumented, HasStubbed, HasLinked, HasVerified, HasGraphed}
 use Rattle.cfi_outside.proofs.ReadingLemmas.{one_file}
 use Rattle.cfi_top.proofs.DoneLemmas.{command_done}
 
@@ -54,6 +54,23 @@ module _ (input bytes : List ℕ) (shelf shelf' : ShelfView) (sink sink' : SinkV
   instrument_done output answers.Usage made whole = absurd made
   instrument_done output (answers.Unread unread) made whole = absurd made
   instrument_done output (answers.Refused name refusal) made whole = absurd made
+
+  stub_done : (output : List ℕ) (answer : Answer)
+      → IsMade (commands.Stub input output) (bytes ∷ []) more answer
+      → IsWrittenWhole (output_of answer) shelf shelf' sink sink' → HasStubbed input output shelf shelf' sink sink'
+  stub_done output (answers.Save name file) made whole = record {
+    bytes = bytes;
+    held = held;
+    file = file;
+    made = made.1;
+    saved = subst (λ (n : List ℕ). WhereKeptTold shelf.files shelf'.files (Puts n file)) made.0 whole.1;
+    silent = whole.0;
+  }
+  stub_done output (answers.Print text) made whole = absurd made
+  stub_done output (answers.Ran it said) made whole = absurd made
+  stub_done output answers.Usage made whole = absurd made
+  stub_done output (answers.Unread unread) made whole = absurd made
+  stub_done output (answers.Refused name refusal) made whole = absurd made
 
   list_done : (answer : Answer) → IsMade (commands.List input) (bytes ∷ []) more answer
       → IsWrittenWhole (output_of answer) shelf shelf' sink sink' → HasListed input shelf sink sink'
@@ -158,6 +175,17 @@ instrumented_of words shelf shelf' sink sink' status run ends input output fits 
     let made = subst (λ (fs : List (List ℕ)). IsMade (commands.Instrument input output) fs done.more done.answer) one.1
     done.made in
     instrument_done input one.0 shelf shelf' sink sink' one.2 done.more output done.answer made done.delivered
+
+pub stubbed_of : (words : List (List ℕ)) (shelf shelf' : ShelfView) (sink sink' : SinkView) (status : ℕ)
+    (run : Option Conclusion) → Ends words shelf shelf' sink sink' status run → (input output : List ℕ)
+    → IsCommand words (commands.Stub input output) → status ≡ DONE
+    → HasStubbed input output shelf shelf' sink sink'
+stubbed_of words shelf shelf' sink sink' status run ends input output fits e =
+    let done = command_done words shelf shelf' sink sink' status run e (commands.Stub input output) fits ends in
+    let one = one_file shelf input done.files done.read.inputs in
+    let made = subst (λ (fs : List (List ℕ)). IsMade (commands.Stub input output) fs done.more done.answer) one.1
+    done.made in
+    stub_done input one.0 shelf shelf' sink sink' one.2 done.more output done.answer made done.delivered
 
 pub ran_of : (words : List (List ℕ)) (shelf shelf' : ShelfView) (sink sink' : SinkView) (status : ℕ)
     (run : Option Conclusion) → Ends words shelf shelf' sink sink' status run → (input : List ℕ)

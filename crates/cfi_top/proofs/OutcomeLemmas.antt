@@ -43,6 +43,8 @@ saved_is_output (commands.Verify plan) (bytes ∷ []) more name file made = absu
 saved_is_output (commands.Graph plan) (bytes ∷ []) more name file made = absurd made
 saved_is_output (commands.Sim plan schedule) (bytes ∷ []) more name file made = absurd made
 saved_is_output (commands.Run input) (bytes ∷ []) more name file made = absurd made
+saved_is_output (commands.Stub input output) (bytes ∷ []) more name file made =
+    ap (λ (n : List ℕ). Some n) (sym made.0)
 saved_is_output command files more name file made = absurd made
 
 -- what is made of files that are read is no file that is not
@@ -56,6 +58,7 @@ never_unread (commands.Verify plan) (bytes ∷ []) more unread made = made
 never_unread (commands.Graph plan) (bytes ∷ []) more unread made = made
 never_unread (commands.Sim plan schedule) (bytes ∷ []) more unread made = made
 never_unread (commands.Run input) (bytes ∷ []) more unread made = made
+never_unread (commands.Stub input output) (bytes ∷ []) more unread made = made
 never_unread command files more unread made = made
 
 -- a command whose files are read comes to what is made of them

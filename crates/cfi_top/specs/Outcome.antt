@@ -11,6 +11,7 @@ use Rattle.cfi_commands.specs.Verified.{IsVerifiedText}
 use Rattle.cfi_commands.specs.Assembling.{IsAssembled, IsSourceFault}
 use Rattle.cfi_commands.specs.Instrumenting.{IsInstrumentedFile, IsInstrumentFault}
 use Rattle.cfi_commands.specs.Linking.{IsLinkedFile, IsLinkingFault}
+use Rattle.cfi_commands.specs.Stubbing.{IsStubbedFile, IsStubbingFault}
 use Rattle.cfi_commands.specs.Listing.{IsObjectListing, IsObjectFault}
 use Rattle.cfi_report.specs.Report.{report_text}
 use Rattle.cfi_outside.specs.declared.command.Command.{Command}
@@ -47,6 +48,8 @@ IsMade (commands.Graph plan) (bytes ∷ []) more (answers.Print text) = IsGraphO
 IsMade (commands.Sim plan schedule) (bytes ∷ []) more (answers.Print text) = IsSimOfPlan bytes more text
 IsMade (commands.Run input) (bytes ∷ []) more (answers.Ran run text) =
     (text ≡ report_text run.report) × IsRunOfFile bytes more run
+IsMade (commands.Stub input output) (bytes ∷ []) more (answers.Save name file) =
+    (name ≡ output) × IsStubbedFile bytes file
 IsMade command files more answer = ⊥
 
 -- the bytes are a plan, and the file of this name, which one of its modules has, is refused for the first fault of the
@@ -77,6 +80,8 @@ Refuses (commands.Graph plan) (bytes ∷ []) more name refusal = RefusesPlan pla
 Refuses (commands.Sim plan schedule) (bytes ∷ []) more name refusal =
     RefusesSimulation plan schedule bytes more name refusal
 Refuses (commands.Run input) (bytes ∷ []) more name refusal = RefusesRun input bytes more name refusal
+Refuses (commands.Stub input output) (bytes ∷ []) more name refusal =
+    (name ≡ input) × IsStubbingFault bytes refusal
 Refuses command files more name refusal = ⊥
 
 -- no refusal stands in its files

@@ -9,6 +9,7 @@ use Rattle.cfi_report.specs.Report.{report_text}
 use Rattle.cfi_commands.specs.declared.refusal.Refusal.{Refusal}
 use Rattle.cfi_commands.specs.Assembling.{IsAssembled}
 use Rattle.cfi_commands.specs.Instrumenting.{IsInstrumentedFile}
+use Rattle.cfi_commands.specs.Stubbing.{IsStubbedFile}
 use Rattle.cfi_commands.specs.Linking.{IsLinkedFile}
 use Rattle.cfi_commands.specs.Listing.{IsObjectListing}
 use Rattle.cfi_outside.specs.declared.command.Command.{Command}
@@ -74,6 +75,10 @@ HasAssembled = HasMade IsAssembled
 -- the file `input` is a module, and the file `output` is the written object of it, instrumented
 abbrev pub HasInstrumented : (input output : List ℕ) → (shelf shelf' : ShelfView) → (sink sink' : SinkView) → Type 0
 HasInstrumented = HasMade IsInstrumentedFile
+
+-- the file `input` is a module, and the file `output` is the written object of it, with stubs
+abbrev pub HasStubbed : (input output : List ℕ) → (shelf shelf' : ShelfView) → (sink sink' : SinkView) → Type 0
+HasStubbed = HasMade IsStubbedFile
 
 -- the files `inputs` are modules, the file `output` is the written object of what links them, and nothing is printed
 pub record HasLinked (output : List ℕ) (inputs : List (List ℕ)) (shelf shelf' : ShelfView) (sink sink' : SinkView)

@@ -13,7 +13,7 @@ ghost use Rattle.cfi_top.specs.Outcome.{IsAnswer};
 ghost use Rattle.cfi_top.specs.Answer.{kept_at};
 ghost use Rattle.cfi_top.specs.Ready.{IsReady, IsServed};
 ghost use Rattle.cfi_top.specs.inner.Working.{ComesTo};
-ghost use Rattle.cfi_top.specs.Top.{Ends, HasRun, HasSimulated, HasListed, HasAssembled, HasInstrumented, HasLinked, HasVerified, HasGraphed, IsRefused, IsStopped, IsSavedBy, IsUnsaved, Saves, Runs, IsValid, IsSteady};
+ghost use Rattle.cfi_top.specs.Top.{Ends, HasRun, HasSimulated, HasListed, HasAssembled, HasInstrumented, HasStubbed, HasLinked, HasVerified, HasGraphed, IsRefused, IsStopped, IsSavedBy, IsUnsaved, Saves, Runs, IsValid, IsSteady};
 
 use crate::answer::{Answer, output_of};
 use crate::running::run;
@@ -172,7 +172,8 @@ fn run_words<F: Shelf, S: Sink, G: Gate, R: Threads + Wait + Sync>(
 /// Runs the program: its words after its own name, over a shelf, a sink and a gate.
 ///
 /// `asm IN OUT` assembles a source and saves the object. `list IN` prints the listing of an object's text. `instrument
-/// IN OUT` instruments a module and saves it. `link OUT IN..` links 1 to 64 modules and saves what they make. `verify
+/// IN OUT` instruments a module and saves it. `stub IN OUT` gives a module stubs for the functions that it calls and
+/// that may come later, and saves it. `link OUT IN..` links 1 to 64 modules and saves what they make. `verify
 /// PLAN` verifies the modules of a plan and prints a line for each; `graph PLAN` does so and prints the groups of their
 /// policy. `sim PLAN SCHEDULE` makes the events of a schedule, one by one, and prints what they come to. `run FILE` runs a
 /// plan, or a bare file, whose guests run on threads of their own beside the script, and prints the report. It waits for a
@@ -236,6 +237,14 @@ pub fn top<F: Shelf, S: Sink, G: Gate, R: Threads + Wait + Sync>(
     ensures instrumented { (input output : List ℕ) →
         IsCommand (texts words.now) (commands.Instrument input output) →
         result.status ≡ DONE → HasInstrumented input output
+        (F.seen shelf.old)
+        (F.seen shelf.new)
+        (S.seen sink.old)
+        (S.seen sink.new) }
+
+    ensures stubbed { (input output : List ℕ) →
+        IsCommand (texts words.now) (commands.Stub input output) →
+        result.status ≡ DONE → HasStubbed input output
         (F.seen shelf.old)
         (F.seen shelf.new)
         (S.seen sink.old)

@@ -9,7 +9,7 @@ ghost use Rattle.cfi_top.specs.inner.Working.{ComesTo, IsToRun, IsReadToRun, IsR
 use crate::answer::Answer;
 use crate::plans::{graph, sim, verify};
 use crate::refused::refused;
-use cfi_commands::{CommandFault, assembled, instrumented, linked, listing_of};
+use cfi_commands::{CommandFault, assembled, instrumented, linked, listing_of, stubbed};
 use cfi_io::Shelf;
 use cfi_outside::{Command, only, read_files, text_of};
 use cfi_values::{Bytes, Items, Text};
@@ -68,6 +68,17 @@ fn instrument(alloc: Global, input: Text, output: Text, bytes: &[u8]) -> Result<
     }
 }
 
+// Gives a module stubs.
+fn stub(alloc: Global, input: Text, output: Text, bytes: &[u8]) -> Result<Answer, AllocError>
+    requires short { length bytes.now ≤ MAX_FILE_BYTES }
+    ensures { IfOk result (IsWorked (commands.Stub input output) (bytes.now ∷ []) []) }
+{
+    match stubbed(alloc, bytes) {
+        Ok(made) => Ok(Answer::Save(output, Bytes::from_vec(made))),
+        Err(fault) => refused(input, fault),
+    }
+}
+
 // Links modules.
 fn link(
     alloc: Global,
@@ -121,6 +132,9 @@ fn work(
             Ok(Outcome::Answer(sim(alloc, plan, schedule, only(&files), more)?))
         }
         Command::Run { input } => Ok(Outcome::Run(Ready { input, files, more })),
+        Command::Stub { input, output } => {
+            Ok(Outcome::Answer(stub(alloc, input, output, only(&files))?))
+        }
     }
 }
 

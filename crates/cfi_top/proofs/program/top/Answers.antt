@@ -1,6 +1,6 @@
 use Rattle.cfi_top.proofs.PromiseLemmas.{ask_in_force, keep_policies_in, enter_units, store_inside}
 use Rattle.cfi_top.proofs.DoneLemmas.{done_of, run_only, if_some}
-use Rattle.cfi_top.proofs.MadeLemmas.{ran_of, simulated_of, listed_of, assembled_of, instrumented_of, linked_of, verified_of, graphed_of}
+use Rattle.cfi_top.proofs.MadeLemmas.{ran_of, simulated_of, listed_of, assembled_of, instrumented_of, stubbed_of, linked_of, verified_of, graphed_of}
 use Rattle.cfi_top.proofs.TopLemmas.{usage_of, unfit_of, read_fault_of, missed_of, stopped_of, write_fault_of, refused_of}
 use Rattle.cfi_top.proofs.FilesLemmas.{valid_shelf, elsewhere_of, same_of, within_of}
 use Rattle.cfi_top.proofs.program.top.Goals as goal
@@ -35,6 +35,9 @@ returns-clause-assembled g c = assembled_of _ _ _ _ _ _ _ c.run_words.ensures.en
 
 pub returns-clause-instrumented : goal.returns-clause-instrumented
 returns-clause-instrumented g c = instrumented_of _ _ _ _ _ _ _ c.run_words.ensures.ends
+
+pub returns-clause-stubbed : goal.returns-clause-stubbed
+returns-clause-stubbed g c = stubbed_of _ _ _ _ _ _ _ c.run_words.ensures.ends
 
 pub returns-clause-linked : goal.returns-clause-linked
 returns-clause-linked g c = linked_of _ _ _ _ _ _ _ c.run_words.ensures.ends

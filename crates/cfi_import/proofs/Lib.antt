@@ -1,0 +1,4 @@
+pub mod StartLemmas
+pub mod FoundLemmas
+pub mod SizeLemmas
+pub mod MadeLemmas

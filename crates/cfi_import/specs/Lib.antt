@@ -1,0 +1,5 @@
+pub mod Imports
+pub mod Start
+pub mod Stubs
+pub mod Stubbed
+pub mod inner

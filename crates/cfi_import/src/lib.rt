@@ -1,0 +1,21 @@
+//! Stubs for the functions that a module calls and that may come later.
+//!
+//! Stands on `cfi_limits`, `cfi_aux`, `cfi_type_table`, `cfi_values`, `elf_read`, `rv_insn` and `thiserror`. Proved:
+//! `with_stubs` answers exactly the module of `specs/Stubbed.antt`, or the first limit on one object that this module
+//! passes; what it answers breaks no rule of modules. Only tested, by the cases of `cfi_cases`: that ample memory is
+//! enough, and words against an assembler. Open: when memory runs out.
+#![tactic(auto)]
+
+mod copies;
+mod fault;
+mod found;
+mod records;
+mod relocs;
+mod sizes;
+mod start;
+mod stubbing;
+mod symbols;
+mod texts;
+
+pub use fault::StubFault;
+pub use stubbing::with_stubs;
