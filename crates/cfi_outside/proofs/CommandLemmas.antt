@@ -6,10 +6,33 @@ use Rattle.std.specs.Str.{bytes_eq}
 use Rattle.cfi_args.specs.declared.split.Split.{Split}
 use Rattle.cfi_args.specs.Split.{IsSplit, command_in, operands_of as operands_in}
 use Rattle.cfi_args.specs.Words.{IsOperand}
+use Rattle.cfi_draw.specs.declared.shape.TheConstants.{MAX_COUNT, MIN_COUNT}
+use Rattle.cfi_text.specs.Decimal.{dec_text, number_in, small_number_in}
+use Rattle.cfi_text.proofs.DecimalLemmas.{number_in-some, small_number_in-back}
+use Rattle.cfi_outside.specs.inner.Drawing.{within_limits, count_in}
 use Rattle.cfi_outside.specs.declared.command.Command.{Command}
 use Rattle.cfi_outside.specs.declared.command.Command.TheVariants as commands
 use Rattle.cfi_word.specs.declared.limits.TheConstants.{MAX_INPUTS}
 use Rattle.cfi_outside.specs.Command.{command_word, operands_of, HasInputs, IsCommand}
+
+-- ---- drawn modules
+
+-- the command of a seed and a number of modules, where both are there
+drawing_by : (seed count : Option ℕ) → Option Command
+drawing_by None count = None
+drawing_by (Some seed) None = None
+drawing_by (Some seed) (Some count) = Some (commands.Gen seed count)
+
+abbrev drawing_in : (seed count : List ℕ) → Option Command
+drawing_in seed count = drawing_by (number_in seed) (count_in count)
+
+-- a number within the limits is what its spelling says
+count_back : (count : ℕ) → MIN_COUNT ≤ count → count ≤ MAX_COUNT → count_in (dec_text count) ≡ Some count
+count_back count least most =
+    ap within_limits (small_number_in-back count (omega (arith, most)))
+    ∙ rw (nat_le-true MIN_COUNT count least, nat_le-true count MAX_COUNT most) refl
+
+-- ---- all words
 
 -- the command of words, read off their first
 abbrev command_from : List (List ℕ) → Option Command
@@ -24,7 +47,8 @@ command_from (name ∷ input ∷ output ∷ []) =
     if bytes_eq name (codes "asm") then Some (commands.Asm input output)
     else (if bytes_eq name (codes "instrument") then Some (commands.Instrument input output)
     else (if bytes_eq name (codes "sim") then Some (commands.Sim input output)
-    else (if bytes_eq name (codes "link") then Some (commands.Link input (output ∷ [])) else None)))
+    else (if bytes_eq name (codes "gen") then drawing_in input output
+    else (if bytes_eq name (codes "link") then Some (commands.Link input (output ∷ [])) else None))))
 command_from (name ∷ output ∷ input ∷ more ∷ rest) =
     if bytes_eq name (codes "link") then Some (commands.Link output (input ∷ more ∷ rest)) else None
 
@@ -44,6 +68,8 @@ from_spelled (commands.Verify plan) number = refl
 from_spelled (commands.Graph plan) number = refl
 from_spelled (commands.Sim plan schedule) number = refl
 from_spelled (commands.Run input) number = refl
+from_spelled (commands.Gen seed count) number =
+    rw (number_in-some (dec_text seed) seed number.0 refl, count_back count number.1 number.2) refl
 
 -- words are one command at most
 pub one_command : (words : List (List ℕ)) (a b : Command) → IsCommand words a → IsCommand words b → a ≡ b

@@ -22,6 +22,7 @@ use Rattle.cfi_io.specs.Seen.{ShelfView}
 use Rattle.cfi_outside.specs.Plans.{files_of}
 use Rattle.cfi_top.specs.Opening.{IsNoPlan, IsNamedBad}
 use Rattle.cfi_top.specs.Plans.{IsSaid}
+use Rattle.cfi_top.specs.Generating.{IsGeneratedRun, RefusesGenerated}
 use Rattle.cfi_top.specs.Running.{IsRunOfFile, RefusesRun}
 use Rattle.cfi_top.specs.Simulating.{IsSimOfPlan, RefusesSimulation}
 use Rattle.cfi_outside.specs.Reading.{AreRead, StopsAt}
@@ -47,6 +48,7 @@ IsMade (commands.Graph plan) (bytes ∷ []) more (answers.Print text) = IsGraphO
 IsMade (commands.Sim plan schedule) (bytes ∷ []) more (answers.Print text) = IsSimOfPlan bytes more text
 IsMade (commands.Run input) (bytes ∷ []) more (answers.Ran run text) =
     (text ≡ report_text run.report) × IsRunOfFile bytes more run
+IsMade (commands.Gen seed count) files more (answers.Ran run text) = IsGeneratedRun seed count run text
 IsMade command files more answer = ⊥
 
 -- the bytes are a plan, and the file of this name, which one of its modules has, is refused for the first fault of the
@@ -77,6 +79,7 @@ Refuses (commands.Graph plan) (bytes ∷ []) more name refusal = RefusesPlan pla
 Refuses (commands.Sim plan schedule) (bytes ∷ []) more name refusal =
     RefusesSimulation plan schedule bytes more name refusal
 Refuses (commands.Run input) (bytes ∷ []) more name refusal = RefusesRun input bytes more name refusal
+Refuses (commands.Gen seed count) files more name refusal = RefusesGenerated seed count name refusal
 Refuses command files more name refusal = ⊥
 
 -- no refusal stands in its files
