@@ -17,6 +17,7 @@ pub mod headline;
 pub mod laws;
 mod plans;
 mod program;
+mod ready;
 mod refused;
 mod running;
 mod tracing;

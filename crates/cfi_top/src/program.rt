@@ -9,7 +9,7 @@ ghost use Rattle.cfi_outside.specs.Command.{HasInputs, IsCommand, IsCommandLine,
 ghost use Rattle.cfi_outside.specs.Outside.{IsLater};
 ghost use Rattle.cfi_outside.specs.Reading.{IsShort};
 ghost use Rattle.cfi_top.specs.Promises.{GuestsAskInForce, GuestsKeepPolicies, GuestsEnterUnits, GuestsStoreInside};
-ghost use Rattle.cfi_top.specs.Outcome.{IsAnswer, IsWorked};
+ghost use Rattle.cfi_top.specs.Outcome.{IsAnswer};
 ghost use Rattle.cfi_top.specs.Answer.{kept_at};
 ghost use Rattle.cfi_top.specs.Ready.{IsReady, IsServed};
 ghost use Rattle.cfi_top.specs.Running.{RunsGuests};
@@ -17,12 +17,11 @@ ghost use Rattle.cfi_top.specs.inner.Working.{ComesTo};
 ghost use Rattle.cfi_top.specs.Top.{Ends, HasRun, HasGenerated, HasSimulated, HasListed, HasAssembled, HasInstrumented, HasLinked, HasVerified, HasGraphed, IsRefused, IsStopped, IsSavedBy, IsUnsaved, Saves, Runs, IsValid, IsSteady};
 
 use crate::answer::{Answer, output_of};
-use crate::generating::generated;
-use crate::running::run;
+use crate::ready::run_ready;
 use crate::work::{Outcome, Ready, outcome_of};
 use cfi_engine::Concluded;
 use cfi_io::{Gate, Shelf, Sink};
-use cfi_outside::{Command, DONE, MEMORY, command_of, deliver, only};
+use cfi_outside::{DONE, MEMORY, command_of, deliver};
 use std::alloc::{AllocError, Global};
 use std::sync::Wait;
 use std::thread::Threads;
@@ -122,33 +121,6 @@ pub fn serve<F: Shelf, S: Sink>(
     }
 }
 
-// Runs what is ready.
-fn ran<G: Gate, R: Threads + Wait + Sync>(
-    rt: &R,
-    alloc: Global,
-    ready: Ready,
-    gate: &G,
-) -> Result<Answer, AllocError>
-    requires runs { RunsGuests ready.command }
-    requires number { HasInputs ready.command }
-    requires count { length ready.files ≡ length (inputs_of ready.command) }
-    requires short { All IsShort ready.files }
-    requires named { length ready.more ≡ length (more_of ready.command ready.files) }
-    requires small { All IsShort ready.more }
-    ensures { IfOk result (IsWorked ready.command ready.files ready.more) }
-{
-    let Ready {
-        command,
-        files,
-        more,
-    } = ready;
-    match command {
-        Command::Run { input } => run(rt, alloc, input, only(&files), more, gate),
-        Command::Gen { seed, count } => generated(rt, alloc, seed, count, gate),
-        _ => unreachable!(),
-    }
-}
-
 // Runs what is ready, delivers what that comes to, and says how the program ends.
 fn finish<F: Shelf, S: Sink, G: Gate, R: Threads + Wait + Sync>(
     rt: &R,
@@ -171,7 +143,7 @@ fn finish<F: Shelf, S: Sink, G: Gate, R: Threads + Wait + Sync>(
         (S.seen sink.old)
         (S.seen sink.new) result.status result.run }
 {
-    match ran(rt, alloc, ready, gate) {
+    match run_ready(rt, alloc, ready, gate) {
         Ok(answer) => told(alloc, answer, shelf, sink),
         Err(_) => starved(),
     }
