@@ -3,7 +3,7 @@
 ghost use Rattle.std.specs.Prelude.{◌≡◌, ◌∷◌, [], All, codes};
 ghost use Rattle.cfi_args.specs.Words.{IsOperand};
 ghost use Rattle.cfi_outside.specs.Command.{IsReading};
-ghost use Rattle.cfi_outside.specs.inner.Drawing.{count_in};
+ghost use Rattle.cfi_outside.specs.inner.Drawing.{command_by, count_in};
 
 use crate::command::Command;
 use cfi_draw::{MAX_COUNT, MIN_COUNT};
@@ -21,6 +21,16 @@ fn count_of(word: &str) -> Option<u32>
     }
 }
 
+// The command of a seed and a number of modules, where both are there.
+fn drawn(seed: Option<u64>, count: Option<u32>) -> Option<Command>
+    ensures { result ≡ command_by seed count }
+{
+    Some(Command::Gen {
+        seed: seed?,
+        count: count?,
+    })
+}
+
 /// The command that runs as many modules as the second word says, drawn of the seed that the first one says.
 ///
 /// A seed is a number below 2 ^ 64, in decimal. `None` where a word is no such number, or has a zero ahead, or there are
@@ -29,7 +39,5 @@ pub fn drawing(seed: &str, count: &str) -> Option<Command>
     requires operands { All IsOperand (seed.now ∷ count.now ∷ []) }
     ensures reading { IsReading (codes "gen" ∷ seed.now ∷ count.now ∷ []) result }
 {
-    let seed = read_dec(seed.as_bytes())?;
-    let count = count_of(count)?;
-    Some(Command::Gen { seed, count })
+    drawn(read_dec(seed.as_bytes()), count_of(count))
 }

@@ -1,16 +1,16 @@
 -- What is known of running drawn modules.
-use Rattle.std.proofs.Common.{◌≡◌, ℕ, List, [], Ok, inl, inr, refl, sym, ap, subst}
-use Rattle.std.specs.Prelude.{slice_get}
-use Rattle.cfi_aux.specs.declared.modules.Module.{Module}
+use Rattle.std.proofs.Common.{◌≡◌, ◌∙◌, ℕ, List, [], length, Ok, inl, inr, refl, sym, ap, subst}
+use Rattle.std.specs.Prelude.{◌≢◌, slice_get}
 use Rattle.cfi_commands.specs.declared.fault.CommandFault.{CommandFault}
 use Rattle.cfi_commands.specs.declared.fault.CommandFault.TheVariants.{File, Together, Memory}
 use Rattle.cfi_commands.specs.Files.{IsFilesFault}
 use Rattle.cfi_draw.specs.Plan.{plan_text}
-use Rattle.cfi_drive.specs.Concluded.{HasReadableNames, IsConcluded}
+use Rattle.cfi_drive.specs.Concluded.{Conclusion}
 use Rattle.cfi_gen.specs.Generated.{AreGenerated, IsGenerateFault}
 use Rattle.cfi_gen.specs.Measured.{IsMeasure}
 use Rattle.cfi_outside.specs.declared.command.Command.TheVariants as commands
 use Rattle.cfi_plan.specs.declared.plan.Plan.{Plan}
+use Rattle.cfi_plan.specs.declared.plan.PlanModule.{PlanModule}
 use Rattle.cfi_plan.specs.Plan.{IsPlan}
 use Rattle.cfi_plan.specs.Reading.{plan_in}
 use Rattle.cfi_summary.specs.declared.summary_text.Measure.{Measure}
@@ -18,10 +18,10 @@ use Rattle.cfi_top.specs.declared.answer.Answer.{Answer}
 use Rattle.cfi_top.specs.declared.answer.Answer.TheVariants as answers
 use Rattle.cfi_top.specs.Generating.{plan_name}
 use Rattle.cfi_top.specs.Outcome.{IsWorked}
-use Rattle.cfi_top.specs.Refused.{IsModuleRefused}
+use Rattle.cfi_top.specs.Refused.{IsAmong, IsModuleRefused}
 use Rattle.cfi_top.specs.inner.Generating.{IsOfSource, IsSourceRefused, summed}
 use Rattle.cfi_top.specs.inner.Running.{IsPlanRun}
-use Rattle.cfi_top.proofs.PlansLemmas.{found_at, file_at}
+use Rattle.cfi_top.proofs.PlansLemmas.{among, found_at, file_at}
 use Rattle.cfi_top.proofs.RunLemmas.{plan_names, readable}
 
 -- a fault of generating is of one source
@@ -29,6 +29,24 @@ pub source_of : (seed count : ℕ) (fault : CommandFault) → IsGenerateFault se
 source_of seed count (File number refusal) first = tt
 source_of seed count (Together fault) first = absurd first
 source_of seed count Memory first = tt
+
+-- what is no run has no summary
+pub other_summed : (seed count : ℕ) (measure : Measure) (answer : Answer)
+    → ((run : Conclusion) (text : List ℕ) → answer ≢ answers.Ran run text) → answer ≡ summed seed count measure answer
+other_summed seed count measure (answers.Ran run text) other = absurd (other run text refl)
+other_summed seed count measure (answers.Print text) other = refl
+other_summed seed count measure (answers.Save name file) other = refl
+other_summed seed count measure answers.Usage other = refl
+other_summed seed count measure (answers.Unread unread) other = refl
+other_summed seed count measure (answers.Refused name refusal) other = refl
+
+-- a fault of the files is of one of the plan's modules
+pub among_lines : (plan : Plan) (files : List (List ℕ)) (lines : List PlanModule) (fault : CommandFault)
+    → length files ≡ length plan.modules → lines ≡ plan.modules → IsFilesFault plan.code_words files fault
+    → IsAmong (length lines) fault
+among_lines plan files lines fault count same bad =
+    subst (λ (n : ℕ). IsAmong n fault) (count ∙ sym (ap (λ (ms : List PlanModule). length ms) same))
+    (among plan.code_words files fault bad)
 
 module _ (seed count : ℕ) where
   -- what drawing so many of a seed comes to

@@ -1,11 +1,13 @@
 //! Running drawn modules.
 
-ghost use Rattle.std.specs.Prelude.{◌≡◌, ◌≤◌, [], length, All, IfOk, Ok};
+ghost use Rattle.std.specs.Prelude.{◌≡◌, ◌≤◌, [], length, All, IfOk, IfErr, Ok};
+ghost use Rattle.cfi_commands.specs.Files.{IsFilesFault};
 ghost use Rattle.cfi_commands.specs.Modules.{IsShortFile};
 ghost use Rattle.cfi_draw.specs.Plan.{plan_text};
 ghost use Rattle.cfi_draw.specs.Source.{file_name};
 ghost use Rattle.cfi_draw.specs.declared.shape.TheConstants.{MAX_COUNT, MIN_COUNT};
 ghost use Rattle.cfi_gen.specs.Generated.{AreGenerated};
+ghost use Rattle.cfi_gen.specs.Measured.{IsMeasure};
 ghost use Rattle.cfi_outside.specs.declared.command.Command.TheVariants as commands;
 ghost use Rattle.cfi_plan.specs.Plan.{IsPlan};
 ghost use Rattle.cfi_plan.specs.Reading.{plan_in};
@@ -16,9 +18,10 @@ use crate::answer::Answer;
 use crate::refused::module_refused;
 use crate::running::run_found;
 use cfi_commands::CommandFault;
-use cfi_gen::{Generated, generate, measure_of};
+use cfi_gen::{generate, measure_of};
 use cfi_io::Gate;
 use cfi_outside::text_of;
+use cfi_plan::Plan;
 use cfi_summary::{Measure, summary};
 use cfi_values::{Bytes, Items, Text};
 use std::alloc::{AllocError, Global};
@@ -76,30 +79,40 @@ fn summed(
     }
 }
 
-// Runs what was generated of a seed.
-fn run_generated<G: Gate, R: Threads + Wait + Sync>(
+// How much the modules of a plan are, whose files these are.
+fn measured(alloc: Global, plan: &Plan, files: &[Bytes]) -> Result<Measure, CommandFault>
+    requires sound { IsPlan plan.now }
+    requires short { All IsShortFile files.now }
+    ensures ok { IfOk result (IsMeasure plan.now.code_words files.now) }
+    ensures fault { IfErr result (IsFilesFault plan.now.code_words files.now) }
+{
+    let copies = copies_of(alloc, files)?;
+    measure_of(alloc, plan, copies)
+}
+
+// Runs the plan of so many modules, which are drawn of the seed and have these files.
+fn run_drawn<G: Gate, R: Threads + Wait + Sync>(
     rt: &R,
     alloc: Global,
     seed: u64,
     count: u32,
-    made: Generated,
+    plan: &Plan,
+    files: Items<Bytes>,
     gate: &G,
 ) -> Result<Answer, AllocError>
-    requires plan { plan_in (plan_text count) ≡ Ok made.plan }
-    requires sound { IsPlan made.plan }
-    requires count { length made.files ≡ length made.plan.modules }
-    requires files { AreGenerated seed count made.files }
-    requires short { All IsShortFile made.files }
+    requires is { plan_in (plan_text count) ≡ Ok plan.now }
+    requires sound { IsPlan plan.now }
+    requires number { length files ≡ length plan.now.modules }
+    requires drawn { AreGenerated seed count files }
+    requires short { All IsShortFile files }
     ensures { IfOk result (IsWorked (commands.Gen seed count) [] []) }
 {
-    let Generated { plan, files } = made;
-    let copies = copies_of(alloc, files.as_slice())?;
-    let measure = match measure_of(alloc, &plan, copies) {
+    let measure = match measured(alloc, plan, files.as_slice()) {
         Ok(measure) => measure,
         Err(fault) => return module_refused(alloc, plan.modules.as_slice(), fault),
     };
     let input = text_of(alloc, "plan")?;
-    let answer = run_found(rt, alloc, input, &plan, files, gate)?;
+    let answer = run_found(rt, alloc, input, plan, files, gate)?;
     summed(alloc, seed, count, &measure, answer)
 }
 
@@ -116,7 +129,7 @@ pub fn generated<G: Gate, R: Threads + Wait + Sync>(
     ensures { IfOk result (IsWorked (commands.Gen seed count) [] []) }
 {
     match generate(alloc, seed, count) {
-        Ok(made) => run_generated(rt, alloc, seed, count, made, gate),
+        Ok(made) => run_drawn(rt, alloc, seed, count, &made.plan, made.files, gate),
         Err(fault) => source_refused(alloc, fault),
     }
 }
