@@ -1,6 +1,8 @@
 -- The commands of the program, and the words that are one. A word is its bytes.
-use Rattle.std.specs.Prelude.{◌≡◌, ℕ, ◌≤◌, List, [], ◌∷◌, length, codes, All, Option, Some, None, ⊤}
+use Rattle.std.specs.Prelude.{◌≡◌, ℕ, ◌<◌, ◌≤◌, ◌^◌, List, [], ◌∷◌, length, codes, All, Option, Some, None, ⊤}
 use Rattle.cfi_args.specs.Words.{IsOperand}
+use Rattle.cfi_draw.specs.declared.shape.TheConstants.{MAX_COUNT, MIN_COUNT}
+use Rattle.cfi_text.specs.Decimal.{dec_text}
 use Rattle.cfi_outside.specs.declared.command.Command.{Command}
 use Rattle.cfi_outside.specs.declared.command.Command.TheVariants as commands
 use Rattle.cfi_word.specs.declared.limits.TheConstants.{MAX_INPUTS}
@@ -16,6 +18,7 @@ command_word (commands.Verify plan) = codes "verify"
 command_word (commands.Graph plan) = codes "graph"
 command_word (commands.Sim plan schedule) = codes "sim"
 command_word (commands.Run input) = codes "run"
+command_word (commands.Gen seed count) = codes "gen"
 command_word (commands.Stub input output) = codes "stub"
 
 abbrev pub operands_of : Command → List (List ℕ)
@@ -27,11 +30,18 @@ operands_of (commands.Verify plan) = plan ∷ []
 operands_of (commands.Graph plan) = plan ∷ []
 operands_of (commands.Sim plan schedule) = plan ∷ schedule ∷ []
 operands_of (commands.Run input) = input ∷ []
+operands_of (commands.Gen seed count) = dec_text seed ∷ dec_text count ∷ []
 operands_of (commands.Stub input output) = input ∷ output ∷ []
 
--- a command that takes any number of inputs has one at least, and not too many
+-- a seed, and a number of modules that are drawn of it
+abbrev pub AreDrawnOf : (seed count : ℕ) → Type 0
+AreDrawnOf seed count = (seed < 2 ^ 64) × (MIN_COUNT ≤ count) × (count ≤ MAX_COUNT)
+
+-- a command that takes any number of inputs has one at least, and not too many; and one that takes numbers has them
+-- within the limits
 abbrev pub HasInputs : Command → Type 0
 HasInputs (commands.Link output inputs) = (1 ≤ length inputs) × (length inputs ≤ MAX_INPUTS)
+HasInputs (commands.Gen seed count) = AreDrawnOf seed count
 HasInputs command = ⊤
 
 -- the words are this command
@@ -59,6 +69,7 @@ inputs_of (commands.Verify plan) = plan ∷ []
 inputs_of (commands.Graph plan) = plan ∷ []
 inputs_of (commands.Sim plan schedule) = plan ∷ []
 inputs_of (commands.Run input) = input ∷ []
+inputs_of (commands.Gen seed count) = []
 inputs_of (commands.Stub input output) = input ∷ []
 
 -- the files that it reads after them, in order: those that its inputs, of these bytes, name, and then a schedule
@@ -79,4 +90,5 @@ saved_name (commands.Verify plan) = None
 saved_name (commands.Graph plan) = None
 saved_name (commands.Sim plan schedule) = None
 saved_name (commands.Run input) = None
+saved_name (commands.Gen seed count) = None
 saved_name (commands.Stub input output) = Some output

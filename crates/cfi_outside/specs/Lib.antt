@@ -3,3 +3,4 @@ pub mod Command
 pub mod Output
 pub mod Outside
 pub mod Reading
+pub mod inner

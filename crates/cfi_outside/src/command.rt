@@ -3,6 +3,7 @@ ghost use Rattle.cfi_args.specs.Words.{IsOperand, texts};
 ghost use Rattle.cfi_outside.specs.Command.{IsReading, inputs_of, more_of};
 ghost use Rattle.cfi_outside.specs.Reading.{IsShort};
 
+use crate::drawing::drawing;
 use crate::names::{
     copies_of, named_files, named_files_and, names_of, one_name, run_files, text_of,
 };
@@ -12,7 +13,7 @@ use cfi_values::{Bytes, Items, Text};
 use cfi_word::limits::MAX_INPUTS;
 use std::alloc::{AllocError, Global};
 
-/// A command of the program, with its operands, which are names of files.
+/// A command of the program, with its operands: names of files, or numbers.
 #[derive(Drop)]
 pub enum Command {
     /// Assembles a source.
@@ -63,6 +64,13 @@ pub enum Command {
         /// The file.
         input: Text,
     },
+    /// Runs modules that are drawn of a seed.
+    Gen {
+        /// The seed.
+        seed: u64,
+        /// How many modules, 2 to 32.
+        count: u32,
+    },
     /// Gives a module stubs for the functions that it calls and that may come later.
     Stub {
         /// The module's file.
@@ -86,6 +94,7 @@ impl Command {
             Command::Graph { plan } => one_name(alloc, plan),
             Command::Sim { plan, .. } => one_name(alloc, plan),
             Command::Run { input } => one_name(alloc, input),
+            Command::Gen { .. } => Ok(Vec::new(alloc)),
             Command::Stub { input, .. } => one_name(alloc, input),
         }
     }
@@ -108,6 +117,7 @@ impl Command {
             Command::Graph { .. } => named_files(alloc, only(files)),
             Command::Sim { schedule, .. } => named_files_and(alloc, only(files), schedule),
             Command::Run { .. } => run_files(alloc, only(files)),
+            Command::Gen { .. } => Ok(Vec::new(alloc)),
             Command::Stub { .. } => Ok(Vec::new(alloc)),
         }
     }
@@ -145,6 +155,9 @@ fn binary(
     requires operands { All IsOperand (first.now ∷ second.now ∷ []) }
     ensures { IfOk result (IsReading (name.now ∷ first.now ∷ second.now ∷ [])) }
 {
+    if name == "gen" {
+        return Ok(drawing(first, second));
+    }
     let input = text_of(alloc, first)?;
     let output = text_of(alloc, second)?;
     if name == "asm" {

@@ -1,6 +1,6 @@
 //! What the program does with the outside: what its words say, which files it reads, and what it delivers.
 //!
-//! Stands on `cfi_args`, `cfi_io`, `cfi_plan`, `cfi_values` and `cfi_word`; `cfi_top` calls it. Proved: the words are
+//! Stands on `cfi_args`, `cfi_io`, `cfi_plan`, `cfi_draw`, `cfi_text`, `cfi_values` and `cfi_word`; `cfi_top` calls it. Proved: the words are
 //! read as the one command that they are, or as none; files are read in order up to the first that is not read, with its
 //! cause; an output is delivered whole or in part, and the status says which. Only tested, by the cases of `cfi_cases`:
 //! that memory is there where it is asked for. Open: nothing.
@@ -8,6 +8,7 @@
 
 mod command;
 mod delivery;
+mod drawing;
 mod names;
 mod output;
 mod reading;

@@ -12,6 +12,7 @@ use Rattle.cfi_outside.specs.Command.{IsCommand, IsCommandLine}
 use Rattle.cfi_outside.specs.Outside.{IsWrittenWhole}
 use Rattle.cfi_io.specs.Seen.{ShelfView, SinkView}
 use Rattle.cfi_top.specs.Outcome.{IsMade, IsAllRead, IsWorked, IsAnswer}
+use Rattle.cfi_top.specs.Running.{RunsGuests}
 use Rattle.cfi_top.specs.Top.{Ends, Runs}
 use Rattle.cfi_outside.proofs.CommandLemmas.{one_command}
 use Rattle.cfi_outside.proofs.ReadingLemmas.{unread_least}
@@ -98,8 +99,9 @@ module _ (words : List (List ℕ)) (shelf shelf' : ShelfView) (sink sink' : Sink
 
 -- only running makes such an answer
 is_run : (command : Command) (files more : List (List ℕ)) (it : Conclusion) (text : List ℕ)
-    → IsMade command files more (answers.Ran it text) → (input : List ℕ) × (command ≡ commands.Run input)
-is_run (commands.Run input) (bytes ∷ []) more it text made = (input, refl)
+    → IsMade command files more (answers.Ran it text) → RunsGuests command
+is_run (commands.Run input) (bytes ∷ []) more it text made = tt
+is_run (commands.Gen seed count) files more it text made = tt
 is_run (commands.Asm input output) (bytes ∷ []) more it text made = absurd made
 is_run (commands.List input) (bytes ∷ []) more it text made = absurd made
 is_run (commands.Instrument input output) (bytes ∷ []) more it text made = absurd made
@@ -120,7 +122,7 @@ none_kept status = none_if (status == DONE) None refl
 
 module _ (words : List (List ℕ)) (shelf shelf' : ShelfView) (sink sink' : SinkView) (status : ℕ)
     (run : Option Conclusion) where
-  -- the words run a file, and the status is 0
+  -- the words run guests, and the status is 0
   abbrev Handed : Option Conclusion → Type 0
   Handed it = IfSome it (λ _. (status ≡ DONE) × Runs words)
 
@@ -130,8 +132,7 @@ module _ (words : List (List ℕ)) (shelf shelf' : ShelfView) (sink sink' : Sink
   handed_run : (it : Conclusion) (text : List ℕ) → IsAnswer words shelf shelf' (answers.Ran it text) → status ≡ DONE
       → Handed (Some it)
   handed_run it text is e =
-      let found = is_run is.0 is.2.0 is.2.1 it text is.2.3 in
-      (e, (found.0, subst (IsCommand words) found.1 is.1))
+      (e, (is.0, is.1, is_run is.0 is.2.0 is.2.1 it text is.2.3))
 
   pub run_only : Ends words shelf shelf' sink sink' status run → Handed run
   run_only (inl memory) = handed_none run memory.1

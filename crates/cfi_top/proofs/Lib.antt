@@ -3,6 +3,7 @@ pub mod LinkLemmas
 pub mod PlansLemmas
 pub mod OpeningLemmas
 pub mod RunLemmas
+pub mod GeneratingLemmas
 pub mod SimLemmas
 pub mod OutcomeLemmas
 pub mod ReadyLemmas

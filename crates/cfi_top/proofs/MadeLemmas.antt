@@ -16,7 +16,7 @@ use Rattle.cfi_io.specs.Seen.{ShelfView, SinkView}
 use Rattle.cfi_outside.specs.Plans.{named_files, named_files_and, run_files}
 use Rattle.cfi_outside.specs.Reading.{AreRead}
 use Rattle.cfi_top.specs.Outcome.{IsMade}
-use Rattle.cfi_top.specs.Top.{Ends, HasRun, HasSimulated, HasListed, HasAssembled, HasInstrumented, HasStubbed, HasLinked, HasVerified, HasGraphed}
+use Rattle.cfi_top.specs.Top.{Ends, HasRun, HasGenerated, HasSimulated, HasListed, HasAssembled, HasInstrumented, HasStubbed, HasLinked, HasVerified, HasGraphed}
 use Rattle.cfi_outside.proofs.ReadingLemmas.{one_file}
 use Rattle.cfi_top.proofs.DoneLemmas.{command_done}
 
@@ -136,6 +136,29 @@ module _ (input bytes : List ℕ) (shelf shelf' : ShelfView) (sink sink' : SinkV
   run_done answers.Usage made whole handed = absurd made
   run_done (answers.Unread unread) made whole handed = absurd made
   run_done (answers.Refused name refusal) made whole handed = absurd made
+
+generated_done : (seed count : ℕ) (files more : List (List ℕ)) (shelf shelf' : ShelfView) (sink sink' : SinkView)
+    (run : Option Conclusion) → (answer : Answer) → IsMade (commands.Gen seed count) files more answer
+    → IsWrittenWhole (output_of answer) shelf shelf' sink sink' → run ≡ run_in answer
+    → IsSomeAnd run (HasGenerated seed count sink sink')
+generated_done seed count files more shelf shelf' sink sink' run (answers.Ran it said) made whole handed =
+    subst (λ (o : Option Conclusion). IsSomeAnd o (HasGenerated seed count sink sink')) (sym handed)
+    (record { text = said; run_is = made; printed = whole.1 })
+generated_done seed count files more shelf shelf' sink sink' run (answers.Print text) made whole handed = absurd made
+generated_done seed count files more shelf shelf' sink sink' run (answers.Save name file) made whole handed = absurd made
+generated_done seed count files more shelf shelf' sink sink' run answers.Usage made whole handed = absurd made
+generated_done seed count files more shelf shelf' sink sink' run (answers.Unread unread) made whole handed = absurd made
+generated_done seed count files more shelf shelf' sink sink' run (answers.Refused name refusal) made whole handed =
+    absurd made
+
+pub generated_of : (words : List (List ℕ)) (shelf shelf' : ShelfView) (sink sink' : SinkView) (status : ℕ)
+    (run : Option Conclusion) → Ends words shelf shelf' sink sink' status run → (seed count : ℕ)
+    → IsCommand words (commands.Gen seed count) → status ≡ DONE
+    → IsSomeAnd run (HasGenerated seed count sink sink')
+generated_of words shelf shelf' sink sink' status run ends seed count fits e =
+    let done = command_done words shelf shelf' sink sink' status run e (commands.Gen seed count) fits ends in
+    generated_done seed count done.files done.more shelf shelf' sink sink' run done.answer done.made done.delivered
+    done.handed
 
 link_done : (output : List ℕ) (inputs files more : List (List ℕ)) (shelf shelf' : ShelfView) (sink sink' : SinkView)
     → AreRead shelf inputs files → (answer : Answer) → IsMade (commands.Link output inputs) files more answer

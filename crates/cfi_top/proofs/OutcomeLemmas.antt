@@ -48,7 +48,7 @@ saved_is_output (commands.Stub input output) (bytes ∷ []) more name file made 
 saved_is_output command files more name file made = absurd made
 
 -- what is made of files that are read is no file that is not
-never_unread : (command : Command) (files more : List (List ℕ)) (unread : Unread)
+pub never_unread : (command : Command) (files more : List (List ℕ)) (unread : Unread)
     → IsMade command files more (answers.Unread unread) → ⊥
 never_unread (commands.Asm input output) (bytes ∷ []) more unread made = made
 never_unread (commands.List input) (bytes ∷ []) more unread made = made

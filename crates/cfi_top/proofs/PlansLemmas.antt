@@ -46,7 +46,7 @@ file_at p number one here =
     ∙ ap (option_map (λ (m : PlanModule). m.file)) here
 
 -- the fault of files is of one of them
-among : (code_words : ℕ) (files : List (List ℕ)) (fault : CommandFault) → IsFilesFault code_words files fault
+pub among : (code_words : ℕ) (files : List (List ℕ)) (fault : CommandFault) → IsFilesFault code_words files fault
     → IsAmong (length files) fault
 among code_words files (File number refusal) bad = fault_within code_words files number refusal bad
 among code_words files (Together fault) bad = bad

@@ -3,7 +3,7 @@ use Rattle.std.proofs.Common.{◌≡◌, ℕ, List, [], ◌∷◌, sym, subst}
 use Rattle.cfi_io.specs.Seen.{ShelfView}
 use Rattle.cfi_outside.specs.declared.command.Command.{Command}
 use Rattle.cfi_outside.specs.declared.command.Command.TheVariants as commands
-use Rattle.cfi_outside.specs.Command.{inputs_of, more_of}
+use Rattle.cfi_outside.specs.Command.{IsCommand, inputs_of, more_of}
 use Rattle.cfi_outside.specs.Outside.{IsLater}
 use Rattle.cfi_outside.specs.Reading.{AreRead}
 use Rattle.cfi_top.specs.declared.answer.Answer.{Answer}
@@ -14,7 +14,8 @@ use Rattle.cfi_top.specs.declared.work.Ready.{Ready}
 use Rattle.cfi_top.specs.Outcome.{IsAllRead, IsWorked, GoesOn, IsOutcome, IsAnswer}
 use Rattle.cfi_top.specs.Ready.{IsReady}
 use Rattle.cfi_top.specs.inner.Working.{ComesTo, IsToRun, IsReadToRun, IsReadyFor}
-use Rattle.cfi_top.proofs.OutcomeLemmas.{worked_is, outcome_is}
+use Rattle.cfi_top.specs.Running.{RunsGuests}
+use Rattle.cfi_top.proofs.OutcomeLemmas.{never_unread, worked_is, outcome_is}
 use Rattle.cfi_top.proofs.UnreadLemmas.{read_since}
 
 -- the files that a command's inputs name are read
@@ -25,6 +26,7 @@ pub goes_on : (command : Command) (files more : List (List ℕ)) (shelf shelf' :
 goes_on command files more shelf shelf' (outcomes.Answer answer) read worked =
     worked_is command files more shelf shelf' answer read worked
 goes_on command files more shelf shelf' (outcomes.Run ready) read to_run = record {
+  is = to_run.is;
   runs = to_run.runs;
   inputs = to_run.inputs;
   others = subst (AreRead shelf (more_of command files)) (sym to_run.others) read;
@@ -38,6 +40,7 @@ pub comes_out : (command : Command) (files : List (List ℕ)) (shelf mid shelf' 
 comes_out command files shelf mid shelf' (outcomes.Answer answer) later read goes =
     outcome_is command files shelf mid shelf' later read answer goes
 comes_out command files shelf mid shelf' (outcomes.Run ready) later read to_run = record {
+  is = to_run.is;
   runs = to_run.runs;
   read = record {
     inputs = subst (AreRead shelf (inputs_of command)) (sym to_run.inputs) read;
@@ -46,21 +49,35 @@ comes_out command files shelf mid shelf' (outcomes.Run ready) later read to_run 
   };
 }
 
--- the one file that is to be run was read
-read_one : (words : List (List ℕ)) (shelf : ShelfView) (ready : Ready) (bytes : List ℕ) → IsReady words shelf ready
-    → ready.files ≡ bytes ∷ [] → IsAllRead (commands.Run ready.input) shelf (bytes ∷ []) ready.more
-read_one words shelf ready bytes is one =
-    subst (λ own. IsAllRead (commands.Run ready.input) shelf own ready.more) one is.read
+-- what is ready for a command is ready of itself
+pub ready_itself : (words : List (List ℕ)) (command : Command) (shelf : ShelfView) (ready : Ready)
+    → IsCommand words command → IsReadyFor command shelf ready → IsReady words shelf ready
+ready_itself words command shelf ready fits is = record {
+  fits = subst (IsCommand words) (sym is.is) fits;
+  runs = subst RunsGuests (sym is.is) is.runs;
+  read = subst (λ (c : Command). IsAllRead c shelf ready.files ready.more) (sym is.is) is.read;
+}
 
--- what the run of a file comes to is what the words come to that run it
-pub run_answered : (words : List (List ℕ)) (shelf shelf' : ShelfView) (ready : Ready) (bytes : List ℕ) (answer : Answer)
-    → IsReady words shelf ready → ready.files ≡ bytes ∷ []
-    → IsWorked (commands.Run ready.input) (bytes ∷ []) ready.more answer → IsAnswer words shelf shelf' answer
-run_answered words shelf shelf' ready bytes answers.Usage is one worked = absurd worked
-run_answered words shelf shelf' ready bytes (answers.Ran it text) is one worked =
-    (commands.Run ready.input, is.fits, (bytes ∷ [], ready.more, read_one words shelf ready bytes is one, worked))
-run_answered words shelf shelf' ready bytes (answers.Print text) is one worked = absurd worked
-run_answered words shelf shelf' ready bytes (answers.Save name file) is one worked = absurd worked
-run_answered words shelf shelf' ready bytes (answers.Unread unread) is one worked = absurd worked
-run_answered words shelf shelf' ready bytes (answers.Refused name refusal) is one worked =
-    (commands.Run ready.input, is.fits, (bytes ∷ [], ready.more, read_one words shelf ready bytes is one, worked))
+-- what running comes to is no usage
+never_usage : (command : Command) (files more : List (List ℕ)) → RunsGuests command
+    → IsWorked command files more answers.Usage → ⊥
+never_usage (commands.Run input) (bytes ∷ []) more runs made = made
+never_usage (commands.Gen seed count) files more runs made = made
+never_usage command files more runs made = absurd made
+
+-- what running comes to is what the words come to that run
+pub run_answered : (words : List (List ℕ)) (shelf shelf' : ShelfView) (ready : Ready) (answer : Answer)
+    → IsReady words shelf ready → IsWorked ready.command ready.files ready.more answer
+    → IsAnswer words shelf shelf' answer
+run_answered words shelf shelf' ready answers.Usage is worked =
+    absurd (never_usage ready.command ready.files ready.more is.runs worked)
+run_answered words shelf shelf' ready (answers.Ran it text) is worked =
+    (ready.command, is.fits, (ready.files, ready.more, is.read, worked))
+run_answered words shelf shelf' ready (answers.Print text) is worked =
+    (ready.command, is.fits, (ready.files, ready.more, is.read, worked))
+run_answered words shelf shelf' ready (answers.Save name file) is worked =
+    (ready.command, is.fits, (ready.files, ready.more, is.read, worked))
+run_answered words shelf shelf' ready (answers.Unread unread) is worked =
+    absurd (never_unread ready.command ready.files ready.more unread worked)
+run_answered words shelf shelf' ready (answers.Refused name refusal) is worked =
+    (ready.command, is.fits, (ready.files, ready.more, is.read, worked))

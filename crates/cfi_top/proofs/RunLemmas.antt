@@ -48,7 +48,7 @@ in_words plan modules fault told same first = subst (IsOpenFault plan modules) (
 
 -- ---- names
 
-plan_names : (plan : Plan) → IsPlan plan → HasReadableNames plan
+pub plan_names : (plan : Plan) → IsPlan plan → HasReadableNames plan
 plan_names plan is = record {
   modules = All-weaker IsNamed (λ (one : PlanModule). is_name one.name ≡ true) (λ one named. named.0) plan.modules
       is.modules.named;
@@ -63,7 +63,7 @@ bare_names = record {
   guests = All-cons (λ entry. is_name entry ≡ true) (codes "bare") [] refl (All-nil (λ entry. is_name entry ≡ true));
 }
 
-readable : (run : Conclusion) (plan : Plan) → IsConcluded run → run.plan ≡ plan → HasReadableNames plan
+pub readable : (run : Conclusion) (plan : Plan) → IsConcluded run → run.plan ≡ plan → HasReadableNames plan
     → IsReport run.report
 readable run plan concluded same names = concluded.readable (subst HasReadableNames (sym same) names)
 

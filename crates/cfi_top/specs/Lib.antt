@@ -3,6 +3,7 @@ pub mod Plans
 pub mod Refused
 pub mod Opening
 pub mod Running
+pub mod Generating
 pub mod Simulating
 pub mod Outcome
 pub mod Tracing

@@ -23,6 +23,7 @@ use Rattle.cfi_io.specs.Seen.{ShelfView}
 use Rattle.cfi_outside.specs.Plans.{files_of}
 use Rattle.cfi_top.specs.Opening.{IsNoPlan, IsNamedBad}
 use Rattle.cfi_top.specs.Plans.{IsSaid}
+use Rattle.cfi_top.specs.Generating.{IsGeneratedRun, RefusesGenerated}
 use Rattle.cfi_top.specs.Running.{IsRunOfFile, RefusesRun}
 use Rattle.cfi_top.specs.Simulating.{IsSimOfPlan, RefusesSimulation}
 use Rattle.cfi_outside.specs.Reading.{AreRead, StopsAt}
@@ -48,6 +49,7 @@ IsMade (commands.Graph plan) (bytes ∷ []) more (answers.Print text) = IsGraphO
 IsMade (commands.Sim plan schedule) (bytes ∷ []) more (answers.Print text) = IsSimOfPlan bytes more text
 IsMade (commands.Run input) (bytes ∷ []) more (answers.Ran run text) =
     (text ≡ report_text run.report) × IsRunOfFile bytes more run
+IsMade (commands.Gen seed count) files more (answers.Ran run text) = IsGeneratedRun seed count run text
 IsMade (commands.Stub input output) (bytes ∷ []) more (answers.Save name file) =
     (name ≡ output) × IsStubbedFile bytes file
 IsMade command files more answer = ⊥
@@ -80,6 +82,7 @@ Refuses (commands.Graph plan) (bytes ∷ []) more name refusal = RefusesPlan pla
 Refuses (commands.Sim plan schedule) (bytes ∷ []) more name refusal =
     RefusesSimulation plan schedule bytes more name refusal
 Refuses (commands.Run input) (bytes ∷ []) more name refusal = RefusesRun input bytes more name refusal
+Refuses (commands.Gen seed count) files more name refusal = RefusesGenerated seed count name refusal
 Refuses (commands.Stub input output) (bytes ∷ []) more name refusal =
     (name ≡ input) × IsStubbingFault bytes refusal
 Refuses command files more name refusal = ⊥

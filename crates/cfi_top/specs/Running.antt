@@ -1,5 +1,5 @@
 -- What a run has come to, and why there is none.
-use Rattle.std.specs.Prelude.{◌≡◌, ◌≢◌, ◌⊎◌, ℕ, true, false, List, [], ◌∷◌, Ok}
+use Rattle.std.specs.Prelude.{◌≡◌, ◌≢◌, ◌⊎◌, ℕ, true, false, List, [], ◌∷◌, Ok, ⊤}
 use Rattle.cfi_aux.specs.declared.modules.Module.{Module}
 use Rattle.cfi_bare.specs.declared.fault.BareFault.TheVariants as bare_faults
 use Rattle.cfi_bare.specs.File.{IsBareFile, IsBareFault}
@@ -13,11 +13,19 @@ use Rattle.cfi_drive.specs.Concluded.{Conclusion, IsConcluded}
 use Rattle.cfi_loader.specs.declared.fault.OpenFault.{OpenFault as LoaderFault}
 use Rattle.cfi_loader.specs.declared.fault.OpenFault.TheVariants as loaders
 use Rattle.cfi_loader.specs.Starting.{IsOpenFault}
+use Rattle.cfi_outside.specs.declared.command.Command.{Command}
+use Rattle.cfi_outside.specs.declared.command.Command.TheVariants as commands
 use Rattle.cfi_outside.specs.Plans.{begins_as_plan, files_of}
 use Rattle.cfi_report.specs.Report.{IsReport}
 use Rattle.cfi_sim.specs.declared.fault.OpenFault.{OpenFault}
 use Rattle.cfi_sim.specs.declared.fault.OpenFault.TheVariants as opens
 use Rattle.cfi_top.specs.Opening.{IsNoPlan, RefusesModules, RefusesOpening}
+
+-- the commands that run guests
+abbrev pub RunsGuests : Command → Type 0
+RunsGuests (commands.Run input) = ⊤
+RunsGuests (commands.Gen seed count) = ⊤
+RunsGuests command = ⊥
 
 -- ---- what it has come to
 

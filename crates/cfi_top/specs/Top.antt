@@ -13,7 +13,6 @@ use Rattle.cfi_commands.specs.Stubbing.{IsStubbedFile}
 use Rattle.cfi_commands.specs.Linking.{IsLinkedFile}
 use Rattle.cfi_commands.specs.Listing.{IsObjectListing}
 use Rattle.cfi_outside.specs.declared.command.Command.{Command}
-use Rattle.cfi_outside.specs.declared.command.Command.TheVariants as commands
 use Rattle.cfi_top.specs.declared.answer.Answer.{Answer}
 use Rattle.cfi_outside.specs.Output.{unread_line, unread_status}
 use Rattle.cfi_top.specs.Answer.{refused_line, output_of, run_in, kept_at}
@@ -24,10 +23,11 @@ use Rattle.cfi_outside.specs.Plans.{named_files, named_files_and, run_files}
 use Rattle.cfi_outside.specs.Reading.{AreRead, IsShort}
 use Rattle.cfi_outside.specs.declared.reading.Unread.{Unread}
 use Rattle.cfi_top.specs.Outcome.{IsVerifiedPlan, IsGraphOfPlan, Refuses, IsUnrefused, IsAllRead, IsFirstUnread, IsAnswer}
-use Rattle.cfi_top.specs.Running.{IsRunOfFile}
+use Rattle.cfi_top.specs.Generating.{IsGeneratedRun}
+use Rattle.cfi_top.specs.Running.{IsRunOfFile, RunsGuests}
 use Rattle.cfi_top.specs.Simulating.{IsSimOfPlan}
 
--- no memory was left, or an answer was delivered; where that is the report of a run, what the run has come to is handed
+-- no memory was left, or an answer was delivered; where that is the text of a run, what the run has come to is handed
 -- out with it
 abbrev pub Ends : (words : List (List ℕ)) → (shelf shelf' : ShelfView) → (sink sink' : SinkView) → (status : ℕ)
     → (run : Option Conclusion) → Type 0
@@ -46,9 +46,16 @@ pub record HasRun (input : List ℕ) (shelf : ShelfView) (sink sink' : SinkView)
   pub run_is : IsRunOfFile bytes files run
   pub text : Appends sink.written sink'.written (report_text run.report)
 
--- the words are the command that runs
+-- The run is one of the plan and the modules that are drawn of the seed, and was concluded. The sink has the summary of
+-- these modules and of the run's report.
+pub record HasGenerated (seed count : ℕ) (sink sink' : SinkView) (run : Conclusion) : Type 0 where
+  pub text : List ℕ
+  pub run_is : IsGeneratedRun seed count run text
+  pub printed : Appends sink.written sink'.written text
+
+-- the words are a command that runs guests
 abbrev pub Runs : (words : List (List ℕ)) → Type 0
-Runs words = (input : List ℕ) × IsCommand words (commands.Run input)
+Runs words = (command : Command) × IsCommand words command × RunsGuests command
 
 -- the file `input` is an object, and the sink has the listing of its text
 pub record HasListed (input : List ℕ) (shelf : ShelfView) (sink sink' : SinkView) : Type 0 where

@@ -1,4 +1,5 @@
 -- What private clauses of this crate cite.
+pub mod Generating
 pub mod Running
 pub mod Simulating
 pub mod Tracing

@@ -12,7 +12,7 @@ use std::alloc::{AllocError, Global};
 /// What a command comes to, whatever the shelf and the sink do with it.
 #[derive(Drop)]
 pub enum Answer {
-    /// The file was run: what the run has come to, and the text of its report, which is printed.
+    /// Guests were run: what the run has come to, and the text that is printed of it.
     Ran(Concluded, Bytes),
     /// The command prints this text.
     Print(Bytes),

@@ -5,22 +5,23 @@ ghost use Rattle.cfi_io.specs.Told.{WhereKeptTold};
 ghost use Rattle.cfi_outside.specs.declared.command.Command.TheVariants as commands;
 ghost use Rattle.cfi_outside.specs.declared.output.TheConstants.{DONE, USAGE, READ_FAULT, NO_FILE, WRITE_FAULT, REFUSED, MEMORY};
 ghost use Rattle.cfi_args.specs.Words.{texts};
-ghost use Rattle.cfi_outside.specs.Command.{IsCommand, IsCommandLine, more_of};
+ghost use Rattle.cfi_outside.specs.Command.{HasInputs, IsCommand, IsCommandLine, inputs_of, more_of};
 ghost use Rattle.cfi_outside.specs.Outside.{IsLater};
 ghost use Rattle.cfi_outside.specs.Reading.{IsShort};
 ghost use Rattle.cfi_top.specs.Promises.{GuestsAskInForce, GuestsKeepPolicies, GuestsEnterUnits, GuestsStoreInside};
 ghost use Rattle.cfi_top.specs.Outcome.{IsAnswer};
 ghost use Rattle.cfi_top.specs.Answer.{kept_at};
 ghost use Rattle.cfi_top.specs.Ready.{IsReady, IsServed};
+ghost use Rattle.cfi_top.specs.Running.{RunsGuests};
 ghost use Rattle.cfi_top.specs.inner.Working.{ComesTo};
-ghost use Rattle.cfi_top.specs.Top.{Ends, HasRun, HasSimulated, HasListed, HasAssembled, HasInstrumented, HasStubbed, HasLinked, HasVerified, HasGraphed, IsRefused, IsStopped, IsSavedBy, IsUnsaved, Saves, Runs, IsValid, IsSteady};
+ghost use Rattle.cfi_top.specs.Top.{Ends, HasRun, HasGenerated, HasSimulated, HasListed, HasAssembled, HasInstrumented, HasStubbed, HasLinked, HasVerified, HasGraphed, IsRefused, IsStopped, IsSavedBy, IsUnsaved, Saves, Runs, IsValid, IsSteady};
 
 use crate::answer::{Answer, output_of};
-use crate::running::run;
+use crate::ready::run_ready;
 use crate::work::{Outcome, Ready, outcome_of};
 use cfi_engine::Concluded;
 use cfi_io::{Gate, Shelf, Sink};
-use cfi_outside::{DONE, MEMORY, command_of, deliver, only};
+use cfi_outside::{DONE, MEMORY, command_of, deliver};
 use std::alloc::{AllocError, Global};
 use std::sync::Wait;
 use std::thread::Threads;
@@ -30,7 +31,7 @@ use std::thread::Threads;
 pub struct Ended {
     /// The exit status, 0 to 6.
     pub status: u8,
-    /// What the run has come to, exactly where the command is `run` and the status is 0.
+    /// What the run has come to, exactly where the command is `run` or `gen` and the status is 0.
     pub run: Option<Concluded>,
 }
 
@@ -98,9 +99,9 @@ fn told<F: Shelf, S: Sink>(alloc: Global, answer: Answer, shelf: &mut F, sink: &
     }
 }
 
-/// Does what the words say, but for a run: of that it reads the files, and hands them out.
+/// Does what the words say, but for a run: of that it reads the files, and hands it out.
 ///
-/// It waits for nobody: all commands but `run` are done here.
+/// It waits for nobody: all commands but `run` and `gen` are done here.
 pub fn serve<F: Shelf, S: Sink>(
     alloc: Global,
     words: &[String],
@@ -120,7 +121,7 @@ pub fn serve<F: Shelf, S: Sink>(
     }
 }
 
-// Runs the file that is ready, delivers what that comes to, and says how the program ends.
+// Runs what is ready, delivers what that comes to, and says how the program ends.
 fn finish<F: Shelf, S: Sink, G: Gate, R: Threads + Wait + Sync>(
     rt: &R,
     alloc: Global,
@@ -129,10 +130,11 @@ fn finish<F: Shelf, S: Sink, G: Gate, R: Threads + Wait + Sync>(
     sink: &mut S,
     gate: &G,
 ) -> Ended
-    requires one { length ready.files ≡ 1 }
+    requires runs { RunsGuests ready.command }
+    requires number { HasInputs ready.command }
+    requires count { length ready.files ≡ length (inputs_of ready.command) }
     requires short { All IsShort ready.files }
-    requires named { length ready.more ≡
-        length (more_of (commands.Run ready.input) ready.files) }
+    requires named { length ready.more ≡ length (more_of ready.command ready.files) }
     requires small { All IsShort ready.more }
     ensures ends { (words : List (List ℕ)) → (before : ShelfView) →
         IsLater before (F.seen shelf.old) →
@@ -141,8 +143,7 @@ fn finish<F: Shelf, S: Sink, G: Gate, R: Threads + Wait + Sync>(
         (S.seen sink.old)
         (S.seen sink.new) result.status result.run }
 {
-    let Ready { input, files, more } = ready;
-    match run(rt, alloc, input, only(&files), more, gate) {
+    match run_ready(rt, alloc, ready, gate) {
         Ok(answer) => told(alloc, answer, shelf, sink),
         Err(_) => starved(),
     }
@@ -176,8 +177,9 @@ fn run_words<F: Shelf, S: Sink, G: Gate, R: Threads + Wait + Sync>(
 /// that may come later, and saves it. `link OUT IN..` links 1 to 64 modules and saves what they make. `verify
 /// PLAN` verifies the modules of a plan and prints a line for each; `graph PLAN` does so and prints the groups of their
 /// policy. `sim PLAN SCHEDULE` makes the events of a schedule, one by one, and prints what they come to. `run FILE` runs a
-/// plan, or a bare file, whose guests run on threads of their own beside the script, and prints the report. It waits for a
-/// run alone: all else is done by `serve`.
+/// plan, or a bare file, whose guests run on threads of their own beside the script, and prints the report. `gen SEED
+/// COUNT` runs 2 to 32 modules that are drawn of a seed, and prints the summary; it reads no file. It waits for a run
+/// alone: all else is done by `serve`.
 /// Status 0 where the command's bytes were written whole, 1 where the words are no command, 2 where the shelf failed,
 /// 3 where a file is not there or too long, 4 where the sink failed, or the shelf where a file was saved, 5 where a
 /// file was refused, 6 where no memory was left.
@@ -199,6 +201,13 @@ pub fn top<F: Shelf, S: Sink, G: Gate, R: Threads + Wait + Sync>(
     ensures ran { (input : List ℕ) → IsCommand (texts words.now) (commands.Run input) →
         result.status ≡ DONE → IsSomeAnd result.run (HasRun input
         (F.seen shelf.old)
+        (S.seen sink.old)
+        (S.seen sink.new)) }
+
+    // What was generated is what the seed and the number of modules make, and its summary is what is printed.
+    ensures generated { (seed count : ℕ) →
+        IsCommand (texts words.now) (commands.Gen seed count) →
+        result.status ≡ DONE → IsSomeAnd result.run (HasGenerated seed count
         (S.seen sink.old)
         (S.seen sink.new)) }
     ensures run { IfSome result.run (λ _. (result.status ≡ DONE) × Runs (texts words.now)) }

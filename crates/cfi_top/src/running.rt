@@ -3,6 +3,7 @@
 ghost use Rattle.std.specs.Prelude.{◌≡◌, ◌≢◌, ◌≤◌, ◌∷◌, [], true, false, length, All, IfOk};
 ghost use Rattle.cfi_drive.specs.Concluded.{IsConcluded};
 ghost use Rattle.cfi_loader.specs.declared.fault.OpenFault.TheVariants.{Memory};
+ghost use Rattle.cfi_commands.specs.Modules.{IsShortFile};
 ghost use Rattle.cfi_outside.specs.declared.command.Command.TheVariants as commands;
 ghost use Rattle.cfi_outside.specs.Plans.{begins_as_plan, named_files, run_files};
 ghost use Rattle.cfi_outside.specs.Reading.{IsShort};
@@ -52,8 +53,8 @@ fn fault_of(fault: LoaderFault) -> OpenFault
     }
 }
 
-// Runs a plan that is read, with the modules of these files.
-fn run_found<G: Gate, R: Threads + Wait + Sync>(
+/// Runs a plan that is read, with the modules of these files.
+pub fn run_found<G: Gate, R: Threads + Wait + Sync>(
     rt: &R,
     alloc: Global,
     input: Text,
@@ -63,7 +64,7 @@ fn run_found<G: Gate, R: Threads + Wait + Sync>(
 ) -> Result<Answer, AllocError>
     requires plan { IsPlan found.now }
     requires count { length files ≡ length found.now.modules }
-    requires small { All IsShort files }
+    requires small { All IsShortFile files }
     ensures { IfOk result (IsPlanRun input found.now files) }
 {
     let modules = match read_modules(alloc, files) {

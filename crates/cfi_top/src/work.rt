@@ -4,6 +4,7 @@ ghost use Rattle.cfi_outside.specs.declared.command.Command.TheVariants as comma
 ghost use Rattle.cfi_outside.specs.Command.{HasInputs, inputs_of, more_of};
 ghost use Rattle.cfi_outside.specs.Reading.{IsShort};
 ghost use Rattle.cfi_top.specs.Outcome.{GoesOn, IsWorked, IsOutcome};
+ghost use Rattle.cfi_top.specs.Running.{RunsGuests};
 ghost use Rattle.cfi_top.specs.inner.Working.{ComesTo, IsToRun, IsReadToRun, IsReadyFor};
 
 use crate::answer::Answer;
@@ -24,12 +25,12 @@ pub enum Outcome {
     Run(Ready),
 }
 
-/// A file that is to be run, with all that is read for it.
+/// A command that runs guests, with all that is read for it.
 #[derive(Drop)]
 pub struct Ready {
-    /// The file's name.
-    pub input: Text,
-    /// The bytes of the file, which is the one here.
+    /// The command: it runs a file, or drawn modules.
+    pub command: Command,
+    /// The bytes of the files that it reads first: the one that is run, or none.
     pub files: Items<Bytes>,
     /// Those of the files that it names.
     pub more: Items<Bytes>,
@@ -101,6 +102,18 @@ fn link(
     }
 }
 
+// The command is to be run.
+fn to_run(command: Command, files: Items<Bytes>, more: Items<Bytes>) -> Outcome
+    requires { RunsGuests command }
+    ensures { ComesTo (λ answer. ⊥) (IsToRun command files more) result }
+{
+    Outcome::Run(Ready {
+        command,
+        files,
+        more,
+    })
+}
+
 // Does a command that waits for nobody, of whose inputs these are the bytes, and of the files that they name.
 fn work(
     alloc: Global,
@@ -131,7 +144,8 @@ fn work(
         Command::Sim { plan, schedule } => {
             Ok(Outcome::Answer(sim(alloc, plan, schedule, only(&files), more)?))
         }
-        Command::Run { input } => Ok(Outcome::Run(Ready { input, files, more })),
+        Command::Run { input } => Ok(to_run(Command::Run { input }, files, more)),
+        Command::Gen { seed, count } => Ok(to_run(Command::Gen { seed, count }, files, more)),
         Command::Stub { input, output } => {
             Ok(Outcome::Answer(stub(alloc, input, output, only(&files))?))
         }

@@ -1,12 +1,15 @@
 use Rattle.cfi_top.proofs.PromiseLemmas.{ask_in_force, keep_policies_in, enter_units, store_inside}
 use Rattle.cfi_top.proofs.DoneLemmas.{done_of, run_only, if_some}
-use Rattle.cfi_top.proofs.MadeLemmas.{ran_of, simulated_of, listed_of, assembled_of, instrumented_of, stubbed_of, linked_of, verified_of, graphed_of}
+use Rattle.cfi_top.proofs.MadeLemmas.{ran_of, generated_of, simulated_of, listed_of, assembled_of, instrumented_of, stubbed_of, linked_of, verified_of, graphed_of}
 use Rattle.cfi_top.proofs.TopLemmas.{usage_of, unfit_of, read_fault_of, missed_of, stopped_of, write_fault_of, refused_of}
 use Rattle.cfi_top.proofs.FilesLemmas.{valid_shelf, elsewhere_of, same_of, within_of}
 use Rattle.cfi_top.proofs.program.top.Goals as goal
 
 pub returns-clause-ran : goal.returns-clause-ran
 returns-clause-ran g c = ran_of _ _ _ _ _ _ _ c.run_words.ensures.ends
+
+pub returns-clause-generated : goal.returns-clause-generated
+returns-clause-generated g c = generated_of _ _ _ _ _ _ _ c.run_words.ensures.ends
 
 pub returns-clause-run : goal.returns-clause-run
 returns-clause-run g c = run_only _ _ _ _ _ _ _ c.run_words.ensures.ends

@@ -1,0 +1,55 @@
+-- The files of sources, one after the other.
+use Rattle.std.proofs.Common.{◌≡◌, ◌≤◌, ◌<◌, ℕ, List, [], ◌∷◌, ◌++◌, length, take, Some, inl, inr, refl, sym, ap, subst, arith, ◌∙◌}
+use Rattle.std.specs.Prelude.{slice_get, IsSomeAnd}
+use Rattle.cfi_commands.specs.Assembling.{IsAssembled, IsSourceFault}
+use Rattle.cfi_commands.specs.Fault.{IsOfFile}
+use Rattle.cfi_commands.specs.Instrumenting.{IsInstrumentFault}
+use Rattle.cfi_commands.specs.declared.fault.CommandFault.{CommandFault}
+use Rattle.cfi_commands.specs.declared.fault.CommandFault.TheVariants.{File, Together, Memory}
+use Rattle.cfi_draw.specs.Source.{source_text}
+use Rattle.cfi_draw.specs.declared.shape.Drawn.{Drawn}
+use Rattle.std.specs.List.{AllZip}
+use Rattle.cfi_gen.specs.Generated.{AreMadeFiles, IsMadeFile, IsFirstBadSource, IsSourcesFault, RefusesSource}
+
+-- one more
+zip_more : {A B : Type 0} (R : A → B → Type 0) (xs : List A) (ys : List B) (x : A) (y : B) → AllZip R xs ys → R x y
+    → AllZip R (xs ++ x ∷ []) (ys ++ y ∷ [])
+zip_more R [] [] x y all one = (one, tt)
+zip_more R [] (b ∷ ys) x y all one = absurd all
+zip_more R (a ∷ xs) [] x y all one = absurd all
+zip_more R (a ∷ xs) (b ∷ ys) x y all one = (all.0, zip_more R xs ys x y all.1 one)
+
+pub files_more : (count : ℕ) (drawn : List Drawn) (files : List (List ℕ)) (one : Drawn) (file : List ℕ)
+    → AreMadeFiles count drawn files → IsMadeFile (source_text count one) file
+    → AreMadeFiles count (drawn ++ one ∷ []) (files ++ file ∷ [])
+files_more count drawn files one file all made =
+    zip_more (λ (d : Drawn) (f : List ℕ). IsMadeFile (source_text count d) f) drawn files one file all made
+
+-- ---- faults
+
+-- a source that is not assembled is refused
+pub not_assembled : (text : List ℕ) (fault : CommandFault) → IsOfFile 0 (IsSourceFault text) fault
+    → IsOfFile 0 (RefusesSource text) fault
+not_assembled text (File number refusal) is = (is.0, inl is.1)
+not_assembled text (Together fault) is = is
+not_assembled text Memory is = tt
+
+-- and one of which the object's file is not instrumented
+pub not_instrumented : (text object : List ℕ) (fault : CommandFault) → IsAssembled text object
+    → IsOfFile 0 (IsInstrumentFault object) fault → IsOfFile 0 (RefusesSource text) fault
+not_instrumented text object (File number refusal) made is = (is.0, inr (object, made, is.1))
+not_instrumented text object (Together fault) made is = is
+not_instrumented text object Memory made is = tt
+
+-- the source of a number is refused, and those before it have files
+pub sources_fault : (count : ℕ) (drawn : List Drawn) (number : ℕ) (one : Drawn) (files : List (List ℕ))
+    (fault : CommandFault) → slice_get drawn number ≡ Some one → AreMadeFiles count (take number drawn) files
+    → IsOfFile number (RefusesSource (source_text count one)) fault → IsSourcesFault count drawn fault
+sources_fault count drawn number one files (File k refusal) here before is =
+    subst (λ (n : ℕ). IsFirstBadSource count drawn n refusal) (sym is.0) (record {
+      files = files;
+      before = before;
+      here = subst (λ o. IsSomeAnd o (λ d. RefusesSource (source_text count d) refusal)) (sym here) is.1;
+    })
+sources_fault count drawn number one files (Together fault) here before is = is
+sources_fault count drawn number one files Memory here before is = tt

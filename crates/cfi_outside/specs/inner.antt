@@ -1,0 +1,2 @@
+-- What private clauses of this crate cite.
+pub mod Drawing
