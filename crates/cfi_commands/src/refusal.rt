@@ -1,4 +1,4 @@
-ghost use Rattle.std.specs.Prelude.{◌≡◌, ◌++◌, OnOk, string_bytes};
+ghost use Rattle.std.specs.Prelude.{◌≡◌, ◌++◌, OnOk, OnErr, string_bytes};
 ghost use Rattle.cfi_commands.specs.Refusal.{refusal_text};
 
 use crate::asm::put_asm;
@@ -52,11 +52,8 @@ pub enum Refusal {
     Sim(u32),
 }
 
-/// Appends the words of a refusal: the layer's name, the fault's name, and the fault's fields.
-///
-/// Single spaces stand between the words, numbers are decimal, and places of code are in bytes. Want of memory is no
-/// refusal: the fault of that name is written for completeness alone.
-pub fn put_refusal(text: &mut String, refusal: &Refusal) -> Result<(), AllocError>
+// Appends the words of a refusal, and where no memory is left perhaps not all.
+fn put_words(text: &mut String, refusal: &Refusal) -> Result<(), AllocError>
     ensures { OnOk result
         (string_bytes text.new ≡ string_bytes text.old ++ refusal_text refusal.now) }
 {
@@ -98,4 +95,18 @@ pub fn put_refusal(text: &mut String, refusal: &Refusal) -> Result<(), AllocErro
         Refusal::Entry(guest) => write!(text, "entry NoEntry {guest}"),
         Refusal::Sim(line) => write!(text, "sim BadEvent {line}"),
     }
+}
+
+/// Appends the words of a refusal: the layer's name, the fault's name, and the fault's fields.
+///
+/// Single spaces stand between the words, numbers are decimal, and places of code are in bytes. Want of memory is no
+/// refusal: the fault of that name is written for completeness alone. Where no memory is left, nothing is appended.
+pub fn put_refusal(text: &mut String, refusal: &Refusal) -> Result<(), AllocError>
+    ensures ok { OnOk result
+        (string_bytes text.new ≡ string_bytes text.old ++ refusal_text refusal.now) }
+    ensures err { OnErr result (string_bytes text.new ≡ string_bytes text.old) }
+{
+    let mut words = String::new(*text.allocator());
+    put_words(&mut words, refusal)?;
+    text.push_str(words.as_str())
 }

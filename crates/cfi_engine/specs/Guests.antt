@@ -28,3 +28,15 @@ pub record IsOpenedTo (plan : Plan) (modules : List Module) (number : ℕ) (l : 
   pub seats : length l.keeping.out ≡ GUESTS
   pub out : (guest : ℕ) → guest < number → is_out l.keeping.out guest ≡ true
   pub free : (guest : ℕ) → number ≤ guest → is_out l.keeping.out guest ≡ false
+
+-- some of the plan's guests were opened, and not all
+pub record ArePartlyOpened (plan : Plan) (modules : List Module) (l : Ledger) : Type 0 where
+  pub number : ℕ
+  pub less : number < length plan.guests
+  pub opened : IsOpenedTo plan modules number l
+
+-- passes went out, and nothing else was done
+abbrev pub HasAdmitted : (old new : Ledger) → Type 0
+HasAdmitted old new = new ≡ record old {
+  keeping = record old.keeping { out = new.keeping.out; quiets = new.keeping.quiets };
+}

@@ -1,9 +1,9 @@
 //! The guests of a plan, from their opening to their end.
 
-ghost use Rattle.std.specs.Prelude.{◌≡◌, ◌≢◌, ◌+◌, ◌<◌, ℕ, true, None, Some, All, IfOk, OnOk, length, slice_get};
+ghost use Rattle.std.specs.Prelude.{◌≡◌, ◌≢◌, ◌+◌, ◌<◌, ℕ, true, None, Some, All, IfOk, OnOk, OnErr, length, slice_get};
 ghost use Rattle.cfi_drive.specs.Concluded.{IsEndedRun};
 ghost use Rattle.cfi_drive.specs.Runner.{Ran};
-ghost use Rattle.cfi_engine.specs.Guests.{HasCode, IsOpenedTo};
+ghost use Rattle.cfi_engine.specs.Guests.{ArePartlyOpened, HasAdmitted, HasCode, IsOpenedTo};
 ghost use Rattle.cfi_engine.specs.inner.Guests.{IsWaiting};
 
 use cfi_drive::{Runner, drive};
@@ -37,6 +37,8 @@ fn open_guest<N: LoaderName>(
     requires opened { IsOpenedTo N.plan N.modules number loader.old }
     ensures ok { IfOk result (IsWaiting number) }
     ensures opened { OnOk result (IsOpenedTo N.plan N.modules (number + 1) loader.new) }
+    ensures admitted { OnOk result (HasAdmitted loader.old loader.new) }
+    ensures same { OnErr result (loader.new ≡ loader.old) }
 {
     let _ = loader.journal();
     let entry = entry_of(loader.plan(), number);
@@ -48,7 +50,8 @@ fn open_guest<N: LoaderName>(
 
 /// Opens all guests of the plan, in order: each at its entry, with the data of the start modules and a pass.
 ///
-/// Nothing was loaded since the start, and no pass is out.
+/// Nothing was loaded since the start, and no pass is out. Where no memory is left, some passes may have gone out; of what
+/// the loader keeps nothing else is changed, either way.
 pub fn open_guests<N: LoaderName>(
     alloc: Global,
     loader: &mut Loader<N>,
@@ -58,6 +61,9 @@ pub fn open_guests<N: LoaderName>(
     requires opened { IsOpenedTo N.plan N.modules 0 loader.old }
     ensures count { IfOk result (λ runners. length runners.items ≡ length N.plan.guests) }
     ensures idle { IfOk result (λ runners. All (λ (ran : Ran). ran.guest.waits ≡ None) runners.items) }
+    ensures opened { OnOk result (IsOpenedTo N.plan N.modules (length N.plan.guests) loader.new) }
+    ensures part { OnErr result (ArePartlyOpened N.plan N.modules loader.new) }
+    ensures admitted { HasAdmitted loader.old loader.new }
 {
     let guests = loader.plan().guests.len();
     let mut runners = Vec::new(alloc);

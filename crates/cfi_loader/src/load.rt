@@ -1,8 +1,9 @@
 //! Loads.
 
-ghost use Rattle.std.specs.Prelude.{◌≡◌, ◌+◌, ◌-◌, ◌<◌, false, IfOk, IfErr, length, slice_index_or};
+ghost use Rattle.std.specs.Prelude.{◌≡◌, ◌+◌, ◌-◌, ◌<◌, true, false, IfOk, IfErr, OnOk, length, slice_index_or};
 ghost use Rattle.cfi_aux.specs.declared.placed.Placed.{Placed};
 ghost use Rattle.cfi_plan.specs.declared.journal.JournalLine.TheVariants.{LoadOk};
+ghost use Rattle.cfi_tables.specs.Faults.{AllAdmit};
 ghost use Rattle.cfi_tables.specs.Keeping.{Keeping};
 ghost use Rattle.cfi_tables.specs.Key.{Key};
 ghost use Rattle.cfi_valid.specs.Script.{Load};
@@ -34,6 +35,7 @@ fn again(books: &mut Books, who: Who, number: u32, at: usize) -> Loaded
         MayAskFor (ledger_of books.old keeping) who (Load number) →
         LoadsTo k who number result books.old books.new keeping keeping }
     ensures same { IsSamePlan books.old books.new }
+    ensures again { result.again ≡ true }
 {
     let policy = books.policy;
     books.tell(
@@ -146,6 +148,7 @@ fn attempt<N: TableName>(
     requires absent { IsAbsent books.old number }
     ensures ok { IfOk result (λ loaded.
         LoadsTo N.key who number loaded books.old books.new keeper.old keeper.new) }
+    ensures admitted { OnOk result (AllAdmit N.key keeper.old keeper.new.quiets) }
     ensures fault { IfErr result (λ fault.
         Refuses N.key who number fault books.old books.new keeper.old keeper.new) }
     ensures same { IsSamePlan books.old books.new }
@@ -183,6 +186,7 @@ fn add<N: TableName>(
     requires absent { IsAbsent books.old number }
     ensures ok { IfOk result (λ loaded.
         LoadsTo N.key who number loaded books.old books.new keeper.old keeper.new) }
+    ensures admitted { OnOk result (AllAdmit N.key keeper.old keeper.new.quiets) }
     ensures fault { IfErr result (λ fault.
         Refuses N.key who number fault books.old books.new keeper.old keeper.new) }
     ensures same { IsSamePlan books.old books.new }
@@ -207,6 +211,8 @@ fn load<N: TableName>(
     requires asks { MayAskFor (ledger_of books.old keeper.old) who (Load number) }
     ensures ok { IfOk result (λ loaded.
         LoadsTo N.key who number loaded books.old books.new keeper.old keeper.new) }
+    ensures admitted { IfOk result (λ loaded. loaded.again ≡ false
+        → AllAdmit N.key keeper.old keeper.new.quiets) }
     ensures fault { IfErr result (λ fault.
         Refuses N.key who number fault books.old books.new keeper.old keeper.new) }
     ensures same { IsSamePlan books.old books.new }
@@ -226,7 +232,8 @@ fn load<N: TableName>(
 
 impl<N: LoaderName> Loader<N> {
     /// Loads the module of this number of the plan: places and verifies it behind those that are loaded, makes the
-    /// image of all, and puts it in force with the next policy. A module that is loaded answers at once.
+    /// image of all, and puts it in force with the next policy, which each guest's QUIET word has admitted. A module that
+    /// is loaded answers at once.
     ///
     /// Each answer but `Memory` adds one line to the journal. A refusal leaves the tables, the code and the modules as
     /// they were; all memory is taken before the first word is stored, and want of it marks the loader starved. The
@@ -235,6 +242,8 @@ impl<N: LoaderName> Loader<N> {
         requires known { number < length N.plan.modules }
         requires asks { MayAskFor self.old who (Load number) }
         ensures ok { IfOk result (λ loaded. HasLoaded N.key who number loaded self.old self.new) }
+        ensures admitted { IfOk result (λ loaded. loaded.again ≡ false
+            → AllAdmit N.key self.old.keeping self.new.keeping.quiets) }
         ensures fault { IfErr result (λ fault. IsLoadFault N.key who number fault self.old self.new) }
     {
         load(&mut self.keeper, &mut self.books, tables, number, who)

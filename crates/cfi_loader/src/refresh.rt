@@ -1,8 +1,9 @@
 //! Refreshes.
 
-ghost use Rattle.std.specs.Prelude.{◌≡◌, IfOk, IfErr};
+ghost use Rattle.std.specs.Prelude.{◌≡◌, IfOk, IfErr, OnOk};
 ghost use Rattle.cfi_plan.specs.declared.journal.JournalLine.TheVariants.{RefreshOk};
 ghost use Rattle.cfi_plan.specs.declared.journal.Who.TheVariants.{Script};
+ghost use Rattle.cfi_tables.specs.Faults.{AllAdmit};
 ghost use Rattle.cfi_valid.specs.Script.{Refresh};
 ghost use Rattle.cfi_loader.specs.Results.{asked_by, refused_refresh};
 ghost use Rattle.cfi_loader.specs.Told.{HasTold, MayAskFor};
@@ -40,6 +41,7 @@ fn refresh<N: TableName>(
     requires due { MayAskFor (ledger_of books.old keeper.old) Script Refresh }
     ensures ok { IfOk result (λ epoch.
         IsAfter N.key (asked_by who (RefreshOk epoch)) books.old books.new keeper.old keeper.new) }
+    ensures admitted { OnOk result (AllAdmit N.key keeper.old keeper.new.quiets) }
     ensures fault { IfErr result (λ fault.
         IsAfter N.key (asked_by who (refused_refresh fault)) books.old books.new keeper.old keeper.new) }
     ensures same { (books.new.plan ≡ books.old.plan) × (books.new.modules ≡ books.old.modules) }
@@ -58,8 +60,8 @@ fn refresh<N: TableName>(
 }
 
 impl<N: LoaderName> Loader<N> {
-    /// Makes a new epoch with the policy in force, and answers it. Each call adds one line to the journal. It takes no
-    /// memory.
+    /// Makes a new epoch with the policy in force, which each guest's QUIET word has admitted, and answers it. Each call
+    /// adds one line to the journal. It takes no memory.
     ///
     /// `who` is the script, whose next call is a refresh. `EpochsSpent` comes where the epoch is `MAX_EPOCH`, then
     /// `VersionsSpent` where a guest has published an epoch that is too far behind; neither stores anything.
@@ -68,6 +70,7 @@ impl<N: LoaderName> Loader<N> {
         requires due { MayAskFor self.old Script Refresh }
         ensures ok { IfOk result (λ epoch.
             HasTold N.key (asked_by who (RefreshOk epoch)) self.old self.new) }
+        ensures admitted { OnOk result (AllAdmit N.key self.old.keeping self.new.keeping.quiets) }
         ensures fault { IfErr result (λ fault.
             HasTold N.key (asked_by who (refused_refresh fault)) self.old self.new) }
     {

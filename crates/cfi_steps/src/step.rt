@@ -1,6 +1,6 @@
 //! The line of an event.
 
-ghost use Rattle.std.specs.Prelude.{◌≡◌, ◌++◌, ◌+◌, ◌^◌, ◌<◌, [], IfSome, OnOk};
+ghost use Rattle.std.specs.Prelude.{◌≡◌, ◌++◌, ◌+◌, ◌^◌, ◌<◌, [], IfSome, OnOk, OnErr};
 ghost use Rattle.rv_insn.specs.Insn.{InRange};
 ghost use Rattle.cfi_steps.specs.Step.{behind, ended_text, fetched_text, insn_at, insn_text, inside_text, line_of};
 ghost use Rattle.cfi_steps.specs.Step.{bary_line, head_text, service_text, step_text, tary_line, unit_text};
@@ -207,10 +207,8 @@ fn put_tary_line(
     put_line(out, guest, old, address, &what, did, stop)
 }
 
-/// Appends what a trace tells of an event of a guest: a line, or nothing.
-///
-/// `old` is the guest before the event, `new` after it, and `world` the world after it.
-pub fn put_step(
+// Appends what a trace tells of an event of a guest, and where no memory is left perhaps not all.
+fn put_event(
     out: &mut Vec<u8>,
     world: &World,
     guest: u32,
@@ -226,4 +224,24 @@ pub fn put_step(
         Some(Wait::Bary { slot, .. }) => { put_bary_line(out, world, guest, old, slot, new.stop()) }
         Some(Wait::Tary { at, .. }) => put_tary_line(out, world, guest, old, at, new.stop()),
     }
+}
+
+/// Appends what a trace tells of an event of a guest: a line, or nothing.
+///
+/// `old` is the guest before the event, `new` after it, and `world` the world after it. Where no memory is left, nothing
+/// is appended.
+pub fn put_step(
+    out: &mut Vec<u8>,
+    world: &World,
+    guest: u32,
+    old: &Seen,
+    new: &Guest,
+) -> Result<(), AllocError>
+    ensures ok { OnOk result (out.new.items ≡ out.old.items
+        ++ step_text world.now.tables guest old.now new.now) }
+    ensures err { OnErr result (out.new.items ≡ out.old.items) }
+{
+    let mut line = Vec::new(*out.allocator());
+    put_event(&mut line, world, guest, old, new)?;
+    out.extend_from_slice(&line)
 }

@@ -1,12 +1,13 @@
 use Rattle.std.proofs.Common.{◌≡◌, All, None, length}
 use Rattle.cfi_drive.specs.Runner.{Ran}
-use Rattle.cfi_engine.specs.Guests.{IsOpenedTo}
+use Rattle.cfi_engine.specs.Guests.{HasAdmitted, IsOpenedTo}
 use Rattle.cfi_engine.proofs.guests.open_guests.Given as goal
 
 -- the guests below the number are opened, and have a runner each
 abbrev pub invariant-loop-number : goal.invariant-loop-number
 invariant-loop-number g l = record {
   opened : IsOpenedTo g.N.LoaderName.plan g.N.LoaderName.modules l.number l.loader;
+  admitted : HasAdmitted g.loader l.loader;
   count : length l.runners.items ≡ l.number;
   idle : All (λ (ran : Ran). ran.guest.waits ≡ None) l.runners.items;
 }
