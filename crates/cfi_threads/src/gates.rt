@@ -146,3 +146,60 @@ impl Gate for Crossing {
         }
     }
 }
+
+/// Tells of guest 0 in its quiet service, and holds it there until another thread holds the lock, which keeps it until
+/// that guest has ended.
+#[derive(Drop)]
+pub struct Holding {
+    come: Mark,
+    held: Mark,
+    ended: Mark,
+    late: Mark,
+}
+
+impl Holding {
+    /// The guest has not come.
+    pub fn new() -> Holding {
+        Holding {
+            come: Mark::new(),
+            held: Mark::new(),
+            ended: Mark::new(),
+            late: Mark::new(),
+        }
+    }
+
+    /// Tells that the guest has come, and waits for the lock to be held.
+    pub fn come(&self) {
+        self.come.put();
+        if !self.held.came() {
+            self.late.put();
+        }
+    }
+
+    /// Waits for the guest to come. Whether it came.
+    pub fn has_come(&self) -> bool {
+        self.come.came()
+    }
+
+    /// Tells that the lock is held, and waits for the guest to end. Whether it did.
+    pub fn hold(&self) -> bool {
+        self.held.put();
+        self.ended.came()
+    }
+
+    /// Tells that the guest has ended. Whether it has not waited in vain.
+    pub fn end(&self) -> bool {
+        self.ended.put();
+        !self.late.is_put()
+    }
+}
+
+impl Gate for Holding {
+    fn pass(&self, guest: u32, service: u32) {
+        if guest == 0 && service == QUIET {
+            self.come();
+        }
+    }
+
+    fn line(&self, _call: u32) {}
+}

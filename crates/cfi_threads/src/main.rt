@@ -8,7 +8,8 @@
 //! fetches beside an update that adds code, and one without quiescent points hinders an update; guests run beside
 //! refreshes, one of them repeats a try, and each pause comes; two guests of a plan are in their services at once, its
 //! script goes on beside a guest, the script and a guest load one module in both orders, and a guest runs to its end while
-//! the loader's lock is held. Open: nothing.
+//! the loader's lock is held, and so does one that has opened as often as it may and asks for each service that needs no
+//! loader. Open: nothing.
 #![tactic(auto)]
 
 mod files;
@@ -114,5 +115,11 @@ fn main(rt: HostRuntime) -> io::Result<()> {
         &rt,
         "a guest beside a held lock",
         plans::a_guest_beside_a_held_lock(&rt, rt.alloc(), &call),
+    )?;
+    let served = texts(&rt, "served.plan", &["served.s"])?;
+    tell(
+        &rt,
+        "services beside a held lock",
+        plans::services_beside_a_held_lock(&rt, rt.alloc(), &served),
     )
 }

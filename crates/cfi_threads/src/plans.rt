@@ -6,16 +6,17 @@ ghost use Rattle.cfi_loader.specs.Plans.{CanStart};
 ghost use Rattle.cfi_loader.specs.Starting.{IsStarted};
 
 use crate::files::planned;
-use crate::gates::{Crossing, Meeting, Weaving};
-use crate::marks::Mark;
+use crate::gates::{Crossing, Holding, Meeting, Weaving};
 use cfi_aux::Module;
 use cfi_engine::{Runner, drive, open_guests, run_plan};
-use cfi_io::{Gate, QuietGate};
+use cfi_io::Gate;
 use cfi_loader::{Loader, LoaderName, Start};
 use cfi_plan::Plan;
 use cfi_report::write_report;
 use cfi_tables::{TableName, Tables};
 use cfi_values::Items;
+use cfi_word::limits::MAX_OPENS;
+use cfi_word::services::{REFUSED, TOO_MANY};
 use rv_guest::{Guest, Log, Stop};
 use std::alloc::Global;
 use std::marker::Brand;
@@ -108,37 +109,60 @@ fn has_called(guest: &Guest) -> bool {
         && guest.steps() == 26
 }
 
-// Holds the loader's lock until the mark is put. Whether it came.
-fn hold<N: LoaderName, R: Wait>(
-    rt: &R,
-    loader: &Mutex<Loader<N>>,
-    held: &Mark,
-    ended: &Mark,
-) -> bool {
-    let _desk = loader.lock(rt);
-    held.put();
-    ended.came()
+// Whether the guest has opened as often as it may, was then served with no lock, and exited: a service that is not there
+// is refused, and so is one open more.
+fn is_served(guest: &Guest) -> bool {
+    guest.stop() == Some(Stop::Exit(0))
+        && guest.log().len() == MAX_OPENS as usize
+        && guest.output() == [(REFUSED % 256) as u8, TOO_MANY as u8].as_slice()
 }
 
-// Drives a guest once the lock is held. The guest, where it has ended.
+// What a guest does while the lock is held.
+#[derive(Clone, Copy, Debug)]
+enum Task {
+    // All that it does.
+    Call,
+    // What comes after its quiescent point.
+    Services,
+}
+
+impl Task {
+    // Whether the guest has done it.
+    fn is_done(self, guest: &Guest) -> bool {
+        match self {
+            Task::Call => has_called(guest),
+            Task::Services => is_served(guest),
+        }
+    }
+}
+
+// Holds the loader's lock from when the guest has come until it has ended. Whether it has.
+fn hold<N: LoaderName, R: Wait>(rt: &R, loader: &Mutex<Loader<N>>, gate: &Holding) -> bool {
+    if !gate.has_come() {
+        return false;
+    }
+    let _desk = loader.lock(rt);
+    gate.hold()
+}
+
+// Drives a guest while the lock is held, from the first or from its quiescent point on. Whether it has done its task.
 fn drive_beside<N: LoaderName, R: Wait>(
     rt: &R,
     mut runner: Runner<N>,
     tables: &Tables<N>,
     loader: &Mutex<Loader<N>>,
     fuel: u32,
-    held: &Mark,
-    ended: &Mark,
+    gate: &Holding,
+    task: Task,
 ) -> bool
     requires idle { runner.guest.waits ≡ None }
     requires fuel { fuel ≡ N.plan.fuel }
 {
-    if !held.came() {
-        return false;
+    if let Task::Call = task {
+        gate.come();
     }
-    let drove = drive(rt, &mut runner, tables, loader, &QuietGate::new(), fuel).is_ok();
-    ended.put();
-    drove && has_called(runner.guest())
+    let drove = drive(rt, &mut runner, tables, loader, gate, fuel).is_ok();
+    gate.end() && drove && task.is_done(runner.guest())
 }
 
 // Drives the first guest of a start while another thread holds the lock.
@@ -146,6 +170,7 @@ fn driven<N: LoaderName + Send + Sync, R: Threads + Wait + Sync>(
     rt: &R,
     alloc: Global,
     start: Start,
+    task: Task,
 ) -> bool
     requires table { start.named.table ≡ N.table }
     requires key { start.named.key ≡ N.key }
@@ -161,16 +186,32 @@ fn driven<N: LoaderName + Send + Sync, R: Threads + Wait + Sync>(
     };
     let fuel = loader.plan().fuel;
     let loader = Mutex::new(loader);
-    let (held, ended) = (Mark::new(), Mark::new());
+    let gate = Holding::new();
     let (kept, drove) = join(
         rt,
-        || -> bool { hold(rt, &loader, &held, &ended) },
+        || -> bool { hold(rt, &loader, &gate) },
         || -> bool
             requires idle { runner.guest.waits ≡ None }
             requires fuel { fuel ≡ N.plan.fuel }
-        { drive_beside(rt, runner, &tables, &loader, fuel, &held, &ended) },
+        { drive_beside(rt, runner, &tables, &loader, fuel, &gate, task) },
     );
     kept && drove
+}
+
+// A guest of a plan does its task while another thread holds the loader's lock.
+fn does_beside_a_held_lock<R: Threads + Wait + Sync>(
+    rt: &R,
+    alloc: Global,
+    texts: &Texts,
+    task: Task,
+) -> bool {
+    let Some((plan, modules)) = planned(alloc, &texts.plan, texts.sources.as_slice()) else {
+        return false;
+    };
+    let Ok(start) = Start::new(alloc, &plan, modules) else {
+        return false;
+    };
+    driven::<Brand, R>(rt, alloc, start, task)
 }
 
 /// A guest that opens nothing runs to its end while another thread holds the loader's lock.
@@ -179,11 +220,15 @@ pub fn a_guest_beside_a_held_lock<R: Threads + Wait + Sync>(
     alloc: Global,
     texts: &Texts,
 ) -> bool {
-    let Some((plan, modules)) = planned(alloc, &texts.plan, texts.sources.as_slice()) else {
-        return false;
-    };
-    let Ok(start) = Start::new(alloc, &plan, modules) else {
-        return false;
-    };
-    driven::<Brand, R>(rt, alloc, start)
+    does_beside_a_held_lock(rt, alloc, texts, Task::Call)
+}
+
+/// A guest that has opened as often as it may is served to its end while another thread holds the loader's lock: a put, a
+/// service that is not there, a masked access, and one open more.
+pub fn services_beside_a_held_lock<R: Threads + Wait + Sync>(
+    rt: &R,
+    alloc: Global,
+    texts: &Texts,
+) -> bool {
+    does_beside_a_held_lock(rt, alloc, texts, Task::Services)
 }

@@ -1,4 +1,4 @@
-use Rattle.cfi_threads.proofs.plans.a_guest_beside_a_held_lock.Given as goal
+use Rattle.cfi_threads.proofs.plans.does_beside_a_held_lock.Given as goal
 
 -- the names are the table that was made, the plan and its modules
 abbrev pub ghosts-driven-N-TableName : goal.ghosts-driven-N-TableName
