@@ -29,10 +29,10 @@ pub record IsOpenedTo (plan : Plan) (modules : List Module) (number : ℕ) (l : 
   pub out : (guest : ℕ) → guest < number → is_out l.keeping.out guest ≡ true
   pub free : (guest : ℕ) → number ≤ guest → is_out l.keeping.out guest ≡ false
 
--- some of the plan's guests were opened, and not all
-pub record ArePartlyOpened (plan : Plan) (modules : List Module) (l : Ledger) : Type 0 where
+-- so many of the plan's first guests were opened, and no others
+pub record AreFirstOpened (plan : Plan) (modules : List Module) (l : Ledger) : Type 0 where
   pub number : ℕ
-  pub less : number < length plan.guests
+  pub most : number ≤ length plan.guests
   pub opened : IsOpenedTo plan modules number l
 
 -- passes went out, and nothing else was done

@@ -3,7 +3,7 @@
 ghost use Rattle.std.specs.Prelude.{◌≡◌, ◌≢◌, ◌+◌, ◌<◌, ℕ, true, None, Some, All, IfOk, OnOk, OnErr, length, slice_get};
 ghost use Rattle.cfi_drive.specs.Concluded.{IsEndedRun};
 ghost use Rattle.cfi_drive.specs.Runner.{Ran};
-ghost use Rattle.cfi_engine.specs.Guests.{ArePartlyOpened, HasAdmitted, HasCode, IsOpenedTo};
+ghost use Rattle.cfi_engine.specs.Guests.{AreFirstOpened, HasAdmitted, HasCode, IsOpenedTo};
 ghost use Rattle.cfi_engine.specs.inner.Guests.{IsWaiting};
 
 use cfi_drive::{Runner, drive};
@@ -62,7 +62,7 @@ pub fn open_guests<N: LoaderName>(
     ensures count { IfOk result (λ runners. length runners.items ≡ length N.plan.guests) }
     ensures idle { IfOk result (λ runners. All (λ (ran : Ran). ran.guest.waits ≡ None) runners.items) }
     ensures opened { OnOk result (IsOpenedTo N.plan N.modules (length N.plan.guests) loader.new) }
-    ensures part { OnErr result (ArePartlyOpened N.plan N.modules loader.new) }
+    ensures part { OnErr result (AreFirstOpened N.plan N.modules loader.new) }
     ensures admitted { HasAdmitted loader.old loader.new }
 {
     let guests = loader.plan().guests.len();

@@ -7,7 +7,7 @@ use Rattle.cfi_engine.proofs.guests.open_guests.Given as goal
 abbrev pub invariant-loop-number : goal.invariant-loop-number
 invariant-loop-number g l = record {
   opened : IsOpenedTo g.N.LoaderName.plan g.N.LoaderName.modules l.number l.loader;
-  admitted : HasAdmitted g.loader l.loader;
+  admitted : HasAdmitted l.initial.loader l.loader;
   count : length l.runners.items ≡ l.number;
   idle : All (λ (ran : Ran). ran.guest.waits ≡ None) l.runners.items;
 }
