@@ -3,33 +3,39 @@ use Rattle.std.proofs.Common.{◌≡◌, ◌∙◌, ℕ, zero, suc, ◌+◌, ◌
 use Rattle.std.specs.List.{enumerate_from}
 use Rattle.std.proofs.Math.Path.{fun_ext}
 use Rattle.std.proofs.lemmas.Bool.{cases_Bool, and_from}
+use Rattle.std.proofs.lemmas.List.{length-map}
 use Rattle.std.proofs.lemmas.List.Elements.{All-nil, All-cons, All-append, All-map, All-weaker, All-filter, All-head, All-tail}
 use Rattle.cfi_word.specs.declared.limits.TheConstants.{MAX_SYMBOLS, MAX_NAME}
 use Rattle.elf_read.specs.Places.{joined}
 use Rattle.elf_read.specs.Sound.{is_exported, HasSymbol, IsSoundSymbol, IsSoundReloc}
+use Rattle.elf_read.specs.declared.fault.Limit.{Limit}
 use Rattle.elf_read.specs.declared.object.Object.{Object}
 use Rattle.elf_read.specs.declared.object.Symbol.{Symbol}
 use Rattle.elf_read.specs.declared.object.Reloc.{Reloc}
 use Rattle.cfi_type_table.specs.Node.{Node}
+use Rattle.cfi_type_table.specs.Spelling.{spelling as types_spelling}
 use Rattle.cfi_type_table.proofs.Tables.{small_fields}
 use Rattle.cfi_aux.proofs.HaveCells.{cell-from, cells-append, cells-more}
 use Rattle.cfi_aux.specs.Cells.{have_cells}
-use Rattle.cfi_aux.specs.Records.{CanBeWritten, list_length, padding}
+use Rattle.cfi_aux.specs.Records.{CanBeWritten, list_length, padding, spelling as records_spelling}
 use Rattle.cfi_aux.specs.Sound.{IsSoundModule}
 use Rattle.cfi_aux.specs.declared.modules.Module.{Module}
 use Rattle.cfi_aux.specs.declared.records.Function.{Function}
 use Rattle.cfi_aux.specs.declared.records.Kind.{Kind}
 use Rattle.cfi_aux.specs.declared.records.Records.{Records}
+use Rattle.cfi_limits.specs.declared.sizes.Sizes.{Sizes}
+use Rattle.cfi_limits.specs.Limits.{passed, module_sizes}
 use Rattle.cfi_limits.proofs.LimitLemmas.{AreFew, few}
 use Rattle.cfi_import.specs.declared.start.Start.{Start}
 use Rattle.cfi_import.specs.declared.start.TheConstants.{STUB_BYTES, CELL_BYTES, STUB_SYMBOLS}
 use Rattle.cfi_import.specs.Imports.{is_import, imports_of, names_of, place_of}
 use Rattle.cfi_import.specs.Start.{first_shared, start_of, cell_offset}
 use Rattle.cfi_import.specs.Stubs.{stub_bytes, stub_function, stub_kind, stub_nodes}
-use Rattle.cfi_import.specs.Stubbed.{Parts, parts_of, with_cells, with_symbols, with_relocs, with_stubs_for, parts_with, part_sizes, stubbed_parts, stubs_pass}
+use Rattle.cfi_import.specs.Stubbed.{Parts, parts_of, with_cells, with_symbols, with_relocs, with_stubs_for, parts_with, part_sizes, stubbed_parts, stubs_pass, AreSections, IsStubbed}
+use Rattle.cfi_import.specs.inner.Capped.{sizes_with}
 use Rattle.cfi_import.specs.inner.Room.{IsSmall, HasRoom, IsSmallNumber, IsPlace}
 use Rattle.cfi_import.specs.inner.Made.{IsReady, AreWritable, AreRecordsWith, IsObjectWith}
-use Rattle.cfi_import.proofs.SizeLemmas.{length-symbols, length-relocs, length-cells, length-texts, length-each}
+use Rattle.cfi_import.proofs.SizeLemmas.{length-symbols, length-cells, length-texts, passed-with}
 
 -- ---- one import at least
 
@@ -46,7 +52,7 @@ shared-within [] = omega arith
 shared-within (s ∷ symbols) =
     let rest = shared-within symbols in
     elim (cases_Bool (is_exported s.binding)) [
-      | inl yes ↦ rw yes (omega arith)
+      | inl here ↦ rw here (omega arith)
       | inr other ↦ rw other (omega (arith, rest))
     ]
 
@@ -108,7 +114,7 @@ is-place start [] number same = tt
 is-place start (one ∷ imports) number same =
     let before = record start { count = length imports } in
     elim (cases_Bool (eqb one.0 number)) [
-      | inl yes ↦ rw yes (omega (arith, same))
+      | inl here ↦ rw here (omega (arith, same))
       | inr other ↦
           rw other (place-more (length imports) before start (place_of imports number) same
           (is-place before imports number refl))
@@ -214,7 +220,7 @@ are-writable m types records sound good some limits is are =
       fields = subst (All (λ x. length x.fields < 2 ^ 32)) (sym is)
           (All-append (λ x. length x.fields < 2 ^ 32) m.types (stub_nodes start) (small_fields m.types sound.table)
           (nodes_small start));
-      records = can-write start names m.records records good are short (omega (arith, functions, few.functions))
+      written = can-write start names m.records records good are short (omega (arith, functions, few.functions))
           (omega (arith, branches, few.branches));
     }
   where
@@ -302,3 +308,62 @@ parts-made m out imports find some finds types records object =
     (object.relocs ∙ relocs_by (start_of m (length imports)) find imports m.object.relocs finds)
     types records.functions records.branches
     ∙ sym (parts-some m imports some)
+
+-- ---- what the counted sizes say
+
+-- no value is there where each is refused
+pub none_left : (found : Option Limit) → ((what : Limit) → found ≡ Some what → ⊥) → found ≡ None
+none_left None never = refl
+none_left (Some what) never = absurd (never what refl)
+
+pub length-names : (imports : List (ℕ × Symbol)) → length (names_of imports) ≡ length imports
+length-names imports = length-map imports (λ one. one.1.name)
+
+pub passed-by : (m : Module) (names : List (List ℕ)) (count : ℕ) (sizes counted : Sizes)
+    → names ≡ names_of (imports_of m.object) → count ≡ length names → sizes ≡ module_sizes m
+    → counted ≡ sizes_with sizes count → passed counted ≡ stubs_pass m
+passed-by m names count sizes counted are is has with =
+    let imports = imports_of m.object in
+    let number : count ≡ length imports = is ∙ ap length are ∙ length-names imports in
+    ap passed with
+    ∙ ap (λ (s : Sizes). passed (sizes_with s count)) has
+    ∙ ap (λ (n : ℕ). passed (sizes_with (module_sizes m) n)) number
+    ∙ passed-with m imports
+
+-- without an import the same module is the one with stubs
+stubbed-none : (m out : Module) (imports : List (ℕ × Symbol)) → length imports ≡ 0 → out.object ≡ m.object
+    → out.types ≡ m.types → out.records ≡ m.records
+    → (parts_of out ≡ parts_with m imports) × AreSections imports m out
+stubbed-none m out [] none object types records = (
+  same_parts (parts_of out) (parts_of m) (ap (λ (o : Object). o.text) object) (ap (λ (o : Object). o.static_data) object)
+  (ap (λ (o : Object). o.symbols) object) (ap (λ (o : Object). o.relocs) object) types
+  (ap (λ (r : Records). r.functions) records) (ap (λ (r : Records). r.branches) records),
+  (ap (λ (o : Object). o.types) object, ap (λ (o : Object). o.records) object),
+)
+stubbed-none m out (one ∷ imports) none object types records = absurd (omega (arith, none))
+
+pub same_stubbed : (m out : Module) (names : List (List ℕ)) → names ≡ names_of (imports_of m.object)
+    → length names ≡ 0 → out.object ≡ m.object → out.types ≡ m.types → out.records ≡ m.records → IsStubbed m out
+same_stubbed m out names are none object types records =
+    let imports = imports_of m.object in
+    let count : length imports ≡ 0 = sym (length-names imports) ∙ ap length (sym are) ∙ none in
+    let both = stubbed-none m out imports count object types records in
+    record { parts = both.0; sections = both.1 }
+
+-- with one, the sections are spelled anew
+sections-some : (m out : Module) (imports : List (ℕ × Symbol)) → 0 < length imports
+    → out.object.types ≡ Some (types_spelling out.types) → out.object.records ≡ Some (records_spelling out.records)
+    → AreSections imports m out
+sections-some m out [] some types records = absurd (omega (arith, some))
+sections-some m out (one ∷ imports) some types records = (types, records)
+
+pub made_stubbed : (m out : Module) (find : ℕ → Option ℕ) → 0 < length (imports_of m.object)
+    → ((number : ℕ) → find number ≡ place_of (imports_of m.object) number)
+    → out.types ≡ m.types ++ stub_nodes (start_of m (length (imports_of m.object)))
+    → AreRecordsWith (start_of m (length (imports_of m.object))) (names_of (imports_of m.object)) m.records out.records
+    → IsObjectWith (start_of m (length (imports_of m.object))) find out.types out.records m.object out.object
+    → IsStubbed m out
+made_stubbed m out find some finds types records object = record {
+  parts = parts-made m out (imports_of m.object) find some finds types records object;
+  sections = sections-some m out (imports_of m.object) some object.types_spelled object.records_spelled;
+}

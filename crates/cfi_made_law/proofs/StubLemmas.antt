@@ -254,7 +254,7 @@ module _ (m : Module) (imports : List (ℕ × Symbol)) (some : 0 < length import
     number-there : (kind k : ℕ) → k < length a.symbols → new_number start (place_of imports) kind k < length b.symbols
     number-there kind k lt =
         elim (cases_Bool (leads kind)) [
-          | inl yes ↦ rw yes (led-there (place_of imports k) k (is-place start imports k refl) lt)
+          | inl here ↦ rw here (led-there (place_of imports k) k (is-place start imports k refl) lt)
           | inr other ↦ rw other (shifted-there k lt)
         ]
 
