@@ -1,5 +1,5 @@
 -- A module that is instrumented and placed: the one word `j .`, which stays as it is.
-use Rattle.std.specs.Prelude.{[], ◌∷◌, Some, None, false}
+use Rattle.std.specs.Prelude.{[], ◌∷◌, Some, None, false, refl}
 use Rattle.elf_read.specs.declared.object.Object.{Object}
 use Rattle.cfi_type_table.specs.Spelling.{spelling}
 use Rattle.cfi_aux.specs.Records as records
@@ -31,7 +31,7 @@ loop_object = record {
 
 -- the module, which is its own instrumented one
 abbrev pub loop_source : Module
-loop_source = record { object = loop_object; types = loop_module.types; records = loop_records }
+loop_source = record { object = loop_object; types = loop_module.types; records = loop_records; cells = refl }
 
 -- the first free place of the smallest code
 abbrev pub loop_room : Room

@@ -53,6 +53,7 @@ module _ (base slot_base data_base ty : ℕ) (name : List ℕ) (types : List Nod
     branches = [];
     types = types;
     exports = [];
+    cells = refl;
   }
 
   fits : FitsBehind placed spots 0 function

@@ -1,5 +1,5 @@
 -- A module that verifies: the one word `j .`, one function of it, whose type is that of a function.
-use Rattle.std.specs.Prelude.{[], ◌∷◌, false}
+use Rattle.std.specs.Prelude.{[], ◌∷◌, false, refl}
 use Rattle.cfi_type_table.specs.Node.{make_node}
 use Rattle.cfi_type_table.specs.declared.kind.TheConstants.{VOID, FUNC}
 use Rattle.cfi_aux.specs.declared.placed.Placed.{Placed}
@@ -20,4 +20,5 @@ loop_module = record {
   branches = [];
   types = make_node VOID [] ∷ make_node FUNC (0 ∷ []) ∷ [];
   exports = [];
+  cells = refl;
 }
