@@ -12,7 +12,8 @@ use Rattle.elf_read.specs.declared.fault.Limit.{Limit}
 use Rattle.elf_read.specs.declared.object.Object.{Object}
 use Rattle.elf_read.specs.declared.object.Symbol.{Symbol}
 use Rattle.elf_read.specs.declared.object.Reloc.{Reloc}
-use Rattle.cfi_type_table.specs.Node.{Node}
+use Rattle.cfi_type_table.specs.declared.kind.TheConstants.{VOID, FUNC}
+use Rattle.cfi_type_table.specs.Node.{Node, make_node}
 use Rattle.cfi_type_table.specs.Spelling.{spelling as types_spelling}
 use Rattle.cfi_type_table.proofs.Tables.{small_fields}
 use Rattle.cfi_aux.proofs.HaveCells.{cell-from, cells-append, cells-more}
@@ -226,8 +227,10 @@ are-writable m types records sound good some limits is are =
   where
     nodes_small : (start : Start) → All (λ x. length x.fields < 2 ^ 32) (stub_nodes start)
     nodes_small start =
-        All-cons (λ x. length x.fields < 2 ^ 32) _ _ (omega arith)
-        (All-cons (λ x. length x.fields < 2 ^ 32) _ _ (omega arith) (All-nil (λ (x : Node). length x.fields < 2 ^ 32)))
+        All-cons (λ x. length x.fields < 2 ^ 32) (make_node VOID []) (make_node FUNC (start.types ∷ []) ∷ [])
+        (omega arith)
+        (All-cons (λ x. length x.fields < 2 ^ 32) (make_node FUNC (start.types ∷ [])) [] (omega arith)
+        (All-nil (λ (x : Node). length x.fields < 2 ^ 32)))
 
 -- ---- cells
 
@@ -367,3 +370,28 @@ made_stubbed m out find some finds types records object = record {
   parts = parts-made m out (imports_of m.object) find some finds types records object;
   sections = sections-some m out (imports_of m.object) some object.types_spelled object.records_spelled;
 }
+
+-- ---- what making goes by
+
+-- where stubs begin, by the names that were found
+pub begins-by : (m : Module) (names : List (List ℕ)) (count : ℕ) (start : Start) → names ≡ names_of (imports_of m.object)
+    → count ≡ length names → start ≡ start_of m count → start ≡ start_of m (length (imports_of m.object))
+begins-by m names count start are is begins =
+    begins ∙ ap (start_of m) (is ∙ ap length are ∙ length-names (imports_of m.object))
+
+pub some-by : (m : Module) (names : List (List ℕ)) → names ≡ names_of (imports_of m.object) → 0 < length names
+    → 0 < length (imports_of m.object)
+some-by m names are some =
+    let count = ap length are in
+    let size = length-names (imports_of m.object) in
+    omega (arith, count, size, some)
+
+pub few-by : (m : Module) → stubs_pass m ≡ None → AreFew (part_sizes (stubbed_parts m))
+few-by m none = few (part_sizes (stubbed_parts m)) none
+
+-- records with stubs, by a start and names that are equal
+pub records-by : (m : Module) (start start' : Start) (names names' : List (List ℕ)) (new : Records) → start ≡ start'
+    → names ≡ names' → AreRecordsWith start names m.records new → AreRecordsWith start' names' m.records new
+records-by m start start' names names' new same are with =
+    subst (λ (s : Start). AreRecordsWith s names' m.records new) same
+    (subst (λ (ns : List (List ℕ)). AreRecordsWith start ns m.records new) are with)

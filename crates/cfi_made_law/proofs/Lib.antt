@@ -18,3 +18,6 @@ pub mod AsmExactLemmas
 pub mod AsmRelocLemmas
 pub mod AsmSymbolLemmas
 pub mod AsmWholeLemmas
+pub mod StubLemmas
+pub mod StubRecordLemmas
+pub mod StubFitLemmas

@@ -1,35 +1,37 @@
 -- A module with stubs breaks no rule of objects, and passes no limit.
-use Rattle.std.proofs.Common.{◌≡◌, ◌∙◌, ℕ, zero, suc, ◌+◌, ◌*◌, ◌%◌, ◌<◌, ◌≤◌, ◌^◌, true, false, List, [], ◌∷◌, ◌++◌, length, take, drop, get_or, map, All, Option, Some, None, refl, sym, ap, subst, inl, inr, arith, length-append}
-use Rattle.std.specs.List.{AllPairs, AllByRecursion}
+use Rattle.std.proofs.Common.{◌≡◌, ◌∙◌, ℕ, zero, suc, ◌+◌, ◌*◌, ◌%◌, ◌<◌, ◌≤◌, ◌&&◌, Bool, true, false, ltb, List, [], ◌∷◌, ◌++◌, length, take, drop, get_or, map, All, Option, Some, None, option_map, refl, sym, ap, subst, inl, inr, arith, length-append, append_assoc}
+use Rattle.std.specs.List.{AllPairs}
+use Rattle.std.specs.Str.{bytes_eq}
 use Rattle.std.proofs.lemmas.Bool.{cases_Bool}
 use Rattle.std.proofs.lemmas.List.{take-append-drop}
 use Rattle.std.proofs.lemmas.List.Kept.{AllPairs-cons}
-use Rattle.std.proofs.lemmas.List.Elements.{All-nil, All-cons, All-head, All-tail, All-append, All-map, All-take, All-weaker, All-from_recursion, recursion_from_All}
-use Rattle.cfi_word.specs.declared.limits.TheConstants.{MAX_SYMBOLS}
+use Rattle.std.proofs.lemmas.List.Elements.{All-nil, All-cons, All-head, All-tail, All-append, All-map, All-weaker, All-from_recursion, recursion_from_All}
+use Rattle.cfi_word.specs.declared.limits.TheConstants.{MAX_NODES}
 use Rattle.elf_read.specs.Places.{joined}
-use Rattle.elf_read.specs.Relocation.{is_known, is_of_instruction, field_size}
-use Rattle.elf_read.specs.Sound.{are_rivals, IsInsideArea, HasField, HasSymbol, IsSoundSymbol, IsSoundReloc, IsSoundObject}
+use Rattle.elf_read.specs.Relocation.{is_known, is_of_data, is_of_instruction, field_size}
+use Rattle.elf_read.specs.Sound.{is_exported, is_defined, are_rivals, IsInsideArea, HasField, HasSymbol, IsSoundSymbol, IsSoundReloc, IsSoundObject}
 use Rattle.elf_read.specs.declared.object.Area.{Area}
 use Rattle.elf_read.specs.declared.object.Area.TheVariants as areas
-use Rattle.elf_read.specs.declared.object.Binding.{Binding}
-use Rattle.elf_read.specs.declared.object.Binding.TheVariants as bindings
 use Rattle.elf_read.specs.declared.object.Place.{Place}
 use Rattle.elf_read.specs.declared.object.Place.TheVariants as places
 use Rattle.elf_read.specs.declared.object.Object.{Object}
 use Rattle.elf_read.specs.declared.object.Symbol.{Symbol}
 use Rattle.elf_read.specs.declared.object.Reloc.{Reloc}
 use Rattle.elf_read.specs.declared.relocation.TheConstants.{HI20, LO12_I}
-use Rattle.cfi_type_table.specs.Node.{Node}
+use Rattle.cfi_type_table.specs.declared.kind.TheConstants.{VOID, FUNC}
+use Rattle.cfi_type_table.specs.Node.{Node, make_node}
 use Rattle.cfi_type_table.specs.Kind.{nodes_of}
 use Rattle.cfi_type_table.specs.Spelling.{IsNode, NamesBelow, AreTypes}
+use Rattle.cfi_aux.specs.Records.{padding}
 use Rattle.cfi_aux.specs.Sound.{IsSoundModule}
 use Rattle.cfi_aux.specs.declared.modules.Module.{Module}
 use Rattle.cfi_limits.proofs.LimitLemmas.{AreFew, few}
 use Rattle.cfi_import.specs.declared.start.Start.{Start}
-use Rattle.cfi_import.specs.Imports.{leads, imports_of, names_of, place_of}
-use Rattle.cfi_import.specs.Start.{start_of, stub_offset, cell_offset, text_end}
+use Rattle.cfi_import.specs.declared.start.TheConstants.{STUB_BYTES, CELL_BYTES, STUB_SYMBOLS}
+use Rattle.cfi_import.specs.Imports.{leads, imports_of, place_of}
+use Rattle.cfi_import.specs.Start.{start_of, stub_offset, cell_offset, cell_symbol, text_end}
 use Rattle.cfi_import.specs.Stubs.{stub_bytes, stub_nodes, unnamed, stub_symbols, cell_reloc, stub_relocs, shifted, led, new_number, moved}
-use Rattle.cfi_import.specs.Stubbed.{Parts, parts_of, with_symbols, with_relocs, parts_with, part_sizes, stubbed_parts, stubs_pass, IsStubbed}
+use Rattle.cfi_import.specs.Stubbed.{Parts, parts_of, with_cells, with_symbols, with_relocs, parts_with, part_sizes, stubbed_parts, stubs_pass, IsStubbed}
 use Rattle.cfi_import.specs.inner.Room.{IsPlace}
 use Rattle.cfi_import.proofs.SizeLemmas.{length-symbols, length-cells, length-texts}
 use Rattle.cfi_import.proofs.MadeLemmas.{shared-within, is-place}
@@ -37,13 +39,20 @@ use Rattle.cfi_made_law.proofs.ReadLemmas.{IsSmall}
 
 -- ---- lists with something added in between
 
+pub all-two : {T : Type 0} (P : T → Type 0) (x y : T) → P x → P y → All P (x ∷ y ∷ [])
+all-two P x y one other = All-cons P x (y ∷ []) one (All-cons P y [] other (All-nil P))
+
 -- each of what several add
-all-joined : {T : Type 0} (P : T → Type 0) (add : ℕ → List T) (count : ℕ)
+pub all-joined : {T : Type 0} (P : T → Type 0) (add : ℕ → List T) (count : ℕ)
     → ((place : ℕ) → place < count → All P (add place)) → All P (joined add count)
 all-joined P add zero each = All-nil P
 all-joined P add (suc count) each =
     All-append P (joined add count) (add count) (all-joined P add count (λ place lt. each place (omega (arith, lt))))
     (each count (omega arith))
+
+-- a list in two parts
+pub in-two : {T : Type 0} (P : List T → Type 0) (k : ℕ) (xs : List T) → P xs → P (take k xs ++ drop k xs)
+in-two P k xs is = subst P (sym (take-append-drop k xs)) is
 
 pairs-head : {T : Type 0} (R : T → T → Type 0) (x : T) (xs : List T) → AllPairs R (x ∷ xs) → All (R x) xs
 pairs-head R x xs pairs k d lt = pairs 0 (suc k) d (omega arith) (omega (arith, lt))
@@ -51,12 +60,12 @@ pairs-head R x xs pairs k d lt = pairs 0 (suc k) d (omega arith) (omega (arith, 
 pairs-tail : {T : Type 0} (R : T → T → Type 0) (x : T) (xs : List T) → AllPairs R (x ∷ xs) → AllPairs R xs
 pairs-tail R x xs pairs i j d less lt = pairs (suc i) (suc j) d (omega (arith, less)) (omega (arith, lt))
 
-all-left : {T : Type 0} (P : T → Type 0) (xs ys : List T) → All P (xs ++ ys) → All P xs
+pub all-left : {T : Type 0} (P : T → Type 0) (xs ys : List T) → All P (xs ++ ys) → All P xs
 all-left P [] ys all = All-nil P
 all-left P (x ∷ xs) ys all =
     All-cons P x xs (All-head P x (xs ++ ys) all) (all-left P xs ys (All-tail P x (xs ++ ys) all))
 
-all-right : {T : Type 0} (P : T → Type 0) (xs ys : List T) → All P (xs ++ ys) → All P ys
+pub all-right : {T : Type 0} (P : T → Type 0) (xs ys : List T) → All P (xs ++ ys) → All P ys
 all-right P [] ys all = all
 all-right P (x ∷ xs) ys all = all-right P xs ys (All-tail P x (xs ++ ys) all)
 
@@ -72,11 +81,11 @@ pairs-before R (x ∷ added) after apart pairs =
 -- ... or in between
 pairs-between : {T : Type 0} (R : T → T → Type 0) (before added after : List T)
     → All (λ x. (y : T) → R x y) added → All (λ y. (x : T) → R x y) added → AllPairs R (before ++ after)
-    → AllPairs R (before ++ added ++ after)
+    → AllPairs R (before ++ (added ++ after))
 pairs-between R [] added after left right pairs = pairs-before R added after left pairs
 pairs-between R (x ∷ before) added after left right pairs =
     let others = pairs-head R x (before ++ after) pairs in
-    AllPairs-cons R x (before ++ added ++ after)
+    AllPairs-cons R x (before ++ (added ++ after))
     (All-append (R x) before (added ++ after) (all-left (R x) before after others)
     (All-append (R x) added after
     (All-weaker (λ y. (x : _) → R x y) (R x) (λ y apart. apart x) added right)
@@ -157,8 +166,7 @@ unfolding field_size
 low-size = refl
 
 -- the module with stubs, of which there is one at least
-module _ (m : Module) (imports : List (ℕ × Symbol)) (some : 0 < length imports) (sound : IsSoundModule m)
-    (limits : AreFew (part_sizes (parts_with m imports))) (b : Object) (types : List Node) where
+module _ (m : Module) (imports : List (ℕ × Symbol)) (sound : IsSoundModule m) (b : Object) (types : List Node) where
   abbrev a : Object
   a = m.object
 
@@ -192,11 +200,10 @@ module _ (m : Module) (imports : List (ℕ × Symbol)) (some : 0 < length import
 
     added-symbols : (place : ℕ) → place < length imports → All (IsSoundSymbol b) (stub_symbols start place)
     added-symbols place lt =
-        All-cons (IsSoundSymbol b) _ _
+        all-two (IsSoundSymbol b) (unnamed places.Text (stub_offset start place))
+        (unnamed places.Data (cell_offset start place))
         (unnamed-sound b places.Text (stub_offset start place) refl (omega (arith, lt, text-size)))
-        (All-cons (IsSoundSymbol b) _ _
         (unnamed-sound b places.Data (cell_offset start place) refl (omega (arith, lt, data-size)))
-        (All-nil (IsSoundSymbol b)))
 
     old-symbols : All (IsSoundSymbol b) a.symbols
     old-symbols =
@@ -206,13 +213,23 @@ module _ (m : Module) (imports : List (ℕ × Symbol)) (some : 0 < length import
     abbrev n : ℕ
     n = start.symbols
 
-    in-two : {T : Type 0} (P : List T → Type 0) (k : ℕ) (xs : List T) → P xs → P (take k xs ++ drop k xs)
-    in-two P k xs is = subst P (sym (take-append-drop k xs)) is
+    symbols-are : b.symbols ≡ take n a.symbols ++ (joined (stub_symbols start) start.count ++ drop n a.symbols)
+    symbols-are =
+        parts.symbols ∙ append_assoc (take n a.symbols) (joined (stub_symbols start) start.count) (drop n a.symbols)
+
+    relocs-are : b.relocs ≡ map (moved start (place_of imports)) (take (text_end a.relocs) a.relocs)
+        ++ (joined (stub_relocs start) start.count
+        ++ map (moved start (place_of imports)) (drop (text_end a.relocs) a.relocs))
+    relocs-are =
+        parts.relocs
+        ∙ append_assoc (map (moved start (place_of imports)) (take (text_end a.relocs) a.relocs))
+        (joined (stub_relocs start) start.count)
+        (map (moved start (place_of imports)) (drop (text_end a.relocs) a.relocs))
 
     pub all-symbols : All (IsSoundSymbol b) b.symbols
     all-symbols =
         let two = in-two (All (IsSoundSymbol b)) n a.symbols old-symbols in
-        subst (All (IsSoundSymbol b)) (sym parts.symbols)
+        subst (All (IsSoundSymbol b)) (sym symbols-are)
         (All-append (IsSoundSymbol b) (take n a.symbols) (joined (stub_symbols start) start.count ++ drop n a.symbols)
         (all-left (IsSoundSymbol b) (take n a.symbols) (drop n a.symbols) two)
         (All-append (IsSoundSymbol b) (joined (stub_symbols start) start.count) (drop n a.symbols)
@@ -225,16 +242,16 @@ module _ (m : Module) (imports : List (ℕ × Symbol)) (some : 0 < length import
     pub all-apart : AllPairs Apart b.symbols
     all-apart =
         let two = in-two (AllPairs Apart) n a.symbols sound.object_sound.definitions in
-        subst (AllPairs Apart) (sym parts.symbols)
+        subst (AllPairs Apart) (sym symbols-are)
         (pairs-between Apart (take n a.symbols) (joined (stub_symbols start) start.count) (drop n a.symbols)
         (all-joined (λ x. (y : Symbol) → Apart x y) (stub_symbols start) start.count (λ place lt.
-        All-cons (λ x. (y : Symbol) → Apart x y) _ _ (λ y. never-first places.Text (stub_offset start place) y)
-        (All-cons (λ x. (y : Symbol) → Apart x y) _ _ (λ y. never-first places.Data (cell_offset start place) y)
-        (All-nil (λ (x : Symbol). (y : Symbol) → Apart x y)))))
+        all-two (λ x. (y : Symbol) → Apart x y) (unnamed places.Text (stub_offset start place))
+        (unnamed places.Data (cell_offset start place)) (λ y. never-first places.Text (stub_offset start place) y)
+        (λ y. never-first places.Data (cell_offset start place) y)))
         (all-joined (λ y. (x : Symbol) → Apart x y) (stub_symbols start) start.count (λ place lt.
-        All-cons (λ y. (x : Symbol) → Apart x y) _ _ (λ x. never-second places.Text (stub_offset start place) x)
-        (All-cons (λ y. (x : Symbol) → Apart x y) _ _ (λ x. never-second places.Data (cell_offset start place) x)
-        (All-nil (λ (y : Symbol). (x : Symbol) → Apart x y)))))
+        all-two (λ y. (x : Symbol) → Apart x y) (unnamed places.Text (stub_offset start place))
+        (unnamed places.Data (cell_offset start place)) (λ x. never-second places.Text (stub_offset start place) x)
+        (λ x. never-second places.Data (cell_offset start place) x)))
         two)
 
     -- ---- relocations
@@ -276,7 +293,8 @@ module _ (m : Module) (imports : List (ℕ × Symbol)) (some : 0 < length import
         let words = sound.object_sound.words in
         let there : cell_symbol start place < length b.symbols =
         omega (arith, lt, symbol-count, shared-within a.symbols) in
-        All-cons (IsSoundReloc b) _ _
+        all-two (IsSoundReloc b) (cell_reloc start place (stub_offset start place) HI20)
+        (cell_reloc start place (stub_offset start place + 4) LO12_I)
         (record {
           known = known-stub;
           kept = refl;
@@ -284,7 +302,6 @@ module _ (m : Module) (imports : List (ℕ × Symbol)) (some : 0 < length import
           field = stub-field b HI20 (stub_offset start place) high-size refl (omega (arith, words))
               (omega (arith, lt, text-size));
         })
-        (All-cons (IsSoundReloc b) _ _
         (record {
           known = known-low;
           kept = refl;
@@ -292,7 +309,6 @@ module _ (m : Module) (imports : List (ℕ × Symbol)) (some : 0 < length import
           field = stub-field b LO12_I (stub_offset start place + 4) low-size refl (omega (arith, words))
               (omega (arith, lt, text-size));
         })
-        (All-nil (IsSoundReloc b)))
 
     pub all-relocs : All (IsSoundReloc b) b.relocs
     all-relocs =
@@ -301,7 +317,7 @@ module _ (m : Module) (imports : List (ℕ × Symbol)) (some : 0 < length import
         let two = in-two (All (IsSoundReloc a)) e a.relocs sound.object_sound.relocs in
         let one = λ (xs : List Reloc) (all : All (IsSoundReloc a) xs). All-map (IsSoundReloc b) f xs
         (All-weaker (IsSoundReloc a) (λ r. IsSoundReloc b (f r)) (λ r is. moved-sound r is) xs all) in
-        subst (All (IsSoundReloc b)) (sym parts.relocs)
+        subst (All (IsSoundReloc b)) (sym relocs-are)
         (All-append (IsSoundReloc b) (map f (take e a.relocs))
         (joined (stub_relocs start) start.count ++ map f (drop e a.relocs))
         (one (take e a.relocs) (all-left (IsSoundReloc a) (take e a.relocs) (drop e a.relocs) two))
@@ -334,14 +350,84 @@ module _ (m : Module) (imports : List (ℕ × Symbol)) (some : 0 < length import
         record {
           count = small;
           nodes = both IsNode (All-from_recursion IsNode m.types sound.table.nodes)
-              (All-cons IsNode _ _ (record { arity = refl; fields = tt })
-              (All-cons IsNode _ _ (record { arity = refl; fields = ((omega (arith, count, small)), refl, tt) })
-              (All-nil IsNode)));
+              (all-two IsNode (make_node VOID []) (make_node FUNC (start.types ∷ []))
+              (record { arity = refl; fields = tt })
+              (record { arity = refl; fields = (omega (arith, count, small), refl, tt) }));
           names = both (NamesBelow (length types))
               (All-weaker (NamesBelow (length m.types)) (NamesBelow (length types)) names-more m.types
               (All-from_recursion (NamesBelow (length m.types)) m.types sound.table.names))
-              (All-cons (NamesBelow (length types)) _ _ (All-nil (λ (k : ℕ). k < length types))
-              (All-cons (NamesBelow (length types)) _ _
-              (All-cons (λ (k : ℕ). k < length types) _ _ (omega (arith, count)) (All-nil (λ (k : ℕ). k < length types)))
-              (All-nil (NamesBelow (length types)))));
+              (all-two (NamesBelow (length types)) (make_node VOID []) (make_node FUNC (start.types ∷ []))
+              (All-nil (λ (k : ℕ). k < length types))
+              (All-cons (λ (k : ℕ). k < length types) start.types [] (omega (arith, count))
+              (All-nil (λ (k : ℕ). k < length types))));
         }
+
+-- ---- the module
+
+same-object : (a b : Object) → a.text ≡ b.text → a.static_data ≡ b.static_data → a.symbols ≡ b.symbols
+    → a.relocs ≡ b.relocs → IsSoundObject a → IsSoundObject b
+same-object a b text static_data symbols relocs sound =
+    let one = ap length text in
+    let two = ap length static_data in
+    let count = ap length symbols in
+    let more : HasMore a b = record { text = omega (arith, one); static_data = omega (arith, two) } in
+    record {
+      words = subst (λ (n : ℕ). n % 4 ≡ 0) one sound.words;
+      symbols = All-weaker (IsSoundSymbol a) (IsSoundSymbol b) (λ s is. symbol-more a b s more is) b.symbols
+          (subst (All (IsSoundSymbol a)) symbols sound.symbols);
+      definitions = subst (AllPairs (λ x y. are_rivals x y ≡ false)) symbols sound.definitions;
+      relocs = All-weaker (IsSoundReloc a) (IsSoundReloc b)
+          (λ r is. record {
+            known = is.known;
+            kept = is.kept;
+            symbol = same-symbol r.symbol count is.symbol;
+            field = field-more a b r.area r.kind r.offset more is.field;
+          }) b.relocs
+          (subst (All (IsSoundReloc a)) relocs sound.relocs);
+    }
+  where
+    same-symbol : (symbol : Option ℕ) → length a.symbols ≡ length b.symbols → HasSymbol a symbol → HasSymbol b symbol
+    same-symbol None count has = has
+    same-symbol (Some k) count has = omega (arith, count, has)
+
+sound-by : (m out : Module) (imports : List (ℕ × Symbol)) → IsSoundModule m → parts_of out ≡ parts_with m imports
+    → AreFew (part_sizes (parts_of out)) → IsSoundModule out
+sound-by m out [] sound parts limits = record {
+  object_sound = same-object m.object out.object (sym (ap (λ (p : Parts). p.text) parts))
+      (sym (ap (λ (p : Parts). p.static_data) parts)) (sym (ap (λ (p : Parts). p.symbols) parts))
+      (sym (ap (λ (p : Parts). p.relocs) parts)) sound.object_sound;
+  table = subst AreTypes (sym (ap (λ (p : Parts). p.types) parts)) sound.table;
+}
+sound-by m out (one ∷ imports) sound parts limits =
+    let all = one ∷ imports in
+    let has : HasParts m all sound out.object out.types = record {
+      text = ap (λ (p : Parts). p.text) parts;
+      static_data = ap (λ (p : Parts). p.static_data) parts;
+      symbols = ap (λ (p : Parts). p.symbols) parts;
+      relocs = ap (λ (p : Parts). p.relocs) parts;
+      types_with = ap (λ (p : Parts). p.types) parts;
+    } in
+    record {
+      object_sound = object-sound m all sound out.object out.types has;
+      table = table-sound m all sound out.object out.types has limits.types;
+    }
+
+-- the module with stubs is within the limits
+pub stubbed-few : (m out : Module) → stubs_pass m ≡ None → IsStubbed m out → AreFew (part_sizes (parts_of out))
+stubbed-few m out none made =
+    subst (λ (p : Parts). AreFew (part_sizes p)) (sym made.parts) (few (part_sizes (stubbed_parts m)) none)
+
+pub stubbed-sound : (m out : Module) → IsSoundModule m → stubs_pass m ≡ None → IsStubbed m out → IsSoundModule out
+stubbed-sound m out sound none made =
+    sound-by m out (imports_of m.object) sound made.parts (stubbed-few m out none made)
+
+pub stubbed-small : (m out : Module) → IsSoundModule m → stubs_pass m ≡ None → IsStubbed m out → IsSmall out.object
+stubbed-small m out sound none made =
+    let limits = stubbed-few m out none made in
+    record {
+      sound = (stubbed-sound m out sound none made).object_sound;
+      text = limits.text;
+      static_data = limits.static_data;
+      symbols = limits.symbols;
+      relocs = limits.relocs;
+    }
