@@ -9,7 +9,7 @@ use Rattle.cfi_commands.specs.Stubbing.{IsStubbedFile}
 use Rattle.cfi_made_law.specs.Read.{IsReadOf}
 use Rattle.cfi_made_law.proofs.ReadLemmas.{IsFit, read-fit}
 use Rattle.cfi_made_law.proofs.SourceLemmas.{ReadIsSound, read-source}
-use Rattle.cfi_made_law.proofs.StubLemmas.{stubbed-sound}
+use Rattle.cfi_made_law.proofs.StubWholeLemmas.{stubbed-sound}
 use Rattle.cfi_made_law.proofs.StubRecordLemmas.{stubbed-spelled, read-sound}
 use Rattle.cfi_made_law.proofs.StubFitLemmas.{stubbed-fits}
 use Rattle.cfi_file_law.specs.Saved.{AreBytes}

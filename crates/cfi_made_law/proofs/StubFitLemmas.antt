@@ -19,7 +19,8 @@ use Rattle.cfi_import.specs.Stubbed.{Parts, parts_of, parts_with, part_sizes, st
 use Rattle.cfi_import.specs.inner.Room.{HasRoom}
 use Rattle.cfi_import.proofs.MadeLemmas.{has-room}
 use Rattle.cfi_made_law.proofs.ReadLemmas.{IsSmall, IsFit}
-use Rattle.cfi_made_law.proofs.StubLemmas.{all-two, all-joined, all-left, all-right, in-two, stubbed-few, stubbed-small}
+use Rattle.cfi_made_law.proofs.BetweenLemmas.{all-two, all-joined, all-left, all-right, in-two}
+use Rattle.cfi_made_law.proofs.StubWholeLemmas.{stubbed-few, stubbed-small}
 
 abbrev IsLow : Symbol → Type 0
 IsLow s = s.value < 2 ^ 32

@@ -1,16 +1,13 @@
--- A module with stubs breaks no rule of objects, and passes no limit.
-use Rattle.std.proofs.Common.{◌≡◌, ◌∙◌, ℕ, zero, suc, ◌+◌, ◌*◌, ◌%◌, ◌<◌, ◌≤◌, ◌&&◌, Bool, true, false, ltb, List, [], ◌∷◌, ◌++◌, length, take, drop, get_or, map, All, Option, Some, None, option_map, refl, sym, ap, subst, inl, inr, arith, length-append, append_assoc}
+-- The parts of a module with stubs break no rule.
+use Rattle.std.proofs.Common.{◌≡◌, ◌∙◌, ℕ, ◌+◌, ◌*◌, ◌%◌, ◌<◌, ◌≤◌, ◌&&◌, Bool, true, false, ltb, List, [], ◌∷◌, ◌++◌, length, take, drop, map, All, Option, Some, None, option_map, refl, sym, ap, subst, inl, inr, arith, length-append, append_assoc}
 use Rattle.std.specs.List.{AllPairs}
 use Rattle.std.specs.Str.{bytes_eq}
 use Rattle.std.proofs.lemmas.Bool.{cases_Bool}
-use Rattle.std.proofs.lemmas.List.{take-append-drop}
-use Rattle.std.proofs.lemmas.List.Kept.{AllPairs-cons}
-use Rattle.std.proofs.lemmas.List.Elements.{All-nil, All-cons, All-head, All-tail, All-append, All-map, All-weaker, All-from_recursion, recursion_from_All}
+use Rattle.std.proofs.lemmas.List.Elements.{All-nil, All-cons, All-append, All-map, All-weaker, All-from_recursion, recursion_from_All}
 use Rattle.cfi_word.specs.declared.limits.TheConstants.{MAX_NODES}
 use Rattle.elf_read.specs.Places.{joined}
 use Rattle.elf_read.specs.Relocation.{is_known, is_of_data, is_of_instruction, field_size}
 use Rattle.elf_read.specs.Sound.{is_exported, is_defined, are_rivals, IsInsideArea, HasField, HasSymbol, IsSoundSymbol, IsSoundReloc, IsSoundObject}
-use Rattle.elf_read.specs.declared.object.Area.{Area}
 use Rattle.elf_read.specs.declared.object.Area.TheVariants as areas
 use Rattle.elf_read.specs.declared.object.Place.{Place}
 use Rattle.elf_read.specs.declared.object.Place.TheVariants as places
@@ -25,100 +22,16 @@ use Rattle.cfi_type_table.specs.Spelling.{IsNode, NamesBelow, AreTypes}
 use Rattle.cfi_aux.specs.Records.{padding}
 use Rattle.cfi_aux.specs.Sound.{IsSoundModule}
 use Rattle.cfi_aux.specs.declared.modules.Module.{Module}
-use Rattle.cfi_limits.proofs.LimitLemmas.{AreFew, few}
 use Rattle.cfi_import.specs.declared.start.Start.{Start}
 use Rattle.cfi_import.specs.declared.start.TheConstants.{STUB_BYTES, CELL_BYTES, STUB_SYMBOLS}
-use Rattle.cfi_import.specs.Imports.{leads, imports_of, place_of}
+use Rattle.cfi_import.specs.Imports.{leads, place_of}
 use Rattle.cfi_import.specs.Start.{start_of, stub_offset, cell_offset, cell_symbol, text_end}
 use Rattle.cfi_import.specs.Stubs.{stub_bytes, stub_nodes, unnamed, stub_symbols, cell_reloc, stub_relocs, shifted, led, new_number, moved}
-use Rattle.cfi_import.specs.Stubbed.{Parts, parts_of, with_cells, with_symbols, with_relocs, parts_with, part_sizes, stubbed_parts, stubs_pass, IsStubbed}
+use Rattle.cfi_import.specs.Stubbed.{with_cells, with_symbols, with_relocs}
 use Rattle.cfi_import.specs.inner.Room.{IsPlace}
 use Rattle.cfi_import.proofs.SizeLemmas.{length-symbols, length-cells, length-texts}
 use Rattle.cfi_import.proofs.MadeLemmas.{shared-within, is-place}
-use Rattle.cfi_made_law.proofs.ReadLemmas.{IsSmall}
-
--- ---- lists with something added in between
-
-pub all-two : {T : Type 0} (P : T → Type 0) (x y : T) → P x → P y → All P (x ∷ y ∷ [])
-all-two P x y one other = All-cons P x (y ∷ []) one (All-cons P y [] other (All-nil P))
-
--- each of what several add
-pub all-joined : {T : Type 0} (P : T → Type 0) (add : ℕ → List T) (count : ℕ)
-    → ((place : ℕ) → place < count → All P (add place)) → All P (joined add count)
-all-joined P add zero each = All-nil P
-all-joined P add (suc count) each =
-    All-append P (joined add count) (add count) (all-joined P add count (λ place lt. each place (omega (arith, lt))))
-    (each count (omega arith))
-
--- a list in two parts
-pub in-two : {T : Type 0} (P : List T → Type 0) (k : ℕ) (xs : List T) → P xs → P (take k xs ++ drop k xs)
-in-two P k xs is = subst P (sym (take-append-drop k xs)) is
-
-pairs-head : {T : Type 0} (R : T → T → Type 0) (x : T) (xs : List T) → AllPairs R (x ∷ xs) → All (R x) xs
-pairs-head R x xs pairs k d lt = pairs 0 (suc k) d (omega arith) (omega (arith, lt))
-
-pairs-tail : {T : Type 0} (R : T → T → Type 0) (x : T) (xs : List T) → AllPairs R (x ∷ xs) → AllPairs R xs
-pairs-tail R x xs pairs i j d less lt = pairs (suc i) (suc j) d (omega (arith, less)) (omega (arith, lt))
-
-pub all-left : {T : Type 0} (P : T → Type 0) (xs ys : List T) → All P (xs ++ ys) → All P xs
-all-left P [] ys all = All-nil P
-all-left P (x ∷ xs) ys all =
-    All-cons P x xs (All-head P x (xs ++ ys) all) (all-left P xs ys (All-tail P x (xs ++ ys) all))
-
-pub all-right : {T : Type 0} (P : T → Type 0) (xs ys : List T) → All P (xs ++ ys) → All P ys
-all-right P [] ys all = all
-all-right P (x ∷ xs) ys all = all-right P xs ys (All-tail P x (xs ++ ys) all)
-
--- what stands apart from all that is there comes first
-pairs-before : {T : Type 0} (R : T → T → Type 0) (added after : List T) → All (λ x. (y : T) → R x y) added
-    → AllPairs R after → AllPairs R (added ++ after)
-pairs-before R [] after apart pairs = pairs
-pairs-before R (x ∷ added) after apart pairs =
-    AllPairs-cons R x (added ++ after)
-    (λ k d lt. All-head (λ x. (y : _) → R x y) x added apart (get_or (added ++ after) k d))
-    (pairs-before R added after (All-tail (λ x. (y : _) → R x y) x added apart) pairs)
-
--- ... or in between
-pairs-between : {T : Type 0} (R : T → T → Type 0) (before added after : List T)
-    → All (λ x. (y : T) → R x y) added → All (λ y. (x : T) → R x y) added → AllPairs R (before ++ after)
-    → AllPairs R (before ++ (added ++ after))
-pairs-between R [] added after left right pairs = pairs-before R added after left pairs
-pairs-between R (x ∷ before) added after left right pairs =
-    let others = pairs-head R x (before ++ after) pairs in
-    AllPairs-cons R x (before ++ (added ++ after))
-    (All-append (R x) before (added ++ after) (all-left (R x) before after others)
-    (All-append (R x) added after
-    (All-weaker (λ y. (x : _) → R x y) (R x) (λ y apart. apart x) added right)
-    (all-right (R x) before after others)))
-    (pairs-between R before added after left right (pairs-tail R x (before ++ after) pairs))
-
--- ---- objects that have more
-
-record HasMore (a b : Object) : Type 0 where
-  text : length a.text ≤ length b.text
-  static_data : length a.static_data ≤ length b.static_data
-
-inside-more : (a b : Object) (place : Place) (value : ℕ) → HasMore a b → IsInsideArea a place value
-    → IsInsideArea b place value
-inside-more a b places.Undefined value more inside = inside
-inside-more a b places.Absolute value more inside = inside
-inside-more a b places.Text value more inside = omega (arith, inside, more.text)
-inside-more a b places.Data value more inside = omega (arith, inside, more.static_data)
-
-symbol-more : (a b : Object) (s : Symbol) → HasMore a b → IsSoundSymbol a s → IsSoundSymbol b s
-symbol-more a b s more is = record {
-  name_size = is.name_size;
-  name_text = is.name_text;
-  name_bytes = is.name_bytes;
-  named = is.named;
-  found = is.found;
-  inside = inside-more a b s.place s.value more is.inside;
-}
-
-field-more : (a b : Object) (area : Area) (kind offset : ℕ) → HasMore a b → HasField a area kind offset
-    → HasField b area kind offset
-field-more a b areas.Text kind offset more is = (omega (arith, is.0, more.text), is.1, is.2)
-field-more a b areas.Data kind offset more is = (omega (arith, is.0, more.static_data), is.1)
+use Rattle.cfi_made_law.proofs.BetweenLemmas.{all-two, all-joined, all-left, all-right, in-two, pairs-between, HasMore, symbol-more, field-more}
 
 -- ---- symbols and relocations of stubs
 
@@ -174,12 +87,12 @@ module _ (m : Module) (imports : List (ℕ × Symbol)) (sound : IsSoundModule m)
   start = start_of m (length imports)
 
   -- what is made of the parts, and of the types
-  record HasParts : Type 0 where
-    text : b.text ≡ a.text ++ joined (λ place. stub_bytes) (length imports)
-    static_data : b.static_data ≡ with_cells (length imports) a.static_data
-    symbols : b.symbols ≡ with_symbols start a.symbols
-    relocs : b.relocs ≡ with_relocs start (place_of imports) a.relocs
-    types_with : types ≡ m.types ++ stub_nodes start
+  pub record HasParts : Type 0 where
+    pub text : b.text ≡ a.text ++ joined (λ place. stub_bytes) (length imports)
+    pub static_data : b.static_data ≡ with_cells (length imports) a.static_data
+    pub symbols : b.symbols ≡ with_symbols start a.symbols
+    pub relocs : b.relocs ≡ with_relocs start (place_of imports) a.relocs
+    pub types_with : types ≡ m.types ++ stub_nodes start
 
   module _ (parts : HasParts) where
     text-size : length b.text ≡ length a.text + STUB_BYTES * length imports
@@ -361,73 +274,3 @@ module _ (m : Module) (imports : List (ℕ × Symbol)) (sound : IsSoundModule m)
               (All-cons (λ (k : ℕ). k < length types) start.types [] (omega (arith, count))
               (All-nil (λ (k : ℕ). k < length types))));
         }
-
--- ---- the module
-
-same-object : (a b : Object) → a.text ≡ b.text → a.static_data ≡ b.static_data → a.symbols ≡ b.symbols
-    → a.relocs ≡ b.relocs → IsSoundObject a → IsSoundObject b
-same-object a b text static_data symbols relocs sound =
-    let one = ap length text in
-    let two = ap length static_data in
-    let count = ap length symbols in
-    let more : HasMore a b = record { text = omega (arith, one); static_data = omega (arith, two) } in
-    record {
-      words = subst (λ (n : ℕ). n % 4 ≡ 0) one sound.words;
-      symbols = All-weaker (IsSoundSymbol a) (IsSoundSymbol b) (λ s is. symbol-more a b s more is) b.symbols
-          (subst (All (IsSoundSymbol a)) symbols sound.symbols);
-      definitions = subst (AllPairs (λ x y. are_rivals x y ≡ false)) symbols sound.definitions;
-      relocs = All-weaker (IsSoundReloc a) (IsSoundReloc b)
-          (λ r is. record {
-            known = is.known;
-            kept = is.kept;
-            symbol = same-symbol r.symbol count is.symbol;
-            field = field-more a b r.area r.kind r.offset more is.field;
-          }) b.relocs
-          (subst (All (IsSoundReloc a)) relocs sound.relocs);
-    }
-  where
-    same-symbol : (symbol : Option ℕ) → length a.symbols ≡ length b.symbols → HasSymbol a symbol → HasSymbol b symbol
-    same-symbol None count has = has
-    same-symbol (Some k) count has = omega (arith, count, has)
-
-sound-by : (m out : Module) (imports : List (ℕ × Symbol)) → IsSoundModule m → parts_of out ≡ parts_with m imports
-    → AreFew (part_sizes (parts_of out)) → IsSoundModule out
-sound-by m out [] sound parts limits = record {
-  object_sound = same-object m.object out.object (sym (ap (λ (p : Parts). p.text) parts))
-      (sym (ap (λ (p : Parts). p.static_data) parts)) (sym (ap (λ (p : Parts). p.symbols) parts))
-      (sym (ap (λ (p : Parts). p.relocs) parts)) sound.object_sound;
-  table = subst AreTypes (sym (ap (λ (p : Parts). p.types) parts)) sound.table;
-}
-sound-by m out (one ∷ imports) sound parts limits =
-    let all = one ∷ imports in
-    let has : HasParts m all sound out.object out.types = record {
-      text = ap (λ (p : Parts). p.text) parts;
-      static_data = ap (λ (p : Parts). p.static_data) parts;
-      symbols = ap (λ (p : Parts). p.symbols) parts;
-      relocs = ap (λ (p : Parts). p.relocs) parts;
-      types_with = ap (λ (p : Parts). p.types) parts;
-    } in
-    record {
-      object_sound = object-sound m all sound out.object out.types has;
-      table = table-sound m all sound out.object out.types has limits.types;
-    }
-
--- the module with stubs is within the limits
-pub stubbed-few : (m out : Module) → stubs_pass m ≡ None → IsStubbed m out → AreFew (part_sizes (parts_of out))
-stubbed-few m out none made =
-    subst (λ (p : Parts). AreFew (part_sizes p)) (sym made.parts) (few (part_sizes (stubbed_parts m)) none)
-
-pub stubbed-sound : (m out : Module) → IsSoundModule m → stubs_pass m ≡ None → IsStubbed m out → IsSoundModule out
-stubbed-sound m out sound none made =
-    sound-by m out (imports_of m.object) sound made.parts (stubbed-few m out none made)
-
-pub stubbed-small : (m out : Module) → IsSoundModule m → stubs_pass m ≡ None → IsStubbed m out → IsSmall out.object
-stubbed-small m out sound none made =
-    let limits = stubbed-few m out none made in
-    record {
-      sound = (stubbed-sound m out sound none made).object_sound;
-      text = limits.text;
-      static_data = limits.static_data;
-      symbols = limits.symbols;
-      relocs = limits.relocs;
-    }

@@ -38,7 +38,7 @@ use Rattle.cfi_import.proofs.MadeLemmas.{has-room, imports-sound, names-all, len
 use Rattle.cfi_made_law.specs.Read.{IsReadOf}
 use Rattle.cfi_made_law.proofs.LinkLemmas.{IsReadModule, no_node, callable-from, function-left, branch-left}
 use Rattle.cfi_made_law.proofs.SourceLemmas.{ReadIsSound}
-use Rattle.cfi_made_law.proofs.StubLemmas.{stubbed-few, stubbed-sound}
+use Rattle.cfi_made_law.proofs.StubWholeLemmas.{stubbed-few, stubbed-sound}
 
 -- ---- names
 

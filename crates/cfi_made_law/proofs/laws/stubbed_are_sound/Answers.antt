@@ -1,4 +1,4 @@
-use Rattle.cfi_made_law.proofs.StubLemmas.{stubbed-sound}
+use Rattle.cfi_made_law.proofs.StubWholeLemmas.{stubbed-sound}
 use Rattle.cfi_made_law.proofs.laws.stubbed_are_sound.Goals as goal
 
 pub returns : goal.returns

@@ -1,6 +1,6 @@
 use Rattle.cfi_made_law.proofs.WholeLemmas.{limits}
 use Rattle.cfi_made_law.proofs.SpellingLemmas.{spelled-few}
-use Rattle.cfi_made_law.proofs.StubLemmas.{stubbed-small}
+use Rattle.cfi_made_law.proofs.StubWholeLemmas.{stubbed-small}
 use Rattle.cfi_made_law.proofs.StubRecordLemmas.{stubbed-spelled, read-sound}
 use Rattle.cfi_made_law.proofs.SourceLemmas.{read-source}
 use Rattle.cfi_made_law.proofs.laws.stubbed_are_within_limits.Goals as goal
