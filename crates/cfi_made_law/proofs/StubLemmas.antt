@@ -3,6 +3,7 @@ use Rattle.std.proofs.Common.{◌≡◌, ◌∙◌, ℕ, ◌+◌, ◌*◌, ◌%�
 use Rattle.std.specs.List.{AllPairs}
 use Rattle.std.specs.Str.{bytes_eq}
 use Rattle.std.proofs.lemmas.Bool.{cases_Bool}
+use Rattle.std.proofs.lemmas.Str.{IsUtf8-nil, is_utf8-from_IsUtf8}
 use Rattle.std.proofs.lemmas.List.Elements.{All-nil, All-cons, All-append, All-map, All-weaker, All-from_recursion, recursion_from_All}
 use Rattle.cfi_word.specs.declared.limits.TheConstants.{MAX_NODES}
 use Rattle.elf_read.specs.Places.{joined}
@@ -39,7 +40,7 @@ unnamed-sound : (b : Object) (place : Place) (value : ℕ) → is_defined place 
     → IsSoundSymbol b (unnamed place value)
 unnamed-sound b place value found inside = record {
   name_size = omega arith;
-  name_text = refl;
+  name_text = is_utf8-from_IsUtf8 [] IsUtf8-nil;
   name_bytes = refl;
   named = refl;
   found = found;

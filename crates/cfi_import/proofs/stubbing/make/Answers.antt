@@ -7,7 +7,8 @@ use Rattle.cfi_import.specs.Stubbed.{with_cells}
 use Rattle.cfi_import.specs.inner.Found.{place_in}
 use Rattle.cfi_import.specs.inner.Made.{IsReady, AreRecordsWith, IsObjectWith}
 use Rattle.cfi_import.specs.inner.Room.{HasRoom}
-use Rattle.cfi_import.proofs.MadeLemmas.{begins-by, some-by, few-by, records-by, has-room, is-ready, are-writable, cells-made, made_stubbed}
+use Rattle.cfi_import.proofs.MadeLemmas.{has-room, is-ready, are-writable}
+use Rattle.cfi_import.proofs.PartLemmas.{begins-by, some-by, few-by, records-by, cells-made, made_stubbed}
 use Rattle.cfi_import.proofs.stubbing.make.Goals as goal
 
 pub records_with-requires-clause-room : goal.records_with-requires-clause-room

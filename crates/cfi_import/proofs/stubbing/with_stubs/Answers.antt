@@ -1,5 +1,5 @@
 use Rattle.std.proofs.Common.{◌≡◌, ◌∙◌, length, sym, rules}
-use Rattle.cfi_import.proofs.MadeLemmas.{none_left, passed-by, same_stubbed}
+use Rattle.cfi_import.proofs.PartLemmas.{none_left, passed-by, same_stubbed}
 use Rattle.cfi_import.proofs.stubbing.with_stubs.Goals as goal
 
 pub returns-in-Some-clause-fault : goal.returns-in-Some-clause-fault
