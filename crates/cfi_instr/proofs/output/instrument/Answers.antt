@@ -1,10 +1,10 @@
 use Rattle.std.proofs.Common.{◌≤◌, sym, subst, List, ℕ, Bool}
-use Rattle.cfi_items.specs.Words.{Words, count_of}
+use Rattle.cfi_items.specs.Words.{Words, read_words, count_of}
 use Rattle.cfi_instr.specs.declared.sizes.TheConstants.{MAX_WORDS}
 use Rattle.cfi_instr.specs.Sizes.{words_before}
 use Rattle.cfi_instr.specs.Units.{AllSpell}
 use Rattle.cfi_instr.specs.Output.{AreMoved, IsObject}
-use Rattle.cfi_instr.proofs.OutputLemmas.{moved-written, spells-all, plan-is}
+use Rattle.cfi_instr.proofs.OutputLemmas.{moved-written, cells-moved, spells-all, plan-is}
 use Rattle.cfi_instr.proofs.output.instrument.Goals as goal
 
 pub object_of-requires-clause-fits : goal.object_of-requires-clause-fits
@@ -47,4 +47,15 @@ returns-clause-ok c =
           c.in_ok-object.ensures);
       types = c.in_ok-types.ensures;
       records = subst (λ (xs : List ℕ). AreMoved m xs records) c.deref.ensures.value c.in_ok-records.ensures;
+    }
+
+pub invariant_of-result : goal.invariant_of-result
+invariant_of-result c =
+    let m = c.args.unplaced.now in
+    let object = c.in_ok-object.object in
+    let records = c.in_ok-records.records in
+    record {
+      cells =
+          cells-moved m (read_words m.object) c.deref.result.now object.static_data records.branches
+          c.in_ok-object.ensures.static_data c.in_ok-records.ensures.branches;
     }

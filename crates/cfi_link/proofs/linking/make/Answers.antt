@@ -1,4 +1,6 @@
-use Rattle.std.proofs.Common.{◌≡◌, ◌∙◌, ◌<◌, ◌^◌, length, All, Some, sym, ap, subst}
+use Rattle.std.proofs.Common.{◌≡◌, ◌∙◌, ◌<◌, ◌^◌, ℕ, IsTrue, List, length, All, Some, sym, ap, subst}
+use Rattle.cfi_aux.specs.declared.records.Kind.{Kind}
+use Rattle.cfi_aux.specs.Cells.{have_cells}
 use Rattle.cfi_place.specs.Names.{Names}
 use Rattle.cfi_link.specs.Joined.{Joined}
 use Rattle.cfi_link.specs.Chosen.{chosen_in, settled, in_order}
@@ -33,4 +35,19 @@ returns-clause-ok c =
       branches = c.from_vec-2.ensures ∙ ap (λ (j : Joined). j.branches) view;
       types_spelled = ap Some c.in_ok-type_bytes.ensures.types;
       records_spelled = ap Some c.in_ok-type_bytes.ensures.records;
+    }
+
+pub invariant_of-result : goal.invariant_of-result
+invariant_of-result c =
+    let joined = c.args.joined in
+    let view = c.joined.view_is in
+    let bytes : c.from_vec-4.result ≡ joined.static_data =
+    c.from_vec-4.ensures ∙ ap (λ (j : Joined). j.static_data) view in
+    let branches : c.from_vec-2.result ≡ joined.branches =
+    c.from_vec-2.ensures ∙ ap (λ (j : Joined). j.branches) view in
+    record {
+      cells =
+          subst (λ (xs : List ℕ). IsTrue (have_cells (length xs) c.from_vec-2.result)) (sym bytes)
+          (subst (λ (bs : List Kind). IsTrue (have_cells (length joined.static_data) bs)) (sym branches)
+          c.requires.sound.cells);
     }
