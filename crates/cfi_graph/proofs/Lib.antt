@@ -7,6 +7,9 @@ mod BranchLemmas
 mod TellLemmas
 mod ReadLemmas
 mod NodeLemmas
+mod FirstLemmas
+mod ImportLemmas
+pub mod CallLemmas
 mod WiderLemmas
 mod WideningLemmas
 mod GoesLemmas
