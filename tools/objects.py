@@ -9,7 +9,7 @@ from dataclasses import dataclass
 
 from formats import Unfit, data_of
 
-KINDS = ("call", "tail", "return", "switch")
+KINDS = ("call", "tail", "return", "switch", "import")
 
 
 @dataclass(frozen=True)

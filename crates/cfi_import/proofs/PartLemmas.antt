@@ -130,8 +130,8 @@ stubbed-none : (m out : Module) (imports : List (ℕ × Symbol)) → length impo
     → (parts_of out ≡ parts_with m imports) × AreSections imports m out
 stubbed-none m out [] none object types records = (
   same_parts (parts_of out) (parts_of m) (ap (λ (o : Object). o.text) object) (ap (λ (o : Object). o.static_data) object)
-  (ap (λ (o : Object). o.symbols) object) (ap (λ (o : Object). o.relocs) object) types
-  (ap (λ (r : Records). r.functions) records) (ap (λ (r : Records). r.branches) records),
+      (ap (λ (o : Object). o.symbols) object) (ap (λ (o : Object). o.relocs) object) types
+      (ap (λ (r : Records). r.functions) records) (ap (λ (r : Records). r.branches) records),
   (ap (λ (o : Object). o.types) object, ap (λ (o : Object). o.records) object),
 )
 stubbed-none m out (one ∷ imports) none object types records = absurd (omega (arith, none))
