@@ -26,8 +26,9 @@ ghost use Rattle.cfi_commands.specs.Linking.{IsLinkedFile};
 ghost use Rattle.cfi_commands.specs.Stubbing.{IsStubbedFile};
 ghost use Rattle.cfi_link.specs.Linked.{AreModules, Linked};
 ghost use Rattle.cfi_made_law.specs.Order.{object_of_file, module_of_file};
+ghost use Rattle.cfi_aux.specs.declared.modules.Module.{Module};
 ghost use Rattle.cfi_made_law.specs.Read.{IsReadOf};
-ghost use Rattle.cfi_file_law.specs.Source.{has_records, source_records, source_module, IsFew, IsFirstLong};
+ghost use Rattle.cfi_file_law.specs.Source.{has_records, source_records, IsSourceModule, IsFew, IsFirstLong};
 ghost use Rattle.cfi_file_law.specs.Saved.{AreBytes, IsSavedAt};
 ghost use Rattle.cfi_file_law.specs.Told.{Tells};
 ghost use Rattle.cfi_file_law.specs.Example.{call_source, call_made, call_placed};
@@ -120,7 +121,7 @@ pub fn assembled_are_modules()
         has_records text ≡ false → IsFileFault file (Aux NoRecords) }
     ensures module { (text file : List ℕ) → IsShort text → (is : IsAssembled text file) →
         IsShort file → has_records text ≡ true → All IsFew (source_records text).branches →
-        IsModuleFile file (module_of_file (source_module text is.object)) }
+        (m : Module) × IsSourceModule text (object_of_file is.object) m × IsModuleFile file m }
     ensures long { (text file : List ℕ) → IsShort text → IsAssembled text file → IsShort file →
         has_records text ≡ true → (number : ℕ) → IsFirstLong (source_records text).branches number →
         IsFileFault file (Aux (BadRecord (length (source_records text).functions + number))) }
