@@ -5,7 +5,7 @@ use Rattle.elf_read.specs.declared.fault.ElfFault.TheVariants as elf_faults
 use Rattle.elf_read.specs.Fault.{IsObject, IsFirstFault}
 use Rattle.cfi_aux.specs.declared.fault.AuxFault.TheVariants as aux_faults
 use Rattle.cfi_aux.specs.declared.modules.Module.{Module}
-use Rattle.cfi_aux.specs.Module.{IsModuleOf, module_in}
+use Rattle.cfi_aux.specs.Module.{IsModuleOf, parts_in}
 use Rattle.cfi_commands.specs.declared.refusal.Refusal.{Refusal}
 use Rattle.cfi_commands.specs.declared.refusal.Refusal.TheVariants.{Elf, Aux}
 
@@ -19,5 +19,5 @@ pub record IsModuleFile (bytes : List ℕ) (m : Module) : Type 0 where
 abbrev pub IsFileFault : (bytes : List ℕ) → Refusal → Type 0
 IsFileFault bytes (Elf fault) = IsFirstFault bytes fault × (fault ≢ elf_faults.Memory)
 IsFileFault bytes (Aux fault) =
-    (object : Object) × IsObject bytes object × (module_in object ≡ Err fault) × (fault ≢ aux_faults.Memory)
+    (object : Object) × IsObject bytes object × (parts_in object ≡ Err fault) × (fault ≢ aux_faults.Memory)
 IsFileFault bytes refusal = ⊥

@@ -1,7 +1,7 @@
 -- The branches of lines without a fault are as records want them, but that a switch may have more entries.
-use Rattle.std.proofs.Common.{◌≡◌, ℕ, ◌+◌, ◌%◌, ◌<◌, ◌≤◌, ◌^◌, nat_le, ℤ, List, [], ◌∷◌, ◌++◌, length, Option, Some, None, option_map, unwrap_or, IsTrue, All, refl, sym, ap, ◌∙◌, subst, arith, inl, inr}
+use Rattle.std.proofs.Common.{◌≡◌, ℕ, ◌+◌, ◌%◌, ◌<◌, ◌≤◌, ◌^◌, nat_le, ℤ, false, List, [], ◌∷◌, ◌++◌, length, Option, Some, None, option_map, unwrap_or, IsTrue, All, refl, sym, ap, ◌∙◌, subst, arith, inl, inr}
 use Rattle.std.specs.Prelude.{option_and_then}
-use Rattle.std.specs.List.{filter_map, AllByRecursion}
+use Rattle.std.specs.List.{filter_map, list_any, AllByRecursion}
 use Rattle.std.proofs.lemmas.Bool.{cases_Bool, and_from, eq-eqb, le-leb, ltb-true}
 use Rattle.std.proofs.lemmas.List.{length-map}
 use Rattle.std.proofs.lemmas.List.Elements.{All-nil, All-cons, All-head, All-tail, All-append}
@@ -9,6 +9,10 @@ use Rattle.cfi_word.specs.declared.limits.TheConstants.{MAX_ENTRIES}
 use Rattle.cfi_type_table.specs.Node.{Node}
 use Rattle.cfi_aux.specs.Format.{is_whole}
 use Rattle.cfi_aux.specs.Records.{kind_words, IsBranchWord, IsBranch}
+use Rattle.cfi_aux.specs.Cells.{has_cell, have_cells}
+use Rattle.cfi_aux.specs.Version.{is_import}
+use Rattle.cfi_aux.specs.declared.version.RecordVersion.TheVariants.{Two}
+use Rattle.cfi_aux.proofs.Branches.{IsBranchOf}
 use Rattle.cfi_aux.specs.declared.records.Kind.{Kind}
 use Rattle.cfi_aux.specs.declared.records.Kind.TheVariants as branches
 use Rattle.elf_read.specs.declared.object.Area.{Area}
@@ -35,10 +39,13 @@ use Rattle.cfi_file_law.proofs.AsmTypeLemmas.{formed-at, callable-good}
 
 -- ---- a branch
 
--- a switch has an entry, and so many that a word has their number
+-- a switch has an entry, and so many that a word has their number; no branch of a source is an import
 abbrev HasEntries : Kind → Type 0
 HasEntries (branches.Switch places) = (0 < length places) × (length places < 2 ^ 32)
-HasEntries kind = Unit {0}
+HasEntries (branches.Call node) = Unit {0}
+HasEntries (branches.Tail node) = Unit {0}
+HasEntries branches.Return = Unit {0}
+HasEntries (branches.Import name cell) = ⊥
 
 -- a branch as records want it, but that a switch may have more entries
 pub record IsAlmost (types : List Node) (b : Kind) : Type 0 where
@@ -48,14 +55,81 @@ pub record IsAlmost (types : List Node) (b : Kind) : Type 0 where
 -- and with as many as it may have
 pub branch-whole : (types : List Node) (b : Kind) → IsAlmost types b → length (kind_words b) ≤ MAX_ENTRIES
     → IsBranch types b
-branch-whole types (branches.Call node) is few = record { count = refl; words = is.words }
-branch-whole types (branches.Tail node) is few = record { count = refl; words = is.words }
-branch-whole types branches.Return is few = record { count = refl; words = is.words }
+branch-whole types (branches.Call node) is few = record {
+  kind = omega arith;
+  count = refl;
+  words = is.words;
+  named = tt;
+}
+branch-whole types (branches.Tail node) is few = record {
+  kind = omega arith;
+  count = refl;
+  words = is.words;
+  named = tt;
+}
+branch-whole types branches.Return is few = record { kind = omega arith; count = refl; words = is.words; named = tt }
 branch-whole types (branches.Switch places) is few = record {
+  kind = omega arith;
   count = and_from (nat_le 1 (length places)) (nat_le (length places) MAX_ENTRIES)
       (le-leb 1 (length places) (omega (arith, is.entries.0))) (le-leb (length places) MAX_ENTRIES few);
   words = is.words;
+  named = tt;
 }
+branch-whole types (branches.Import name cell) is few = absurd is.entries
+
+-- also in the second version, whatever the data
+pub branch-two : (types : List Node) (size : ℕ) (b : Kind) → IsAlmost types b → length (kind_words b) ≤ MAX_ENTRIES
+    → IsBranchOf Two types (Some size) b
+branch-two types size (branches.Call node) is few = record {
+  is = record { kind = omega arith; count = refl; words = is.words; named = tt };
+  cell = refl;
+}
+branch-two types size (branches.Tail node) is few = record {
+  is = record { kind = omega arith; count = refl; words = is.words; named = tt };
+  cell = refl;
+}
+branch-two types size branches.Return is few = record {
+  is = record { kind = omega arith; count = refl; words = is.words; named = tt };
+  cell = refl;
+}
+branch-two types size (branches.Switch places) is few = record {
+  is = record {
+    kind = omega arith;
+    count = (branch-whole types (branches.Switch places) is few).count;
+    words = is.words;
+    named = tt;
+  };
+  cell = refl;
+}
+branch-two types size (branches.Import name cell) is few = absurd is.entries
+
+-- none is an import, so each cell is within data, whatever its length
+no-import : (types : List Node) (b : Kind) → IsAlmost types b → is_import b ≡ false
+no-import types (branches.Call node) is = refl
+no-import types (branches.Tail node) is = refl
+no-import types branches.Return is = refl
+no-import types (branches.Switch places) is = refl
+no-import types (branches.Import name cell) is = absurd is.entries
+
+pub no-imports : (types : List Node) (bs : List Kind) → All (IsAlmost types) bs → list_any is_import bs ≡ false
+no-imports types [] all = refl
+no-imports types (b ∷ bs) all =
+    rw (no-import types b (All-head (IsAlmost types) b bs all)) (no-imports types bs (All-tail (IsAlmost types) b bs all))
+
+any-cell : (size : ℕ) (b : Kind) → is_import b ≡ false → IsTrue (has_cell size b)
+any-cell size (branches.Call node) plain = refl
+any-cell size (branches.Tail node) plain = refl
+any-cell size branches.Return plain = refl
+any-cell size (branches.Switch places) plain = refl
+any-cell size (branches.Import name cell) plain = absurd cc
+
+pub almost-cells : (types : List Node) (size : ℕ) (bs : List Kind) → All (IsAlmost types) bs
+    → IsTrue (have_cells size bs)
+almost-cells types size [] all = refl
+almost-cells types size (b ∷ bs) all =
+    and_from (has_cell size b) (have_cells size bs)
+    (any-cell size b (no-import types b (All-head (IsAlmost types) b bs all)))
+    (almost-cells types size bs (All-tail (IsAlmost types) b bs all))
 
 -- ---- the places of a switch
 

@@ -14,8 +14,10 @@ use Rattle.cfi_type_table.proofs.Tables.{types_again}
 use Rattle.cfi_aux.specs.declared.fault.AuxFault.TheVariants.{NoRecords, BadRecord}
 use Rattle.cfi_aux.specs.declared.records.Kind.{Kind}
 use Rattle.cfi_aux.specs.declared.records.Kind.TheVariants as branches
-use Rattle.cfi_aux.specs.Module.{AreSpelled, module_in}
-use Rattle.cfi_aux.specs.declared.version.TheConstants.{LATEST}
+use Rattle.cfi_aux.specs.Module.{AreSpelled, parts_in}
+use Rattle.cfi_aux.specs.declared.modules.Module.{Module}
+use Rattle.cfi_aux.specs.Version.{version_for}
+use Rattle.cfi_aux.proofs.VersionLemmas.{records-written}
 use Rattle.cfi_aux.specs.Records.{spelling as records_spelling, IsFunction, IsBranch, AreRecords}
 use Rattle.rv_line.specs.declared.line.Line.{Line}
 use Rattle.rv_names.specs.Names.{is_local, is_seen}
@@ -36,7 +38,7 @@ use Rattle.cfi_made_law.proofs.AsmLemmas.{unless-none, front-none}
 use Rattle.cfi_file_law.specs.Source.{has_records, source_types, source_records, IsFew, IsFirstLong}
 use Rattle.cfi_file_law.proofs.AsmTypeLemmas.{types-good}
 use Rattle.cfi_file_law.proofs.AsmFunctionLemmas.{functions-good}
-use Rattle.cfi_file_law.proofs.AsmKindLemmas.{IsAlmost, branch-whole, branches-good}
+use Rattle.cfi_file_law.proofs.AsmKindLemmas.{IsAlmost, branch-whole, branch-two, no-imports, almost-cells, branches-good}
 use Rattle.cfi_file_law.proofs.LongLemmas.{records-bad}
 
 module _ (text : List ℕ) (object : Object) (is : object_in text ≡ Ok object) where
@@ -99,19 +101,29 @@ module _ (text : List ℕ) (object : Object) (is : object_in text ≡ Ok object)
         (few k d within));
   }
 
+  -- the module that they are with the object
+  abbrev pub source-made : Module
+  source-made = record {
+    object = object;
+    types = source_types text;
+    records = source_records text;
+    cells = almost-cells (source_types text) (length object.static_data) (source_records text).branches almost;
+  }
+
   pub source-spelled : has_records text ≡ true → All IsFew (source_records text).branches
       → AreSpelled object (source_types text) (source_records text)
   source-spelled on few = record {
     table = types;
     types_spelled = types-are on;
-    version = LATEST;
-    good = good on few;
+    version = version_for (source_records text).branches;
+    good = records-written (source_types text) (source_records text) (good on few);
+    cells = almost-cells (source_types text) (length object.static_data) (source_records text).branches almost;
     records_spelled = records-are on;
   }
 
   -- ---- no module
 
-  pub source-bare : has_records text ≡ false → module_in (object_of_file object) ≡ Err NoRecords
+  pub source-bare : has_records text ≡ false → parts_in (object_of_file object) ≡ Err NoRecords
   source-bare off =
       let none : object.types ≡ None =
       ap (λ (o : Object). o.types) (sym parts.1)
@@ -124,6 +136,7 @@ module _ (text : List ℕ) (object : Object) (is : object_in text ≡ Ok object)
   long-switch (branches.Call node) is long = absurd (long (omega arith))
   long-switch (branches.Tail node) is long = absurd (long (omega arith))
   long-switch branches.Return is long = absurd (long (omega arith))
+  long-switch (branches.Import name cell) is long = absurd is.entries
   long-switch (branches.Switch places) is long = (
     places,
     refl,
@@ -140,14 +153,16 @@ module _ (text : List ℕ) (object : Object) (is : object_in text ≡ Ok object)
       (almost k b (slice_get_within all k b there))
 
   pub source-long : has_records text ≡ true → (number : ℕ) → IsFirstLong (source_records text).branches number
-      → module_in (object_of_file object) ≡ Err (BadRecord (length (source_records text).functions + number))
+      → parts_in (object_of_file object) ≡ Err (BadRecord (length (source_records text).functions + number))
   source-long on number first =
       let all = (source_records text).branches in
       let long = long-switch first.item (almost-at first.number first.item first.is) first.fails in
       let there : slice_get all number ≡ Some (branches.Switch long.0) =
       ap (slice_get all) first.here ∙ first.is ∙ ap (λ (b : Kind). Some b) long.1 in
-      let bad = records-bad (source_types text) (source_records text) number long.0
+      let size : ℕ = length object.static_data in
+      let bad = records-bad (source_types text) size (source_records text) number long.0
       (omega (arith, (functions-few file lines clear).count)) ((branches-few file lines clear).count on) functions there
-      (λ i b less at. branch-whole (source_types text) b (almost-at i b at)
-      (first.before i b (omega (arith, less, first.here)) at)) long.2 long.3 in
+      (λ i b less at. branch-two (source_types text) size b (almost-at i b at)
+      (first.before i b (omega (arith, less, first.here)) at)) (no-imports (source_types text) all almost) long.2
+      long.3 in
       rw (types-are on, records-are on, types_again (source_types text) types, bad) refl

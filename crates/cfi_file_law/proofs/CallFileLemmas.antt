@@ -17,8 +17,8 @@ use Rattle.cfi_type_table.specs.Spelling.{AreTypes}
 use Rattle.cfi_aux.specs.Format.{is_length}
 use Rattle.cfi_aux.specs.Module.{AreSpelled}
 use Rattle.cfi_aux.specs.Sound.{IsSoundModule}
-use Rattle.cfi_aux.specs.Records.{AreRecords}
-use Rattle.cfi_aux.specs.declared.version.TheConstants.{LATEST}
+use Rattle.cfi_aux.specs.Records.{AreRecordsIn}
+use Rattle.cfi_aux.specs.declared.version.RecordVersion.TheVariants.{Two}
 use Rattle.cfi_commands.specs.Reading.{IsModuleFile}
 use Rattle.cfi_made_law.specs.Read.{IsReadOf}
 use Rattle.cfi_made_law.proofs.ReadLemmas.{IsFit}
@@ -52,7 +52,7 @@ module _ (text : List ℕ) (call bytes words : ℕ) (size : length text ≡ 4 * 
   abbrev object : Object
   object = call_object text call bytes
 
-  good : AreRecords call_types (call_records bytes)
+  good : AreRecordsIn Two call_types (call_records bytes)
   good = record {
     function_count = omega arith;
     branch_count = omega arith;
@@ -65,11 +65,18 @@ module _ (text : List ℕ) (call bytes words : ℕ) (size : length text ≡ 4 * 
       },
       tt,
     );
-    branches = (record { count = refl; words = tt }, tt);
+    branches = (record { kind = omega arith; count = refl; words = tt; named = tt }, tt);
   }
 
   spelled : AreSpelled object call_types (call_records bytes)
-  spelled = record { table = table; types_spelled = refl; version = LATEST; good = good; records_spelled = refl }
+  spelled = record {
+    table = table;
+    types_spelled = refl;
+    version = Two;
+    good = good;
+    cells = refl;
+    records_spelled = refl;
+  }
 
   symbol : IsSoundSymbol object call_symbol
   symbol = record {

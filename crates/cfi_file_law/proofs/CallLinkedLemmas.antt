@@ -12,7 +12,7 @@ use Rattle.cfi_unit.specs.declared.unit.Unit.{Unit as CodeUnit}
 use Rattle.cfi_unit.specs.Unit.{words_of}
 use Rattle.cfi_unit.proofs.UnitLemmas.{size_pos}
 use Rattle.cfi_unit.proofs.CodeLemmas.{BeginsAt-within}
-use Rattle.cfi_aux.specs.Records.{CanBeWritten, kind_words}
+use Rattle.cfi_aux.specs.Records.{CanBeWritten, list_length}
 use Rattle.cfi_aux.specs.Sound.{IsSoundModule}
 use Rattle.cfi_place.specs.Placed.{bytes_as_words}
 use Rattle.cfi_place.specs.Slots.{ReadFrom, HasSlots}
@@ -39,8 +39,8 @@ written = record {
   functions = omega arith;
   branches = omega arith;
   names = All-cons (λ f. length f.name < 2 ^ 32) _ [] (omega arith) (All-nil (λ f. length f.name < 2 ^ 32));
-  words = All-cons (λ b. length (kind_words b) < 2 ^ 32) _ [] (omega arith)
-      (All-nil (λ b. length (kind_words b) < 2 ^ 32));
+  words = All-cons (λ b. list_length b < 2 ^ 32) _ [] (omega arith)
+      (All-nil (λ b. list_length b < 2 ^ 32));
 }
 
 short : length call_made.object.text < 2 ^ 32

@@ -31,6 +31,7 @@ kept m is = record {
     types_spelled = is.types_spelled;
     version = is.version;
     good = is.good;
+    cells = is.cells;
     records_spelled = is.records_spelled;
   };
 }

@@ -14,3 +14,4 @@ pub mod AsmFunctionLemmas
 pub mod AsmKindLemmas
 pub mod AsmSourceLemmas
 pub mod SourceExampleLemmas
+pub mod StubFileLemmas

@@ -1,14 +1,13 @@
 -- The module of a file that was saved of an instrumented one is proper at its place.
-use Rattle.std.proofs.Common.{◌≡◌, ◌≢◌, ◌∙◌, ℕ, ◌≤◌, List, [], length, Result, Ok, refl, ap, inl, inr, arith}
+use Rattle.std.proofs.Common.{◌≡◌, ◌≢◌, ◌∙◌, ℕ, ◌≤◌, List, [], length, refl, ap, subst, inl, inr, arith}
 use Rattle.std.proofs.lemmas.Bool.{cases_lt}
 use Rattle.std.proofs.lemmas.List.{nil_from_length}
 use Rattle.elf_read.specs.declared.object.Object.{Object}
 use Rattle.elf_read.proofs.FaultLemmas.{one_object}
-use Rattle.cfi_aux.specs.Module.{module_in}
-use Rattle.cfi_aux.specs.declared.fault.AuxFault.{AuxFault}
+use Rattle.cfi_aux.specs.Module.{IsModuleOf}
 use Rattle.cfi_aux.specs.declared.modules.Module.{Module}
 use Rattle.cfi_aux.specs.declared.placed.Placed.{Placed}
-use Rattle.cfi_aux.proofs.ModuleLemmas.{module_again}
+use Rattle.cfi_commands.proofs.ReadingLemmas.{one_module}
 use Rattle.cfi_instr.specs.Output.{IsInstrumented}
 use Rattle.cfi_instr_law.specs.Proper.{IsProper}
 use Rattle.cfi_instr_law.proofs.ProperLemmas.{instrumented-like}
@@ -21,16 +20,11 @@ use Rattle.cfi_made_law.specs.Order.{module_of_file}
 use Rattle.cfi_made_law.proofs.OrderLemmas.{all-by_area}
 use Rattle.cfi_made_law.proofs.SourceLemmas.{ReadIsSound}
 
-same-ok : (r : Result Module AuxFault) (a b : Module) → r ≡ Ok a → r ≡ Ok b → a ≡ b
-same-ok r a b one other = cc
-
 -- a file is one module at most
 pub one-module : (bytes : List ℕ) (a b : Module) → IsModuleFile bytes a → IsModuleFile bytes b → a ≡ b
 one-module bytes a b one other =
-    let same = one_object bytes one.object other.object one.is.kept other.is.kept in
-    let first : module_in one.object ≡ Ok a = module_again one.object a one.whole in
-    let second : module_in other.object ≡ Ok b = module_again other.object b other.whole in
-    same-ok (module_in one.object) a b first (ap module_in same ∙ second)
+    let same : one.object ≡ other.object = one_object bytes one.object other.object one.is.kept other.is.kept in
+    one_module other.object a b (subst (λ (o : Object). IsModuleOf o a) same one.whole) other.whole
 
 -- a text that is not empty has a word
 pub some-word : ReadIsSound → (bytes : List ℕ) (m : Module) → IsModuleFile bytes m → m.object.text ≢ []

@@ -3,7 +3,7 @@
 --     f: lw x1,0(x2)
 --        jal x1,f
 --        jalr x0,0(x1)
-use Rattle.std.specs.Prelude.{ℕ, ℤ, pos, negsuc, false, true, List, [], ◌∷◌, Some}
+use Rattle.std.specs.Prelude.{ℕ, ℤ, pos, negsuc, false, true, List, [], ◌∷◌, Some, refl}
 use Rattle.std.specs.List.{flat_map}
 use Rattle.rv_insn.specs.declared.insn.LoadKind.TheVariants.{Lw}
 use Rattle.elf_read.specs.declared.object.Area.TheVariants as areas
@@ -62,6 +62,7 @@ call_module text call bytes = record {
   object = call_object text call bytes;
   types = call_types;
   records = call_records bytes;
+  cells = refl;
 }
 
 -- the source: its three words, low bytes first
@@ -94,4 +95,5 @@ call_placed = record {
   branches = Return ∷ [];
   types = call_types;
   exports = [];
+  cells = refl;
 }

@@ -1,6 +1,6 @@
 -- That instrumented module linked with itself: each call is led back to its own function, since no other module can
 -- name it, and the checks name the slots 0 and 1.
-use Rattle.std.specs.Prelude.{ℕ, negsuc, false, List, [], ◌∷◌, ◌++◌, Some}
+use Rattle.std.specs.Prelude.{ℕ, negsuc, false, List, [], ◌∷◌, ◌++◌, Some, refl}
 use Rattle.std.specs.List.{flat_map}
 use Rattle.elf_read.specs.declared.object.Object.{Object}
 use Rattle.elf_write.specs.File.{bytes_of}
@@ -55,4 +55,4 @@ linked_object = record {
 }
 
 abbrev pub linked_output : Module
-linked_output = record { object = linked_object; types = linked_types; records = linked_records }
+linked_output = record { object = linked_object; types = linked_types; records = linked_records; cells = refl }

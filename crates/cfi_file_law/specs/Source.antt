@@ -1,5 +1,5 @@
 -- The module that a source says: its object, with the types and the records of its lines.
-use Rattle.std.specs.Prelude.{ℕ, ◌≤◌, Bool, List, length}
+use Rattle.std.specs.Prelude.{◌≡◌, ℕ, ◌≤◌, Bool, List, length}
 use Rattle.cfi_word.specs.declared.limits.TheConstants.{MAX_ENTRIES}
 use Rattle.elf_read.specs.Lists.{IsFirstBreak, own_number}
 use Rattle.elf_read.specs.declared.object.Object.{Object}
@@ -20,7 +20,7 @@ source_file text = file_in (lines_in text)
 abbrev pub has_records : (text : List ℕ) → Bool
 has_records text = (source_file text).records
 
--- the types and the records of its lines, and the module that they are with an object
+-- the types and the records of its lines
 abbrev pub source_types : (text : List ℕ) → List Node
 source_types text = nodes_of (lines_in text)
 
@@ -30,9 +30,11 @@ source_records text = record {
   branches = branches_of (source_file text) (lines_in text);
 }
 
-abbrev pub source_module : (text : List ℕ) → Object → Module
-source_module text object =
-    record { object = object; types = source_types text; records = source_records text }
+-- the module that these are with an object
+pub record IsSourceModule (text : List ℕ) (object : Object) (m : Module) : Type 0 where
+  pub object_is : m.object ≡ object
+  pub types : m.types ≡ source_types text
+  pub records : m.records ≡ source_records text
 
 -- a branch has no more words than a record may: a switch may have more entries in a source
 abbrev pub IsFew : Kind → Type 0

@@ -1,18 +1,21 @@
 //! What the files that the program saves are read as.
 
-ghost use Rattle.std.specs.Prelude.{◌≡◌, ℕ, ◌+◌, ◌<◌, ◌^◌, true, false, List, [], ◌∷◌, length, All, Result, Ok, Err};
+ghost use Rattle.std.specs.Prelude.{◌≡◌, ◌≢◌, ℕ, ◌+◌, ◌<◌, ◌^◌, true, false, List, [], ◌∷◌, length, All, Result, Ok, Err};
 ghost use Rattle.cfi_io.specs.Count.{Rose};
 ghost use Rattle.cfi_io.specs.Seen.{ShelfView};
 ghost use Rattle.cfi_outside.specs.Reading.{IsFound, IsShort};
 ghost use Rattle.cfi_outside.specs.declared.reading.Cause.TheVariants.{TooLong};
 ghost use Rattle.cfi_outside.specs.declared.reading.Unread.{Unread};
 ghost use Rattle.elf_read.specs.Fault.{IsObject};
+ghost use Rattle.cfi_aux.specs.declared.modules.Module.{Module};
 ghost use Rattle.cfi_aux.specs.declared.placed.Placed.{Placed};
 ghost use Rattle.elf_write.specs.File.{bytes_of};
 ghost use Rattle.cfi_instr_law.specs.Example.{loop_room, no_names};
 ghost use Rattle.cfi_instr_law.specs.Proper.{IsMadeAt, IsProper};
 ghost use Rattle.cfi_place.specs.declared.room.Room.{Room};
 ghost use Rattle.cfi_place.specs.Names.{Names};
+ghost use Rattle.cfi_place.specs.Placed.{IsRoom, IsPlaced};
+ghost use Rattle.cfi_instr.specs.Output.{IsInstrumented};
 ghost use Rattle.cfi_commands.specs.Assembling.{IsAssembled};
 ghost use Rattle.cfi_verify.specs.Faults.{Verifies};
 ghost use Rattle.cfi_commands.specs.Reading.{IsModuleFile, IsFileFault};
@@ -20,10 +23,12 @@ ghost use Rattle.cfi_commands.specs.declared.refusal.Refusal.TheVariants.{Aux};
 ghost use Rattle.cfi_aux.specs.declared.fault.AuxFault.TheVariants.{NoRecords, BadRecord};
 ghost use Rattle.cfi_commands.specs.Instrumenting.{IsInstrumentedFile};
 ghost use Rattle.cfi_commands.specs.Linking.{IsLinkedFile};
+ghost use Rattle.cfi_commands.specs.Stubbing.{IsStubbedFile};
 ghost use Rattle.cfi_link.specs.Linked.{AreModules, Linked};
 ghost use Rattle.cfi_made_law.specs.Order.{object_of_file, module_of_file};
+ghost use Rattle.cfi_aux.specs.declared.modules.Module.{Module};
 ghost use Rattle.cfi_made_law.specs.Read.{IsReadOf};
-ghost use Rattle.cfi_file_law.specs.Source.{has_records, source_records, source_module, IsFew, IsFirstLong};
+ghost use Rattle.cfi_file_law.specs.Source.{has_records, source_records, IsSourceModule, IsFew, IsFirstLong};
 ghost use Rattle.cfi_file_law.specs.Saved.{AreBytes, IsSavedAt};
 ghost use Rattle.cfi_file_law.specs.Told.{Tells};
 ghost use Rattle.cfi_file_law.specs.Example.{call_source, call_made, call_placed};
@@ -78,6 +83,27 @@ pub fn linked_are_read()
     read_can_be_written();
 }
 
+/// The file that `stub` saves, if it is short enough to be read, is read as the module that was made.
+pub fn stubbed_are_read()
+    ensures { (bytes file : List ℕ) → AreBytes bytes → (is : IsStubbedFile bytes file) →
+        IsShort file → IsModuleFile file (module_of_file is.out) }
+{
+    what_is_read_is_sound();
+    written_is_read();
+}
+
+/// What `stub` makes of a file has, once it is instrumented and placed, no fault but jumps that lead elsewhere, whatever
+/// modules are loaded.
+pub fn stubbed_are_proper()
+    ensures { (bytes file : List ℕ) (is : IsStubbedFile bytes file) (made : Module) (room : Room)
+        (names : Names) (placed : Placed) → is.out.object.text ≢ [] →
+        IsInstrumented is.out made → IsRoom room → IsPlaced made room names placed →
+        (loaded : List Placed) → IsProper placed loaded }
+{
+    what_is_read_is_sound();
+    instrumented_are_proper();
+}
+
 /// The file that `asm` saves, if it is short enough to be read, is read as the object that was made.
 pub fn assembled_are_read()
     ensures { (text file : List ℕ) → IsShort text → (is : IsAssembled text file) →
@@ -95,7 +121,7 @@ pub fn assembled_are_modules()
         has_records text ≡ false → IsFileFault file (Aux NoRecords) }
     ensures module { (text file : List ℕ) → IsShort text → (is : IsAssembled text file) →
         IsShort file → has_records text ≡ true → All IsFew (source_records text).branches →
-        IsModuleFile file (module_of_file (source_module text is.object)) }
+        (m : Module) × IsSourceModule text (object_of_file is.object) m × IsModuleFile file m }
     ensures long { (text file : List ℕ) → IsShort text → IsAssembled text file → IsShort file →
         has_records text ≡ true → (number : ℕ) → IsFirstLong (source_records text).branches number →
         IsFileFault file (Aux (BadRecord (length (source_records text).functions + number))) }

@@ -1,8 +1,8 @@
-//! What the files that `asm`, `instrument` and `link` save are read as.
+//! What the files that `asm`, `instrument`, `stub` and `link` save are read as.
 //!
 //! Stands on `cfi_commands`, `cfi_outside`, `cfi_made_law`, `cfi_instr_law` and what these stand on; nothing stands on
 //! it. Proved: a file that a shelf tells is read as it is where it is short enough, and else refused as too long; such
-//! a file that `asm` saves is read as the object that was made, and one that `instrument` or `link` saves as the
+//! a file that `asm` saves is read as the object that was made, and one that `instrument`, `stub` or `link` saves as the
 //! module, with relocations of text before those of data, and an instrumented one has no fault at its place but jumps
 //! that lead elsewhere; one that `asm` saves of a source with records is the module of the source's lines, or the
 //! record of its first switch with too many entries is a bad one; a module with a masked access, a call and a check,

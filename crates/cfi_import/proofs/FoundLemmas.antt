@@ -58,7 +58,7 @@ marked-one : (marks : List Bool) (reloc : Reloc) (number : ℕ) → number < len
     → mark_of (marked marks reloc) number ≡ (mark_of marks number || leads_to number reloc)
 marked-one marks reloc number lt =
     elim (cases_Bool (leads reloc.kind)) [
-      | inl yes ↦ rw yes (mark-one marks reloc.symbol number lt)
+      | inl here ↦ rw here (mark-one marks reloc.symbol number lt)
       | inr other ↦ rw other (or-false (mark_of marks number))
     ]
 
@@ -90,7 +90,7 @@ found-from relocs marks count n (s ∷ symbols) le are =
     ap (λ (b : Bool). is_wanted s && b) (are n (omega arith)) in
     let rest = found-from relocs marks count (n + 1) symbols (omega arith) are in
     elim (cases_Bool (is_import relocs (n, s))) [
-      | inl yes ↦ rw same (rw yes (ap (λ (found : List (ℕ × Symbol)). (n, s) ∷ found) rest))
+      | inl here ↦ rw same (rw here (ap (λ (found : List (ℕ × Symbol)). (n, s) ∷ found) rest))
       | inr other ↦ rw same (rw other rest)
     ]
 
@@ -110,7 +110,7 @@ none-before passes number n (s ∷ symbols) lt =
     let rest = none-before passes number (n + 1) symbols (omega arith) in
     let apart : eqb n number ≡ false = grind (arith) in
     elim (cases_Bool (passes (n, s))) [
-      | inl yes ↦ rw yes (rw apart (rw rest refl))
+      | inl here ↦ rw here (rw apart (rw rest refl))
       | inr other ↦ rw other rest
     ]
 
@@ -128,15 +128,15 @@ places-are-from passes (s ∷ symbols) place n zero =
     let last : place ≡ place + 0 = omega arith in
     let rest = none-before passes (n + 0) (n + 1) symbols (omega arith) in
     elim (cases_Bool (passes (n, s))) [
-      | inl yes ↦ rw yes (rw one (ap (λ (i : ℕ). Some i) last))
+      | inl here ↦ rw here (rw one (ap (λ (i : ℕ). Some i) last))
       | inr other ↦ rw other (rw rest refl)
     ]
 places-are-from passes (s ∷ symbols) place n (suc k) =
     let apart : eqb n (n + suc k) ≡ false = grind (arith) in
     let same : n + 1 + k ≡ n + suc k = omega arith in
     elim (cases_Bool (passes (n, s))) [
-      | inl yes ↦
-          rw yes (rw apart (places-are-from passes symbols (place + 1) (n + 1) k
+      | inl here ↦
+          rw here (rw apart (places-are-from passes symbols (place + 1) (n + 1) k
           ∙ twice place (place_of (filter passes (enumerate_from (n + 1) symbols)) (n + 1 + k))
           ∙ ap (λ (m : ℕ). option_map (λ i. place + i)
           (option_map suc (place_of (filter passes (enumerate_from (n + 1) symbols)) m))) same))
@@ -148,11 +148,35 @@ places-are-from passes (s ∷ symbols) place n (suc k) =
 
 zero-more : (o : Option ℕ) → option_map (λ i. 0 + i) o ≡ o
 zero-more None = refl
-zero-more (Some i) = refl
+zero-more (Some i) = let same : 0 + i ≡ i = omega arith in ap (λ (n : ℕ). Some n) same
 
 pub places-are : (passes : ℕ × Symbol → Bool) (symbols : List Symbol) (number : ℕ)
     → place_in (places_from passes 0 0 symbols) number
     ≡ place_of (filter passes (enumerate_from 0 symbols)) number
 places-are passes symbols number =
+    let same : 0 + number ≡ number = omega arith in
     places-are-from passes symbols 0 0 number
     ∙ zero-more (place_of (filter passes (enumerate_from 0 symbols)) (0 + number))
+    ∙ ap (place_of (filter passes (enumerate_from 0 symbols))) same
+
+-- ---- an object's imports, by lists that are equal to its own
+
+pub found-by : (object : Object) (symbols : List Symbol) (relocs : List Reloc) (marks : List Bool)
+    → symbols ≡ object.symbols → relocs ≡ object.relocs → marks ≡ marks_of (length symbols) relocs
+    → filter (is_found marks) (enumerate_from 0 symbols) ≡ imports_of object
+found-by object symbols relocs marks same others are =
+    let own : marks ≡ marks_of (length object.symbols) object.relocs =
+    are
+    ∙ ap (λ (xs : List Symbol). marks_of (length xs) relocs) same
+    ∙ ap (λ (rs : List Reloc). marks_of (length object.symbols) rs) others in
+    ap (λ (xs : List Symbol). filter (is_found marks) (enumerate_from 0 xs)) same
+    ∙ ap (λ (ms : List Bool). filter (is_found ms) (enumerate_from 0 object.symbols)) own
+    ∙ found-are object
+
+pub places-by : (passes : ℕ × Symbol → Bool) (symbols : List Symbol) (imports : List (ℕ × Symbol))
+    (places : List (Option ℕ)) → filter passes (enumerate_from 0 symbols) ≡ imports
+    → places ≡ places_from passes 0 0 symbols → (number : ℕ) → place_in places number ≡ place_of imports number
+places-by passes symbols imports places are is number =
+    ap (λ (ps : List (Option ℕ)). place_in ps number) is
+    ∙ places-are passes symbols number
+    ∙ ap (λ (xs : List (ℕ × Symbol)). place_of xs number) are

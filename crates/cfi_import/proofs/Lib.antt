@@ -2,3 +2,4 @@ pub mod StartLemmas
 pub mod FoundLemmas
 pub mod SizeLemmas
 pub mod MadeLemmas
+pub mod PartLemmas

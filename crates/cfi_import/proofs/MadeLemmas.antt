@@ -1,35 +1,30 @@
 -- What making stubs takes for granted holds of a sound module whose stubs pass no limit.
-use Rattle.std.proofs.Common.{◌≡◌, ◌∙◌, ℕ, zero, suc, ◌+◌, ◌*◌, ◌%◌, ◌<◌, ◌≤◌, ◌^◌, eqb, IsTrue, List, [], ◌∷◌, ◌++◌, length, map, All, Option, Some, None, option_map, refl, sym, ap, subst, inl, inr, arith, length-append}
+use Rattle.std.proofs.Common.{◌≡◌, ℕ, suc, ◌+◌, ◌<◌, ◌≤◌, ◌^◌, eqb, List, [], ◌∷◌, ◌++◌, length, map, All, Option, Some, None, option_map, refl, sym, ap, subst, inl, inr, arith, length-append}
 use Rattle.std.specs.List.{enumerate_from}
-use Rattle.std.proofs.Math.Path.{fun_ext}
-use Rattle.std.proofs.lemmas.Bool.{cases_Bool, and_from}
+use Rattle.std.proofs.lemmas.Bool.{cases_Bool}
+use Rattle.std.proofs.lemmas.List.{length-map}
 use Rattle.std.proofs.lemmas.List.Elements.{All-nil, All-cons, All-append, All-map, All-weaker, All-filter, All-head, All-tail}
-use Rattle.cfi_word.specs.declared.limits.TheConstants.{MAX_SYMBOLS, MAX_NAME}
+use Rattle.cfi_word.specs.declared.limits.TheConstants.{MAX_SYMBOLS}
 use Rattle.elf_read.specs.Places.{joined}
 use Rattle.elf_read.specs.Sound.{is_exported, HasSymbol, IsSoundSymbol, IsSoundReloc}
 use Rattle.elf_read.specs.declared.object.Object.{Object}
 use Rattle.elf_read.specs.declared.object.Symbol.{Symbol}
-use Rattle.elf_read.specs.declared.object.Reloc.{Reloc}
-use Rattle.cfi_type_table.specs.Node.{Node}
+use Rattle.cfi_type_table.specs.declared.kind.TheConstants.{VOID, FUNC}
+use Rattle.cfi_type_table.specs.Node.{Node, make_node}
 use Rattle.cfi_type_table.proofs.Tables.{small_fields}
-use Rattle.cfi_aux.proofs.HaveCells.{cell-from, cells-append, cells-more}
-use Rattle.cfi_aux.specs.Cells.{have_cells}
-use Rattle.cfi_aux.specs.Records.{CanBeWritten, list_length, padding}
+use Rattle.cfi_aux.specs.Records.{CanBeWritten, list_length}
 use Rattle.cfi_aux.specs.Sound.{IsSoundModule}
 use Rattle.cfi_aux.specs.declared.modules.Module.{Module}
-use Rattle.cfi_aux.specs.declared.records.Function.{Function}
-use Rattle.cfi_aux.specs.declared.records.Kind.{Kind}
 use Rattle.cfi_aux.specs.declared.records.Records.{Records}
 use Rattle.cfi_limits.proofs.LimitLemmas.{AreFew, few}
 use Rattle.cfi_import.specs.declared.start.Start.{Start}
-use Rattle.cfi_import.specs.declared.start.TheConstants.{STUB_BYTES, CELL_BYTES, STUB_SYMBOLS}
 use Rattle.cfi_import.specs.Imports.{is_import, imports_of, names_of, place_of}
-use Rattle.cfi_import.specs.Start.{first_shared, start_of, cell_offset}
+use Rattle.cfi_import.specs.Start.{first_shared, start_of}
 use Rattle.cfi_import.specs.Stubs.{stub_bytes, stub_function, stub_kind, stub_nodes}
-use Rattle.cfi_import.specs.Stubbed.{Parts, parts_of, with_cells, with_symbols, with_relocs, with_stubs_for, parts_with, part_sizes, stubbed_parts, stubs_pass}
+use Rattle.cfi_import.specs.Stubbed.{Parts, parts_of, with_stubs_for, parts_with, part_sizes, stubbed_parts}
 use Rattle.cfi_import.specs.inner.Room.{IsSmall, HasRoom, IsSmallNumber, IsPlace}
-use Rattle.cfi_import.specs.inner.Made.{IsReady, AreWritable, AreRecordsWith, IsObjectWith}
-use Rattle.cfi_import.proofs.SizeLemmas.{length-symbols, length-relocs, length-cells, length-texts, length-each}
+use Rattle.cfi_import.specs.inner.Made.{IsReady, AreWritable, AreRecordsWith}
+use Rattle.cfi_import.proofs.SizeLemmas.{length-symbols, length-cells, length-texts}
 
 -- ---- one import at least
 
@@ -46,7 +41,7 @@ shared-within [] = omega arith
 shared-within (s ∷ symbols) =
     let rest = shared-within symbols in
     elim (cases_Bool (is_exported s.binding)) [
-      | inl yes ↦ rw yes (omega arith)
+      | inl here ↦ rw here (omega arith)
       | inr other ↦ rw other (omega (arith, rest))
     ]
 
@@ -108,7 +103,7 @@ is-place start [] number same = tt
 is-place start (one ∷ imports) number same =
     let before = record start { count = length imports } in
     elim (cases_Bool (eqb one.0 number)) [
-      | inl yes ↦ rw yes (omega (arith, same))
+      | inl here ↦ rw here (omega (arith, same))
       | inr other ↦
           rw other (place-more (length imports) before start (place_of imports number) same
           (is-place before imports number refl))
@@ -138,6 +133,9 @@ is-ready m imports find sound some limits finds =
     }
 
 -- ---- what is written
+
+pub length-names : (imports : List (ℕ × Symbol)) → length (names_of imports) ≡ length imports
+length-names imports = length-map imports (λ one. one.1.name)
 
 -- the names of imports are those of symbols
 enumerated : (P : Symbol → Type 0) (n : ℕ) (symbols : List Symbol) → All P symbols
@@ -214,91 +212,13 @@ are-writable m types records sound good some limits is are =
       fields = subst (All (λ x. length x.fields < 2 ^ 32)) (sym is)
           (All-append (λ x. length x.fields < 2 ^ 32) m.types (stub_nodes start) (small_fields m.types sound.table)
           (nodes_small start));
-      records = can-write start names m.records records good are short (omega (arith, functions, few.functions))
+      written = can-write start names m.records records good are short (omega (arith, functions, few.functions))
           (omega (arith, branches, few.branches));
     }
   where
     nodes_small : (start : Start) → All (λ x. length x.fields < 2 ^ 32) (stub_nodes start)
     nodes_small start =
-        All-cons (λ x. length x.fields < 2 ^ 32) _ _ (omega arith)
-        (All-cons (λ x. length x.fields < 2 ^ 32) _ _ (omega arith) (All-nil (λ (x : Node). length x.fields < 2 ^ 32)))
-
--- ---- cells
-
-cell-whole : (n place : ℕ) → (n + padding n + CELL_BYTES * place) % 4 ≡ 0
-cell-whole n place = omega arith
-
--- the cells of stubs lie in the data
-stub-cells : (m : Module) (count n : ℕ) (names : List (List ℕ)) (size : ℕ) → n + length names ≡ count
-    → size ≡ (start_of m count).static_data + CELL_BYTES * count
-    → IsTrue (have_cells size (map (stub_kind (start_of m count)) (enumerate_from n names)))
-stub-cells m count n [] size all is = refl
-stub-cells m count n (name ∷ names) size all is =
-    let start = start_of m count in
-    and_from _ _
-    (cell-from size (cell_offset start n) (cell-whole (length m.object.static_data) n) (omega (arith, all, is)))
-    (stub-cells m count (n + 1) names size (omega (arith, all)) is)
-
-pub cells-made : (m : Module) (imports : List (ℕ × Symbol)) (records : Records) (static_data : List ℕ)
-    → static_data ≡ with_cells (length imports) m.object.static_data
-    → AreRecordsWith (start_of m (length imports)) (names_of imports) m.records records
-    → IsTrue (have_cells (length static_data) records.branches)
-cells-made m imports records static_data is are =
-    let start = start_of m (length imports) in
-    let names = names_of imports in
-    let size = ap length is ∙ length-cells (length imports) m.object.static_data in
-    let count = length-map-names imports in
-    subst (λ (kinds : List Kind). IsTrue (have_cells (length static_data) kinds)) (sym are.branches)
-    (cells-append (length static_data) m.records.branches (map (stub_kind start) (enumerate_from 0 names))
-    (cells-more (length m.object.static_data) (length static_data) (omega (arith, size)) m.records.branches m.cells)
-    (stub-cells m (length imports) 0 names (length static_data) (omega (arith, count)) size))
-  where
-    length-map-names : (imports : List (ℕ × Symbol)) → length (names_of imports) ≡ length imports
-    length-map-names [] = refl
-    length-map-names (one ∷ imports) = ap suc (length-map-names imports)
-
--- ---- the parts
-
-unfoldable parts_by : (text static_data : List ℕ) (symbols : List Symbol) (relocs : List Reloc) (types : List Node)
-    (functions : List Function) (branches : List Kind) → Parts
-parts_by text static_data symbols relocs types functions branches = record {
-  text = text;
-  static_data = static_data;
-  symbols = symbols;
-  relocs = relocs;
-  types = types;
-  functions = functions;
-  branches = branches;
-}
-
--- parts that are equal one by one
-pub same_parts : (a b : Parts) → a.text ≡ b.text → a.static_data ≡ b.static_data → a.symbols ≡ b.symbols
-    → a.relocs ≡ b.relocs → a.types ≡ b.types → a.functions ≡ b.functions → a.branches ≡ b.branches → a ≡ b
-same_parts a b e1 e2 e3 e4 e5 e6 e7 =
-    let here : a ≡ parts_by a.text a.static_data a.symbols a.relocs a.types a.functions a.branches =
-    unfold parts_by in refl in
-    let there : b ≡ parts_by b.text b.static_data b.symbols b.relocs b.types b.functions b.branches =
-    unfold parts_by in refl in
-    cc
-
--- relocations by places that are those of the imports
-pub relocs_by : (start : Start) (find : ℕ → Option ℕ) (imports : List (ℕ × Symbol)) (relocs : List Reloc)
-    → ((number : ℕ) → find number ≡ place_of imports number)
-    → with_relocs start find relocs ≡ with_relocs start (place_of imports) relocs
-relocs_by start find imports relocs finds =
-    ap (λ (f : ℕ → Option ℕ). with_relocs start f relocs) (fun_ext finds)
-
--- the object and the records with stubs have the parts of the module with stubs
-pub parts-made : (m out : Module) (imports : List (ℕ × Symbol)) (find : ℕ → Option ℕ) → 0 < length imports
-    → ((number : ℕ) → find number ≡ place_of imports number)
-    → out.types ≡ m.types ++ stub_nodes (start_of m (length imports))
-    → AreRecordsWith (start_of m (length imports)) (names_of imports) m.records out.records
-    → IsObjectWith (start_of m (length imports)) find out.types out.records m.object out.object
-    → parts_of out ≡ parts_with m imports
-parts-made m out imports find some finds types records object =
-    same_parts (parts_of out)
-    (with_stubs_for (start_of m (length imports)) (place_of imports) (names_of imports) (parts_of m))
-    object.text object.static_data object.symbols
-    (object.relocs ∙ relocs_by (start_of m (length imports)) find imports m.object.relocs finds)
-    types records.functions records.branches
-    ∙ sym (parts-some m imports some)
+        All-cons (λ x. length x.fields < 2 ^ 32) (make_node VOID []) (make_node FUNC (start.types ∷ []) ∷ [])
+        (omega arith)
+        (All-cons (λ x. length x.fields < 2 ^ 32) (make_node FUNC (start.types ∷ [])) [] (omega arith)
+        (All-nil (λ (x : Node). length x.fields < 2 ^ 32)))

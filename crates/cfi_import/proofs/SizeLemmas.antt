@@ -51,11 +51,13 @@ length-symbols start symbols =
     let before = take start.symbols symbols in
     let after = drop start.symbols symbols in
     let added = joined (stub_symbols start) start.count in
-    let one = length-append before (added ++ after) in
-    let two = length-append added after in
+    let one = length-append (before ++ added) after in
+    let two = length-append before added in
     let three = length-joined (stub_symbols start) STUB_SYMBOLS start.count (λ place. refl) in
     let four = length-parts start.symbols symbols in
-    omega (arith, one, two, three, four)
+    let sum : length (before ++ added ++ after) ≡ length symbols + STUB_SYMBOLS * start.count =
+    omega (arith, one, two, three, four) in
+    sum
 
 pub length-relocs : (start : Start) (find : ℕ → Option ℕ) (relocs : List Reloc)
     → length (with_relocs start find relocs) ≡ length relocs + 2 * start.count
@@ -64,24 +66,28 @@ length-relocs start find relocs =
     let before = map (moved start find) (take n relocs) in
     let after = map (moved start find) (drop n relocs) in
     let added = joined (stub_relocs start) start.count in
-    let one = length-append before (added ++ after) in
-    let two = length-append added after in
+    let one = length-append (before ++ added) after in
+    let two = length-append before added in
     let three = length-joined (stub_relocs start) 2 start.count (λ place. refl) in
     let four = length-parts n relocs in
     let five = length-map (take n relocs) (moved start find) in
     let six = length-map (drop n relocs) (moved start find) in
-    omega (arith, one, two, three, four, five, six)
+    let sum : length (before ++ added ++ after) ≡ length relocs + 2 * start.count =
+    omega (arith, one, two, three, four, five, six) in
+    sum
 
 pub length-cells : (count : ℕ) (bytes : List ℕ)
     → length (with_cells count bytes) ≡ length bytes + padding (length bytes) + CELL_BYTES * count
 length-cells count bytes =
-    let zeros = replicate (padding (length bytes)) 0 in
-    let cells = replicate (CELL_BYTES * count) 0 in
-    let one = length-append bytes (zeros ++ cells) in
-    let two = length-append zeros cells in
-    let three = length-replicate (padding (length bytes)) 0 in
-    let four = length-replicate (CELL_BYTES * count) 0 in
-    omega (arith, one, two, three, four)
+    let zeros : List ℕ = replicate (padding (length bytes)) 0 in
+    let cells : List ℕ = replicate (CELL_BYTES * count) 0 in
+    let one = length-append (bytes ++ zeros) cells in
+    let two = length-append bytes zeros in
+    let three = length-replicate {A = ℕ} (padding (length bytes)) 0 in
+    let four = length-replicate {A = ℕ} (CELL_BYTES * count) 0 in
+    let sum : length (bytes ++ zeros ++ cells) ≡ length bytes + padding (length bytes) + CELL_BYTES * count =
+    omega (arith, one, two, three, four) in
+    sum
 
 -- what each name adds
 pub length-each : {T : Type 0} (add : ℕ × List ℕ → T) (old : List T) (imports : List (ℕ × Symbol))

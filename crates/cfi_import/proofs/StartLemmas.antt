@@ -20,16 +20,16 @@ or-false false = refl
 
 text_end-push : (relocs : List Reloc) (r : Reloc)
     → text_end (relocs ++ r ∷ []) ≡ end_after (text_end relocs) (length relocs + 1) r.area
-text_end-push [] r = elim (cases_Bool (of_text r)) [ inl yes ↦ rw yes refl | inr other ↦ rw other refl ]
+text_end-push [] r = elim (cases_Bool (of_text r)) [ inl here ↦ rw here refl | inr other ↦ rw other refl ]
 text_end-push (x ∷ relocs) r =
     let rest = text_end-push relocs r in
     let any = list_any-append of_text (x ∷ relocs) (r ∷ []) in
     elim (cases_Bool (of_text r)) [
-      | inl yes ↦
+      | inl here ↦
           let there : list_any of_text (x ∷ (relocs ++ r ∷ [])) ≡ true =
-          any ∙ rw yes (or-true (list_any of_text (x ∷ relocs))) in
-          let last : text_end (relocs ++ r ∷ []) ≡ length relocs + 1 = rest ∙ rw yes refl in
-          rw there (rw yes (omega (arith, last)))
+          any ∙ rw here (or-true (list_any of_text (x ∷ relocs))) in
+          let last : text_end (relocs ++ r ∷ []) ≡ length relocs + 1 = rest ∙ rw here refl in
+          rw there (rw here (omega (arith, last)))
       | inr other ↦
           let same : list_any of_text (x ∷ (relocs ++ r ∷ [])) ≡ list_any of_text (x ∷ relocs) =
           any ∙ rw other (or-false (list_any of_text (x ∷ relocs))) in
@@ -52,6 +52,6 @@ text_end-within [] = omega arith
 text_end-within (x ∷ relocs) =
     let rest = text_end-within relocs in
     elim (cases_Bool (list_any of_text (x ∷ relocs))) [
-      | inl yes ↦ rw yes (omega (arith, rest))
+      | inl here ↦ rw here (omega (arith, rest))
       | inr other ↦ rw other (omega arith)
     ]

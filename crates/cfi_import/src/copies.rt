@@ -22,10 +22,7 @@ pub fn copied_bytes(alloc: Global, bytes: &Bytes) -> Result<Bytes, AllocError>
 }
 
 /// The same bytes, where there are any.
-pub fn copied_section(
-    alloc: Global,
-    section: &Option<Bytes>,
-) -> Result<Option<Bytes>, AllocError>
+pub fn copied_section(alloc: Global, section: &Option<Bytes>) -> Result<Option<Bytes>, AllocError>
     ensures { IfOk result (λ made. made ≡ section.now) }
 {
     match section {
@@ -72,10 +69,7 @@ fn copied_function(alloc: Global, function: &Function) -> Result<Function, Alloc
 }
 
 /// The same functions.
-pub fn copied_functions(
-    alloc: Global,
-    functions: &[Function],
-) -> Result<Vec<Function>, AllocError>
+pub fn copied_functions(alloc: Global, functions: &[Function]) -> Result<Vec<Function>, AllocError>
     ensures { IfOk result (λ made. made.items ≡ functions.now) }
 {
     let mut made = Vec::with_capacity(alloc, functions.len())?;

@@ -30,7 +30,11 @@ pub fn leads(kind: u32) -> bool
 fn led_to(reloc: &Reloc) -> Option<u32>
     ensures { result ≡ led_to reloc.now }
 {
-    if leads(reloc.kind) { reloc.symbol } else { None }
+    if leads(reloc.kind) {
+        reloc.symbol
+    } else {
+        None
+    }
 }
 
 // Marks the symbol that a call or a jump leads to.

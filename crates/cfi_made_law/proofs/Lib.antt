@@ -18,3 +18,8 @@ pub mod AsmExactLemmas
 pub mod AsmRelocLemmas
 pub mod AsmSymbolLemmas
 pub mod AsmWholeLemmas
+pub mod BetweenLemmas
+pub mod StubLemmas
+pub mod StubWholeLemmas
+pub mod StubRecordLemmas
+pub mod StubFitLemmas

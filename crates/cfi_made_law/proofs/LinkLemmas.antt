@@ -141,7 +141,7 @@ shifted-small by n = omega arith
 shifted-is : (by n : ℕ) → by + n < 2 ^ 32 → shifted by n ≡ by + n
 shifted-is by n small = omega (arith, small)
 
-function-left : (old more : List Node) (f : Function) → IsFunction old f → IsFunction (old ++ more) f
+pub function-left : (old more : List Node) (f : Function) → IsFunction old f → IsFunction (old ++ more) f
 function-left old more f is = record {
   offset = is.offset;
   length = is.length;
@@ -172,7 +172,7 @@ function-right start old more f same whole room is = record {
   name = is.name;
 }
 
-branch-left : (old more : List Node) (b : Kind) → IsBranch old b → IsBranch (old ++ more) b
+pub branch-left : (old more : List Node) (b : Kind) → IsBranch old b → IsBranch (old ++ more) b
 branch-left old more (branches.Call node) is = record {
   kind = is.kind;
   count = is.count;

@@ -1,115 +1,38 @@
--- A module with stubs breaks no rule of objects, and passes no limit.
-use Rattle.std.proofs.Common.{◌≡◌, ◌∙◌, ℕ, zero, suc, ◌+◌, ◌*◌, ◌%◌, ◌<◌, ◌≤◌, ◌^◌, true, false, List, [], ◌∷◌, ◌++◌, length, take, drop, get_or, map, All, Option, Some, None, refl, sym, ap, subst, inl, inr, arith, length-append}
-use Rattle.std.specs.List.{AllPairs, AllByRecursion}
+-- The parts of a module with stubs break no rule.
+use Rattle.std.proofs.Common.{◌≡◌, ◌∙◌, ℕ, ◌+◌, ◌*◌, ◌%◌, ◌<◌, ◌≤◌, ◌&&◌, Bool, true, false, ltb, List, [], ◌∷◌, ◌++◌, length, take, drop, map, All, Option, Some, None, option_map, refl, sym, ap, subst, inl, inr, arith, length-append, append_assoc}
+use Rattle.std.specs.List.{AllPairs}
+use Rattle.std.specs.Str.{bytes_eq}
 use Rattle.std.proofs.lemmas.Bool.{cases_Bool}
-use Rattle.std.proofs.lemmas.List.{take-append-drop}
-use Rattle.std.proofs.lemmas.List.Kept.{AllPairs-cons}
-use Rattle.std.proofs.lemmas.List.Elements.{All-nil, All-cons, All-head, All-tail, All-append, All-map, All-take, All-weaker, All-from_recursion, recursion_from_All}
-use Rattle.cfi_word.specs.declared.limits.TheConstants.{MAX_SYMBOLS}
+use Rattle.std.proofs.lemmas.Str.{IsUtf8-nil, is_utf8-from_IsUtf8}
+use Rattle.std.proofs.lemmas.List.Elements.{All-nil, All-cons, All-append, All-map, All-weaker, All-from_recursion, recursion_from_All}
+use Rattle.cfi_word.specs.declared.limits.TheConstants.{MAX_NODES}
 use Rattle.elf_read.specs.Places.{joined}
-use Rattle.elf_read.specs.Relocation.{is_known, is_of_instruction, field_size}
-use Rattle.elf_read.specs.Sound.{are_rivals, IsInsideArea, HasField, HasSymbol, IsSoundSymbol, IsSoundReloc, IsSoundObject}
-use Rattle.elf_read.specs.declared.object.Area.{Area}
+use Rattle.elf_read.specs.Relocation.{is_known, is_of_data, is_of_instruction, field_size}
+use Rattle.elf_read.specs.Sound.{is_exported, is_defined, are_rivals, IsInsideArea, HasField, HasSymbol, IsSoundSymbol, IsSoundReloc, IsSoundObject}
 use Rattle.elf_read.specs.declared.object.Area.TheVariants as areas
-use Rattle.elf_read.specs.declared.object.Binding.{Binding}
-use Rattle.elf_read.specs.declared.object.Binding.TheVariants as bindings
 use Rattle.elf_read.specs.declared.object.Place.{Place}
 use Rattle.elf_read.specs.declared.object.Place.TheVariants as places
 use Rattle.elf_read.specs.declared.object.Object.{Object}
 use Rattle.elf_read.specs.declared.object.Symbol.{Symbol}
 use Rattle.elf_read.specs.declared.object.Reloc.{Reloc}
 use Rattle.elf_read.specs.declared.relocation.TheConstants.{HI20, LO12_I}
-use Rattle.cfi_type_table.specs.Node.{Node}
+use Rattle.cfi_type_table.specs.declared.kind.TheConstants.{VOID, FUNC}
+use Rattle.cfi_type_table.specs.Node.{Node, make_node}
 use Rattle.cfi_type_table.specs.Kind.{nodes_of}
 use Rattle.cfi_type_table.specs.Spelling.{IsNode, NamesBelow, AreTypes}
+use Rattle.cfi_aux.specs.Records.{padding}
 use Rattle.cfi_aux.specs.Sound.{IsSoundModule}
 use Rattle.cfi_aux.specs.declared.modules.Module.{Module}
-use Rattle.cfi_limits.proofs.LimitLemmas.{AreFew, few}
 use Rattle.cfi_import.specs.declared.start.Start.{Start}
-use Rattle.cfi_import.specs.Imports.{leads, imports_of, names_of, place_of}
-use Rattle.cfi_import.specs.Start.{start_of, stub_offset, cell_offset, text_end}
+use Rattle.cfi_import.specs.declared.start.TheConstants.{STUB_BYTES, CELL_BYTES, STUB_SYMBOLS}
+use Rattle.cfi_import.specs.Imports.{leads, place_of}
+use Rattle.cfi_import.specs.Start.{start_of, stub_offset, cell_offset, cell_symbol, text_end}
 use Rattle.cfi_import.specs.Stubs.{stub_bytes, stub_nodes, unnamed, stub_symbols, cell_reloc, stub_relocs, shifted, led, new_number, moved}
-use Rattle.cfi_import.specs.Stubbed.{Parts, parts_of, with_symbols, with_relocs, parts_with, part_sizes, stubbed_parts, stubs_pass, IsStubbed}
+use Rattle.cfi_import.specs.Stubbed.{with_cells, with_symbols, with_relocs}
 use Rattle.cfi_import.specs.inner.Room.{IsPlace}
 use Rattle.cfi_import.proofs.SizeLemmas.{length-symbols, length-cells, length-texts}
 use Rattle.cfi_import.proofs.MadeLemmas.{shared-within, is-place}
-use Rattle.cfi_made_law.proofs.ReadLemmas.{IsSmall}
-
--- ---- lists with something added in between
-
--- each of what several add
-all-joined : {T : Type 0} (P : T → Type 0) (add : ℕ → List T) (count : ℕ)
-    → ((place : ℕ) → place < count → All P (add place)) → All P (joined add count)
-all-joined P add zero each = All-nil P
-all-joined P add (suc count) each =
-    All-append P (joined add count) (add count) (all-joined P add count (λ place lt. each place (omega (arith, lt))))
-    (each count (omega arith))
-
-pairs-head : {T : Type 0} (R : T → T → Type 0) (x : T) (xs : List T) → AllPairs R (x ∷ xs) → All (R x) xs
-pairs-head R x xs pairs k d lt = pairs 0 (suc k) d (omega arith) (omega (arith, lt))
-
-pairs-tail : {T : Type 0} (R : T → T → Type 0) (x : T) (xs : List T) → AllPairs R (x ∷ xs) → AllPairs R xs
-pairs-tail R x xs pairs i j d less lt = pairs (suc i) (suc j) d (omega (arith, less)) (omega (arith, lt))
-
-all-left : {T : Type 0} (P : T → Type 0) (xs ys : List T) → All P (xs ++ ys) → All P xs
-all-left P [] ys all = All-nil P
-all-left P (x ∷ xs) ys all =
-    All-cons P x xs (All-head P x (xs ++ ys) all) (all-left P xs ys (All-tail P x (xs ++ ys) all))
-
-all-right : {T : Type 0} (P : T → Type 0) (xs ys : List T) → All P (xs ++ ys) → All P ys
-all-right P [] ys all = all
-all-right P (x ∷ xs) ys all = all-right P xs ys (All-tail P x (xs ++ ys) all)
-
--- what stands apart from all that is there comes first
-pairs-before : {T : Type 0} (R : T → T → Type 0) (added after : List T) → All (λ x. (y : T) → R x y) added
-    → AllPairs R after → AllPairs R (added ++ after)
-pairs-before R [] after apart pairs = pairs
-pairs-before R (x ∷ added) after apart pairs =
-    AllPairs-cons R x (added ++ after)
-    (λ k d lt. All-head (λ x. (y : _) → R x y) x added apart (get_or (added ++ after) k d))
-    (pairs-before R added after (All-tail (λ x. (y : _) → R x y) x added apart) pairs)
-
--- ... or in between
-pairs-between : {T : Type 0} (R : T → T → Type 0) (before added after : List T)
-    → All (λ x. (y : T) → R x y) added → All (λ y. (x : T) → R x y) added → AllPairs R (before ++ after)
-    → AllPairs R (before ++ added ++ after)
-pairs-between R [] added after left right pairs = pairs-before R added after left pairs
-pairs-between R (x ∷ before) added after left right pairs =
-    let others = pairs-head R x (before ++ after) pairs in
-    AllPairs-cons R x (before ++ added ++ after)
-    (All-append (R x) before (added ++ after) (all-left (R x) before after others)
-    (All-append (R x) added after
-    (All-weaker (λ y. (x : _) → R x y) (R x) (λ y apart. apart x) added right)
-    (all-right (R x) before after others)))
-    (pairs-between R before added after left right (pairs-tail R x (before ++ after) pairs))
-
--- ---- objects that have more
-
-record HasMore (a b : Object) : Type 0 where
-  text : length a.text ≤ length b.text
-  static_data : length a.static_data ≤ length b.static_data
-
-inside-more : (a b : Object) (place : Place) (value : ℕ) → HasMore a b → IsInsideArea a place value
-    → IsInsideArea b place value
-inside-more a b places.Undefined value more inside = inside
-inside-more a b places.Absolute value more inside = inside
-inside-more a b places.Text value more inside = omega (arith, inside, more.text)
-inside-more a b places.Data value more inside = omega (arith, inside, more.static_data)
-
-symbol-more : (a b : Object) (s : Symbol) → HasMore a b → IsSoundSymbol a s → IsSoundSymbol b s
-symbol-more a b s more is = record {
-  name_size = is.name_size;
-  name_text = is.name_text;
-  name_bytes = is.name_bytes;
-  named = is.named;
-  found = is.found;
-  inside = inside-more a b s.place s.value more is.inside;
-}
-
-field-more : (a b : Object) (area : Area) (kind offset : ℕ) → HasMore a b → HasField a area kind offset
-    → HasField b area kind offset
-field-more a b areas.Text kind offset more is = (omega (arith, is.0, more.text), is.1, is.2)
-field-more a b areas.Data kind offset more is = (omega (arith, is.0, more.static_data), is.1)
+use Rattle.cfi_made_law.proofs.BetweenLemmas.{all-two, all-joined, all-left, all-right, in-two, pairs-between, HasMore, symbol-more, field-more}
 
 -- ---- symbols and relocations of stubs
 
@@ -117,7 +40,7 @@ unnamed-sound : (b : Object) (place : Place) (value : ℕ) → is_defined place 
     → IsSoundSymbol b (unnamed place value)
 unnamed-sound b place value found inside = record {
   name_size = omega arith;
-  name_text = refl;
+  name_text = is_utf8-from_IsUtf8 [] IsUtf8-nil;
   name_bytes = refl;
   named = refl;
   found = found;
@@ -157,8 +80,7 @@ unfolding field_size
 low-size = refl
 
 -- the module with stubs, of which there is one at least
-module _ (m : Module) (imports : List (ℕ × Symbol)) (some : 0 < length imports) (sound : IsSoundModule m)
-    (limits : AreFew (part_sizes (parts_with m imports))) (b : Object) (types : List Node) where
+module _ (m : Module) (imports : List (ℕ × Symbol)) (sound : IsSoundModule m) (b : Object) (types : List Node) where
   abbrev a : Object
   a = m.object
 
@@ -166,12 +88,12 @@ module _ (m : Module) (imports : List (ℕ × Symbol)) (some : 0 < length import
   start = start_of m (length imports)
 
   -- what is made of the parts, and of the types
-  record HasParts : Type 0 where
-    text : b.text ≡ a.text ++ joined (λ place. stub_bytes) (length imports)
-    static_data : b.static_data ≡ with_cells (length imports) a.static_data
-    symbols : b.symbols ≡ with_symbols start a.symbols
-    relocs : b.relocs ≡ with_relocs start (place_of imports) a.relocs
-    types_with : types ≡ m.types ++ stub_nodes start
+  pub record HasParts : Type 0 where
+    pub text : b.text ≡ a.text ++ joined (λ place. stub_bytes) (length imports)
+    pub static_data : b.static_data ≡ with_cells (length imports) a.static_data
+    pub symbols : b.symbols ≡ with_symbols start a.symbols
+    pub relocs : b.relocs ≡ with_relocs start (place_of imports) a.relocs
+    pub types_with : types ≡ m.types ++ stub_nodes start
 
   module _ (parts : HasParts) where
     text-size : length b.text ≡ length a.text + STUB_BYTES * length imports
@@ -192,11 +114,10 @@ module _ (m : Module) (imports : List (ℕ × Symbol)) (some : 0 < length import
 
     added-symbols : (place : ℕ) → place < length imports → All (IsSoundSymbol b) (stub_symbols start place)
     added-symbols place lt =
-        All-cons (IsSoundSymbol b) _ _
+        all-two (IsSoundSymbol b) (unnamed places.Text (stub_offset start place))
+        (unnamed places.Data (cell_offset start place))
         (unnamed-sound b places.Text (stub_offset start place) refl (omega (arith, lt, text-size)))
-        (All-cons (IsSoundSymbol b) _ _
         (unnamed-sound b places.Data (cell_offset start place) refl (omega (arith, lt, data-size)))
-        (All-nil (IsSoundSymbol b)))
 
     old-symbols : All (IsSoundSymbol b) a.symbols
     old-symbols =
@@ -206,13 +127,23 @@ module _ (m : Module) (imports : List (ℕ × Symbol)) (some : 0 < length import
     abbrev n : ℕ
     n = start.symbols
 
-    in-two : {T : Type 0} (P : List T → Type 0) (k : ℕ) (xs : List T) → P xs → P (take k xs ++ drop k xs)
-    in-two P k xs is = subst P (sym (take-append-drop k xs)) is
+    symbols-are : b.symbols ≡ take n a.symbols ++ (joined (stub_symbols start) start.count ++ drop n a.symbols)
+    symbols-are =
+        parts.symbols ∙ append_assoc (take n a.symbols) (joined (stub_symbols start) start.count) (drop n a.symbols)
+
+    relocs-are : b.relocs ≡ map (moved start (place_of imports)) (take (text_end a.relocs) a.relocs)
+        ++ (joined (stub_relocs start) start.count
+        ++ map (moved start (place_of imports)) (drop (text_end a.relocs) a.relocs))
+    relocs-are =
+        parts.relocs
+        ∙ append_assoc (map (moved start (place_of imports)) (take (text_end a.relocs) a.relocs))
+        (joined (stub_relocs start) start.count)
+        (map (moved start (place_of imports)) (drop (text_end a.relocs) a.relocs))
 
     pub all-symbols : All (IsSoundSymbol b) b.symbols
     all-symbols =
         let two = in-two (All (IsSoundSymbol b)) n a.symbols old-symbols in
-        subst (All (IsSoundSymbol b)) (sym parts.symbols)
+        subst (All (IsSoundSymbol b)) (sym symbols-are)
         (All-append (IsSoundSymbol b) (take n a.symbols) (joined (stub_symbols start) start.count ++ drop n a.symbols)
         (all-left (IsSoundSymbol b) (take n a.symbols) (drop n a.symbols) two)
         (All-append (IsSoundSymbol b) (joined (stub_symbols start) start.count) (drop n a.symbols)
@@ -225,16 +156,16 @@ module _ (m : Module) (imports : List (ℕ × Symbol)) (some : 0 < length import
     pub all-apart : AllPairs Apart b.symbols
     all-apart =
         let two = in-two (AllPairs Apart) n a.symbols sound.object_sound.definitions in
-        subst (AllPairs Apart) (sym parts.symbols)
+        subst (AllPairs Apart) (sym symbols-are)
         (pairs-between Apart (take n a.symbols) (joined (stub_symbols start) start.count) (drop n a.symbols)
         (all-joined (λ x. (y : Symbol) → Apart x y) (stub_symbols start) start.count (λ place lt.
-        All-cons (λ x. (y : Symbol) → Apart x y) _ _ (λ y. never-first places.Text (stub_offset start place) y)
-        (All-cons (λ x. (y : Symbol) → Apart x y) _ _ (λ y. never-first places.Data (cell_offset start place) y)
-        (All-nil (λ (x : Symbol). (y : Symbol) → Apart x y)))))
+        all-two (λ x. (y : Symbol) → Apart x y) (unnamed places.Text (stub_offset start place))
+        (unnamed places.Data (cell_offset start place)) (λ y. never-first places.Text (stub_offset start place) y)
+        (λ y. never-first places.Data (cell_offset start place) y)))
         (all-joined (λ y. (x : Symbol) → Apart x y) (stub_symbols start) start.count (λ place lt.
-        All-cons (λ y. (x : Symbol) → Apart x y) _ _ (λ x. never-second places.Text (stub_offset start place) x)
-        (All-cons (λ y. (x : Symbol) → Apart x y) _ _ (λ x. never-second places.Data (cell_offset start place) x)
-        (All-nil (λ (y : Symbol). (x : Symbol) → Apart x y)))))
+        all-two (λ y. (x : Symbol) → Apart x y) (unnamed places.Text (stub_offset start place))
+        (unnamed places.Data (cell_offset start place)) (λ x. never-second places.Text (stub_offset start place) x)
+        (λ x. never-second places.Data (cell_offset start place) x)))
         two)
 
     -- ---- relocations
@@ -254,7 +185,7 @@ module _ (m : Module) (imports : List (ℕ × Symbol)) (some : 0 < length import
     number-there : (kind k : ℕ) → k < length a.symbols → new_number start (place_of imports) kind k < length b.symbols
     number-there kind k lt =
         elim (cases_Bool (leads kind)) [
-          | inl yes ↦ rw yes (led-there (place_of imports k) k (is-place start imports k refl) lt)
+          | inl here ↦ rw here (led-there (place_of imports k) k (is-place start imports k refl) lt)
           | inr other ↦ rw other (shifted-there k lt)
         ]
 
@@ -276,7 +207,8 @@ module _ (m : Module) (imports : List (ℕ × Symbol)) (some : 0 < length import
         let words = sound.object_sound.words in
         let there : cell_symbol start place < length b.symbols =
         omega (arith, lt, symbol-count, shared-within a.symbols) in
-        All-cons (IsSoundReloc b) _ _
+        all-two (IsSoundReloc b) (cell_reloc start place (stub_offset start place) HI20)
+        (cell_reloc start place (stub_offset start place + 4) LO12_I)
         (record {
           known = known-stub;
           kept = refl;
@@ -284,7 +216,6 @@ module _ (m : Module) (imports : List (ℕ × Symbol)) (some : 0 < length import
           field = stub-field b HI20 (stub_offset start place) high-size refl (omega (arith, words))
               (omega (arith, lt, text-size));
         })
-        (All-cons (IsSoundReloc b) _ _
         (record {
           known = known-low;
           kept = refl;
@@ -292,7 +223,6 @@ module _ (m : Module) (imports : List (ℕ × Symbol)) (some : 0 < length import
           field = stub-field b LO12_I (stub_offset start place + 4) low-size refl (omega (arith, words))
               (omega (arith, lt, text-size));
         })
-        (All-nil (IsSoundReloc b)))
 
     pub all-relocs : All (IsSoundReloc b) b.relocs
     all-relocs =
@@ -301,7 +231,7 @@ module _ (m : Module) (imports : List (ℕ × Symbol)) (some : 0 < length import
         let two = in-two (All (IsSoundReloc a)) e a.relocs sound.object_sound.relocs in
         let one = λ (xs : List Reloc) (all : All (IsSoundReloc a) xs). All-map (IsSoundReloc b) f xs
         (All-weaker (IsSoundReloc a) (λ r. IsSoundReloc b (f r)) (λ r is. moved-sound r is) xs all) in
-        subst (All (IsSoundReloc b)) (sym parts.relocs)
+        subst (All (IsSoundReloc b)) (sym relocs-are)
         (All-append (IsSoundReloc b) (map f (take e a.relocs))
         (joined (stub_relocs start) start.count ++ map f (drop e a.relocs))
         (one (take e a.relocs) (all-left (IsSoundReloc a) (take e a.relocs) (drop e a.relocs) two))
@@ -334,14 +264,14 @@ module _ (m : Module) (imports : List (ℕ × Symbol)) (some : 0 < length import
         record {
           count = small;
           nodes = both IsNode (All-from_recursion IsNode m.types sound.table.nodes)
-              (All-cons IsNode _ _ (record { arity = refl; fields = tt })
-              (All-cons IsNode _ _ (record { arity = refl; fields = ((omega (arith, count, small)), refl, tt) })
-              (All-nil IsNode)));
+              (all-two IsNode (make_node VOID []) (make_node FUNC (start.types ∷ []))
+              (record { arity = refl; fields = tt })
+              (record { arity = refl; fields = (omega (arith, count, small), refl, tt) }));
           names = both (NamesBelow (length types))
               (All-weaker (NamesBelow (length m.types)) (NamesBelow (length types)) names-more m.types
               (All-from_recursion (NamesBelow (length m.types)) m.types sound.table.names))
-              (All-cons (NamesBelow (length types)) _ _ (All-nil (λ (k : ℕ). k < length types))
-              (All-cons (NamesBelow (length types)) _ _
-              (All-cons (λ (k : ℕ). k < length types) _ _ (omega (arith, count)) (All-nil (λ (k : ℕ). k < length types)))
-              (All-nil (NamesBelow (length types)))));
+              (all-two (NamesBelow (length types)) (make_node VOID []) (make_node FUNC (start.types ∷ []))
+              (All-nil (λ (k : ℕ). k < length types))
+              (All-cons (λ (k : ℕ). k < length types) start.types [] (omega (arith, count))
+              (All-nil (λ (k : ℕ). k < length types))));
         }

@@ -26,7 +26,7 @@ pub record IsReady (object : Object) (start : Start) (find : ℕ → Option ℕ)
 pub record AreWritable (types : List Node) (records : Records) : Type 0 where
   pub count : length types < 2 ^ 32
   pub fields : All (λ x. length x.fields < 2 ^ 32) types
-  pub records : CanBeWritten records
+  pub written : CanBeWritten records
 
 -- records with those of stubs
 pub record AreRecordsWith (start : Start) (names : List (List ℕ)) (old new : Records) : Type 0 where

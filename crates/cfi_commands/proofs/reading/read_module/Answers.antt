@@ -1,7 +1,7 @@
 use Rattle.std.proofs.Common.{rules, refl, ap, inl, Ok}
 use Rattle.std.specs.Prelude.{◌≢◌}
 use Rattle.cfi_aux.specs.declared.fault.AuxFault.TheVariants.{Memory}
-use Rattle.cfi_aux.specs.Module.{module_in}
+use Rattle.cfi_aux.specs.Module.{parts_in}
 use Rattle.cfi_commands.proofs.ReadingLemmas.{due_of, found_is_it, refused_is_none}
 use Rattle.cfi_commands.proofs.reading.read_module.Goals as goal
 
@@ -13,7 +13,7 @@ returns-in-Ok-module_of-clause-sound c =
 -- it is the module that the file is
 pub returns-in-Ok-module_of-clause-only : goal.returns-in-Ok-module_of-clause-only
 returns-in-Ok-module_of-clause-only c m file =
-    inl (ap Ok (found_is_it _ c.in-Ok.object c.in-Ok-module_of.found m c.in-Ok.ensures.ok c.in-Ok-module_of.ensures.fault
+    inl (ap Ok (found_is_it _ c.in-Ok.object c.in-Ok-module_of.found m c.in-Ok.ensures.ok c.in-Ok-module_of.ensures.ok
     file))
 
 -- the object is no module
@@ -22,7 +22,7 @@ returns-in-Err-module_of c =
     let fault = c.in-Err-module_of.fault in
     let other : fault ≢ Memory = search rules in
     let object = c.in-Ok.object in
-    let due = due_of fault (module_in object) other c.in-Err-module_of.ensures.fault in
+    let due = due_of fault (parts_in object) other c.in-Err-module_of.ensures.fault in
     record {
       ok = tt;
       sound = tt;
