@@ -1,6 +1,8 @@
 -- The files of sources, one after the other.
-use Rattle.std.proofs.Common.{◌≡◌, ◌+◌, ◌≤◌, ◌<◌, ℕ, List, [], ◌∷◌, ◌++◌, length, take, get_or, Some, inl, inr, refl, sym, ap, subst, arith, ◌∙◌}
+use Rattle.std.proofs.Common.{◌≡◌, ◌+◌, ◌≤◌, ◌<◌, ℕ, zero, suc, List, [], ◌∷◌, ◌++◌, length, length-append, take, get_or, Some, inl, inr, refl, sym, ap, subst, arith, ◌∙◌}
 use Rattle.std.specs.Prelude.{slice_get, IsSomeAnd}
+use Rattle.std.proofs.lemmas.List.{length-map}
+use Rattle.std.proofs.lemmas.Slice.Zip.{AllZip-long}
 use Rattle.std.proofs.lemmas.Option.{slice_get_read}
 use Rattle.std.proofs.lemmas.List.{take_more}
 use Rattle.cfi_commands.specs.Assembling.{IsAssembled, IsSourceFault}
@@ -9,6 +11,8 @@ use Rattle.cfi_commands.specs.Instrumenting.{IsInstrumentFault}
 use Rattle.cfi_commands.specs.declared.fault.CommandFault.{CommandFault}
 use Rattle.cfi_commands.specs.declared.fault.CommandFault.TheVariants.{File, Together, Memory}
 use Rattle.cfi_commands.specs.declared.refusal.Refusal.{Refusal}
+use Rattle.elf_read.specs.Places.{joined}
+use Rattle.cfi_draw.specs.Drawn.{AreSeeded}
 use Rattle.cfi_draw.specs.Source.{source_text}
 use Rattle.cfi_draw.specs.declared.shape.Drawn.{Drawn}
 use Rattle.std.specs.List.{AllZip}
@@ -86,3 +90,20 @@ refused_at count drawn number k one files fault told within is same before refus
     (sources_fault count drawn number one files (fault_at number fault)
     (slice_get_read drawn (length drawn) number one refl within is) before
     (renumbered (RefusesSource (source_text count one)) number fault refuses))
+
+-- ---- how many there are
+
+-- a list of numbers
+joined_count : (count : ℕ) → length (joined (λ (number : ℕ). number ∷ []) count) ≡ count
+joined_count zero = refl
+joined_count (suc count) =
+    omega (arith, length-append (joined (λ (number : ℕ). number ∷ []) count) (count ∷ []), joined_count count)
+
+-- as many files as modules that were drawn
+pub files_count : (seed count : ℕ) (drawn all : List Drawn) (files : List (List ℕ)) → AreSeeded seed count drawn
+    → all ≡ drawn → AreMadeFiles count all files → length files ≡ count
+files_count seed count drawn all files seeded same made =
+    let number : Drawn → ℕ = λ one. one.number in
+    AllZip-long (λ (one : Drawn) (file : List ℕ). IsMadeFile (source_text count one) file) all files made
+    ∙ ap (λ (ds : List Drawn). length ds) same ∙ sym (length-map drawn number)
+    ∙ ap (λ (ns : List ℕ). length ns) seeded.numbers ∙ joined_count count
