@@ -155,7 +155,7 @@ step : (n : ℕ) → IsRead n → ((count : ℕ) → suc n ≤ count → count �
     → count ≤ MAX_COUNT → IsRead count
 step n here more count least most =
     ⊎_elim (λ (past : n < count). more count (omega (arith, past)) most)
-    (λ (before : count ≤ n). subst IsRead (omega (arith, least, before) : n ≡ count) here)
+    (λ (before : count ≤ n). let same : n ≡ count = omega (arith, least, before) in subst IsRead same here)
     (cases_lt n count)
 
 pub all_read : (count : ℕ) → MIN_COUNT ≤ count → count ≤ MAX_COUNT → IsRead count

@@ -1,3 +1,4 @@
 pub mod Generated
 pub mod Plan
 pub mod Measured
+pub mod inner

@@ -1,13 +1,13 @@
 //! The files of sources.
 
-ghost use Rattle.std.specs.Prelude.{ℕ, ◌≤◌, length, All, IfOk, IfErr};
+ghost use Rattle.std.specs.Prelude.{◌≡◌, ◌≤◌, length, All, IfOk, IfErr};
 ghost use Rattle.cfi_commands.specs.Fault.{IsOfFile};
 ghost use Rattle.cfi_commands.specs.Modules.{IsShortFile};
-ghost use Rattle.cfi_commands.specs.declared.refusal.Refusal.{Refusal as Why};
 ghost use Rattle.cfi_draw.specs.Drawn.{AreFunctions};
 ghost use Rattle.cfi_draw.specs.Source.{source_text};
 ghost use Rattle.cfi_draw.specs.declared.shape.TheConstants.{MAX_COUNT};
 ghost use Rattle.cfi_gen.specs.Generated.{AreMadeFiles, IsMadeFile, IsSourcesFault, RefusesSource};
+ghost use Rattle.cfi_gen.specs.inner.Fault.{fault_at};
 ghost use Rattle.cfi_word.specs.declared.limits.TheConstants.{MAX_FILE_BYTES};
 
 use cfi_commands::{CommandFault, assembled, instrumented};
@@ -48,11 +48,12 @@ fn file_of_drawn(alloc: Global, count: u32, one: &Drawn) -> Result<Bytes, Comman
 
 // The same fault, of the source of this number.
 fn at(number: usize, fault: CommandFault) -> CommandFault
-    ensures { (P : Why → Type 0) → IsOfFile 0 P fault → IsOfFile number P result }
+    ensures { result ≡ fault_at number fault }
 {
     match fault {
         CommandFault::File(_, refusal) => CommandFault::File(number, refusal),
-        other => other,
+        CommandFault::Together(fault) => CommandFault::Together(fault),
+        CommandFault::Memory => CommandFault::Memory,
     }
 }
 

@@ -8,9 +8,9 @@
 #![tactic(auto)]
 
 mod files;
-mod generate;
 pub mod laws;
+mod making;
 mod measure;
 
-pub use generate::{Generated, generate};
+pub use making::{Generated, generate};
 pub use measure::measure_of;

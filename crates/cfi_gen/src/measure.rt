@@ -1,11 +1,11 @@
 //! How much modules are in all.
 
-ghost use Rattle.std.specs.Prelude.{◌≡◌, ℕ, All, IfOk, IfErr, count_by};
+ghost use Rattle.std.specs.Prelude.{◌≡◌, All, IfOk, IfErr, count_by};
 ghost use Rattle.cfi_commands.specs.Files.{IsFilesFault};
 ghost use Rattle.cfi_commands.specs.Modules.{IsShortFile};
 ghost use Rattle.cfi_gen.specs.Measured.{IsMeasure, branches_in, has_targets, words_in};
+ghost use Rattle.cfi_gen.specs.inner.Series.{IsOfSeries};
 ghost use Rattle.cfi_plan.specs.Plan.{IsPlan};
-ghost use Rattle.cfi_series.specs.Loaded.{AreLoaded};
 
 use cfi_aux::Placed;
 use cfi_commands::{CommandFault, placed_files};
@@ -18,7 +18,7 @@ use std::alloc::Global;
 
 // How many words placed modules have: as far as the last one ends.
 fn words_of(placed: &[Placed]) -> u64
-    requires { (code_words : ℕ) × AreLoaded code_words placed.now }
+    requires { IsOfSeries placed.now }
     ensures { result ≡ words_in placed.now }
 {
     match placed.last() {
@@ -31,7 +31,7 @@ fn words_of(placed: &[Placed]) -> u64
 
 // How many branches they have.
 fn branches_of(placed: &[Placed]) -> u64
-    requires { (code_words : ℕ) × AreLoaded code_words placed.now }
+    requires { IsOfSeries placed.now }
     ensures { result ≡ branches_in placed.now }
 {
     match placed.last() {

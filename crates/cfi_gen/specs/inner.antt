@@ -1,0 +1,3 @@
+-- What private clauses of this crate cite.
+pub mod Fault
+pub mod Series
