@@ -16,7 +16,7 @@ use Rattle.cfi_aux.specs.declared.records.Records.{Records}
 use Rattle.cfi_aux.specs.declared.records.Kind.{Kind}
 use Rattle.cfi_aux.specs.Cells.{have_cells}
 use Rattle.cfi_aux.specs.Module.{SpellsWithin}
-use Rattle.cfi_aux.specs.Records.{function_bytes, branch_bytes, records_bytes, spelling_in, IsFunctionIn, IsBranchIn, AreRecordsIn, Spells}
+use Rattle.cfi_aux.specs.Records.{function_bytes, branch_bytes, records_bytes, spelling_in, IsFunctionIn, AreRecordsIn, Spells}
 use Rattle.cfi_aux.specs.declared.version.RecordVersion.{RecordVersion}
 use Rattle.cfi_aux.specs.declared.version.RecordVersion.TheVariants.{One, Two, Three}
 use Rattle.cfi_aux.specs.Version.{version_word, version_of}
@@ -30,7 +30,7 @@ use Rattle.cfi_aux.proofs.Words.{Passes, word_takes, Reads-word}
 use Rattle.cfi_aux.proofs.Lists.{AreGood, Reads-each}
 use Rattle.cfi_aux.proofs.Functions.{Reads-function}
 use Rattle.cfi_aux.proofs.Branches.{IsBranchOf, Reads-branch}
-use Rattle.cfi_aux.proofs.CellLemmas.{fit_cells, any_cells, same_cells, branches_parts, branches_whole, AreRecordsOf}
+use Rattle.cfi_aux.proofs.CellLemmas.{any_cells, same_cells, branches_parts, branches_whole, AreRecordsOf}
 
 -- ---- the version
 

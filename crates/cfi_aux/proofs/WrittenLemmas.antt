@@ -1,5 +1,5 @@
 -- Records of a version have numbers that words have, so they can be written.
-use Rattle.std.proofs.Common.{◌≡◌, ℕ, ◌<◌, ◌^◌, All, List, length, arith}
+use Rattle.std.proofs.Common.{◌<◌, ◌^◌, List, length, arith}
 use Rattle.std.proofs.lemmas.List.Elements.{All-weaker, All-from_recursion}
 use Rattle.cfi_type_table.specs.Node.{Node}
 use Rattle.cfi_aux.specs.declared.format.TheConstants.{SWITCH}

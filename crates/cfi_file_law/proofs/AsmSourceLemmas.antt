@@ -76,7 +76,7 @@ module _ (text : List ℕ) (object : Object) (is : object_in text ≡ Ok object)
       recursion_from_All (IsFunction (source_types text)) (functions_of file.kinds lines)
       (functions-good file lines formed clear refl)
 
-  almost : All (IsAlmost (source_types text)) (source_records text).branches
+  pub almost : All (IsAlmost (source_types text)) (source_records text).branches
   almost = branches-good file lines formed clear refl small inside
 
   types-are : has_records text ≡ true → object.types ≡ Some (types_spelling (source_types text))

@@ -1,6 +1,5 @@
 -- Sizes within the limits, and sizes that are counted up to the greatest number.
-use Rattle.std.proofs.Common.{◌≡◌, ◌∙◌, ℕ, ◌+◌, ◌*◌, ◌<◌, ◌≤◌, ◌^◌, List, length, take, get_or, Option, None, leb, refl, sym, ap, inl, inr, arith}
-use Rattle.std.proofs.lemmas.Bool.{cases_lt, lt-leb, le-leb}
+use Rattle.std.proofs.Common.{◌≡◌, ◌∙◌, ℕ, ◌+◌, ◌*◌, ◌<◌, ◌≤◌, ◌^◌, List, length, take, get_or, Option, None, refl, sym, ap, arith}
 use Rattle.elf_read.specs.declared.fault.Limit.{Limit}
 use Rattle.cfi_word.specs.declared.limits.TheConstants.{MAX_SYMBOLS, MAX_RELOCS, MAX_WORDS, MAX_DATA, MAX_NODES, MAX_FUNCTIONS, MAX_BRANCHES}
 use Rattle.cfi_aux.specs.declared.modules.Module.{Module}
@@ -9,7 +8,7 @@ use Rattle.cfi_link.specs.Gap.{gap}
 use Rattle.cfi_link.specs.Joined.{Joined, with_module, joined_of}
 use Rattle.cfi_link.specs.inner.Room.{HasRoom}
 use Rattle.cfi_link.specs.Faults.{sizes_of, unless_above, passed, passed_by}
-use Rattle.cfi_link.specs.inner.Capped.{GREATEST, capped, capped_sizes, with_sizes}
+use Rattle.cfi_link.specs.inner.Capped.{capped, capped_sizes, with_sizes}
 use Rattle.cfi_link.proofs.JoinedLemmas.{IsBelow, with_module-lengths, take-below, take-count, joined-more}
 
 -- ---- within the limits

@@ -1,17 +1,11 @@
 -- Units that are read from the first word on, and texts of modules.
-use Rattle.std.proofs.Common.{◌≡◌, ◌∙◌, ℕ, ◌+◌, ◌*◌, ◌/◌, ◌<◌, ◌≤◌, List, [], ◌∷◌, ◌++◌, length, take, drop, get_or, refl, sym, subst, All, Option, arith}
+use Rattle.std.proofs.Common.{◌≡◌, ℕ, ◌*◌, ◌/◌, ◌<◌, List, length, take, get_or, refl, sym, subst, All, Option, arith}
 use Rattle.std.specs.Prelude.{IsSomeAnd}
 use Rattle.std.proofs.lemmas.Option.{slice_get_read}
 use Rattle.cfi_aux.specs.declared.modules.Module.{Module}
 use Rattle.cfi_place.specs.Placed.{bytes_as_words}
-use Rattle.std.proofs.Math.Seq.{take-add}
-use Rattle.std.proofs.lemmas.List.{append-nil, take_all}
-use Rattle.cfi_unit.specs.declared.unit.Unit.{Unit as CodeUnit}
-use Rattle.cfi_unit.specs.Unit.{words_of, size_of}
-use Rattle.cfi_unit.specs.Code.{BeginsAt, UnitCode}
-use Rattle.cfi_unit.proofs.CodeLemmas.{BeginsAt-within, UnitCode-append}
 use Rattle.cfi_link.specs.Faults.{HasUnits, IsFirstStray}
-use Rattle.cfi_unit.specs.Spots.{AreUnits, StopsAt}
+use Rattle.cfi_unit.specs.Spots.{StopsAt}
 
 -- a text that stops is the first one where those before it are units
 pub stray_at : (modules : List Module) (number at : ℕ) (m : Module) → number < length modules

@@ -1,11 +1,9 @@
 -- Why modules can not be linked: the first fault, by the order of the variants and then by the least place.
-use Rattle.std.specs.Prelude.{◌≡◌, ℕ, ◌*◌, ◌/◌, ◌%◌, ◌<◌, Bool, true, false, not, ◌==◌, nat_le, if◌then◌else◌, List, length, take, All, Option, Some, None, IsSomeAnd, Result, Err, ⊤}
+use Rattle.std.specs.Prelude.{◌≡◌, ℕ, ◌*◌, ◌/◌, ◌%◌, Bool, true, false, not, ◌==◌, nat_le, if◌then◌else◌, List, length, take, All, Option, Some, None, IsSomeAnd, Result, Err, ⊤}
 use Rattle.std.specs.List.{list_any, slice_get}
 use Rattle.elf_read.specs.declared.fault.Limit.{Limit}
 use Rattle.elf_read.specs.declared.fault.Limit.TheVariants as limits
 use Rattle.cfi_word.specs.declared.limits.TheConstants.{MAX_SYMBOLS, MAX_RELOCS, MAX_WORDS, MAX_DATA, MAX_NODES, MAX_FUNCTIONS, MAX_BRANCHES}
-use Rattle.cfi_unit.specs.declared.unit.Unit.{Unit as CodeUnit}
-use Rattle.cfi_unit.specs.Code.{BeginsAt, UnitCode}
 use Rattle.cfi_aux.specs.declared.modules.Module.{Module}
 use Rattle.cfi_place.specs.Placed.{bytes_as_words}
 use Rattle.cfi_link.specs.declared.fault.LinkFault.{LinkFault}

@@ -16,7 +16,6 @@ use Rattle.rv_reloc.specs.Bytes.{word_at}
 use Rattle.cfi_place.specs.declared.room.Room.{Room}
 use Rattle.cfi_place.specs.Names.{Names, first_in}
 use Rattle.cfi_place.specs.Value.{own_in, values_by}
-use Rattle.cfi_place.specs.Relocated.{field_address}
 use Rattle.cfi_place.specs.Slots.{HasSlots}
 use Rattle.cfi_place.specs.Functions.{placed_functions}
 use Rattle.cfi_place.specs.Placed.{bytes_as_words, values_in}

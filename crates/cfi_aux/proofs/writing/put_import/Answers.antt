@@ -1,4 +1,4 @@
-use Rattle.std.proofs.Common.{◌≡◌, ◌++◌, ◌∙◌, ℕ, List, length, ap, rules}
+use Rattle.std.proofs.Common.{◌≡◌, ◌++◌, ◌∙◌, ℕ, length, ap, rules}
 use Rattle.cfi_type_table.specs.Spelling.{word}
 use Rattle.cfi_aux.specs.declared.format.TheConstants.{IMPORT}
 use Rattle.cfi_aux.specs.Format.{import_words}

@@ -1,7 +1,6 @@
-use Rattle.std.proofs.Common.{◌∙◌, ap, sym, ℕ, List, None, pos, nat_cmp}
+use Rattle.std.proofs.Common.{◌∙◌, ap, sym, ℕ, List, nat_cmp}
 use Rattle.std.specs.BTreeMap.{get}
 use Rattle.std.proofs.lemmas.Bool.{eq-eqb, ne_eqb}
-use Rattle.elf_read.specs.declared.object.Reloc.{Reloc}
 use Rattle.cfi_place.specs.Relocated.{partner_in}
 use Rattle.cfi_place.proofs.RelocatedLemmas.{high_parts-other, partners-more}
 use Rattle.cfi_place.proofs.partner.partners.Goals as goal

@@ -1,5 +1,4 @@
-use Rattle.std.proofs.Common.{◌≡◌, ◌∙◌, Err, Ok, get_or, None, pos}
-use Rattle.elf_read.specs.declared.object.Reloc.{Reloc}
+use Rattle.std.proofs.Common.{◌≡◌, ◌∙◌, Err, Ok, get_or}
 use Rattle.cfi_place.specs.Relocated.{areas_of, high_parts, partner_in}
 use Rattle.cfi_place.proofs.RelocatedLemmas.{relocated_by-is, relocated-stop, relocated-next, relocated-all}
 use Rattle.cfi_place.proofs.relocate.relocate.Goals as goal
