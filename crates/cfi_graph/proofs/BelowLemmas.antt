@@ -14,9 +14,10 @@ use Rattle.cfi_graph.specs.declared.fact.Fact.{Fact}
 use Rattle.cfi_graph.specs.declared.fact.Fact.TheVariants as facts
 use Rattle.cfi_graph.specs.Shaped.{AreApart}
 use Rattle.cfi_graph.specs.Calls.{HasKind}
-use Rattle.cfi_graph.specs.Facts.{type_node, LiesInNode, IsJumpFact, IsBranchFact, IsFunctionFact, IsTold}
+use Rattle.cfi_graph.specs.Facts.{ByName, AreImports, type_node, word_of, LiesInNode, IsJumpFact, IsBranchFact, IsFunctionFact, IsTold}
 use Rattle.cfi_graph.specs.Reading.{tables_of, node_count}
 use Rattle.cfi_graph.proofs.BoundLemmas.{inside, branch_names}
+use Rattle.cfi_graph.proofs.ImportLemmas.{imported_at, imported_word}
 use Rattle.cfi_graph.proofs.NodeLemmas.{StandsAt, shaped_at, node_low}
 use Rattle.cfi_graph.proofs.WiderLemmas.{AreWider}
 use Rattle.cfi_graph.proofs.ReadLemmas.{IsArrow, TellsFlow, Tell, unit_cases}
@@ -24,7 +25,7 @@ use Rattle.cfi_flow.proofs.RowLemmas.{make_link}
 use Rattle.cfi_graph.proofs.GoesLemmas.{lies_there}
 use Rattle.cfi_graph.proofs.ClassLemmas.{type_low}
 
-module _ (ms : List Placed) (classes : List (List ℕ)) (apart : AreApart ms)
+module _ (ms : List Placed) (imports : ByName) (classes : List (List ℕ)) (named : AreImports ms imports) (apart : AreApart ms)
     (are : AreClasses (tables_of ms) classes) where
   -- the node of a word's function is one of the flow's
   lies_low : (number : ℕ) (m : Placed) → slice_get ms number ≡ Some m → (at node : ℕ) → LiesInNode m at node
@@ -66,8 +67,16 @@ module _ (ms : List Placed) (classes : List (List ℕ)) (apart : AreApart ms)
       let low = type_low ms classes are number m is node within in
       omega (arith, low, same)
 
+  -- the word of an imported function is one of the flow's nodes
+  import_low : (name : List ℕ) (address word : ℕ) → imports name ≡ Some address → word ≡ word_of address
+      → word < node_count ms
+  import_low name address word there is =
+      let to = (named name address).0 there in
+      let low = (node_low ms apart to.is.number to.owner to.function (imported_at ms name to.owner to.function to.is)).1 in
+      omega (arith, low, imported_word ms name address word to is)
+
   branch_low : (number : ℕ) (m : Placed) → slice_get ms number ≡ Some m → (at slot : ℕ) (kind : Kind)
-      → HasKind m slot kind → (fact : Fact) → IsBranchFact classes number m at slot kind fact → BeginsLow fact
+      → HasKind m slot kind → (fact : Fact) → IsBranchFact imports classes number m at slot kind fact → BeginsLow fact
   branch_low number m is at slot (kinds.Call node) has (facts.Pointer l) told =
       low_type number m is node (branch_names m (shaped_at ms apart number m is) slot (kinds.Call node) has) l.from told.0
   branch_low number m is at slot (kinds.Call node) has (facts.Site l) told =
@@ -99,6 +108,16 @@ module _ (ms : List Placed) (classes : List (List ℕ)) (apart : AreApart ms)
   branch_low number m is at slot (kinds.Switch entries) has (facts.Pointer l) told = absurd told
   branch_low number m is at slot (kinds.Switch entries) has (facts.Entry l) told = absurd told
 
+  branch_low number m is at slot (kinds.Import name cell) has (facts.Listed l) told = omega arith
+  branch_low number m is at slot (kinds.Import name cell) has (facts.Arrow l) (lies, (address, there, word)) = (
+    lies_low number m is at l.from lies,
+    import_low name address l.to there word,
+  )
+  branch_low number m is at slot (kinds.Import name cell) has (facts.Site l) told = absurd told
+  branch_low number m is at slot (kinds.Import name cell) has (facts.Return l) told = absurd told
+  branch_low number m is at slot (kinds.Import name cell) has (facts.Pointer l) told = absurd told
+  branch_low number m is at slot (kinds.Import name cell) has (facts.Entry l) told = absurd told
+
   function_low : (number : ℕ) (m : Placed) (f : PlacedFunction) → StandsAt ms number m f → (fact : Fact)
       → IsFunctionFact classes number m f fact → BeginsLow fact
   function_low number m f at (facts.Arrow l) told =
@@ -114,10 +133,10 @@ module _ (ms : List Placed) (classes : List (List ℕ)) (apart : AreApart ms)
   function_low number m f at (facts.Pointer l) told = absurd told
   function_low number m f at (facts.Listed l) told = absurd told
 
-  told_low : (fact : Fact) → IsTold ms classes fact → BeginsLow fact
+  told_low : (fact : Fact) → IsTold ms imports classes fact → BeginsLow fact
   told_low fact told =
       elim told.tells [
-        | inl unit ↦ elim (unit_cases classes told.number told.owner fact unit) [
+        | inl unit ↦ elim (unit_cases imports classes told.number told.owner fact unit) [
           | inl check ↦
               branch_low told.number told.owner told.is check.at check.slot check.kind check.has fact check.tells
           | inr jump ↦ jump_low told.number told.owner told.is jump.at jump.linked jump.off fact jump.tells
@@ -128,14 +147,14 @@ module _ (ms : List Placed) (classes : List (List ℕ)) (apart : AreApart ms)
       ]
 
   -- what holds of each link that is told holds of each link
-  all_by : (make : Link → Fact) (links : List Link) → Tell ms classes make links → (P : Link → Type 0)
-      → ((l : Link) → IsTold ms classes (make l) → P l) → All P links
+  all_by : (make : Link → Fact) (links : List Link) → Tell ms imports classes make links → (P : Link → Type 0)
+      → ((l : Link) → IsTold ms imports classes (make l) → P l) → All P links
   all_by make links tell P holds = λ k d within.
       let l = get_or links k d in
       holds l ((tell l.from l.to).0 (Contains-get_or links k d within))
 
   -- an arrow's ends are nodes of the flow
-  arrow_low : (flow : Flow) → AreBelow (node_count ms) flow.widenings.items → (a b : ℕ) → IsArrow ms classes flow a b
+  arrow_low : (flow : Flow) → AreBelow (node_count ms) flow.widenings.items → (a b : ℕ) → IsArrow ms imports classes flow a b
       → (a < node_count ms) × (b < node_count ms)
   arrow_low flow low a b arrow =
       elim arrow [
@@ -146,7 +165,7 @@ module _ (ms : List Placed) (classes : List (List ℕ)) (apart : AreApart ms)
             (both.1, both.0)
       ]
 
-  pub below_nodes : (flow : Flow) → AreWider ms classes flow.widenings.items → TellsFlow ms classes flow
+  pub below_nodes : (flow : Flow) → AreWider ms classes flow.widenings.items → TellsFlow ms imports classes flow
       → flow.nodes ≡ node_count ms → IsSound flow
   below_nodes flow wider tells is = record {
     arrows = subst (λ n. AreBelow n flow.arrows.items) (sym is) (λ k d within.

@@ -144,6 +144,7 @@ names_inside : (code : List CodeUnit) (base types : ℕ) (kind : Kind)
 names_inside code base types (kinds.Call node) fits named = named
 names_inside code base types (kinds.Tail node) fits named = named
 names_inside code base types kinds.Return fits named = tt
+names_inside code base types (kinds.Import name cell) fits named = tt
 names_inside code base types (kinds.Switch entries) fits named = λ k d within.
     let place : IsUnitPlace code (get_or entries k d) = named k d within in
     let less = place_less code place.0 (length code) place.1 (omega arith) in

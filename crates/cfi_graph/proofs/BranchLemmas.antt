@@ -15,14 +15,14 @@ use Rattle.cfi_graph.specs.declared.fact.Fact.TheVariants as facts
 use Rattle.cfi_graph.specs.Code.{entry_of}
 use Rattle.cfi_graph.specs.Shaped.{slot_of}
 use Rattle.cfi_graph.specs.Calls.{HasKind}
-use Rattle.cfi_graph.specs.Facts.{type_node, function_node, listed_fact, IsBranchFact, IsUnitFact, IsOpen, IsFunctionFact, Adds}
+use Rattle.cfi_graph.specs.Facts.{ByName, type_node, function_node, listed_fact, IsBranchFact, IsUnitFact, IsOpen, IsFunctionFact, Adds}
 use Rattle.cfi_graph.proofs.AddsLemmas.{adds_two, adds_list, adds_as}
 use Rattle.cfi_flow.proofs.RowLemmas.{make_link, link_is}
 
 -- ---- a switch
 
-module _ (classes : List (List ℕ)) (number : ℕ) (m : Placed) (at slot : ℕ) (entries : List ℕ) where
-  listed_back : (fact : Fact) → IsBranchFact classes number m at slot (kinds.Switch entries) fact
+module _ (imports : ByName) (classes : List (List ℕ)) (number : ℕ) (m : Placed) (at slot : ℕ) (entries : List ℕ) where
+  listed_back : (fact : Fact) → IsBranchFact imports classes number m at slot (kinds.Switch entries) fact
       → Contains (map (listed_fact m.base slot) entries) fact
   listed_back (facts.Listed l) (from, (entry, has, to)) =
       subst (λ f. Contains (map (listed_fact m.base slot) entries) f)
@@ -35,17 +35,17 @@ module _ (classes : List (List ℕ)) (number : ℕ) (m : Placed) (at slot : ℕ)
   listed_back (facts.Entry l) told = absurd told
 
   listed_to : (fact : Fact) → Contains (map (listed_fact m.base slot) entries) fact
-      → IsBranchFact classes number m at slot (kinds.Switch entries) fact
+      → IsBranchFact imports classes number m at slot (kinds.Switch entries) fact
   listed_to fact has =
       let found = from_map (listed_fact m.base slot) entries fact has in
-      subst (IsBranchFact classes number m at slot (kinds.Switch entries)) found.2 (refl, (found.0, found.1, refl))
+      subst (IsBranchFact imports classes number m at slot (kinds.Switch entries)) found.2 (refl, (found.0, found.1, refl))
 
   pub switch_adds : (old : List Fact) → Adds old (old ++ map (listed_fact m.base slot) entries)
-      (IsBranchFact classes number m at slot (kinds.Switch entries))
+      (IsBranchFact imports classes number m at slot (kinds.Switch entries))
   switch_adds old =
       adds_as old (old ++ map (listed_fact m.base slot) entries)
       (λ fact. Contains (map (listed_fact m.base slot) entries) fact)
-      (IsBranchFact classes number m at slot (kinds.Switch entries))
+      (IsBranchFact imports classes number m at slot (kinds.Switch entries))
       (adds_list old (map (listed_fact m.base slot) entries)) listed_to listed_back
 
 -- ---- checks
@@ -56,10 +56,10 @@ kind_one m slot one other (i, at_i, is_i) (j, at_j, is_j) =
     let same : i ≡ j = omega (arith, at_i, at_j) in
     same_Some one other (sym is_i ∙ ap (λ k. slice_get m.branches k) same ∙ is_j)
 
-module _ (classes : List (List ℕ)) (number : ℕ) (m : Placed) (at slot : ℕ) where
+module _ (imports : ByName) (classes : List (List ℕ)) (number : ℕ) (m : Placed) (at slot : ℕ) where
   -- a check whose slot has no branch tells nothing
   pub no_kind : ((kind : Kind) → HasKind m slot kind → ⊥) → (unit : CodeUnit) → slot_of unit ≡ Some slot → (fact : Fact)
-      → IsUnitFact classes number m at unit fact → ⊥
+      → IsUnitFact imports classes number m at unit fact → ⊥
   no_kind none (units.Check linked rs1 imm own) is fact told =
       none told.0 (subst (λ s. HasKind m s told.0) (same_Some own slot is) told.1)
   no_kind none (units.Plain insn) is fact told = absurd (none-some slot is)
@@ -70,20 +70,20 @@ module _ (classes : List (List ℕ)) (number : ℕ) (m : Placed) (at slot : ℕ)
   no_kind none units.Service is fact told = absurd (none-some slot is)
 
   check_here : (kind : Kind) → HasKind m slot kind → (linked : Bool) (rs1 : ℕ) (imm : ℤ) (old new : List Fact)
-      → Adds old new (IsBranchFact classes number m at slot kind)
-      → Adds old new (IsUnitFact classes number m at (units.Check linked rs1 imm slot))
+      → Adds old new (IsBranchFact imports classes number m at slot kind)
+      → Adds old new (IsUnitFact imports classes number m at (units.Check linked rs1 imm slot))
   check_here kind has linked rs1 imm old new a =
-      adds_as old new (IsBranchFact classes number m at slot kind)
-      (IsUnitFact classes number m at (units.Check linked rs1 imm slot)) a (λ fact told. (kind, has, told))
-      (λ fact told. subst (λ k. IsBranchFact classes number m at slot k fact)
+      adds_as old new (IsBranchFact imports classes number m at slot kind)
+      (IsUnitFact imports classes number m at (units.Check linked rs1 imm slot)) a (λ fact told. (kind, has, told))
+      (λ fact told. subst (λ k. IsBranchFact imports classes number m at slot k fact)
       (kind_one m slot told.0 kind told.1 has) told.2)
 
   -- a check tells what its branch tells
   pub check_adds : (kind : Kind) → HasKind m slot kind → (unit : CodeUnit) → slot_of unit ≡ Some slot
-      → (old new : List Fact) → Adds old new (IsBranchFact classes number m at slot kind)
-      → Adds old new (IsUnitFact classes number m at unit)
+      → (old new : List Fact) → Adds old new (IsBranchFact imports classes number m at slot kind)
+      → Adds old new (IsUnitFact imports classes number m at unit)
   check_adds kind has (units.Check linked rs1 imm own) is old new a =
-      subst (λ s. Adds old new (IsUnitFact classes number m at (units.Check linked rs1 imm s)))
+      subst (λ s. Adds old new (IsUnitFact imports classes number m at (units.Check linked rs1 imm s)))
       (sym (same_Some own slot is)) (check_here kind has linked rs1 imm old new a)
   check_adds kind has (units.Plain insn) is old new a = absurd (none-some slot is)
   check_adds kind has (units.Load k rd rs1 imm) is old new a = absurd (none-some slot is)

@@ -15,10 +15,10 @@ use Rattle.cfi_graph.specs.declared.fact.Fact.{Fact}
 use Rattle.cfi_graph.specs.declared.fact.Fact.TheVariants as facts
 use Rattle.cfi_graph.specs.Code.{Stands, code_address, entry_of, Leads}
 use Rattle.cfi_graph.specs.Shaped.{AreApart}
-use Rattle.cfi_graph.specs.Calls.{HasKind, IsFunction, MayPoint, IsCall, IsTailCall, IsReached}
+use Rattle.cfi_graph.specs.Calls.{HasKind, IsFunction, MayPoint, IsImported, MayTail, IsCall, IsTailCall, IsReached}
 use Rattle.cfi_aux.specs.Extent.{LiesIn}
-use Rattle.cfi_graph.specs.Direct.{IsPointee, IsReturnTarget, GoesTo, DirectEdge}
-use Rattle.cfi_graph.specs.Facts.{type_node, function_node, LeadsToWord, LiesInNode, IsOpen, IsUnitFact, IsTold}
+use Rattle.cfi_graph.specs.Direct.{IsPointee, IsReturnTarget, IsImportTarget, GoesTo, DirectEdge}
+use Rattle.cfi_graph.specs.Facts.{ByName, AreImports, type_node, function_node, word_of, LeadsToWord, LiesInNode, IsOpen, IsUnitFact, IsTold}
 use Rattle.cfi_flow.proofs.RowLemmas.{make_link}
 use Rattle.cfi_graph.proofs.BoundLemmas.{at_contains, inside, branch_names}
 use Rattle.cfi_graph.proofs.NodeLemmas.{StandsAt, shaped_at, node_low}
@@ -38,10 +38,11 @@ lies_node m f at has lies = (f.first, record { function = f; has = has; lies = l
 may_open : (m : Placed) (node : ℕ) (n : Placed) (g : PlacedFunction) → MayPoint m node n g → IsOpen n g
 may_open m node n g may = record { taken = may.taken; callable = fits_callable m.types node n.types g.ty may.fits }
 
-module _ (ms : List Placed) (classes : List (List ℕ)) (apart : AreApart ms) (flow : Flow)
-    (wider : AreWider ms classes flow.widenings.items) (tells : TellsFlow ms classes flow) where
+module _ (ms : List Placed) (imports : ByName) (classes : List (List ℕ)) (named : AreImports ms imports)
+    (apart : AreApart ms) (flow : Flow)
+    (wider : AreWider ms classes flow.widenings.items) (tells : TellsFlow ms imports classes flow) where
   by_unit : (number : ℕ) (m : Placed) → slice_get ms number ≡ Some m → (at : ℕ) (unit : CodeUnit) → Stands m at unit
-      → (fact : Fact) → IsUnitFact classes number m at unit fact → IsTold ms classes fact
+      → (fact : Fact) → IsUnitFact imports classes number m at unit fact → IsTold ms imports classes fact
   by_unit number m is at unit stands fact told = record {
     number = number;
     owner = m;
@@ -52,7 +53,7 @@ module _ (ms : List Placed) (classes : List (List ℕ)) (apart : AreApart ms) (f
   step : (a b c : ℕ) → Links flow.arrows.items a b → Reaches flow.arrows.items b c → Reaches flow.arrows.items a c
   step a b c arrow (steps, path) = (suc steps, (b, arrow, path))
 
-  told_arrow : (a b : ℕ) → IsTold ms classes (facts.Arrow (make_link a b)) → Links flow.arrows.items a b
+  told_arrow : (a b : ℕ) → IsTold ms imports classes (facts.Arrow (make_link a b)) → Links flow.arrows.items a b
   told_arrow a b told = (tells.arrows a b).1 (inl told)
 
   -- the node of an open function's type leads to the function
@@ -97,15 +98,12 @@ module _ (ms : List Placed) (classes : List (List ℕ)) (apart : AreApart ms) (f
 
   -- ---- tail calls
 
-  tail_step : (i : ℕ) (m : Placed) (f : PlacedFunction) → StandsAt ms i m f → (j : ℕ) (n : Placed) (g : PlacedFunction)
-      → StandsAt ms j n g → (at : ℕ) → LiesIn f at → (unit : CodeUnit) → Stands m at unit → IsTailCall m at unit n g
-      → (to : ℕ) → Reaches flow.arrows.items (function_node n g) to → Reaches flow.arrows.items (function_node m f) to
-  tail_step i m f m_at j n g n_at at lies (units.Jump false off) stands call to rest =
-      step (function_node m f) (function_node n g) to
-      (told_arrow (function_node m f) (function_node n g) (by_unit i m m_at.is at (units.Jump false off) stands
-      (facts.Arrow (make_link (function_node m f) (function_node n g)))
-      (lies_node m f at m_at.has lies, leads_word m at off j n g n_at call))) rest
-  tail_step i m f m_at j n g n_at at lies (units.Check linked rs1 imm slot) stands (type, has, may) to rest =
+  pointer_step : (i : ℕ) (m : Placed) (f : PlacedFunction) → StandsAt ms i m f → (j : ℕ) (n : Placed)
+      (g : PlacedFunction) → StandsAt ms j n g → (at : ℕ) → LiesIn f at → (linked : Bool) (rs1 : ℕ) (imm : ℤ) (slot : ℕ)
+      → Stands m at (units.Check linked rs1 imm slot) → (type : ℕ) → HasKind m slot (kinds.Tail type)
+      → MayPoint m type n g → (to : ℕ) → Reaches flow.arrows.items (function_node n g) to
+      → Reaches flow.arrows.items (function_node m f) to
+  pointer_step i m f m_at j n g n_at at lies linked rs1 imm slot stands type has may to rest =
       let within = branch_names m (shaped_at ms apart i m m_at.is) slot (kinds.Tail type) has in
       let node = type_node classes i type in
       step (function_node m f) node to
@@ -113,6 +111,45 @@ module _ (ms : List Placed) (classes : List (List ℕ)) (apart : AreApart ms) (f
       (facts.Arrow (make_link (function_node m f) node))
       (kinds.Tail type, has, (lies_node m f at m_at.has lies, refl))))
       (pointer_reaches i j m n type g m_at.is within n_at may to rest)
+
+  -- an import leads from its function to the one that its name means
+  import_step : (i : ℕ) (m : Placed) (f : PlacedFunction) → StandsAt ms i m f → (n : Placed) (g : PlacedFunction)
+      → (at : ℕ) → LiesIn f at → (linked : Bool) (rs1 : ℕ) (imm : ℤ) (slot : ℕ)
+      → Stands m at (units.Check linked rs1 imm slot) → (name : List ℕ) (cell : ℕ)
+      → HasKind m slot (kinds.Import name cell) → IsImported ms name n g → (to : ℕ)
+      → Reaches flow.arrows.items (function_node n g) to → Reaches flow.arrows.items (function_node m f) to
+  import_step i m f m_at n g at lies linked rs1 imm slot stands name cell has is to rest =
+      let target : IsImportTarget ms name (entry_of n g) = record { owner = n; function = g; is = is; entry = refl } in
+      let there : imports name ≡ Some (entry_of n g) = (named name (entry_of n g)).1 target in
+      let word : function_node n g ≡ word_of (entry_of n g) = omega arith in
+      step (function_node m f) (function_node n g) to
+      (told_arrow (function_node m f) (function_node n g)
+      (by_unit i m m_at.is at (units.Check linked rs1 imm slot) stands
+      (facts.Arrow (make_link (function_node m f) (function_node n g)))
+      (kinds.Import name cell, has, (lies_node m f at m_at.has lies, (entry_of n g, there, word))))) rest
+
+  kind_step : (i : ℕ) (m : Placed) (f : PlacedFunction) → StandsAt ms i m f → (j : ℕ) (n : Placed) (g : PlacedFunction)
+      → StandsAt ms j n g → (at : ℕ) → LiesIn f at → (linked : Bool) (rs1 : ℕ) (imm : ℤ) (slot : ℕ)
+      → Stands m at (units.Check linked rs1 imm slot) → (kind : Kind) → HasKind m slot kind → MayTail ms m kind n g
+      → (to : ℕ) → Reaches flow.arrows.items (function_node n g) to → Reaches flow.arrows.items (function_node m f) to
+  kind_step i m f m_at j n g n_at at lies linked rs1 imm slot stands (kinds.Tail type) has may to rest =
+      pointer_step i m f m_at j n g n_at at lies linked rs1 imm slot stands type has may to rest
+  kind_step i m f m_at j n g n_at at lies linked rs1 imm slot stands (kinds.Import name cell) has may to rest =
+      import_step i m f m_at n g at lies linked rs1 imm slot stands name cell has may to rest
+  kind_step i m f m_at j n g n_at at lies linked rs1 imm slot stands (kinds.Call type) has may to rest = absurd may
+  kind_step i m f m_at j n g n_at at lies linked rs1 imm slot stands kinds.Return has may to rest = absurd may
+  kind_step i m f m_at j n g n_at at lies linked rs1 imm slot stands (kinds.Switch entries) has may to rest = absurd may
+
+  tail_step : (i : ℕ) (m : Placed) (f : PlacedFunction) → StandsAt ms i m f → (j : ℕ) (n : Placed) (g : PlacedFunction)
+      → StandsAt ms j n g → (at : ℕ) → LiesIn f at → (unit : CodeUnit) → Stands m at unit → IsTailCall ms m at unit n g
+      → (to : ℕ) → Reaches flow.arrows.items (function_node n g) to → Reaches flow.arrows.items (function_node m f) to
+  tail_step i m f m_at j n g n_at at lies (units.Jump false off) stands call to rest =
+      step (function_node m f) (function_node n g) to
+      (told_arrow (function_node m f) (function_node n g) (by_unit i m m_at.is at (units.Jump false off) stands
+      (facts.Arrow (make_link (function_node m f) (function_node n g)))
+      (lies_node m f at m_at.has lies, leads_word m at off j n g n_at call))) rest
+  tail_step i m f m_at j n g n_at at lies (units.Check linked rs1 imm slot) stands (kind, has, may) to rest =
+      kind_step i m f m_at j n g n_at at lies linked rs1 imm slot stands kind has may to rest
   tail_step i m f m_at j n g n_at at lies (units.Jump true off) stands call to rest = absurd call
   tail_step i m f m_at j n g n_at at lies (units.Plain insn) stands call to rest = absurd call
   tail_step i m f m_at j n g n_at at lies (units.Load kind rd rs1 imm) stands call to rest = absurd call
@@ -168,7 +205,7 @@ module _ (ms : List Placed) (classes : List (List ℕ)) (apart : AreApart ms) (f
   -- ---- edges
 
   pointee_goes : (i : ℕ) (m : Placed) → slice_get ms i ≡ Some m → (type slot address : ℕ) → type < length m.types
-      → IsTold ms classes (facts.Pointer (make_link (type_node classes i type) slot)) → IsPointee ms m type address
+      → IsTold ms imports classes (facts.Pointer (make_link (type_node classes i type) slot)) → IsPointee ms m type address
       → Goes flow slot address
   pointee_goes i m is type slot address within told p =
       let n_at = number_of ms p.owner p.function p.is in
@@ -226,6 +263,9 @@ module _ (ms : List Placed) (classes : List (List ℕ)) (apart : AreApart ms) (f
       (facts.Pointer (make_link (type_node classes i type) slot)) (kinds.Tail type, has, (refl, refl))) goes
   kind_goes i m is at linked rs1 imm slot stands kinds.Return has address goes =
       return_goes i m is at linked rs1 imm slot stands has address goes
+  kind_goes i m is at linked rs1 imm slot stands (kinds.Import name cell) has address goes =
+      inl ((tells.listed slot address).1 (by_unit i m is at (units.Check linked rs1 imm slot) stands
+      (facts.Listed (make_link slot address)) (kinds.Import name cell, has, (refl, (named name address).1 goes))))
   kind_goes i m is at linked rs1 imm slot stands (kinds.Switch entries) has address goes =
       inl ((tells.listed slot address).1 (by_unit i m is at (units.Check linked rs1 imm slot) stands
       (facts.Listed (make_link slot address)) (kinds.Switch entries, has, (refl, goes))))

@@ -16,8 +16,9 @@ use Rattle.cfi_graph.specs.Code.{Stands}
 use Rattle.cfi_unit.specs.Spots.{place_of}
 use Rattle.cfi_graph.specs.Calls.{HasKind}
 use Rattle.cfi_graph.specs.Shaped.{IsUnitPlace, IsNamed, IsShaped, AreApart}
-use Rattle.cfi_graph.specs.Direct.{IsPointee, IsReturnTarget, GoesTo, DirectEdge}
+use Rattle.cfi_graph.specs.Direct.{IsPointee, IsReturnTarget, IsImportTarget, GoesTo, DirectEdge}
 use Rattle.cfi_graph.proofs.BoundLemmas.{contains_at, stands_within, inside, branch_names}
+use Rattle.cfi_graph.proofs.ImportLemmas.{imported_at}
 
 -- an address of code: of a code word, or past the last one
 pub record IsEnd (address : ℕ) : Type 0 where
@@ -63,6 +64,14 @@ module _ (ms : List Placed) (apart : AreApart ms) where
       let last = shape.1.ends in
       subst IsEnd (sym p.entry) (word_end (p.owner.base + p.function.first) (omega (arith, ends, last)))
 
+  import_end : (name : List ℕ) (address : ℕ) → IsImportTarget ms name address → IsEnd address
+  import_end name address to =
+      let at = imported_at ms name to.owner to.function to.is in
+      let shape = is_shaped to.owner (contains_at ms to.is.number to.owner at.is) in
+      let ends = (inside to.owner shape to.function at.has).ends in
+      let last = shape.1.ends in
+      subst IsEnd (sym to.entry) (word_end (to.owner.base + to.function.first) (omega (arith, ends, last)))
+
   return_end : (m : Placed) (at address : ℕ) → IsReturnTarget ms m at address → IsEnd address
   return_end m at address r =
       let call = r.returns in
@@ -93,6 +102,7 @@ module _ (ms : List Placed) (apart : AreApart ms) where
   goes_end m placed at slot kinds.Return has address goes = return_end m at address goes
   goes_end m placed at slot (kinds.Switch entries) has address (entry, listed, is) =
       switch_end m placed slot entries has entry address listed is
+  goes_end m placed at slot (kinds.Import name cell) has address goes = import_end name address goes
 
   pub has_ends : (slot address : ℕ) → DirectEdge ms slot address → HasEnds ms slot address
   has_ends slot address e = record {

@@ -9,7 +9,7 @@ use Rattle.cfi_types.specs.Classes.{AreClasses}
 use Rattle.cfi_fits.specs.Widenings.{AreWidenings}
 use Rattle.cfi_aux.specs.declared.placed.Placed.{Placed}
 use Rattle.cfi_graph.specs.declared.fact.Fact.{Fact}
-use Rattle.cfi_graph.specs.Facts.{AreFacts}
+use Rattle.cfi_graph.specs.Facts.{ByName, AreImports, AreFacts}
 use Rattle.cfi_graph.specs.Reading.{tables_of, node_count, HaveGraph}
 use Rattle.cfi_graph.specs.Edges.{told_most, links_most}
 use Rattle.cfi_graph.specs.inner.Flows.{type_link, IsFlowOf, GoesAs}
@@ -22,35 +22,36 @@ use Rattle.cfi_graph.proofs.BelowLemmas.{below_nodes}
 use Rattle.cfi_graph.proofs.ToldLemmas.{as_many_links}
 
 -- what the flow of modules is made of
-pub record IsMade (ms : List Placed) (classes : List (List ℕ)) (wider : List Link) (list : List Fact) (links : List Link)
+pub record IsMade (ms : List Placed) (imports : ByName) (classes : List (List ℕ)) (wider : List Link) (list : List Fact) (links : List Link)
     (count : ℕ) : Type 0 where
   pub graph : HaveGraph ms
   pub typed : AreClasses (tables_of ms) classes
   pub wide : AreWidenings (tables_of ms) classes wider
-  pub facts : AreFacts ms classes list
+  pub facts : AreFacts ms imports classes list
+  pub named : AreImports ms imports
   pub few : length list ≤ sum_by told_most ms
   pub linked : links ≡ map type_link wider
   pub nodes : count ≡ node_count ms
 
-module _ (ms : List Placed) (classes : List (List ℕ)) (wider : List Link) (list : List Fact) (links : List Link)
-    (count : ℕ) (made : IsMade ms classes wider list links count) (flow : Flow)
+module _ (ms : List Placed) (imports : ByName) (classes : List (List ℕ)) (wider : List Link) (list : List Fact) (links : List Link)
+    (count : ℕ) (made : IsMade ms imports classes wider list links count) (flow : Flow)
     (is : IsFlowOf list links count flow) where
   flow_wider : AreWider ms classes flow.widenings.items
   flow_wider =
       subst (λ ls. AreWider ms classes ls) (sym (is.widenings ∙ made.linked))
       (are_wider ms classes made.typed wider made.wide)
 
-  flow_tells : TellsFlow ms classes flow
-  flow_tells = tells_flow ms classes list made.facts links count flow is
+  flow_tells : TellsFlow ms imports classes flow
+  flow_tells = tells_flow ms imports classes list made.facts links count flow is
 
   pub flow_sound : IsSound flow
   flow_sound =
-      below_nodes ms classes made.graph.apart made.typed flow flow_wider flow_tells (is.nodes ∙ made.nodes)
+      below_nodes ms imports classes made.named made.graph.apart made.typed flow flow_wider flow_tells (is.nodes ∙ made.nodes)
 
   pub flow_goes : GoesAs ms flow
   flow_goes = λ slot address. (
-    goes_direct ms classes made.graph.apart flow flow_wider flow_tells slot address,
-    direct_goes ms classes made.graph.apart flow flow_wider flow_tells slot address,
+    goes_direct ms imports classes made.named made.graph.apart flow flow_wider flow_tells slot address,
+    direct_goes ms imports classes made.named made.graph.apart flow flow_wider flow_tells slot address,
   )
 
   pub flow_few : link_count flow ≤ links_most ms

@@ -13,12 +13,13 @@ use Rattle.cfi_aux.specs.declared.records.Kind.TheVariants as kinds
 use Rattle.cfi_graph.specs.declared.fact.Fact.TheVariants as facts
 use Rattle.cfi_graph.specs.Code.{Stands, code_address, entry_of, Leads}
 use Rattle.cfi_graph.specs.Shaped.{AreApart}
-use Rattle.cfi_graph.specs.Calls.{HasKind, IsFunction, MayPoint, TailCalls, IsReached}
+use Rattle.cfi_graph.specs.Calls.{HasKind, IsFunction, MayPoint, IsImported, TailCalls, IsReached}
 use Rattle.cfi_aux.specs.Extent.{LiesIn}
-use Rattle.cfi_graph.specs.Facts.{type_node, function_node, LeadsToWord, LiesInNode, IsOpen, IsJumpFact, IsBranchFact, IsTold}
+use Rattle.cfi_graph.specs.Facts.{ByName, AreImports, word_of, type_node, function_node, LeadsToWord, LiesInNode, IsOpen, IsJumpFact, IsBranchFact, IsTold}
 use Rattle.cfi_flow.proofs.RowLemmas.{make_link}
 use Rattle.cfi_flow.proofs.PathLemmas.{reaches_then, one_arrow}
 use Rattle.cfi_graph.proofs.BoundLemmas.{contains_at, inside, branch_names}
+use Rattle.cfi_graph.proofs.ImportLemmas.{imported_at, imported_word}
 use Rattle.cfi_graph.proofs.NodeLemmas.{StandsAt, shaped_at, node_low, same_numbers, same_modules, same_functions}
 use Rattle.cfi_graph.proofs.WiderLemmas.{AreWider, reaches_high}
 use Rattle.cfi_graph.proofs.ReadLemmas.{IsArrow, TellsFlow, unit_cases}
@@ -58,7 +59,8 @@ pub leads_entry : (address : ℕ) (off : ℤ) (word : ℕ) (n : Placed) (g : Pla
 leads_entry address off word n g leads is =
     subst (λ w. Leads address off (4 * w)) is leads
 
-module _ (ms : List Placed) (classes : List (List ℕ)) (apart : AreApart ms) (flow : Flow)
+module _ (ms : List Placed) (imports : ByName) (classes : List (List ℕ)) (named : AreImports ms imports)
+    (apart : AreApart ms) (flow : Flow)
     (wider : AreWider ms classes flow.widenings.items) where
   pub is_function : (number : ℕ) (m : Placed) (f : PlacedFunction) → StandsAt ms number m f → IsFunction ms m f
   is_function number m f at = record { placed = contains_at ms number m at.is; function = at.has }
@@ -92,7 +94,7 @@ module _ (ms : List Placed) (classes : List (List ℕ)) (apart : AreApart ms) (f
     -- a tail call more
     one_more : (number : ℕ) (o : Placed) → slice_get ms number ≡ Some o → (at node next : ℕ) → LiesInNode o at node
         → (e : IsEntered ms classes flow.widenings.items m f next)
-        → ((h : PlacedFunction) → Contains o.functions h → LiesIn h at → TailCalls o h e.owner e.entered)
+        → ((h : PlacedFunction) → Contains o.functions h → LiesIn h at → TailCalls ms o h e.owner e.entered)
         → IsEntered ms classes flow.widenings.items m f node
     one_more number o is at node next lies e calls =
         let there = lies_there o at node lies in
@@ -146,13 +148,46 @@ module _ (ms : List Placed) (classes : List (List ℕ)) (apart : AreApart ms) (f
                 unit = units.Check linked rs1 imm slot;
                 stands = stands;
                 call = (
-                  type,
+                  kinds.Tail type,
                   has,
                   may_point number e.number o e.owner type e.entered is
                       (branch_names o (shaped_at ms apart number o is) slot (kinds.Tail type) has) e.at opened.0
                       (subst (λ k. Reaches flow.widenings.items (type_node classes e.number e.entered.ty) k) to opened.1),
                 );
               })
+        ]
+
+    import_step : (number : ℕ) (o : Placed) → slice_get ms number ≡ Some o → (at : ℕ) (linked : Bool) (rs1 : ℕ)
+        (imm : ℤ) (slot : ℕ) → Stands o at (units.Check linked rs1 imm slot) → (name : List ℕ) (cell : ℕ)
+        → HasKind o slot (kinds.Import name cell) → (node next address : ℕ) → LiesInNode o at node
+        → imports name ≡ Some address → next ≡ word_of address
+        → IsEntered ms classes flow.widenings.items m f next → IsEntered ms classes flow.widenings.items m f node
+    import_step number o is at linked rs1 imm slot stands name cell has node next address lies there word e =
+        let to = (named name address).0 there in
+        let n_at = imported_at ms name to.owner to.function to.is in
+        let here : next ≡ function_node to.owner to.function = imported_word ms name address next to word in
+        elim e.enters [
+          | inl same ↦
+              let one : function_node to.owner to.function ≡ function_node e.owner e.entered = sym here ∙ same in
+              let owners = same_modules ms apart to.is.number e.number to.owner e.owner to.function e.entered n_at e.at one in
+              let functions =
+              same_functions ms apart to.is.number e.number to.owner e.owner to.function e.entered n_at e.at one in
+              one_more number o is at node next lies e (λ h h_has in_h. record {
+                at = at;
+                lies = in_h;
+                unit = units.Check linked rs1 imm slot;
+                stands = stands;
+                call = (
+                  kinds.Import name cell,
+                  has,
+                  subst (λ g. IsImported ms name e.owner g) functions
+                      (subst (λ n. IsImported ms name n to.function) owners to.is),
+                );
+              })
+          | inr opened ↦
+              let low = (node_low ms apart to.is.number to.owner to.function n_at).1 in
+              let high = reaches_high ms classes flow.widenings.items wider e.number e.entered.ty next opened.1 in
+              absurd (omega (arith, low, high, here))
         ]
 
     open_step : (number : ℕ) (o : Placed) (h : PlacedFunction) → StandsAt ms number o h → IsOpen o h
@@ -218,19 +253,21 @@ module _ (ms : List Placed) (classes : List (List ℕ)) (apart : AreApart ms) (f
     check_arrow : (number : ℕ) (o : Placed) → slice_get ms number ≡ Some o
         → (at : ℕ) (linked : Bool) (rs1 : ℕ) (imm : ℤ) (slot : ℕ) → Stands o at (units.Check linked rs1 imm slot)
         → (kind : Kind) → HasKind o slot kind
-        → (node next : ℕ) → IsBranchFact classes number o at slot kind (facts.Arrow (make_link node next))
+        → (node next : ℕ) → IsBranchFact imports classes number o at slot kind (facts.Arrow (make_link node next))
         → IsEntered ms classes flow.widenings.items m f next → IsEntered ms classes flow.widenings.items m f node
     check_arrow number o is at linked rs1 imm slot stands (kinds.Tail type) has node next told e =
         tail_step number o is at linked rs1 imm slot stands type has node next told.0 told.1 e
     check_arrow number o is at linked rs1 imm slot stands (kinds.Call type) has node next told e = absurd told
     check_arrow number o is at linked rs1 imm slot stands kinds.Return has node next told e = absurd told
     check_arrow number o is at linked rs1 imm slot stands (kinds.Switch entries) has node next told e = absurd told
+    check_arrow number o is at linked rs1 imm slot stands (kinds.Import name cell) has node next (lies, (address, there, word)) e =
+        import_step number o is at linked rs1 imm slot stands name cell has node next address lies there word e
 
-    told_step : (node next : ℕ) → IsTold ms classes (facts.Arrow (make_link node next)) → IsEntered ms classes flow.widenings.items m f next
+    told_step : (node next : ℕ) → IsTold ms imports classes (facts.Arrow (make_link node next)) → IsEntered ms classes flow.widenings.items m f next
         → IsEntered ms classes flow.widenings.items m f node
     told_step node next told e =
         elim told.tells [
-          | inl unit ↦ elim (unit_cases classes told.number told.owner (facts.Arrow (make_link node next)) unit) [
+          | inl unit ↦ elim (unit_cases imports classes told.number told.owner (facts.Arrow (make_link node next)) unit) [
             | inl check ↦
                 check_arrow told.number told.owner told.is check.at check.linked check.rs1 check.imm check.slot
                 check.stands check.kind check.has node next check.tells e
@@ -245,13 +282,13 @@ module _ (ms : List Placed) (classes : List (List ℕ)) (apart : AreApart ms) (f
               open_step told.number told.owner function.function at tells.0 node next tells.1 tells.2 e
         ]
 
-    arrow_step : (node next : ℕ) → IsArrow ms classes flow node next
+    arrow_step : (node next : ℕ) → IsArrow ms imports classes flow node next
         → IsEntered ms classes flow.widenings.items m f next → IsEntered ms classes flow.widenings.items m f node
     arrow_step node next arrow e =
         elim arrow [ inl told ↦ told_step node next told e | inr link ↦ wider_step node next link e ]
 
     -- the nodes from which a function's node is reached
-    pub entered_by : TellsFlow ms classes flow → (number : ℕ) → StandsAt ms number m f
+    pub entered_by : TellsFlow ms imports classes flow → (number : ℕ) → StandsAt ms number m f
         → (steps node : ℕ) → IsPath flow.arrows.items steps node (function_node m f)
         → IsEntered ms classes flow.widenings.items m f node
     entered_by tells number at zero node path = record {

@@ -1,4 +1,5 @@
 pub mod ShapeLemmas
+mod ImportLemmas
 mod AddsLemmas
 mod PlaceLemmas
 mod FactLemmas

@@ -15,7 +15,7 @@ use Rattle.cfi_graph.specs.declared.fact.Fact.{Fact}
 use Rattle.cfi_graph.specs.declared.fact.Fact.TheVariants as facts
 use Rattle.cfi_graph.specs.Code.{Stands}
 use Rattle.cfi_graph.specs.Calls.{HasKind}
-use Rattle.cfi_graph.specs.Facts.{IsJumpFact, IsBranchFact, IsUnitFact, UnitTells, IsTold, AreFacts}
+use Rattle.cfi_graph.specs.Facts.{ByName, IsJumpFact, IsBranchFact, IsUnitFact, UnitTells, IsTold, AreFacts}
 use Rattle.cfi_graph.specs.inner.Flows.{arrow_in, site_in, return_in, pointer_in, entry_in, listed_in, IsFlowOf}
 use Rattle.cfi_flow.proofs.RowLemmas.{make_link}
 use Rattle.cfi_flow.proofs.PathLemmas.{flip, unflip}
@@ -108,42 +108,42 @@ listed_only (facts.Entry k) l is = absurd (none-some l is)
 -- ---- links
 
 -- the links of the list are those that the modules tell so
-abbrev pub Tell : (ms : List Placed) → (classes : List (List ℕ)) → (Link → Fact) → List Link → Type 0
-Tell ms classes make links = (a b : ℕ) → Links links a b ↔ IsTold ms classes (make (make_link a b))
+abbrev pub Tell : (ms : List Placed) → ByName → (classes : List (List ℕ)) → (Link → Fact) → List Link → Type 0
+Tell ms imports classes make links = (a b : ℕ) → Links links a b ↔ IsTold ms imports classes (make (make_link a b))
 
 -- an arrow is told, or leads from a wider type's node to a narrower one's
-abbrev pub IsArrow : (ms : List Placed) → (classes : List (List ℕ)) → Flow → (a b : ℕ) → Type 0
-IsArrow ms classes flow a b = IsTold ms classes (facts.Arrow (make_link a b)) ⊎ Links flow.widenings.items b a
+abbrev pub IsArrow : (ms : List Placed) → ByName → (classes : List (List ℕ)) → Flow → (a b : ℕ) → Type 0
+IsArrow ms imports classes flow a b = IsTold ms imports classes (facts.Arrow (make_link a b)) ⊎ Links flow.widenings.items b a
 
 -- a flow that says what the modules tell
-pub record TellsFlow (ms : List Placed) (classes : List (List ℕ)) (flow : Flow) : Type 0 where
-  pub arrows : (a b : ℕ) → Links flow.arrows.items a b ↔ IsArrow ms classes flow a b
-  pub sites : Tell ms classes (λ l. facts.Site l) flow.sites.items
-  pub returns : Tell ms classes (λ l. facts.Return l) flow.returns.items
-  pub pointers : Tell ms classes (λ l. facts.Pointer l) flow.pointers.items
-  pub entries : Tell ms classes (λ l. facts.Entry l) flow.entries.items
-  pub listed : Tell ms classes (λ l. facts.Listed l) flow.listed.items
+pub record TellsFlow (ms : List Placed) (imports : ByName) (classes : List (List ℕ)) (flow : Flow) : Type 0 where
+  pub arrows : (a b : ℕ) → Links flow.arrows.items a b ↔ IsArrow ms imports classes flow a b
+  pub sites : Tell ms imports classes (λ l. facts.Site l) flow.sites.items
+  pub returns : Tell ms imports classes (λ l. facts.Return l) flow.returns.items
+  pub pointers : Tell ms imports classes (λ l. facts.Pointer l) flow.pointers.items
+  pub entries : Tell ms imports classes (λ l. facts.Entry l) flow.entries.items
+  pub listed : Tell ms imports classes (λ l. facts.Listed l) flow.listed.items
 
-module _ (ms : List Placed) (classes : List (List ℕ)) (list : List Fact) (are : AreFacts ms classes list) where
+module _ (ms : List Placed) (imports : ByName) (classes : List (List ℕ)) (list : List Fact) (are : AreFacts ms imports classes list) where
   told_by : (make : Link → Fact) (pick : Fact → Option Link) (links : List Link)
       → links ≡ filter_map pick list → ((l : Link) → pick (make l) ≡ Some l)
-      → ((fact : Fact) (l : Link) → pick fact ≡ Some l → make l ≡ fact) → Tell ms classes make links
+      → ((fact : Fact) (l : Link) → pick fact ≡ Some l → make l ≡ fact) → Tell ms imports classes make links
   told_by make pick links is gives only a b = (
     λ has.
         let link = make_link a b in
         let found = from_picked pick list link (subst (λ ls. Contains ls link) is has) in
-        subst (IsTold ms classes) (sym (only found.0 link found.2)) (are.sound found.0 found.1),
+        subst (IsTold ms imports classes) (sym (only found.0 link found.2)) (are.sound found.0 found.1),
     λ told.
         let link = make_link a b in
         subst (λ ls. Contains ls link) (sym is)
         (member_picked pick list (make link) link (are.whole (make link) told) (gives link)),
   )
 
-  told_arrow : Tell ms classes (λ l. facts.Arrow l) (filter_map arrow_in list)
+  told_arrow : Tell ms imports classes (λ l. facts.Arrow l) (filter_map arrow_in list)
   told_arrow = told_by (λ l. facts.Arrow l) arrow_in (filter_map arrow_in list) refl (λ l. refl) arrow_only
 
   from_arrow : (widenings : List Link) (a b : ℕ) → Links (filter_map arrow_in list ++ map flipped widenings) a b
-      → IsTold ms classes (facts.Arrow (make_link a b)) ⊎ Links widenings b a
+      → IsTold ms imports classes (facts.Arrow (make_link a b)) ⊎ Links widenings b a
   from_arrow widenings a b has =
       elim (Contains-append_cases (filter_map arrow_in list) (map flipped widenings) (make_link a b) has) [
         | inl told ↦ inl ((told_arrow a b).0 told)
@@ -151,7 +151,7 @@ module _ (ms : List Placed) (classes : List (List ℕ)) (list : List Fact) (are 
       ]
 
   to_arrow : (widenings : List Link) (a b : ℕ)
-      → IsTold ms classes (facts.Arrow (make_link a b)) ⊎ Links widenings b a
+      → IsTold ms imports classes (facts.Arrow (make_link a b)) ⊎ Links widenings b a
       → Links (filter_map arrow_in list ++ map flipped widenings) a b
   to_arrow widenings a b is =
       elim is [
@@ -164,16 +164,16 @@ module _ (ms : List Placed) (classes : List (List ℕ)) (list : List Fact) (are 
   -- ---- the flow
 
   pub tells_flow : (widenings : List Link) (nodes : ℕ) (flow : Flow) → IsFlowOf list widenings nodes flow
-      → TellsFlow ms classes flow
+      → TellsFlow ms imports classes flow
   tells_flow widenings nodes flow is = record {
     arrows = λ a b. (
       λ has.
-          subst (λ ws. IsTold ms classes (facts.Arrow (make_link a b)) ⊎ Links ws b a) (sym is.widenings)
+          subst (λ ws. IsTold ms imports classes (facts.Arrow (make_link a b)) ⊎ Links ws b a) (sym is.widenings)
           (from_arrow widenings a b (subst (λ ls. Links ls a b) is.arrows has)),
       λ arrow.
           subst (λ ls. Links ls a b) (sym is.arrows)
           (to_arrow widenings a b
-          (subst (λ ws. IsTold ms classes (facts.Arrow (make_link a b)) ⊎ Links ws b a) is.widenings arrow)),
+          (subst (λ ws. IsTold ms imports classes (facts.Arrow (make_link a b)) ⊎ Links ws b a) is.widenings arrow)),
     );
     sites = told_by (λ l. facts.Site l) site_in flow.sites.items is.sites (λ l. refl) site_only;
     returns = told_by (λ l. facts.Return l) return_in flow.returns.items is.returns (λ l. refl) return_only;
@@ -185,7 +185,7 @@ module _ (ms : List Placed) (classes : List (List ℕ)) (list : List Fact) (are 
 -- ---- units
 
 -- a check of the module tells the fact
-pub record CheckTells (classes : List (List ℕ)) (number : ℕ) (m : Placed) (fact : Fact) : Type 0 where
+pub record CheckTells (imports : ByName) (classes : List (List ℕ)) (number : ℕ) (m : Placed) (fact : Fact) : Type 0 where
   pub at : ℕ
   pub linked : Bool
   pub rs1 : ℕ
@@ -194,7 +194,7 @@ pub record CheckTells (classes : List (List ℕ)) (number : ℕ) (m : Placed) (f
   pub stands : Stands m at (units.Check linked rs1 imm slot)
   pub kind : Kind
   pub has : HasKind m slot kind
-  pub tells : IsBranchFact classes number m at slot kind fact
+  pub tells : IsBranchFact imports classes number m at slot kind fact
 
 -- a direct jump of the module tells it
 pub record JumpTells (m : Placed) (fact : Fact) : Type 0 where
@@ -204,10 +204,10 @@ pub record JumpTells (m : Placed) (fact : Fact) : Type 0 where
   pub stands : Stands m at (units.Jump linked off)
   pub tells : IsJumpFact m at linked off fact
 
-check_or_jump : (classes : List (List ℕ)) (number : ℕ) (m : Placed) (fact : Fact) (at : ℕ) (unit : CodeUnit)
-    → Stands m at unit → IsUnitFact classes number m at unit fact
-    → CheckTells classes number m fact ⊎ JumpTells m fact
-check_or_jump classes number m fact at (units.Check linked rs1 imm slot) stands told = inl (record {
+check_or_jump : (imports : ByName) (classes : List (List ℕ)) (number : ℕ) (m : Placed) (fact : Fact) (at : ℕ) (unit : CodeUnit)
+    → Stands m at unit → IsUnitFact imports classes number m at unit fact
+    → CheckTells imports classes number m fact ⊎ JumpTells m fact
+check_or_jump imports classes number m fact at (units.Check linked rs1 imm slot) stands told = inl (record {
   at = at;
   linked = linked;
   rs1 = rs1;
@@ -218,15 +218,15 @@ check_or_jump classes number m fact at (units.Check linked rs1 imm slot) stands 
   has = told.1;
   tells = told.2;
 })
-check_or_jump classes number m fact at (units.Jump linked off) stands told =
+check_or_jump imports classes number m fact at (units.Jump linked off) stands told =
     inr (record { at = at; linked = linked; off = off; stands = stands; tells = told })
-check_or_jump classes number m fact at (units.Plain insn) stands told = absurd told
-check_or_jump classes number m fact at (units.Load kind rd rs1 imm) stands told = absurd told
-check_or_jump classes number m fact at (units.Store kind rs1 rs2 imm) stands told = absurd told
-check_or_jump classes number m fact at (units.Branch cond rs1 rs2 off) stands told = absurd told
-check_or_jump classes number m fact at units.Service stands told = absurd told
+check_or_jump imports classes number m fact at (units.Plain insn) stands told = absurd told
+check_or_jump imports classes number m fact at (units.Load kind rd rs1 imm) stands told = absurd told
+check_or_jump imports classes number m fact at (units.Store kind rs1 rs2 imm) stands told = absurd told
+check_or_jump imports classes number m fact at (units.Branch cond rs1 rs2 off) stands told = absurd told
+check_or_jump imports classes number m fact at units.Service stands told = absurd told
 
 -- a unit that tells something is a check or a jump
-pub unit_cases : (classes : List (List ℕ)) (number : ℕ) (m : Placed) (fact : Fact) → UnitTells classes number m fact
-    → CheckTells classes number m fact ⊎ JumpTells m fact
-unit_cases classes number m fact t = check_or_jump classes number m fact t.at t.unit t.stands t.tells
+pub unit_cases : (imports : ByName) (classes : List (List ℕ)) (number : ℕ) (m : Placed) (fact : Fact) → UnitTells imports classes number m fact
+    → CheckTells imports classes number m fact ⊎ JumpTells m fact
+unit_cases imports classes number m fact t = check_or_jump imports classes number m fact t.at t.unit t.stands t.tells

@@ -14,7 +14,7 @@ use Rattle.cfi_graph.specs.Code.{Stands, code_address}
 use Rattle.cfi_graph.specs.Shaped.{AreApart}
 use Rattle.cfi_graph.specs.Calls.{HasKind, ReturnsTo}
 use Rattle.cfi_graph.specs.Direct.{DirectEdge}
-use Rattle.cfi_graph.specs.Facts.{type_node, IsJumpFact, IsBranchFact, IsTold}
+use Rattle.cfi_graph.specs.Facts.{ByName, AreImports, type_node, IsJumpFact, IsBranchFact, IsTold}
 use Rattle.cfi_flow.proofs.RowLemmas.{make_link}
 use Rattle.cfi_graph.proofs.BoundLemmas.{contains_at, branch_names}
 use Rattle.cfi_graph.proofs.NodeLemmas.{shaped_at}
@@ -22,8 +22,9 @@ use Rattle.cfi_graph.proofs.WiderLemmas.{AreWider, reaches_high}
 use Rattle.cfi_graph.proofs.ReadLemmas.{TellsFlow, unit_cases}
 use Rattle.cfi_graph.proofs.GoesLemmas.{IsEntered, lies_there, leads_entry, is_function, apart_nodes, may_point, entered_by}
 
-module _ (ms : List Placed) (classes : List (List ℕ)) (apart : AreApart ms) (flow : Flow)
-    (wider : AreWider ms classes flow.widenings.items) (tells : TellsFlow ms classes flow) where
+module _ (ms : List Placed) (imports : ByName) (classes : List (List ℕ)) (named : AreImports ms imports)
+    (apart : AreApart ms) (flow : Flow)
+    (wider : AreWider ms classes flow.widenings.items) (tells : TellsFlow ms imports classes flow) where
   module _ (m : Placed) (f : PlacedFunction) where
     site_jump : (caller : Placed) → Contains ms caller → (at : ℕ) (linked : Bool) (off : ℤ)
         → Stands caller at (units.Jump linked off) → (node address : ℕ)
@@ -51,12 +52,12 @@ module _ (ms : List Placed) (classes : List (List ℕ)) (apart : AreApart ms) (f
     site_check : (number : ℕ) (caller : Placed) → slice_get ms number ≡ Some caller
         → (at : ℕ) (linked : Bool) (rs1 : ℕ) (imm : ℤ) (own : ℕ)
         → Stands caller at (units.Check linked rs1 imm own) → (kind : Kind) → HasKind caller own kind
-        → (node address : ℕ) → IsBranchFact classes number caller at own kind (facts.Site (make_link node address))
+        → (node address : ℕ) → IsBranchFact imports classes number caller at own kind (facts.Site (make_link node address))
         → (e : IsEntered ms classes flow.widenings.items m f node) → ReturnsTo ms e.owner e.entered address
     site_check number caller is at linked rs1 imm own stands (kinds.Call type) has node address told e =
         elim e.enters [
           | inl same ↦
-              absurd (apart_nodes ms classes apart flow wider e.number number type e.owner e.entered e.at (sym same ∙ told.0))
+              absurd (apart_nodes ms imports classes named apart flow wider e.number number type e.owner e.entered e.at (sym same ∙ told.0))
           | inr opened ↦ record {
             caller = caller;
             placed = contains_at ms number caller is;
@@ -66,7 +67,7 @@ module _ (ms : List Placed) (classes : List (List ℕ)) (apart : AreApart ms) (f
             call = (
               type,
               has,
-              may_point ms classes apart flow wider number e.number caller e.owner type e.entered is
+              may_point ms imports classes named apart flow wider number e.number caller e.owner type e.entered is
                   (branch_names caller (shaped_at ms apart number caller is) own (kinds.Call type) has) e.at opened.0
                   (subst (λ k. Reaches flow.widenings.items (type_node classes e.number e.entered.ty) k) told.0 opened.1),
             );
@@ -77,12 +78,14 @@ module _ (ms : List Placed) (classes : List (List ℕ)) (apart : AreApart ms) (f
     site_check number caller is at linked rs1 imm own stands kinds.Return has node address told e = absurd told
     site_check number caller is at linked rs1 imm own stands (kinds.Switch entries) has node address told e =
         absurd told
+    site_check number caller is at linked rs1 imm own stands (kinds.Import name cell) has node address told e =
+        absurd told
 
-    site_returns : (node address : ℕ) → IsTold ms classes (facts.Site (make_link node address))
+    site_returns : (node address : ℕ) → IsTold ms imports classes (facts.Site (make_link node address))
         → (e : IsEntered ms classes flow.widenings.items m f node) → ReturnsTo ms e.owner e.entered address
     site_returns node address told e =
         elim told.tells [
-          | inl unit ↦ elim (unit_cases classes told.number told.owner (facts.Site (make_link node address)) unit) [
+          | inl unit ↦ elim (unit_cases imports classes told.number told.owner (facts.Site (make_link node address)) unit) [
             | inl check ↦
                 site_check told.number told.owner told.is check.at check.linked check.rs1 check.imm check.slot
                 check.stands check.kind check.has node address check.tells e
@@ -96,13 +99,13 @@ module _ (ms : List Placed) (classes : List (List ℕ)) (apart : AreApart ms) (f
   return_edge : (number : ℕ) (m : Placed) → slice_get ms number ≡ Some m
       → (at : ℕ) (linked : Bool) (rs1 : ℕ) (imm : ℤ) (own : ℕ) → Stands m at (units.Check linked rs1 imm own)
       → (kind : Kind) → HasKind m own kind → (node slot address : ℕ) → (r : ReturnsAt flow node slot address)
-      → IsBranchFact classes number m at own kind (facts.Return (make_link r.returning slot))
+      → IsBranchFact imports classes number m at own kind (facts.Return (make_link r.returning slot))
       → DirectEdge ms slot address
   return_edge number m is at linked rs1 imm own stands kinds.Return has node slot address r told =
       let there = lies_there m at r.returning told.0 in
       let f = there.function in
       let path = subst (λ to. Reaches flow.arrows.items node to) there.is r.reached in
-      let e = entered_by ms classes apart flow wider m f tells number (record { is = is; has = there.has }) path.0 node
+      let e = entered_by ms imports classes named apart flow wider m f tells number (record { is = is; has = there.has }) path.0 node
       path.1 in
       record {
         owner = m;
@@ -120,7 +123,7 @@ module _ (ms : List Placed) (classes : List (List ℕ)) (apart : AreApart ms) (f
           lies = there.lies;
           owner = e.owner;
           entered = e.entered;
-          is = is_function ms classes apart flow wider e.number e.owner e.entered e.at;
+          is = is_function ms imports classes named apart flow wider e.number e.owner e.entered e.at;
           steps = e.steps;
           reached = e.reached;
           returns = site_returns m f node address ((tells.sites node address).0 r.site) e;
@@ -131,6 +134,8 @@ module _ (ms : List Placed) (classes : List (List ℕ)) (apart : AreApart ms) (f
   return_edge number m is at linked rs1 imm own stands (kinds.Tail type) has node slot address r told =
       absurd told
   return_edge number m is at linked rs1 imm own stands (kinds.Switch entries) has node slot address r told =
+      absurd told
+  return_edge number m is at linked rs1 imm own stands (kinds.Import name cell) has node slot address r told =
       absurd told
 
   no_return_jump : (m : Placed) (at : ℕ) (linked : Bool) (off : ℤ) (node slot : ℕ)
@@ -143,7 +148,7 @@ module _ (ms : List Placed) (classes : List (List ℕ)) (apart : AreApart ms) (f
   returned_edge node slot address r =
       let told = (tells.returns r.returning slot).0 r.back in
       elim told.tells [
-        | inl unit ↦ elim (unit_cases classes told.number told.owner (facts.Return (make_link r.returning slot)) unit) [
+        | inl unit ↦ elim (unit_cases imports classes told.number told.owner (facts.Return (make_link r.returning slot)) unit) [
           | inl check ↦
               return_edge told.number told.owner told.is check.at check.linked check.rs1 check.imm check.slot
               check.stands check.kind check.has node slot address r check.tells

@@ -12,7 +12,7 @@ use Rattle.cfi_unit.specs.declared.spot.Spot.{Spot}
 use Rattle.cfi_graph.specs.declared.fact.Fact.{Fact}
 use Rattle.cfi_graph.specs.Code.{Stands}
 use Rattle.cfi_unit.specs.Spots.{place_of, spots_of}
-use Rattle.cfi_graph.specs.Facts.{IsUnitFact, IsFunctionFact, UnitTells, FunctionTells, ModuleTells, AreFacts, Adds}
+use Rattle.cfi_graph.specs.Facts.{ByName, IsUnitFact, IsFunctionFact, UnitTells, FunctionTells, ModuleTells, AreFacts, Adds}
 use Rattle.cfi_graph.proofs.AddsLemmas.{TellsBelow, adds_as, adds_all}
 use Rattle.cfi_graph.proofs.BoundLemmas.{place_next, contains_at, at_contains}
 
@@ -47,11 +47,11 @@ spot_back a (first ∷ code) (suc k) unit at is place =
     spot_back (a + size_of first) code k unit at is (omega (arith, place, next))
 
 -- what the spot of a number tells
-abbrev pub SpotTells : (classes : List (List ℕ)) → (number : ℕ) → Placed → List Spot → ℕ → Fact → Type 0
-SpotTells classes number m spots k fact =
-    (spot : Spot) × (slice_get spots k ≡ Some spot) × IsUnitFact classes number m spot.at spot.unit fact
+abbrev pub SpotTells : ByName → (classes : List (List ℕ)) → (number : ℕ) → Placed → List Spot → ℕ → Fact → Type 0
+SpotTells imports classes number m spots k fact =
+    (spot : Spot) × (slice_get spots k ≡ Some spot) × IsUnitFact imports classes number m spot.at spot.unit fact
 
-module _ (classes : List (List ℕ)) (number : ℕ) (m : Placed) (code : List CodeUnit) (units : UnitCode m.words code)
+module _ (imports : ByName) (classes : List (List ℕ)) (number : ℕ) (m : Placed) (code : List CodeUnit) (units : UnitCode m.words code)
     (spots : List Spot) (are : spots ≡ spots_of 0 code) where
   -- a spot of the module stands there
   pub spot_stands : (k : ℕ) (spot : Spot) → slice_get spots k ≡ Some spot → Stands m spot.at spot.unit
@@ -63,13 +63,13 @@ module _ (classes : List (List ℕ)) (number : ℕ) (m : Placed) (code : List Co
   pub stand_all : (k : ℕ) (d : Spot) → k < length spots → Stands m (get_or spots k d).at (get_or spots k d).unit
   stand_all k d within = spot_stands k (get_or spots k d) (slice_get-get_or spots k d within)
 
-  from_spot : (fact : Fact) → TellsBelow (length spots) (SpotTells classes number m spots) fact
-      → UnitTells classes number m fact
+  from_spot : (fact : Fact) → TellsBelow (length spots) (SpotTells imports classes number m spots) fact
+      → UnitTells imports classes number m fact
   from_spot fact (k, less, (spot, is, told)) =
       record { at = spot.at; unit = spot.unit; stands = spot_stands k spot is; tells = told }
 
-  to_spot : (fact : Fact) → UnitTells classes number m fact
-      → TellsBelow (length spots) (SpotTells classes number m spots) fact
+  to_spot : (fact : Fact) → UnitTells imports classes number m fact
+      → TellsBelow (length spots) (SpotTells imports classes number m spots) fact
   to_spot fact t =
       let stands = t.stands in
       let same : stands.code ≡ code = UnitCode-one m.words stands.code code stands.units units in
@@ -83,29 +83,29 @@ module _ (classes : List (List ℕ)) (number : ℕ) (m : Placed) (code : List Co
       in
       (stands.number, slice_get_within spots stands.number own is, (own, is, t.tells))
 
-  pub units_tell : (old new : List Fact) → Adds old new (TellsBelow (length spots) (SpotTells classes number m spots))
-      → Adds old new (UnitTells classes number m)
+  pub units_tell : (old new : List Fact) → Adds old new (TellsBelow (length spots) (SpotTells imports classes number m spots))
+      → Adds old new (UnitTells imports classes number m)
   units_tell old new a =
-      adds_as old new (TellsBelow (length spots) (SpotTells classes number m spots)) (UnitTells classes number m) a
+      adds_as old new (TellsBelow (length spots) (SpotTells imports classes number m spots)) (UnitTells imports classes number m) a
       from_spot to_spot
 
 -- what the unit of a spot tells is what the spot of the number tells
-pub spot_tells : (classes : List (List ℕ)) (number : ℕ) (m : Placed) (spots : List Spot) (k : ℕ) (spot : Spot)
+pub spot_tells : (imports : ByName) (classes : List (List ℕ)) (number : ℕ) (m : Placed) (spots : List Spot) (k : ℕ) (spot : Spot)
     → slice_get spots k ≡ Some spot → (old new : List Fact)
-    → Adds old new (IsUnitFact classes number m spot.at spot.unit) → Adds old new (SpotTells classes number m spots k)
-spot_tells classes number m spots k spot is old new a =
-    adds_as old new (IsUnitFact classes number m spot.at spot.unit) (SpotTells classes number m spots k) a
+    → Adds old new (IsUnitFact imports classes number m spot.at spot.unit) → Adds old new (SpotTells imports classes number m spots k)
+spot_tells imports classes number m spots k spot is old new a =
+    adds_as old new (IsUnitFact imports classes number m spot.at spot.unit) (SpotTells imports classes number m spots k) a
     (λ fact told. (spot, is, told))
     (λ fact told.
     let same : told.0 ≡ spot = same_Some told.0 spot (sym told.1 ∙ is) in
-    subst (λ s. IsUnitFact classes number m s.at s.unit fact) same told.2)
+    subst (λ s. IsUnitFact imports classes number m s.at s.unit fact) same told.2)
 
-pub spot_tells_at : (classes : List (List ℕ)) (number : ℕ) (m : Placed) (spots : List Spot) (k : ℕ) (d : Spot)
+pub spot_tells_at : (imports : ByName) (classes : List (List ℕ)) (number : ℕ) (m : Placed) (spots : List Spot) (k : ℕ) (d : Spot)
     → k < length spots → (old new : List Fact)
-    → Adds old new (IsUnitFact classes number m (get_or spots k d).at (get_or spots k d).unit)
-    → Adds old new (SpotTells classes number m spots k)
-spot_tells_at classes number m spots k d within old new a =
-    spot_tells classes number m spots k (get_or spots k d) (slice_get-get_or spots k d within) old new a
+    → Adds old new (IsUnitFact imports classes number m (get_or spots k d).at (get_or spots k d).unit)
+    → Adds old new (SpotTells imports classes number m spots k)
+spot_tells_at imports classes number m spots k d within old new a =
+    spot_tells imports classes number m spots k (get_or spots k d) (slice_get-get_or spots k d within) old new a
 
 -- ---- functions
 
@@ -137,23 +137,23 @@ number_tells classes number m k f is old new a =
 
 -- ---- modules
 
-abbrev pub OwnerTells : (ms : List Placed) → (classes : List (List ℕ)) → ℕ → Fact → Type 0
-OwnerTells ms classes number fact =
-    (m : Placed) × (slice_get ms number ≡ Some m) × ModuleTells classes number m fact
+abbrev pub OwnerTells : (ms : List Placed) → ByName → (classes : List (List ℕ)) → ℕ → Fact → Type 0
+OwnerTells ms imports classes number fact =
+    (m : Placed) × (slice_get ms number ≡ Some m) × ModuleTells imports classes number m fact
 
-pub owner_tells : (ms : List Placed) (classes : List (List ℕ)) (number : ℕ) (m : Placed)
-    → slice_get ms number ≡ Some m → (old new : List Fact) → Adds old new (ModuleTells classes number m)
-    → Adds old new (OwnerTells ms classes number)
-owner_tells ms classes number m is old new a =
-    adds_as old new (ModuleTells classes number m) (OwnerTells ms classes number) a (λ fact told. (m, is, told))
+pub owner_tells : (ms : List Placed) (imports : ByName) (classes : List (List ℕ)) (number : ℕ) (m : Placed)
+    → slice_get ms number ≡ Some m → (old new : List Fact) → Adds old new (ModuleTells imports classes number m)
+    → Adds old new (OwnerTells ms imports classes number)
+owner_tells ms imports classes number m is old new a =
+    adds_as old new (ModuleTells imports classes number m) (OwnerTells ms imports classes number) a (λ fact told. (m, is, told))
     (λ fact told.
     let same : told.0 ≡ m = same_Some told.0 m (sym told.1 ∙ is) in
-    subst (λ n. ModuleTells classes number n fact) same told.2)
+    subst (λ n. ModuleTells imports classes number n fact) same told.2)
 
-pub all_told : (ms : List Placed) (classes : List (List ℕ)) (list : List Fact)
-    → Adds [] list (TellsBelow (length ms) (OwnerTells ms classes)) → AreFacts ms classes list
-all_told ms classes list a =
-    let all = adds_all list (TellsBelow (length ms) (OwnerTells ms classes)) a in
+pub all_told : (ms : List Placed) (imports : ByName) (classes : List (List ℕ)) (list : List Fact)
+    → Adds [] list (TellsBelow (length ms) (OwnerTells ms imports classes)) → AreFacts ms imports classes list
+all_told ms imports classes list a =
+    let all = adds_all list (TellsBelow (length ms) (OwnerTells ms imports classes)) a in
     record {
       sound = λ fact has.
           let told = (all fact).0 has in

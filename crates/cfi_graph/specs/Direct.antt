@@ -7,9 +7,9 @@ use Rattle.cfi_word.specs.Chain.{Chain}
 use Rattle.cfi_aux.specs.declared.placed.Placed.{Placed}
 use Rattle.cfi_aux.specs.declared.placed.PlacedFunction.{PlacedFunction}
 use Rattle.cfi_aux.specs.declared.records.Kind.{Kind}
-use Rattle.cfi_aux.specs.declared.records.Kind.TheVariants.{Call, Tail, Return, Switch}
+use Rattle.cfi_aux.specs.declared.records.Kind.TheVariants.{Call, Tail, Return, Switch, Import}
 use Rattle.cfi_graph.specs.Code.{Stands, entry_of}
-use Rattle.cfi_graph.specs.Calls.{HasKind, IsFunction, MayPoint, ReturnsTo, IsReached}
+use Rattle.cfi_graph.specs.Calls.{HasKind, IsFunction, MayPoint, IsImported, ReturnsTo, IsReached}
 use Rattle.cfi_aux.specs.Extent.{LiesIn}
 
 -- the address is that of a function to which a pointer to the type of a node of m may lead
@@ -33,12 +33,20 @@ pub record IsReturnTarget (ms : List Placed) (m : Placed) (at : ℕ) (address : 
   pub reached : IsReached ms steps owner entered m returning
   pub returns : ReturnsTo ms owner entered address
 
+-- the address is that of the function that a name means to the modules that import it
+pub record IsImportTarget (ms : List Placed) (name : List ℕ) (address : ℕ) : Type 0 where
+  pub owner : Placed
+  pub function : PlacedFunction
+  pub is : IsImported ms name owner function
+  pub entry : address ≡ entry_of owner function
+
 -- the branch of the kind, at a word of m, may go to the address
 abbrev pub GoesTo : (ms : List Placed) (m : Placed) (at : ℕ) → Kind → (address : ℕ) → Type 0
 GoesTo ms m at (Call node) address = IsPointee ms m node address
 GoesTo ms m at (Tail node) address = IsPointee ms m node address
 GoesTo ms m at Return address = IsReturnTarget ms m at address
 GoesTo ms m at (Switch entries) address = (entry : ℕ) × Contains entries entry × (address ≡ 4 * m.base + entry)
+GoesTo ms m at (Import name cell) address = IsImportTarget ms name address
 
 -- a direct edge of the modules
 pub record DirectEdge (ms : List Placed) (slot address : ℕ) : Type 0 where

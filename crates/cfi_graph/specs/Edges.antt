@@ -28,6 +28,7 @@ entry_count (kinds.Call node) = 0
 entry_count (kinds.Tail node) = 0
 entry_count kinds.Return = 0
 entry_count (kinds.Switch entries) = length entries
+entry_count (kinds.Import name cell) = 0
 
 -- how much a module tells at most of where control may go: one fact for each word of its code, two for each function,
 -- and one for each entry that a branch lists

@@ -1,6 +1,6 @@
 -- What the units and the functions of placed modules tell of where control may go. A node is what may be entered: a
 -- function, told by the code word at which it begins, or all functions of one type, told by a number past those words.
-use Rattle.std.specs.Prelude.{◌≡◌, ◌⊎◌, ℕ, ◌+◌, ◌*◌, ◌<◌, Bool, true, false, ℤ, List, slice_get, Some, IsTrue}
+use Rattle.std.specs.Prelude.{◌≡◌, ◌⊎◌, ◌↔◌, ℕ, ◌+◌, ◌*◌, ◌/◌, ◌<◌, Bool, true, false, ℤ, List, Option, slice_get, Some, IsTrue}
 use Rattle.std.specs.List.{Contains}
 use Rattle.cfi_unit.specs.declared.unit.Unit.{Unit as CodeUnit}
 use Rattle.cfi_unit.specs.declared.unit.Unit.TheVariants as units
@@ -17,6 +17,7 @@ use Rattle.cfi_graph.specs.declared.fact.Fact.TheVariants as facts
 use Rattle.cfi_graph.specs.declared.fact.TheConstants.{CHECK_WORDS}
 use Rattle.cfi_graph.specs.Code.{Stands, code_address, entry_of, Leads}
 use Rattle.cfi_graph.specs.Calls.{HasKind}
+use Rattle.cfi_graph.specs.Direct.{IsImportTarget}
 use Rattle.cfi_aux.specs.Extent.{LiesIn}
 
 -- the node of a type: its class, where modules are told by their numbers, from 0
@@ -53,30 +54,47 @@ IsJumpFact m at link off fact = ⊥
 abbrev pub listed_fact : (base slot entry : ℕ) → Fact
 listed_fact base slot entry = facts.Listed (record { from = slot; to = 4 * base + entry })
 
+-- where the imports of a name lead: the address of its function, if there is one
+abbrev pub ByName : Type 0
+ByName = (name : List ℕ) → Option ℕ
+
+-- where the imports of modules lead
+abbrev pub AreImports : List Placed → ByName → Type 0
+AreImports ms imports = (name : List ℕ) (address : ℕ) → (imports name ≡ Some address) ↔ IsImportTarget ms name address
+
+-- the code word of an address
+abbrev pub word_of : (address : ℕ) → ℕ
+word_of address = address / 4
+
 -- what a check at a word of the module tells, by its branch's kind
-abbrev pub IsBranchFact : (classes : List (List ℕ)) → (number : ℕ) → Placed → (at slot : ℕ) → Kind → Fact → Type 0
-IsBranchFact classes number m at slot (kinds.Call node) (facts.Pointer l) =
+abbrev pub IsBranchFact : ByName → (classes : List (List ℕ)) → (number : ℕ) → Placed → (at slot : ℕ) → Kind → Fact → Type 0
+IsBranchFact imports classes number m at slot (kinds.Call node) (facts.Pointer l) =
     (l.from ≡ type_node classes number node) × (l.to ≡ slot)
-IsBranchFact classes number m at slot (kinds.Call node) (facts.Site l) =
+IsBranchFact imports classes number m at slot (kinds.Call node) (facts.Site l) =
     (l.from ≡ type_node classes number node) × (l.to ≡ code_address m (at + CHECK_WORDS))
-IsBranchFact classes number m at slot (kinds.Call node) fact = ⊥
-IsBranchFact classes number m at slot (kinds.Tail node) (facts.Pointer l) =
+IsBranchFact imports classes number m at slot (kinds.Call node) fact = ⊥
+IsBranchFact imports classes number m at slot (kinds.Tail node) (facts.Pointer l) =
     (l.from ≡ type_node classes number node) × (l.to ≡ slot)
-IsBranchFact classes number m at slot (kinds.Tail node) (facts.Arrow l) =
+IsBranchFact imports classes number m at slot (kinds.Tail node) (facts.Arrow l) =
     LiesInNode m at l.from × (l.to ≡ type_node classes number node)
-IsBranchFact classes number m at slot (kinds.Tail node) fact = ⊥
-IsBranchFact classes number m at slot kinds.Return (facts.Return l) = LiesInNode m at l.from × (l.to ≡ slot)
-IsBranchFact classes number m at slot kinds.Return fact = ⊥
-IsBranchFact classes number m at slot (kinds.Switch entries) (facts.Listed l) =
+IsBranchFact imports classes number m at slot (kinds.Tail node) fact = ⊥
+IsBranchFact imports classes number m at slot kinds.Return (facts.Return l) = LiesInNode m at l.from × (l.to ≡ slot)
+IsBranchFact imports classes number m at slot kinds.Return fact = ⊥
+IsBranchFact imports classes number m at slot (kinds.Switch entries) (facts.Listed l) =
     (l.from ≡ slot) × ((entry : ℕ) × Contains entries entry × (l.to ≡ 4 * m.base + entry))
-IsBranchFact classes number m at slot (kinds.Switch entries) fact = ⊥
+IsBranchFact imports classes number m at slot (kinds.Switch entries) fact = ⊥
+IsBranchFact imports classes number m at slot (kinds.Import name cell) (facts.Listed l) =
+    (l.from ≡ slot) × (imports name ≡ Some l.to)
+IsBranchFact imports classes number m at slot (kinds.Import name cell) (facts.Arrow l) =
+    LiesInNode m at l.from × ((address : ℕ) × (imports name ≡ Some address) × (l.to ≡ word_of address))
+IsBranchFact imports classes number m at slot (kinds.Import name cell) fact = ⊥
 
 -- what a unit at a word of the module tells
-abbrev pub IsUnitFact : (classes : List (List ℕ)) → (number : ℕ) → Placed → (at : ℕ) → CodeUnit → Fact → Type 0
-IsUnitFact classes number m at (units.Jump link off) fact = IsJumpFact m at link off fact
-IsUnitFact classes number m at (units.Check link rs1 imm slot) fact =
-    (kind : Kind) × HasKind m slot kind × IsBranchFact classes number m at slot kind fact
-IsUnitFact classes number m at unit fact = ⊥
+abbrev pub IsUnitFact : ByName → (classes : List (List ℕ)) → (number : ℕ) → Placed → (at : ℕ) → CodeUnit → Fact → Type 0
+IsUnitFact imports classes number m at (units.Jump link off) fact = IsJumpFact m at link off fact
+IsUnitFact imports classes number m at (units.Check link rs1 imm slot) fact =
+    (kind : Kind) × HasKind m slot kind × IsBranchFact imports classes number m at slot kind fact
+IsUnitFact imports classes number m at unit fact = ⊥
 
 -- pointers may lead to the function: it is taken, and its type is a function's
 pub record IsOpen (m : Placed) (f : PlacedFunction) : Type 0 where
@@ -92,11 +110,11 @@ IsFunctionFact classes number m f (facts.Entry l) =
 IsFunctionFact classes number m f fact = ⊥
 
 -- some unit of the module tells the fact
-pub record UnitTells (classes : List (List ℕ)) (number : ℕ) (m : Placed) (fact : Fact) : Type 0 where
+pub record UnitTells (imports : ByName) (classes : List (List ℕ)) (number : ℕ) (m : Placed) (fact : Fact) : Type 0 where
   pub at : ℕ
   pub unit : CodeUnit
   pub stands : Stands m at unit
-  pub tells : IsUnitFact classes number m at unit fact
+  pub tells : IsUnitFact imports classes number m at unit fact
 
 -- some function of the module tells it
 pub record FunctionTells (classes : List (List ℕ)) (number : ℕ) (m : Placed) (fact : Fact) : Type 0 where
@@ -105,20 +123,20 @@ pub record FunctionTells (classes : List (List ℕ)) (number : ℕ) (m : Placed)
   pub tells : IsFunctionFact classes number m function fact
 
 -- the module tells it
-abbrev pub ModuleTells : (classes : List (List ℕ)) → (number : ℕ) → Placed → Fact → Type 0
-ModuleTells classes number m fact = UnitTells classes number m fact ⊎ FunctionTells classes number m fact
+abbrev pub ModuleTells : ByName → (classes : List (List ℕ)) → (number : ℕ) → Placed → Fact → Type 0
+ModuleTells imports classes number m fact = UnitTells imports classes number m fact ⊎ FunctionTells classes number m fact
 
 -- some of the modules tells it
-pub record IsTold (ms : List Placed) (classes : List (List ℕ)) (fact : Fact) : Type 0 where
+pub record IsTold (ms : List Placed) (imports : ByName) (classes : List (List ℕ)) (fact : Fact) : Type 0 where
   pub number : ℕ
   pub owner : Placed
   pub is : slice_get ms number ≡ Some owner
-  pub tells : ModuleTells classes number owner fact
+  pub tells : ModuleTells imports classes number owner fact
 
 -- these are the facts that the modules tell
-pub record AreFacts (ms : List Placed) (classes : List (List ℕ)) (list : List Fact) : Type 0 where
-  pub sound : (fact : Fact) → Contains list fact → IsTold ms classes fact
-  pub whole : (fact : Fact) → IsTold ms classes fact → Contains list fact
+pub record AreFacts (ms : List Placed) (imports : ByName) (classes : List (List ℕ)) (list : List Fact) : Type 0 where
+  pub sound : (fact : Fact) → Contains list fact → IsTold ms imports classes fact
+  pub whole : (fact : Fact) → IsTold ms imports classes fact → Contains list fact
 
 -- the new list has the facts of the old one, and what is told
 pub record Adds (old new : List Fact) (Tells : Fact → Type 0) : Type 0 where

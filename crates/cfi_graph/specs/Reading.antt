@@ -51,3 +51,4 @@ NamesInside base types (kinds.Call node) = node < types
 NamesInside base types (kinds.Tail node) = node < types
 NamesInside base types kinds.Return = ⊤
 NamesInside base types (kinds.Switch entries) = All (λ entry. 4 * base + entry < 4 * MAX_CODE_WORDS) entries
+NamesInside base types (kinds.Import name cell) = ⊤

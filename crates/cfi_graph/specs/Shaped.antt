@@ -9,7 +9,7 @@ use Rattle.cfi_word.specs.declared.limits.TheConstants.{MAX_CODE_WORDS}
 use Rattle.cfi_aux.specs.declared.placed.Placed.{Placed}
 use Rattle.cfi_aux.specs.declared.placed.PlacedFunction.{PlacedFunction}
 use Rattle.cfi_aux.specs.declared.records.Kind.{Kind}
-use Rattle.cfi_aux.specs.declared.records.Kind.TheVariants.{Call, Tail, Return, Switch}
+use Rattle.cfi_aux.specs.declared.records.Kind.TheVariants.{Call, Tail, Return, Switch, Import}
 use Rattle.cfi_unit.specs.Spots.{place_of, IsOneOf}
 
 -- the slot of a check
@@ -44,6 +44,7 @@ IsNamed code types (Call node) = node < types
 IsNamed code types (Tail node) = node < types
 IsNamed code types Return = ⊤
 IsNamed code types (Switch entries) = All (IsUnitPlace code) entries
+IsNamed code types (Import name cell) = ⊤
 
 -- the module, whose words are the code of these units, is shaped
 pub record IsShapedAs (m : Placed) (code : List CodeUnit) : Type 0 where

@@ -1,3 +1,4 @@
 -- What only private clauses cite.
 pub mod Flows
 pub mod Told
+pub mod Imports

@@ -9,6 +9,7 @@ ghost use Rattle.cfi_graph.specs.Edges.{AreDirectEdges, SpanDirectEdges, links_m
 
 use crate::fact::flow_by;
 use crate::facts::facts_of;
+use crate::imports::imports_of;
 use cfi_aux::Placed;
 use cfi_fits::widenings;
 use cfi_flow::{Flow, Link, all_edges, few_edges};
@@ -66,7 +67,8 @@ fn flow_of(alloc: Global, modules: &[Placed]) -> Result<Flow, AllocError>
     let classes = book.classes()?;
     let wider = widenings(alloc, &book, &classes)?;
     let links = type_links(alloc, wider.as_slice())?;
-    let facts = facts_of(alloc, modules, &classes)?;
+    let imports = imports_of(alloc, modules)?;
+    let facts = facts_of(alloc, modules, &imports, &classes)?;
     let nodes = node_count(modules);
     flow_by(alloc, facts.as_slice(), links, nodes)
 }

@@ -6,12 +6,14 @@ ghost use Rattle.cfi_word.specs.declared.limits.TheConstants.{MAX_CODE_WORDS};
 ghost use Rattle.cfi_graph.specs.Shaped.{FunctionPrecedes, slot_of};
 ghost use Rattle.cfi_graph.specs.Code.{Stands};
 ghost use Rattle.cfi_graph.specs.Facts.{IsJumpFact, IsUnitFact, IsFunctionFact, UnitTells, FunctionTells, ModuleTells, AreFacts, Adds};
+ghost use Rattle.cfi_graph.specs.inner.Imports.{imports_in};
 ghost use Rattle.cfi_graph.specs.Reading.{CanBeRead, CanAllBeRead};
 ghost use Rattle.cfi_graph.specs.Edges.{entry_count, told_most};
 ghost use Rattle.cfi_graph.specs.inner.Told.{listed_by, unit_told};
 
 use crate::branch_facts::add_branch;
 use crate::fact::Fact;
+use crate::imports::Imports;
 use crate::place::{first_at, is_open, kind_of, type_node, word_to};
 use crate::spot::spots;
 use cfi_aux::{Placed, PlacedFunction};
@@ -54,6 +56,7 @@ fn add_jump(
 // Adds what a check tells.
 fn add_check(
     facts: &mut Vec<Fact>,
+    imports: &Imports,
     classes: &Classes,
     number: u32,
     placed: &Placed,
@@ -64,19 +67,20 @@ fn add_check(
     requires stands { Stands placed.now spot.now.at spot.now.unit }
     requires slot { slot_of spot.now.unit ≡ Some slot }
     ensures adds { OnOk result (Adds facts.old.items facts.new.items
-        (IsUnitFact classes.now number placed.now spot.now.at spot.now.unit)) }
+        (IsUnitFact (imports_in imports.now) classes.now number placed.now spot.now.at spot.now.unit)) }
     ensures few { OnOk result
         (length facts.new.items ≤ length facts.old.items + 2 + listed_by placed.now (Some slot)) }
 {
     let Some(kind) = kind_of(placed, slot) else {
         return Ok(());
     };
-    add_branch(facts, classes, number, placed, spot.at, slot, kind)
+    add_branch(facts, imports, classes, number, placed, spot.at, slot, kind)
 }
 
 // Adds what a unit tells.
 fn add_unit(
     facts: &mut Vec<Fact>,
+    imports: &Imports,
     classes: &Classes,
     number: u32,
     placed: &Placed,
@@ -85,13 +89,13 @@ fn add_unit(
     requires read { CanBeRead classes.now number placed.now }
     requires stands { Stands placed.now spot.now.at spot.now.unit }
     ensures adds { OnOk result (Adds facts.old.items facts.new.items
-        (IsUnitFact classes.now number placed.now spot.now.at spot.now.unit)) }
+        (IsUnitFact (imports_in imports.now) classes.now number placed.now spot.now.at spot.now.unit)) }
     ensures few { OnOk result
         (length facts.new.items ≤ length facts.old.items + unit_told placed.now spot.now.unit) }
 {
     match spot.unit {
         Unit::Jump { link, off } => add_jump(facts, placed, spot.at, link, off),
-        Unit::Check { slot, .. } => add_check(facts, classes, number, placed, spot, slot),
+        Unit::Check { slot, .. } => add_check(facts, imports, classes, number, placed, spot, slot),
         Unit::Plain(_) | Unit::Load { .. } | Unit::Store { .. } => Ok(()),
         Unit::Branch { .. } | Unit::Service => Ok(()),
     }
@@ -101,19 +105,20 @@ fn add_unit(
 fn add_units(
     alloc: Global,
     facts: &mut Vec<Fact>,
+    imports: &Imports,
     classes: &Classes,
     number: u32,
     placed: &Placed,
 ) -> Result<(), AllocError>
     requires { CanBeRead classes.now number placed.now }
     ensures adds { OnOk result (Adds facts.old.items facts.new.items
-        (UnitTells classes.now number placed.now)) }
+        (UnitTells (imports_in imports.now) classes.now number placed.now)) }
     ensures few { OnOk result
         (length facts.new.items ≤ length facts.old.items + length placed.now.words + sum_by entry_count placed.now.branches) }
 {
     let spots = spots(alloc, placed.words.as_slice())?;
     for spot in &spots {
-        add_unit(facts, classes, number, placed, spot)?;
+        add_unit(facts, imports, classes, number, placed, spot)?;
     }
     Ok(())
 }
@@ -169,17 +174,18 @@ fn add_functions(
 fn add_module(
     alloc: Global,
     facts: &mut Vec<Fact>,
+    imports: &Imports,
     classes: &Classes,
     number: u32,
     placed: &Placed,
 ) -> Result<(), AllocError>
     requires { CanBeRead classes.now number placed.now }
     ensures adds { OnOk result (Adds facts.old.items facts.new.items
-        (ModuleTells classes.now number placed.now)) }
+        (ModuleTells (imports_in imports.now) classes.now number placed.now)) }
     ensures few { OnOk result
         (length facts.new.items ≤ length facts.old.items + told_most placed.now) }
 {
-    add_units(alloc, facts, classes, number, placed)?;
+    add_units(alloc, facts, imports, classes, number, placed)?;
     add_functions(facts, classes, number, placed)
 }
 
@@ -187,16 +193,17 @@ fn add_module(
 pub(crate) fn facts_of(
     alloc: Global,
     modules: &[Placed],
+    imports: &Imports,
     classes: &Classes,
 ) -> Result<Vec<Fact>, AllocError>
     requires few { length modules.now < 2 ^ 32 }
     requires read { CanAllBeRead classes.now modules.now }
-    ensures facts { IfOk result (λ facts. AreFacts modules.now classes.now facts.items) }
+    ensures facts { IfOk result (λ facts. AreFacts modules.now (imports_in imports.now) classes.now facts.items) }
     ensures few { IfOk result (λ facts. length facts.items ≤ sum_by told_most modules.now) }
 {
     let mut facts = Vec::new(alloc);
     for (number, placed) in modules.iter().enumerate() {
-        add_module(alloc, &mut facts, classes, number as u32, placed)?;
+        add_module(alloc, &mut facts, imports, classes, number as u32, placed)?;
     }
     Ok(facts)
 }

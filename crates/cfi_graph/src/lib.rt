@@ -13,6 +13,7 @@ mod branch_facts;
 mod direct;
 mod fact;
 mod facts;
+mod imports;
 mod laws;
 mod place;
 mod shape;

@@ -12,9 +12,9 @@ returns-in-Return-clause-adds c =
     let new = c.add_return.new.facts.items in
     on_ok c.add_return.result
     ((classes : List (List ℕ)) (number : ℕ)
-    → Adds old new (IsBranchFact classes number m c.args.at c.args.slot Return))
-    (Adds old new (IsBranchFact c.args.classes.now c.args.number m c.args.at c.args.slot c.args.kind.now))
-    (λ all. subst (λ kind. Adds old new (IsBranchFact c.args.classes.now c.args.number m c.args.at c.args.slot kind))
+    → Adds old new (IsBranchFact imports classes number m c.args.at c.args.slot Return))
+    (Adds old new (IsBranchFact (imports_in c.args.imports.now) c.args.classes.now c.args.number m c.args.at c.args.slot c.args.kind.now))
+    (λ all. subst (λ kind. Adds old new (IsBranchFact (imports_in c.args.imports.now) c.args.classes.now c.args.number m c.args.at c.args.slot kind))
     (sym c.in-Return.is) (all c.args.classes.now c.args.number))
     c.add_return.ensures.adds
 
@@ -26,12 +26,12 @@ returns-in-Switch-clause-adds c =
     let entries = c.in-Switch.entries in
     let listed = listed_fact m.base c.args.slot in
     on_ok c.add_entries.result (new ≡ old ++ map listed c.as_slice.result.now)
-    (Adds old new (IsBranchFact c.args.classes.now c.args.number m c.args.at c.args.slot c.args.kind.now))
+    (Adds old new (IsBranchFact (imports_in c.args.imports.now) c.args.classes.now c.args.number m c.args.at c.args.slot c.args.kind.now))
     (λ is.
     let all : new ≡ old ++ map listed entries = is ∙ ap (λ es. old ++ map listed es) c.as_slice.ensures in
-    subst (λ kind. Adds old new (IsBranchFact c.args.classes.now c.args.number m c.args.at c.args.slot kind))
+    subst (λ kind. Adds old new (IsBranchFact (imports_in c.args.imports.now) c.args.classes.now c.args.number m c.args.at c.args.slot kind))
     (sym c.in-Switch.is)
     (subst (λ items. Adds old items
-    (IsBranchFact c.args.classes.now c.args.number m c.args.at c.args.slot (Switch entries))) (sym all)
+    (IsBranchFact (imports_in c.args.imports.now) c.args.classes.now c.args.number m c.args.at c.args.slot (Switch entries))) (sym all)
     (switch_adds c.args.classes.now c.args.number m c.args.at c.args.slot entries old)))
     c.add_entries.ensures

@@ -13,7 +13,7 @@ returns-in_default-clause-adds c = λ classes number.
     let found = c.first_at.ensures.only first (subst (λ fs. IsFirst fs c.args.at first) (sym c.as_slice.ensures) is) in
     let none = c.in_default.is in
     cc (found, none) in
-    adds_none c.args.facts.now.items (IsBranchFact classes number m c.args.at c.args.slot Return)
+    adds_none c.args.facts.now.items (IsBranchFact imports classes number m c.args.at c.args.slot Return)
     (nowhere_return m c.args.at no_first classes number c.args.slot)
 
 pub returns-clause-adds : goal.returns-clause-adds

@@ -13,7 +13,7 @@ returns-in_default-clause-adds c =
     let spot = c.args.spot.now in
     let none : (kind : Kind) → HasKind m c.args.slot kind → ⊥ = λ kind has.
     rw c.in_default.is at (c.kind_of.ensures.only kind has) in
-    adds_none c.args.facts.now.items (IsUnitFact c.args.classes.now c.args.number m spot.at spot.unit)
+    adds_none c.args.facts.now.items (IsUnitFact (imports_in c.args.imports.now) c.args.classes.now c.args.number m spot.at spot.unit)
     (no_kind c.args.classes.now c.args.number m spot.at c.args.slot none spot.unit c.requires.slot)
 
 pub add_branch-requires-clause-within : goal.add_branch-requires-clause-within
@@ -33,8 +33,8 @@ returns-clause-adds c =
     let old = c.args.facts.now.items in
     let new = c.add_branch.new.facts.items in
     on_ok c.add_branch.result
-    (Adds old new (IsBranchFact classes c.args.number m spot.at c.args.slot c.in-Some.kind.now))
-    (Adds old new (IsUnitFact classes c.args.number m spot.at spot.unit))
+    (Adds old new (IsBranchFact imports classes c.args.number m spot.at c.args.slot c.in-Some.kind.now))
+    (Adds old new (IsUnitFact imports classes c.args.number m spot.at spot.unit))
     (check_adds classes c.args.number m spot.at c.args.slot c.in-Some.kind.now c.in-Some.ensures.some spot.unit
     c.requires.slot old new)
     c.add_branch.ensures.adds

@@ -13,8 +13,8 @@ returns-clause-adds c =
     let mid = c.add_units.new.facts.items in
     let new = c.add_functions.new.facts.items in
     on_ok c.add_functions.result (Adds mid new (FunctionTells classes number m))
-    (Adds old new (ModuleTells classes number m))
-    (adds_then old mid new (UnitTells classes number m) (FunctionTells classes number m) c.in_ok-add_units.ensures.adds)
+    (Adds old new (ModuleTells imports classes number m))
+    (adds_then old mid new (UnitTells imports classes number m) (FunctionTells classes number m) c.in_ok-add_units.ensures.adds)
     c.add_functions.ensures.adds
 
 pub returns-clause-few : goal.returns-clause-few

@@ -27,7 +27,7 @@ loop-spot-preserved c =
     let k = c.loop-spot.spot-index in
     record {
       adds = adds_below_more c.args.facts.now.items c.loop-spot.facts.items c.add_unit.new.facts.items
-          (SpotTells c.args.classes.now c.args.number m items) k c.loop-spot.invariant.adds
+          (SpotTells (imports_in c.args.imports.now) c.args.classes.now c.args.number m items) k c.loop-spot.invariant.adds
           (spot_tells_at c.args.classes.now c.args.number m items k _ c.loop-spot-test.true c.loop-spot.facts.items
           c.add_unit.new.facts.items c.in_ok-add_unit.ensures.adds);
       few = told_more (λ s. unit_told m s.unit) items k _ c.loop-spot-test.true _ _ _ c.loop-spot.invariant.few
@@ -45,7 +45,7 @@ returns-clause-adds c =
     let all : c.loop-spot.spot-index ≡ length items = omega arith in
     units_tell c.args.classes.now c.args.number m code units items are c.args.facts.now.items c.loop-spot.facts.items
     (subst (λ n. Adds c.args.facts.now.items c.loop-spot.facts.items
-    (TellsBelow n (SpotTells c.args.classes.now c.args.number m items))) all c.loop-spot.invariant.adds)
+    (TellsBelow n (SpotTells (imports_in c.args.imports.now) c.args.classes.now c.args.number m items))) all c.loop-spot.invariant.adds)
 
 pub returns-clause-few : goal.returns-clause-few
 returns-clause-few c =

@@ -27,7 +27,7 @@ loop-number-preserved c =
     let is : slice_get ms number ≡ Some m =
     slice_get_read ms (length ms) number m refl c.loop-number-test.true c.index-modules-number.is in
     record {
-      adds = adds_below_more [] c.loop-number.facts.items c.add_module.new.facts.items (OwnerTells ms classes) number
+      adds = adds_below_more [] c.loop-number.facts.items c.add_module.new.facts.items (OwnerTells ms imports classes) number
           c.loop-number.invariant.adds
           (owner_tells ms classes number m is c.loop-number.facts.items c.add_module.new.facts.items
           c.in_ok-add_module.ensures.adds);
@@ -40,7 +40,7 @@ returns-clause-facts c =
     let classes = c.args.classes.now in
     let all : c.loop-number.number ≡ length ms = omega arith in
     all_told ms classes c.loop-number.facts.items
-    (subst (λ n. Adds [] c.loop-number.facts.items (TellsBelow n (OwnerTells ms classes))) all c.loop-number.invariant.adds)
+    (subst (λ n. Adds [] c.loop-number.facts.items (TellsBelow n (OwnerTells ms imports classes))) all c.loop-number.invariant.adds)
 
 pub returns-clause-few : goal.returns-clause-few
 returns-clause-few c =

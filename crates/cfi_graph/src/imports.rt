@@ -1,0 +1,77 @@
+//! Where the imports of modules lead, by the names of functions.
+
+ghost use Rattle.std.specs.Prelude.{◌≡◌, ℕ, List, All, None, Some, if◌then◌else◌, IfOk, OnOk};
+ghost use Rattle.std.specs.Option.{option_or};
+ghost use Rattle.std.specs.Str.{bytes_eq};
+ghost use Rattle.cfi_graph.specs.Facts.{AreImports};
+ghost use Rattle.cfi_graph.specs.Shaped.{IsShaped};
+ghost use Rattle.cfi_graph.specs.inner.Imports.{imports_in, entry_in};
+
+use cfi_aux::Placed;
+use std::alloc::{AllocError, Global};
+use std::collections::BTreeMap;
+
+/// The addresses of global functions by their names: of functions with one name, that of the first.
+pub(crate) struct Imports<'a> {
+    entries: BTreeMap<&'a str, u32>,
+}
+
+impl<'a> Imports<'a> {
+    // No names.
+    fn new(alloc: Global) -> Imports<'a>
+        ensures { (name : List ℕ) → imports_in result name ≡ None }
+    {
+        Imports {
+            entries: BTreeMap::new(alloc),
+        }
+    }
+
+    // Adds a name with its address; one that is there keeps its own.
+    fn add(&mut self, name: &'a str, entry: u32) -> Result<(), AllocError>
+        ensures { OnOk result ((other : List ℕ) → imports_in self.new other ≡
+            option_or (imports_in self.old other) (if bytes_eq name.now other then Some entry else None)) }
+    {
+        if self.entries.contains_key(name) {
+            return Ok(());
+        }
+        self.entries.insert(name, entry)?;
+        Ok(())
+    }
+
+    // Adds the global functions of a module.
+    fn add_module(&mut self, placed: &'a Placed) -> Result<(), AllocError>
+        requires { IsShaped placed.now }
+        ensures { OnOk result ((name : List ℕ) → imports_in self.new name ≡
+            option_or (imports_in self.old name) (entry_in placed.now name)) }
+    {
+        for function in placed.functions.as_slice() {
+            if function.global {
+                let entry = 4 * (placed.base + function.first);
+                self.add(function.name.as_str(), entry)?;
+            }
+        }
+        Ok(())
+    }
+
+    /// The address of the function that a name means, if there is one.
+    pub(crate) fn find(&self, name: &str) -> Option<u32>
+        ensures { result ≡ imports_in self.now name.now }
+    {
+        self.entries.get(name).copied()
+    }
+}
+
+// Where the imports of the modules lead. Each function is looked at once.
+pub(crate) fn imports_of<'a>(
+    alloc: Global,
+    modules: &'a [Placed],
+) -> Result<Imports<'a>, AllocError>
+    requires { All IsShaped modules.now }
+    ensures { IfOk result (λ imports. AreImports modules.now (imports_in imports)) }
+{
+    let mut imports = Imports::new(alloc);
+    for placed in modules {
+        imports.add_module(placed)?;
+    }
+    Ok(imports)
+}
