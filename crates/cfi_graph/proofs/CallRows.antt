@@ -29,7 +29,7 @@ call_kinds node = kinds.Call node ∷ kinds.Return ∷ kinds.Return ∷ []
 
 -- a module of them
 abbrev pub call_module : Placed
-call_module = placed_of 16 0 call_code call_rows (call_kinds 1) void_and_function
+call_module = placed_of 16 0 call_code call_rows (call_kinds 1) refl void_and_function
 
 call_made : (node : ℕ) → node < 2 → IsHandMade 16 0 call_code call_rows (call_kinds node) void_and_function
 call_made node below = record {
@@ -55,10 +55,10 @@ call_made node below = record {
 
 -- node 1 is the type of f and g, node 0 is Void
 abbrev pub call_modules : (node : ℕ) → List Placed
-call_modules node = placed_of 16 0 call_code call_rows (call_kinds node) void_and_function ∷ []
+call_modules node = placed_of 16 0 call_code call_rows (call_kinds node) refl void_and_function ∷ []
 
 pub call_graph : (node : ℕ) → node < 2 → HaveGraph (call_modules node)
 call_graph node below =
-    one_has_graph (placed_of 16 0 call_code call_rows (call_kinds node) void_and_function)
-    (hand_made_is_shaped 16 0 call_code call_rows (call_kinds node) void_and_function (call_made node below)) void_first
+    one_has_graph (placed_of 16 0 call_code call_rows (call_kinds node) refl void_and_function)
+    (hand_made_is_shaped 16 0 call_code call_rows (call_kinds node) refl void_and_function (call_made node below)) void_first
     (omega arith)

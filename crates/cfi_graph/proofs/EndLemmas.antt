@@ -10,15 +10,16 @@ use Rattle.cfi_unit.specs.declared.unit.Unit.TheVariants as units
 use Rattle.cfi_unit.specs.Unit.{IsUnit, size_of}
 use Rattle.cfi_word.specs.declared.limits.TheConstants.{MAX_CODE_WORDS}
 use Rattle.cfi_aux.specs.declared.placed.Placed.{Placed}
+use Rattle.cfi_aux.specs.declared.placed.PlacedFunction.{PlacedFunction}
 use Rattle.cfi_aux.specs.declared.records.Kind.{Kind}
 use Rattle.cfi_aux.specs.declared.records.Kind.TheVariants as kinds
-use Rattle.cfi_graph.specs.Code.{Stands}
+use Rattle.cfi_graph.specs.Code.{Stands, entry_of}
 use Rattle.cfi_unit.specs.Spots.{place_of}
-use Rattle.cfi_graph.specs.Calls.{HasKind}
+use Rattle.cfi_graph.specs.Calls.{HasKind, IsFunction}
 use Rattle.cfi_graph.specs.Shaped.{IsUnitPlace, IsNamed, IsShaped, AreApart}
-use Rattle.cfi_graph.specs.Direct.{IsPointee, IsReturnTarget, IsImportTarget, GoesTo, DirectEdge}
+use Rattle.cfi_graph.specs.Direct.{IsReturnTarget, GoesTo, DirectEdge}
 use Rattle.cfi_graph.proofs.BoundLemmas.{contains_at, stands_within, inside, branch_names}
-use Rattle.cfi_graph.proofs.ImportLemmas.{imported_at}
+use Rattle.cfi_graph.proofs.CallLemmas.{imported_function}
 
 -- an address of code: of a code word, or past the last one
 pub record IsEnd (address : ℕ) : Type 0 where
@@ -57,20 +58,12 @@ module _ (ms : List Placed) (apart : AreApart ms) where
   is_shaped : (m : Placed) → Contains ms m → IsShaped m
   is_shaped m placed = All-contains IsShaped ms m apart.shaped placed
 
-  pointee_end : (m : Placed) (node address : ℕ) → IsPointee ms m node address → IsEnd address
-  pointee_end m node address p =
-      let shape = is_shaped p.owner p.is.placed in
-      let ends = (inside p.owner shape p.function p.is.function).ends in
+  entry_end : (n : Placed) (f : PlacedFunction) (address : ℕ) → IsFunction ms n f → address ≡ entry_of n f → IsEnd address
+  entry_end n f address is entry =
+      let shape = is_shaped n is.placed in
+      let ends = (inside n shape f is.function).ends in
       let last = shape.1.ends in
-      subst IsEnd (sym p.entry) (word_end (p.owner.base + p.function.first) (omega (arith, ends, last)))
-
-  import_end : (name : List ℕ) (address : ℕ) → IsImportTarget ms name address → IsEnd address
-  import_end name address to =
-      let at = imported_at ms name to.owner to.function to.is in
-      let shape = is_shaped to.owner (contains_at ms to.is.number to.owner at.is) in
-      let ends = (inside to.owner shape to.function at.has).ends in
-      let last = shape.1.ends in
-      subst IsEnd (sym to.entry) (word_end (to.owner.base + to.function.first) (omega (arith, ends, last)))
+      subst IsEnd (sym entry) (word_end (n.base + f.first) (omega (arith, ends, last)))
 
   return_end : (m : Placed) (at address : ℕ) → IsReturnTarget ms m at address → IsEnd address
   return_end m at address r =
@@ -97,12 +90,13 @@ module _ (ms : List Placed) (apart : AreApart ms) where
 
   goes_end : (m : Placed) → Contains ms m → (at slot : ℕ) (kind : Kind) → HasKind m slot kind → (address : ℕ)
       → GoesTo ms m at kind address → IsEnd address
-  goes_end m placed at slot (kinds.Call node) has address goes = pointee_end m node address goes
-  goes_end m placed at slot (kinds.Tail node) has address goes = pointee_end m node address goes
+  goes_end m placed at slot (kinds.Call node) has address goes = entry_end goes.owner goes.function address goes.is goes.entry
+  goes_end m placed at slot (kinds.Tail node) has address goes = entry_end goes.owner goes.function address goes.is goes.entry
   goes_end m placed at slot kinds.Return has address goes = return_end m at address goes
   goes_end m placed at slot (kinds.Switch entries) has address (entry, listed, is) =
       switch_end m placed slot entries has entry address listed is
-  goes_end m placed at slot (kinds.Import name cell) has address goes = import_end name address goes
+  goes_end m placed at slot (kinds.Import name cell) has address goes =
+      entry_end goes.owner goes.function address (imported_function ms name goes.owner goes.function goes.is) goes.entry
 
   pub has_ends : (slot address : ℕ) → DirectEdge ms slot address → HasEnds ms slot address
   has_ends slot address e = record {

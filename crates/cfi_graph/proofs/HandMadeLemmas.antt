@@ -1,6 +1,6 @@
 -- Modules that tests write by hand, and that a graph can be made of them.
 use Rattle.std.proofs.Common.{◌≡◌, ◌∙◌, ℕ, zero, suc, ◌+◌, ◌<◌, ◌≤◌, ◌^◌, Bool, List, [], ◌∷◌, length, map, get_or, Some, refl, ap, arith}
-use Rattle.std.specs.Prelude.{slice_get, All}
+use Rattle.std.specs.Prelude.{slice_get, All, IsTrue}
 use Rattle.std.specs.List.{AllPairs, AllByRecursion, flat_map}
 use Rattle.cfi_unit.specs.declared.unit.Unit.{Unit as CodeUnit}
 use Rattle.cfi_unit.specs.Unit.{IsUnit, words_of}
@@ -10,6 +10,7 @@ use Rattle.cfi_type_table.specs.Node.{Node}
 use Rattle.cfi_type_table.specs.Spelling.{AreTypes}
 use Rattle.cfi_aux.specs.declared.placed.Placed.{Placed}
 use Rattle.cfi_aux.specs.declared.records.Kind.{Kind}
+use Rattle.cfi_aux.specs.Cells.{have_cells}
 use Rattle.cfi_graph.specs.Shaped.{slots_of, IsPart, FunctionPrecedes, IsNamed, IsShaped, IsBefore}
 use Rattle.cfi_graph.specs.Reading.{HaveGraph, node_count}
 use Rattle.cfi_graph.specs.HandMade.{function_of, placed_of, void_and_function}
@@ -71,9 +72,10 @@ pub record IsHandMade (base slot_base : ℕ) (code : List CodeUnit) (rows : List
   pub ends : base + length (flat_map words_of code) ≤ MAX_CODE_WORDS
 
 pub hand_made_is_shaped : (base slot_base : ℕ) (code : List CodeUnit) (rows : List (ℕ × ℕ × ℕ × Bool))
-    (branches : List Kind) (types : List Node) → IsHandMade base slot_base code rows branches types
-    → IsShaped (placed_of base slot_base code rows branches types)
-hand_made_is_shaped base slot_base code rows branches types is = (
+    (branches : List Kind) (cells : IsTrue (have_cells 0 branches)) (types : List Node)
+    → IsHandMade base slot_base code rows branches types
+    → IsShaped (placed_of base slot_base code rows branches cells types)
+hand_made_is_shaped base slot_base code rows branches cells types is = (
   code,
   record {
     units = record { fit = is.fit; spelled = refl };

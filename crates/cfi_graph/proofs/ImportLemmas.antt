@@ -1,9 +1,10 @@
 -- Where the imports of modules lead: to the first function that is looked for.
-use Rattle.std.proofs.Common.{◌≡◌, ◌⊎◌, ◌↔◌, ◌∙◌, ℕ, zero, suc, ◌+◌, ◌*◌, ◌<◌, Bool, true, false, ◌&&◌, List, [], ◌∷◌, length, take, get_or, Option, Some, None, if◌then◌else◌, inl, inr, refl, sym, ap, arith}
-use Rattle.std.specs.Prelude.{slice_get, IsTrue}
+use Rattle.std.proofs.Common.{◌≡◌, ◌∙◌, ℕ, ◌<◌, Bool, true, false, ◌&&◌, List, Option, Some, None, is_some, if◌then◌else◌, inl, inr, refl, sym, ap, subst, arith}
+use Rattle.std.specs.Prelude.{slice_get}
 use Rattle.std.specs.List.{Contains}
 use Rattle.std.specs.Option.{option_or}
 use Rattle.std.specs.Str.{bytes_eq}
+use Rattle.std.proofs.lemmas.Bool.{cases_Bool}
 use Rattle.std.proofs.lemmas.Option.{none-some, same_Some}
 use Rattle.std.proofs.lemmas.Slice.Eq.{bytes_eq-Decides}
 use Rattle.cfi_aux.specs.declared.placed.Placed.{Placed}
@@ -11,104 +12,47 @@ use Rattle.cfi_aux.specs.declared.placed.PlacedFunction.{PlacedFunction}
 use Rattle.cfi_graph.specs.Code.{entry_of}
 use Rattle.cfi_graph.specs.Calls.{IsGlobalNamed, IsImported}
 use Rattle.cfi_graph.specs.Direct.{IsImportTarget}
-use Rattle.cfi_graph.specs.Facts.{AreImports, function_node, word_of}
-use Rattle.cfi_graph.specs.inner.Imports.{first_given, entry_by, entry_in, entry_among}
+use Rattle.cfi_graph.specs.Facts.{ByName, AreImports, function_node, word_of}
+use Rattle.cfi_graph.specs.inner.Imports.{entry_by, entry_in, entry_among}
 use Rattle.cfi_graph.proofs.BoundLemmas.{contains_at, at_contains}
+use Rattle.cfi_graph.proofs.FirstLemmas.{or_none, none_or_some, first_found, first_is, none_given}
 use Rattle.cfi_graph.proofs.NodeLemmas.{StandsAt}
 
--- ---- the first that gives a number
+-- ---- names with addresses
 
--- the item of this place gives the number, and none before it gives one
-pub record IsFirstGiven {X : Type 0} (gives : X → Option ℕ) (xs : List X) (n : ℕ) : Type 0 where
-  pub place : ℕ
-  pub item : X
-  pub is : slice_get xs place ≡ Some item
-  pub given : gives item ≡ Some n
-  pub none : (k : ℕ) (x : X) → k < place → slice_get xs k ≡ Some x → gives x ≡ None
+pub none_of : (o : Option ℕ) → (is_some o ≡ true → ⊥) → o ≡ None
+none_of None none = refl
+none_of (Some n) none = absurd (none refl)
 
-none_or_some : (o : Option ℕ) → (o ≡ None) ⊎ ((n : ℕ) × (o ≡ Some n))
-none_or_some None = inl refl
-none_or_some (Some n) = inr (n, refl)
+or_some : (o p : Option ℕ) → is_some o ≡ true → o ≡ option_or o p
+or_some None p is = absurd (cc)
+or_some (Some n) p is = refl
 
-module _ {X : Type 0} (gives : X → Option ℕ) where
-  later : (x : X) (xs : List X) (n : ℕ) → gives x ≡ None → IsFirstGiven gives xs n → IsFirstGiven gives (x ∷ xs) n
-  later x xs n none f = record {
-    place = suc f.place;
-    item = f.item;
-    is = f.is;
-    given = f.given;
-    none = earlier;
-  }
-    where
-      earlier : (k : ℕ) (y : X) → k < suc f.place → slice_get (x ∷ xs) k ≡ Some y → gives y ≡ None
-      earlier zero y less is = ap gives (sym (same_Some x y is)) ∙ none
-      earlier (suc k) y less is = f.none k y (omega (arith, less)) is
+-- a name that is there keeps its address
+pub name_kept : (get : ByName) (name other : List ℕ) (number : ℕ) → is_some (get name) ≡ true
+    → get other ≡ option_or (get other) (if bytes_eq name other then Some number else None)
+name_kept get name other number there =
+    elim (cases_Bool (bytes_eq name other)) [
+      | inl same ↦
+          let here : is_some (get other) ≡ true =
+          subst (λ (o : List ℕ). is_some (get o) ≡ true) ((bytes_eq-Decides name other).0 same) there in
+          or_some (get other) (if bytes_eq name other then Some number else None) here
+      | inr apart ↦
+          sym (ap (λ b. option_or (get other) (if b then Some number else None)) apart ∙ or_none (get other))
+    ]
 
-  here : (x : X) (xs : List X) (n : ℕ) → gives x ≡ Some n → IsFirstGiven gives (x ∷ xs) n
-  here x xs n given = record {
-    place = 0;
-    item = x;
-    is = refl;
-    given = given;
-    none = λ k y less is. absurd (omega (arith, less));
-  }
-
-  pub first_found : (xs : List X) (n : ℕ) → first_given gives xs ≡ Some n → IsFirstGiven gives xs n
-  first_found [] n is = absurd (none-some n is)
-  first_found (x ∷ xs) n is =
-      elim (none_or_some (gives x)) [
-        | inl none ↦
-            later x xs n none (first_found xs n (sym (ap (λ o. option_or o (first_given gives xs)) none) ∙ is))
-        | inr some ↦
-            let same : some.0 ≡ n =
-            same_Some some.0 n (sym (ap (λ o. option_or o (first_given gives xs)) some.1) ∙ is) in
-            here x xs n (some.1 ∙ ap (λ k. Some k) same)
-      ]
-
-  first_at : (xs : List X) (place n : ℕ) (item : X) → slice_get xs place ≡ Some item → gives item ≡ Some n
-      → ((k : ℕ) (x : X) → k < place → slice_get xs k ≡ Some x → gives x ≡ None) → first_given gives xs ≡ Some n
-  first_at [] place n item is given none = absurd (none-some item is)
-  first_at (x ∷ xs) zero n item is given none =
-      ap (λ o. option_or o (first_given gives xs)) (ap gives (same_Some x item is) ∙ given)
-  first_at (x ∷ xs) (suc place) n item is given none =
-      ap (λ o. option_or o (first_given gives xs)) (none 0 x (omega arith) refl)
-      ∙ first_at xs place n item is given (λ k y less there. none (suc k) y (omega (arith, less)) there)
-
-  pub first_is : (xs : List X) (n : ℕ) → IsFirstGiven gives xs n → first_given gives xs ≡ Some n
-  first_is xs n f = first_at xs f.place n f.item f.is f.given f.none
-
-  -- where none is found, none is given
-  pub none_given : (xs : List X) → first_given gives xs ≡ None → (k : ℕ) (x : X) → slice_get xs k ≡ Some x
-      → gives x ≡ None
-  none_given [] none k x is = absurd (none-some x is)
-  none_given (y ∷ ys) none k x is =
-      elim (none_or_some (gives y)) [
-        | inr some ↦
-            absurd (none-some some.0 (sym none ∙ ap (λ o. option_or o (first_given gives ys)) some.1))
-        | inl first ↦ at k is first
-      ]
-    where
-      at : (k : ℕ) → slice_get (y ∷ ys) k ≡ Some x → gives y ≡ None → gives x ≡ None
-      at zero is first = ap gives (sym (same_Some y x is)) ∙ first
-      at (suc k) is first =
-          none_given ys (sym (ap (λ o. option_or o (first_given gives ys)) first) ∙ none) k x is
-
-  -- one item more
-  pub first_more : (xs : List X) (k : ℕ) (d : X) → k < length xs
-      → first_given gives (take (k + 1) xs) ≡ option_or (first_given gives (take k xs)) (gives (get_or xs k d))
-  first_more [] k d within = absurd (omega (arith, within))
-  first_more (x ∷ xs) zero d within = one (gives x)
-    where
-      one : (o : Option ℕ) → option_or o None ≡ o
-      one None = refl
-      one (Some n) = refl
-  first_more (x ∷ xs) (suc k) d within =
-      ap (option_or (gives x)) (first_more xs k d (omega (arith, within)))
-      ∙ sym (or_or (gives x) (first_given gives (take k xs)) (gives (get_or xs k d)))
-    where
-      or_or : (a b c : Option ℕ) → option_or (option_or a b) c ≡ option_or a (option_or b c)
-      or_or None b c = refl
-      or_or (Some n) b c = refl
+-- a new name gets its address
+pub name_given : (get gives : ByName) (name other : List ℕ) (number : ℕ) → get name ≡ None
+    → gives other ≡ (if bytes_eq name other then Some number else get other)
+    → gives other ≡ option_or (get other) (if bytes_eq name other then Some number else None)
+name_given get gives name other number missing is =
+    elim (cases_Bool (bytes_eq name other)) [
+      | inl same ↦
+          let none : get other ≡ None =
+          subst (λ (o : List ℕ). get o ≡ None) ((bytes_eq-Decides name other).0 same) missing in
+          is ∙ (rw (none, same) refl)
+      | inr apart ↦ is ∙ (rw apart (sym (or_none (get other))))
+    ]
 
 -- ---- functions
 

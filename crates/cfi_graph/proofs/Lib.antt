@@ -1,5 +1,4 @@
 pub mod ShapeLemmas
-mod ImportLemmas
 mod AddsLemmas
 mod PlaceLemmas
 mod FactLemmas
@@ -8,6 +7,9 @@ mod BranchLemmas
 mod TellLemmas
 mod ReadLemmas
 mod NodeLemmas
+mod FirstLemmas
+mod ImportLemmas
+pub mod CallLemmas
 mod WiderLemmas
 mod WideningLemmas
 mod GoesLemmas

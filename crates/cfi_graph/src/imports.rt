@@ -1,23 +1,26 @@
 //! Where the imports of modules lead, by the names of functions.
 
 ghost use Rattle.std.specs.Prelude.{◌≡◌, ℕ, List, All, None, Some, if◌then◌else◌, IfOk, OnOk};
+ghost use Rattle.std.specs.List.{Contains};
 ghost use Rattle.std.specs.Option.{option_or};
 ghost use Rattle.std.specs.Str.{bytes_eq};
 ghost use Rattle.cfi_graph.specs.Facts.{AreImports};
 ghost use Rattle.cfi_graph.specs.Shaped.{IsShaped};
-ghost use Rattle.cfi_graph.specs.inner.Imports.{imports_in, entry_in};
+ghost use Rattle.cfi_graph.specs.inner.Imports.{imports_in, entry_by, entry_in};
 
-use cfi_aux::Placed;
+use cfi_aux::{Placed, PlacedFunction};
 use std::alloc::{AllocError, Global};
 use std::collections::BTreeMap;
 
 /// The addresses of global functions by their names: of functions with one name, that of the first.
+#[derive(Drop)]
 pub(crate) struct Imports<'a> {
     entries: BTreeMap<&'a str, u32>,
 }
 
 impl<'a> Imports<'a> {
     // No names.
+    #[tactic(auto, unfolding(crate::specs::inner::Imports::imports_in))]
     fn new(alloc: Global) -> Imports<'a>
         ensures { (name : List ℕ) → imports_in result name ≡ None }
     {
@@ -38,6 +41,24 @@ impl<'a> Imports<'a> {
         Ok(())
     }
 
+    // Adds a function of a module, if it is global.
+    fn add_function(
+        &mut self,
+        placed: &Placed,
+        function: &'a PlacedFunction,
+    ) -> Result<(), AllocError>
+        requires shaped { IsShaped placed.now }
+        requires has { Contains placed.now.functions function.now }
+        ensures { OnOk result ((name : List ℕ) → imports_in self.new name ≡
+            option_or (imports_in self.old name) (entry_by placed.now name function.now)) }
+    {
+        if !function.global {
+            return Ok(());
+        }
+        let entry = 4 * (placed.base + function.first);
+        self.add(function.name.as_str(), entry)
+    }
+
     // Adds the global functions of a module.
     fn add_module(&mut self, placed: &'a Placed) -> Result<(), AllocError>
         requires { IsShaped placed.now }
@@ -45,15 +66,13 @@ impl<'a> Imports<'a> {
             option_or (imports_in self.old name) (entry_in placed.now name)) }
     {
         for function in placed.functions.as_slice() {
-            if function.global {
-                let entry = 4 * (placed.base + function.first);
-                self.add(function.name.as_str(), entry)?;
-            }
+            self.add_function(placed, function)?;
         }
         Ok(())
     }
 
     /// The address of the function that a name means, if there is one.
+    #[tactic(auto, unfolding(crate::specs::inner::Imports::imports_in))]
     pub(crate) fn find(&self, name: &str) -> Option<u32>
         ensures { result ≡ imports_in self.now name.now }
     {

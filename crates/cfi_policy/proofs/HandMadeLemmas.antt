@@ -20,5 +20,5 @@ one_image m graph ends slots =
 
 pub call_image : (node : ℕ) → node < 2 → HaveImage (call_modules node) 1024
 call_image node below =
-    one_image (placed_of 16 0 call_code call_rows (call_kinds node) void_and_function) (call_graph node below)
+    one_image (placed_of 16 0 call_code call_rows (call_kinds node) refl void_and_function) (call_graph node below)
     (omega arith) (omega arith)

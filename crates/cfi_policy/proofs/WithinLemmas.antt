@@ -6,13 +6,16 @@ use Rattle.std.proofs.lemmas.List.Elements.{All-contains}
 use Rattle.cfi_unit.specs.Unit.{words_of}
 use Rattle.cfi_word.specs.Table.{slots_of}
 use Rattle.cfi_aux.specs.declared.placed.Placed.{Placed}
+use Rattle.cfi_aux.specs.declared.placed.PlacedFunction.{PlacedFunction}
 use Rattle.cfi_aux.specs.declared.records.Kind.{Kind}
 use Rattle.cfi_aux.specs.declared.records.Kind.TheVariants as kinds
-use Rattle.cfi_graph.specs.Calls.{HasKind}
+use Rattle.cfi_graph.specs.Code.{entry_of}
+use Rattle.cfi_graph.specs.Calls.{HasKind, IsFunction}
 use Rattle.cfi_graph.specs.Shaped.{IsUnitPlace, IsNamed, IsShaped}
-use Rattle.cfi_graph.specs.Direct.{IsPointee, IsReturnTarget, GoesTo}
+use Rattle.cfi_graph.specs.Direct.{IsReturnTarget, GoesTo}
 use Rattle.cfi_graph.specs.Reading.{HaveGraph}
 use Rattle.cfi_graph.proofs.BoundLemmas.{contains_at, stands_within, inside, place_most}
+use Rattle.cfi_graph.proofs.CallLemmas.{imported_function}
 use Rattle.cfi_policy.specs.Image.{HaveImage}
 
 module _ (ms : List Placed) (graph : HaveGraph ms) (code_words : ℕ)
@@ -23,12 +26,12 @@ module _ (ms : List Placed) (graph : HaveGraph ms) (code_words : ℕ)
   end_low : (m : Placed) → Contains ms m → m.base + length m.words < code_words
   end_low m placed = All-contains (λ o. o.base + length o.words < code_words) ms m ends placed
 
-  pointee_low : (m : Placed) (node address : ℕ) → IsPointee ms m node address → address < 4 * code_words
-  pointee_low m node address p =
-      let shape = is_shaped p.owner p.is.placed in
-      let within = (inside p.owner shape p.function p.is.function).ends in
-      let low = end_low p.owner p.is.placed in
-      omega (arith, p.entry, within, low)
+  entry_low : (n : Placed) (f : PlacedFunction) (address : ℕ) → IsFunction ms n f → address ≡ entry_of n f
+      → address < 4 * code_words
+  entry_low n f address is entry =
+      let within = (inside n (is_shaped n is.placed) f is.function).ends in
+      let low = end_low n is.placed in
+      omega (arith, entry, within, low)
 
   return_low : (m : Placed) (at address : ℕ) → IsReturnTarget ms m at address → address < 4 * code_words
   return_low m at address r =
@@ -52,11 +55,13 @@ module _ (ms : List Placed) (graph : HaveGraph ms) (code_words : ℕ)
 
   goes_low : (m : Placed) → Contains ms m → (at slot : ℕ) (kind : Kind) → HasKind m slot kind → (address : ℕ)
       → GoesTo ms m at kind address → address < 4 * code_words
-  goes_low m placed at slot (kinds.Call node) has address goes = pointee_low m node address goes
-  goes_low m placed at slot (kinds.Tail node) has address goes = pointee_low m node address goes
+  goes_low m placed at slot (kinds.Call node) has address goes = entry_low goes.owner goes.function address goes.is goes.entry
+  goes_low m placed at slot (kinds.Tail node) has address goes = entry_low goes.owner goes.function address goes.is goes.entry
   goes_low m placed at slot kinds.Return has address goes = return_low m at address goes
   goes_low m placed at slot (kinds.Switch entries) has address (entry, listed, is) =
       switch_low m placed slot entries has entry address listed is
+  goes_low m placed at slot (kinds.Import name cell) has address goes =
+      entry_low goes.owner goes.function address (imported_function ms name goes.owner goes.function goes.is) goes.entry
 
   pub have_image : All (λ m. m.slot_base + length m.branches ≤ slots_of code_words) ms → HaveImage ms code_words
   have_image slots = record {

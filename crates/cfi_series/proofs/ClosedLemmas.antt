@@ -13,11 +13,14 @@ use Rattle.cfi_unit.specs.declared.spot.Spot.{Spot}
 use Rattle.cfi_unit.proofs.CodeLemmas.{UnitCode-one}
 use Rattle.cfi_word.specs.declared.map.TheConstants.{FIRST_BASE}
 use Rattle.cfi_aux.specs.declared.placed.Placed.{Placed}
+use Rattle.cfi_aux.specs.declared.placed.PlacedFunction.{PlacedFunction}
 use Rattle.cfi_aux.specs.declared.records.Kind.{Kind}
 use Rattle.cfi_aux.specs.declared.records.Kind.TheVariants as kinds
 use Rattle.cfi_flow.proofs.Members.{from_flat, from_map, member_cases}
-use Rattle.cfi_graph.specs.Calls.{HasKind}
-use Rattle.cfi_graph.specs.Direct.{IsPointee, DirectEdge, GoesTo}
+use Rattle.cfi_graph.specs.Calls.{HasKind, IsFunction}
+use Rattle.cfi_graph.specs.Code.{entry_of}
+use Rattle.cfi_graph.specs.Direct.{DirectEdge, GoesTo}
+use Rattle.cfi_graph.proofs.CallLemmas.{imported_function}
 use Rattle.cfi_model.specs.Closed.{idle, StandsIn, IsStartOf, LeadsToStart, StaysInside}
 use Rattle.cfi_verify.specs.Target.{LeadsTo, LeadsHome, LeadsToEntry, MayLead, entries_in}
 use Rattle.cfi_verify.specs.Faults.{IsVerifiedAs}
@@ -26,13 +29,8 @@ use Rattle.cfi_series.proofs.EndLemmas.{spot_of, has as spot_there}
 use Rattle.cfi_series.proofs.BusyLemmas.{IsBusy, BeginsBusy, home_busy, entry_busy, idle_or_busy}
 use Rattle.cfi_series.proofs.JoinedLemmas.{IsChain, chain_of, HasUnits, joined, IsPartOf, part_of, of_module, place_left, there_left, from_right}
 use Rattle.cfi_series.proofs.TrimmedLemmas.{EndsUnlinked, IsTrimmed, AreIdleOrBusy, idle_goes_on, trim}
-use Rattle.cfi_series.proofs.InsideLemmas.{LeadsInside, stays_inside}
+use Rattle.cfi_series.proofs.InsideLemmas.{LeadsInside, leads_from, stays_inside}
 use Rattle.cfi_series.proofs.TargetLemmas.{returns_busy, switch_busy, slot_within}
-
--- an offset does not depend on where the module stands
-leads_from : (base at : ℕ) (off : ℤ) (to : ℕ) → LeadsTo at off to → LeadsTo (base + at) off (base + to)
-leads_from base at (pos n) to leads = omega (arith, leads)
-leads_from base at (negsuc n) to leads = omega (arith, leads)
 
 -- what comes before a place of a list is in it
 before : (ms : List Placed) (n : ℕ) (m : Placed) → Contains (take n ms) m → Contains ms m
@@ -249,22 +247,25 @@ module _ (code_words : ℕ) (ms : List Placed) (loaded : AreLoaded code_words ms
       pub is : address ≡ 4 * (owner.base + at)
       pub busy : BeginsBusy (code owner there) at
 
-    pointee : (m : Placed) (node address : ℕ) → IsPointee live m node address → BeginsIn address
-    pointee m node address to =
-        let there = known to.owner to.is.placed in
-        let v = verified to.owner there in
+    entered : (n : Placed) (f : PlacedFunction) (address : ℕ) → IsFunction live n f → address ≡ entry_of n f
+        → BeginsIn address
+    entered n f address is entry =
+        let there = known n is.placed in
+        let v = verified n there in
         record {
-          owner = to.owner;
+          owner = n;
           there = there;
-          at = to.function.first;
-          is = to.entry;
-          busy = entry_busy to.owner v.0 v.2.0 v.2.1 to.function to.is.function;
+          at = f.first;
+          is = entry;
+          busy = entry_busy n v.0 v.2.0 v.2.1 f is.function;
         }
 
     goes : (m : Placed) → Contains live m → (slot at : ℕ) (kind : Kind) (address : ℕ) → HasKind m slot kind
         → GoesTo live m at kind address → BeginsIn address
-    goes m has slot at (kinds.Call node) address kind to = pointee m node address to
-    goes m has slot at (kinds.Tail node) address kind to = pointee m node address to
+    goes m has slot at (kinds.Call node) address kind to = entered to.owner to.function address to.is to.entry
+    goes m has slot at (kinds.Tail node) address kind to = entered to.owner to.function address to.is to.entry
+    goes m has slot at (kinds.Import name cell) address kind to =
+        entered to.owner to.function address (imported_function live name to.owner to.function to.is) to.entry
     goes m has slot at kinds.Return address kind to =
         let call = to.returns in
         let there = known call.caller call.placed in

@@ -1,5 +1,5 @@
 -- Units that stay inside: where a list ends in a unit that does not go on, each unit of it leads to others of it.
-use Rattle.std.proofs.Common.{◌≡◌, ◌≢◌, ℕ, ◌+◌, ◌-◌, ◌*◌, ◌<◌, Bool, not, true, false, List, length, Some, refl, ap, sym, subst, ◌∙◌, ⊎_elim, arith}
+use Rattle.std.proofs.Common.{◌≡◌, ◌≢◌, ℕ, ◌+◌, ◌-◌, ◌*◌, ◌<◌, ℤ, pos, negsuc, Bool, not, true, false, List, length, Some, refl, ap, sym, subst, ◌∙◌, ⊎_elim, arith}
 use Rattle.std.specs.List.{slice_get}
 use Rattle.std.proofs.lemmas.Bool.{cases_eq, false≢true}
 use Rattle.std.proofs.lemmas.Option.{slice_get_within, get_or_from_slice_get}
@@ -10,8 +10,14 @@ use Rattle.cfi_unit.specs.Spots.{place_of}
 use Rattle.cfi_word.specs.declared.map.TheConstants.{FIRST_BASE}
 use Rattle.cfi_model.specs.Closed.{StandsIn, IsStartOf, LeadsToStart, ReturnsToStart, StaysInside}
 use Rattle.cfi_verify.specs.Functions.{may_be_last}
+use Rattle.cfi_verify.specs.Target.{LeadsTo}
 use Rattle.cfi_series.proofs.EndLemmas.{place_next}
 use Rattle.cfi_series.proofs.TrimmedLemmas.{EndsUnlinked}
+
+-- an offset does not depend on where the module stands
+pub leads_from : (base at : ℕ) (off : ℤ) (to : ℕ) → LeadsTo at off to → LeadsTo (base + at) off (base + to)
+leads_from base at (pos n) to leads = omega (arith, leads)
+leads_from base at (negsuc n) to leads = omega (arith, leads)
 
 -- what has to be known of a unit besides
 abbrev pub LeadsInside : (body : List CodeUnit) → (slots address : ℕ) → CodeUnit → Type 0

@@ -1,6 +1,9 @@
 -- What placing makes of a module: how long it is, and that it is one.
+use mathlib.Core.HLevel.{is_prop→PathP}
 use Rattle.std.proofs.Common.{◌≡◌, ℕ, ◌+◌, ◌/◌, ◌≤◌, Bool, true, false, List, [], ◌∷◌, length, All, get_or, Option, Some, None, Result, Ok, refl, sym, ap, ◌∙◌, subst, arith}
+use Rattle.std.specs.Prelude.{IsTrue}
 use Rattle.std.specs.List.{AllByRecursion, slice_set}
+use Rattle.std.proofs.Math.Bool.{Bool-set}
 use Rattle.std.proofs.lemmas.Bool.{leb-true}
 use Rattle.std.proofs.lemmas.List.{length-map, length-set}
 use Rattle.std.proofs.lemmas.List.Elements.{recursion_from_All}
@@ -15,6 +18,7 @@ use Rattle.rv_insn.specs.Insn.{word_of}
 use Rattle.cfi_unit.specs.Unit.{high_insn, low_insn}
 use Rattle.cfi_aux.specs.declared.modules.Module.{Module}
 use Rattle.cfi_aux.specs.declared.records.Function.{Function}
+use Rattle.cfi_aux.specs.Cells.{have_cells}
 use Rattle.cfi_aux.specs.Placed.{is_global}
 use Rattle.cfi_aux.specs.declared.placed.Placed.{Placed}
 use Rattle.elf_read.specs.Sound.{HasField, IsSoundReloc}
@@ -143,4 +147,6 @@ placed_once m room names p q a b =
       branches = branches i;
       types = types i;
       exports = exports i;
+      cells = is_prop→PathP (λ j. IsTrue (have_cells (length (static_data j)) (branches j)))
+          (λ j x y. Bool-set _ _ x y) p.cells q.cells i;
     }

@@ -14,7 +14,7 @@ use Rattle.cfi_type_table.specs.Kind.{is_callable}
 use Rattle.cfi_aux.specs.declared.placed.Placed.{Placed}
 use Rattle.cfi_aux.specs.declared.placed.PlacedFunction.{PlacedFunction}
 use Rattle.cfi_aux.specs.declared.records.Kind.{Kind}
-use Rattle.cfi_aux.specs.declared.records.Kind.TheVariants.{Call, Tail, Return, Switch}
+use Rattle.cfi_aux.specs.declared.records.Kind.TheVariants.{Call, Tail, Return, Switch, Import}
 use Rattle.cfi_unit.specs.Spots.{place_of}
 use Rattle.cfi_graph.specs.Shaped.{slots_of, IsPart, IsUnitPlace, IsNamed, IsShapedAs, AreShaped}
 use Rattle.cfi_unit.specs.declared.spot.Spot.{Spot}
@@ -101,6 +101,7 @@ module _ (m : Placed) (loaded : List Placed) (spots : List Spot) (v : IsVerified
   named_by (Tail node) true at fits entries = absurd fits
   named_by (Tail node) false at fits entries = func_there m.types node fits
   named_by Return link at fits entries = tt
+  named_by (Import name cell) link at fits entries = tt
   named_by (Switch list) link at fits entries =
       All-weaker (IsEntry m spots at) (IsUnitPlace v.laid.units.code)
       (λ offset e.

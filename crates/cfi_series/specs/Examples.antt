@@ -1,6 +1,7 @@
 -- Small placed modules written by hand. What is said of them is worked out by hand: words and slots follow on, data
 -- begins at the next multiple of 16, and a function begins at four times the number of its first word in the code.
-use Rattle.std.specs.Prelude.{ℕ, Bool, List, [], ◌∷◌, replicate, codes, true, false}
+use Rattle.std.specs.Prelude.{ℕ, Bool, List, [], ◌∷◌, length, replicate, codes, true, false, IsTrue, refl}
+use Rattle.cfi_aux.specs.Cells.{have_cells}
 use Rattle.cfi_aux.specs.declared.placed.Placed.{Placed}
 use Rattle.cfi_aux.specs.declared.placed.PlacedFunction.{PlacedFunction}
 use Rattle.cfi_aux.specs.declared.records.Kind.TheVariants.{Return}
@@ -9,8 +10,9 @@ use Rattle.cfi_place.specs.declared.room.Room.{Room}
 -- ---- places
 
 -- a module at its places, with so many words, checks and bytes of data
-abbrev pub sized : (base slot_base data_base words checks bytes : ℕ) → Placed
-sized base slot_base data_base words checks bytes = record {
+abbrev pub sized : (base slot_base data_base words checks bytes : ℕ)
+    → IsTrue (have_cells (length (replicate bytes 0)) (replicate checks Return)) → Placed
+sized base slot_base data_base words checks bytes cells = record {
   base = base;
   slot_base = slot_base;
   data_base = data_base;
@@ -20,18 +22,19 @@ sized base slot_base data_base words checks bytes = record {
   branches = replicate checks Return;
   types = [];
   exports = [];
+  cells = cells;
 }
 
 -- one of 15 words with 1 check and 1 byte of data, behind it one of 29 words with 2 checks and 16 bytes, and behind
 -- both one of 2 words without a check and with 17 bytes
 abbrev pub one_byte : Placed
-one_byte = sized 16 0 0x40000000 15 1 1
+one_byte = sized 16 0 0x40000000 15 1 1 refl
 
 abbrev pub sixteen_bytes : Placed
-sixteen_bytes = sized 31 1 0x40000010 29 2 16
+sixteen_bytes = sized 31 1 0x40000010 29 2 16 refl
 
 abbrev pub seventeen_bytes : Placed
-seventeen_bytes = sized 60 3 0x40000020 2 0 17
+seventeen_bytes = sized 60 3 0x40000020 2 0 17 refl
 
 -- a room in 1024 words of code
 abbrev pub room_at : (base slot_base data_base : ℕ) → Room
@@ -50,7 +53,7 @@ named first global name = record { first = first; count = 1; ty = 0; taken = fal
 
 -- a module of eight words with these functions
 abbrev pub having : (base : ℕ) → List PlacedFunction → Placed
-having base functions = record (sized base 0 0x40000000 8 0 0) { functions = functions }
+having base functions = record (sized base 0 0x40000000 8 0 0 refl) { functions = functions }
 
 -- two Global functions, at words 2 and 5 of their module, and one at its first word that is not Global
 abbrev pub low : PlacedFunction

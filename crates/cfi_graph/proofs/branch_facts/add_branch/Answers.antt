@@ -1,21 +1,30 @@
 use Rattle.std.proofs.Common.{◌≡◌, ◌∙◌, ◌++◌, ℕ, List, map, sym, ap, subst}
-use Rattle.cfi_aux.specs.declared.records.Kind.TheVariants.{Return, Switch}
-use Rattle.cfi_graph.specs.Facts.{listed_fact, IsBranchFact, Adds}
+use Rattle.cfi_aux.specs.declared.records.Kind.TheVariants.{Call, Tail, Return, Switch, Import}
+use Rattle.cfi_graph.specs.Facts.{ByName, listed_fact, IsBranchFact, Adds}
+use Rattle.cfi_graph.specs.inner.Imports.{imports_in}
 use Rattle.cfi_graph.proofs.AddsLemmas.{on_ok}
 use Rattle.cfi_graph.proofs.BranchLemmas.{switch_adds}
 use Rattle.cfi_graph.proofs.branch_facts.add_branch.Goals as goal
+
+pub returns-in-Call-clause-adds : goal.returns-in-Call-clause-adds
+returns-in-Call-clause-adds c = ?
+
+pub returns-in-Tail-clause-adds : goal.returns-in-Tail-clause-adds
+returns-in-Tail-clause-adds c = ?
 
 pub returns-in-Return-clause-adds : goal.returns-in-Return-clause-adds
 returns-in-Return-clause-adds c =
     let m = c.args.placed.now in
     let old = c.args.facts.now.items in
     let new = c.add_return.new.facts.items in
+    let imports = imports_in c.args.imports.now in
+    let classes = c.args.classes.now in
     on_ok c.add_return.result
-    ((classes : List (List ℕ)) (number : ℕ)
+    ((imports : ByName) (classes : List (List ℕ)) (number : ℕ)
     → Adds old new (IsBranchFact imports classes number m c.args.at c.args.slot Return))
-    (Adds old new (IsBranchFact (imports_in c.args.imports.now) c.args.classes.now c.args.number m c.args.at c.args.slot c.args.kind.now))
-    (λ all. subst (λ kind. Adds old new (IsBranchFact (imports_in c.args.imports.now) c.args.classes.now c.args.number m c.args.at c.args.slot kind))
-    (sym c.in-Return.is) (all c.args.classes.now c.args.number))
+    (Adds old new (IsBranchFact imports classes c.args.number m c.args.at c.args.slot c.args.kind.now))
+    (λ all. subst (λ kind. Adds old new (IsBranchFact imports classes c.args.number m c.args.at c.args.slot kind))
+    (sym c.in-Return.is) (all imports classes c.args.number))
     c.add_return.ensures.adds
 
 pub returns-in-Switch-clause-adds : goal.returns-in-Switch-clause-adds
@@ -23,15 +32,20 @@ returns-in-Switch-clause-adds c =
     let m = c.args.placed.now in
     let old = c.args.facts.now.items in
     let new = c.add_entries.new.facts.items in
+    let imports = imports_in c.args.imports.now in
+    let classes = c.args.classes.now in
     let entries = c.in-Switch.entries in
     let listed = listed_fact m.base c.args.slot in
     on_ok c.add_entries.result (new ≡ old ++ map listed c.as_slice.result.now)
-    (Adds old new (IsBranchFact (imports_in c.args.imports.now) c.args.classes.now c.args.number m c.args.at c.args.slot c.args.kind.now))
+    (Adds old new (IsBranchFact imports classes c.args.number m c.args.at c.args.slot c.args.kind.now))
     (λ is.
     let all : new ≡ old ++ map listed entries = is ∙ ap (λ es. old ++ map listed es) c.as_slice.ensures in
-    subst (λ kind. Adds old new (IsBranchFact (imports_in c.args.imports.now) c.args.classes.now c.args.number m c.args.at c.args.slot kind))
+    subst (λ kind. Adds old new (IsBranchFact imports classes c.args.number m c.args.at c.args.slot kind))
     (sym c.in-Switch.is)
     (subst (λ items. Adds old items
-    (IsBranchFact (imports_in c.args.imports.now) c.args.classes.now c.args.number m c.args.at c.args.slot (Switch entries))) (sym all)
-    (switch_adds c.args.classes.now c.args.number m c.args.at c.args.slot entries old)))
+    (IsBranchFact imports classes c.args.number m c.args.at c.args.slot (Switch entries))) (sym all)
+    (switch_adds imports classes c.args.number m c.args.at c.args.slot entries old)))
     c.add_entries.ensures
+
+pub returns-in-Import-clause-adds : goal.returns-in-Import-clause-adds
+returns-in-Import-clause-adds c = ?

@@ -8,6 +8,7 @@ use Rattle.cfi_fits.specs.Widenings.{AreWidenings}
 use Rattle.cfi_graph.specs.Facts.{AreFacts}
 use Rattle.cfi_graph.specs.Edges.{told_most, links_most}
 use Rattle.cfi_graph.specs.inner.Flows.{type_link, IsFlowOf, GoesAs}
+use Rattle.cfi_graph.specs.inner.Imports.{imports_in}
 use Rattle.cfi_values.proofs.ThenLemmas.{if_ok}
 use Rattle.cfi_graph.proofs.ClassLemmas.{all_read}
 use Rattle.cfi_graph.proofs.WideningLemmas.{class_links_low}
@@ -40,58 +41,64 @@ pub returns-clause-sound : goal.returns-clause-sound
 returns-clause-sound c =
     let ms = c.args.modules.now in
     let classes = c.in_ok-classes.classes in
+    let imports = imports_in c.in_ok-imports.imports in
     let wider = c.in_ok-wider.wider.items in
     let list = c.as_slice-2.result.now in
     let links = c.in_ok-links.links.items in
     let count = c.node_count-nodes.result in
-    let made : IsMade ms classes wider list links count = record {
+    let made : IsMade ms imports classes wider list links count = record {
       graph = c.requires;
       typed = subst (λ ts. AreClasses ts classes) c.in_ok-book.ensures c.in_ok-classes.ensures;
       wide = subst (λ ts. AreWidenings ts classes wider) c.in_ok-book.ensures c.in_ok-wider.ensures;
       facts = subst (λ fs. AreFacts ms imports classes fs) (sym c.as_slice-2.ensures.value) c.in_ok-facts.ensures.facts;
+      named = c.in_ok-imports.ensures;
       few = subst (λ fs. length fs ≤ sum_by told_most ms) (sym c.as_slice-2.ensures.value) c.in_ok-facts.ensures.few;
       linked = c.in_ok-links.ensures ∙ ap (λ ls. map type_link ls) c.as_slice.ensures.value;
       nodes = c.node_count-nodes.ensures;
     } in
     if_ok c.flow_by.result (IsFlowOf list links count) IsSound
-    (λ flow is. flow_sound ms classes wider list links count made flow is) c.flow_by.ensures
+    (λ flow is. flow_sound ms imports classes wider list links count made flow is) c.flow_by.ensures
 
 pub returns-clause-goes : goal.returns-clause-goes
 returns-clause-goes c =
     let ms = c.args.modules.now in
     let classes = c.in_ok-classes.classes in
+    let imports = imports_in c.in_ok-imports.imports in
     let wider = c.in_ok-wider.wider.items in
     let list = c.as_slice-2.result.now in
     let links = c.in_ok-links.links.items in
     let count = c.node_count-nodes.result in
-    let made : IsMade ms classes wider list links count = record {
+    let made : IsMade ms imports classes wider list links count = record {
       graph = c.requires;
       typed = subst (λ ts. AreClasses ts classes) c.in_ok-book.ensures c.in_ok-classes.ensures;
       wide = subst (λ ts. AreWidenings ts classes wider) c.in_ok-book.ensures c.in_ok-wider.ensures;
       facts = subst (λ fs. AreFacts ms imports classes fs) (sym c.as_slice-2.ensures.value) c.in_ok-facts.ensures.facts;
+      named = c.in_ok-imports.ensures;
       few = subst (λ fs. length fs ≤ sum_by told_most ms) (sym c.as_slice-2.ensures.value) c.in_ok-facts.ensures.few;
       linked = c.in_ok-links.ensures ∙ ap (λ ls. map type_link ls) c.as_slice.ensures.value;
       nodes = c.node_count-nodes.ensures;
     } in
     if_ok c.flow_by.result (IsFlowOf list links count) (GoesAs ms)
-    (λ flow is. flow_goes ms classes wider list links count made flow is) c.flow_by.ensures
+    (λ flow is. flow_goes ms imports classes wider list links count made flow is) c.flow_by.ensures
 
 pub returns-clause-few : goal.returns-clause-few
 returns-clause-few c =
     let ms = c.args.modules.now in
     let classes = c.in_ok-classes.classes in
+    let imports = imports_in c.in_ok-imports.imports in
     let wider = c.in_ok-wider.wider.items in
     let list = c.as_slice-2.result.now in
     let links = c.in_ok-links.links.items in
     let count = c.node_count-nodes.result in
-    let made : IsMade ms classes wider list links count = record {
+    let made : IsMade ms imports classes wider list links count = record {
       graph = c.requires;
       typed = subst (λ ts. AreClasses ts classes) c.in_ok-book.ensures c.in_ok-classes.ensures;
       wide = subst (λ ts. AreWidenings ts classes wider) c.in_ok-book.ensures c.in_ok-wider.ensures;
       facts = subst (λ fs. AreFacts ms imports classes fs) (sym c.as_slice-2.ensures.value) c.in_ok-facts.ensures.facts;
+      named = c.in_ok-imports.ensures;
       few = subst (λ fs. length fs ≤ sum_by told_most ms) (sym c.as_slice-2.ensures.value) c.in_ok-facts.ensures.few;
       linked = c.in_ok-links.ensures ∙ ap (λ ls. map type_link ls) c.as_slice.ensures.value;
       nodes = c.node_count-nodes.ensures;
     } in
     if_ok c.flow_by.result (IsFlowOf list links count) (λ flow. link_count flow ≤ links_most ms)
-    (λ flow is. flow_few ms classes wider list links count made flow is) c.flow_by.ensures
+    (λ flow is. flow_few ms imports classes wider list links count made flow is) c.flow_by.ensures

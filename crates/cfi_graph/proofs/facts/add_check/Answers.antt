@@ -1,6 +1,7 @@
 use Rattle.cfi_aux.specs.declared.records.Kind.{Kind}
 use Rattle.cfi_graph.specs.Calls.{HasKind}
 use Rattle.cfi_graph.specs.Facts.{IsBranchFact, IsUnitFact, Adds}
+use Rattle.cfi_graph.specs.inner.Imports.{imports_in}
 use Rattle.cfi_graph.proofs.AddsLemmas.{adds_none, on_ok}
 use Rattle.cfi_graph.proofs.BoundLemmas.{check_within, branch_names}
 use Rattle.cfi_graph.proofs.BranchLemmas.{no_kind, check_adds}
@@ -14,7 +15,7 @@ returns-in_default-clause-adds c =
     let none : (kind : Kind) → HasKind m c.args.slot kind → ⊥ = λ kind has.
     rw c.in_default.is at (c.kind_of.ensures.only kind has) in
     adds_none c.args.facts.now.items (IsUnitFact (imports_in c.args.imports.now) c.args.classes.now c.args.number m spot.at spot.unit)
-    (no_kind c.args.classes.now c.args.number m spot.at c.args.slot none spot.unit c.requires.slot)
+    (no_kind (imports_in c.args.imports.now) c.args.classes.now c.args.number m spot.at c.args.slot none spot.unit c.requires.slot)
 
 pub add_branch-requires-clause-within : goal.add_branch-requires-clause-within
 add_branch-requires-clause-within c =
@@ -29,12 +30,13 @@ pub returns-clause-adds : goal.returns-clause-adds
 returns-clause-adds c =
     let m = c.args.placed.now in
     let spot = c.args.spot.now in
+    let imports = imports_in c.args.imports.now in
     let classes = c.args.classes.now in
     let old = c.args.facts.now.items in
     let new = c.add_branch.new.facts.items in
     on_ok c.add_branch.result
     (Adds old new (IsBranchFact imports classes c.args.number m spot.at c.args.slot c.in-Some.kind.now))
     (Adds old new (IsUnitFact imports classes c.args.number m spot.at spot.unit))
-    (check_adds classes c.args.number m spot.at c.args.slot c.in-Some.kind.now c.in-Some.ensures.some spot.unit
+    (check_adds imports classes c.args.number m spot.at c.args.slot c.in-Some.kind.now c.in-Some.ensures.some spot.unit
     c.requires.slot old new)
     c.add_branch.ensures.adds

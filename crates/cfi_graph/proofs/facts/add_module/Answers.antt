@@ -1,12 +1,14 @@
 use Rattle.std.proofs.Common.{◌+◌, ◌*◌, ◌≤◌, length, arith}
 use Rattle.cfi_graph.specs.Edges.{told_most}
 use Rattle.cfi_graph.specs.Facts.{UnitTells, FunctionTells, ModuleTells, Adds}
+use Rattle.cfi_graph.specs.inner.Imports.{imports_in}
 use Rattle.cfi_graph.proofs.AddsLemmas.{adds_then, on_ok}
 use Rattle.cfi_graph.proofs.facts.add_module.Goals as goal
 
 pub returns-clause-adds : goal.returns-clause-adds
 returns-clause-adds c =
     let m = c.args.placed.now in
+    let imports = imports_in c.args.imports.now in
     let classes = c.args.classes.now in
     let number = c.args.number in
     let old = c.args.facts.now.items in

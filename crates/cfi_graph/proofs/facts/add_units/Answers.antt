@@ -4,6 +4,7 @@ use Rattle.cfi_unit.specs.Spots.{spots_of}
 use Rattle.cfi_graph.specs.Facts.{Adds}
 use Rattle.cfi_graph.proofs.AddsLemmas.{TellsBelow, adds_below_more}
 use Rattle.std.proofs.lemmas.List.Sums.{sum_by-take-le}
+use Rattle.cfi_graph.specs.inner.Imports.{imports_in}
 use Rattle.cfi_graph.specs.inner.Told.{unit_told}
 use Rattle.cfi_graph.proofs.TellLemmas.{SpotTells, stand_all, spot_tells_at, units_tell}
 use Rattle.cfi_graph.proofs.ToldLemmas.{units_told, told_more}
@@ -16,7 +17,7 @@ add_unit-requires-clause-stands c =
     let items = c.deref-spot-items.result.now in
     let are : items ≡ spots_of 0 code = c.deref-spot-items.ensures.value
     ∙ c.in_ok-spots.ensures code (subst (λ ws. UnitCode ws code) (sym c.as_slice.ensures) units) in
-    stand_all c.args.classes.now c.args.number c.args.placed.now code units items are c.loop-spot.spot-index _
+    stand_all (imports_in c.args.imports.now) c.args.classes.now c.args.number c.args.placed.now code units items are c.loop-spot.spot-index _
     c.loop-spot-test.true
 
 -- this turn's unit tells its facts too
@@ -28,7 +29,7 @@ loop-spot-preserved c =
     record {
       adds = adds_below_more c.args.facts.now.items c.loop-spot.facts.items c.add_unit.new.facts.items
           (SpotTells (imports_in c.args.imports.now) c.args.classes.now c.args.number m items) k c.loop-spot.invariant.adds
-          (spot_tells_at c.args.classes.now c.args.number m items k _ c.loop-spot-test.true c.loop-spot.facts.items
+          (spot_tells_at (imports_in c.args.imports.now) c.args.classes.now c.args.number m items k _ c.loop-spot-test.true c.loop-spot.facts.items
           c.add_unit.new.facts.items c.in_ok-add_unit.ensures.adds);
       few = told_more (λ s. unit_told m s.unit) items k _ c.loop-spot-test.true _ _ _ c.loop-spot.invariant.few
           c.in_ok-add_unit.ensures.few;
@@ -43,7 +44,7 @@ returns-clause-adds c =
     let are : items ≡ spots_of 0 code = c.deref-spot-items.ensures.value
     ∙ c.in_ok-spots.ensures code (subst (λ ws. UnitCode ws code) (sym c.as_slice.ensures) units) in
     let all : c.loop-spot.spot-index ≡ length items = omega arith in
-    units_tell c.args.classes.now c.args.number m code units items are c.args.facts.now.items c.loop-spot.facts.items
+    units_tell (imports_in c.args.imports.now) c.args.classes.now c.args.number m code units items are c.args.facts.now.items c.loop-spot.facts.items
     (subst (λ n. Adds c.args.facts.now.items c.loop-spot.facts.items
     (TellsBelow n (SpotTells (imports_in c.args.imports.now) c.args.classes.now c.args.number m items))) all c.loop-spot.invariant.adds)
 

@@ -5,6 +5,7 @@ use Rattle.std.proofs.lemmas.List.Sums.{sum_by-take-le}
 use Rattle.cfi_graph.proofs.ToldLemmas.{told_next}
 use Rattle.cfi_graph.specs.Edges.{told_most}
 use Rattle.cfi_graph.specs.Facts.{Adds}
+use Rattle.cfi_graph.specs.inner.Imports.{imports_in}
 use Rattle.cfi_graph.proofs.AddsLemmas.{TellsBelow, adds_below_more}
 use Rattle.cfi_graph.proofs.TellLemmas.{OwnerTells, owner_tells, all_told}
 use Rattle.cfi_graph.proofs.facts.facts_of.Goals as goal
@@ -21,6 +22,7 @@ add_module-requires c =
 pub loop-number-preserved : goal.loop-number-preserved
 loop-number-preserved c =
     let ms = c.args.modules.now in
+    let imports = imports_in c.args.imports.now in
     let classes = c.args.classes.now in
     let number = c.loop-number.number in
     let m = c.index-modules-number.result in
@@ -29,7 +31,7 @@ loop-number-preserved c =
     record {
       adds = adds_below_more [] c.loop-number.facts.items c.add_module.new.facts.items (OwnerTells ms imports classes) number
           c.loop-number.invariant.adds
-          (owner_tells ms classes number m is c.loop-number.facts.items c.add_module.new.facts.items
+          (owner_tells ms imports classes number m is c.loop-number.facts.items c.add_module.new.facts.items
           c.in_ok-add_module.ensures.adds);
       few = told_next told_most ms number m is _ _ c.loop-number.invariant.few c.in_ok-add_module.ensures.few;
     }
@@ -37,9 +39,10 @@ loop-number-preserved c =
 pub returns-clause-facts : goal.returns-clause-facts
 returns-clause-facts c =
     let ms = c.args.modules.now in
+    let imports = imports_in c.args.imports.now in
     let classes = c.args.classes.now in
     let all : c.loop-number.number ≡ length ms = omega arith in
-    all_told ms classes c.loop-number.facts.items
+    all_told ms imports classes c.loop-number.facts.items
     (subst (λ n. Adds [] c.loop-number.facts.items (TellsBelow n (OwnerTells ms imports classes))) all c.loop-number.invariant.adds)
 
 pub returns-clause-few : goal.returns-clause-few
