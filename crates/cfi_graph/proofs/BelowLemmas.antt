@@ -18,11 +18,10 @@ use Rattle.cfi_graph.specs.Facts.{ByName, AreImports, type_node, word_of, LiesIn
 use Rattle.cfi_graph.specs.Reading.{tables_of, node_count}
 use Rattle.cfi_graph.proofs.BoundLemmas.{inside, branch_names}
 use Rattle.cfi_graph.proofs.ImportLemmas.{imported_at, imported_word}
-use Rattle.cfi_graph.proofs.NodeLemmas.{StandsAt, shaped_at, node_low}
+use Rattle.cfi_graph.proofs.NodeLemmas.{StandsAt, lies_there, shaped_at, node_low}
 use Rattle.cfi_graph.proofs.WiderLemmas.{AreWider}
 use Rattle.cfi_graph.proofs.ReadLemmas.{IsArrow, TellsFlow, Tell, unit_cases}
 use Rattle.cfi_flow.proofs.RowLemmas.{make_link}
-use Rattle.cfi_graph.proofs.GoesLemmas.{lies_there}
 use Rattle.cfi_graph.proofs.ClassLemmas.{type_low}
 
 module _ (ms : List Placed) (imports : ByName) (classes : List (List ℕ)) (named : AreImports ms imports) (apart : AreApart ms)
@@ -107,7 +106,6 @@ module _ (ms : List Placed) (imports : ByName) (classes : List (List ℕ)) (name
   branch_low number m is at slot (kinds.Switch entries) has (facts.Return l) told = absurd told
   branch_low number m is at slot (kinds.Switch entries) has (facts.Pointer l) told = absurd told
   branch_low number m is at slot (kinds.Switch entries) has (facts.Entry l) told = absurd told
-
   branch_low number m is at slot (kinds.Import name cell) has (facts.Listed l) told = omega arith
   branch_low number m is at slot (kinds.Import name cell) has (facts.Arrow l) (lies, (address, there, word)) = (
     lies_low number m is at l.from lies,

@@ -20,7 +20,7 @@ use Rattle.cfi_flow.proofs.RowLemmas.{make_link}
 use Rattle.cfi_flow.proofs.PathLemmas.{reaches_then, one_arrow}
 use Rattle.cfi_graph.proofs.BoundLemmas.{contains_at, inside, branch_names}
 use Rattle.cfi_graph.proofs.ImportLemmas.{imported_at, imported_word}
-use Rattle.cfi_graph.proofs.NodeLemmas.{StandsAt, shaped_at, node_low, same_numbers, same_modules, same_functions}
+use Rattle.cfi_graph.proofs.NodeLemmas.{StandsAt, LiesThere, lies_there, shaped_at, node_low, same_numbers, same_modules, same_functions}
 use Rattle.cfi_graph.proofs.WiderLemmas.{AreWider, reaches_high}
 use Rattle.cfi_graph.proofs.ReadLemmas.{IsArrow, TellsFlow, unit_cases}
 
@@ -35,23 +35,6 @@ pub record IsEntered (ms : List Placed) (classes : List (List ℕ)) (links : Lis
   pub reached : IsReached ms steps owner entered m f
   pub enters : (node ≡ function_node owner entered)
       ⊎ (IsOpen owner entered × Reaches links (type_node classes number entered.ty) node)
-
--- the word of a module lies in the function of a node
-pub record LiesThere (m : Placed) (at node : ℕ) : Type 0 where
-  pub function : PlacedFunction
-  pub has : Contains m.functions function
-  pub lies : LiesIn function at
-  pub is : node ≡ function_node m function
-
-pub lies_there : (m : Placed) (at node : ℕ) → LiesInNode m at node → LiesThere m at node
-lies_there m at node (first, is_first, is) =
-    let begins = is_first.is in
-    record {
-      function = is_first.function;
-      has = is_first.has;
-      lies = is_first.lies;
-      is = omega (arith, is, begins);
-    }
 
 -- an offset that leads to a function's node leads to its entry
 pub leads_entry : (address : ℕ) (off : ℤ) (word : ℕ) (n : Placed) (g : PlacedFunction) → Leads address off (4 * word)

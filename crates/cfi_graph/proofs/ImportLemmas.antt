@@ -154,6 +154,12 @@ module _ (ms : List Placed) where
   pub are_imports : AreImports ms (entry_among ms)
   are_imports = λ name address. (to_target name address, from_target name address)
 
+  -- a name means one function
+  pub one_target : (name : List ℕ) (one other : ℕ) → IsImportTarget ms name one → IsImportTarget ms name other
+      → one ≡ other
+  one_target name one other a b =
+      same_Some one other (sym (from_target name one a) ∙ from_target name other b)
+
   -- the word of the address of an imported function
   pub imported_word : (name : List ℕ) (address word : ℕ) (to : IsImportTarget ms name address)
       → word ≡ word_of address → word ≡ function_node to.owner to.function

@@ -11,8 +11,9 @@ use Rattle.cfi_types.specs.Same.{Equal}
 use Rattle.cfi_types.specs.Classes.{table_of, class_of, IsNodePlace, AreClasses}
 use Rattle.cfi_aux.specs.declared.placed.Placed.{Placed}
 use Rattle.cfi_aux.specs.declared.placed.PlacedFunction.{PlacedFunction}
+use Rattle.cfi_aux.specs.Extent.{LiesIn}
 use Rattle.cfi_graph.specs.Shaped.{IsShaped, IsBefore, AreApart}
-use Rattle.cfi_graph.specs.Facts.{type_node, function_node}
+use Rattle.cfi_graph.specs.Facts.{type_node, function_node, LiesInNode}
 use Rattle.cfi_graph.specs.Reading.{tables_of}
 use Rattle.cfi_graph.proofs.BoundLemmas.{contains_at, inside}
 use Rattle.cfi_graph.proofs.PlaceLemmas.{function_one}
@@ -21,6 +22,23 @@ use Rattle.cfi_graph.proofs.PlaceLemmas.{function_one}
 pub record StandsAt (ms : List Placed) (number : ℕ) (m : Placed) (f : PlacedFunction) : Type 0 where
   pub is : slice_get ms number ≡ Some m
   pub has : Contains m.functions f
+
+-- the word of a module lies in the function of a node
+pub record LiesThere (m : Placed) (at node : ℕ) : Type 0 where
+  pub function : PlacedFunction
+  pub has : Contains m.functions function
+  pub lies : LiesIn function at
+  pub is : node ≡ function_node m function
+
+pub lies_there : (m : Placed) (at node : ℕ) → LiesInNode m at node → LiesThere m at node
+lies_there m at node (first, is_first, is) =
+    let begins = is_first.is in
+    record {
+      function = is_first.function;
+      has = is_first.has;
+      lies = is_first.lies;
+      is = omega (arith, is, begins);
+    }
 
 -- ---- tables
 

@@ -17,10 +17,10 @@ use Rattle.cfi_graph.specs.Direct.{DirectEdge}
 use Rattle.cfi_graph.specs.Facts.{ByName, AreImports, type_node, IsJumpFact, IsBranchFact, IsTold}
 use Rattle.cfi_flow.proofs.RowLemmas.{make_link}
 use Rattle.cfi_graph.proofs.BoundLemmas.{contains_at, branch_names}
-use Rattle.cfi_graph.proofs.NodeLemmas.{shaped_at}
+use Rattle.cfi_graph.proofs.NodeLemmas.{lies_there, shaped_at}
 use Rattle.cfi_graph.proofs.WiderLemmas.{AreWider, reaches_high}
 use Rattle.cfi_graph.proofs.ReadLemmas.{TellsFlow, unit_cases}
-use Rattle.cfi_graph.proofs.GoesLemmas.{IsEntered, lies_there, leads_entry, is_function, apart_nodes, may_point, entered_by}
+use Rattle.cfi_graph.proofs.GoesLemmas.{IsEntered, leads_entry, is_function, apart_nodes, may_point, entered_by}
 
 module _ (ms : List Placed) (imports : ByName) (classes : List (List ℕ)) (named : AreImports ms imports)
     (apart : AreApart ms) (flow : Flow)

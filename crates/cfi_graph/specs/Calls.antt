@@ -1,7 +1,7 @@
 -- Calls and tail calls of placed modules (MCFI, Niu and Tan, PLDI 2014: an indirect call through a pointer may reach
--- each function whose address is taken and whose type fits the pointer's). A branch of kind Import is a jump through a
--- stub, to the one function that its name means: of all modules in order, the first global function of that name, as an
--- undefined symbol means its first definition among the objects (System V ABI, 4, symbol table).
+-- each function whose address is taken and whose type fits the pointer's). A branch of kind Import may reach the one
+-- function that its name means, as a symbol is looked up in objects one after the other (System V ABI, 5, shared object
+-- dependencies: the first that has it).
 -- A function is told by its module and its record there, a branch by its module and its slot.
 use Rattle.std.specs.Prelude.{◌≡◌, ℕ, zero, suc, ◌+◌, ◌<◌, true, false, List, slice_get, Some, IsTrue}
 use Rattle.std.specs.List.{Contains}

@@ -139,10 +139,8 @@ fn add_import(
         return Ok(());
     };
     let from = placed.base + first;
-    facts.push(Fact::Arrow(Link {
-        from,
-        to: entry / 4,
-    }))?;
+    let word = entry / 4;
+    facts.push(Fact::Arrow(Link { from, to: word }))?;
     Ok(())
 }
 

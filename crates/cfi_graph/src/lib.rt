@@ -5,8 +5,8 @@
 //! Proved: the direct edges of modules are exactly those of `specs/Direct.antt`, in order, each once; a few of them, in
 //! number bound by what the modules hold, have chains that join what any joins; the units of a module's code are read
 //! with the words at which they stand; shaped modules, each of which follows the one before, are apart; the policy
-//! allows each direct edge; a graph can be made of some module. Only tested, in `cfi_policy`: the edges of modules that
-//! are written by hand. Open: nothing.
+//! allows each direct edge; a name means one address to the modules that import it; a graph can be made of some module.
+//! Only tested, in `cfi_calls`: the edges of modules that are written by hand. Open: nothing.
 #![tactic(auto)]
 
 mod branch_facts;
@@ -20,6 +20,6 @@ mod shape;
 mod spot;
 
 pub use direct::{edges, spanning};
-pub use laws::{direct_is_allowed, some_module_has_graph};
+pub use laws::{a_name_means_one_address, direct_is_allowed, some_module_has_graph};
 pub use shape::shaped_are_apart;
 pub use spot::spots;

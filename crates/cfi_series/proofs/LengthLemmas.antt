@@ -71,12 +71,12 @@ length-with_word at word bytes within =
     )
 
 -- what a step that went well gave
-then_ok : {A B E : Type 0} (r : Result A E) (f : A → Result B E) (y : B) → (r >>= f) ≡ Ok y
+pub then_ok : {A B E : Type 0} (r : Result A E) (f : A → Result B E) (y : B) → (r >>= f) ≡ Ok y
     → (x : A) × (r ≡ Ok x) × (f x ≡ Ok y)
 then_ok (Ok x) f y done = (x, refl, done)
 then_ok (Err e) f y done = absurd (ok_not_err done)
 
-then_applied : {A B : Type 0} (r : Result A RelocFault) (f : A → Result B RelocFault) (y : B)
+pub then_applied : {A B : Type 0} (r : Result A RelocFault) (f : A → Result B RelocFault) (y : B)
     → chain.◌>>=◌ r f ≡ Ok y → (x : A) × (r ≡ Ok x) × (f x ≡ Ok y)
 then_applied (Ok x) f y done = (x, refl, done)
 then_applied (Err e) f y done = absurd (ok_not_err done)
@@ -176,7 +176,7 @@ still_inside bytes next long (reloc ∷ relocs) inside =
 abbrev as_ok : Areas → Result Areas RelocFault
 as_ok bytes = Ok bytes
 
-numbered_ok : (k : ℕ) (r : Result Areas RelocFault) (bytes : Areas) → numbered k r ≡ Ok bytes → r ≡ Ok bytes
+pub numbered_ok : (k : ℕ) (r : Result Areas RelocFault) (bytes : Areas) → numbered k r ≡ Ok bytes → r ≡ Ok bytes
 numbered_ok k (Ok x) bytes done = ap as_ok (ok_is done)
 numbered_ok k (Err fault) bytes done = absurd (ok_not_err done)
 

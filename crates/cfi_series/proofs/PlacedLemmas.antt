@@ -37,12 +37,12 @@ use Rattle.cfi_series.proofs.LengthLemmas.{ok_not_err, ok_is, IsInside, relocate
 
 -- ---- the tests before the relocations
 
-unless_ok : (u : Option (List ℕ)) (r : Result Areas PlaceFault) (bytes : Areas) → unless_undefined u r ≡ Ok bytes
+pub unless_ok : (u : Option (List ℕ)) (r : Result Areas PlaceFault) (bytes : Areas) → unless_undefined u r ≡ Ok bytes
     → r ≡ Ok bytes
 unless_ok None r bytes done = done
 unless_ok (Some name) r bytes done = absurd (ok_not_err done)
 
-fits_ok : (fits : Bool) (fault : PlaceFault) (r : Result Areas PlaceFault) (bytes : Areas)
+pub fits_ok : (fits : Bool) (fault : PlaceFault) (r : Result Areas PlaceFault) (bytes : Areas)
     → where_fits fits fault r ≡ Ok bytes → (fits ≡ true) × (r ≡ Ok bytes)
 fits_ok true fault r bytes done = (refl, done)
 fits_ok false fault r bytes done = absurd (ok_not_err done)

@@ -1,11 +1,13 @@
 -- A module is placed, or it has a fault of placing other than a want of memory.
-use Rattle.std.proofs.Common.{◌≡◌, ◌≢◌, ◌⊎◌, ℕ, ◌+◌, Bool, true, false, List, [], ◌∷◌, Option, Some, None, Result, Ok, Err, refl, inl, inr}
+use Rattle.std.proofs.Common.{◌≡◌, ◌≢◌, ◌⊎◌, ℕ, ◌+◌, Bool, true, false, IsTrue, List, [], ◌∷◌, length, Option, Some, None, Result, Ok, Err, refl, inl, inr}
 use Rattle.elf_read.specs.declared.object.Object.{Object}
 use Rattle.elf_read.specs.declared.object.Reloc.{Reloc}
 use Rattle.rv_reloc.specs.declared.fault.RelocFault.{RelocFault}
 use Rattle.cfi_values.specs.Then.{◌>>=◌}
 use Rattle.cfi_unit.specs.declared.unit.Unit.{Unit as CodeUnit}
 use Rattle.cfi_aux.specs.declared.modules.Module.{Module}
+use Rattle.cfi_aux.specs.Cells.{have_cells}
+use Rattle.cfi_aux.proofs.HaveCells.{cells-more}
 use Rattle.cfi_aux.specs.declared.placed.Placed.{Placed}
 use Rattle.cfi_aux.specs.Placed.{exports_of}
 use Rattle.cfi_place.specs.declared.fault.PlaceFault.{PlaceFault}
@@ -17,6 +19,7 @@ use Rattle.cfi_place.specs.Relocated.{Areas, areas_of, high_parts, relocated_by,
 use Rattle.cfi_place.specs.Slots.{checks_from, with_slots}
 use Rattle.cfi_place.specs.Functions.{placed_functions}
 use Rattle.cfi_place.specs.Placed.{bytes_as_words, values_in, relocated, unless_undefined, where_fits, code_fits, data_fits, placed_in, IsPlaced}
+use Rattle.cfi_series_law.proofs.LongerLemmas.{more_placed}
 use Rattle.cfi_series_law.proofs.WordLemmas.{units_from}
 
 -- ---- no want of memory
@@ -63,8 +66,9 @@ placed_not object room names =
 
 -- ---- a placed module
 
-abbrev placed_as : Module → Room → Areas → List CodeUnit → Placed
-placed_as m room bytes code = record {
+abbrev placed_as : (m : Module) → Room → (bytes : Areas) → IsTrue (have_cells (length bytes.static_data) m.records.branches)
+    → List CodeUnit → Placed
+placed_as m room bytes cells code = record {
   base = room.base;
   slot_base = room.slot_base;
   data_base = room.data_base;
@@ -74,6 +78,7 @@ placed_as m room bytes code = record {
   branches = m.records.branches;
   types = m.types;
   exports = exports_of room.base room.data_base m.object.symbols;
+  cells = cells;
 }
 
 module _ (m : Module) (room : Room) (names : Names) where
@@ -85,8 +90,10 @@ module _ (m : Module) (room : Room) (names : Names) where
   by_bytes : (due : Result Areas PlaceFault) → placed_in m.object room names ≡ due → IsPlacedOrNot
   by_bytes (Ok bytes) is =
       let read = units_from (bytes_as_words m.object.text) in
+      let cells = cells-more (length m.object.static_data) (length bytes.static_data)
+      (more_placed m.object room names bytes is) m.records.branches m.cells in
       inl (
-        placed_as m room bytes read.0,
+        placed_as m room bytes cells read.0,
         record {
           bytes = bytes;
           is_placed = is;

@@ -55,6 +55,7 @@ hello_placed = record {
   branches = [];
   types = bare_types;
   exports = [];
+  cells = refl;
 }
 
 pub whole : IsWhole hello_placed hello_words

@@ -1,6 +1,6 @@
 -- The modules of the run with a load at their places, and that they verify.
 use Rattle.std.proofs.Common.{◌≡◌, ℕ, ◌*◌, ◌<◌, ◌≤◌, pos, true, false, List, [], ◌∷◌, length, Some, inl, refl, sym, ap, subst, arith}
-use Rattle.std.specs.Prelude.{codes}
+use Rattle.std.specs.Prelude.{codes, IsTrue}
 use Rattle.std.specs.List.{Contains, AllByRecursion}
 use Rattle.rv_reloc.specs.Bytes.{word_at}
 use Rattle.cfi_unit.specs.declared.spot.Spot.{Spot}
@@ -13,6 +13,7 @@ use Rattle.elf_read.specs.Lists.{Each}
 use Rattle.cfi_unit.proofs.CodeLemmas.{BeginsAt-within}
 use Rattle.cfi_unit.proofs.UnitLemmas.{size_pos}
 use Rattle.cfi_aux.specs.Records.{AllEntriesIn}
+use Rattle.cfi_aux.specs.Cells.{have_cells}
 use Rattle.cfi_aux.specs.declared.placed.Placed.{Placed}
 use Rattle.cfi_aux.specs.declared.placed.PlacedFunction.{PlacedFunction}
 use Rattle.cfi_aux.specs.declared.records.Kind.{Kind}
@@ -41,8 +42,9 @@ whole name count =
     record { first = 0; count = count; ty = FUNCTION_TYPE; taken = true; global = true; name = name }
 
 -- a module of these words at its place
-abbrev pub placed_at : (name : List ℕ) → (base slot : ℕ) → (words : List ℕ) → List Kind → Placed
-placed_at name base slot words branches = record {
+abbrev pub placed_at : (name : List ℕ) → (base slot : ℕ) → (words : List ℕ) → (branches : List Kind)
+    → IsTrue (have_cells 0 branches) → Placed
+placed_at name base slot words branches cells = record {
   base = base;
   slot_base = slot;
   data_base = DATA_START;
@@ -52,6 +54,7 @@ placed_at name base slot words branches = record {
   branches = branches;
   types = bare_types;
   exports = (name, 4 * base) ∷ [];
+  cells = cells;
 }
 
 -- the check of slot 0 that links, and that of slot 1 that does not
@@ -84,10 +87,10 @@ abbrev pub plug_words : List ℕ
 plug_words = returns_words 0x004e2e83
 
 abbrev pub opener_placed : Placed
-opener_placed = placed_at (codes "main") FIRST_BASE 0 opener_words (Call FUNCTION_TYPE ∷ [])
+opener_placed = placed_at (codes "main") FIRST_BASE 0 opener_words (Call FUNCTION_TYPE ∷ []) refl
 
 abbrev pub plug_placed : Placed
-plug_placed = placed_at (codes "plug") 36 1 plug_words (Return ∷ [])
+plug_placed = placed_at (codes "plug") 36 1 plug_words (Return ∷ []) refl
 
 -- ---- they are placed
 
@@ -183,10 +186,10 @@ plug_is = record {
 -- ---- and verify
 
 -- a module of one function and one branch, whose one check is this
-module _ (name : List ℕ) (base slot : ℕ) (words : List ℕ) (kind : Kind) (us : List CodeUnit) (loaded : List Placed)
-    (check : CheckSpot) (first last : Spot) where
+module _ (name : List ℕ) (base slot : ℕ) (words : List ℕ) (kind : Kind) (cells : IsTrue (have_cells 0 (kind ∷ [])))
+    (us : List CodeUnit) (loaded : List Placed) (check : CheckSpot) (first last : Spot) where
   abbrev placed : Placed
-  placed = placed_at name base slot words (kind ∷ [])
+  placed = placed_at name base slot words (kind ∷ []) cells
 
   abbrev spots : List Spot
   spots = spots_of 0 us
@@ -261,7 +264,7 @@ opener_stays = inl (
 
 opener_verifies : IsVerified opener_placed []
 opener_verifies =
-    verifies (codes "main") FIRST_BASE 0 opener_words (Call FUNCTION_TYPE) opener_units []
+    verifies (codes "main") FIRST_BASE 0 opener_words (Call FUNCTION_TYPE) refl opener_units []
     (record { at = 3; link = true; slot = 0 }) (record { at = 0; unit = sets 17 4 }) opener_last
     (record { fit = fit; spelled = refl }) (omega arith) (0, omega arith, refl) refl (6, omega arith, refl)
     (omega arith) refl
@@ -273,7 +276,7 @@ plug_last = record { at = 0; unit = returns }
 
 plug_verifies : IsVerified plug_placed (opener_placed ∷ [])
 plug_verifies =
-    verifies (codes "plug") 36 1 plug_words Return plug_units (opener_placed ∷ [])
+    verifies (codes "plug") 36 1 plug_words Return refl plug_units (opener_placed ∷ [])
     (record { at = 0; link = false; slot = 1 }) plug_last plug_last (record { fit = plug_fit; spelled = refl })
     (omega arith)
     (0, omega arith, refl) refl (0, omega arith, refl) (omega arith) refl

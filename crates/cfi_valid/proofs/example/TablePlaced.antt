@@ -134,6 +134,7 @@ lib_placed = record {
   branches = lib_branches;
   types = lib_types;
   exports = (codes "sel", 184) ∷ (codes "choose", 284) ∷ [];
+  cells = refl;
 }
 
 -- ---- `main`
@@ -231,6 +232,7 @@ main_placed = record {
   branches = main_branches;
   types = main_types;
   exports = (codes "_start", 500) ∷ [];
+  cells = refl;
 }
 
 -- ---- `plug`
@@ -267,4 +269,5 @@ plug_placed = record {
   branches = plug_branches;
   types = plug_types;
   exports = (codes "plus60", 632) ∷ [];
+  cells = refl;
 }

@@ -97,13 +97,13 @@ second_call_stands = record {
   place = refl;
 }
 
-sel_tails : TailCalls lib_placed sel lib_placed twice
+sel_tails : TailCalls before lib_placed sel lib_placed twice
 sel_tails = record {
   at = 41;
   lies = (omega arith, omega arith);
   unit = Check false 5 (pos 0) 2;
   stands = tail_stands;
-  call = (1, tail_kind, tail_points);
+  call = (Tail 1, tail_kind, tail_points);
 }
 
 twice_edge : DirectEdge before 0 508
