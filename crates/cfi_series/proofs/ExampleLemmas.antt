@@ -38,6 +38,7 @@ unplaced = record {
     functions = record { offset = 0; length = 4; ty = 1; taken = false; name = [] } ∷ [];
     branches = [];
   };
+  cells = refl;
 }
 
 sound : IsSoundModule unplaced

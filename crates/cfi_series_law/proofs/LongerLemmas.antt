@@ -110,10 +110,10 @@ pub more_placed : (object : Object) (room : Room) (names : Names) (bytes : Areas
 more_placed object room names bytes done =
     let values = values_in object room names in
     let made = relocated object room values in
-    let data = where_fits (data_fits object room) faults.DataFull made in
+    let second = where_fits (data_fits object room) faults.DataFull made in
     let named = unless_ok (undefined_in object.symbols values object.relocs)
-    (where_fits (code_fits object room) faults.CodeFull data) bytes done in
-    let code = (fits_ok (code_fits object room) faults.CodeFull data bytes named).1 in
+    (where_fits (code_fits object room) faults.CodeFull second) bytes done in
+    let code = (fits_ok (code_fits object room) faults.CodeFull second bytes named).1 in
     let last = (fits_ok (data_fits object room) faults.DataFull made bytes code).1 in
     more_relocated room values (high_parts room values object.relocs) 0 object.relocs
     (areas_of object.text object.static_data) bytes last

@@ -2,8 +2,9 @@
 -- exits with its address. Places are worked out by hand: `main` has 20 words from word 16 on, so `plug` stands at
 -- word 36, address 144. Both checks pick the policy that came with `plug`; each runs ten instructions, and each other
 -- unit one.
-use Rattle.std.specs.Prelude.{ℕ, Bool, true, false, List, [], ◌∷◌, ◌++◌, length, codes, Some, None}
+use Rattle.std.specs.Prelude.{ℕ, Bool, true, false, List, [], ◌∷◌, ◌++◌, length, codes, Some, None, IsTrue, refl}
 use Rattle.cfi_aux.specs.declared.modules.Module.{Module}
+use Rattle.cfi_aux.specs.Cells.{have_cells}
 use Rattle.cfi_aux.specs.declared.records.Function.{Function}
 use Rattle.cfi_aux.specs.declared.records.Kind.{Kind}
 use Rattle.cfi_aux.specs.declared.records.Kind.TheVariants.{Call, Return}
@@ -33,8 +34,8 @@ abbrev pub whole_function : (name bytes : List ℕ) → Function
 whole_function name bytes =
     record { offset = 0; length = length bytes; ty = FUNCTION_TYPE; taken = true; name = name }
 
-abbrev pub one_function : (name bytes : List ℕ) → List Kind → Module
-one_function name bytes branches = record {
+abbrev pub one_function : (name bytes : List ℕ) → (branches : List Kind) → IsTrue (have_cells 0 branches) → Module
+one_function name bytes branches cells = record {
   object = record {
     text = bytes;
     static_data = [];
@@ -45,6 +46,7 @@ one_function name bytes branches = record {
   };
   types = bare_types;
   records = record { functions = whole_function name bytes ∷ []; branches = branches };
+  cells = cells;
 }
 
 -- the words of a check of slot 0 behind its first one, and before its last
@@ -64,14 +66,14 @@ opener_bytes =
     ++ (0x93 ∷ 0x08 ∷ 0x10 ∷ 0x00 ∷ 0x73 ∷ 0x00 ∷ 0x00 ∷ 0x00 ∷ 0x6f ∷ 0x00 ∷ 0x00 ∷ 0x00 ∷ [])
 
 abbrev pub opener : Module
-opener = one_function (codes "main") opener_bytes (Call FUNCTION_TYPE ∷ [])
+opener = one_function (codes "main") opener_bytes (Call FUNCTION_TYPE ∷ []) refl
 
 -- the check of `jalr x0,0(x1)`
 abbrev pub plug_bytes : List ℕ
 plug_bytes = (0x93 ∷ 0x8f ∷ 0x00 ∷ 0x00 ∷ []) ++ check_middle ++ (0x67 ∷ 0x80 ∷ 0x0f ∷ 0x00 ∷ [])
 
 abbrev pub plug : Module
-plug = one_function (codes "plug") plug_bytes (Return ∷ [])
+plug = one_function (codes "plug") plug_bytes (Return ∷ []) refl
 
 -- ---- the plan and the report
 

@@ -1,8 +1,9 @@
 -- A run of three modules: a guest of `main` calls two functions of `lib`, one of which goes on by a table of functions
 -- and one by a table of cases, opens `plug`, and calls what it opened. `lib` has the two tables in its data, and
 -- relocations for them. The guest puts three bytes and exits with 0.
-use Rattle.std.specs.Prelude.{ℕ, ◌/◌, ◌%◌, ◌^◌, Bool, true, false, pos, List, [], ◌∷◌, codes, replicate, flat_map, Some, None}
+use Rattle.std.specs.Prelude.{ℕ, ◌/◌, ◌%◌, ◌^◌, Bool, true, false, pos, List, [], ◌∷◌, length, codes, replicate, flat_map, Some, None, IsTrue, refl}
 use Rattle.cfi_aux.specs.declared.modules.Module.{Module}
+use Rattle.cfi_aux.specs.Cells.{have_cells}
 use Rattle.cfi_aux.specs.declared.records.Function.{Function}
 use Rattle.cfi_aux.specs.declared.records.Kind.{Kind}
 use Rattle.cfi_aux.specs.declared.records.Kind.TheVariants.{Call, Tail, Return, Switch}
@@ -43,9 +44,9 @@ abbrev pub function_with : (name : List ℕ) → (offset size ty : ℕ) → (tak
 function_with name offset size ty taken =
     record { offset = offset; length = size; ty = ty; taken = taken; name = name }
 
-abbrev pub module_with : (words static_data : List ℕ) → List Symbol → List Reloc → List Node → List Function → List Kind
-    → Module
-module_with words static_data symbols relocs types functions branches = record {
+abbrev pub module_with : (words static_data : List ℕ) → List Symbol → List Reloc → List Node → List Function
+    → (branches : List Kind) → IsTrue (have_cells (length static_data) branches) → Module
+module_with words static_data symbols relocs types functions branches cells = record {
   object = record {
     text = flat_map bytes_of_word words;
     static_data = static_data;
@@ -56,6 +57,7 @@ module_with words static_data symbols relocs types functions branches = record {
   };
   types = types;
   records = record { functions = functions; branches = branches };
+  cells = cells;
 }
 
 -- ---- `lib`
@@ -109,7 +111,7 @@ lib_module =
     ∷ function_with (codes "incr") 60 60 1 true
     ∷ function_with (codes "sel") 120 100 1 false
     ∷ function_with (codes "choose") 220 216 1 false ∷ [])
-    lib_branches
+    lib_branches refl
 
 -- ---- `main`
 
@@ -137,7 +139,7 @@ main_module =
     ∷ reloc_with areas.Text 20 17 2 ∷ [])
     main_types
     (function_with (codes "_start") 0 132 3 false ∷ [])
-    main_branches
+    main_branches refl
 
 -- ---- `plug`
 
@@ -159,7 +161,7 @@ plug_module =
     []
     plug_types
     (function_with (codes "plus60") 0 60 1 true ∷ [])
-    plug_branches
+    plug_branches refl
 
 -- ---- the plan and the report, where the guest put these bytes
 

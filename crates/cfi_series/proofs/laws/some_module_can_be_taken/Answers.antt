@@ -1,10 +1,10 @@
-use Rattle.std.proofs.Common.{[], arith}
+use Rattle.std.proofs.Common.{[], refl, arith}
 use Rattle.cfi_aux.specs.declared.modules.Module.{Module}
 use Rattle.cfi_aux.proofs.NothingLemmas.{nothing, nothing_is_sound}
 use Rattle.cfi_series.proofs.laws.some_module_can_be_taken.Goals as goal
 
 abbrev empty : Module
-empty = record { object = nothing; types = []; records = record { functions = []; branches = [] } }
+empty = record { object = nothing; types = []; records = record { functions = []; branches = [] }; cells = refl }
 
 -- the one that has nothing
 pub returns : goal.returns
