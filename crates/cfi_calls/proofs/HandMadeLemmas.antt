@@ -1,5 +1,5 @@
 -- What modules written by hand, and an empty list of edges, are.
-use Rattle.std.proofs.Common.{ℕ, ◌≡◌, ◌+◌, ◌<◌, ◌≤◌, [], ◌∷◌, length, get_or, All, sym, subst, arith}
+use Rattle.std.proofs.Common.{ℕ, ◌≡◌, ◌+◌, ◌<◌, ◌≤◌, [], ◌∷◌, length, get_or, All, refl, sym, subst, arith}
 use Rattle.cfi_aux.specs.declared.placed.Placed.{Placed}
 use Rattle.cfi_word.specs.Table.{slots_of}
 use Rattle.cfi_class.specs.Labels.{CanBeLabelled}
@@ -24,7 +24,7 @@ pub none_labelled : (slots code_words : ℕ) → slots ≤ slots_of code_words �
 none_labelled slots code_words room = record { room = room; within = λ k d there. absurd (omega arith) }
 
 abbrev call_module_of : (node : ℕ) → Placed
-call_module_of node = placed_of 16 0 call_code call_rows (call_kinds node) void_and_function
+call_module_of node = placed_of 16 0 call_code call_rows (call_kinds node) refl void_and_function
 
 -- the module of the calls ends before the last of 1,024 code words
 pub calls_end : (node : ℕ) → All (λ m. m.base + length m.words < 1024) (call_modules node)

@@ -1,8 +1,9 @@
 //! Modules that are written by hand, by units.
 
-ghost use Rattle.std.specs.Prelude.{◌≡◌, ◌<◌, map, IfOk};
+ghost use Rattle.std.specs.Prelude.{◌≡◌, ◌<◌, map, IfOk, IsTrue};
 ghost use Rattle.std.specs.List.{flat_map, AllByRecursion};
 ghost use Rattle.cfi_unit.specs.Unit.{IsUnit, words_of};
+ghost use Rattle.cfi_aux.specs.Cells.{have_cells};
 ghost use Rattle.cfi_graph.specs.HandMade.{function_of, placed_of, void_and_function};
 ghost use Rattle.cfi_policy.specs.Image.{HaveImage};
 
@@ -58,9 +59,10 @@ fn module_of(
     branches: Vec<Kind>,
     types: TypeTable,
 ) -> Result<Placed, AllocError>
-    requires { AllByRecursion IsUnit code.now }
-    ensures { IfOk result (λ m.
-        m ≡ placed_of base slot_base code.now rows.now branches.items types) }
+    requires units { AllByRecursion IsUnit code.now }
+    requires cells { IsTrue (have_cells 0 branches.items) }
+    ensures { (cells : IsTrue (have_cells 0 branches.items)) → IfOk result (λ m.
+        m ≡ placed_of base slot_base code.now rows.now branches.items cells types) }
 {
     Ok(Placed {
         base,

@@ -9,7 +9,7 @@ pub returns : goal.returns
 returns c =
     let node = c.args.node in
     let types = c.in_ok-types.types in
-    let is : c.in_ok-module.module ≡ placed_of 16 0 call_code call_rows (call_kinds node) void_and_function =
+    let is : c.in_ok-module.module ≡ placed_of 16 0 call_code call_rows (call_kinds node) refl void_and_function =
     c.in_ok-module.ensures
     ∙ ap (λ kinds. placed_of 16 0 call_code call_rows kinds types) c.in_ok-kinds.ensures.items
     ∙ ap (placed_of 16 0 call_code call_rows (call_kinds node)) c.in_ok-types.ensures in
