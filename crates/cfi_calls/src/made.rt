@@ -61,7 +61,7 @@ fn module_of(
 ) -> Result<Placed, AllocError>
     requires units { AllByRecursion IsUnit code.now }
     requires cells { IsTrue (have_cells 0 branches.items) }
-    ensures { (cells : IsTrue (have_cells 0 branches.items)) → IfOk result (λ m.
+    ensures { IfOk result (λ m. (cells : IsTrue (have_cells 0 branches.items)) →
         m ≡ placed_of base slot_base code.now rows.now branches.items cells types) }
 {
     Ok(Placed {
