@@ -75,7 +75,8 @@ pub record ReturnsTo (ms : List Placed) (n : Placed) (f : PlacedFunction) (addre
   pub after : address ≡ code_address caller (at + size_of unit)
 
 -- f of m tail calls g of n, of the modules
-pub record TailCalls (ms : List Placed) (m : Placed) (f : PlacedFunction) (n : Placed) (g : PlacedFunction) : Type 0 where
+pub record TailCalls (ms : List Placed) (m : Placed) (f : PlacedFunction) (n : Placed) (g : PlacedFunction)
+    : Type 0 where
   pub at : ℕ
   pub lies : LiesIn f at
   pub unit : CodeUnit

@@ -67,7 +67,8 @@ abbrev pub word_of : (address : ℕ) → ℕ
 word_of address = address / 4
 
 -- what a check at a word of the module tells, by its branch's kind
-abbrev pub IsBranchFact : ByName → (classes : List (List ℕ)) → (number : ℕ) → Placed → (at slot : ℕ) → Kind → Fact → Type 0
+abbrev pub IsBranchFact : ByName → (classes : List (List ℕ)) → (number : ℕ) → Placed → (at slot : ℕ) → Kind → Fact
+    → Type 0
 IsBranchFact imports classes number m at slot (kinds.Call node) (facts.Pointer l) =
     (l.from ≡ type_node classes number node) × (l.to ≡ slot)
 IsBranchFact imports classes number m at slot (kinds.Call node) (facts.Site l) =
@@ -124,7 +125,8 @@ pub record FunctionTells (classes : List (List ℕ)) (number : ℕ) (m : Placed)
 
 -- the module tells it
 abbrev pub ModuleTells : ByName → (classes : List (List ℕ)) → (number : ℕ) → Placed → Fact → Type 0
-ModuleTells imports classes number m fact = UnitTells imports classes number m fact ⊎ FunctionTells classes number m fact
+ModuleTells imports classes number m fact =
+    UnitTells imports classes number m fact ⊎ FunctionTells classes number m fact
 
 -- some of the modules tells it
 pub record IsTold (ms : List Placed) (imports : ByName) (classes : List (List ℕ)) (fact : Fact) : Type 0 where

@@ -11,7 +11,7 @@ use Rattle.cfi_place.specs.declared.room.Room.{Room}
 
 -- a module at its places, with so many words, checks and bytes of data
 abbrev pub sized : (base slot_base data_base words checks bytes : ℕ)
-    → IsTrue (have_cells (length (replicate bytes 0)) (replicate checks Return)) → Placed
+    → IsTrue (have_cells (length {A = ℕ} (replicate bytes 0)) (replicate checks Return)) → Placed
 sized base slot_base data_base words checks bytes cells = record {
   base = base;
   slot_base = slot_base;
