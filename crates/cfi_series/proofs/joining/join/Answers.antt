@@ -1,7 +1,9 @@
-use Rattle.std.proofs.Common.{sym, ap, subst, arith}
+use Rattle.std.proofs.Common.{sym, ap, subst, arith, rules}
 use Rattle.cfi_place.specs.declared.room.Room.{Room}
 use Rattle.cfi_place.specs.Names.{find_in}
 use Rattle.cfi_place.specs.Placed.{IsRoom}
+use Rattle.cfi_verify.specs.Faults.{IsFirstFault}
+use Rattle.cfi_series.specs.Order.{IsPlacedBehind}
 use Rattle.cfi_series.proofs.PlacedLemmas.{fits}
 use Rattle.cfi_series.proofs.SeriesLemmas.{room_is}
 use Rattle.cfi_series.proofs.joining.join.Goals as goal
@@ -34,3 +36,11 @@ verify-requires-clause-words c =
     let placed = fits c.args.unplaced.now c.room_after-room.result (find_in c.args.symbols.now) c.in-Ok.placed
     c.requires.taken.sound.object_sound.relocs c.in-Ok.ensures.ok in
     omega (arith, placed.code, code, room.size.most)
+
+-- what does not verify was placed
+pub returns : goal.returns
+returns c =
+    let placed = c.in-Ok.placed in
+    let behind : IsPlacedBehind c.args.code_words c.args.before.now c.args.unplaced.now placed = search rules in
+    let first : IsFirstFault placed c.args.before.now c.in-Err-verify.fault = search rules in
+    record { ok = tt; fault = (placed, behind, first) }

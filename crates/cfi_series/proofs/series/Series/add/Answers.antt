@@ -32,6 +32,20 @@ invariant_of-self-in-Ok c =
       names = subst (λ (xs : List Placed). HasNames xs (Some c.add_names.new.symbols)) items names;
     }
 
+-- the series has the module as it joined
+pub returns-in_ok-push-in-Ok-clause-ok : goal.returns-in_ok-push-in-Ok-clause-ok
+returns-in_ok-push-in-Ok-clause-ok c =
+    let code_words = c.self.inside.code_words in
+    let before = c.self.inside.placed.items in
+    let unplaced = c.args.unplaced.now in
+    let m = c.in-Ok.placed in
+    let joins = subst (λ (xs : List Placed). Joins code_words xs unplaced m) c.deref-2.ensures.value c.in-Ok.ensures.ok in
+    let with_items : List Placed → Series = λ xs. record { code_words = code_words; placed = xs } in (
+      m,
+      subst (λ (s : Series). Joins s.code_words s.placed unplaced m) c.self.view_is joins,
+      ap with_items c.in_ok-push-in-Ok.ensures.items ∙ ap (λ (s : Series). with_module s m) c.self.view_is,
+    )
+
 -- a module joins in one way
 pub returns-in_ok-push-in-Ok-clause-only : goal.returns-in_ok-push-in-Ok-clause-only
 returns-in_ok-push-in-Ok-clause-only c placed joins =
