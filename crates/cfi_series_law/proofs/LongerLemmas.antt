@@ -29,14 +29,13 @@ use Rattle.cfi_series.proofs.PlacedLemmas.{unless_ok, fits_ok}
 more_with_word : (at word : ℕ) (bytes : List ℕ) → length bytes ≤ length (with_word at word bytes)
 unfolding with_word
 more_with_word at word bytes =
-    let first = length-append (take at bytes ++ to_le_bytes w32 word) (drop (at + 4) bytes) in
-    let second = length-append (take at bytes) (to_le_bytes w32 word ++ drop (at + 4) bytes) in
-    let third = length-append (to_le_bytes w32 word) (drop (at + 4) bytes) in
+    let whole = length-append (take at bytes ++ to_le_bytes w32 word) (drop (at + 4) bytes) in
+    let front = length-append (take at bytes) (to_le_bytes w32 word) in
     let taken : length (take at bytes) ≡ min at (length bytes) = length-take at bytes in
     let left = length-drop (at + 4) bytes in
     elim (cases_lt at (length bytes)) [
-      | inl within ↦ omega (arith, first, second, third, taken, left, within)
-      | inr past ↦ omega (arith, first, second, third, taken, left, past)
+      | inl within ↦ omega (arith, whole, front, taken, left, within)
+      | inr past ↦ omega (arith, whole, front, taken, left, past)
     ]
 
 more_with_next : (at : ℕ) (found : Option ℕ) (bytes : List ℕ)
