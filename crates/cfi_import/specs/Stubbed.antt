@@ -1,6 +1,6 @@
--- A module with a stub for each function that it calls and that another module is to define: the stub jumps to the address
--- that a cell of the module's data holds, so the function may come later. Without such a function the module stays as it
--- is.
+-- A module with a stub for each function that it calls and that another module is to define: the stub jumps to the
+-- address that a cell of the module's data holds, so the function may come later. Without such a function the module
+-- stays as it is.
 use Rattle.std.specs.Prelude.{◌≡◌, ℕ, ◌*◌, List, [], ◌∷◌, ◌++◌, length, map, take, drop, replicate, Option, Some, None, ⊤}
 use Rattle.std.specs.List.{enumerate_from}
 use Rattle.elf_read.specs.Places.{joined}
