@@ -1,5 +1,5 @@
--- Where stubs go: their text at the end of the text, their cells at the end of the data, which is padded to whole words,
--- their type at the end of the types, and their symbols before the first symbol that is not local.
+-- Where stubs go: their text at the end of the text, their cells at the end of the data, which is padded to whole
+-- words, their type at the end of the types, and their symbols before the first symbol that is not local.
 use Rattle.std.specs.Prelude.{ℕ, ◌+◌, ◌*◌, Bool, true, false, not, length, List, [], ◌∷◌, if◌then◌else◌}
 use Rattle.std.specs.List.{list_any}
 use Rattle.elf_read.specs.Sound.{is_exported}

@@ -1,4 +1,4 @@
--- A module in which each function that it calls and no module before it needs to have gets a stub: the stub jumps to the
+-- A module with a stub for each function that it calls and that another module is to define: the stub jumps to the
 -- address that a cell of the module's data holds, so the function may come later. Without such a function the module
 -- stays as it is.
 use Rattle.std.specs.Prelude.{◌≡◌, ℕ, ◌*◌, List, [], ◌∷◌, ◌++◌, length, map, take, drop, replicate, Option, Some, None, ⊤}

@@ -10,6 +10,6 @@ mod laws;
 
 pub use laws::{
     assembled_are_whole, assembled_are_within_limits, instrumented_are_sound,
-    instrumented_are_within_limits, linked_are_sound, linked_are_within_limits,
-    stubbed_are_sound, stubbed_are_within_limits,
+    instrumented_are_within_limits, linked_are_sound, linked_are_within_limits, stubbed_are_sound,
+    stubbed_are_within_limits,
 };

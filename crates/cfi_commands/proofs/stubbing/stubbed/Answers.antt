@@ -1,4 +1,6 @@
+use Rattle.std.proofs.Common.{◌≢◌, refl, rules}
 use Rattle.std.proofs.lemmas.Result.{err_from_is_err_and}
+use Rattle.cfi_import.specs.declared.fault.StubFault.TheVariants.{Memory}
 use Rattle.cfi_commands.proofs.InstrumentingLemmas.{read-of}
 use Rattle.cfi_commands.proofs.StubbingLemmas.{few_symbols, module_as_stub}
 use Rattle.cfi_commands.proofs.stubbing.stubbed.Goals as goal
@@ -32,3 +34,9 @@ pub returns-in_err-source-clause-fault : goal.returns-in_err-source-clause-fault
 returns-in_err-source-clause-fault c =
     let p = err_from_is_err_and c.from_residual.result c.from_residual.ensures.1 in
     rw (p.1, p.2) (module_as_stub c.args.bytes.now _ c.in_err-source.ensures.fault)
+
+-- the module gets no stubs, and memory is there
+pub returns-clause-fault : goal.returns-clause-fault
+returns-clause-fault c =
+    let other : c.in-Err.fault ≢ Memory = search rules in
+    (refl, (c.in_ok-source.source, c.in_ok-source.ensures.ok, c.in-Err.ensures.fault, other))
