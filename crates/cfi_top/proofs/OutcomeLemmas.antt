@@ -43,6 +43,7 @@ saved_is_output (commands.Verify plan) (bytes ∷ []) more name file made = absu
 saved_is_output (commands.Graph plan) (bytes ∷ []) more name file made = absurd made
 saved_is_output (commands.Sim plan schedule) (bytes ∷ []) more name file made = absurd made
 saved_is_output (commands.Run input) (bytes ∷ []) more name file made = absurd made
+saved_is_output (commands.Gen seed count) files more name file made = absurd made
 saved_is_output command files more name file made = absurd made
 
 -- what is made of files that are read is no file that is not
@@ -56,6 +57,7 @@ never_unread (commands.Verify plan) (bytes ∷ []) more unread made = made
 never_unread (commands.Graph plan) (bytes ∷ []) more unread made = made
 never_unread (commands.Sim plan schedule) (bytes ∷ []) more unread made = made
 never_unread (commands.Run input) (bytes ∷ []) more unread made = made
+never_unread (commands.Gen seed count) files more unread made = made
 never_unread command files more unread made = made
 
 -- a command whose files are read comes to what is made of them
