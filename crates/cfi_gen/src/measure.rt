@@ -56,11 +56,7 @@ fn classes_of(groups: &[Group]) -> u64
 /// How much the modules of a plan are in all, where all place and verify in order.
 ///
 /// `files` are those of the plan's modules. The fault is the first of the files.
-pub fn measure_of(
-    alloc: Global,
-    plan: &Plan,
-    files: Items<Bytes>,
-) -> Result<Measure, CommandFault>
+pub fn measure_of(alloc: Global, plan: &Plan, files: Items<Bytes>) -> Result<Measure, CommandFault>
     requires plan { IsPlan plan.now }
     requires small { All IsShortFile files }
     ensures ok { IfOk result (IsMeasure plan.now.code_words files) }

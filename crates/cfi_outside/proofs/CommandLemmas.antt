@@ -42,7 +42,6 @@ within_says None word said = tt
 within_says (Some n) word said =
     within_by n word said.1 (nat_le MIN_COUNT n) (nat_le n MAX_COUNT) (leb-true MIN_COUNT n) (leb-true n MAX_COUNT)
 
-
 -- ---- all words
 
 -- the command of words, read off their first

@@ -53,6 +53,16 @@ module _ (seed count : ℕ) where
   abbrev pub Comes : Answer → Type 0
   Comes answer = IsWorked (commands.Gen seed count) [] [] answer
 
+  -- whatever files are said to be read
+  pub gen_any : (files more : List (List ℕ)) (answer : Answer) → Comes answer
+      → IsWorked (commands.Gen seed count) files more answer
+  gen_any files more (answers.Ran run text) is = is
+  gen_any files more (answers.Print text) is = absurd is
+  gen_any files more (answers.Save name file) is = absurd is
+  gen_any files more answers.Usage is = absurd is
+  gen_any files more (answers.Unread unread) is = absurd is
+  gen_any files more (answers.Refused name refusal) is = is
+
   -- a source is refused
   pub source_refused : (fault : CommandFault) (answer : Answer) → IsGenerateFault seed count fault
       → IsSourceRefused fault answer → Comes answer

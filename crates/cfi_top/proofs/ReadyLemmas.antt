@@ -11,7 +11,7 @@ use Rattle.cfi_top.specs.declared.answer.Answer.TheVariants as answers
 use Rattle.cfi_top.specs.declared.work.Outcome.{Outcome}
 use Rattle.cfi_top.specs.declared.work.Outcome.TheVariants as outcomes
 use Rattle.cfi_top.specs.declared.work.Ready.{Ready}
-use Rattle.cfi_top.specs.Outcome.{IsAllRead, IsWorked, GoesOn, IsOutcome, IsAnswer}
+use Rattle.cfi_top.specs.Outcome.{IsAllRead, IsMade, IsWorked, GoesOn, IsOutcome, IsAnswer}
 use Rattle.cfi_top.specs.Ready.{IsReady}
 use Rattle.cfi_top.specs.inner.Working.{ComesTo, IsToRun, IsReadToRun, IsReadyFor}
 use Rattle.cfi_top.specs.Running.{RunsGuests}
@@ -50,7 +50,7 @@ comes_out command files shelf mid shelf' (outcomes.Run ready) later read to_run 
 }
 
 -- what is ready for a command is ready of itself
-pub ready_itself : (words : List (List ℕ)) (command : Command) (shelf : ShelfView) (ready : Ready)
+ready_itself : (words : List (List ℕ)) (command : Command) (shelf : ShelfView) (ready : Ready)
     → IsCommand words command → IsReadyFor command shelf ready → IsReady words shelf ready
 ready_itself words command shelf ready fits is = record {
   fits = subst (IsCommand words) (sym is.is) fits;
@@ -58,19 +58,42 @@ ready_itself words command shelf ready fits is = record {
   read = subst (λ (c : Command). IsAllRead c shelf ready.files ready.more) (sym is.is) is.read;
 }
 
--- what running comes to is no usage
-never_usage : (command : Command) (files more : List (List ℕ)) → RunsGuests command
-    → IsWorked command files more answers.Usage → ⊥
-never_usage (commands.Run input) (bytes ∷ []) more runs made = made
-never_usage (commands.Gen seed count) files more runs made = made
-never_usage command files more runs made = absurd made
+-- what is made of files that are read is no usage
+never_usage : (command : Command) (files more : List (List ℕ)) → IsMade command files more answers.Usage → ⊥
+never_usage (commands.Asm input output) (bytes ∷ []) more made = made
+never_usage (commands.List input) (bytes ∷ []) more made = made
+never_usage (commands.Instrument input output) (bytes ∷ []) more made = made
+never_usage (commands.Link output inputs) files more made = made
+never_usage (commands.Verify plan) (bytes ∷ []) more made = made
+never_usage (commands.Graph plan) (bytes ∷ []) more made = made
+never_usage (commands.Sim plan schedule) (bytes ∷ []) more made = made
+never_usage (commands.Run input) (bytes ∷ []) more made = made
+never_usage (commands.Gen seed count) files more made = made
+never_usage command files more made = made
+
+-- what a command comes to is what the words come to that are it
+answer_is : (words : List (List ℕ)) (command : Command) (shelf shelf' : ShelfView) (answer : Answer)
+    → IsCommand words command → IsOutcome command shelf shelf' answer → IsAnswer words shelf shelf' answer
+answer_is words command shelf shelf' answers.Usage fits is = absurd (never_usage command is.0 is.1 is.3)
+answer_is words command shelf shelf' (answers.Ran it text) fits is = (command, fits, is)
+answer_is words command shelf shelf' (answers.Print text) fits is = (command, fits, is)
+answer_is words command shelf shelf' (answers.Save name file) fits is = (command, fits, is)
+answer_is words command shelf shelf' (answers.Unread unread) fits is = (command, fits, is)
+answer_is words command shelf shelf' (answers.Refused name refusal) fits is = (command, fits, is)
+
+pub words_come : (words : List (List ℕ)) (command : Command) (shelf shelf' : ShelfView) (outcome : Outcome)
+    → IsCommand words command → ComesTo (IsOutcome command shelf shelf') (IsReadyFor command shelf) outcome
+    → ComesTo (IsAnswer words shelf shelf') (IsReady words shelf) outcome
+words_come words command shelf shelf' (outcomes.Answer answer) fits is =
+    answer_is words command shelf shelf' answer fits is
+words_come words command shelf shelf' (outcomes.Run ready) fits is = ready_itself words command shelf ready fits is
 
 -- what running comes to is what the words come to that run
 pub run_answered : (words : List (List ℕ)) (shelf shelf' : ShelfView) (ready : Ready) (answer : Answer)
     → IsReady words shelf ready → IsWorked ready.command ready.files ready.more answer
     → IsAnswer words shelf shelf' answer
 run_answered words shelf shelf' ready answers.Usage is worked =
-    absurd (never_usage ready.command ready.files ready.more is.runs worked)
+    absurd (never_usage ready.command ready.files ready.more worked)
 run_answered words shelf shelf' ready (answers.Ran it text) is worked =
     (ready.command, is.fits, (ready.files, ready.more, is.read, worked))
 run_answered words shelf shelf' ready (answers.Print text) is worked =

@@ -18,7 +18,7 @@ use crate::answer::Answer;
 use crate::refused::module_refused;
 use crate::running::run_found;
 use cfi_commands::CommandFault;
-use cfi_gen::{generate, measure_of};
+use cfi_gen::{Generated, generate, measure_of};
 use cfi_io::Gate;
 use cfi_outside::text_of;
 use cfi_plan::Plan;
@@ -129,7 +129,7 @@ pub fn generated<G: Gate, R: Threads + Wait + Sync>(
     ensures { IfOk result (IsWorked (commands.Gen seed count) [] []) }
 {
     match generate(alloc, seed, count) {
-        Ok(made) => run_drawn(rt, alloc, seed, count, &made.plan, made.files, gate),
+        Ok(Generated { plan, files }) => run_drawn(rt, alloc, seed, count, &plan, files, gate),
         Err(fault) => source_refused(alloc, fault),
     }
 }
