@@ -68,6 +68,7 @@ never_usage (commands.Verify plan) (bytes ∷ []) more made = made
 never_usage (commands.Graph plan) (bytes ∷ []) more made = made
 never_usage (commands.Sim plan schedule) (bytes ∷ []) more made = made
 never_usage (commands.Run input) (bytes ∷ []) more made = made
+never_usage (commands.Stub input output) (bytes ∷ []) more made = made
 never_usage (commands.Gen seed count) files more made = made
 never_usage command files more made = made
 
