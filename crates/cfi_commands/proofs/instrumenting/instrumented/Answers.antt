@@ -1,5 +1,7 @@
+use Rattle.std.proofs.Common.{◌≢◌, refl, rules}
 use Rattle.std.proofs.lemmas.Result.{err_from_is_err_and}
 use Rattle.cfi_type_table.proofs.Tables.{small_count, small_fields}
+use Rattle.cfi_items.specs.declared.fault.InstrFault.TheVariants.{Memory}
 use Rattle.cfi_commands.proofs.InstrumentingLemmas.{short_text, few_relocs, read-of, module_as_instrument}
 use Rattle.cfi_commands.proofs.instrumenting.instrumented.Goals as goal
 
@@ -35,3 +37,9 @@ pub returns-in_err-unplaced-clause-fault : goal.returns-in_err-unplaced-clause-f
 returns-in_err-unplaced-clause-fault c =
     let p = err_from_is_err_and c.from_residual.result c.from_residual.ensures.1 in
     rw (p.1, p.2) (module_as_instrument c.args.bytes.now _ c.in_err-unplaced.ensures.fault)
+
+-- the module is not instrumented, and memory is there
+pub returns-clause-fault : goal.returns-clause-fault
+returns-clause-fault c =
+    let other : c.in-Err.fault ≢ Memory = search rules in
+    (refl, (c.in_ok-unplaced.unplaced, c.in_ok-unplaced.ensures.ok, c.in-Err.ensures.fault, other))

@@ -36,3 +36,15 @@ pub returns-in_err-modules-clause-fault : goal.returns-in_err-modules-clause-fau
 returns-in_err-modules-clause-fault c =
     let p = err_from_is_err_and c.from_residual.result c.from_residual.ensures.1 in
     rw (p.1, p.2) (modules_as_linking c.args.files _ c.in_err-modules.ensures.fault)
+
+-- the file is that of the module that is made
+pub returns-in-Ok-clause-ok : goal.returns-in-Ok-clause-ok
+returns-in-Ok-clause-ok c =
+    let output = c.in-Ok.output in
+    record {
+      modules = c.in_ok-modules.modules;
+      are = c.in_ok-modules.ensures.ok;
+      output = output;
+      made = subst (λ (ms : List Module). Linked ms output) c.as_slice.ensures c.in-Ok.ensures.ok;
+      written = c.in_ok-write_object-in-Ok.ensures.ok;
+    }
