@@ -21,6 +21,7 @@ pub mod FitLemmas
 pub mod RefusalLemmas
 pub mod PlanLemmas
 pub mod AddLemmas
+mod JoinedLemmas
 pub mod JoiningLemmas
 pub mod EnterLemmas
 pub mod ReadLemmas

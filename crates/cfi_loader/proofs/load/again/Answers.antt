@@ -8,7 +8,7 @@ use Rattle.cfi_loader.proofs.load.again.Goals as goal
 pub returns-clause-after : goal.returns-clause-after
 returns-clause-after c = λ k keeping kept asks.
     let b = c.args.books.now in
-    let p = sized 0 0 0 0 0 0 in
+    let p = sized 0 0 0 0 0 0 refl in
     let same = c.tell.ensures.same in
     let first : IsFirstGlobal (get_or b.roster.placed c.args.at p) c.address_at.result =
     subst (λ (nb : Books). IsFirstGlobal (get_or nb.roster.placed c.args.at p) c.address_at.result) same

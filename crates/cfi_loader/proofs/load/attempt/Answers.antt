@@ -1,4 +1,4 @@
-use Rattle.std.proofs.Common.{◌+◌, ℕ, ap, sym, subst, ◌∙◌, arith}
+use Rattle.std.proofs.Common.{◌+◌, ℕ, refl, ap, sym, subst, ◌∙◌, arith}
 use Rattle.cfi_model.specs.Tables.{IsUpdate}
 use Rattle.cfi_series.specs.Examples.{sized}
 use Rattle.cfi_tables.specs.Faults.{FaultIs}
@@ -92,7 +92,7 @@ returns-in-Ok-update-clause-ok g c =
     let grown = u.new
     ∙ ap (λ (i : Image). grown_by (entry_by (mid.policy + 1) i c.load_mark-mark.result) c.update.new.self.quiets keeping) c.image.ensures
     ∙ ap (λ (n : ℕ). grown_by (entry_by (mid.policy + 1) candidate.image n) c.update.new.self.quiets keeping) c.load_mark-mark.ensures in
-    let one = sized 0 0 0 0 0 0 in
+    let one = sized 0 0 0 0 0 0 refl in
     made_answers k b keeping kept c.args.who c.args.number c.requires.asks c.requires.absent mid c.commit.new.books
     p.lent candidate.roster p.ok c.update.new.self candidate.image p.image epoch u.ok left c.commit.ensures.line
     c.commit.ensures.same grown c.commit.result c.commit.ensures.again c.commit.ensures.epoch
@@ -141,3 +141,12 @@ returns-in-Err-update-clause-fault g c =
     (λ spent. right_fault fault (u.spent spent)) is down.ensures.line down.ensures.same) in
     refuses_then k down.new.books c.keep_joining.new.self c.keep_joining.ensures.same c.args.who c.args.number down.result
     keeping c.update.new.self b refused c.keep_joining.ensures.found
+
+-- what was found stands of the books as they are noted
+pub refuse-requires-clause-unprepared : goal.refuse-requires-clause-unprepared
+refuse-requires-clause-unprepared g c =
+    let fault = c.in-Err.fault in
+    let its : IsUnprepared c.prepare.new.self c.args.number fault =
+    subst (λ (nb : Books). IsUnprepared nb c.args.number fault) (sym c.in-Err.ensures.same) c.in-Err.ensures.fault in
+    subst (λ (nb : Books). IsUnprepared nb c.args.number fault) (sym c.keep.ensures.same)
+    (record { unplaced = its.unplaced; is = its.is; why = its.why })

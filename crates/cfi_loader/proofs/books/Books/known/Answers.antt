@@ -24,3 +24,12 @@ returns-then-self-eq-MAX_EPOCH c =
           (sym c.in-Ok.ensures ∙ c.in_default-fault.is);
       last = c.if-self-eq-MAX_EPOCH.true;
     }
+
+-- want of memory is always a fault
+pub returns-in_default-fault_by : goal.returns-in_default-fault_by
+returns-in_default-fault_by c =
+    let b = c.args.self.now in
+    let m = c.index-as_slice-number.result in
+    let there = slice_get_read b.modules (length b.modules) c.args.number m refl c.requires.known
+    (c.index-as_slice-number.is ∙ ap (λ (ms : List Module). get_or ms c.args.number m) c.as_slice.ensures) in
+    record { unplaced = m; is = there; why = tt }
