@@ -19,10 +19,10 @@ module _ (number policy : ℕ) (name : List ℕ) (m : Module) (s new : Series) (
         one = joined.0;
         joins = joined.1;
         is = ap (λ (n : Series). record {
-              code_words = n.code_words;
-              lines = lines ++ line ∷ [];
-              placed = n.placed;
-            }) joined.2
+          code_words = n.code_words;
+          lines = lines ++ line ∷ [];
+          placed = n.placed;
+        }) joined.2
             ∙ ap (λ (l : ModuleLine). record {
               code_words = s.code_words;
               lines = lines ++ l ∷ [];
