@@ -1,6 +1,6 @@
 -- What is known of running a plan or a bare file.
-use Rattle.std.proofs.Common.{◌≡◌, ◌∙◌, ℕ, zero, suc, true, false, List, [], ◌∷◌, length, Some, Ok, inl, inr, refl, sym, ap, subst}
-use Rattle.std.specs.Prelude.{◌≢◌, codes, slice_get}
+use Rattle.std.proofs.Common.{◌≡◌, ◌∙◌, ℕ, zero, suc, true, false, List, [], ◌∷◌, length, Some, Result, Ok, Err, inl, inr, refl, sym, ap, subst}
+use Rattle.std.specs.Prelude.{◌≢◌, codes, slice_get, IfOk}
 use Rattle.std.proofs.lemmas.List.Elements.{All-nil, All-cons, All-weaker}
 use Rattle.std.proofs.lemmas.Option.{slice_get_within}
 use Rattle.cfi_aux.specs.declared.modules.Module.{Module}
@@ -19,7 +19,7 @@ use Rattle.cfi_drive.specs.Concluded.{Conclusion, HasReadableNames, IsConcluded}
 use Rattle.cfi_loader.specs.Starting.{IsOpenFault}
 use Rattle.cfi_outside.specs.declared.command.Command.TheVariants as commands
 use Rattle.cfi_outside.specs.Plans.{begins_as_plan, files_of}
-use Rattle.cfi_report.specs.Report.{IsReport}
+use Rattle.cfi_report.specs.Report.{IsReport, report_text}
 use Rattle.cfi_text.specs.Names.{is_name}
 use Rattle.cfi_sim.specs.declared.fault.OpenFault.{OpenFault}
 use Rattle.cfi_sim.specs.declared.fault.OpenFault.TheVariants as opens
@@ -156,3 +156,17 @@ module _ (input bytes : List ℕ) (made : Module) (is : IsBareFile bytes made) w
   bare_refuses (opens.Verify number fault) first =
       (made, is, record { number = number; named = one_module input number first.line first.line_is; stands = first })
   bare_refuses (opens.NoEntry guest) first = (made, is, (refl, first))
+
+  -- its run was concluded
+  pub bare_ran : (modules : List Module) → modules ≡ made ∷ [] → (run : Conclusion) → run.plan ≡ bare_plan
+      → run.modules ≡ modules → {E : Type 0} (result : Result Answer E)
+      → IfOk result (λ answer. answer ≡ answers.Ran run (report_text run.report)) → IfOk result (λ _. IsConcluded run)
+      → IfOk result (IsBareRun input bytes)
+  bare_ran modules same run plan_is modules_are (Ok answer) said law =
+      subst (IsBareRun input bytes) (sym said) (record {
+        spelled = refl;
+        concluded = law;
+        plan_is = plan_is;
+        modules_are = (made, is, modules_are ∙ same);
+      })
+  bare_ran modules same run plan_is modules_are (Err fault) said law = tt
