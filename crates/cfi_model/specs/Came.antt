@@ -42,22 +42,28 @@ AsksFor code_words (Some (waits.Tary at rd)) r word = word ≡ tary_word code_wo
 AsksFor code_words (Some (waits.Bary slot rd)) r word = word ≡ bary_word code_words slot
 AsksFor code_words (Some (waits.Service number)) r word = ⊥
 
--- a quiescent point, which a service begins with
-pub record IsPoint (r : Raw) (access : Access) : Type 0 where
+-- a quiescent point, with which a service ends: it comes straight behind that end, and the guest waits for nothing
+pub record IsPoint (before : Option Came) (r : Raw) (access : Access) : Type 0 where
   pub is : access.word ≡ EPOCH
-  pub number : ℕ
-  pub waits : r.waits ≡ Some (waits.Service number)
+  pub reply : Reply
+  pub behind : before ≡ Some (Ended reply)
+  pub idle : r.waits ≡ None
 
 -- a load is of the word that the machine asks for, or is that of a quiescent point
-abbrev pub IsAskedBy : (code_words : ℕ) → Raw → Came → Type 0
-IsAskedBy code_words r (Loaded access) = AsksFor code_words r.waits r access.word ⊎ IsPoint r access
-IsAskedBy code_words r (Ended reply) = ⊤
+abbrev pub IsAskedBehind : (code_words : ℕ) → (before : Option Came) → Raw → Came → Type 0
+IsAskedBehind code_words before r (Loaded access) =
+    AsksFor code_words r.waits r access.word ⊎ IsPoint before r access
+IsAskedBehind code_words before r (Ended reply) = ⊤
 
--- so is each, of the state that it meets
+-- so is each, of the state that it meets and of what came straight before it
+abbrev pub AreAskedBehind : (code_words : ℕ) → (before : Option Came) → Raw → List Came → Type 0
+AreAskedBehind code_words before r [] = ⊤
+AreAskedBehind code_words before r (one ∷ later) =
+    IsAskedBehind code_words before r one × AreAskedBehind code_words (Some one) (run_of r (taken_in one)) later
+
+-- and nothing came before the first
 abbrev pub AreAskedBy : (code_words : ℕ) → Raw → List Came → Type 0
-AreAskedBy code_words r [] = ⊤
-AreAskedBy code_words r (one ∷ later) =
-    IsAskedBy code_words r one × AreAskedBy code_words (run_of r (taken_in one)) later
+AreAskedBy code_words r came = AreAskedBehind code_words None r came
 
 -- the end of a unit, and all that the guest had loaded before the access that ended it
 pub record LoadedEnd : Type 0 where

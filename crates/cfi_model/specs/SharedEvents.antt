@@ -9,6 +9,7 @@ use Rattle.cfi_word.specs.Word.{epoch_in}
 use Rattle.cfi_model.specs.declared.history.Entry.{Entry}
 use Rattle.cfi_model.specs.declared.quiet.Quiet.{Quiet}
 use Rattle.cfi_model.specs.declared.quiet.Quiet.TheVariants.{Published}
+use Rattle.cfi_model.specs.declared.quiet.TheConstants.{PARKED}
 use Rattle.cfi_model.specs.Quiet.{admits, quiet_word_of}
 use Rattle.cfi_model.specs.Words.{HasStore, entry_word, no_entry, rank_at}
 
@@ -41,11 +42,12 @@ earlier_word p place = word_of_past p (length p.entries - 2) place
 abbrev pub epoch_to_come : Past → ℕ
 epoch_to_come p = p.first + length p.entries
 
--- an event: a guest loads the word at a place, publishes an epoch in its QUIET word, or leaves; the QUIET word of the
--- guest whose turn it is lets the update to an entry pass, or refuses it by the epoch that it tells; or the update stores
--- the word at a place
+-- an event: a guest loads the word at a place, parks, publishes an epoch in its QUIET word, or leaves; the QUIET word of
+-- the guest whose turn it is lets the update to an entry pass, or refuses it by the epoch that it tells; or the update
+-- stores the word at a place
 pub data SharedEvent : Type 0 where
   Load : (place : Place) → (found : ℕ) → SharedEvent
+  Park : (guest : ℕ) → SharedEvent
   Publish : (guest epoch : ℕ) → SharedEvent
   Leave : (guest : ℕ) → SharedEvent
   Pass : Entry → SharedEvent
@@ -73,10 +75,15 @@ pub record MakesLoad (place : Place) (found : ℕ) (old new : Shared) : Type 0 w
   pub is : found ≡ old.word place
   pub same : AreSame old new
 
--- a guest that is registered publishes an epoch that is or was in force, and none before that which it had published
-pub record MakesPublish (guest epoch : ℕ) (old new : Shared) : Type 0 where
+-- a guest that is registered, and is not parked, parks
+pub record MakesPark (guest : ℕ) (old new : Shared) : Type 0 where
   pub registered : old.word (places.Quiet guest) ≢ 0
-  pub later : old.word (places.Quiet guest) ≤ epoch + 1
+  pub outside : old.word (places.Quiet guest) ≢ PARKED
+  pub set : IsSet (places.Quiet guest) PARKED old new
+
+-- a guest that is parked publishes an epoch that is or was in force
+pub record MakesPublish (guest epoch : ℕ) (old new : Shared) : Type 0 where
+  pub parked : old.word (places.Quiet guest) ≡ PARKED
   pub most : epoch ≤ epoch_in (old.word places.Epoch)
   pub set : IsSet (places.Quiet guest) (epoch + 1) old new
 
@@ -128,6 +135,7 @@ pub record MakesStore (place : Place) (old new : Shared) : Type 0 where
 -- an event makes the new of the old
 abbrev pub Makes : SharedEvent → (old new : Shared) → Type 0
 Makes (Load place found) old new = MakesLoad place found old new
+Makes (Park guest) old new = MakesPark guest old new
 Makes (Publish guest epoch) old new = MakesPublish guest epoch old new
 Makes (Leave guest) old new = MakesLeave guest old new
 Makes (Pass entry) old new = MakesPass entry old new

@@ -14,7 +14,7 @@ use Rattle.cfi_model.specs.Quiet.{quiet_word_of}
 use Rattle.cfi_model.specs.Words.{Tables, opened_tables, word_at}
 
 -- the tables; what the QUIET word of each guest number tells; the guests, and how far each guest number is in a
--- quiescent point; after how many instructions guests stop; for how many updates there is room, and how many began
+-- service; after how many instructions guests stop; for how many updates there is room, and how many began
 pub record World : Type 0 where
   pub tables : Tables
   pub quiets : List Quiet
@@ -40,7 +40,7 @@ opened_world code_words versions first image guests room fuel = record {
   updates = 0;
 }
 
--- what the QUIET word of a guest tells, and how far it is in a quiescent point
+-- what the QUIET word of a guest tells, and how far it is in a service
 abbrev pub quiet_of : World → (guest : ℕ) → Quiet
 quiet_of w guest = slice_index_or w.quiets guest Unregistered
 

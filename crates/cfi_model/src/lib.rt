@@ -31,7 +31,7 @@ pub use output::Output;
 pub use pages::{PAGE_BYTES, PAGES, PrivateData};
 pub use phase::Phase;
 pub use plain::Plain;
-pub use quiet::{Point, Quiet};
+pub use quiet::{PARKED, Point, Quiet};
 pub use shows::{a_guest_runs, an_opened_guest_shows, raw_shows_policy};
 pub use step::PlainStep;
 pub use words::{

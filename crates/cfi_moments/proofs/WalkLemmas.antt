@@ -228,10 +228,10 @@ module _ (t : Tables) (is : IsTables t) (h : History) (code : List ℕ) (known :
         first_then at.0 at.1 (start_is h code p retries r rests.1 going)
     load_then (inr within) = next_then within.unit within.at within.begun within.tries
 
-  -- ---- the end of a service, and a quiescent point
+  -- ---- the end of a service
 
   -- a service waits there
-  served_waits : (wait : Option Wait) (r : Raw) (reply : Reply) → FitsReply wait r reply
+  pub served_waits : (wait : Option Wait) (r : Raw) (reply : Reply) → FitsReply wait r reply
       → (number : ℕ) × (wait ≡ Some (waits.Service number))
   served_waits None r reply fits = absurd fits
   served_waits (Some (waits.Tary at rd)) r reply fits = absurd fits
@@ -244,26 +244,6 @@ module _ (t : Tables) (is : IsTables t) (h : History) (code : List ℕ) (known :
     no_check link rs1 imm slot begun =
         waits_for_none p (retries + begun.more) slot (displaced (register p rs1) imm) begun.values begun.place number
         (sym (ap (λ y. y.waits) begun.is) ∙ wait)
-
-    -- whatever was loaded
-    pub tries_stay : (unit : CodeUnit) (begun : Begun h p unit retries r) (more : List Access)
-        → Tries unit p retries r begun more
-    tries_stay (units.Check link rs1 imm slot) begun more = absurd (no_check link rs1 imm slot begun)
-    tries_stay (units.Plain insn) begun more = tt
-    tries_stay (units.Branch c rs1 rs2 off) begun more = tt
-    tries_stay (units.Jump link off) begun more = tt
-    tries_stay (units.Load kind rd rs1 imm) begun more = tt
-    tries_stay (units.Store kind rs1 rs2 imm) begun more = tt
-    tries_stay units.Service begun more = tt
-
-    pub point_stays : (loads more : List Access) → Runs p retries r loads → Runs p retries r more
-    point_stays loads more (inl rests) = inl rests
-    point_stays loads more (inr within) = inr (record {
-      unit = within.unit;
-      at = within.at;
-      begun = within.begun;
-      tries = tries_stay within.unit within.begun more;
-    })
 
     -- the service ends
     served_in : (loads : List Access) (reply : Reply) → Fits h code r (Served reply) → (unit : CodeUnit)

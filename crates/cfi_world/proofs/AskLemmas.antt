@@ -10,7 +10,8 @@ use Rattle.cfi_model.specs.declared.act.Wait.TheVariants as waits
 use Rattle.cfi_model.specs.declared.phase.Phase.{Phase}
 use Rattle.cfi_model.specs.declared.phase.Phase.TheVariants as phases
 use Rattle.cfi_model.specs.declared.quiet.Point.{Point}
-use Rattle.cfi_model.specs.declared.quiet.Point.TheVariants.{Outside, Found, Asking}
+use Rattle.cfi_model.specs.declared.quiet.Point.TheVariants.{Outside, Asking, Leaving, Found}
+use Rattle.cfi_model.specs.declared.quiet.Quiet.TheVariants.{Parked}
 use Rattle.cfi_model.specs.Log.{opens}
 use Rattle.cfi_model.specs.Phases.{phase_of}
 use Rattle.cfi_model.specs.Raw.{Raw}
@@ -19,7 +20,7 @@ use Rattle.cfi_model.specs.Service.{argument, too_many}
 use Rattle.cfi_model.specs.Words.{epoch_in_force}
 use Rattle.cfi_model.specs.World.{World, point_of}
 use Rattle.cfi_world.specs.Outcomes.{IsOpening}
-use Rattle.cfi_world.specs.Seats.{Seat, is_asking, needs_answer, rested, seat_after, seat_by, seat_of, serves}
+use Rattle.cfi_world.specs.Seats.{Seat, is_asking, left_by, needs_answer, seat_after, seat_at, seat_by, seat_of}
 use Rattle.cfi_world.specs.Turns.{did, guest_turn, nothing, seated, turn_of, turned_by}
 use Rattle.cfi_world.specs.Updates.{begun, is_idle}
 use Rattle.cfi_world.specs.declared.event.Event.TheVariants as events
@@ -66,22 +67,22 @@ epochs_only w image is =
     spent_by w image (is_idle (phase_of w.tables)) (epoch_in_force w.tables == MAX_EPOCH) refl refl is
 
 -- a guest asks
-not_held : (stop : Option Stop) (point : Point) (epoch : ℕ) → stop ≡ None → point ≡ Found epoch
+not_held : (stop : Option Stop) (point : Point) → stop ≡ None → point ≡ Outside
     → (is_some stop || is_asking point) ≡ false
-not_held stop point epoch going found =
-    ap (λ s. is_some s || is_asking point) going ∙ ap is_asking found
+not_held stop point going outside =
+    ap (λ s. is_some s || is_asking point) going ∙ ap is_asking outside
 
 module _ (w : World) (guest : ℕ) where
-  -- the seat after the store in the QUIET word
+  -- the seat after the store of the parked number
   asks_by : (number : ℕ) → (is : IsOpening w guest number)
       → turned_by guest (seat_after w.tables w.fuel (seat_of w guest is.r)) ≡ Asks guest number
   asks_by number is =
-      ap (λ o. turned_by guest (seat_by o w.tables w.fuel (seat_of w guest is.r))) is.opens_is
-      ∙ ap (λ p. turned_by guest (serves p w.tables w.fuel OPEN (seat_of w guest is.r))) is.found
+      ap (λ p. turned_by guest (seat_at p w.tables w.fuel (seat_of w guest is.r))) is.outside
+      ∙ ap (λ o. turned_by guest (seat_by o w.tables w.fuel (seat_of w guest is.r))) is.opens_is
       ∙ ap (λ b. turned_by guest (record {
-        guest = cond b is.r (rested w.fuel (serve_of is.r too_many));
-        point = cond b Asking Outside;
-        quiet = (serves (Found is.epoch) w.tables w.fuel OPEN (seat_of w guest is.r)).quiet;
+        guest = cond b is.r (serve_of is.r too_many);
+        point = cond b Asking (left_by (serve_of is.r too_many));
+        quiet = Parked;
       })) (lt-ltb (opens is.r.base.log) MAX_OPENS is.few)
       ∙ ap (Asks guest) (sym is.asks)
 
@@ -90,7 +91,7 @@ module _ (w : World) (guest : ℕ) where
   opening_asks number is =
       ap (λ o. (guest_turn w guest o).answer) is.there
       ∙ ap (λ b. (cond b (nothing w) (seated w guest (seat_after w.tables w.fuel (seat_of w guest is.r)))).answer)
-      (not_held is.r.base.stop (point_of w guest) is.epoch is.going is.found)
+      (not_held is.r.base.stop (point_of w guest) is.going is.outside)
       ∙ asks_by number is
 
   module _ (r : Raw) (there : slice_get w.guests guest ≡ Some r) (other number : ℕ)
@@ -105,12 +106,18 @@ module _ (w : World) (guest : ℕ) where
     open_is true false test = absurd (cc)
     open_is false b test = absurd (cc)
 
-    stores_by : (service epoch : ℕ) → r.waits ≡ Some (waits.Service service) → point_of w guest ≡ Found epoch
+    -- where its work is done, it asks for nothing
+    left_not : (stops : Bool) (said : ℕ)
+        → cond (is_asking (cond stops Outside Leaving)) (Asks guest said) Did ≡ Asks other number → ⊥
+    left_not true said is = absurd (cc)
+    left_not false said is = absurd (cc)
+
+    parks_by : (service : ℕ) → r.waits ≡ Some (waits.Service service) → point_of w guest ≡ Outside
         → (b : Bool) → needs_answer service r ≡ b
-        → cond (is_asking (cond b Asking Outside))
-        (Asks guest (argument (cond b r (rested w.fuel (serve_of r too_many))).base)) Did ≡ Asks other number
+        → cond (is_asking (cond b Asking (left_by (serve_of r too_many))))
+        (Asks guest (argument (cond b r (serve_of r too_many)).base)) Did ≡ Asks other number
         → (guest ≡ other) × IsOpening w guest number
-    stores_by service epoch waiting found true test is =
+    parks_by service waiting outside true test is =
         let both = open_is (service == OPEN) (nat_lt (opens r.base.log) MAX_OPENS) test in
         let one : guest ≡ other = cc in
         let two : argument r.base ≡ number = cc in (
@@ -121,33 +128,34 @@ module _ (w : World) (guest : ℕ) where
             going = going;
             opens_is = waiting ∙ ap (λ n. Some (waits.Service n)) (eqb-true service OPEN both.0);
             few = ltb-true (opens r.base.log) MAX_OPENS both.1;
-            epoch = epoch;
-            found = found;
+            outside = outside;
             asks = sym two;
           },
         )
-    stores_by service epoch waiting found false test is = absurd (cc)
+    parks_by service waiting outside false test is =
+        absurd (left_not (is_some (serve_of r too_many).base.stop) (argument (serve_of r too_many).base) is)
 
-    serves_by : (service : ℕ) → r.waits ≡ Some (waits.Service service) → (point : Point) → point_of w guest ≡ point
-        → turned_by guest (serves point w.tables w.fuel service (seat_of w guest r)) ≡ Asks other number
-        → (guest ≡ other) × IsOpening w guest number
-    serves_by service waiting Outside found is = absurd (cc)
-    serves_by service waiting (Found epoch) found is =
-        stores_by service epoch waiting found (needs_answer service r) refl is
-    serves_by service waiting Asking found is = let e = sym free ∙ ap is_asking found in absurd (cc)
-
-    waits_by : (wait : Option Wait) → r.waits ≡ wait
+    waits_by : (wait : Option Wait) → r.waits ≡ wait → point_of w guest ≡ Outside
         → turned_by guest (seat_by wait w.tables w.fuel (seat_of w guest r)) ≡ Asks other number
         → (guest ≡ other) × IsOpening w guest number
-    waits_by None waiting is = absurd (told (is_asking (point_of w guest)) (seat_by None w.tables w.fuel
+    waits_by None waiting outside is = absurd (told (is_asking (point_of w guest)) (seat_by None w.tables w.fuel
         (seat_of w guest r)) refl free is)
-    waits_by (Some (waits.Tary at rd)) waiting is =
+    waits_by (Some (waits.Tary at rd)) waiting outside is =
         absurd (told (is_asking (point_of w guest)) (seat_by (Some (waits.Tary at rd)) w.tables w.fuel
         (seat_of w guest r)) refl free is)
-    waits_by (Some (waits.Bary slot rd)) waiting is =
+    waits_by (Some (waits.Bary slot rd)) waiting outside is =
         absurd (told (is_asking (point_of w guest)) (seat_by (Some (waits.Bary slot rd)) w.tables w.fuel
         (seat_of w guest r)) refl free is)
-    waits_by (Some (waits.Service service)) waiting is = serves_by service waiting (point_of w guest) refl is
+    waits_by (Some (waits.Service service)) waiting outside is =
+        parks_by service waiting outside (needs_answer service r) refl is
+
+    points_by : (point : Point) → point_of w guest ≡ point
+        → turned_by guest (seat_at point w.tables w.fuel (seat_of w guest r)) ≡ Asks other number
+        → (guest ≡ other) × IsOpening w guest number
+    points_by Outside at is = waits_by r.waits refl at is
+    points_by Asking at is = let e = sym free ∙ ap is_asking at in absurd (cc)
+    points_by Leaving at is = absurd (cc)
+    points_by (Found epoch) at is = absurd (cc)
 
   no_asking : (a b : Bool) → (a || b) ≡ false → b ≡ false
   no_asking true b test = absurd (cc)
@@ -160,8 +168,8 @@ module _ (w : World) (guest : ℕ) where
       → (guest ≡ other) × IsOpening w guest number
   held_asks r there other number true test is = absurd (cc)
   held_asks r there other number false test is =
-      waits_by r there other number (no_asking (is_some r.base.stop) (is_asking (point_of w guest)) test)
-      (stop_none r.base.stop (is_asking (point_of w guest)) test) r.waits refl is
+      points_by r there other number (no_asking (is_some r.base.stop) (is_asking (point_of w guest)) test)
+      (stop_none r.base.stop (is_asking (point_of w guest)) test) (point_of w guest) refl is
 
   asks_only_by : (o : Option Raw) → slice_get w.guests guest ≡ o → (other number : ℕ)
       → (guest_turn w guest o).answer ≡ Asks other number → (guest ≡ other) × IsOpening w guest number

@@ -1,18 +1,16 @@
 -- What a check finds and picks over a run of events.
-use Rattle.std.proofs.Common.{◌≡◌, ◌≢◌, ℕ, zero, suc, ◌+◌, ◌-◌, ◌%◌, ◌<◌, ◌≤◌, List, length, slice_get, Some, None, sym, ◌∙◌, ap, subst, arith, inl, inr}
+use Rattle.std.proofs.Common.{◌≡◌, ◌≢◌, ℕ, zero, suc, ◌+◌, ◌-◌, ◌%◌, ◌<◌, ◌≤◌, List, slice_get, Some, None, sym, ◌∙◌, ap, subst, arith, inl, inr}
 use Rattle.std.proofs.lemmas.Bool.{cases_lt}
-use Rattle.std.proofs.lemmas.Option.{none-some}
 use Rattle.rv_insn.specs.InsnOf.{insn_of}
 use Rattle.cfi_word.specs.Table.{Epoch, Tary, Bary, slots_of}
 use Rattle.cfi_word.specs.Word.{epoch_in, policy_in}
 use Rattle.cfi_model.specs.declared.act.Wait.TheVariants as waits
 use Rattle.cfi_model.specs.Begin.{begin_of}
 use Rattle.cfi_model.specs.History.{History}
-use Rattle.cfi_model.specs.InForce.{GoesOn, history_of, code_in_force, in_force, tary_index}
+use Rattle.cfi_model.specs.InForce.{GoesOn, history_of, code_in_force, tary_index}
 use Rattle.cfi_model.specs.Raw.{Raw}
 use Rattle.cfi_model.specs.Run.{take_word}
 use Rattle.cfi_model.specs.Running.{IsRunning}
-use Rattle.cfi_model.specs.Shows.{MayWait, Shows}
 use Rattle.cfi_model.specs.State.{State, register, displaced}
 use Rattle.cfi_model.specs.TableMoments.{IsInForce}
 use Rattle.cfi_model.specs.Tables.{IsTables}
@@ -23,20 +21,23 @@ use Rattle.cfi_model.proofs.BeginLemmas.{begin_keeps_bary}
 use Rattle.cfi_model.proofs.IdLemmas.{tary_policy}
 use Rattle.cfi_model.proofs.IdLemmas as found
 use Rattle.cfi_model.proofs.InForceLemmas.{bary_epoch_is, tary_epoch_is, tary_is, history_is, force_rises, force_within}
-use Rattle.cfi_model.proofs.RunningLemmas.{running_is, running_shows}
+use Rattle.cfi_model.proofs.RunningLemmas.{running_is}
 use Rattle.cfi_model.proofs.TableLemmas.{force_epoch, force_policy}
 use Rattle.cfi_world.specs.Checks.{bary_in, tary_in, HasStoredTary, HasBaryToStore, IsHeldThroughout, MeetsUpdate, PicksHoldThroughout, RepeatsMeetUpdates}
 use Rattle.cfi_world.specs.Laws.{MayTurns}
 use Rattle.cfi_world.specs.Moments.{ComesFor, IsTryOf, LeavesTry, world_at}
 use Rattle.cfi_world.specs.Seats.{rested}
-use Rattle.cfi_world.specs.Worlds.{IsServing, IsWorld}
+use Rattle.cfi_world.specs.Worlds.{IsWorld}
 use Rattle.cfi_world.specs.declared.event.Event.{Event}
 use Rattle.cfi_world.specs.declared.event.Event.TheVariants.{Guest}
-use Rattle.cfi_world.proofs.ForceLemmas.{number_cases, bary_load, tary_load, picks}
+use Rattle.cfi_world.proofs.FitLemmas.{slot_inside}
+use Rattle.cfi_world.proofs.ForceLemmas.{bary_load, tary_load, picks}
+use Rattle.cfi_world.proofs.SettledLemmas.{number_cases}
 use Rattle.cfi_world.proofs.MomentLemmas.{next_world, on_between, world_is}
 use Rattle.cfi_world.proofs.OwnLemmas.{after_own, taken, word_for}
+use Rattle.cfi_world.proofs.ParkLemmas.{IsServing}
 use Rattle.cfi_world.proofs.RestLemmas.{going_runs, same_bary}
-use Rattle.cfi_world.proofs.WithinLemmas.{keeps_bary, slot_low, waits_in_check}
+use Rattle.cfi_world.proofs.WithinLemmas.{keeps_bary, waits_in_check}
 
 -- the policy in force where the epoch in force is that of a target's word found later
 policy_holds : (t u : Tables) (is : IsTables t) (then : IsTables u) → GoesOn t u → (target : ℕ)
@@ -106,7 +107,7 @@ module _ (w : World) (is : IsWorld w) (run : List Event) (may : MayTurns w run) 
       let load = try.bary.1 in
       let other : IsServing load.r.waits → ⊥ = λ serving. subst IsServing load.waits serving in
       let next = ap (λ v. slice_get v.guests guest) (next_world w run from (Guest guest) load.event)
-      ∙ after_own (at from) guest load.r load.there (at_is from) load.going other in
+      ∙ after_own (at from) guest load.r load.there (at_is from) load.going load.outside other in
       let is_now = same_guest r (rested (at from).fuel (taken (at from) guest load.r load.there)) (sym there ∙ next) in
       let found : (taken (at from) guest load.r load.there).bary ≡ Some word =
       ap (λ x. (take_word x load.r (word_for (at from) guest load.r load.there x)).bary) load.waits in
@@ -117,7 +118,7 @@ module _ (w : World) (is : IsWorld w) (run : List Event) (may : MayTurns w run) 
   after_fetch moment load so_far r there kept keeps =
       let other : IsServing load.r.waits → ⊥ = λ serving. subst IsServing load.waits serving in
       let next = ap (λ v. slice_get v.guests guest) (next_world w run moment (Guest guest) load.event)
-      ∙ after_own (at moment) guest load.r load.there (at_is moment) load.going other in
+      ∙ after_own (at moment) guest load.r load.there (at_is moment) load.going load.outside other in
       let is_now = same_guest r (rested (at moment).fuel (taken (at moment) guest load.r load.there))
       (sym there ∙ next) in
       let found : ℕ = word_for (at moment) guest load.r load.there None in
@@ -182,23 +183,8 @@ module _ (w : World) (is : IsWorld w) (run : List Event) (may : MayTurns w run) 
   inside =
       let load = try.bary.1 in
       let t : Tables = (at from).tables in
-      let h : History = history_of t in
-      let code : List ℕ = code_in_force t in
-      let known = history_is t (at_is from).tables in
       let of = running_at from load.r load.there load.going in
-      inside_by t (at_is from).tables of.0 of.1 load.r load.waits
-      (running_shows h code known of.0 of.1 load.r of.2)
-    where
-      inside_by : (t : Tables) → IsTables t → (retries : ℕ) (s : State) (r : Raw)
-          → r.waits ≡ Some (waits.Bary slot try.bary.0) → Shows (history_of t) (code_in_force t) retries s r
-          → slot < slots_of t.code_words
-      inside_by t is_tables retries s r wait (inl between) =
-          absurd (none-some (waits.Bary slot try.bary.0) (sym between.idle ∙ wait))
-      inside_by t is_tables retries s r wait (inr within) =
-          let may_wait = subst (MayWait (length (code_in_force t)) within.unit s) wait within.waits in
-          let many = (is_tables.closed (in_force t) (force_within t is_tables)).1.classes.code_length in
-          subst (λ n. slot < slots_of n) many
-          (slot_low (length (code_in_force t)) within.unit s slot try.bary.0 may_wait)
+      slot_inside t (at_is from).tables of.0 of.1 load.r slot try.bary.0 of.2 load.waits
 
   -- ---- equal versions
 

@@ -7,12 +7,11 @@ use Rattle.cfi_model.specs.declared.history.Entry.{Entry}
 use Rattle.cfi_model.specs.declared.phase.Phase.{Phase}
 use Rattle.cfi_model.specs.declared.phase.Phase.TheVariants as phases
 use Rattle.cfi_model.specs.declared.quiet.Point.{Point}
-use Rattle.cfi_model.specs.declared.quiet.Point.TheVariants.{Outside, Found, Asking}
-use Rattle.cfi_model.specs.declared.quiet.Quiet.TheVariants.{Unregistered}
+use Rattle.cfi_model.specs.declared.quiet.Point.TheVariants.{Outside, Asking, Leaving, Found}
 use Rattle.cfi_model.specs.World.{World}
 use Rattle.cfi_world.specs.Seats.{Seat, with_seat, is_asking}
 use Rattle.cfi_world.specs.Turns.{did, nothing, seated}
-use Rattle.cfi_world.specs.Worlds.{FoundFits, IsWorld}
+use Rattle.cfi_world.specs.Worlds.{IsWorld}
 use Rattle.cfi_world.specs.declared.event.Turned.TheVariants.{EpochsSpent}
 use Rattle.cfi_model.proofs.PhaseLemmas.{IsRow}
 
@@ -51,11 +50,6 @@ row_none c s (phases.Tary index) guest row e = absurd (cc)
 row_none c s phases.Epoch guest row e = absurd (cc)
 row_none c s (phases.Bary slot) guest row e = absurd (cc)
 
-pub nothing_found : (point : Point) → FoundFits Unregistered point
-nothing_found Outside = tt
-nothing_found (Found epoch) = tt
-nothing_found Asking = tt
-
 -- a list whose element is set to what it is
 pub set_again : {X : Type 0} (xs : List X) (k : ℕ) (d : X) → slice_set xs k (slice_index_or xs k d) ≡ xs
 set_again xs k d = set-get_or xs k d
@@ -82,5 +76,6 @@ is_there (Some x) e = λ none. absurd (cc)
 
 pub asks_it : (point : Point) → is_asking point ≡ true → point ≡ Asking
 asks_it Outside e = absurd (cc)
-asks_it (Found epoch) e = absurd (cc)
 asks_it Asking e = refl
+asks_it Leaving e = absurd (cc)
+asks_it (Found epoch) e = absurd (cc)

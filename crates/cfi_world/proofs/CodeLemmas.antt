@@ -3,7 +3,7 @@ use Rattle.std.proofs.Common.{◌≡◌, ℕ, ◌+◌, ◌^◌, ◌<◌, ◌≤�
 use Rattle.std.proofs.lemmas.Option.{slice_get-get_or}
 use Rattle.cfi_unit.specs.declared.log.Stop.{Stop}
 use Rattle.cfi_word.specs.declared.limits.TheConstants.{MAX_POLICY}
-use Rattle.cfi_model.specs.declared.quiet.Point.TheVariants.{Outside}
+use Rattle.cfi_model.specs.declared.quiet.Point.TheVariants.{Outside, Leaving}
 use Rattle.cfi_model.specs.declared.quiet.Quiet.TheVariants.{Unregistered}
 use Rattle.cfi_model.specs.InForce.{in_force}
 use Rattle.cfi_model.specs.Phases.{phase_of}
@@ -18,7 +18,7 @@ use Rattle.cfi_model.specs.Raw.{Raw}
 use Rattle.cfi_model.specs.Words.{Tables, policy_in_force}
 use Rattle.cfi_model.specs.World.{World, quiet_of, point_of}
 use Rattle.cfi_world.specs.Premises.{MayAnswer}
-use Rattle.cfi_world.specs.Seats.{Seat, seat_of, with_seat, seat_after, rested, is_asking}
+use Rattle.cfi_world.specs.Seats.{Seat, seat_of, with_seat, seat_after, is_asking}
 use Rattle.cfi_world.specs.Updates.{is_idle}
 use Rattle.cfi_world.specs.Turns.{Turn, did, seated, nothing, guest_turn, turned_by, answered, answer_turn, is_registered, release_turn}
 use Rattle.cfi_world.specs.Worlds.{FitsPoint, IsWorld}
@@ -54,9 +54,9 @@ force_most t is = omega (arith, force_policy t is, is.policies_fit (in_force t) 
 
 module _ (w : World) (is : IsWorld w) (guest : ℕ) (r : Raw) (here : slice_get w.guests guest ≡ Some r) where
   -- what an event of the guest needs
-  pub steps_fit : r.base.stop ≡ None → r.waits ≡ None → r.base.steps + 1 < 2 ^ 32
-  steps_fit going idle =
-      let left = (is.seats guest r here).steps_left going idle in
+  pub steps_fit : r.base.stop ≡ None → point_of w guest ≡ Outside → r.waits ≡ None → r.base.steps + 1 < 2 ^ 32
+  steps_fit going outside idle =
+      let left = (is.seats guest r here).steps_left going idle outside in
       omega (arith, left, is.fuel_fits)
 
   pub logs_fit : last_policy r.base.log ≤ policy_in_force w.tables
@@ -93,24 +93,24 @@ module _ (w : World) (is : IsWorld w) (guest : ℕ) (r : Raw) (here : slice_get 
           most = omega (arith, may.policy, force_most w.tables is.tables);
         }
 
-    pub ended_kept : (reply : Reply) → MayAnswer w reply → (new : Raw) → new ≡ rested w.fuel (serve_of r reply)
+    pub ended_kept : (reply : Reply) → MayAnswer w reply → (new : Raw) → new ≡ serve_of r reply
         → IsWorld (record w {
           guests = slice_set w.guests guest new;
-          points = slice_set w.points guest Outside;
+          points = slice_set w.points guest Leaving;
         })
     ended_kept reply may new is_new =
         subst (λ x. IsWorld
-        (record w { guests = slice_set w.guests guest x; points = slice_set w.points guest Outside }))
+        (record w { guests = slice_set w.guests guest x; points = slice_set w.points guest Leaving }))
         (sym is_new) (answer_by w is guest reply may r here true asks)
 
-    pub ended_is : (reply : Reply) (new : Raw) → new ≡ rested w.fuel (serve_of r reply)
+    pub ended_is : (reply : Reply) (new : Raw) → new ≡ serve_of r reply
         → record {
-          world = record w { guests = slice_set w.guests guest new; points = slice_set w.points guest Outside };
+          world = record w { guests = slice_set w.guests guest new; points = slice_set w.points guest Leaving };
           answer = Did;
         } ≡ answer_turn w guest reply (slice_get w.guests guest)
     ended_is reply new is_new =
         ap (λ x. did
-        (record w { guests = slice_set w.guests guest x; points = slice_set w.points guest Outside })) is_new
+        (record w { guests = slice_set w.guests guest x; points = slice_set w.points guest Leaving })) is_new
         ∙ sym (ap (λ b. cond b (did (answered w guest reply r)) (nothing w)) asks) ∙ ap (answer_turn w guest reply)
         (sym here)
 

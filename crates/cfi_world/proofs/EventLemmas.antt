@@ -5,7 +5,7 @@ use Rattle.cfi_word.specs.declared.limits.TheConstants.{MAX_EPOCH}
 use Rattle.cfi_model.specs.declared.phase.Phase.{Phase}
 use Rattle.cfi_model.specs.declared.phase.Phase.TheVariants as phases
 use Rattle.cfi_model.specs.declared.quiet.Quiet.{Quiet}
-use Rattle.cfi_model.specs.declared.quiet.Quiet.TheVariants.{Unregistered, Published}
+use Rattle.cfi_model.specs.declared.quiet.Quiet.TheVariants.{Unregistered, Parked, Published}
 use Rattle.cfi_model.specs.Phases.{phase_of}
 use Rattle.cfi_model.specs.Quiet.{admits}
 use Rattle.cfi_model.specs.Raw.{Raw}
@@ -57,6 +57,7 @@ module _ (w : World) (n m : ℕ) (is : HasBegun w n m) where
 
   refused_in : (guest : ℕ) (quiet : Quiet) → HasBegun (refused w guest quiet).world n m
   refused_in guest Unregistered = is
+  refused_in guest Parked = is
   refused_in guest (Published quiet) = same_in (refused w guest (Published quiet)).world refl refl
 
   update_in : (phase : Phase) → HasBegun (update_turn w phase).world n m

@@ -157,7 +157,7 @@ unfolding insns.insn_of words.epoch_in words.packed ids.id_of
 some_turns = refl
 
 abbrev asked_by_guest : World
-asked_by_guest = world_after open_world (Guest 2 ∷ Guest 0 ∷ Guest 0 ∷ Guest 0 ∷ Guest 0 ∷ Guest 0 ∷ [])
+asked_by_guest = world_after open_world (Guest 2 ∷ Guest 0 ∷ Guest 0 ∷ Guest 0 ∷ Guest 0 ∷ [])
 
 unloaded_may : MayTurn asked_by_guest unloaded
 unfolding insns.insn_of words.epoch_in words.packed ids.id_of words.policy_in
@@ -178,4 +178,4 @@ later_may =
 
 pub some_events_may : MayTurns open_world open_events
 some_events_may =
-    (tt, (tt, (tt, (tt, (tt, (tt, (unloaded_may, (again_may, (tt, (tt, (tt, later_may)))))))))))
+    (tt, (tt, (tt, (tt, (tt, (unloaded_may, (again_may, (tt, (tt, (tt, (tt, (tt, later_may))))))))))))

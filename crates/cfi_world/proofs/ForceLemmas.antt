@@ -1,34 +1,37 @@
 -- What is in force never falls, and what loads find.
-use Rattle.std.proofs.Common.{◌≡◌, ℕ, ◌+◌, ◌%◌, ◌<◌, ◌≤◌, ◌==◌, nat_lt, cond, Bool, true, false, slice_get, Option, Some, None, refl, ap, arith, ◌⊎◌, inl, inr}
-use Rattle.std.proofs.lemmas.Bool.{cases_lt, lt-ltb, le-ltb}
+use Rattle.std.proofs.Common.{◌≡◌, ℕ, ◌+◌, ◌%◌, ◌<◌, ◌≤◌, ◌==◌, nat_lt, cond, Bool, true, false, slice_get, Option, Some, None, refl, arith, inl, inr}
+use Rattle.std.proofs.lemmas.Bool.{cases_lt}
 use Rattle.cfi_word.specs.declared.lists.Image.{Image}
 use Rattle.cfi_word.specs.declared.limits.TheConstants.{GUESTS, MAX_EPOCH}
 use Rattle.cfi_word.specs.Rank.{stores_of}
-use Rattle.cfi_word.specs.Table.{Place, Epoch, Tary, Bary, slots_of}
+use Rattle.cfi_word.specs.Table.{Epoch, Tary, Bary, slots_of}
 use Rattle.cfi_word.specs.Word.{epoch_in}
 use Rattle.cfi_model.specs.declared.history.Entry.{Entry}
 use Rattle.cfi_model.specs.declared.phase.Phase.{Phase}
 use Rattle.cfi_model.specs.declared.phase.Phase.TheVariants as phases
 use Rattle.cfi_model.specs.declared.quiet.Quiet.{Quiet}
-use Rattle.cfi_model.specs.declared.quiet.Quiet.TheVariants.{Unregistered, Published}
-use Rattle.cfi_model.specs.InForce.{GoesOn, tary_index}
+use Rattle.cfi_model.specs.declared.quiet.Quiet.TheVariants.{Unregistered, Parked, Published}
+use Rattle.cfi_model.specs.InForce.{GoesOn, code_in_force, history_of, tary_index}
 use Rattle.cfi_model.specs.Phases.{phase_of}
 use Rattle.cfi_model.specs.Quiet.{admits}
 use Rattle.cfi_model.specs.Raw.{Raw}
 use Rattle.cfi_model.specs.Service.{Reply}
 use Rattle.cfi_model.specs.Tables.{IsTables}
-use Rattle.cfi_model.specs.Words.{Tables, epoch_in_force, policy_in_force, next_epoch, newest, before, rank_at, number_at, word_at}
+use Rattle.cfi_model.specs.Words.{Tables, epoch_in_force, policy_in_force, next_epoch, word_at}
 use Rattle.cfi_model.specs.World.{World, quiet_of}
-use Rattle.cfi_model.proofs.InForceLemmas.{force_rises, policy_rises, bary_epoch, bary_epoch_is, tary_epoch, tary_epoch_is, index_within}
+use Rattle.cfi_model.proofs.InForceLemmas.{force_rises, history_is, policy_rises, bary_epoch, bary_epoch_is, tary_epoch, tary_epoch_is, index_within}
 use Rattle.cfi_model.proofs.TableLemmas.{force_epoch}
 use Rattle.cfi_world.specs.Laws.{IsBaryLoad, IsTaryLoad}
 use Rattle.cfi_world.specs.Premises.{MayTurn}
+use Rattle.cfi_world.specs.Seats.{Seat, seat_of}
 use Rattle.cfi_world.specs.Turns.{Turn, guest_turn, begin_turn, refused, update_turn, answer_turn, release_turn, reply_in, turn_of}
 use Rattle.cfi_world.specs.Updates.{is_idle, passed_by}
-use Rattle.cfi_world.specs.Worlds.{IsWorld, QuietFits}
+use Rattle.cfi_world.specs.Worlds.{IsWorld}
 use Rattle.cfi_world.specs.declared.event.Event.{Event}
 use Rattle.cfi_world.specs.declared.event.Event.TheVariants as events
 use Rattle.cfi_world.proofs.FitLemmas.{fair_word}
+use Rattle.cfi_world.proofs.ParkLemmas.{has_published, keeps_outside}
+use Rattle.cfi_world.proofs.SettledLemmas.{number_cases}
 use Rattle.cfi_world.proofs.UpdateLemmas.{begun_on, dropped_on, stored_on, tested_on, begins_on}
 use Rattle.cfi_world.proofs.WorldLemmas.{turn_kept}
 
@@ -71,6 +74,7 @@ module _ (w : World) (is : IsWorld w) where
 
   refused_on : (guest : ℕ) (quiet : Quiet) → GoesOn t (refused w guest quiet).world.tables
   refused_on guest Unregistered = self t
+  refused_on guest Parked = self t
   refused_on guest (Published quiet) = dropped_on t is.tables
 
   update_on : (phase : Phase) → GoesOn t (update_turn w phase).world.tables
@@ -108,15 +112,6 @@ force_stays w is event may =
       policy_rises w.tables (turn_of w event).world.tables is.tables later on,
     )
 
--- a word is of the newest entry, or of the one before
-pub number_cases : (t : Tables) (place : Place)
-    → ((rank_at t.code_words place < t.stored) × (number_at t place ≡ newest t))
-    ⊎ ((t.stored ≤ rank_at t.code_words place) × (number_at t place ≡ before t))
-number_cases t place = elim (cases_lt (rank_at t.code_words place) t.stored) [
-  | inl new ↦ inl (new, ap (λ b. cond b (newest t) (before t)) (lt-ltb _ _ new))
-  | inr old ↦ inr (old, ap (λ b. cond b (newest t) (before t)) (le-ltb _ _ old))
-]
-
 pub bary_load : (t : Tables) → IsTables t → (slot : ℕ) → slot < slots_of t.code_words → IsBaryLoad t slot
 bary_load t is slot inside = record {
   settled = (bary_epoch t is slot).0;
@@ -149,21 +144,6 @@ tary_load t is address =
     }
 
 -- the pick of a guest that keeps a Bary word
-pick_by : (w : World) (is : IsWorld w) (guest : ℕ) (r : Raw) (kept address : ℕ) (quiet : Quiet)
-    → QuietFits w.tables guest r quiet → r.base.stop ≡ None → r.bary ≡ Some kept
-    → epoch_in kept % w.tables.versions
-    ≡ epoch_in (word_at w.tables (Tary (tary_index w.tables.code_words address))) % w.tables.versions
-    → (epoch_in kept ≡ epoch_in (word_at w.tables (Tary (tary_index w.tables.code_words address))))
-    × (epoch_in (word_at w.tables (Tary (tary_index w.tables.code_words address))) ≡ epoch_in_force w.tables)
-pick_by w is guest r kept address Unregistered fits going keeps same = absurd (fits going)
-pick_by w is guest r kept address (Published quiet) fits going keeps same =
-    let t : Tables = w.tables in
-    let index : ℕ = tary_index t.code_words address in
-    let epoch = tary_epoch t is.tables index (index_within t is.tables address) in
-    let since = fits.kept kept keeps in
-    let one = fair_word t is.tables guest r quiet kept (word_at t (Tary index)) fits since epoch.0 epoch.1 same in
-    (one, omega (arith, one, since.most, epoch.0))
-
 pub picks : (w : World) (is : IsWorld w) (guest : ℕ) (r : Raw) → slice_get w.guests guest ≡ Some r
     → r.base.stop ≡ None → (kept address : ℕ) → r.bary ≡ Some kept
     → epoch_in kept % w.tables.versions
@@ -171,4 +151,15 @@ pub picks : (w : World) (is : IsWorld w) (guest : ℕ) (r : Raw) → slice_get w
     → (epoch_in kept ≡ epoch_in (word_at w.tables (Tary (tary_index w.tables.code_words address))))
     × (epoch_in (word_at w.tables (Tary (tary_index w.tables.code_words address))) ≡ epoch_in_force w.tables)
 picks w is guest r here going kept address keeps same =
-    pick_by w is guest r kept address (quiet_of w guest) (is.running guest r here).quiet going keeps same
+    let t : Tables = w.tables in
+    let index : ℕ = tary_index t.code_words address in
+    let epoch = tary_epoch t is.tables index (index_within t is.tables address) in
+    let s : Seat = seat_of w guest r in
+    let running = is.running guest r here in
+    let outside = keeps_outside (history_of t) (code_in_force t) (history_is t is.tables) t running.retries
+    running.shown s running.runs going (is.seats guest r here).point kept keeps in
+    let told = has_published t guest s (quiet_of w guest) running.quiet going outside in
+    let since = told.since.kept kept keeps in
+    let one = fair_word t is.tables guest r told.epoch kept (word_at t (Tary index)) told.since since epoch.0 epoch.1
+    same in
+    (one, omega (arith, one, since.most, epoch.0))

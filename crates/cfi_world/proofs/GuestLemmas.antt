@@ -19,7 +19,7 @@ use Rattle.cfi_model.proofs.InForceLemmas.{history_is, keeps}
 use Rattle.cfi_model.proofs.RunningLemmas.{running_shows}
 use Rattle.cfi_model.proofs.ShownLemmas.{shows_units}
 use Rattle.cfi_model.proofs.StartLemmas.{begins_on}
-use Rattle.cfi_world.specs.Worlds.{IsServing}
+use Rattle.cfi_world.proofs.ParkLemmas.{IsServing}
 
 -- it counts its units, and is ready
 pub guest_units : (h : History) (code : List ℕ) → IsHistory h code → (retries : ℕ) (s : State) (r : Raw)

@@ -1,9 +1,9 @@
 -- A seat at a later moment of the tables, when its guest has had no event.
 use Rattle.std.proofs.Common.{◌≡◌, ◌≢◌, ℕ, ◌+◌, ◌<◌, ◌≤◌, None, refl, arith, inl, inr}
 use Rattle.cfi_model.specs.declared.quiet.Point.{Point}
-use Rattle.cfi_model.specs.declared.quiet.Point.TheVariants.{Outside, Found, Asking}
+use Rattle.cfi_model.specs.declared.quiet.Point.TheVariants.{Outside, Asking, Leaving, Found}
 use Rattle.cfi_model.specs.declared.quiet.Quiet.{Quiet}
-use Rattle.cfi_model.specs.declared.quiet.Quiet.TheVariants.{Unregistered, Published}
+use Rattle.cfi_model.specs.declared.quiet.Quiet.TheVariants.{Unregistered, Parked, Published}
 use Rattle.cfi_model.specs.InForce.{history_of, code_in_force, GoesOn}
 use Rattle.cfi_model.specs.Raw.{Raw}
 use Rattle.cfi_model.specs.Running.{IsGuest}
@@ -14,13 +14,18 @@ use Rattle.cfi_model.proofs.InForceLemmas.{history_is, extends, keeps, force_ris
 use Rattle.cfi_model.proofs.GrowLemmas.{running_grows}
 use Rattle.cfi_world.proofs.SeatLemmas.{AreSeated}
 use Rattle.cfi_world.specs.Seats.{Seat}
-use Rattle.cfi_world.specs.Worlds.{IsQuietSince, QuietFits, FitsPoint}
+use Rattle.cfi_world.specs.Worlds.{IsQuietSince, QuietFits, FitsPoint, settled_epoch}
 
 module _ (t u : Tables) (is : IsTables t) (later : IsTables u) (on : GoesOn t u) where
-  -- the update has come no further than the guest's quiescent point lets it
-  pub record IsAdmittedAt (guest quiet : ℕ) : Type 0 where
-    pub newest : next_epoch u + 1 ≤ quiet + u.versions
-    pub next : u.asked ≢ None → guest < u.tested → next_epoch u + 2 ≤ quiet + u.versions
+  -- the update has come no further above the guest's floor than its quiescent point lets it
+  pub record IsAdmittedAt (guest floor : ℕ) : Type 0 where
+    pub newest : next_epoch u ≤ floor + u.versions
+    pub next : u.asked ≢ None → guest < u.tested → next_epoch u + 1 ≤ floor + u.versions
+
+  -- so it is for each guest that has published an epoch
+  abbrev pub Admits : (guest : ℕ) → Raw → Quiet → Type 0
+  Admits guest r quiet =
+      (q : ℕ) → quiet ≡ Published q → (since : IsQuietSince t guest r q) → IsAdmittedAt guest since.floor
 
   pub guest_later : (retries : ℕ) (s : State) (r : Raw) → IsGuest (history_of t) (code_in_force t) retries s r
       → IsGuest (history_of u) (code_in_force u) retries s r
@@ -35,30 +40,35 @@ module _ (t u : Tables) (is : IsTables t) (later : IsTables u) (on : GoesOn t u)
         over.2,
       )
 
-  quiet_later : (guest : ℕ) (r : Raw) (quiet : Quiet)
-      → ((q : ℕ) → quiet ≡ Published q → IsQuietSince t guest r q → IsAdmittedAt guest q) → QuietFits t guest r quiet
-      → QuietFits u guest r quiet
-  quiet_later guest r Unregistered admitted fits = fits
-  quiet_later guest r (Published q) admitted fits =
-      let now = admitted q refl fits in
-      record {
-        published = omega (arith, fits.published, force_rises t u is later on);
-        newest = now.newest;
-        next = now.next;
-        kept = λ word e.
-            let kept = fits.kept word e in
-            record { least = kept.least; most = omega (arith, kept.most, force_rises t u is later on) };
-      }
+  quiet_later : (guest : ℕ) (s : Seat) (quiet : Quiet) → settled_epoch t ≤ settled_epoch u
+      → Admits guest s.guest quiet → QuietFits t guest s quiet → QuietFits u guest s quiet
+  quiet_later guest s Unregistered rises admitted fits = fits
+  quiet_later guest s Parked rises admitted fits = fits
+  quiet_later guest s (Published q) rises admitted (outside, since) =
+      let now = admitted q refl since in (
+        outside,
+        record {
+          published = omega (arith, since.published, force_rises t u is later on);
+          floor = since.floor;
+          least = since.least;
+          settled = omega (arith, since.settled, rises);
+          newest = now.newest;
+          next = now.next;
+          kept = λ word e.
+              let kept = since.kept word e in
+              record { least = kept.least; most = omega (arith, kept.most, force_rises t u is later on) };
+        },
+      )
 
   point_later : (r : Raw) (point : Point) → FitsPoint t r point → FitsPoint u r point
   point_later r Outside fits = tt
-  point_later r (Found epoch) fits = (fits.0, omega (arith, fits.1, force_rises t u is later on))
   point_later r Asking fits = fits
+  point_later r Leaving fits = fits
+  point_later r (Found epoch) fits = (fits.0, omega (arith, fits.1, force_rises t u is later on))
 
-  pub seat_later : (fuel guest : ℕ) (s : Seat)
-      → ((q : ℕ) → s.quiet ≡ Published q → IsQuietSince t guest s.guest q → IsAdmittedAt guest q)
+  pub seat_later : (fuel guest : ℕ) (s : Seat) → settled_epoch t ≤ settled_epoch u → Admits guest s.guest s.quiet
       → AreSeated t is fuel guest s → AreSeated u later fuel guest s
-  seat_later fuel guest s admitted both = record {
+  seat_later fuel guest s rises admitted both = record {
     seat = record {
       steps_most = both.seat.steps_most;
       steps_left = both.seat.steps_left;
@@ -71,7 +81,6 @@ module _ (t u : Tables) (is : IsTables t) (later : IsTables u) (on : GoesOn t u)
       shown = both.running.shown;
       runs = guest_later both.running.retries both.running.shown s.guest both.running.runs;
       spent = both.running.spent;
-      quiet = quiet_later guest s.guest s.quiet admitted both.running.quiet;
-      found = both.running.found;
+      quiet = quiet_later guest s s.quiet rises admitted both.running.quiet;
     };
   }

@@ -1,9 +1,12 @@
 pub mod RestLemmas
 pub mod VersionLemmas
+pub mod ParkLemmas
+pub mod SettledLemmas
 pub mod FitLemmas
 pub mod CountLemmas
 pub mod TriesLemmas
 pub mod SeatLemmas
+pub mod FetchLemmas
 pub mod ServiceLemmas
 pub mod LaterLemmas
 pub mod StoringLemmas
@@ -27,7 +30,14 @@ pub mod CodeLemmas
 pub mod OpenLemmas
 pub mod OutcomeLemmas
 pub mod RefusalLemmas
+pub mod MovesLemmas
 pub mod QuietLemmas
+pub mod LeastLemmas
+pub mod PassLemmas
+pub mod LoadedLemmas
+pub mod LastLemmas
+pub mod ToldLemmas
+pub mod BoundLemmas
 pub mod ClassLemmas
 pub mod EventLemmas
 pub mod ExampleLemmas
@@ -37,6 +47,7 @@ pub mod RetryLemmas
 pub mod CheckLemmas
 pub mod TraceLemmas
 pub mod GuestLemmas
+pub mod TracedLemmas
 pub mod TakenLemmas
 pub mod NextLemmas
 pub mod RunLemmas
@@ -45,4 +56,5 @@ pub mod PassedLemmas
 pub mod PutLemmas
 pub mod SkipLemmas
 pub mod SharedWords
+pub mod SharedGuests
 pub mod SharedLemmas

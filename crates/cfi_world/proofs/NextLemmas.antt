@@ -21,7 +21,8 @@ use Rattle.cfi_world.specs.Moments.{LeavesTry}
 use Rattle.cfi_world.specs.Seats.{rested}
 use Rattle.cfi_world.specs.Steps.{AsksInForce, IsAskedIn, IsStepAt}
 use Rattle.cfi_world.specs.Turns.{turn_of}
-use Rattle.cfi_world.specs.Worlds.{IsServing, IsWorld}
+use Rattle.cfi_world.specs.Worlds.{IsWorld}
+use Rattle.cfi_world.proofs.ParkLemmas.{IsServing}
 use Rattle.cfi_world.specs.declared.event.Event.{Event}
 use Rattle.cfi_world.specs.declared.event.Event.TheVariants as events
 use Rattle.cfi_world.proofs.CheckLemmas.{held_throughout}
@@ -33,7 +34,9 @@ use Rattle.cfi_world.proofs.RestLemmas.{same_units}
 use Rattle.cfi_world.proofs.TraceLemmas.{HasBoth, HoldsTry, found_in, found_none}
 use Rattle.cfi_world.proofs.GuestLemmas.{guest_ready, guest_units, is_serving, stands_before}
 use Rattle.cfi_world.proofs.TakenLemmas as taken
-use Rattle.cfi_world.proofs.TakenLemmas.{Here, Over}
+use Rattle.cfi_world.proofs.TakenLemmas.{Here}
+use Rattle.cfi_world.proofs.TracedLemmas as traced
+use Rattle.cfi_world.proofs.TracedLemmas.{Over}
 
 same_guest : (x y : Raw) → Some x ≡ Some y → x ≡ y
 same_guest x y e = cc
@@ -46,25 +49,25 @@ module _ (o : Over) where
   guest = o.guest
 
   abbrev at : (moment : ℕ) → World
-  at moment = taken.at o moment
+  at moment = traced.at o moment
 
   abbrev tables : (moment : ℕ) → Tables
-  tables moment = taken.tables o moment
+  tables moment = traced.tables o moment
 
   abbrev h : (moment : ℕ) → History
-  h moment = taken.h o moment
+  h moment = traced.h o moment
 
   abbrev code : (moment : ℕ) → List ℕ
-  code moment = taken.code o moment
+  code moment = traced.code o moment
 
   abbrev Traced : (now : ℕ) → State → Raw → Type 0
-  Traced now s r = taken.Traced o now s r
+  Traced now s r = traced.Traced o now s r
 
   known : (moment : ℕ) → IsHistory (h moment) (code moment)
-  known moment = taken.known o moment
+  known moment = traced.known o moment
 
   at_is : (moment : ℕ) → IsWorld (at moment)
-  at_is moment = taken.at_is o moment
+  at_is moment = traced.at_is o moment
 
   module _ (n : ℕ) (x : Here o n) where
     abbrev r : Raw
@@ -121,7 +124,7 @@ module _ (o : Over) where
 
     -- it is the machine that has taken the word
     taken_now : Takes event → now ≡ rested (at n).fuel next
-    taken_now takes = same_guest now (rested (at n).fuel next) (sym refined.there ∙ takes.2)
+    taken_now takes = same_guest now (rested (at n).fuel next) (sym refined.there ∙ takes.after)
 
     taken_units : Takes event → next.base.units ≡ refined.after.units
     taken_units takes =
@@ -144,11 +147,11 @@ module _ (o : Over) where
         let whole : now ≡ next =
         is_now ∙ not_rested (at n).fuel next (sym (ap (λ y. y.base.stop) is_now) ∙ going_now) in
         let before : Stands (code n) s.pc (units.Check link rs1 imm slot) =
-        subst (λ (t : Tables). Stands (code_in_force t) s.pc (units.Check link rs1 imm slot)) (own_tables takes.0)
+        subst (λ (t : Tables). Stands (code_in_force t) s.pc (units.Check link rs1 imm slot)) (own_tables takes.own)
         stands in
         subst (λ y. HoldsTry o.w o.run guest (found_in s y) (n + 1) slot (displaced (register s rs1) imm) y.bary y.tary)
         (sym whole)
-        (taken.holds_still o n x takes.0 takes.1 quiet link rs1 imm slot before
+        (taken.holds_still o n x takes quiet link rs1 imm slot before
         (taken_units takes ∙ ap (λ y. y.units) same))
 
     left_traced : slice_get new.guests guest ≡ Some r → Traced (n + 1) s now
@@ -156,14 +159,28 @@ module _ (o : Over) where
         let leaves : LeavesTry o.w o.run guest n =
         inl (ap (λ v. slice_get v.guests guest) (taken.next_is o n x) ∙ left ∙ sym there) in
         subst (Traced (n + 1) s) (sym (left_now left))
-        (taken.traced_later o n r s (guest_ready (h n) (code n) retries s r shows)
-        (taken.shown_going o n retries s r shows) leaves x.traced)
+        (traced.traced_later o n r s (guest_ready (h n) (code n) retries s r shows)
+        (traced.shown_going o n retries s r shows) leaves x.traced)
+
+    -- or stops it at most
+    rested_traced : slice_get new.guests guest ≡ Some (rested (at n).fuel r) → Traced (n + 1) s now
+    rested_traced rests going_now =
+        let is_now = same_guest now (rested (at n).fuel r) (sym refined.there ∙ rests) in
+        let same = not_rested (at n).fuel r (sym (ap (λ y. y.base.stop) is_now) ∙ going_now) in
+        left_traced (rests ∙ ap Some same) going_now
+
+    left_units : taken.Leaves o n x event → now.base.units ≡ r.base.units
+    left_units (inl left) = ap (λ y. y.base.units) (left_now left)
+    left_units (inr rests) =
+        ap (λ y. y.base.units) (same_guest now (rested (at n).fuel r) (sym refined.there ∙ rests))
+        ∙ same_units (at n).fuel r
 
     -- an event in a service, of a guest that shows the same
     served_traced : IsServing r.waits → refined.after ≡ s → Traced (n + 1) s now
     served_traced serving same going_now link rs1 imm slot stands =
         let going : s.stop ≡ None =
-        sym (ap (λ y. y.stop) same) ∙ taken.shown_going o (n + 1) refined.more refined.after now shows_next going_now in
+        sym (ap (λ y. y.stop) same)
+        ∙ traced.shown_going o (n + 1) refined.more refined.after now shows_next going_now in
         let on = next_on o.w o.is o.run o.may n (slice_get o.run n) refl in
         let before = stands_before (tables n) (tables (n + 1)) (at_is n).tables (at_is (n + 1)).tables on s
         (guest_ready (h n) (code n) retries s r shows) going (units.Check link rs1 imm slot) stands in
@@ -173,7 +190,8 @@ module _ (o : Over) where
     same_traced same = elim (is_serving r.waits) [
       | inl serving ↦ served_traced serving same
       | inr quiet ↦ elim (taken.takes_by o n x event quiet) [
-        | inl left ↦ left_traced left
+        | inl (inl left) ↦ left_traced left
+        | inl (inr rests) ↦ rested_traced rests
         | inr takes ↦ kept_traced quiet same takes
       ]
     ]
@@ -197,10 +215,10 @@ module _ (o : Over) where
             | inl serving ↦ absurd (taken.never_serves o n x serving link rs1 imm slot stands)
             | inr quiet ↦ elim (taken.takes_by o n x event quiet) [
               | inl left ↦
-                  let still = ap (λ y. y.base.units) (left_now left) in
+                  let still = left_units left in
                   absurd (omega (arith, still, units_next, more_units, taken.units_now o n x))
               | inr takes ↦
-                  taken.both_found o n x takes.0 takes.1 quiet link rs1 imm slot stands stepped.step.going
+                  taken.both_found o n x takes quiet link rs1 imm slot stands stepped.step.going
                   (taken_units takes ∙ more_units) inside
             ]
           ]
@@ -275,7 +293,7 @@ module _ (o : Over) where
 
       pub ended_traced : Traced (n + 1) refined.after now
       ended_traced going_now link rs1 imm slot stands =
-          let going = taken.shown_going o (n + 1) refined.more refined.after now shows_next going_now in
+          let going = traced.shown_going o (n + 1) refined.more refined.after now shows_next going_now in
           subst (λ f. HoldsTry o.w o.run guest f (n + 1) slot (displaced (register refined.after rs1) imm) now.bary
           now.tary)
           (sym (found_none refined.after now (stepped.begins going))) tt

@@ -25,8 +25,9 @@ use Rattle.cfi_model.specs.Words.{Tables, entry_at, policy_in_force}
 use Rattle.cfi_model.specs.World.{World, opened_world, quiet_of}
 use Rattle.cfi_world.specs.Premises.{CanOpen, IsOpened}
 use Rattle.cfi_world.specs.Seats.{seat_of}
-use Rattle.cfi_world.specs.Worlds.{QuietFits, FoundFits, FitsPoint, IsWorld}
+use Rattle.cfi_world.specs.Worlds.{QuietFits, FitsPoint, IsWorld, settled_epoch}
 use Rattle.cfi_world.proofs.SeatLemmas.{AreSeated}
+use Rattle.cfi_world.proofs.SettledLemmas.{settled_near, settled_reach}
 
 back_is : (first : ℕ) → 0 ≡ first + 0 - first
 back_is first = omega arith
@@ -60,7 +61,7 @@ module _ (code_words versions first : ℕ) (image : Image) (guests : List Raw) (
   number_none = (let within = force_within tables tables_are in omega (arith, within))
 
   -- what each QUIET word tells
-  quiet_is : (guest : ℕ) → guest < length guests → quiet_of opened guest ≡ Published first
+  pub quiet_is : (guest : ℕ) → guest < length guests → quiet_of opened guest ≡ Published first
   quiet_is guest there =
       let some : List Quiet = replicate (length guests) (Published first) in
       let none : List Quiet = replicate (GUESTS - length guests) Unregistered in
@@ -69,7 +70,7 @@ module _ (code_words versions first : ℕ) (image : Image) (guests : List Raw) (
       ∙ get_or-replicate (length guests) guest (Published first) Unregistered there
 
   -- no other number is registered
-  absent_is : (guest : ℕ) → slice_get guests guest ≡ None → quiet_of opened guest ≡ Unregistered
+  pub absent_is : (guest : ℕ) → slice_get guests guest ≡ None → quiet_of opened guest ≡ Unregistered
   absent_is guest none =
       let some : List Quiet = replicate (length guests) (Published first) in
       let rest : List Quiet = replicate (GUESTS - length guests) Unregistered in
@@ -106,6 +107,9 @@ module _ (code_words versions first : ℕ) (image : Image) (guests : List Raw) (
       subst (λ x. IsRunning (history_of tables) (code_in_force tables) 0 x.base x) (sym from.is)
       (opened_from guest r from)
 
+  settled_least : first ≤ settled_epoch tables + 1
+  settled_least = omega (arith, settled_near tables tables_are, force_epoch tables tables_are, number_none)
+
   opened_seat : (guest : ℕ) (r : Raw) → slice_get guests guest ≡ Some r
       → AreSeated tables tables_are fuel guest (seat_of opened guest r)
   opened_seat guest r here =
@@ -118,7 +122,8 @@ module _ (code_words versions first : ℕ) (image : Image) (guests : List Raw) (
       record {
         seat = record {
           steps_most = subst (λ x. x.base.steps ≤ fuel) (sym from.is) (omega arith);
-          steps_left = λ going idle. subst (λ x. x.base.steps < fuel) (sym from.is) (omega (arith, can.fuel_least));
+          steps_left = λ going idle outside.
+              subst (λ x. x.base.steps < fuel) (sym from.is) (omega (arith, can.fuel_least));
           stopped = λ stops. absurd (stops (ap (λ x. x.base.stop) from.is));
           point = subst (FitsPoint tables r) (sym none) tt;
           logged = subst (λ x. last_policy x.base.log ≤ policy_in_force tables) (sym from.is) (omega arith);
@@ -128,13 +133,18 @@ module _ (code_words versions first : ℕ) (image : Image) (guests : List Raw) (
           shown = _;
           runs = inl (subst (IsRunning (history_of tables) (code_in_force tables) 0 _) (sym from.is) runs);
           spent = λ stop. absurd (never_spent r guest from.entry from.fills from.is stop);
-          quiet = subst (QuietFits tables guest r) (sym quiet) (record {
-            published = omega (arith, force_epoch tables tables_are, number_none);
-            newest = omega (arith, can.versions_least);
-            next = λ asked. absurd (asked refl);
-            kept = λ word e. absurd (no_bary r word guest from.entry from.fills from.is e);
-          });
-          found = subst (FoundFits (quiet_of opened guest)) (sym none) tt;
+          quiet = subst (QuietFits tables guest (seat_of opened guest r)) (sym quiet) (
+            none,
+            record {
+              published = omega (arith, force_epoch tables tables_are, number_none);
+              floor = settled_epoch tables;
+              least = settled_least;
+              settled = omega arith;
+              newest = settled_reach tables tables_are;
+              next = λ asked. absurd (asked refl);
+              kept = λ word e. absurd (no_bary r word guest from.entry from.fills from.is e);
+            },
+          );
         };
       }
 

@@ -7,7 +7,7 @@ use Rattle.cfi_word.specs.declared.limits.TheConstants.{MAX_EPOCH}
 use Rattle.cfi_model.specs.declared.phase.Phase.{Phase}
 use Rattle.cfi_model.specs.declared.phase.Phase.TheVariants as phases
 use Rattle.cfi_model.specs.declared.quiet.Quiet.{Quiet}
-use Rattle.cfi_model.specs.declared.quiet.Quiet.TheVariants.{Unregistered, Published}
+use Rattle.cfi_model.specs.declared.quiet.Quiet.TheVariants.{Unregistered, Parked, Published}
 use Rattle.cfi_model.specs.Phases.{phase_of}
 use Rattle.cfi_model.specs.Raw.{Raw}
 use Rattle.cfi_model.specs.Service.{Reply}
@@ -47,6 +47,7 @@ module _ (w : World) where
   refused_stays : (guest other : ℕ) (quiet : Quiet)
       → slice_get (refused w guest quiet).world.guests other ≡ slice_get w.guests other
   refused_stays guest other Unregistered = refl
+  refused_stays guest other Parked = refl
   refused_stays guest other (Published quiet) = refl
 
   update_stays : (other : ℕ) (phase : Phase)

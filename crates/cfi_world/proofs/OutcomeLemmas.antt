@@ -6,9 +6,9 @@ use Rattle.cfi_word.specs.declared.limits.TheConstants.{MAX_EPOCH}
 use Rattle.cfi_model.specs.declared.phase.Phase.{Phase}
 use Rattle.cfi_model.specs.declared.phase.Phase.TheVariants as phases
 use Rattle.cfi_model.specs.declared.quiet.Point.{Point}
-use Rattle.cfi_model.specs.declared.quiet.Point.TheVariants.{Outside, Found, Asking}
+use Rattle.cfi_model.specs.declared.quiet.Point.TheVariants.{Outside, Asking, Leaving, Found}
 use Rattle.cfi_model.specs.declared.quiet.Quiet.{Quiet}
-use Rattle.cfi_model.specs.declared.quiet.Quiet.TheVariants.{Unregistered, Published}
+use Rattle.cfi_model.specs.declared.quiet.Quiet.TheVariants.{Unregistered, Parked, Published}
 use Rattle.cfi_model.specs.Phases.{phase_of}
 use Rattle.cfi_model.specs.Quiet.{admits}
 use Rattle.cfi_model.specs.Raw.{Raw}
@@ -38,18 +38,21 @@ stop_none (Some stop) test = absurd (cc)
 
 asking_is : (point : Point) → is_asking point ≡ true → point ≡ Asking
 asking_is Outside test = absurd (cc)
-asking_is (Found epoch) test = absurd (cc)
 asking_is Asking test = refl
+asking_is Leaving test = absurd (cc)
+asking_is (Found epoch) test = absurd (cc)
 
 asking_not : (point : Point) → is_asking point ≡ false → point ≢ Asking
 asking_not Outside test = λ e. absurd (cc)
-asking_not (Found epoch) test = λ e. absurd (cc)
 asking_not Asking test = absurd (cc)
+asking_not Leaving test = λ e. absurd (cc)
+asking_not (Found epoch) test = λ e. absurd (cc)
 
 not_asking : (point : Point) → point ≢ Asking → is_asking point ≡ false
 not_asking Outside other = refl
-not_asking (Found epoch) other = refl
 not_asking Asking other = absurd (other refl)
+not_asking Leaving other = refl
+not_asking (Found epoch) other = refl
 
 idle_not : (phase : Phase) → phase ≢ phases.Idle → is_idle phase ≡ false
 idle_not phases.Idle other = absurd (other refl)
@@ -120,6 +123,7 @@ tested_by : (w : World) (guest : ℕ) (quiet : Quiet) (b : Bool)
     → admits w.tables.versions (next_epoch w.tables) quiet ≡ b
     → (tested_turn w guest quiet).answer ≢ Nothing
 tested_by w guest Unregistered b test = λ is. absurd (cc)
+tested_by w guest Parked b test = λ is. absurd (cc)
 tested_by w guest (Published epoch) true test =
     λ is. (let x = sym (ap (λ c. (cond c (tested_turn w guest Unregistered) (refused w guest (Published epoch))).answer)
     test) ∙ is in absurd (cc))
@@ -193,6 +197,7 @@ release_same w guest (inr (inr e)) = release_by w guest (slice_get w.guests gues
 
 unregistered : (quiet : Quiet) → is_registered quiet ≡ false → quiet ≡ Unregistered
 unregistered Unregistered e = refl
+unregistered Parked e = absurd (cc)
 unregistered (Published epoch) e = absurd (cc)
 
 released_by : (w : World) (guest : ℕ) (r : Raw) → slice_get w.guests guest ≡ Some r → (a b c : Bool)

@@ -26,12 +26,13 @@ use Rattle.cfi_world.specs.Counts.{HasTried}
 use Rattle.cfi_world.specs.Checks.{GoesBack, HasPassed, IsRepeatedFor, LastWordsAreLedTo, RepeatsAreForOwnWords}
 use Rattle.cfi_world.specs.Seats.{rested, is_asking}
 use Rattle.cfi_world.specs.Turns.{turn_of}
-use Rattle.cfi_world.specs.Worlds.{IsServing, IsWorld}
+use Rattle.cfi_world.specs.Worlds.{IsWorld}
+use Rattle.cfi_world.proofs.ParkLemmas.{IsServing}
 use Rattle.cfi_world.specs.declared.event.Event.TheVariants.{Guest}
 use Rattle.cfi_world.proofs.ChoiceLemmas.{neither, not_some}
 use Rattle.cfi_world.proofs.CountLemmas.{begun_check}
-use Rattle.cfi_world.proofs.OwnLemmas.{after_own, not_rested, own_event, own_fits, taken, word_for}
-use Rattle.cfi_world.proofs.RestLemmas.{going_runs}
+use Rattle.cfi_world.proofs.OwnLemmas.{Left, Rested, Took, TakesOwn, not_rested, own_event, own_fits, own_is, taken, word_for}
+use Rattle.cfi_world.proofs.RestLemmas.{going_runs, same_pc}
 use Rattle.cfi_world.proofs.TriesLemmas.{many_of, steps_after, steps_by}
 use Rattle.cfi_world.proofs.WithinLemmas.{is_allowed, is_lowered, is_trying, place_pc, stands_in_check, word_of_place}
 
@@ -214,14 +215,25 @@ module _ (w : World) (is : IsWorld w) (guest : ℕ) (r now : Raw) (here : slice_
     code = code_in_force w.tables
 
     -- it had an event
+    moved : now.base.pc ≡ r.base.pc → ⊥
+    moved one =
+        let from = back.from in
+        let to = back.to in
+        omega (arith, one, from, to)
+
     back_going : r.base.stop ≡ None
     back_going = elim (own_event w guest r here) [
-      | inl same ↦
-          let one = ap (λ x. x.base.pc) (same_guest r now (sym same ∙ there)) in
-          let from = back.from in
-          let to = back.to in
-          absurd (omega (arith, one, from, to))
+      | inl same ↦ absurd (moved (ap (λ x. x.base.pc) (same_guest now r (sym there ∙ same))))
       | inr goes ↦ not_some r.base.stop (neither (is_some r.base.stop) (is_asking (point_of w guest)) goes.0).0
+    ]
+
+    -- and takes a word with it
+    takes_own : (IsServing r.waits → ⊥) → TakesOwn w guest r here
+    takes_own other = elim (own_is w guest r here is other) [
+      | Left same ↦ absurd (moved (ap (λ x. x.base.pc) (same_guest now r (sym there ∙ same))))
+      | Rested rests ↦
+          absurd (moved (ap (λ x. x.base.pc) (same_guest now (rested w.fuel r) (sym there ∙ rests)) ∙ same_pc w.fuel r))
+      | Took takes ↦ takes
     ]
 
     back_by : (idle : r.waits ≡ None) → Running h code s retries r → s.stop ≡ None
@@ -232,9 +244,9 @@ module _ (w : World) (is : IsWorld w) (guest : ℕ) (r now : Raw) (here : slice_
         let both = within_check h code known s retries r link rs1 imm slot stands going 11 (omega arith) from running in
         let other : IsServing r.waits → ⊥ = λ serving. subst IsServing idle serving in
         let runs = going_runs h code retries s r guest_is back_going in
-        let fits = own_fits w guest r here is back_going retries s runs other in
-        let after = same_guest now (rested w.fuel (taken w guest r here))
-        (sym there ∙ after_own w guest r here is back_going other) in
+        let takes = takes_own other in
+        let fits = own_fits w guest r here is takes.going takes.outside retries s runs other in
+        let after = same_guest now (rested w.fuel (taken w guest r here)) (sym there ∙ takes.after) in
         let same : now ≡ taken w guest r here =
         after ∙ not_rested w.fuel (taken w guest r here) (sym (ap (λ x. x.base.stop) after) ∙ back.going) in
         subst (IsRepeatedFor h code retries s slot (displaced (register s rs1) imm) r) (sym same)

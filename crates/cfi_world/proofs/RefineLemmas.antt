@@ -12,7 +12,7 @@ use Rattle.cfi_model.specs.State.{State}
 use Rattle.cfi_model.specs.World.{World, point_of}
 use Rattle.cfi_world.specs.Laws.{answer_in, IsRefined, IsAnothers}
 use Rattle.cfi_world.specs.Premises.{MayAnswer, MayTurn}
-use Rattle.cfi_world.specs.Seats.{Seat, seat_of, with_seat, seat_after, rested, is_asking}
+use Rattle.cfi_world.specs.Seats.{Seat, seat_of, with_seat, seat_after, is_asking}
 use Rattle.cfi_world.specs.Turns.{Turn, did, nothing, seated, guest_turn, answered, answer_turn, reply_in, turn_of}
 use Rattle.cfi_world.specs.Worlds.{IsWorld}
 use Rattle.cfi_world.specs.declared.event.Event.{Event}
@@ -53,7 +53,6 @@ module _ (w : World) (is : IsWorld w) (guest : ℕ) (r : Raw) (here : slice_get 
           runs = runs;
           spent = both.running.spent;
           quiet = both.running.quiet;
-          found = both.running.found;
         };
       }
 
@@ -88,7 +87,7 @@ module _ (w : World) (is : IsWorld w) (guest : ℕ) (r : Raw) (here : slice_get 
       → IsRefined w (cond asking (answered w guest reply r) w) (Some reply) guest r retries s
   answers_by reply may false e = stays (Some reply)
   answers_by reply may true e =
-      let new : Raw = rested w.fuel (serve_of r reply) in
+      let new : Raw = serve_of r reply in
       let gone = service.answered w.tables is.tables w.fuel guest (seat_of w guest r) shown_seat
       (asks_it (point_of w guest) e) reply may.policy may.few may.inside in
       record {

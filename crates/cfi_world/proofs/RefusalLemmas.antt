@@ -5,7 +5,7 @@ use Rattle.cfi_word.specs.declared.limits.TheConstants.{MAX_EPOCH}
 use Rattle.cfi_model.specs.declared.phase.Phase.{Phase}
 use Rattle.cfi_model.specs.declared.phase.Phase.TheVariants as phases
 use Rattle.cfi_model.specs.declared.quiet.Quiet.{Quiet}
-use Rattle.cfi_model.specs.declared.quiet.Quiet.TheVariants.{Unregistered, Published}
+use Rattle.cfi_model.specs.declared.quiet.Quiet.TheVariants.{Unregistered, Parked, Published}
 use Rattle.cfi_model.specs.Phases.{phase_of, phase_by, phase_after}
 use Rattle.cfi_model.specs.Quiet.{admits}
 use Rattle.cfi_model.specs.Raw.{Raw}
@@ -17,26 +17,22 @@ use Rattle.cfi_model.specs.declared.history.Entry.{Entry}
 use Rattle.cfi_word.specs.Table.{Epoch}
 use Rattle.cfi_model.proofs.PhaseLemmas.{phase_row}
 use Rattle.cfi_model.proofs.TableLemmas.{force_epoch}
-use Rattle.cfi_world.specs.Outcomes.{IsLeast, IsRefusal}
+use Rattle.cfi_world.specs.Outcomes.{IsRefusal}
 use Rattle.cfi_world.specs.Seats.{Seat, is_asking, seat_after, seat_of}
 use Rattle.cfi_world.specs.Turns.{answer_turn, answered, did, guest_turn, is_registered, nothing, passed_turn, refused, release_turn, reply_in, seated, tested_turn, turn_of, update_turn}
 use Rattle.cfi_world.specs.Updates.{is_idle}
-use Rattle.cfi_world.specs.Worlds.{IsWorld, QuietFits}
+use Rattle.cfi_world.specs.Worlds.{IsWorld}
 use Rattle.cfi_world.specs.declared.event.Event.{Event}
 use Rattle.cfi_world.specs.declared.event.Event.TheVariants as events
 use Rattle.cfi_world.specs.declared.event.Turned.TheVariants.{Did, Asks, VersionsSpent, EpochsSpent}
-use Rattle.cfi_world.proofs.WorldLemmas.{testing_is}
 use Rattle.cfi_world.proofs.ChoiceLemmas.{row_none}
-use Rattle.cfi_world.proofs.ForceLemmas.{number_cases}
+use Rattle.cfi_world.proofs.SettledLemmas.{number_cases}
 
 late_test : (epoch most : ℕ) → most < epoch → nat_le epoch most ≡ false
 late_test epoch most late = grind (arith, nat_tests)
 
 test_late : (epoch most : ℕ) → nat_le epoch most ≡ false → most < epoch
 test_late epoch most test = grind (arith, nat_tests)
-
-early_test : (epoch most : ℕ) → epoch ≤ most → nat_le epoch most ≡ true
-early_test epoch most early = grind (arith, nat_tests)
 
 pub refusal_spent : (w : World) (guest quiet : ℕ) → IsRefusal w guest quiet
     → (turn_of w events.Update).answer ≡ VersionsSpent guest quiet
@@ -94,6 +90,8 @@ refused_by : (w : World) (guest one other : ℕ) (quiet : Quiet) (b : Bool)
     → (guest ≡ one) × (quiet ≡ Published other) × (other + w.tables.versions - 2 < next_epoch w.tables)
 refused_by w guest one other Unregistered true test is = absurd (cc)
 refused_by w guest one other Unregistered false test is = absurd (cc)
+refused_by w guest one other Parked true test is = absurd (cc)
+refused_by w guest one other Parked false test is = absurd (cc)
 refused_by w guest one other (Published epoch) true test is = absurd (cc)
 refused_by w guest one other (Published epoch) false test is =
     let same : guest ≡ one = cc in
@@ -132,29 +130,14 @@ refusal_only w (events.Answer number answer) guest quiet is =
 refusal_only w (events.Release number) guest quiet is =
     absurd (release_not w number (slice_get w.guests number) guest quiet is)
 
--- it is the least
+-- while it is tested
 module _ (w : World) (is : IsWorld w) (guest quiet : ℕ) (refusal : IsRefusal w guest quiet) where
   asked_by : (asked : Option Entry) (tested c s : ℕ) → phase_by asked tested c s ≡ phases.Testing guest → asked ≢ None
   asked_by (Some entry) tested c s e = λ none. absurd (cc)
   asked_by None tested c s e = absurd (row_none c s (phase_after c s) guest (phase_row c s) e)
 
-  tested : guest ≡ w.tables.tested
-  tested =
-      testing_is w is w.tables.asked w.tables.tested w.tables.code_words w.tables.stored guest refusal.tests
-
   asks : w.tables.asked ≢ None
   asks = asked_by w.tables.asked w.tables.tested w.tables.code_words w.tables.stored refusal.tests
-
-  passes_by : (other : ℕ) (r : Raw) (told : Quiet) → other < guest → QuietFits w.tables other r told
-      → admits w.tables.versions (next_epoch w.tables) told ≡ true
-  passes_by other r Unregistered below fits = refl
-  passes_by other r (Published epoch) below fits =
-      early_test (next_epoch w.tables) (epoch + w.tables.versions - 2)
-      (omega (arith, fits.next asks (omega (arith, below, tested))))
-
-  pub refusal_least : IsLeast w guest
-  refusal_least = λ other r there below.
-      passes_by other r (quiet_of w other) below (is.running other r there).quiet
 
   -- while the test is under way, the newest entry is in force
   force_by : (asked : Option Entry) → asked ≢ None → MayBeAsked w.tables asked

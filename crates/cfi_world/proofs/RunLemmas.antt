@@ -15,18 +15,19 @@ use Rattle.cfi_world.proofs.OpeningLemmas.{opened_guest, opened_is}
 use Rattle.cfi_world.proofs.TraceLemmas.{HoldsTry, found_none}
 use Rattle.cfi_world.proofs.GuestLemmas.{guest_ready}
 use Rattle.cfi_world.proofs.NextLemmas.{ended_traced, refined, same_traced, shows_next, step_at, there_next}
-use Rattle.cfi_world.proofs.TakenLemmas as taken
-use Rattle.cfi_world.proofs.TakenLemmas.{Here, Over}
+use Rattle.cfi_world.proofs.TakenLemmas.{Here}
+use Rattle.cfi_world.proofs.TracedLemmas as traced
+use Rattle.cfi_world.proofs.TracedLemmas.{Over}
 
 module _ (o : Over) where
   abbrev at : (moment : ℕ) → World
-  at moment = taken.at o moment
+  at moment = traced.at o moment
 
   abbrev h : (moment : ℕ) → History
-  h moment = taken.h o moment
+  h moment = traced.h o moment
 
   abbrev code : (moment : ℕ) → List ℕ
-  code moment = taken.code o moment
+  code moment = traced.code o moment
 
   made_later : (start : State) (steps : List Before) (n retries : ℕ) (s : State)
       → HasMade o.w o.run o.guest start steps n retries s → HasMade o.w o.run o.guest start steps (n + 1) retries s
@@ -36,7 +37,7 @@ module _ (o : Over) where
   -- a guest has run so far, and what its present try has found is known
   pub record Goes (start : State) (n : ℕ) : Type 0 where
     pub has : HasRun o.w o.run o.guest start n
-    pub traced : taken.Traced o n has.state has.now
+    pub traced : traced.Traced o n has.state has.now
 
   module _ (start : State) where
     module _ (n : ℕ) (goes : Goes start n) (event : Event) (comes : slice_get o.run n ≡ Some event) where
@@ -115,9 +116,9 @@ module _ (o : Over) where
             steps = has.steps;
             made = made_later start has.steps n has.retries has.state has.made;
           };
-          traced = taken.traced_later o n has.now has.state
+          traced = traced.traced_later o n has.now has.state
               (guest_ready (h n) (code n) has.retries has.state has.now has.shows)
-              (taken.shown_going o n has.retries has.state has.now has.shows) leaves goes.traced;
+              (traced.shown_going o n has.retries has.state has.now has.shows) leaves goes.traced;
         }
 
     goes_by : (n : ℕ) (next : Option Event) → slice_get o.run n ≡ next → Goes start n → Goes start (n + 1)

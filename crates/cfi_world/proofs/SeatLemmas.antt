@@ -1,41 +1,34 @@
 -- A seat after one access of its guest.
-use Rattle.std.proofs.Common.{◌≡◌, ◌≢◌, ℕ, ◌+◌, ◌-◌, ◌/◌, ◌≤◌, List, Option, Some, None, refl, sym, ◌∙◌, ap, subst, arith, ◌⊎◌, inl, inr}
-use Rattle.rv_insn.specs.InsnOf.{insn_of}
+use Rattle.std.proofs.Common.{◌≡◌, ◌≢◌, ℕ, ◌+◌, ◌-◌, ◌≤◌, List, Option, Some, None, refl, sym, ◌∙◌, ap, subst, arith, ◌⊎◌, inl, inr}
 use Rattle.cfi_unit.specs.declared.log.Stop.TheVariants.{Fuel}
-use Rattle.cfi_word.specs.Table.{Code, Tary, Bary}
-use Rattle.cfi_model.specs.declared.act.Wait.{Wait}
-use Rattle.cfi_model.specs.declared.act.Wait.TheVariants as waits
 use Rattle.cfi_model.specs.declared.quiet.Point.{Point}
-use Rattle.cfi_model.specs.declared.quiet.Point.TheVariants.{Outside, Found, Asking}
+use Rattle.cfi_model.specs.declared.quiet.Point.TheVariants.{Outside}
 use Rattle.cfi_model.specs.declared.quiet.Quiet.{Quiet}
-use Rattle.cfi_model.specs.declared.quiet.Quiet.TheVariants.{Unregistered, Published}
-use Rattle.cfi_model.specs.Begin.{begin_of}
-use Rattle.cfi_model.specs.InForce.{in_force, history_of, code_in_force, tary_index}
+use Rattle.cfi_model.specs.declared.quiet.Quiet.TheVariants.{Parked}
+use Rattle.cfi_model.specs.InForce.{in_force, history_of, code_in_force}
 use Rattle.cfi_model.specs.Fits.{Fits}
 use Rattle.cfi_model.specs.History.{History, IsEpoch, allows_at}
 use Rattle.cfi_model.specs.Log.{last_policy}
 use Rattle.cfi_model.specs.Raw.{Raw}
-use Rattle.cfi_model.specs.Run.{Take, Word, take_one, take_word, finish_as, finish_of}
+use Rattle.cfi_model.specs.Run.{Take, take_one}
 use Rattle.cfi_model.specs.Running.{IsRunning, EndsUnit}
 use Rattle.cfi_model.specs.Service.{Reply}
 use Rattle.cfi_model.specs.Shows.{end_of, reply_in}
 use Rattle.cfi_model.specs.State.{State}
 use Rattle.cfi_model.specs.Tables.{IsTables}
-use Rattle.cfi_model.specs.Words.{Tables, policy_in_force, word_at}
-use Rattle.cfi_model.proofs.AfterLemmas.{effect_logs, effect_unspent, begin_counts}
-use Rattle.cfi_model.proofs.BeginLemmas.{begin_keeps_bary}
+use Rattle.cfi_model.specs.Words.{Tables, policy_in_force}
+use Rattle.cfi_model.proofs.AfterLemmas.{effect_logs, effect_unspent}
 use Rattle.cfi_model.proofs.AdvanceLemmas.{Running, advance}
 use Rattle.cfi_model.proofs.EndLemmas.{effect_units}
-use Rattle.cfi_model.proofs.RunningLemmas.{rests_run, goes_on, running_is, running_shows, running_steps}
+use Rattle.cfi_model.proofs.RunningLemmas.{rests_run, goes_on, running_is, running_shows}
 use Rattle.cfi_model.proofs.ShownLemmas.{shows_running, shows_units, shown_log, shown_stop}
 use Rattle.cfi_model.proofs.TableLemmas.{force_policy}
 use Rattle.cfi_model.proofs.InForceLemmas.{history_is, force_within, later_rises, epoch_within}
 use Rattle.cfi_world.specs.Laws.{IsBrought, IsStepped}
 use Rattle.cfi_world.specs.Seats.{Seat, rested}
-use Rattle.cfi_world.specs.Worlds.{IsServing, IsQuietSince, IsKeptSince, QuietFits, FoundFits, FitsPoint, IsSeat, IsRunningSeat}
+use Rattle.cfi_world.specs.Worlds.{IsQuietSince, IsKeptSince, QuietFits, FitsPoint, IsSeat, IsRunningSeat}
 use Rattle.cfi_world.proofs.RestLemmas.{fuel_not, fuel_rests, going_runs, guest_rests, same_bary, same_pc, same_tary, same_log, came}
 use Rattle.cfi_world.proofs.TriesLemmas.{ended_counted}
-use Rattle.cfi_world.proofs.FitLemmas.{fetch_fits, bary_fits, bary_since, tary_fits}
 
 module _ (t : Tables) (is : IsTables t) where
   abbrev h : History
@@ -159,22 +152,18 @@ module _ (t : Tables) (is : IsTables t) where
     pub seated : AreSeated fuel guest new
     pub moves : Moves given both.running.retries both.running.shown s.guest new.guest seated.running.retries seated.running.shown
 
-  quiet_rests : (fuel guest : ℕ) (r new : Raw) (quiet : Quiet) → QuietFits t guest r quiet → r.base.stop ≡ None
-      → ((q : ℕ) → IsQuietSince t guest r q → (word : ℕ) → new.bary ≡ Some word → IsKeptSince t q word)
-      → QuietFits t guest (rested fuel new) quiet
-  quiet_rests fuel guest r new Unregistered fits going keeps = absurd (fits going)
-  quiet_rests fuel guest r new (Published q) fits going keeps = record {
-    published = fits.published;
-    newest = fits.newest;
-    next = fits.next;
-    kept = λ word e. keeps q fits word (sym (same_bary fuel new) ∙ e);
+  pub quiet_rests : (fuel guest : ℕ) (r new : Raw) (quiet : ℕ) (since : IsQuietSince t guest r quiet)
+      → ((word : ℕ) → new.bary ≡ Some word → IsKeptSince t since.floor word)
+      → IsQuietSince t guest (rested fuel new) quiet
+  quiet_rests fuel guest r new quiet since keeps = record {
+    published = since.published;
+    floor = since.floor;
+    least = since.least;
+    settled = since.settled;
+    newest = since.newest;
+    next = since.next;
+    kept = λ word e. keeps word (sym (same_bary fuel new) ∙ e);
   }
-
-  -- a guest that is in no service is in no quiescent point
-  point_rests : (r new : Raw) (point : Point) → FitsPoint t r point → (IsServing r.waits → ⊥) → FitsPoint t new point
-  point_rests r new Outside fits other = tt
-  point_rests r new (Found epoch) fits other = absurd (other fits.0)
-  point_rests r new Asking fits other = absurd (other (subst IsServing (sym fits.0) tt))
 
   -- what the rest leaves of a move
   moves_rest : (given : Option Reply) (retries : ℕ) (s : State) (r now : Raw) (fuel more : ℕ) (after : State)
@@ -196,22 +185,31 @@ module _ (t : Tables) (is : IsTables t) where
     fresh = λ going. same_tary fuel now ∙ stepped.fresh going;
   })
 
-  pub seat_moved : (given : Option Reply) (fuel guest : ℕ) (s : Seat) (both : AreSeated fuel guest s) → s.guest.base.stop ≡ None
-      → (take : Take)
-      → Fits h code s.guest take → FitsForce given take → (new : Raw) → new ≡ take_one s.guest take → new.base.steps ≤ fuel
-      → (quiet : Quiet) → QuietFits t guest (rested fuel new) quiet
-      → (point : Point) → FitsPoint t (rested fuel new) point → FoundFits quiet point
+  -- what an access makes of a guest
+  abbrev pub moved_on : (given : Option Reply) (fuel guest : ℕ) (s : Seat) (both : AreSeated fuel guest s)
+      → s.guest.base.stop ≡ None → (take : Take) → Fits h code s.guest take → FitsForce given take
+      → HasMoved given both.running.retries both.running.shown s.guest take
+  moved_on given fuel guest s both going take fits answer =
+      moved given both.running.retries both.running.shown s.guest
+      (going_runs h code both.running.retries both.running.shown s.guest both.running.runs going) both.seat.logged going
+      take fits answer
+
+  -- a guest that may fetch next
+  pub seat_moved : (given : Option Reply) (fuel guest : ℕ) (s : Seat) (both : AreSeated fuel guest s)
+      → s.guest.base.stop ≡ None → (take : Take) → Fits h code s.guest take → FitsForce given take → (new : Raw)
+      → new ≡ take_one s.guest take → new.base.steps ≤ fuel
+      → (quiet : Quiet) (point : Point) → FitsPoint t (rested fuel new) point
+      → QuietFits t guest (record { guest = rested fuel new; point = point; quiet = quiet }) quiet
       → HasGone given fuel guest s both (record { guest = rested fuel new; point = point; quiet = quiet })
-  seat_moved given fuel guest s both going take fits answer new is_new most quiet quiets point points found =
-      let runs = going_runs h code both.running.retries both.running.shown s.guest both.running.runs going in
-      let m = moved given both.running.retries both.running.shown s.guest runs both.seat.logged going take fits answer in
+  seat_moved given fuel guest s both going take fits answer new is_new most quiet point points quiets =
+      let m = moved_on given fuel guest s both going take fits answer in
       let left = fuel_rests fuel new most (subst (λ x. x.base.stop ≢ Some Fuel) (sym is_new) m.unspent)
       (subst (λ x. x.base.stop ≢ None → x.waits ≡ None) (sym is_new) m.idle) in
       record {
         seated = record {
           seat = record {
             steps_most = left.most;
-            steps_left = left.left;
+            steps_left = λ on idle outside. left.left on idle;
             stopped = left.stopped;
             point = points;
             logged = subst (λ l. last_policy l ≤ force) (sym (same_log fuel new))
@@ -224,77 +222,41 @@ module _ (t : Tables) (is : IsTables t) where
                 (subst (IsRunning h code m.more m.after) (sym is_new) m.runs);
             spent = left.spent;
             quiet = quiets;
-            found = found;
           };
         };
         moves = moves_rest given both.running.retries both.running.shown s.guest new fuel m.more m.after
             (subst (λ x. Moves given both.running.retries both.running.shown s.guest x m.more m.after) (sym is_new) m.moves);
       }
 
-  no_reply : (word : ℕ) → FitsForce None (Word word)
-  no_reply word = λ reply came. absurd (cc)
-
-  module _ (fuel guest : ℕ) (s : Seat) (both : AreSeated fuel guest s) (going : s.guest.base.stop ≡ None) where
-    abbrev r : Raw
-    r = s.guest
-
-    found_rests : (point : Point) → s.point ≡ point → (IsServing r.waits → ⊥) → FoundFits s.quiet point
-    found_rests Outside e other = tt
-    found_rests (Found epoch) e other = absurd (other (subst (FitsPoint t r) e both.seat.point).0)
-    found_rests Asking e other = tt
-
-    -- a fetch
-    pub fetched : r.waits ≡ None
-        → HasGone None fuel guest s both (record s { guest = rested fuel (begin_of r (word_at t (Code (r.base.pc / 4)))) })
-    fetched idle =
-        let word : ℕ = word_at t (Code (r.base.pc / 4)) in
-        let runs = going_runs h code both.running.retries both.running.shown r both.running.runs going in
-        let fits = fetch_fits t is both.running.retries both.running.shown r runs going idle in
-        let has =
-        running_steps h code (history_is t is) both.running.retries both.running.shown r runs idle word fits in
-        let steps = begin_counts r (insn_of word) has in
-        let few = both.seat.steps_left going idle in
-        let other : IsServing r.waits → ⊥ = λ serving. subst IsServing idle serving in
-        let new : Raw = begin_of r word in
-        seat_moved None fuel guest s both going (Word word) fits (no_reply word) new
-        (sym (ap (λ x. take_word x r word) idle)) (omega (arith, steps, few)) s.quiet
-        (quiet_rests fuel guest r new s.quiet both.running.quiet going
-        (λ q since found e. since.kept found (begin_keeps_bary r (insn_of word) found e)))
-        s.point (point_rests r (rested fuel new) s.point both.seat.point other) (found_rests s.point refl other)
-
-    -- a load of a table's word, with which the guest goes on
-    found_word : (wait : Wait) → (IsServing (Some wait) → ⊥) → r.waits ≡ Some wait → (word : ℕ)
-        → Fits h code r (Word word) → (finish_as (Some wait) r word).base.steps ≡ r.base.steps
-        → ((q : ℕ) → IsQuietSince t guest r q → (found : ℕ) → (finish_as (Some wait) r word).bary ≡ Some found
-        → IsKeptSince t q found)
-        → HasGone None fuel guest s both (record s { guest = rested fuel (finish_of r word) })
-    found_word wait no_service waits_is word fits steps keeps =
-        let new : Raw = finish_of r word in
-        let done : new ≡ finish_as (Some wait) r word = ap (λ x. finish_as x r word) waits_is in
-        let other : IsServing r.waits → ⊥ = λ serving. no_service (subst IsServing waits_is serving) in
-        seat_moved None fuel guest s both going (Word word) fits (no_reply word) new
-        (done ∙ sym (ap (λ x. take_word x r word) waits_is))
-        (subst (λ n. n ≤ fuel) (sym (ap (λ x. x.base.steps) done ∙ steps)) both.seat.steps_most) s.quiet
-        (quiet_rests fuel guest r new s.quiet both.running.quiet going
-        (λ q since found e. keeps q since found (sym (ap (λ x. x.bary) done) ∙ e)))
-        s.point (point_rests r (rested fuel new) s.point both.seat.point other) (found_rests s.point refl other)
-
-    same_word : (a b : ℕ) → Some a ≡ Some b → b ≡ a
-    same_word a b e = cc
-
-    pub found_bary : (slot rd : ℕ) → r.waits ≡ Some (waits.Bary slot rd)
-        → HasGone None fuel guest s both (record s { guest = rested fuel (finish_of r (word_at t (Bary slot))) })
-    found_bary slot rd waits_is =
-        let word : ℕ = word_at t (Bary slot) in
-        found_word (waits.Bary slot rd) (λ serving. serving) waits_is word (bary_fits t is r slot rd waits_is) refl
-        (λ q since found e.
-        subst (IsKeptSince t q) (sym (same_word word found e)) (bary_since t is guest r q slot since))
-
-    pub found_tary : (at rd : ℕ) → r.waits ≡ Some (waits.Tary at rd)
-        → HasGone None fuel guest s both
-        (record s { guest = rested fuel (finish_of r (word_at t (Tary (tary_index t.code_words at)))) })
-    found_tary at rd waits_is =
-        let word : ℕ = word_at t (Tary (tary_index t.code_words at)) in
-        found_word (waits.Tary at rd) (λ serving. serving) waits_is word
-        (tary_fits t is guest r s.quiet at rd both.running.quiet going both.seat.logged waits_is) refl
-        (λ q since found e. since.kept found e)
+  -- a guest inside a service, and one that has stopped in it
+  pub seat_stays : (given : Option Reply) (fuel guest : ℕ) (s : Seat) (both : AreSeated fuel guest s)
+      → s.guest.base.stop ≡ None → (take : Take) → Fits h code s.guest take → FitsForce given take → (new : Raw)
+      → new ≡ take_one s.guest take → new.base.steps ≤ fuel
+      → (point : Point) → FitsPoint t new point → (point ≢ Outside) ⊎ (new.base.stop ≢ None)
+      → HasGone given fuel guest s both (record { guest = new; point = point; quiet = Parked })
+  seat_stays given fuel guest s both going take fits answer new is_new most point points inside =
+      let m = moved_on given fuel guest s both going take fits answer in
+      record {
+        seated = record {
+          seat = record {
+            steps_most = most;
+            steps_left = λ on idle outside. absurd (never inside on outside);
+            stopped = subst (λ x. x.base.stop ≢ None → x.waits ≡ None) (sym is_new) m.idle;
+            point = points;
+            logged = subst (λ x. last_policy x.base.log ≤ force) (sym is_new) m.logged;
+          };
+          running = record {
+            retries = m.more;
+            shown = m.after;
+            runs = inl (subst (IsRunning h code m.more m.after) (sym is_new) m.runs);
+            spent = λ stop. absurd (subst (λ x. x.base.stop ≢ Some Fuel) (sym is_new) m.unspent stop);
+            quiet = inside;
+          };
+        };
+        moves = subst (λ x. Moves given both.running.retries both.running.shown s.guest x m.more m.after) (sym is_new)
+            m.moves;
+      }
+    where
+      never : (point ≢ Outside) ⊎ (new.base.stop ≢ None) → new.base.stop ≡ None → point ≡ Outside → ⊥
+      never (inl within) on outside = within outside
+      never (inr stopped) on outside = stopped on

@@ -6,16 +6,16 @@ use Rattle.std.proofs.lemmas.Option.{slice_get_within, slice_get-get_or, get_or_
 use Rattle.cfi_model.specs.declared.quiet.Point.{Point}
 use Rattle.cfi_model.specs.declared.quiet.Point.TheVariants.{Outside}
 use Rattle.cfi_model.specs.declared.quiet.Quiet.{Quiet}
-use Rattle.cfi_model.specs.declared.quiet.Quiet.TheVariants.{Unregistered, Published}
+use Rattle.cfi_model.specs.declared.quiet.Quiet.TheVariants.{Unregistered}
 use Rattle.cfi_model.specs.InForce.{GoesOn}
 use Rattle.cfi_model.specs.Raw.{Raw}
 use Rattle.cfi_model.specs.Tables.{IsTables}
 use Rattle.cfi_model.specs.Words.{Tables}
 use Rattle.cfi_model.specs.World.{World, quiet_of, point_of}
 use Rattle.cfi_world.specs.Seats.{Seat, seat_of, with_seat}
-use Rattle.cfi_world.specs.Worlds.{IsQuietSince, IsWorld, pending}
+use Rattle.cfi_world.specs.Worlds.{IsWorld, pending, settled_epoch}
 use Rattle.cfi_world.proofs.OthersLemmas.{set_apart}
-use Rattle.cfi_world.proofs.LaterLemmas.{IsAdmittedAt, seat_later}
+use Rattle.cfi_world.proofs.LaterLemmas.{Admits, seat_later}
 use Rattle.cfi_world.proofs.SeatLemmas.{AreSeated}
 
 -- the element at another place
@@ -45,15 +45,16 @@ module _ (w : World) (is : IsWorld w) (u : Tables) (later : IsTables u) (on : Go
   abbrev next : World
   next = record w { tables = u; updates = count }
 
-  abbrev pub Admits : Type 0
-  Admits = (guest : ℕ) (r : Raw) → slice_get w.guests guest ≡ Some r → (q : ℕ) → quiet_of w guest ≡ Published q
-      → IsQuietSince w.tables guest r q → IsAdmittedAt w.tables u is.tables later on guest q
+  abbrev pub AdmitsAll : Type 0
+  AdmitsAll = (guest : ℕ) (r : Raw) → slice_get w.guests guest ≡ Some r
+      → Admits w.tables u is.tables later on guest r (quiet_of w guest)
 
-  pub world_later : Admits → count ≤ w.room → length u.entries + pending u.asked ≤ count + 1 → IsWorld next
-  world_later admitted room few =
+  pub world_later : settled_epoch w.tables ≤ settled_epoch u → AdmitsAll → count ≤ w.room
+      → length u.entries + pending u.asked ≤ count + 1 → IsWorld next
+  world_later rises admitted room few =
       let seats : (guest : ℕ) (r : Raw) → slice_get w.guests guest ≡ Some r
       → AreSeated u later w.fuel guest (seat_of w guest r) = λ guest r e.
-      seat_later w.tables u is.tables later on w.fuel guest (seat_of w guest r) (admitted guest r e)
+      seat_later w.tables u is.tables later on w.fuel guest (seat_of w guest r) rises (admitted guest r e)
       (seated_in w is guest r e) in
       record {
         tables = later;

@@ -1,59 +1,42 @@
 -- The seat after an event within a service, and after an answer.
-use Rattle.std.proofs.Common.{◌≡◌, ◌≢◌, ℕ, ◌<◌, ◌≤◌, ◌==◌, ◌&&◌, nat_lt, Bool, true, false, cond, List, Option, Some, None, refl, sym, ◌∙◌, ap, subst, arith, rules, inl, inr}
+use Rattle.std.proofs.Common.{◌≡◌, ◌≢◌, ℕ, ◌<◌, ◌≤◌, ◌==◌, ◌&&◌, nat_lt, Bool, true, false, cond, is_some, List, Option, Some, None, refl, sym, ◌∙◌, ap, subst, arith, rules, inl, inr}
 use Rattle.std.specs.List.{All}
 use Rattle.std.proofs.lemmas.Bool.{eq-eqb}
 use Rattle.std.proofs.lemmas.List.Elements.{All-nil}
 use Rattle.std.proofs.lemmas.Option.{none-some}
 use Rattle.cfi_unit.specs.declared.log.Stop.{Stop}
-use Rattle.cfi_unit.specs.declared.unit.Unit.{Unit as CodeUnit}
-use Rattle.cfi_unit.specs.declared.unit.Unit.TheVariants as units
+use Rattle.cfi_unit.specs.declared.log.Stop.TheVariants.{Fuel}
+use Rattle.cfi_word.specs.Rank.{stores_of}
 use Rattle.cfi_word.specs.declared.limits.TheConstants.{MAX_OPENS}
 use Rattle.cfi_word.specs.declared.services.TheConstants.{OPEN, TOO_MANY}
 use Rattle.cfi_model.specs.declared.act.Wait.{Wait}
 use Rattle.cfi_model.specs.declared.act.Wait.TheVariants as waits
+use Rattle.cfi_model.specs.declared.history.Entry.{Entry}
 use Rattle.cfi_model.specs.declared.quiet.Point.{Point}
-use Rattle.cfi_model.specs.declared.quiet.Point.TheVariants.{Outside, Found, Asking}
-use Rattle.cfi_model.specs.declared.quiet.Quiet.{Quiet}
-use Rattle.cfi_model.specs.declared.quiet.Quiet.TheVariants.{Unregistered, Published}
+use Rattle.cfi_model.specs.declared.quiet.Point.TheVariants.{Outside, Asking, Leaving, Found}
+use Rattle.cfi_model.specs.declared.quiet.Quiet.TheVariants.{Parked, Published}
 use Rattle.cfi_model.specs.Data.{LiesInData}
 use Rattle.cfi_model.specs.InForce.{in_force, history_of, code_in_force}
 use Rattle.cfi_model.specs.Fits.{Fits, FitsReply, FitsOpen}
 use Rattle.cfi_model.specs.History.{History}
-use Rattle.cfi_model.specs.Log.{opens}
+use Rattle.cfi_model.specs.Log.{last_policy, opens}
 use Rattle.cfi_model.specs.Raw.{Raw}
 use Rattle.cfi_model.specs.Run.{Served, serve_as, serve_of}
 use Rattle.cfi_model.specs.Service.{Reply, too_many}
-use Rattle.cfi_model.specs.Shows.{Shows, MayWait, KeepsWords}
-use Rattle.cfi_model.specs.State.{State}
-use Rattle.cfi_model.specs.Tables.{IsTables}
+use Rattle.cfi_model.specs.Tables.{IsTables, MayBeAsked}
 use Rattle.cfi_model.specs.Words.{Tables, epoch_in_force, policy_in_force}
-use Rattle.cfi_model.proofs.InForceLemmas.{history_is, force_within}
-use Rattle.cfi_model.proofs.RunningLemmas.{running_shows}
+use Rattle.cfi_model.proofs.InForceLemmas.{force_within}
 use Rattle.cfi_model.proofs.TableLemmas.{force_policy}
-use Rattle.cfi_world.proofs.SeatLemmas.{AreSeated, HasGone, IsBroughtAt, FitsForce, seat_moved, fetched, found_bary, found_tary}
-use Rattle.cfi_world.proofs.RestLemmas.{going_runs, same_bary}
-use Rattle.cfi_world.specs.Seats.{Seat, rested, needs_answer, serves, seat_by, seat_after}
-use Rattle.cfi_world.specs.Worlds.{IsServing, QuietFits, IsAtMost, FoundFits, FitsPoint}
+use Rattle.cfi_world.specs.Seats.{Seat, rested, needs_answer, left_by, seat_by, seat_at, seat_after}
+use Rattle.cfi_world.specs.Worlds.{IsLeaving, IsQuietSince, QuietFits, FitsPoint, settled_epoch}
+use Rattle.cfi_world.proofs.ChoiceLemmas.{is_there, not_some}
+use Rattle.cfi_world.proofs.FetchLemmas.{fetched, found_bary, found_tary}
+use Rattle.cfi_world.proofs.ParkLemmas.{is_parked}
+use Rattle.cfi_world.proofs.RestLemmas.{fuel_rests, going_runs, guest_rests, same_bary, same_log}
+use Rattle.cfi_world.proofs.SeatLemmas.{AreSeated, HasGone, IsBroughtAt, FitsForce, seat_stays}
+use Rattle.cfi_world.proofs.SettledLemmas.{settled_near, settled_next, settled_reach}
 
 -- ---- a guest in a service
-
--- only a service waits in a service, and it keeps no table words
-keeps_none : (code_words number : ℕ) (unit : CodeUnit) (s : State) (bary tary : Option ℕ)
-    → MayWait code_words unit s (Some (waits.Service number)) → KeepsWords unit bary tary → bary ≡ None
-keeps_none code_words number (units.Plain insn) s bary tary may keeps = absurd may
-keeps_none code_words number (units.Load kind rd rs1 imm) s bary tary may keeps = absurd may
-keeps_none code_words number (units.Store kind rs1 rs2 imm) s bary tary may keeps = absurd may
-keeps_none code_words number (units.Branch c rs1 rs2 off) s bary tary may keeps = absurd may
-keeps_none code_words number (units.Jump link off) s bary tary may keeps = absurd may
-keeps_none code_words number (units.Check link rs1 imm slot) s bary tary may keeps = absurd may
-keeps_none code_words number units.Service s bary tary may keeps = keeps.0
-
-shown_keeps : (h : History) (code : List ℕ) (retries : ℕ) (s : State) (r : Raw) (number : ℕ)
-    → Shows h code retries s r → r.waits ≡ Some (waits.Service number) → r.bary ≡ None
-shown_keeps h code retries s r number (inl between) is =
-    absurd (none-some (waits.Service number) (sym between.idle ∙ is))
-shown_keeps h code retries s r number (inr inside) is =
-    keeps_none _ number inside.unit s r.bary r.tary (subst (MayWait _ inside.unit s) is inside.waits) inside.keeps
 
 -- a guest that waits has not stopped
 going_by : (o : Option Stop) (wait : Option Wait) (w : Wait) → (o ≢ None → wait ≡ None) → wait ≡ Some w → o ≡ None
@@ -97,55 +80,23 @@ module _ (t : Tables) (is : IsTables t) (fuel guest : ℕ) (s : Seat) (both : Ar
   abbrev r : Raw
   r = s.guest
 
-  keeps_no_word : (number : ℕ) → r.base.stop ≡ None → r.waits ≡ Some (waits.Service number) → r.bary ≡ None
-  keeps_no_word number going is_wait =
-      let runs = going_runs h code both.running.retries both.running.shown r both.running.runs going in
-      shown_keeps h code both.running.retries both.running.shown r number
-      (running_shows h code (history_is t is) both.running.retries both.running.shown r runs) is_wait
+  -- the answer with which a service ends fits
+  reply_fits : (number : ℕ) → r.waits ≡ Some (waits.Service number) → (reply : Reply)
+      → (number ≡ OPEN → FitsOpen reply r.base) → Fits h code r (Served reply)
+  reply_fits number is_wait reply fits = subst (λ w. FitsReply w r reply) (sym is_wait) fits
 
-  -- the service has ended with this answer
-  served : (given : Option Reply) (number : ℕ) → r.base.stop ≡ None → r.waits ≡ Some (waits.Service number)
-      → (reply : Reply) → (number ≡ OPEN → FitsOpen reply r.base) → IsBroughtAt t is given reply
-      → (quiet : Quiet) → ((new : Raw) → new.bary ≡ None → QuietFits t guest new quiet)
-      → HasGone t is given fuel guest s both
-      (record { guest = rested fuel (serve_of r reply); point = Outside; quiet = quiet })
-  served given number going is_wait reply fits brought quiet quiets =
-      let new : Raw = serve_of r reply in
-      let meets : Fits h code r (Served reply) = subst (λ w. FitsReply w r reply) (sym is_wait) fits in
-      let steps : new.base.steps ≡ r.base.steps = ap (λ w. (serve_as w r reply).base.steps) is_wait in
-      let none : new.bary ≡ None = ap (λ w. (serve_as w r reply).bary) is_wait in
-      seat_moved t is given fuel guest s both going (Served reply) meets (answers t is given reply brought) new refl
-      (subst (λ n. n ≤ fuel) (sym steps) both.seat.steps_most) quiet
-      (quiets (rested fuel new) (same_bary fuel new ∙ none)) Outside tt tt
+  -- what the end of a service leaves
+  served_steps : (number : ℕ) → r.waits ≡ Some (waits.Service number) → (reply : Reply)
+      → (serve_of r reply).base.steps ≤ fuel
+  served_steps number is_wait reply =
+      subst (λ n. n ≤ fuel) (sym (ap (λ w. (serve_as w r reply).base.steps) is_wait)) both.seat.steps_most
 
-  -- what it finds in EPOCH is not below what it has published
-  finds_force : (quiet : Quiet) → QuietFits t guest r quiet → IsAtMost quiet (epoch_in_force t)
-  finds_force Unregistered fits = tt
-  finds_force (Published q) fits = fits.published
-
-  -- without a kept word its last quiescent point stays as it is
-  quiet_kept : (quiet : Quiet) → QuietFits t guest r quiet → r.base.stop ≡ None → (new : Raw) → new.bary ≡ None
-      → QuietFits t guest new quiet
-  quiet_kept Unregistered fits going new none = absurd (fits going)
-  quiet_kept (Published q) fits going new none = record {
-    published = fits.published;
-    newest = fits.newest;
-    next = fits.next;
-    kept = λ word e. absurd (none-some word (sym none ∙ e));
-  }
-
-  -- the guest has published an epoch that it has found
-  published_fits : (epoch : ℕ) → r.base.stop ≡ None → (quiet : Quiet) → QuietFits t guest r quiet
-      → IsAtMost quiet epoch → epoch ≤ epoch_in_force t → (new : Raw) → new.bary ≡ None
-      → QuietFits t guest new (Published epoch)
-  published_fits epoch going Unregistered fits most low new none = absurd (fits going)
-  published_fits epoch going (Published q) fits most low new none = record {
-    published = low;
-    newest = omega (arith, fits.newest, most);
-    next = λ asked tested.
-        let before = fits.next asked tested in
-        omega (arith, before, most);
-    kept = λ word e. absurd (none-some word (sym none ∙ e));
+  leaves : (number : ℕ) → r.waits ≡ Some (waits.Service number) → (reply : Reply)
+      → (serve_of r reply).base.stop ≡ None → IsLeaving (serve_of r reply)
+  leaves number is_wait reply going = record {
+    going = going;
+    waits = ap (λ w. (serve_as w r reply).waits) is_wait;
+    bare = ap (λ w. (serve_as w r reply).bary) is_wait;
   }
 
   -- an open that needs no answer finds too many logged
@@ -163,16 +114,37 @@ module _ (t : Tables) (is : IsTables t) (fuel guest : ℕ) (s : Seat) (both : Ar
         exact = λ below. absurd (never_below (opens r.base.log) MAX_OPENS many below);
       }
 
-  -- the service ends, or needs an answer
-  publishes : (number epoch : ℕ) → r.base.stop ≡ None → r.waits ≡ Some (waits.Service number)
-      → IsAtMost s.quiet epoch → epoch ≤ epoch_in_force t → (need : Bool) → needs_answer number r ≡ need
+  -- the service's work is done, and the guest has stopped, or is to leave it
+  works : (number : ℕ) → r.base.stop ≡ None → r.waits ≡ Some (waits.Service number)
+      → needs_answer number r ≡ false → (stops : Bool) → is_some (serve_of r too_many).base.stop ≡ stops
       → HasGone t is None fuel guest s both (record {
-        guest = cond need r (rested fuel (serve_of r too_many));
-        point = cond need Asking Outside;
-        quiet = Published epoch;
+        guest = serve_of r too_many;
+        point = cond stops Outside Leaving;
+        quiet = Parked;
       })
-  publishes number epoch going is_wait most low true needs =
-      let none = keeps_no_word number going is_wait in
+  works number going is_wait needs true stops =
+      seat_stays t is None fuel guest s both going (Served too_many)
+      (reply_fits number is_wait too_many (finds_many number needs))
+      (answers t is None too_many (record { brings = refl; force = λ free. absurd (never_free free) }))
+      (serve_of r too_many) refl (served_steps number is_wait too_many) Outside tt
+      (inr (is_there (serve_of r too_many).base.stop stops))
+  works number going is_wait needs false stops =
+      seat_stays t is None fuel guest s both going (Served too_many)
+      (reply_fits number is_wait too_many (finds_many number needs))
+      (answers t is None too_many (record { brings = refl; force = λ free. absurd (never_free free) }))
+      (serve_of r too_many) refl (served_steps number is_wait too_many) Leaving
+      (leaves number is_wait too_many (not_some (serve_of r too_many).base.stop stops))
+      (inl (λ e. absurd (cc)))
+
+  -- the guest parks, and the service's work is done or needs an answer
+  parks : (number : ℕ) → r.base.stop ≡ None → r.waits ≡ Some (waits.Service number)
+      → (need : Bool) → needs_answer number r ≡ need
+      → HasGone t is None fuel guest s both (record {
+        guest = cond need r (serve_of r too_many);
+        point = cond need Asking (left_by (serve_of r too_many));
+        quiet = Parked;
+      })
+  parks number going is_wait true needs =
       let parts = needs_both (number == OPEN) _ needs in
       let opens_it : number ≡ OPEN = (let test : (number == OPEN) ≡ true = parts.0 in search (rules, arith)) in
       let few : opens r.base.log < MAX_OPENS =
@@ -181,7 +153,7 @@ module _ (t : Tables) (is : IsTables t) (fuel guest : ℕ) (s : Seat) (both : Ar
         seated = record {
           seat = record {
             steps_most = both.seat.steps_most;
-            steps_left = both.seat.steps_left;
+            steps_left = λ on idle outside. absurd (cc);
             stopped = both.seat.stopped;
             point = (is_wait ∙ ap (λ n. Some (waits.Service n)) opens_it, few);
             logged = both.seat.logged;
@@ -191,26 +163,35 @@ module _ (t : Tables) (is : IsTables t) (fuel guest : ℕ) (s : Seat) (both : Ar
             shown = both.running.shown;
             runs = both.running.runs;
             spent = both.running.spent;
-            quiet = published_fits epoch going s.quiet both.running.quiet most low r none;
-            found = tt;
+            quiet = inl (λ e. absurd (cc));
           };
         };
         moves = inl (refl, refl);
       }
-  publishes number epoch going is_wait most low false needs =
-      served None number going is_wait too_many (finds_many number needs)
-      (record { brings = refl; force = λ free. absurd (never_free free) }) (Published epoch) (λ new none. published_fits epoch going s.quiet both.running.quiet most low new none)
+  parks number going is_wait false needs =
+      works number going is_wait needs (is_some (serve_of r too_many).base.stop) refl
 
-  -- an event in a service
-  serves_on : (number : ℕ) → r.base.stop ≡ None → r.waits ≡ Some (waits.Service number) → (point : Point)
-      → s.point ≡ point → HasGone t is None fuel guest s both (serves point t fuel number s)
-  serves_on number going is_wait Outside is_point = record {
+  -- every event of a guest that is in no service
+  after_by : (wait : Option Wait) → r.waits ≡ wait → r.base.stop ≡ None → s.point ≡ Outside
+      → HasGone t is None fuel guest s both (seat_by wait t fuel s)
+  after_by None is_wait going outside = fetched t is fuel guest s both going outside is_wait
+  after_by (Some (waits.Tary at rd)) is_wait going outside =
+      found_tary t is fuel guest s both going outside at rd is_wait
+  after_by (Some (waits.Bary slot rd)) is_wait going outside =
+      found_bary t is fuel guest s both going outside slot rd is_wait
+  after_by (Some (waits.Service number)) is_wait going outside =
+      parks number going is_wait (needs_answer number r) refl
+
+  -- a parked guest that stays so
+  stays_parked : (point : Point) → point ≢ Outside → FitsPoint t r point → s.quiet ≡ Parked
+      → HasGone t is None fuel guest s both (record s { point = point })
+  stays_parked point inside fits parked = record {
     seated = record {
       seat = record {
         steps_most = both.seat.steps_most;
-        steps_left = both.seat.steps_left;
+        steps_left = λ on idle outside. absurd (inside outside);
         stopped = both.seat.stopped;
-        point = (subst IsServing (sym is_wait) tt, omega arith);
+        point = fits;
         logged = both.seat.logged;
       };
       running = record {
@@ -218,41 +199,88 @@ module _ (t : Tables) (is : IsTables t) (fuel guest : ℕ) (s : Seat) (both : Ar
         shown = both.running.shown;
         runs = both.running.runs;
         spent = both.running.spent;
-        quiet = both.running.quiet;
-        found = finds_force s.quiet both.running.quiet;
+        quiet = subst (QuietFits t guest (record s { point = point })) (sym parked) (inl inside);
       };
     };
     moves = inl (refl, refl);
   }
-  serves_on number going is_wait (Found epoch) is_point =
-      let point = subst (FitsPoint t r) is_point both.seat.point in
-      let most = subst (FoundFits s.quiet) is_point both.running.found in
-      publishes number epoch going is_wait most point.1
-      (needs_answer number r) refl
-  serves_on number going is_wait Asking is_point = record { seated = both; moves = inl (refl, refl) }
+
+  -- what a guest publishes, which keeps no Bary word
+  published_since : (epoch : ℕ) → epoch ≤ epoch_in_force t → (new : Raw) → new.bary ≡ None
+      → IsQuietSince t guest new epoch
+  published_since epoch low new none = record {
+    published = low;
+    floor = settled_epoch t;
+    least = omega (arith, low, settled_near t is);
+    settled = omega arith;
+    newest = settled_reach t is;
+    next = λ asked tested. settled_next t is (asked_idle t.asked asked is.asked_fits);
+    kept = λ word e. absurd (none-some word (sym none ∙ e));
+  }
+    where
+      asked_idle : (asked : Option Entry) → asked ≢ None → MayBeAsked t asked → stores_of t.code_words ≤ t.stored
+      asked_idle None some may = absurd (some refl)
+      asked_idle (Some entry) some may = omega (arith, may.idle)
+
+  -- the store that ends the service
+  publishes : (epoch : ℕ) → IsLeaving r → epoch ≤ epoch_in_force t
+      → HasGone t is None fuel guest s both
+      (record { guest = rested fuel r; point = Outside; quiet = Published epoch })
+  publishes epoch leaving low =
+      let left = fuel_rests fuel r both.seat.steps_most (λ stop. absurd (none-some Fuel (sym leaving.going ∙ stop)))
+      (λ stops. leaving.waits) in
+      let runs = going_runs h code both.running.retries both.running.shown r both.running.runs leaving.going in
+      record {
+        seated = record {
+          seat = record {
+            steps_most = left.most;
+            steps_left = λ on idle outside. left.left on idle;
+            stopped = left.stopped;
+            point = tt;
+            logged = subst (λ l. last_policy l ≤ policy_in_force t) (sym (same_log fuel r)) both.seat.logged;
+          };
+          running = record {
+            retries = both.running.retries;
+            shown = both.running.shown;
+            runs = guest_rests h code both.running.retries both.running.shown fuel r runs;
+            spent = left.spent;
+            quiet = (refl, published_since epoch low (rested fuel r) (same_bary fuel r ∙ leaving.bare));
+          };
+        };
+        moves = inl (refl, refl);
+      }
 
   -- every event of a guest that has not stopped
-  after_by : (wait : Option Wait) → r.waits ≡ wait → r.base.stop ≡ None
-      → HasGone t is None fuel guest s both (seat_by wait t fuel s)
-  after_by None is_wait going =
-      fetched t is fuel guest s both going is_wait
-  after_by (Some (waits.Tary at rd)) is_wait going = found_tary t is fuel guest s both going at rd is_wait
-  after_by (Some (waits.Bary slot rd)) is_wait going = found_bary t is fuel guest s both going slot rd is_wait
-  after_by (Some (waits.Service number)) is_wait going = serves_on number going is_wait s.point refl
+  at_by : (point : Point) → s.point ≡ point → r.base.stop ≡ None
+      → HasGone t is None fuel guest s both (seat_at point t fuel s)
+  at_by Outside is_point going = after_by r.waits refl going is_point
+  at_by Asking is_point going = record { seated = both; moves = inl (refl, refl) }
+  at_by Leaving is_point going =
+      let fits = subst (FitsPoint t r) is_point both.seat.point in
+      stays_parked (Found (epoch_in_force t)) (λ e. absurd (cc)) (fits, omega arith)
+      (is_parked t guest s s.quiet both.running.quiet going (λ e. absurd (cc)))
+  at_by (Found epoch) is_point going =
+      let fits = subst (FitsPoint t r) is_point both.seat.point in
+      publishes epoch fits.0 fits.1
 
   pub seat_goes : r.base.stop ≡ None → HasGone t is None fuel guest s both (seat_after t fuel s)
-  seat_goes going = after_by r.waits refl going
+  seat_goes going = at_by s.point refl going
 
   -- the answer to its open
   pub answered : s.point ≡ Asking → (reply : Reply) → reply.policy ≡ policy_in_force t → reply.cause ≢ TOO_MANY
       → All LiesInData reply.fills
       → HasGone t is (Some reply) fuel guest s both
-      (record s { guest = rested fuel (serve_of r reply); point = Outside })
+      (record s { guest = serve_of r reply; point = Leaving })
   answered is_point reply policy some inside =
       let point = subst (FitsPoint t r) is_point both.seat.point in
       let going = going_by r.base.stop r.waits (waits.Service OPEN) both.seat.stopped point.0 in
       let most = is.policies_fit (in_force t) (force_within t is) in
-      served (Some reply) OPEN going point.0 reply
+      let parked = is_parked t guest s s.quiet both.running.quiet going (λ e. absurd (cc)) in
+      let stop : (serve_of r reply).base.stop ≡ None = ap (λ w. (serve_as w r reply).base.stop) point.0 ∙ going in
+      subst (λ quiet. HasGone t is (Some reply) fuel guest s both
+      (record { guest = serve_of r reply; point = Leaving; quiet = quiet })) (sym parked)
+      (seat_stays t is (Some reply) fuel guest s both going (Served reply)
+      (reply_fits OPEN point.0 reply
       (λ opens_it. record {
         answer = record {
           inside = inside;
@@ -261,5 +289,7 @@ module _ (t : Tables) (is : IsTables t) (fuel guest : ℕ) (s : Seat) (both : Ar
           most = λ free. omega (arith, policy, force_policy t is, most);
         };
         exact = λ below. some;
-      }) (record { brings = refl; force = λ free. omega (arith, policy) }) s.quiet
-      (λ new none. quiet_kept s.quiet both.running.quiet going new none)
+      }))
+      (answers t is (Some reply) reply (record { brings = refl; force = λ free. omega (arith, policy) }))
+      (serve_of r reply) refl (served_steps OPEN point.0 reply) Leaving (leaves OPEN point.0 reply stop)
+      (inl (λ e. absurd (cc))))

@@ -1,41 +1,33 @@
 -- Each turn of a world is an event on what is shared.
-use Rattle.std.proofs.Common.{◌≡◌, ◌≢◌, ℕ, ◌+◌, ◌<◌, ◌==◌, ◌&&◌, ◌||◌, nat_lt, cond, Bool, true, false, [], ◌∷◌, ◌++◌, length, slice_get, slice_set, is_some, Option, Some, None, refl, sym, ap, subst, ◌∙◌, arith}
-use Rattle.std.proofs.lemmas.Option.{slice_get_within}
+use Rattle.std.proofs.Common.{◌≡◌, ◌≢◌, ℕ, ◌+◌, ◌==◌, nat_lt, cond, Bool, true, false, [], ◌∷◌, ◌++◌, slice_get, Option, Some, None, refl, sym, ap, subst, ◌∙◌, arith}
 use Rattle.cfi_word.specs.declared.lists.Image.{Image}
 use Rattle.cfi_word.specs.declared.limits.TheConstants.{GUESTS, MAX_EPOCH}
 use Rattle.cfi_word.specs.Table.{Place, IsPlace}
 use Rattle.cfi_word.specs.Table as places
-use Rattle.cfi_model.specs.declared.act.Wait.{Wait}
-use Rattle.cfi_model.specs.declared.act.Wait.TheVariants as waits
 use Rattle.cfi_model.specs.declared.history.Entry.{Entry}
 use Rattle.cfi_model.specs.declared.phase.Phase.{Phase}
 use Rattle.cfi_model.specs.declared.phase.Phase.TheVariants as phases
-use Rattle.cfi_model.specs.declared.quiet.Point.{Point}
-use Rattle.cfi_model.specs.declared.quiet.Point.TheVariants.{Outside, Found, Asking}
 use Rattle.cfi_model.specs.declared.quiet.Quiet.{Quiet}
-use Rattle.cfi_model.specs.declared.quiet.Quiet.TheVariants.{Unregistered, Published}
+use Rattle.cfi_model.specs.declared.quiet.Quiet.TheVariants.{Unregistered, Parked, Published}
 use Rattle.cfi_model.specs.Phases.{phase_after, phase_by, phase_of}
 use Rattle.cfi_model.specs.Quiet.{admits, quiet_word_of}
-use Rattle.cfi_model.specs.Raw.{Raw}
-use Rattle.cfi_model.specs.Service.{Reply}
-use Rattle.cfi_model.specs.SharedEvents.{Past, SharedEvent, AreSame, Makes, MakesPublish, IsSet, past_passed}
+use Rattle.cfi_model.specs.SharedEvents.{Past, SharedEvent, AreSame, Makes, MakesPark, MakesPublish, IsSet, past_passed}
 use Rattle.cfi_model.specs.SharedEvents as shared
 use Rattle.cfi_model.specs.Tables.{IsAsked, MayBeAsked}
 use Rattle.cfi_model.specs.Words.{Tables, HasStore, epoch_in_force, newest, next_epoch, rank_at, word_of_entry}
-use Rattle.cfi_model.specs.World.{World, point_of, quiet_of, shared_word}
+use Rattle.cfi_model.specs.World.{World, quiet_of, shared_word}
 use Rattle.cfi_model.proofs.PhaseLemmas.{IsRow, phase_row}
-use Rattle.cfi_world.specs.Seats.{is_asking, seat_after, seat_by, seat_of, serves, with_seat}
-use Rattle.cfi_world.specs.SharedTurns.{MakesIf, event_in, guest_event, passed_event, refused_event, release_event, service_event, shared_in, tested_in, update_event, wait_event}
-use Rattle.cfi_world.specs.Turns.{answer_turn, answered, begin_turn, did, guest_turn, is_registered, nothing, refused, release_turn, reply_in, seated, turn_of, update_turn}
+use Rattle.cfi_world.specs.SharedTurns.{MakesIf, event_in, passed_event, refused_event, shared_in, tested_in, update_event}
+use Rattle.cfi_world.specs.Turns.{begin_turn, did, nothing, refused, reply_in, turn_of, update_turn}
 use Rattle.cfi_world.specs.Updates.{at_store, begun, is_idle, passed_by, stored}
-use Rattle.cfi_world.specs.Worlds.{FitsPoint, FoundFits, IsWorld, QuietFits}
+use Rattle.cfi_world.specs.Worlds.{IsWorld}
 use Rattle.cfi_world.specs.declared.event.Event.{Event}
 use Rattle.cfi_world.specs.declared.event.Event.TheVariants as events
 use Rattle.cfi_world.specs.declared.event.Turned.TheVariants.{EpochsSpent}
-use Rattle.cfi_world.proofs.ChoiceLemmas.{both_hold, neither, not_some, set_again}
 use Rattle.cfi_world.proofs.SkipLemmas.{begins_stay, rank_most, same_rank, store_new, store_stays, word_new, word_old}
 use Rattle.cfi_world.proofs.StoringLemmas.{idle_is}
-use Rattle.cfi_world.proofs.SharedWords.{quiet_set, same_by, some_word, word_is, words_by}
+use Rattle.cfi_world.proofs.SharedGuests as guests
+use Rattle.cfi_world.proofs.SharedWords.{same_by, word_is, words_by}
 
 module _ (w : World) (is : IsWorld w) where
   abbrev t : Tables
@@ -43,109 +35,6 @@ module _ (w : World) (is : IsWorld w) where
 
   stays : AreSame (shared_in w) (shared_in w)
   stays = same_by w w refl refl
-
-  -- ---- a guest
-
-  module _ (guest : ℕ) (r : Raw) (here : slice_get w.guests guest ≡ Some r) where
-    inside : guest < length w.guests
-    inside = slice_get_within w.guests guest r here
-
-    -- a seat with the QUIET word that it had
-    same_seat : slice_set w.quiets guest (quiet_of w guest) ≡ w.quiets
-    same_seat = set_again w.quiets guest Unregistered
-
-    publishes : (epoch number : ℕ) (quiet : Quiet) → QuietFits t guest r quiet → FoundFits quiet (Found epoch)
-        → FitsPoint t r (Found epoch) → quiet_of w guest ≡ quiet → r.base.stop ≡ None
-        → MakesPublish guest epoch (shared_in w) (shared_in (with_seat w guest
-        (serves (Found epoch) t w.fuel number (seat_of w guest r))))
-    publishes epoch number Unregistered fits found point same going = absurd (fits going)
-    publishes epoch number (Published quiet) fits found point same going =
-        let word : shared_word w (places.Quiet guest) ≡ quiet + 1 = ap quiet_word_of same in
-        record {
-          registered = λ none. absurd (omega (arith, none, word));
-          later = omega (arith, word, found);
-          most = point.1;
-          set = quiet_set w (with_seat w guest (serves (Found epoch) t w.fuel number (seat_of w guest r))) guest
-              (Published epoch) is inside refl refl;
-        }
-
-    serves_by : (number : ℕ) (point : Point) → point_of w guest ≡ point → r.base.stop ≡ None
-        → MakesIf (service_event w guest point) (shared_in w)
-        (shared_in (with_seat w guest (serves point t w.fuel number (seat_of w guest r))))
-    serves_by number Outside point going = record {
-      is = refl;
-      same = same_by w (with_seat w guest (serves Outside t w.fuel number (seat_of w guest r))) refl same_seat;
-    }
-    serves_by number (Found epoch) point going =
-        let seat = is.seats guest r here in
-        let running = is.running guest r here in
-        publishes epoch number (quiet_of w guest) running.quiet
-        (subst (FoundFits (quiet_of w guest)) point running.found) (subst (FitsPoint t r) point seat.point) refl going
-    serves_by number Asking point going =
-        same_by w (with_seat w guest (serves Asking t w.fuel number (seat_of w guest r))) refl same_seat
-
-    waits_by : (wait : Option Wait) → r.base.stop ≡ None
-        → MakesIf (wait_event w guest r wait) (shared_in w)
-        (shared_in (with_seat w guest (seat_by wait t w.fuel (seat_of w guest r))))
-    waits_by None going = record {
-      is = refl;
-      same = same_by w (with_seat w guest (seat_by None t w.fuel (seat_of w guest r))) refl same_seat;
-    }
-    waits_by (Some (waits.Tary at rd)) going = record {
-      is = refl;
-      same = same_by w (with_seat w guest (seat_by (Some (waits.Tary at rd)) t w.fuel (seat_of w guest r))) refl
-          same_seat;
-    }
-    waits_by (Some (waits.Bary slot rd)) going = record {
-      is = refl;
-      same = same_by w (with_seat w guest (seat_by (Some (waits.Bary slot rd)) t w.fuel (seat_of w guest r))) refl
-          same_seat;
-    }
-    waits_by (Some (waits.Service number)) going = serves_by number (point_of w guest) refl going
-
-    guest_by : (still : Bool) → is_some r.base.stop || is_asking (point_of w guest) ≡ still
-        → MakesIf (cond still None (wait_event w guest r r.waits)) (shared_in w)
-        (shared_in (cond still (nothing w) (seated w guest (seat_after t w.fuel (seat_of w guest r)))).world)
-    guest_by true e = stays
-    guest_by false e =
-        waits_by r.waits (not_some r.base.stop (neither (is_some r.base.stop) (is_asking (point_of w guest)) e).0)
-
-    release_by : (may : Bool)
-        → is_some r.base.stop && (is_registered (quiet_of w guest) && is_idle (phase_of t)) ≡ may
-        → MakesIf (cond may (Some (shared.Leave guest)) None) (shared_in w)
-        (shared_in (cond may (did (record w { quiets = slice_set w.quiets guest Unregistered })) (nothing w)).world)
-    release_by false e = stays
-    release_by true e =
-        let both = both_hold (is_registered (quiet_of w guest)) (is_idle (phase_of t))
-        (both_hold (is_some r.base.stop) _ e).1 in
-        record {
-          registered = some_word (quiet_of w guest) both.0;
-          set = quiet_set w (record w { quiets = slice_set w.quiets guest Unregistered }) guest Unregistered is inside
-              refl refl;
-        }
-
-  guest_makes : (guest : ℕ) (o : Option Raw) → slice_get w.guests guest ≡ o
-      → MakesIf (guest_event w guest o) (shared_in w) (shared_in (guest_turn w guest o).world)
-  guest_makes guest None here = stays
-  guest_makes guest (Some r) here =
-      guest_by guest r here (is_some r.base.stop || is_asking (point_of w guest)) refl
-
-  release_makes : (guest : ℕ) (o : Option Raw) → slice_get w.guests guest ≡ o
-      → MakesIf (release_event w guest o) (shared_in w) (shared_in (release_turn w guest o).world)
-  release_makes guest None here = stays
-  release_makes guest (Some r) here =
-      release_by guest r here
-      (is_some r.base.stop && (is_registered (quiet_of w guest) && is_idle (phase_of t))) refl
-
-  answer_makes : (guest : ℕ) (reply : Reply) (o : Option Raw)
-      → AreSame (shared_in w) (shared_in (answer_turn w guest reply o).world)
-  answer_makes guest reply None = stays
-  answer_makes guest reply (Some r) = by (is_asking (point_of w guest))
-    where
-      by : (asks : Bool)
-          → AreSame (shared_in w) (shared_in (cond asks (did (answered w guest reply r)) (nothing w)).world)
-      by true = same_by w (answered w guest reply r) refl refl
-      by false = stays
 
   -- ---- the updater
 
@@ -265,6 +154,7 @@ module _ (w : World) (is : IsWorld w) where
     refuses : (quiet : Quiet) → quiet_of w t.tested ≡ quiet → admits t.versions (next_epoch t) quiet ≡ false
         → MakesIf (refused_event w t.tested quiet) (shared_in w) (shared_in (refused w t.tested quiet).world)
     refuses Unregistered same spent = stays
+    refuses Parked same spent = stays
     refuses (Published quiet) same spent = record {
       turn = sym tested_is;
       within = asks.guest;
@@ -293,8 +183,8 @@ module _ (w : World) (is : IsWorld w) where
       tests_by entry asked (admits t.versions (next_epoch t) (quiet_of w t.tested)) refl
 
   pub turn_makes : (event : Event) → MakesIf (event_in w event) (shared_in w) (shared_in (turn_of w event).world)
-  turn_makes (events.Guest guest) = guest_makes guest (slice_get w.guests guest) refl
+  turn_makes (events.Guest guest) = guests.guest_makes w is guest (slice_get w.guests guest) refl
   turn_makes (events.Begin image) = begin_makes image
   turn_makes events.Update = update_by t.asked refl
-  turn_makes (events.Answer guest answer) = answer_makes guest (reply_in answer) (slice_get w.guests guest)
-  turn_makes (events.Release guest) = release_makes guest (slice_get w.guests guest) refl
+  turn_makes (events.Answer guest answer) = guests.answer_makes w is guest (reply_in answer) (slice_get w.guests guest)
+  turn_makes (events.Release guest) = guests.release_makes w is guest (slice_get w.guests guest) refl

@@ -4,7 +4,7 @@ use Rattle.std.proofs.lemmas.List.{get_or-set_other, get_or-set_same}
 use Rattle.cfi_word.specs.Table.{Place, IsPlace}
 use Rattle.cfi_word.specs.Table as places
 use Rattle.cfi_model.specs.declared.quiet.Quiet.{Quiet}
-use Rattle.cfi_model.specs.declared.quiet.Quiet.TheVariants.{Unregistered, Published}
+use Rattle.cfi_model.specs.declared.quiet.Quiet.TheVariants.{Unregistered, Parked, Published}
 use Rattle.cfi_model.specs.Quiet.{quiet_word_of}
 use Rattle.cfi_model.specs.SharedEvents.{AreSame, IsSet}
 use Rattle.cfi_model.specs.Words.{Tables, HasStore, word_at}
@@ -66,4 +66,5 @@ quiet_set w v guest quiet is inside tables quiets = record {
 
 pub some_word : (quiet : Quiet) → is_registered quiet ≡ true → quiet_word_of quiet ≢ 0
 some_word Unregistered e = absurd (cc)
+some_word Parked e = λ none. absurd (omega (arith, none))
 some_word (Published epoch) e = λ none. absurd (omega (arith, none))

@@ -1,5 +1,5 @@
 -- A guest at a moment of a run, when its own event comes: what its check has found then.
-use Rattle.std.proofs.Common.{◌≡◌, ℕ, ℤ, ◌+◌, ◌/◌, Bool, true, is_some, List, slice_get, Some, None, ◌⊎◌, inl, inr, refl, sym, ap, ◌∙◌, subst, arith}
+use Rattle.std.proofs.Common.{◌≡◌, ℕ, ℤ, ◌+◌, ◌/◌, Bool, true, List, slice_get, Some, None, ◌⊎◌, inl, inr, refl, sym, ap, ◌∙◌, subst, arith}
 use Rattle.std.proofs.lemmas.Bool.{cases_eq}
 use Rattle.std.proofs.lemmas.Option.{none-some}
 use Rattle.cfi_unit.proofs.CodeLemmas.{BeginsAt-one}
@@ -9,7 +9,7 @@ use Rattle.cfi_model.specs.declared.act.Wait.TheVariants as waits
 use Rattle.cfi_model.specs.Effect.{is_in_code}
 use Rattle.cfi_model.specs.Fits.{Fits}
 use Rattle.cfi_model.specs.History.{History, IsHistory, allows_at}
-use Rattle.cfi_model.specs.InForce.{history_of, code_in_force}
+use Rattle.cfi_model.specs.declared.quiet.Point.TheVariants.{Outside}
 use Rattle.cfi_model.specs.Raw.{Raw}
 use Rattle.cfi_model.specs.Run.{Word}
 use Rattle.cfi_model.specs.Running.{IsGuest, IsRunning}
@@ -23,78 +23,50 @@ use Rattle.cfi_model.proofs.CheckPlaces as check
 use Rattle.cfi_model.proofs.CheckWalk.{check_begins}
 use Rattle.cfi_model.proofs.EndLemmas.{effect_units}
 use Rattle.cfi_model.proofs.FetchLemmas.{first_place}
-use Rattle.cfi_model.proofs.InForceLemmas.{history_is}
 use Rattle.cfi_model.proofs.LawLemmas.{At, Begun}
 use Rattle.cfi_model.proofs.RunningLemmas.{running_is, running_shows}
-use Rattle.cfi_model.proofs.ShownLemmas.{shown_stop, shows_running, shows_units}
-use Rattle.cfi_world.specs.Laws.{MayTurns}
-use Rattle.cfi_world.specs.Moments.{ComesFor, LeavesTry, world_at}
-use Rattle.cfi_world.specs.Seats.{rested, is_asking}
+use Rattle.cfi_model.proofs.ShownLemmas.{shows_running, shows_units}
+use Rattle.cfi_world.specs.Moments.{ComesFor}
+use Rattle.cfi_world.specs.Seats.{rested}
 use Rattle.cfi_world.specs.Turns.{reply_in, turn_of}
-use Rattle.cfi_world.specs.Worlds.{IsServing, IsWorld}
+use Rattle.cfi_world.specs.Worlds.{IsWorld}
 use Rattle.cfi_world.specs.declared.event.Event.{Event}
 use Rattle.cfi_world.specs.declared.event.Event.TheVariants as events
-use Rattle.cfi_world.proofs.ChoiceLemmas.{neither, not_some}
-use Rattle.cfi_world.proofs.MomentLemmas.{next_on, next_world, world_is}
+use Rattle.cfi_world.proofs.MomentLemmas.{next_world}
 use Rattle.cfi_world.proofs.OthersLemmas.{others_stay}
-use Rattle.cfi_world.proofs.OwnLemmas.{after_own, answer_leaves, own_event, own_fits, taken, word_for}
+use Rattle.cfi_world.proofs.OwnLemmas.{Left, Rested, Took, answer_leaves, own_fits, own_is, taken, word_for}
+use Rattle.cfi_world.proofs.ParkLemmas.{IsServing}
 use Rattle.cfi_world.proofs.RestLemmas.{going_runs}
-use Rattle.cfi_world.proofs.TraceLemmas.{HasBoth, HoldsTry, found_in, found_is, holds_later, holds_next}
+use Rattle.cfi_world.proofs.TraceLemmas.{HasBoth, HoldsTry, found_in, found_is, holds_next}
 use Rattle.cfi_world.proofs.WithinLemmas.{stands_in_check}
-use Rattle.cfi_world.proofs.GuestLemmas.{guest_units, no_check, serving_by, stands_before}
-
--- a run of events, and a guest
-pub record Over : Type 0 where
-  pub w : World
-  pub is : IsWorld w
-  pub run : List Event
-  pub may : MayTurns w run
-  pub guest : ℕ
+use Rattle.cfi_world.proofs.GuestLemmas.{guest_units, no_check, serving_by}
+use Rattle.cfi_world.proofs.TracedLemmas as traced
+use Rattle.cfi_world.proofs.TracedLemmas.{Over}
 
 module _ (o : Over) where
   abbrev guest : ℕ
   guest = o.guest
 
-  abbrev pub at : (moment : ℕ) → World
-  at moment = world_at o.w o.run moment
+  abbrev at : (moment : ℕ) → World
+  at moment = traced.at o moment
 
-  pub at_is : (moment : ℕ) → IsWorld (at moment)
-  at_is moment = world_is o.w o.is o.run o.may moment
+  abbrev tables : (moment : ℕ) → Tables
+  tables moment = traced.tables o moment
 
-  abbrev pub tables : (moment : ℕ) → Tables
-  tables moment = (at moment).tables
+  abbrev h : (moment : ℕ) → History
+  h moment = traced.h o moment
 
-  abbrev pub h : (moment : ℕ) → History
-  h moment = history_of (tables moment)
+  abbrev code : (moment : ℕ) → List ℕ
+  code moment = traced.code o moment
 
-  abbrev pub code : (moment : ℕ) → List ℕ
-  code moment = code_in_force (tables moment)
+  abbrev Traced : (now : ℕ) → State → Raw → Type 0
+  Traced now s r = traced.Traced o now s r
 
-  pub known : (moment : ℕ) → IsHistory (h moment) (code moment)
-  known moment = history_is (tables moment) (at_is moment).tables
+  known : (moment : ℕ) → IsHistory (h moment) (code moment)
+  known moment = traced.known o moment
 
-  -- what holds of the words that the guest's check has found, if it is in one
-  abbrev pub Traced : (now : ℕ) → State → Raw → Type 0
-  Traced now s r =
-      r.base.stop ≡ None → (link : Bool) (rs1 : ℕ) (imm : ℤ) (slot : ℕ)
-      → Stands (code now) s.pc (units.Check link rs1 imm slot)
-      → HoldsTry o.w o.run guest (found_in s r) now slot (displaced (register s rs1) imm) r.bary r.tary
-
-  -- a guest that has not stopped shows a state that has not
-  pub shown_going : (m k : ℕ) (p : State) (x : Raw) → IsGuest (h m) (code m) k p x → x.base.stop ≡ None → p.stop ≡ None
-  shown_going m k p x guest_is goes =
-      let runs = going_runs (h m) (code m) k p x guest_is goes in
-      sym (shown_stop (h m) (code m) k p x (running_shows (h m) (code m) (known m) k p x runs)) ∙ goes
-
-  -- an event that leaves the guest
-  pub traced_later : (n : ℕ) (r : Raw) (s : State) → IsReady (h n) s → (r.base.stop ≡ None → s.stop ≡ None)
-      → LeavesTry o.w o.run guest n → Traced n s r → Traced (n + 1) s r
-  traced_later n r s ready going leaves traced goes link rs1 imm slot stands =
-      let on = next_on o.w o.is o.run o.may n (slice_get o.run n) refl in
-      let before = stands_before (tables n) (tables (n + 1)) (at_is n).tables (at_is (n + 1)).tables on s ready
-      (going goes) (units.Check link rs1 imm slot) stands in
-      holds_later o.w o.run guest (found_in s r) n slot (displaced (register s rs1) imm) r.bary r.tary leaves
-      (traced goes link rs1 imm slot before)
+  at_is : (moment : ℕ) → IsWorld (at moment)
+  at_is moment = traced.at_is o moment
 
   -- the guest at a moment, and the event that comes
   pub record Here (n : ℕ) : Type 0 where
@@ -128,36 +100,42 @@ module _ (o : Over) where
     abbrev pub next : Raw
     next = taken (at n) guest r x.there
 
-    abbrev pub Takes : Event → Type 0
-    Takes e =
-        (e ≡ events.Guest guest) × (r.base.stop ≡ None)
-        × (slice_get (turn_of (at n) e).world.guests guest ≡ Some (rested (at n).fuel next))
+    pub record Takes (e : Event) : Type 0 where
+      pub own : e ≡ events.Guest guest
+      pub going : r.base.stop ≡ None
+      pub outside : point_of (at n) guest ≡ Outside
+      pub after : slice_get (turn_of (at n) e).world.guests guest ≡ Some (rested (at n).fuel next)
+
+    -- or stops it at most
+    abbrev pub Leaves : Event → Type 0
+    Leaves e =
+        (slice_get (turn_of (at n) e).world.guests guest ≡ Some r)
+        ⊎ (slice_get (turn_of (at n) e).world.guests guest ≡ Some (rested (at n).fuel r))
 
     abbrev pub LeavesOrTakes : Event → Type 0
-    LeavesOrTakes e = (slice_get (turn_of (at n) e).world.guests guest ≡ Some r) ⊎ Takes e
+    LeavesOrTakes e = Leaves e ⊎ Takes e
 
     own_takes : (IsServing r.waits → ⊥) → LeavesOrTakes (events.Guest guest)
-    own_takes quiet = elim (own_event (at n) guest r x.there) [
-      | inl stays ↦ inl stays
-      | inr goes ↦
-          let going = not_some r.base.stop
-          (neither (is_some r.base.stop) (is_asking (point_of (at n) guest)) goes.0).0 in
-          inr (refl, going, after_own (at n) guest r x.there (at_is n) going quiet)
+    own_takes quiet = elim (own_is (at n) guest r x.there (at_is n) quiet) [
+      | Left stays ↦ inl (inl stays)
+      | Rested rests ↦ inl (inr rests)
+      | Took takes ↦
+          inr (record { own = refl; going = takes.going; outside = takes.outside; after = takes.after })
     ]
 
     pub takes_by : (e : Event) → (IsServing r.waits → ⊥) → LeavesOrTakes e
     takes_by (events.Guest other) quiet = elim (cases_eq other guest) [
-      | inr apart ↦ inl (others_stay (at n) (events.Guest other) guest apart ∙ x.there)
+      | inr apart ↦ inl (inl (others_stay (at n) (events.Guest other) guest apart ∙ x.there))
       | inl own ↦ subst (λ k. LeavesOrTakes (events.Guest k)) (sym own) (own_takes quiet)
     ]
-    takes_by (events.Begin image) quiet = inl (others_stay (at n) (events.Begin image) guest tt ∙ x.there)
-    takes_by events.Update quiet = inl (others_stay (at n) events.Update guest tt ∙ x.there)
+    takes_by (events.Begin image) quiet = inl (inl (others_stay (at n) (events.Begin image) guest tt ∙ x.there))
+    takes_by events.Update quiet = inl (inl (others_stay (at n) events.Update guest tt ∙ x.there))
     takes_by (events.Answer other answer) quiet = elim (cases_eq other guest) [
-      | inr apart ↦ inl (others_stay (at n) (events.Answer other answer) guest apart ∙ x.there)
+      | inr apart ↦ inl (inl (others_stay (at n) (events.Answer other answer) guest apart ∙ x.there))
       | inl own ↦ subst (λ k. LeavesOrTakes (events.Answer k answer)) (sym own)
-          (inl (answer_leaves (at n) guest r x.there (at_is n) quiet (reply_in answer)))
+          (inl (inl (answer_leaves (at n) guest r x.there (at_is n) quiet (reply_in answer))))
     ]
-    takes_by (events.Release other) quiet = inl (others_stay (at n) (events.Release other) guest tt ∙ x.there)
+    takes_by (events.Release other) quiet = inl (inl (others_stay (at n) (events.Release other) guest tt ∙ x.there))
 
     -- a guest that shows a state has its units
     pub units_now : r.base.units ≡ s.units
@@ -179,7 +157,7 @@ module _ (o : Over) where
 
     -- ---- the guest takes a word
 
-    module _ (own : x.event ≡ events.Guest guest) (going : r.base.stop ≡ None) (quiet : IsServing r.waits → ⊥)
+    module _ (takes : Takes x.event) (quiet : IsServing r.waits → ⊥)
         (link : Bool) (rs1 : ℕ) (imm : ℤ) (slot : ℕ) (stands : Stands (code n) s.pc (units.Check link rs1 imm slot))
       where
         abbrev word : ℕ
@@ -189,16 +167,23 @@ module _ (o : Over) where
         target = displaced (register s rs1) imm
 
         runs : IsRunning (h n) (code n) retries s r
-        runs = going_runs (h n) (code n) retries s r x.shows going
+        runs = going_runs (h n) (code n) retries s r x.shows takes.going
 
         running : Running (h n) (code n) s retries r
         running = running_is (h n) (code n) (known n) retries s r runs
 
         fits : Fits (h n) (code n) r (Word word)
-        fits = own_fits (at n) guest r x.there (at_is n) going retries s runs quiet
+        fits = own_fits (at n) guest r x.there (at_is n) takes.going takes.outside retries s runs quiet
 
         comes_now : ComesFor o.w o.run guest r.waits n
-        comes_now = record { event = x.comes ∙ ap Some own; r = r; there = x.there; going = going; waits = refl }
+        comes_now = record {
+          event = x.comes ∙ ap Some takes.own;
+          r = r;
+          there = x.there;
+          going = takes.going;
+          outside = takes.outside;
+          waits = refl;
+        }
 
         -- it begins the check, or goes on in it, or ends it with a try that has found both words
         abbrev Begins : Type 0
@@ -245,7 +230,7 @@ module _ (o : Over) where
             let now = goes.now in
             let before = subst (λ f. HoldsTry o.w o.run guest f n slot target r.bary r.tary)
             (found_here (retries + begun.more) begun.values begun.place r begun.is)
-            (x.traced going link rs1 imm slot stands) in
+            (x.traced takes.going link rs1 imm slot stands) in
             subst (λ f. HoldsTry o.w o.run guest f (n + 1) slot target next.bary next.tary)
             (sym (found_here (retries + now.more) now.values now.place next now.is))
             (holds_next o.w o.run guest n r comes_now word slot target
@@ -293,7 +278,7 @@ module _ (o : Over) where
               | inr stops ↦
                   subst (λ f. HoldsTry o.w o.run guest f n slot target r.bary r.tary)
                   (found_here (retries + both.1.more) both.1.values both.1.place r both.1.is ∙ stops.tried inside)
-                  (x.traced going link rs1 imm slot stands)
+                  (x.traced takes.going link rs1 imm slot stands)
             ]
 
         pub both_found : s.stop ≡ None → next.base.units ≡ s.units + 1 → is_in_code target ≡ true

@@ -15,7 +15,7 @@ use Rattle.cfi_model.proofs.AdvanceLemmas.{Running}
 use Rattle.cfi_model.proofs.CheckPlaces.{CheckPlace, Aimed, Split, Far, Trying, Pointed, AskedBary, FoundBary, Tabled, Added, AskedTary, FoundTary, Differed, Compared, Lowered, Refused, Allowed, Values, check_raw}
 use Rattle.cfi_model.proofs.LawLemmas.{At, Begun}
 use Rattle.cfi_model.proofs.MaskedLemmas as masked
-use Rattle.cfi_world.specs.Worlds.{IsServing}
+use Rattle.cfi_world.proofs.ParkLemmas.{IsServing}
 
 -- a guest that is within a check
 pub record InCheck (h : History) (code : List ℕ) (p : State) (retries : ℕ) (r : Raw) : Type 0 where

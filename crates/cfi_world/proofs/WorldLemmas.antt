@@ -7,9 +7,9 @@ use Rattle.cfi_word.specs.declared.limits.TheConstants.{GUESTS, MAX_EPOCH}
 use Rattle.cfi_model.specs.declared.history.Entry.{Entry}
 use Rattle.cfi_model.specs.declared.phase.Phase.{Phase}
 use Rattle.cfi_model.specs.declared.phase.Phase.TheVariants as phases
-use Rattle.cfi_model.specs.declared.quiet.Point.TheVariants.{Outside}
+use Rattle.cfi_model.specs.declared.quiet.Point.TheVariants.{Outside, Leaving}
 use Rattle.cfi_model.specs.declared.quiet.Quiet.{Quiet}
-use Rattle.cfi_model.specs.declared.quiet.Quiet.TheVariants.{Unregistered, Published}
+use Rattle.cfi_model.specs.declared.quiet.Quiet.TheVariants.{Unregistered, Parked, Published}
 use Rattle.cfi_model.specs.Phases.{phase_after, phase_by, phase_of}
 use Rattle.cfi_model.specs.Quiet.{admits}
 use Rattle.cfi_model.specs.Raw.{Raw}
@@ -19,7 +19,7 @@ use Rattle.cfi_model.specs.Words.{Tables, next_epoch, epoch_in_force}
 use Rattle.cfi_model.specs.World.{World, quiet_of, point_of}
 use Rattle.cfi_world.specs.Laws.{MayTurns, world_after}
 use Rattle.cfi_world.specs.Premises.{HasRoom, MayAnswer, MayTurn}
-use Rattle.cfi_world.specs.Seats.{Seat, seat_of, with_seat, seat_after, rested, is_asking}
+use Rattle.cfi_world.specs.Seats.{Seat, seat_of, with_seat, seat_after, is_asking}
 use Rattle.cfi_world.specs.Turns.{did, guest_turn, begin_turn, tested_turn, refused, update_turn, answered, answer_turn, is_registered, release_turn, reply_in, turn_of}
 use Rattle.cfi_world.specs.Updates.{is_idle, begun, dropped, at_store, passed_by, stored}
 use Rattle.cfi_world.specs.Worlds.{IsQuietSince, IsWorld, pending}
@@ -31,7 +31,8 @@ use Rattle.cfi_world.proofs.ServiceLemmas as service
 use Rattle.cfi_world.proofs.UpdateLemmas.{begun_is, begun_on, dropped_is, dropped_on, stored_is, stored_on, tested_is, tested_on, begins_is, begins_on, one_more}
 use Rattle.cfi_world.proofs.StoringLemmas.{is_storing, idle_is, storing_is}
 use Rattle.cfi_world.proofs.SeatedLemmas.{seated_in, world_later, world_seated}
-use Rattle.cfi_world.proofs.ChoiceLemmas.{asked_some, asks_it, begins_or, both_hold, did_or, is_there, neither, not_last, not_some, nothing_found, row_none, set_again, set_there, spent_not, world_of}
+use Rattle.cfi_world.proofs.SettledLemmas.{settled_rises}
+use Rattle.cfi_world.proofs.ChoiceLemmas.{asked_some, asks_it, begins_or, both_hold, did_or, is_there, neither, not_last, not_some, row_none, set_again, set_there, spent_not, world_of}
 
 module _ (w : World) (is : IsWorld w) where
   -- a guest's
@@ -56,7 +57,7 @@ module _ (w : World) (is : IsWorld w) where
       let left : epoch_in_force t ≢ MAX_EPOCH = λ e. spent_not (epoch_in_force t) e spent in
       let later = begun_is t is.tables image rests may.may left in
       let none : pending t.asked ≡ 0 = ap pending rests.asked in
-      world_later w is (begun image t) later (begun_on t is.tables image) (w.updates + 1)
+      world_later w is (begun image t) later (begun_on t is.tables image) (w.updates + 1) (omega arith)
       (λ guest r e q published since. record {
         newest = since.newest;
         next = λ asked less. absurd (omega (arith, less));
@@ -78,22 +79,25 @@ module _ (w : World) (is : IsWorld w) where
       let most : epoch ≤ q + versions - 2 = search (rules, arith) in
       omega (arith, most, some)
 
-  admits_by : (versions epoch : ℕ) (quiet : Quiet) (q : ℕ) → quiet ≡ Published q → 3 ≤ versions
+  pub admits_by : (versions epoch : ℕ) (quiet : Quiet) (q : ℕ) → quiet ≡ Published q → 3 ≤ versions
       → admits versions epoch quiet ≡ true → epoch + 2 ≤ q + versions
   admits_by versions epoch Unregistered q published some e = absurd (cc)
+  admits_by versions epoch Parked q published some e = absurd (cc)
   admits_by versions epoch (Published p) q published some e =
       let same : p ≡ q = cc in
       lets_by versions epoch q some (subst (λ n. nat_le epoch (n + versions - 2) ≡ true) same e)
 
   -- each guest that has been tested, and the one that is tested now, lets the update come
   let_through : (entry : Entry) → LetsOn entry → (guest : ℕ) (r : Raw) (q : ℕ) → quiet_of w guest ≡ Published q
-      → IsQuietSince w.tables guest r q → guest ≤ w.tables.tested → next_epoch w.tables + 2 ≤ q + w.tables.versions
+      → (since : IsQuietSince w.tables guest r q) → guest ≤ w.tables.tested
+      → next_epoch w.tables + 1 ≤ since.floor + w.tables.versions
   let_through entry lets guest r q published since most = elim (cases_lt guest w.tables.tested) [
     | inl before ↦ since.next (asked_some lets.asked) before
     | inr past ↦
         let same : guest ≡ w.tables.tested = omega (arith, most, past) in
-        admits_by w.tables.versions (next_epoch w.tables) (quiet_of w w.tables.tested) q
-        (subst (λ g. quiet_of w g ≡ Published q) same published) is.tables.versions_least lets.admits_it
+        let low = admits_by w.tables.versions (next_epoch w.tables) (quiet_of w w.tables.tested) q
+        (subst (λ g. quiet_of w g ≡ Published q) same published) is.tables.versions_least lets.admits_it in
+        omega (arith, low, since.least)
   ]
 
   passed_kept : (entry : Entry) → LetsOn entry → (more : Bool) → nat_lt (w.tables.tested + 1) GUESTS ≡ more
@@ -108,7 +112,7 @@ module _ (w : World) (is : IsWorld w) where
       let less : t.tested + 1 < GUESTS = search (rules, arith) in
       let u : Tables = record t { tested = t.tested + 1 } in
       world_later w is u (tested_is t is.tables entry lets.asked less)
-      (tested_on t is.tables entry lets.asked) w.updates
+      (tested_on t is.tables entry lets.asked) w.updates (omega arith)
       (λ guest r e q published since. record {
         newest = since.newest;
         next = λ asked before. let_through entry lets guest r q published since (omega (arith, before));
@@ -121,7 +125,9 @@ module _ (w : World) (is : IsWorld w) where
       let last : GUESTS ≤ t.tested + 1 = search (rules, arith) in
       let longer = one_more t is.tables entry lets.asked in
       let one : pending t.asked ≡ 1 = ap pending lets.asked in
+      let more : next_epoch t < next_epoch u = omega (arith, longer) in
       world_later w is u (begins_is t is.tables entry lets.asked) (begins_on t is.tables entry lets.asked) w.updates
+      (settled_rises t u refl (λ some. inl more) (omega (arith, more)))
       (λ guest r e q published since. record {
         newest =
             let inside = slice_get_within w.guests guest r e in
@@ -140,8 +146,10 @@ module _ (w : World) (is : IsWorld w) where
 
   pub refused_kept : (guest : ℕ) (quiet : Quiet) → IsWorld (refused w guest quiet).world
   refused_kept guest Unregistered = is
+  refused_kept guest Parked = is
   refused_kept guest (Published quiet) =
       world_later w is (dropped w.tables) (dropped_is w.tables is.tables) (dropped_on w.tables is.tables) w.updates
+      (omega arith)
       (λ other r e q published since. record { newest = since.newest; next = λ asked before. absurd (asked refl) })
       is.room (omega (arith, is.entries_few))
 
@@ -157,6 +165,7 @@ module _ (w : World) (is : IsWorld w) where
       let storing = storing_is w.tables e in
       let none : pending w.tables.asked ≡ 0 = ap pending storing.asked in
       world_later w is (stored w.tables) (stored_is w.tables is.tables storing) (stored_on w.tables is.tables) w.updates
+      (settled_rises w.tables (stored w.tables) refl (λ some. inr (omega arith)) (omega arith))
       (λ guest r here q published since. record {
         newest = since.newest;
         next = λ asked before. absurd (asked storing.asked);
@@ -186,7 +195,7 @@ module _ (w : World) (is : IsWorld w) where
   answer_by guest reply may r here false e = is
   answer_by guest reply may r here true e =
       let s : Seat = seat_of w guest r in
-      let new : Seat = record s { guest = rested w.fuel (serve_of r reply); point = Outside } in
+      let new : Seat = record s { guest = serve_of r reply; point = Leaving } in
       let both = service.answered w.tables is.tables w.fuel guest s (seated_in w is guest r here)
       (asks_it (point_of w guest) e) reply may.policy may.few may.inside in
       let same = set_again w.quiets guest Unregistered in
@@ -217,7 +226,6 @@ module _ (w : World) (is : IsWorld w) where
           runs = before.running.runs;
           spent = before.running.spent;
           quiet = stops;
-          found = nothing_found (point_of w guest);
         };
       } in
       let guests : slice_set w.guests guest r ≡ w.guests = set_there w.guests guest r here in

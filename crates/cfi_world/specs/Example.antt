@@ -46,13 +46,16 @@ last_answers = EpochsSpent ∷ EpochsSpent ∷ Nothing ∷ []
 abbrev pub unloaded : Event
 unloaded = Answer 0 (record { address = 0; cause = 10; policy = 0; fills = record { now = []; ref_ptr = (0, 0) } })
 
--- guest 0 opens module 0 in vain, and its fuel stops it; guest 1 has no event, and there is no guest 2
+-- guest 0 opens module 0 in vain, leaves that service, and its fuel stops it; guest 1 has no event, and there is no
+-- guest 2
 abbrev pub guest_events : List Event
 guest_events =
-    Guest 2 ∷ Guest 0 ∷ Guest 0 ∷ Guest 0 ∷ Guest 0 ∷ Guest 0 ∷ unloaded ∷ unloaded ∷ Guest 0 ∷ Guest 0 ∷ Release 1 ∷ []
+    Guest 2 ∷ Guest 0 ∷ Guest 0 ∷ Guest 0 ∷ Guest 0 ∷ unloaded ∷ unloaded ∷ Guest 0 ∷ Guest 0 ∷ Guest 0 ∷ Guest 0
+    ∷ Release 1 ∷ []
 
 abbrev pub guest_answers : List Turned
-guest_answers = Nothing ∷ Did ∷ Did ∷ Did ∷ Asks 0 0 ∷ Nothing ∷ Did ∷ Nothing ∷ Did ∷ Nothing ∷ Nothing ∷ []
+guest_answers =
+    Nothing ∷ Did ∷ Did ∷ Asks 0 0 ∷ Nothing ∷ Did ∷ Nothing ∷ Did ∷ Did ∷ Did ∷ Nothing ∷ Nothing ∷ []
 
 -- a refresh tests all guests, and stores each word but those of the code; no other update begins, and no guest is
 -- released, while it is under way

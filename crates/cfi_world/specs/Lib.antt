@@ -7,6 +7,7 @@ pub mod Worlds
 pub mod Counts
 pub mod Laws
 pub mod Moments
+pub mod Bounds
 pub mod Checks
 pub mod Steps
 pub mod Outcomes

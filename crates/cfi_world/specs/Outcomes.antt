@@ -1,20 +1,20 @@
 -- When each answer comes.
-use Rattle.std.specs.Prelude.{◌≡◌, ◌≢◌, ℕ, ◌+◌, ◌-◌, ◌<◌, ◌≤◌, ◌⊎◌, true, List, length, slice_get, Some, None}
+use Rattle.std.specs.Prelude.{◌≡◌, ◌≢◌, ℕ, ◌+◌, ◌-◌, ◌<◌, ◌≤◌, ◌⊎◌, List, length, slice_get, Some, None}
 use Rattle.cfi_word.specs.declared.limits.TheConstants.{MAX_OPENS}
 use Rattle.cfi_word.specs.declared.services.TheConstants.{OPEN}
 use Rattle.cfi_model.specs.declared.act.Wait.TheVariants as waits
+use Rattle.cfi_model.specs.declared.phase.Phase.{Phase}
 use Rattle.cfi_model.specs.declared.phase.Phase.TheVariants as phases
-use Rattle.cfi_model.specs.declared.quiet.Point.TheVariants.{Asking, Found}
+use Rattle.cfi_model.specs.declared.quiet.Point.TheVariants.{Outside, Asking}
 use Rattle.cfi_model.specs.declared.quiet.Quiet.TheVariants.{Unregistered, Published}
 use Rattle.cfi_model.specs.Log.{opens}
 use Rattle.cfi_model.specs.Phases.{phase_of}
-use Rattle.cfi_model.specs.Quiet.{admits}
 use Rattle.cfi_model.specs.Raw.{Raw}
 use Rattle.cfi_model.specs.Service.{argument}
 use Rattle.cfi_model.specs.Words.{next_epoch}
 use Rattle.cfi_model.specs.World.{World, point_of, quiet_of}
 use Rattle.cfi_world.specs.Laws.{MayTurns, world_after}
-use Rattle.cfi_world.specs.Moments.{world_at}
+use Rattle.cfi_world.specs.Moments.{PassesAt, world_at}
 use Rattle.cfi_world.specs.Worlds.{IsWorld}
 use Rattle.cfi_world.specs.declared.event.Event.{Event}
 use Rattle.cfi_world.specs.declared.event.Event.TheVariants as events
@@ -58,18 +58,32 @@ PublishesNoneAbove =
     (moment : ℕ) → moment ≤ length run →
     (epoch : ℕ) → quiet_of (world_at w run moment) guest ≡ Published epoch → epoch ≤ quiet
 
-abbrev pub IsLeast : World → (guest : ℕ) → Type 0
-IsLeast w guest =
-    (other : ℕ) (r : Raw) → slice_get w.guests other ≡ Some r → other < guest →
-    admits w.tables.versions (next_epoch w.tables) (quiet_of w other) ≡ true
+-- a test is past the guest of the number
+abbrev pub IsTestPast : (guest : ℕ) → Phase → Type 0
+IsTestPast guest (phases.Testing other) = guest < other
+IsTestPast guest _ = ⊥
 
--- a guest stores in its QUIET word, in an open that may be logged: it waits for the answer
+-- in a run the test of an update has passed the QUIET word of the guest, and is under way ever since
+pub record HasLet (w : World) (run : List Event) (guest : ℕ) : Type 0 where
+  pub moment : ℕ
+  pub epoch : ℕ
+  pub passes : PassesAt w run guest epoch moment
+  pub since : (later : ℕ) → moment < later → later ≤ length run
+      → IsTestPast guest (phase_of (world_at w run later).tables)
+
+-- where the update that a guest refuses began in the run, the words of all lesser guests have let it go on
+abbrev pub TheLeastRefuses : Type 0
+TheLeastRefuses =
+    (w : World) → IsWorld w → phase_of w.tables ≡ phases.Idle → (run : List Event) → MayTurns w run →
+    (guest quiet : ℕ) → IsRefusal (world_after w run) guest quiet →
+    (other : ℕ) → other < guest → HasLet w run other
+
+-- a guest parks, in an open that may be logged: it waits for the answer
 pub record IsOpening (w : World) (guest number : ℕ) : Type 0 where
   pub r : Raw
   pub there : slice_get w.guests guest ≡ Some r
   pub going : r.base.stop ≡ None
   pub opens_is : r.waits ≡ Some (waits.Service OPEN)
   pub few : opens r.base.log < MAX_OPENS
-  pub epoch : ℕ
-  pub found : point_of w guest ≡ Found epoch
+  pub outside : point_of w guest ≡ Outside
   pub asks : number ≡ argument r.base

@@ -77,9 +77,9 @@ more_image = record {
 abbrev pub call_guests : List Raw
 call_guests = raw_opened 0 (4 * FIRST_BASE) [] ∷ []
 
--- room for three updates, and fuel for a hundred instructions
+-- room for four updates, and fuel for a hundred instructions
 abbrev pub call_world : (versions : ℕ) → World
-call_world versions = opened_world MIN_CODE_WORDS versions 0 call_image call_guests 3 100
+call_world versions = opened_world MIN_CODE_WORDS versions 0 call_image call_guests 4 100
 
 -- so many events of the guest: the first eight end with the load of its slot's word, the next eight with the branch back
 -- to its second try
@@ -114,7 +114,7 @@ abbrev pub refused_events : List Event
 refused_events = Begin None ∷ Update ∷ []
 
 abbrev pub refresh_events : List Event
-refresh_events = goes to_bary ++ (refresh ++ (refused_events ++ (goes 33 ++ (refresh ++ goes 4))))
+refresh_events = goes to_bary ++ (refresh ++ (refused_events ++ (goes 34 ++ (refresh ++ goes 3))))
 
 abbrev pub all_did : (count : ℕ) → List Turned
 all_did count = replicate count Did
@@ -122,7 +122,28 @@ all_did count = replicate count Did
 abbrev pub refresh_answers : List Turned
 refresh_answers =
     all_did (to_bary + (1 + refresh_count) + 1)
-    ++ (VersionsSpent 0 0 ∷ all_did (33 + (1 + refresh_count) + 4))
+    ++ (VersionsSpent 0 0 ∷ all_did (34 + (1 + refresh_count) + 3))
+
+-- after the one that is refused the guest parks in a service, and two refreshes follow; it then leaves and ends
+abbrev pub parked_events : List Event
+parked_events =
+    goes to_bary ++ (refresh ++ (refused_events ++ (goes 32 ++ (refresh ++ (refresh ++ goes 5)))))
+
+abbrev pub parked_answers : List Turned
+parked_answers =
+    all_did (to_bary + (1 + refresh_count) + 1)
+    ++ (VersionsSpent 0 0 ∷ all_did (32 + 2 * (1 + refresh_count) + 5))
+
+-- two refreshes come between the guest's load of EPOCH in its service and its store of what it has found; the next one
+-- is refused for that
+abbrev pub found_events : List Event
+found_events =
+    goes to_bary ++ (refresh ++ (goes 33 ++ (refresh ++ (refresh ++ (goes 1 ++ (refused_events ++ goes 3))))))
+
+abbrev pub found_answers : List Turned
+found_answers =
+    all_did (to_bary + (1 + refresh_count) + 33 + 2 * (1 + refresh_count) + 2)
+    ++ (VersionsSpent 0 1 ∷ all_did 3)
 
 -- what a guest has come to
 pub record Ending : Type 0 where

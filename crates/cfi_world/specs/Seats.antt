@@ -1,15 +1,15 @@
--- A guest's seat in a world: the guest, how far it is in a quiescent point, and what its QUIET word tells. An event of
+-- A guest's seat in a world: the guest, how far it is in a service, and what its QUIET word tells. An event of
 -- the guest is one load or store of a shared word, with the private work up to the next one.
-use Rattle.std.specs.Prelude.{ℕ, ◌/◌, ◌==◌, nat_lt, ◌&&◌, Bool, true, false, is_none, if◌then◌else◌, slice_set, Option, Some, None}
+use Rattle.std.specs.Prelude.{ℕ, ◌/◌, ◌==◌, nat_lt, ◌&&◌, Bool, true, false, is_none, is_some, if◌then◌else◌, slice_set, Option, Some, None}
 use Rattle.cfi_word.specs.declared.limits.TheConstants.{MAX_OPENS}
 use Rattle.cfi_word.specs.declared.services.TheConstants.{OPEN}
 use Rattle.cfi_word.specs.Table.{Code, Tary, Bary}
 use Rattle.cfi_model.specs.declared.act.Wait.{Wait}
 use Rattle.cfi_model.specs.declared.act.Wait.TheVariants as waits
 use Rattle.cfi_model.specs.declared.quiet.Point.{Point}
-use Rattle.cfi_model.specs.declared.quiet.Point.TheVariants.{Outside, Found, Asking}
+use Rattle.cfi_model.specs.declared.quiet.Point.TheVariants.{Outside, Asking, Leaving, Found}
 use Rattle.cfi_model.specs.declared.quiet.Quiet.{Quiet}
-use Rattle.cfi_model.specs.declared.quiet.Quiet.TheVariants.{Published}
+use Rattle.cfi_model.specs.declared.quiet.Quiet.TheVariants.{Parked, Published}
 use Rattle.cfi_model.specs.Begin.{begin_of}
 use Rattle.cfi_model.specs.Log.{opens}
 use Rattle.cfi_model.specs.Raw.{Raw}
@@ -51,31 +51,42 @@ loads (Some (waits.Service number)) t r = r
 abbrev pub needs_answer : (number : ℕ) → Raw → Bool
 needs_answer number r = (number == OPEN) && nat_lt (opens r.base.log) MAX_OPENS
 
--- a service begins with a quiescent point: a load of EPOCH, then a store in the guest's QUIET word, with which the
--- service ends or the guest waits for its answer
-abbrev pub serves : Point → Tables → (fuel number : ℕ) → Seat → Seat
-serves Outside t fuel number s = record s { point = Found (epoch_in_force t) }
-serves (Found epoch) t fuel number s = record {
-  guest = if needs_answer number s.guest then s.guest else rested fuel (serve_of s.guest too_many);
-  point = if needs_answer number s.guest then Asking else Outside;
-  quiet = Published epoch;
-}
-serves Asking t fuel number s = s
+-- what comes after a service's work: a quiescent point, but for a guest that has stopped
+abbrev pub left_by : Raw → Point
+left_by r = if is_some r.base.stop then Outside else Leaving
 
--- an event of the guest, by what it waits for
+-- a service begins with a store in the guest's QUIET word, in the event of which its work is done, or the guest begins
+-- to wait for its answer
+abbrev pub serves : (number : ℕ) → Seat → Seat
+serves number s = record {
+  guest = if needs_answer number s.guest then s.guest else serve_of s.guest too_many;
+  point = if needs_answer number s.guest then Asking else left_by (serve_of s.guest too_many);
+  quiet = Parked;
+}
+
+-- an event of a guest outside services, by what it waits for
 abbrev pub seat_by : Option Wait → Tables → (fuel : ℕ) → Seat → Seat
-seat_by (Some (waits.Service number)) t fuel s = serves s.point t fuel number s
+seat_by (Some (waits.Service number)) t fuel s = serves number s
 seat_by None t fuel s = record s { guest = rested fuel (loads None t s.guest) }
 seat_by (Some (waits.Tary at rd)) t fuel s =
     record s { guest = rested fuel (loads (Some (waits.Tary at rd)) t s.guest) }
 seat_by (Some (waits.Bary slot rd)) t fuel s =
     record s { guest = rested fuel (loads (Some (waits.Bary slot rd)) t s.guest) }
 
+-- it ends with a quiescent point: a load of EPOCH, then a store in the guest's QUIET word, with which the guest goes on
+abbrev pub seat_at : Point → Tables → (fuel : ℕ) → Seat → Seat
+seat_at Outside t fuel s = seat_by s.guest.waits t fuel s
+seat_at Asking t fuel s = s
+seat_at Leaving t fuel s = record s { point = Found (epoch_in_force t) }
+seat_at (Found epoch) t fuel s =
+    record { guest = rested fuel s.guest; point = Outside; quiet = Published epoch }
+
 abbrev pub seat_after : Tables → (fuel : ℕ) → Seat → Seat
-seat_after t fuel s = seat_by s.guest.waits t fuel s
+seat_after t fuel s = seat_at s.point t fuel s
 
 -- the guest waits for an answer
 abbrev pub is_asking : Point → Bool
 is_asking Outside = false
-is_asking (Found epoch) = false
 is_asking Asking = true
+is_asking Leaving = false
+is_asking (Found epoch) = false

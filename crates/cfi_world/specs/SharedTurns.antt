@@ -1,5 +1,5 @@
 -- Which event on what is shared each turn of a world is.
-use Rattle.std.specs.Prelude.{ℕ, ◌/◌, ◌&&◌, ◌||◌, if◌then◌else◌, is_some, slice_get, Option, Some, None}
+use Rattle.std.specs.Prelude.{ℕ, ◌/◌, ◌&&◌, if◌then◌else◌, is_some, slice_get, Option, Some, None}
 use Rattle.cfi_word.specs.Table.{Place}
 use Rattle.cfi_word.specs.Table as places
 use Rattle.cfi_model.specs.declared.act.Wait.{Wait}
@@ -8,9 +8,9 @@ use Rattle.cfi_model.specs.declared.history.Entry.{Entry}
 use Rattle.cfi_model.specs.declared.phase.Phase.{Phase}
 use Rattle.cfi_model.specs.declared.phase.Phase.TheVariants as phases
 use Rattle.cfi_model.specs.declared.quiet.Point.{Point}
-use Rattle.cfi_model.specs.declared.quiet.Point.TheVariants.{Outside, Found, Asking}
+use Rattle.cfi_model.specs.declared.quiet.Point.TheVariants.{Outside, Asking, Leaving, Found}
 use Rattle.cfi_model.specs.declared.quiet.Quiet.{Quiet}
-use Rattle.cfi_model.specs.declared.quiet.Quiet.TheVariants.{Unregistered, Published}
+use Rattle.cfi_model.specs.declared.quiet.Quiet.TheVariants.{Unregistered, Parked, Published}
 use Rattle.cfi_model.specs.InForce.{tary_index}
 use Rattle.cfi_model.specs.Phases.{phase_of}
 use Rattle.cfi_model.specs.Quiet.{admits}
@@ -19,7 +19,6 @@ use Rattle.cfi_model.specs.SharedEvents.{Past, Shared, SharedEvent, AreSame, Mak
 use Rattle.cfi_model.specs.SharedEvents as shared
 use Rattle.cfi_model.specs.Words.{Tables, next_epoch}
 use Rattle.cfi_model.specs.World.{World, point_of, quiet_of, shared_word}
-use Rattle.cfi_world.specs.Seats.{is_asking}
 use Rattle.cfi_world.specs.Turns.{is_registered, turn_of}
 use Rattle.cfi_world.specs.Updates.{is_idle}
 use Rattle.cfi_world.specs.Worlds.{IsWorld}
@@ -48,23 +47,24 @@ shared_in w = record { past = past_in w.tables; word = shared_word w }
 abbrev pub load_in : World → Place → SharedEvent
 load_in w place = shared.Load place (shared_word w place)
 
--- a quiescent point loads EPOCH, and then publishes what it has found
-abbrev pub service_event : World → (guest : ℕ) → Point → Option SharedEvent
-service_event w guest Outside = Some (load_in w places.Epoch)
-service_event w guest (Found epoch) = Some (shared.Publish guest epoch)
-service_event w guest Asking = None
-
--- a guest that waits for nothing fetches
+-- a guest that waits for nothing fetches, and one that asks for a service parks
 abbrev pub wait_event : World → (guest : ℕ) → Raw → Option Wait → Option SharedEvent
 wait_event w guest r None = Some (load_in w (places.Code (r.base.pc / 4)))
 wait_event w guest r (Some (waits.Tary at rd)) = Some (load_in w (places.Tary (tary_index w.tables.code_words at)))
 wait_event w guest r (Some (waits.Bary slot rd)) = Some (load_in w (places.Bary slot))
-wait_event w guest r (Some (waits.Service number)) = service_event w guest (point_of w guest)
+wait_event w guest r (Some (waits.Service number)) = Some (shared.Park guest)
+
+-- a quiescent point loads EPOCH, and then publishes what it has found
+abbrev pub point_event : World → (guest : ℕ) → Raw → Point → Option SharedEvent
+point_event w guest r Outside = wait_event w guest r r.waits
+point_event w guest r Asking = None
+point_event w guest r Leaving = Some (load_in w places.Epoch)
+point_event w guest r (Found epoch) = Some (shared.Publish guest epoch)
 
 abbrev pub guest_event : World → (guest : ℕ) → Option Raw → Option SharedEvent
 guest_event w guest None = None
 guest_event w guest (Some r) =
-    if is_some r.base.stop || is_asking (point_of w guest) then None else wait_event w guest r r.waits
+    if is_some r.base.stop then None else point_event w guest r (point_of w guest)
 
 -- one that has stopped leaves, while no update is under way
 abbrev pub release_event : World → (guest : ℕ) → Option Raw → Option SharedEvent
@@ -81,6 +81,7 @@ passed_event (Some entry) = Some (shared.Pass entry)
 
 abbrev pub refused_event : World → (guest : ℕ) → Quiet → Option SharedEvent
 refused_event w guest Unregistered = None
+refused_event w guest Parked = None
 refused_event w guest (Published quiet) = Some (shared.Refuse guest quiet (next_epoch w.tables))
 
 abbrev pub tested_event : World → (guest : ℕ) → Quiet → Option SharedEvent

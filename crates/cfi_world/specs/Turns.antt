@@ -5,9 +5,9 @@ use Rattle.cfi_word.specs.declared.lists.Image.{Image}
 use Rattle.cfi_word.specs.declared.limits.TheConstants.{MAX_EPOCH}
 use Rattle.cfi_model.specs.declared.phase.Phase.{Phase}
 use Rattle.cfi_model.specs.declared.phase.Phase.TheVariants as phases
-use Rattle.cfi_model.specs.declared.quiet.Point.TheVariants.{Outside}
+use Rattle.cfi_model.specs.declared.quiet.Point.TheVariants.{Leaving}
 use Rattle.cfi_model.specs.declared.quiet.Quiet.{Quiet}
-use Rattle.cfi_model.specs.declared.quiet.Quiet.TheVariants.{Unregistered, Published}
+use Rattle.cfi_model.specs.declared.quiet.Quiet.TheVariants.{Unregistered, Parked, Published}
 use Rattle.cfi_model.specs.Phases.{phase_of}
 use Rattle.cfi_model.specs.Quiet.{admits}
 use Rattle.cfi_model.specs.Raw.{Raw}
@@ -15,7 +15,7 @@ use Rattle.cfi_model.specs.Run.{serve_of}
 use Rattle.cfi_model.specs.Service.{Reply, argument, reply_of}
 use Rattle.cfi_model.specs.Words.{epoch_in_force, next_epoch}
 use Rattle.cfi_model.specs.World.{World, quiet_of, point_of}
-use Rattle.cfi_world.specs.Seats.{Seat, seat_of, with_seat, seat_after, rested, is_asking}
+use Rattle.cfi_world.specs.Seats.{Seat, seat_of, with_seat, seat_after, is_asking}
 use Rattle.cfi_world.specs.Updates.{is_idle, begun, dropped, passed_by, stored}
 use Rattle.cfi_world.specs.declared.event.Event.{Event}
 use Rattle.cfi_world.specs.declared.event.Event.TheVariants as events
@@ -60,6 +60,7 @@ begin_turn w image =
 -- the test of a QUIET word
 abbrev pub refused : World → (guest : ℕ) → Quiet → Turn
 refused w guest Unregistered = nothing w
+refused w guest Parked = nothing w
 refused w guest (Published quiet) = record {
   world = record w { tables = dropped w.tables };
   answer = VersionsSpent guest quiet;
@@ -86,11 +87,11 @@ update_turn w (phases.Tary next) = store_turn w
 update_turn w phases.Epoch = store_turn w
 update_turn w (phases.Bary next) = store_turn w
 
--- the answer to a guest that waits for it: its open ends
+-- the answer to a guest that waits for it: its open's work is done
 abbrev pub answered : World → (guest : ℕ) → Reply → Raw → World
 answered w guest reply r = record w {
-  guests = slice_set w.guests guest (rested w.fuel (serve_of r reply));
-  points = slice_set w.points guest Outside;
+  guests = slice_set w.guests guest (serve_of r reply);
+  points = slice_set w.points guest Leaving;
 }
 
 abbrev pub answer_turn : World → (guest : ℕ) → Reply → Option Raw → Turn
@@ -103,6 +104,7 @@ answer_turn w guest reply (Some r) =
 -- the release of a guest that has stopped and is registered, where no update is under way
 abbrev pub is_registered : Quiet → Bool
 is_registered Unregistered = false
+is_registered Parked = true
 is_registered (Published epoch) = true
 
 abbrev pub release_turn : World → (guest : ℕ) → Option Raw → Turn

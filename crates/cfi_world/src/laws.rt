@@ -2,6 +2,7 @@
 
 ghost use Rattle.std.specs.Prelude.{◌≡◌, ℕ, ◌+◌, ◌≤◌, Option, Some, List, [], ◌∷◌};
 ghost use Rattle.cfi_model.specs.World.{World as Whole};
+ghost use Rattle.cfi_world.specs.Bounds.{UpdatesAreBounded};
 ghost use Rattle.cfi_world.specs.Checks.{GuestsStandInUnits, HaltsAreForbidden, LastWordsAreLedTo};
 ghost use Rattle.cfi_world.specs.Checks.{PicksHoldThroughout, RepeatsAreForOwnWords, RepeatsMeetUpdates};
 ghost use Rattle.cfi_world.specs.Counts.{RepeatsAreCounted};
@@ -12,7 +13,7 @@ ghost use Rattle.cfi_model.specs.declared.phase.Phase.TheVariants.{Idle};
 ghost use Rattle.cfi_model.specs.Phases.{phase_of};
 ghost use Rattle.cfi_model.specs.Words.{epoch_in_force};
 ghost use Rattle.cfi_word.specs.declared.lists.Image.{Image};
-ghost use Rattle.cfi_world.specs.Outcomes.{HasGuest, IsLeast, IsNothing, IsOpening, IsRefusal};
+ghost use Rattle.cfi_world.specs.Outcomes.{HasGuest, IsNothing, IsOpening, IsRefusal, TheLeastRefuses};
 ghost use Rattle.cfi_world.specs.Outcomes.{PublishesNoneAbove};
 ghost use Rattle.cfi_word.specs.declared.limits.TheConstants.{MAX_EPOCH, MIN_CODE_WORDS, MIN_VERSIONS, MAX_VERSIONS};
 ghost use Rattle.cfi_world.specs.Example.{last_answers, last_events, last_world};
@@ -21,6 +22,7 @@ ghost use Rattle.cfi_world.specs.Premises.{CanOpen, MayTurn};
 ghost use Rattle.cfi_world.specs.Retry.{call_world, call_guests, call_image, endings_after, kept_after, forces_along};
 ghost use Rattle.cfi_world.specs.Retry.{HasTry, NobodyIsPutThere};
 ghost use Rattle.cfi_world.specs.Retry.{load_count, load_events, load_forces, load_phases, loads, phases_along};
+ghost use Rattle.cfi_world.specs.Retry.{found_answers, found_events, parked_answers, parked_events};
 ghost use Rattle.cfi_world.specs.Retry.{picked_ending, refresh_answers, refresh_events, retry_events, tried_words};
 ghost use Rattle.cfi_world.specs.Steps.{RunsAreSteps};
 ghost use Rattle.cfi_world.specs.Turns.{nothing, turn_of};
@@ -92,7 +94,8 @@ pub fn nothing_comes_in_seven_cases()
 
 /// An update is refused exactly where its test meets a guest that has published an epoch too far below.
 ///
-/// It is the least such guest, it exists, and is still registered. `above`: it has at no moment published a later
+/// `least`: it is the least such guest, since the test has loaded the words of all lesser numbers, and each let the
+/// update go on. It exists, is still registered, and is not parked. `above`: it has at no moment published a later
 /// epoch. `many`: since it found the epoch that it published in force, at least V - 2 updates were made.
 pub fn the_least_guest_refuses_an_update()
     ensures spent { (w : Whole) (guest quiet : ℕ) → IsRefusal w guest quiet →
@@ -100,13 +103,22 @@ pub fn the_least_guest_refuses_an_update()
     ensures only { (w : Whole) (event : Happening) (guest quiet : ℕ) →
         (turn_of w event).answer ≡ VersionsSpent guest quiet →
         (event ≡ Update) × IsRefusal w guest quiet }
-    ensures least { (w : Whole) (guest quiet : ℕ) → IsWorld w → IsRefusal w guest quiet →
-        IsLeast w guest }
+    ensures least { TheLeastRefuses }
     ensures guest { (w : Whole) (guest quiet : ℕ) → IsWorld w → IsRefusal w guest quiet →
         HasGuest w guest }
     ensures above { PublishesNoneAbove }
     ensures many { (w : Whole) (guest quiet : ℕ) → IsWorld w → IsRefusal w guest quiet →
         quiet + w.tables.versions ≤ epoch_in_force w.tables + 2 }
+{}
+
+/// At each moment of a run from its opening on, updates are bounded by what each guest has published.
+///
+/// Of a guest whose QUIET word tells an epoch, take the last update whose test has passed that word, whatever became of
+/// it then: no target's word is of a later epoch. Either this update is within V - 2 of what the guest has published,
+/// and each slot's word that it has loaded since is at most one epoch behind that; or the test loaded its word before
+/// its present store, and each slot's word that it has loaded since is at most one epoch behind the update.
+pub fn updates_are_bounded()
+    ensures { UpdatesAreBounded }
 {}
 
 /// Epochs are spent where a Begin meets the greatest epoch in force, and no update is under way.
@@ -119,7 +131,7 @@ pub fn the_greatest_epoch_is_the_last()
         (phase_of w.tables ≡ Idle) × (epoch_in_force w.tables ≡ MAX_EPOCH) }
 {}
 
-/// A guest asks for an answer where it stores in its QUIET word, in an open that may be logged.
+/// A guest asks for an answer where it parks, in an open that may be logged.
 pub fn an_open_asks_for_its_answer()
     ensures asks { (w : Whole) (guest number : ℕ) → IsOpening w guest number →
         (turn_of w (Guest guest)).answer ≡ Asks guest number }
@@ -167,13 +179,25 @@ pub fn a_load_goes_through_its_phases()
     ensures forces { forces_along (call_world MAX_VERSIONS) (loads load_count) ≡ load_forces }
 {}
 
-/// With three versions an update to the next epoch is admitted, the one after it not before the guest's next quiescent
-/// point.
+/// With three versions an update to the next epoch is admitted, the one after it is refused for a guest that is in no
+/// service, and comes after its next quiescent point.
 pub fn a_refresh_waits_for_a_quiescent_point()
     ensures opens { CanOpen MIN_CODE_WORDS MIN_VERSIONS 0 call_image call_guests 100 }
     ensures may { MayTurns (call_world MIN_VERSIONS) refresh_events }
     ensures turns { turned_after (call_world MIN_VERSIONS) refresh_events ≡ refresh_answers }
     ensures ends { endings_after (call_world MIN_VERSIONS) refresh_events ≡ picked_ending 0 ∷ [] }
+{}
+
+/// A guest inside a service hinders no update, and goes on where it leaves.
+///
+/// With three versions one update is refused for the guest before it parks, and two are made while it is parked.
+/// `found`: what it publishes where it leaves is what it has found in EPOCH, and the next update is refused for that.
+pub fn a_parked_guest_hinders_no_update()
+    ensures may { MayTurns (call_world MIN_VERSIONS) parked_events }
+    ensures turns { turned_after (call_world MIN_VERSIONS) parked_events ≡ parked_answers }
+    ensures ends { endings_after (call_world MIN_VERSIONS) parked_events ≡ picked_ending 0 ∷ [] }
+    ensures found_may { MayTurns (call_world MIN_VERSIONS) found_events }
+    ensures found { turned_after (call_world MIN_VERSIONS) found_events ≡ found_answers }
 {}
 
 /// Each turn of a world is one event on what its guests and its updater share, or changes nothing of it.

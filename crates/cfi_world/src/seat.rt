@@ -9,10 +9,9 @@ ghost use Rattle.cfi_model.specs.Run.{serve_of};
 ghost use Rattle.cfi_model.specs.Service.{too_many};
 ghost use Rattle.cfi_model.specs.Words.{policy_in_force, word_at};
 ghost use Rattle.cfi_word.specs.Word.{policy_in};
-ghost use Rattle.rv_guest.specs.Guest.{MayAnswer};
 ghost use Rattle.cfi_model.specs.InForce.{tary_index};
-ghost use Rattle.cfi_world.specs.Seats.{is_asking, loads, needs_answer, rested, seat_after, serves};
-ghost use Rattle.cfi_world.specs.Turns.{reply_in, turned_by};
+ghost use Rattle.cfi_world.specs.Seats.{is_asking, left_by, loads, needs_answer, rested, seat_after, seat_by};
+ghost use Rattle.cfi_world.specs.Turns.{turned_by};
 ghost use Rattle.cfi_world.specs.inner.Parts.{seat_by_parts};
 
 use crate::event::Turned;
@@ -22,9 +21,9 @@ use cfi_word::limits::MAX_OPENS;
 use cfi_word::services::{EXIT, OPEN, PUT, TOO_MANY};
 use rv_guest::{Guest, Wait};
 
-/// Stops a guest that would fetch next and has had as many instructions as the fuel.
+// Stops a guest that would fetch next and has had as many instructions as the fuel.
 #[inline(always)]
-pub fn rest(guest: &mut Guest, fuel: u32)
+fn rest(guest: &mut Guest, fuel: u32)
     ensures { guest.new ≡ rested fuel guest.old }
 {
     if guest.waits().is_none() {
@@ -88,61 +87,63 @@ fn end(guest: &mut Guest, tables: &Tables, number: u32)
     }
 }
 
-// The guest has published an epoch: its service ends, or needs an answer.
-fn publish(guest: &mut Guest, tables: &Tables, fuel: u32, number: u32) -> Point
+// Does a service's work, or leaves it to the answer that it needs.
+fn work(guest: &mut Guest, tables: &Tables, number: u32) -> Point
     requires waits { guest.old.waits ≡ Some (Service number) }
     requires logged { last_policy guest.old.base.log ≤ policy_in_force tables.now.tables }
     ensures guest { guest.new ≡ (if needs_answer number guest.old then guest.old
-        else rested fuel (serve_of guest.old too_many)) }
-    ensures point { result ≡ (if needs_answer number guest.old then Asking else Outside) }
+        else serve_of guest.old too_many) }
+    ensures point { result ≡ (if needs_answer number guest.old then Asking
+        else left_by (serve_of guest.old too_many)) }
 {
     if number == OPEN && guest.opens() < MAX_OPENS {
         return Point::Asking;
     }
     end(guest, tables, number);
-    rest(guest, fuel);
-    Point::Outside
-}
-
-// The next access of a guest in a service: its load of EPOCH, or its store in its QUIET word.
-fn serve(
-    guest: &mut Guest,
-    point: &mut Point,
-    quiet: &mut Quiet,
-    tables: &Tables,
-    fuel: u32,
-    number: u32,
-)
-    requires waits { guest.old.waits ≡ Some (Service number) }
-    requires logged { last_policy guest.old.base.log ≤ policy_in_force tables.now.tables }
-    ensures { seat_by_parts guest.new point.new quiet.new ≡
-        serves point.old tables.now.tables fuel number
-        (seat_by_parts guest.old point.old quiet.old) }
-{
-    match *point {
-        Point::Outside => *point = Point::Found(tables.epoch()),
-        Point::Found(epoch) => {
-            *quiet = Quiet::Published(epoch);
-            *point = publish(guest, tables, fuel, number);
-        }
-        Point::Asking => {}
+    if guest.stop().is_some() {
+        Point::Outside
+    } else {
+        Point::Leaving
     }
 }
 
-// A guest's next access.
+// The next access of a guest outside services: one that asks for a service parks.
 #[inline(always)]
-fn access(guest: &mut Guest, point: &mut Point, quiet: &mut Quiet, tables: &Tables, fuel: u32)
+fn go_on(guest: &mut Guest, point: &mut Point, quiet: &mut Quiet, tables: &Tables, fuel: u32)
+    requires outside { point.old ≡ Outside }
     requires steps { guest.old.waits ≡ None → guest.old.base.steps + 1 < 2 ^ 32 }
     requires logged { last_policy guest.old.base.log ≤ policy_in_force tables.now.tables }
-    ensures { seat_by_parts guest.new point.new quiet.new ≡
-        seat_after tables.now.tables fuel (seat_by_parts guest.old point.old quiet.old) }
+    ensures { seat_by_parts guest.new point.new quiet.new ≡ seat_by guest.old.waits
+        tables.now.tables fuel (seat_by_parts guest.old point.old quiet.old) }
 {
     if let Some(Wait::Service(number)) = guest.waits() {
-        serve(guest, point, quiet, tables, fuel, number);
+        *quiet = Quiet::Parked;
+        *point = work(guest, tables, number);
         return;
     }
     load(guest, tables);
     rest(guest, fuel);
+}
+
+// A guest's next access: outside services, or one of the quiescent point that ends a service.
+#[inline(always)]
+fn access(guest: &mut Guest, point: &mut Point, quiet: &mut Quiet, tables: &Tables, fuel: u32)
+    requires steps { point.old ≡ Outside → guest.old.waits ≡ None
+        → guest.old.base.steps + 1 < 2 ^ 32 }
+    requires logged { last_policy guest.old.base.log ≤ policy_in_force tables.now.tables }
+    ensures { seat_by_parts guest.new point.new quiet.new ≡
+        seat_after tables.now.tables fuel (seat_by_parts guest.old point.old quiet.old) }
+{
+    match *point {
+        Point::Outside => go_on(guest, point, quiet, tables, fuel),
+        Point::Asking => {}
+        Point::Leaving => *point = Point::Found(tables.epoch()),
+        Point::Found(epoch) => {
+            *quiet = Quiet::Published(epoch);
+            *point = Point::Outside;
+            rest(guest, fuel);
+        }
+    }
 }
 
 /// Whether a guest waits for the answer to its open.
@@ -151,7 +152,7 @@ pub fn is_asking(point: Point) -> bool
     ensures { result ≡ is_asking point }
 {
     match point {
-        Point::Outside | Point::Found(_) => false,
+        Point::Outside | Point::Leaving | Point::Found(_) => false,
         Point::Asking => true,
     }
 }
@@ -174,7 +175,8 @@ pub fn act(
     fuel: u32,
     number: u32,
 ) -> Turned
-    requires steps { guest.old.waits ≡ None → guest.old.base.steps + 1 < 2 ^ 32 }
+    requires steps { point.old ≡ Outside → guest.old.waits ≡ None
+        → guest.old.base.steps + 1 < 2 ^ 32 }
     requires logged { last_policy guest.old.base.log ≤ policy_in_force tables.now.tables }
     ensures seat { seat_by_parts guest.new point.new quiet.new ≡
         seat_after tables.now.tables fuel (seat_by_parts guest.old point.old quiet.old) }
@@ -188,13 +190,4 @@ pub fn act(
         };
     }
     Turned::Did
-}
-
-/// The answer to a guest's open comes.
-pub fn answer(guest: &mut Guest, answer: &Answer<'_>, fuel: u32)
-    requires { MayAnswer (reply_in answer.now) guest.old }
-    ensures { guest.new ≡ rested fuel (serve_of guest.old (reply_in answer.now)) }
-{
-    guest.answer(answer);
-    rest(guest, fuel);
 }

@@ -18,6 +18,7 @@ use rv_guest::Guest;
 use std::alloc::{AllocError, Global};
 use std::marker::Model;
 
+mod points;
 mod turns;
 mod words;
 

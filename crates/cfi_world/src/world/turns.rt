@@ -10,7 +10,7 @@ ghost use Rattle.cfi_world.specs.Turns.{is_registered, refused, reply_in, tested
 ghost use Rattle.cfi_model.specs.Quiet.{admits};
 
 use crate::event::Turned;
-use crate::seat::{act, answer as end_open, is_asking, is_held};
+use crate::seat::{act, is_asking, is_held};
 use crate::world::World;
 use cfi_model::{Answer, Phase, Point, Quiet};
 use cfi_word::Image;
@@ -22,7 +22,7 @@ fn is_registered(quiet: Quiet) -> bool
 {
     match quiet {
         Quiet::Unregistered => false,
-        Quiet::Published(_) => true,
+        Quiet::Parked | Quiet::Published(_) => true,
     }
 }
 
@@ -32,7 +32,7 @@ fn admits(versions: u32, epoch: u32, quiet: Quiet) -> bool
     ensures { result ≡ admits versions epoch quiet }
 {
     match quiet {
-        Quiet::Unregistered => true,
+        Quiet::Unregistered | Quiet::Parked => true,
         Quiet::Published(quiet) => {
             u64::from(epoch) <= u64::from(quiet) + u64::from(versions) - 2
         }
@@ -108,7 +108,7 @@ impl World {
         ensures { record { world = self.new; answer = result } ≡ refused self.old guest quiet }
     {
         match quiet {
-            Quiet::Unregistered => Turned::Nothing,
+            Quiet::Unregistered | Quiet::Parked => Turned::Nothing,
             Quiet::Published(quiet) => {
                 self.tables.refuse();
                 Turned::VersionsSpent { guest, quiet }
@@ -125,8 +125,8 @@ impl World {
         if at >= self.guests.len() || !is_asking(self.points[at]) {
             return Turned::Nothing;
         }
-        end_open(&mut self.guests[at], answer, self.fuel);
-        self.points[at] = Point::Outside;
+        self.guests[at].answer(answer);
+        self.points[at] = Point::Leaving;
         Turned::Did
     }
 

@@ -22,7 +22,7 @@ invariant_of-self c =
     let here = item_is w.guests c.args.guest r (search (rules, arith)) c.index_mut.ensures.value in
     let may = subst (λ v. MayAnswer v (reply_in c.args.answer.now)) (sym c.self.view_is) c.requires in
     ended_kept w c.self.invariant c.args.guest r here (sym c.is_asking.ensures ∙ c.if-not-is_asking.false)
-    (reply_in c.args.answer.now) may c.answer.new.guest c.answer.ensures
+    (reply_in c.args.answer.now) may c.answer.new.self c.answer.ensures
 
 pub returns : goal.returns
 returns c =
@@ -30,6 +30,6 @@ returns c =
     let r = c.index_mut.result.now in
     let here = item_is w.guests c.args.guest r (search (rules, arith)) c.index_mut.ensures.value in
     ended_is w c.self.invariant c.args.guest r here (sym c.is_asking.ensures ∙ c.if-not-is_asking.false)
-    (reply_in c.args.answer.now) c.answer.new.guest c.answer.ensures
+    (reply_in c.args.answer.now) c.answer.new.self c.answer.ensures
     ∙ ap (λ v. answer_turn v c.args.guest (reply_in c.args.answer.now) (slice_get v.guests c.args.guest))
     c.self.view_is
