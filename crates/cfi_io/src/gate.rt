@@ -2,7 +2,7 @@
 
 /// Is told where the threads of a run are. It takes no memory, and may hold a thread for a while.
 pub trait Gate: Sync {
-    /// Once in each service of a guest, after the quiescent point and before the service's work.
+    /// Once in each service of a guest, after the guest has parked and before the service's work.
     fn pass(&self, guest: u32, service: u32);
 
     /// Once before each call of the script, whose number from 0 is given, and without the lock.

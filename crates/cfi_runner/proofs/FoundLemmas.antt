@@ -52,6 +52,7 @@ module _ (k : Key) (fuel : ℕ) (p : PassView) (old : Raw) (can : CanRunOn k fue
     on_keeps new place found load sees = record {
       guest = load.guest ∙ way.keeps.guest;
       quiet = load.quiet ∙ way.keeps.quiet;
+      parked = load.parked ∙ way.keeps.parked;
       refusals = load.refusals ∙ way.keeps.refusals;
       sees = sees_trans k p.sight q.sight new.sight way.keeps.sees sees;
     }

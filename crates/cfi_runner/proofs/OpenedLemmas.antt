@@ -161,6 +161,7 @@ some_served fuel least =
         old = guest;
         new = begin_of guest word;
         can = can fuel;
+        outside = refl;
         run = asks key fuel pass guest (can fuel) pass guest under fetched word begun (omega (arith, least)) 0
             (ap (λ o. act_by o guest) ecall);
         may = record { fits = λ e. absurd (omega (arith, e)); known = λ e. absurd (omega (arith, e)) };

@@ -61,7 +61,13 @@ module _ (k : Key) (fuel : ℕ) (p : PassView) (old : Raw) (can : CanRunOn k fue
         is = refl;
         along = λ later more. tt;
       };
-      keeps = record { guest = refl; quiet = refl; refusals = refl; sees = sees_same k p.sight can.sight };
+      keeps = record {
+        guest = refl;
+        quiet = refl;
+        parked = refl;
+        refusals = refl;
+        sees = sees_same k p.sight can.sight;
+      };
       kept = λ word e. absurd (none_some word (sym can.fresh.0 ∙ e));
       logs = logs_start (policy_seen k p.sight) old can.fresh.1;
     };
@@ -241,6 +247,7 @@ module _ (k : Key) (fuel : ℕ) (p : PassView) (old : Raw) (can : CanRunOn k fue
               keeps = record {
                 guest = ap (λ (v : PassView). v.guest) fetch.is ∙ keeps.guest;
                 quiet = ap (λ (v : PassView). v.quiet) fetch.is ∙ keeps.quiet;
+                parked = ap (λ (v : PassView). v.parked) fetch.is ∙ keeps.parked;
                 refusals = ap (λ (v : PassView). v.sight.refusals) fetch.is ∙ keeps.refusals;
                 sees = sees_trans k p.sight q.sight new.sight keeps.sees sees;
               };

@@ -1,5 +1,5 @@
 -- What runs of a guest come to: what it shows, what a service hands on, and how runs join.
-use Rattle.std.specs.Prelude.{◌≡◌, ℕ, ◌≤◌, List, ◌∷◌, ◌++◌, None}
+use Rattle.std.specs.Prelude.{◌≡◌, ℕ, ◌≤◌, false, List, ◌∷◌, ◌++◌, None}
 use Rattle.cfi_unit.specs.declared.fill.Fill.{Fill}
 use Rattle.cfi_word.specs.declared.services.TheConstants.{OPEN}
 use Rattle.cfi_model.specs.declared.history.Access.{Access}
@@ -112,6 +112,7 @@ pub record IsServedRun (k : Key) (fuel : ℕ) : Type 0 where
   pub old : Raw
   pub new : Raw
   pub can : CanRunOn k fuel p old
+  pub outside : p.parked ≡ false
   pub run : HasRunOn k fuel p q old new (pauses.Service 0)
   pub may : MayServe k q.sight 0 too_many new
   pub going : (serve_of new too_many).base.stop ≡ None

@@ -60,10 +60,11 @@ PausesAt (pauses.Align address) fuel last new =
     (new ≡ last) × (last.waits ≡ None) × (last.base.stop ≡ Some (stops.Align address))
 PausesAt pauses.Fuel fuel last new = IsSpent last new × (last.base.steps ≡ fuel)
 
--- what a run leaves of the pass: its guest and what this has published, and what was seen
+-- what a run leaves of the pass: its guest, what this has published, whether it is parked, and what was seen
 pub record KeepsSeat (k : Key) (old new : PassView) : Type 0 where
   pub guest : new.guest ≡ old.guest
   pub quiet : new.quiet ≡ old.quiet
+  pub parked : new.parked ≡ old.parked
   pub refusals : new.sight.refusals ≡ old.sight.refusals
   pub sees : SeesMore k old.sight new.sight
 

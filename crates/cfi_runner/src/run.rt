@@ -1,6 +1,6 @@
 //! A guest that runs over what its pass loads.
 
-ghost use Rattle.std.specs.Prelude.{◌≡◌, ◌==◌, ◌&&◌, not, nat_le};
+ghost use Rattle.std.specs.Prelude.{◌≡◌, ◌==◌, ◌&&◌, not, nat_le, false};
 ghost use Rattle.cfi_model.specs.Raw.{reg};
 ghost use Rattle.cfi_runner.specs.Run.{CanRunOn, HasRunOn};
 ghost use Rattle.cfi_word.specs.declared.map.TheConstants.{BARY};
@@ -21,9 +21,9 @@ fn is_repeat(guest: &Guest, address: u32) -> bool
 
 /// Runs a guest over the words that its pass loads, until it asks for a service or stops, and says which.
 ///
-/// The guest has not stopped, waits for nothing, has at most `fuel` instructions behind it, has logged no policy above
-/// that of the latest epoch which the pass has seen in force, and stands at a start of an image that it has seen. It
-/// takes no memory, and waits for no one.
+/// The guest is not parked, has not stopped, waits for nothing, has at most `fuel` instructions behind it, has logged
+/// no policy above that of the latest epoch which the pass has seen in force, and stands at a start of an image that it
+/// has seen. It takes no memory, and waits for no one.
 #[inline(never)]
 pub fn run_until<N: TableName>(
     guest: &mut Guest,
@@ -32,6 +32,7 @@ pub fn run_until<N: TableName>(
     fuel: u32,
 ) -> Pause
     requires can { CanRunOn N.key fuel pass.old guest.old }
+    requires outside { pass.old.parked ≡ false }
     ensures { HasRunOn N.key fuel pass.old pass.new guest.old guest.new result }
 {
     // Out of line: inside a larger function this loop would keep what it works with on the stack.

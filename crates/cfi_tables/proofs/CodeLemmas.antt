@@ -14,7 +14,7 @@ use Rattle.cfi_tables.specs.Fair.{history_at, kept_of}
 use Rattle.cfi_tables.specs.Key.{Key}
 use Rattle.cfi_tables.specs.Keeping.{last_of}
 use Rattle.cfi_tables.specs.Loads.{IsFetch, access_of}
-use Rattle.cfi_tables.specs.Rule.{CodeFits, HeldFits, KeepsRule, IsRegistered, ShowQuiets, ShowTables}
+use Rattle.cfi_tables.specs.Rule.{CodeFits, HeldFits, IsBounded, KeepsRule, IsRegistered, ShowQuiets, ShowTables}
 use Rattle.cfi_model.specs.Words.{HasStore}
 use Rattle.cfi_tables.specs.Views.{keeper_of, pass_of, tables_of}
 use Rattle.cfi_tables.specs.inner.Steps.{Fetches, Looks, Seated}
@@ -49,6 +49,18 @@ module _ (k : Key) (u : KeeperView) (is : IsTables (tables_of k u)) (index : ℕ
     };
   }
 
+  fetched_bounded : IsBounded k u p → IsBounded k u fetched
+  fetched_bounded b = record {
+    floor = b.floor;
+    published = b.published;
+    stored = b.stored;
+    kept = λ word e.
+        (let kept = b.kept word (sym (kept_snoc k p.sight.accesses (Code index) found (moment_of t) inside tt) ∙ e) in
+        record { least = kept.least; most = kept.most });
+    newest = b.newest;
+    next = b.next;
+  }
+
   fetched_registered : IsRegistered k u fetched
   fetched_registered = record {
     seen = record {
@@ -68,11 +80,8 @@ module _ (k : Key) (u : KeeperView) (is : IsTables (tables_of k u)) (index : ℕ
     within = r.within;
     out = r.out;
     published = r.published;
-    kept = λ word e.
-        (let kept = r.kept word (sym (kept_snoc k p.sight.accesses (Code index) found (moment_of t) inside tt) ∙ e) in
-        record { least = kept.least; most = kept.most });
-    newest = r.newest;
-    next = r.next;
+    heard = r.heard;
+    bounded = λ outside. fetched_bounded (r.bounded outside);
   }
 
   -- of the entries that were seen all code is stored, and later ones keep it

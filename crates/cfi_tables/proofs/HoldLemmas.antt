@@ -1,11 +1,9 @@
 -- The steps by which the keeper holds a pass, and lets go of it.
 use Rattle.std.proofs.lemmas.Bool.{lt-ltb}
-use Rattle.std.proofs.Common.{◌≡◌, ◌≢◌, inl, inr, ℕ, ◌+◌, ◌-◌, ◌<◌, ◌≤◌, Bool, true, false, List, [], length, length-set, slice_index, slice_set, Option, Some, None, refl, sym, ap, subst, ◌∙◌, arith, cond}
-use Rattle.std.proofs.lemmas.List.{get_or-set_other, get_or-set_same, set-get_or}
+use Rattle.std.proofs.Common.{◌≡◌, ◌≢◌, inl, inr, ℕ, ◌+◌, ◌-◌, ◌<◌, ◌≤◌, Bool, true, false, List, length, length-set, slice_index, slice_set, Option, Some, None, refl, sym, ap, subst, ◌∙◌, arith, cond}
+use Rattle.std.proofs.lemmas.List.{get_or-set_other, get_or-set_same}
 use mathlib.Core.Logic.{dite}
-use mathlib.Core.Option.{none}
 use native.Mathlib.Decide.{ℕ_discrete}
-use Rattle.atomic_table.specs.Table.{Allows, step}
 use Rattle.cfi_word.specs.declared.limits.TheConstants.{GUESTS}
 use Rattle.cfi_word.specs.Rank.{stores_of}
 use Rattle.cfi_word.specs.Table.{quiet_word, word_count, Code}
@@ -16,17 +14,18 @@ use Rattle.cfi_model.specs.Words.{epoch_in_force, number_at}
 use Rattle.cfi_model.proofs.TableMomentLemmas.{by_trans}
 use Rattle.cfi_model.proofs.TableLemmas.{force_epoch}
 use Rattle.cfi_tables.specs.Key.{Key}
-use Rattle.cfi_tables.specs.Keeping.{is_out}
-use Rattle.cfi_tables.specs.Rule.{AgreesWith, HeldFits, IsElse, IsHeldOut, KeepsRule, IsRegistered, IsSeen, ShowQuiets, ShowTables, TellsForce, CodeFits}
-use Rattle.cfi_tables.specs.Views.{admitted, held_by, keeper_of, keeping_of, last_moment, noted, sight_of, tables_of}
-use Rattle.cfi_tables.specs.inner.Steps.{Clears, IsHeard, Registers, Seated, Tells, cleared, registered, told}
+use Rattle.cfi_tables.specs.Keeping.{heard_as, is_out}
+use Rattle.cfi_tables.specs.Rule.{IsElse, IsHeldOut, IsRegistered, IsSeen, ShowQuiets, ShowTables, TellsForce, CodeFits}
+use Rattle.cfi_tables.specs.Views.{admitted, keeping_of, last_moment, noted, sight_of, tables_of}
+use Rattle.cfi_tables.specs.inner.Steps.{registered}
 use Rattle.cfi_tables.specs.declared.view.KeeperView.{KeeperView}
 use Rattle.cfi_tables.specs.declared.view.PassView.{PassView}
-use Rattle.cfi_tables.specs.declared.view.View.TheVariants.{Keeper}
+use Rattle.cfi_tables.specs.declared.view.Quiets.{Quiets}
+use Rattle.cfi_tables.proofs.BoundLemmas.{bounded_now, bounded_stays}
+use Rattle.cfi_tables.proofs.QuietLemmas.{quiet_small, word_least}
 use Rattle.cfi_tables.proofs.Prefixes.{prefix_same}
 use Rattle.cfi_tables.proofs.TablesLemmas.{force_newest}
 use Rattle.cfi_tables.proofs.KeptLemmas.{IsNext}
-use Rattle.cfi_tables.proofs.StepLemmas.{keeper_moves}
 use Rattle.cfi_tables.proofs.PassLemmas.{quiet_else, quiet_here, quiet_shows, quiet_code}
 
 -- ---- which passes are out
@@ -42,10 +41,10 @@ out_else : (out : List Bool) (guest other : ℕ) (b : Bool) → other ≢ guest
 out_else out guest other b apart = get_or-set_other out guest other b false apart
 
 -- what is known of a pass does not lie in who is out, nor in the QUIET words, nor in which pass is held
-pub registered_same : (k : Key) (u : KeeperView) (out : List Bool) (quiets : List ℕ) (held : Option PassView) (p : PassView)
-    → IsRegistered k u p → is_out out p.guest ≡ true
+pub registered_same : (k : Key) (u : KeeperView) (out : List Bool) (quiets : Quiets) (held : Option PassView)
+    (p : PassView) → IsRegistered k u p → is_out out p.guest ≡ true → slice_index quiets.heard p.guest ≤ p.quiet + 1
     → IsRegistered k (record u { out = out; quiets = quiets; held = held }) p
-registered_same k u out quiets held p r is = record {
+registered_same k u out quiets held p r is heard = record {
   seen = record {
     agrees = r.seen.agrees;
     on = record { had = r.seen.on.had; now = r.seen.on.now; loads = r.seen.on.loads };
@@ -56,10 +55,19 @@ registered_same k u out quiets held p r is = record {
   within = r.within;
   out = is;
   published = r.published;
-  kept = r.kept;
-  newest = r.newest;
-  next = r.next;
+  heard = heard;
+  bounded = λ outside.
+      (let b = r.bounded outside in
+      bounded_stays k u (record u { out = out; quiets = quiets; held = held }) p b (λ slot. omega arith) b.newest
+      b.next);
 }
+
+-- what is known of a guest stays where that of another is heard
+heard_else : (u : KeeperView) (guest other word : ℕ) (p : PassView) → other ≢ guest
+    → slice_index u.quiets.heard other ≤ p.quiet + 1
+    → slice_index (heard_as guest word u.quiets).heard other ≤ p.quiet + 1
+heard_else u guest other word p apart most =
+    omega (arith, get_or-set_other u.quiets.heard guest other word 0 apart, most)
 
 -- while no update is under way the last epoch is in force
 force_is : (k : Key) (u : KeeperView) → IsTables (tables_of k u) → u.stored ≡ stores_of k.code_words
@@ -101,21 +109,21 @@ quiets_set : (k : Key) (words : List ℕ) (u : KeeperView) (guest word : ℕ) (b
     → guest < GUESTS → length words ≡ word_count k.code_words → ShowQuiets k words u → (b ≡ false → word ≡ 0)
     → TellsForce k u word
     → ShowQuiets k (slice_set words (quiet_word guest) word)
-    (record u { out = slice_set u.out guest b; quiets = slice_set u.quiets guest word; held = held })
+    (record u { out = slice_set u.out guest b; quiets = heard_as guest word u.quiets; held = held })
 quiets_set k words u guest word b held few many quiets zeroth tells = record {
   out_many = length-set u.out guest b ∙ quiets.out_many;
-  quiets_many = length-set u.quiets guest word ∙ quiets.quiets_many;
+  quiets_many = length-set u.quiets.heard guest word ∙ quiets.quiets_many;
   later = λ other inside. dite (ℕ_discrete other guest)
       (λ same. omega (
         arith,
-        ap (slice_index (slice_set u.quiets guest word)) same
-            ∙ get_or-set_same u.quiets guest word 0 (omega (arith, few, quiets.quiets_many)),
+        ap (slice_index (slice_set u.quiets.heard guest word)) same
+            ∙ get_or-set_same u.quiets.heard guest word 0 (omega (arith, few, quiets.quiets_many)),
         ap (λ g. slice_index (slice_set words (quiet_word guest) word) (quiet_word g)) same
             ∙ quiet_here k words u guest word few many,
       ))
       (λ apart. omega (
         arith,
-        get_or-set_other u.quiets guest other word 0 apart,
+        get_or-set_other u.quiets.heard guest other word 0 apart,
         quiet_else k words u guest word few many other apart,
         quiets.later other inside,
       ));
@@ -171,9 +179,13 @@ module _ (k : Key) (words : List ℕ) (u : KeeperView) (is : IsTables (tables_of
       within = few;
       out = out_here u.out guest true (omega (arith, few, quiets.out_many));
       published = omega arith;
-      kept = λ found e. absurd (cc);
-      newest = omega (arith, is.some, is.versions_least);
-      next = λ tested. absurd (omega (arith, tested, untested));
+      heard = omega (
+        arith,
+        get_or-set_same u.quiets.heard guest (k.first + length u.entries) 0 (omega (arith, few, quiets.quiets_many)),
+        is.some,
+      );
+      bounded = λ outside. bounded_now k (registered k guest u) is pass (omega (arith, force_is k u is idle))
+          (λ found e. absurd (cc));
     }
 
     others_apart : (p : PassView) → IsRegistered k u p → p.guest ≢ guest
@@ -186,19 +198,20 @@ module _ (k : Key) (words : List ℕ) (u : KeeperView) (is : IsTables (tables_of
       shows = quiet_shows k words u guest word few many shows;
       code = quiet_code k words u guest word few many code;
       quiets = subst (λ w. ShowQuiets k after
-          (record u { out = slice_set u.out guest true; quiets = slice_set u.quiets guest w; held = Some pass })) word_is
-          (quiets_set k words u guest word true (Some pass) few many quiets (λ e. absurd (cc)) (inr (
+          (record u { out = slice_set u.out guest true; quiets = heard_as guest w u.quiets; held = Some pass })) word_is
+          (quiets_set k words u guest word true (Some pass) few many quiets (λ e. absurd (cc)) (inr (inr (
             omega (arith, word_is, is.some),
             omega (arith, word_is, is.some, force_is k u is idle),
-          )));
+          ))));
       held = record {
         registered = pass_registered;
         published = quiet_here k words u guest word few many ∙ omega (arith, word_is, is.some);
       };
       each = λ p o. (let apart = others_apart p o.registered in record {
-        registered = registered_same k u (slice_set u.out guest true) (slice_set u.quiets guest (k.first + length u.entries))
-            (Some pass) p o.registered
-            (out_else u.out guest p.guest true apart ∙ o.registered.out);
+        registered = registered_same k u (slice_set u.out guest true)
+            (heard_as guest (k.first + length u.entries) u.quiets) (Some pass) p o.registered
+            (out_else u.out guest p.guest true apart ∙ o.registered.out)
+            (heard_else u guest p.guest (k.first + length u.entries) p apart o.registered.heard);
         published = quiet_else k words u guest word few many p.guest apart ∙ o.published;
         apart = λ e. apart (sym e);
       });
@@ -210,16 +223,16 @@ module _ (k : Key) (words : List ℕ) (u : KeeperView) (is : IsTables (tables_of
     apart_of : (guest : ℕ) → IsElse u.held guest → p.guest ≢ guest
     apart_of guest else = subst (λ h. IsElse h guest) is_held else
 
-    -- what was found of its guest is not above what this has published
-    pub heard : slice_index u.quiets p.guest ≤ p.quiet + 1
-    heard = omega (arith, quiets.later p.guest held.registered.within, held.published)
-
     -- it is told all, and the keeper hears what its guest has published
-    abbrev heard_in : List ℕ
-    heard_in = slice_set u.quiets p.guest (p.quiet + 1)
+    abbrev heard_of : Quiets
+    heard_of = heard_as p.guest (p.quiet + 1) u.quiets
+
+    heard_here : slice_index heard_of.heard p.guest ≡ p.quiet + 1
+    heard_here = get_or-set_same u.quiets.heard p.guest (p.quiet + 1) 0
+        (omega (arith, held.registered.within, quiets.quiets_many))
 
     abbrev told_view : KeeperView
-    told_view = record u { quiets = heard_in; held = Some (noted k (keeping_of u) p) }
+    told_view = record u { quiets = heard_of; held = Some (noted k (keeping_of u) p) }
 
     told_registered : IsRegistered k told_view (noted k (keeping_of u) p)
     told_registered =
@@ -237,25 +250,32 @@ module _ (k : Key) (words : List ℕ) (u : KeeperView) (is : IsTables (tables_of
           within = r.within;
           out = r.out;
           published = omega (arith, r.published, r.seen.latest, force);
-          kept = λ word e. (let kept = r.kept word e in
-              record { least = kept.least; most = omega (arith, kept.most, r.seen.latest, force) });
-          newest = r.newest;
-          next = r.next;
+          heard = omega (arith, heard_here);
+          bounded = λ outside.
+              (let b = r.bounded outside in record {
+                floor = b.floor;
+                published = b.published;
+                stored = b.stored;
+                kept = λ word e. (let kept = b.kept word e in
+                    record { least = kept.least; most = omega (arith, kept.most, r.seen.latest, force) });
+                newest = b.newest;
+                next = b.next;
+              });
         }
 
     -- no word is less than what was heard
-    heard_later : (guest : ℕ) → guest < GUESTS → slice_index heard_in guest ≤ slice_index words (quiet_word guest)
+    heard_later : (guest : ℕ) → guest < GUESTS
+        → slice_index heard_of.heard guest ≤ slice_index words (quiet_word guest)
     heard_later guest inside = dite (ℕ_discrete guest p.guest)
         (λ same. omega (
           arith,
-          ap (slice_index heard_in) same
-              ∙ get_or-set_same u.quiets p.guest (p.quiet + 1) 0
-              (omega (arith, held.registered.within, quiets.quiets_many)),
+          ap (slice_index heard_of.heard) same ∙ heard_here,
           ap (λ g. slice_index words (quiet_word g)) same ∙ held.published,
+          word_least p (quiet_small k u is p held.registered),
         ))
         (λ apart. omega (
           arith,
-          get_or-set_other u.quiets p.guest guest (p.quiet + 1) 0 apart,
+          get_or-set_other u.quiets.heard p.guest guest (p.quiet + 1) 0 apart,
           quiets.later guest inside,
         ))
 
@@ -267,14 +287,17 @@ module _ (k : Key) (words : List ℕ) (u : KeeperView) (is : IsTables (tables_of
       code = code;
       quiets = record {
         out_many = quiets.out_many;
-        quiets_many = length-set u.quiets p.guest (p.quiet + 1) ∙ quiets.quiets_many;
+        quiets_many = length-set u.quiets.heard p.guest (p.quiet + 1) ∙ quiets.quiets_many;
         later = heard_later;
         away = quiets.away;
         tells = quiets.tells;
       };
       held = record { registered = told_registered; published = held.published };
       each = λ q o. record {
-        registered = registered_same k u u.out heard_in (Some (noted k (keeping_of u) p)) q o.registered o.registered.out;
+        registered = registered_same k u u.out heard_of (Some (noted k (keeping_of u) p)) q o.registered
+            o.registered.out
+            (heard_else u p.guest q.guest (p.quiet + 1) q (λ e. apart_of q.guest o.apart (sym e))
+            o.registered.heard);
         published = o.published;
         apart = apart_of q.guest o.apart;
       };
@@ -282,7 +305,7 @@ module _ (k : Key) (words : List ℕ) (u : KeeperView) (is : IsTables (tables_of
 
     -- it is let go
     pub clear_next : IsNext k words u (slice_set words (quiet_word p.guest) 0)
-        (record u { out = slice_set u.out p.guest false; quiets = slice_set u.quiets p.guest 0; held = None })
+        (record u { out = slice_set u.out p.guest false; quiets = heard_as p.guest 0 u.quiets; held = None })
     clear_next =
         let few = held.registered.within in
         record {
@@ -293,103 +316,10 @@ module _ (k : Key) (words : List ℕ) (u : KeeperView) (is : IsTables (tables_of
           quiets = quiets_set k words u p.guest 0 false None few many quiets (λ e. refl) (inl refl);
           held = tt;
           each = λ q o. (let apart : q.guest ≢ p.guest = λ e. apart_of q.guest o.apart (sym e) in record {
-            registered = registered_same k u (slice_set u.out p.guest false) (slice_set u.quiets p.guest 0) None q
-                o.registered
-                (out_else u.out p.guest q.guest false apart ∙ o.registered.out);
+            registered = registered_same k u (slice_set u.out p.guest false) (heard_as p.guest 0 u.quiets) None q
+                o.registered (out_else u.out p.guest q.guest false apart ∙ o.registered.out)
+                (heard_else u p.guest q.guest 0 q apart o.registered.heard);
             published = quiet_else k words u p.guest 0 few many q.guest apart ∙ o.published;
             apart = tt;
           });
         }
-
--- ---- the steps at the keeper's seat
-
-pub back : (guest : ℕ) → quiet_word guest - 1 ≡ guest
-back guest = omega arith
-
-pub register_allowed : (k key : Key) (slots id i word guest : ℕ) (me : Seated) (u : KeeperView) → key ≡ k → id ≡ 0
-    → me ≡ (Keeper u, []) → u.stored ≡ stores_of k.code_words → u.tested ≡ 0 → guest < GUESTS
-    → is_out u.out guest ≡ false → i ≡ quiet_word guest → word ≡ k.first + length u.entries
-    → Allows (KeepsRule key) slots id me i (λ _. word) (λ _. Registers k (step slots i word 0 none) me word)
-register_allowed k key slots id i word guest me u same zeroth is idle untested few free word_at word_is =
-    subst (λ j. Allows (KeepsRule key) slots id me j (λ _. word) (λ _. Registers k (step slots j word 0 none) me word))
-    (sym word_at)
-    (keeper_moves k key slots id (quiet_word guest) (λ _. word) me u
-    (λ _. Registers k (step slots (quiet_word guest) word 0 none) me word) same zeroth is
-    (λ s r e. (
-      registered k guest u,
-      subst (λ v. IsNext k s.words v (slice_set s.words (quiet_word guest) word) (registered k guest u)) (sym e)
-          (register_next k s.words u (subst (λ v. IsTables (tables_of k v)) e r.tables) r.many
-          (subst (ShowTables k s.words) e r.shows) (subst (ShowQuiets k s.words) e r.quiets) r.code idle untested guest
-          word
-          few free word_is),
-      ap (λ g. (Keeper (registered k g u), [])) (sym (back guest))
-          ∙ sym (ap (λ (z : Seated). (Keeper (registered k (quiet_word guest - 1) (keeper_of z.0)), z.1)) is),
-    )))
-
--- a fact of the pass that the keeper holds
-held_at : (k : Key) (words : List ℕ) (u v : KeeperView) (p : PassView) → v ≡ u → u.held ≡ Some p
-    → HeldFits k words v v.held → IsHeldOut k words u p
-held_at k words u v p same is fits =
-    subst (HeldFits k words u) is (subst (λ z. HeldFits k words z z.held) same fits)
-
-pub tell_allowed : (k key : Key) (slots id : ℕ) (me : Seated) (u : KeeperView) (p : PassView) → key ≡ k → id ≡ 0
-    → me ≡ (Keeper u, []) → u.stored ≡ stores_of k.code_words → u.held ≡ Some p
-    → Allows (KeepsRule key) slots id me 0 (λ n. n) (Tells k (step slots 0 0 0 none) me)
-tell_allowed k key slots id me u p same zeroth is idle is_held =
-    keeper_moves k key slots id 0 (λ n. n) me u (Tells k (step slots 0 0 0 none) me) same zeroth is
-    (λ s r e.
-    (let held = held_at k s.words u r.keeper p e is_held r.held in
-    let next = tell_next k s.words u (subst (λ v. IsTables (tables_of k v)) e r.tables) r.many
-    (subst (ShowTables k s.words) e r.shows) (subst (ShowQuiets k s.words) e r.quiets) r.code idle p held is_held in (
-      told k u,
-      subst (λ v. IsNext k s.words v (slice_set s.words 0 (slice_index s.words 0)) (told k u)) (sym e)
-          (subst (λ words. IsNext k s.words u words (told k u)) (sym (set-get_or s.words 0 0))
-          (subst (λ h. IsNext k s.words u s.words (record u {
-            quiets = slice_set u.quiets (held_by h).guest ((held_by h).quiet + 1);
-            held = Some (noted k (keeping_of u) (held_by h));
-          })) (sym is_held) next)),
-      record {
-        is = sym (ap (λ (z : Seated). (Keeper (told k (keeper_of z.0)), z.1)) is);
-        agrees = subst (λ (z : Seated). AgreesWith k (keeper_of z.0).entries (keeper_of z.0).refusals
-            (held_by (keeper_of z.0).held).sight) (sym is)
-            (subst (λ h. AgreesWith k u.entries u.refusals (held_by h).sight) (sym is_held)
-            held.registered.seen.agrees);
-        heard = subst (λ (z : Seated). IsHeard (keeper_of z.0)) (sym is)
-            (subst (λ h. slice_index u.quiets (held_by h).guest ≤ (held_by h).quiet + 1) (sym is_held)
-            (heard k s.words u (subst (λ v. IsTables (tables_of k v)) e r.tables) r.many
-            (subst (ShowTables k s.words) e r.shows) (subst (ShowQuiets k s.words) e r.quiets) r.code idle p held is_held));
-      },
-    )))
-
-pub clear_allowed : (k key : Key) (slots id i : ℕ) (me : Seated) (u : KeeperView) (p : PassView) → key ≡ k → id ≡ 0
-    → me ≡ (Keeper u, []) → u.stored ≡ stores_of k.code_words → u.held ≡ Some p → i ≡ quiet_word p.guest
-    → Allows (KeepsRule key) slots id me i (λ _. 0) (λ _. Clears k (step slots i 0 0 none) me 0)
-clear_allowed k key slots id i me u p same zeroth is idle is_held word_at =
-    subst (λ j. Allows (KeepsRule key) slots id me j (λ _. 0) (λ _. Clears k (step slots j 0 0 none) me 0))
-    (sym word_at)
-    (keeper_moves k key slots id (quiet_word p.guest) (λ _. 0) me u
-    (λ _. Clears k (step slots (quiet_word p.guest) 0 0 none) me 0) same zeroth is
-    (λ s r e.
-    (let held = held_at k s.words u r.keeper p e is_held r.held in
-    let next = clear_next k s.words u (subst (λ v. IsTables (tables_of k v)) e r.tables) r.many
-    (subst (ShowTables k s.words) e r.shows) (subst (ShowQuiets k s.words) e r.quiets) r.code idle p held is_held in (
-      cleared u,
-      subst (λ v. IsNext k s.words v (slice_set s.words (quiet_word p.guest) 0) (cleared u)) (sym e)
-          (subst (λ h. IsNext k s.words u (slice_set s.words (quiet_word p.guest) 0)
-          (record u {
-            out = slice_set u.out (held_by h).guest false;
-            quiets = slice_set u.quiets (held_by h).guest 0;
-            held = None;
-          })) (sym is_held) next),
-      record {
-        is = sym (ap (λ (z : Seated). (Keeper (cleared (keeper_of z.0)), z.1)) is);
-        agrees = subst (λ (z : Seated). AgreesWith k (keeper_of z.0).entries (keeper_of z.0).refusals
-            (held_by (keeper_of z.0).held).sight) (sym is)
-            (subst (λ h. AgreesWith k u.entries u.refusals (held_by h).sight) (sym is_held)
-            held.registered.seen.agrees);
-        heard = subst (λ (z : Seated). IsHeard (keeper_of z.0)) (sym is)
-            (subst (λ h. slice_index u.quiets (held_by h).guest ≤ (held_by h).quiet + 1) (sym is_held)
-            (heard k s.words u (subst (λ v. IsTables (tables_of k v)) e r.tables) r.many
-            (subst (ShowTables k s.words) e r.shows) (subst (ShowQuiets k s.words) e r.quiets) r.code idle p held is_held));
-      },
-    ))))

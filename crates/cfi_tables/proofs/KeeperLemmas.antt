@@ -1,5 +1,5 @@
 -- A keeper after an update.
-use Rattle.std.proofs.Common.{◌≡◌, ◌≢◌, ℕ, ◌+◌, ◌<◌, List, [], ◌∷◌, length, length-append, refl, sym, ap, subst, ◌∙◌, arith}
+use Rattle.std.proofs.Common.{◌≡◌, ◌≢◌, ℕ, ◌+◌, ◌<◌, [], ◌∷◌, length, length-append, refl, sym, ap, subst, ◌∙◌, arith}
 use Rattle.atomic_table.specs.Seated.{TableId}
 use Rattle.cfi_word.specs.declared.limits.TheConstants.{GUESTS, MAX_EPOCH}
 use Rattle.cfi_model.specs.declared.history.Entry.{Entry}
@@ -10,6 +10,7 @@ use Rattle.cfi_tables.specs.Views.{idle_tables, idle_view, tables_of, view_at}
 use Rattle.cfi_tables.specs.inner.Keepers.{Beside, IsKeeper}
 use Rattle.cfi_tables.specs.inner.Steps.{Seated}
 use Rattle.cfi_tables.specs.inner.Stores.{IsAt, keeping_at}
+use Rattle.cfi_tables.specs.declared.view.Quiets.{Quiets}
 use Rattle.cfi_tables.specs.declared.view.View.TheVariants.{Keeper}
 use Rattle.cfi_tables.proofs.StoringLemmas.{last_is}
 use Rattle.cfi_tables.proofs.TablesLemmas.{grown_is}
@@ -32,7 +33,7 @@ idle_are k keeping stored is = record {
 }
 
 -- the tables with one entry more
-pub grown_are : (k : Key) (keeping : Keeping) (entry : Entry) (quiets : List ℕ) → IsTables (idle_tables k keeping)
+pub grown_are : (k : Key) (keeping : Keeping) (entry : Entry) (quiets : Quiets) → IsTables (idle_tables k keeping)
     → IsUpdate k.code_words (last_of keeping.entries) entry → k.first + length keeping.entries < MAX_EPOCH + 1
     → IsTables (idle_tables k (grown_by entry quiets keeping))
 grown_are k keeping entry quiets is follows left =
@@ -40,8 +41,8 @@ grown_are k keeping entry quiets is follows left =
 
 module _ (table : TableId) (k : Key) (at : TableId) (id : ℕ) (me : Seated) (a : Beside)
     (is : IsKeeper table k at id me a) (left : a.epoch ≢ MAX_EPOCH) (entry : Entry)
-    (follows : IsUpdate k.code_words (last_of (keeping_at me).entries) entry) (quiets : List ℕ)
-    (quiets_many : length quiets ≡ GUESTS) where
+    (follows : IsUpdate k.code_words (last_of (keeping_at me).entries) entry) (quiets : Quiets)
+    (quiets_many : length quiets.heard ≡ GUESTS) (found_many : length quiets.found ≡ GUESTS) where
   abbrev all : Keeping
   all = grown_by entry quiets (keeping_at me)
 
@@ -66,5 +67,6 @@ module _ (table : TableId) (k : Key) (at : TableId) (id : ℕ) (me : Seated) (a 
             (omega (arith, is.epoch_is, left, is.tables.epochs_fit)));
         out_is = is.out_is ∙ ap (λ (z : Keeping). z.out) same;
         out_many = subst (λ (z : Keeping). length z.out ≡ GUESTS) same is.out_many;
-        quiets_many = subst (λ (z : Keeping). length z.quiets ≡ GUESTS) same quiets_many;
+        quiets_many = subst (λ (z : Keeping). length z.quiets.heard ≡ GUESTS) same quiets_many;
+        found_many = subst (λ (z : Keeping). length z.quiets.found ≡ GUESTS) same found_many;
       }

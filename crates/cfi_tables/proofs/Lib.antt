@@ -4,6 +4,8 @@ pub mod TablesLemmas
 pub mod ShowLemmas
 pub mod FairLemmas
 pub mod SeenLemmas
+pub mod QuietLemmas
+pub mod BoundLemmas
 pub mod MoreLemmas
 pub mod NowLemmas
 pub mod LoadLemmas
@@ -14,6 +16,7 @@ pub mod StepLemmas
 pub mod TestLemmas
 pub mod PassLemmas
 pub mod HoldLemmas
+pub mod HoldStepLemmas
 pub mod SeatLemmas
 pub mod StoringLemmas
 pub mod ViewLemmas

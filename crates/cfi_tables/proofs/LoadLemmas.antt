@@ -1,6 +1,7 @@
 -- What a load adds to what was seen, and what a quiescent point makes of it.
-use Rattle.std.proofs.Common.{◌≡◌, ℕ, ◌+◌, ◌<◌, ◌≤◌, nat_lt, List, length, Option, Some, None, refl, sym, ap, subst, ◌∙◌, arith}
+use Rattle.std.proofs.Common.{◌≡◌, inl, inr, ℕ, ◌+◌, ◌<◌, ◌≤◌, nat_lt, List, length, Option, Some, None, refl, sym, ap, subst, ◌∙◌, arith}
 use mathlib.Core.List.{IsPrefix}
+use Rattle.std.proofs.lemmas.Bool.{true≢false}
 use Rattle.std.proofs.lemmas.Option.{same_Some}
 use Rattle.cfi_word.specs.Table.{Place, Epoch, Quiet, Code, Tary, Bary, IsPlace}
 use Rattle.cfi_word.specs.Word.{epoch_in}
@@ -15,13 +16,14 @@ use Rattle.cfi_model.proofs.InForceLemmas.{bary_epoch, bary_epoch_is, tary_epoch
 use Rattle.cfi_tables.specs.Key.{Key}
 use Rattle.cfi_model.specs.History.{IsFair}
 use Rattle.cfi_tables.specs.Fair.{history_at, kept_of}
-use Rattle.cfi_tables.specs.Loads.{IsFairAt, IsLoad, IsWordOf, Tells, TellsEpoch, access_of}
-use Rattle.cfi_tables.specs.Rule.{IsKeptBy, IsRegistered}
-use Rattle.cfi_tables.specs.Views.{tables_of, tables_with}
+use Rattle.cfi_tables.specs.Loads.{IsFairAt, IsLoad, IsWordOf, MayLoad, Tells, TellsEpoch, access_of}
+use Rattle.cfi_tables.specs.Rule.{IsBounded, IsKeptBy, IsRegistered}
+use Rattle.cfi_tables.specs.Views.{parked, tables_of, tables_with}
 use Rattle.cfi_tables.specs.declared.view.KeeperView.{KeeperView}
 use Rattle.cfi_tables.specs.declared.view.PassView.{PassView}
 use Rattle.cfi_tables.specs.inner.Steps.{published}
 use Rattle.atomic_table.proofs.Lists.{one_turn}
+use Rattle.cfi_tables.proofs.BoundLemmas.{bounded_now}
 use Rattle.cfi_tables.proofs.FairLemmas.{fair_at, fair_snoc, kept_at, kept_snoc}
 use Rattle.cfi_tables.proofs.Prefixes.{prefix_item, prefix_length}
 use Rattle.cfi_tables.proofs.NowLemmas.{load_now, on_snoc, timed_snoc}
@@ -97,7 +99,7 @@ module _ (k : Key) (u : KeeperView) (is : IsTables (tables_of k u)) where
   latest_least (Quiet guest) before most = omega arith
 
   module _ (place : Place) (at : IsPlace k.code_words place) (tells : TellsEpoch place) (p : PassView)
-      (r : IsRegistered k u p) where
+      (may : MayLoad p place) (r : IsRegistered k u p) where
     abbrev number : ℕ
     number = number_at t place
 
@@ -121,19 +123,27 @@ module _ (k : Key) (u : KeeperView) (is : IsTables (tables_of k u)) where
 
     -- a Tary word is of no earlier epoch than the kept Bary word, and too few epochs lie between for a version to come
     -- again
-    fair_by : (index : ℕ) → index < k.code_words → (kept : Option ℕ) → ((word : ℕ) → kept ≡ Some word → IsKeptBy p word)
+    fair_by : (b : IsBounded k u p) (index : ℕ) → index < k.code_words → (kept : Option ℕ)
+        → ((word : ℕ) → kept ≡ Some word → IsKeptBy p b.floor word)
         → IsFair (history_at k) kept (word_at t (Tary index))
-    fair_by index inside None keeps = tt
-    fair_by index inside (Some word) keeps =
+    fair_by b index inside None keeps = tt
+    fair_by b index inside (Some word) keeps =
         let kept = keeps word refl in
         let epoch = tary_epoch t is index inside in
         λ same. one_turn (epoch_in word) (epoch_in (word_at t (Tary index))) k.versions
-        (omega (arith, kept.most, r.seen.latest, epoch.0)) (omega (arith, kept.least, r.newest, epoch.1)) same
+        (omega (arith, kept.most, r.seen.latest, epoch.0)) (omega (arith, kept.least, b.newest, epoch.1)) same
+
+    tary_no_epoch : (index : ℕ) → Tary index ≡ Epoch → ⊥
+    tary_no_epoch index e = absurd (cc)
 
     fair_is : (other : Place) → other ≡ place → IsFairAt k (kept_of k p.sight.accesses) other (word_at t other)
     fair_is Epoch e = tt
-    fair_is (Tary index) e =
-        fair_by index (subst (IsPlace k.code_words) (sym e) at) (kept_of k p.sight.accesses) r.kept
+    fair_is (Tary index) e = elim may [
+      | inl outside ↦
+          let b = r.bounded outside in
+          fair_by b index (subst (IsPlace k.code_words) (sym e) at) (kept_of k p.sight.accesses) b.kept
+      | inr epoch ↦ absurd (tary_no_epoch index (e ∙ epoch))
+    ]
     fair_is (Bary slot) e = tt
     fair_is (Code index) e = tt
     fair_is (Quiet guest) e = tt
@@ -143,6 +153,7 @@ module _ (k : Key) (u : KeeperView) (is : IsTables (tables_of k u)) where
     load_is = record {
       guest = refl;
       quiet = refl;
+      parked = refl;
       refusals = refl;
       now = load_now k u is place at (tells_store place tells) p.sight r.seen.on after.sight refl refl refl;
       grows = more.grows;
@@ -155,20 +166,30 @@ module _ (k : Key) (u : KeeperView) (is : IsTables (tables_of k u)) where
     }
 
     -- the Bary word that is kept then
-    keeps_is : (other : Place) → (word : ℕ)
+    keeps_is : (b : IsBounded k u p) (other : Place) → IsPlace k.code_words other → (word : ℕ)
         → kept_at other (kept_of k p.sight.accesses) (word_at t other) ≡ Some word
-        → IsKeptBy (loaded k u other (word_at t other) p) word
-    keeps_is Epoch word e = absurd (cc)
-    keeps_is (Tary index) word e = let kept = r.kept word e in record { least = kept.least; most = kept.most }
-    keeps_is (Bary slot) word e =
+        → IsKeptBy (loaded k u other (word_at t other) p) b.floor word
+    keeps_is b Epoch inside word e = absurd (cc)
+    keeps_is b (Tary index) inside word e = let kept = b.kept word e in record { least = kept.least; most = kept.most }
+    keeps_is b (Bary slot) inside word e =
         let same : word_at t (Bary slot) ≡ word = same_Some (word_at t (Bary slot)) word e in
-        let epoch = bary_epoch t is slot in
-        subst (IsKeptBy (loaded k u (Bary slot) (word_at t (Bary slot)) p)) same (record {
-          least = omega (arith, r.published, r.seen.latest, epoch.1);
+        subst (IsKeptBy (loaded k u (Bary slot) (word_at t (Bary slot)) p) b.floor) same (record {
+          least = omega (arith, b.stored slot inside, bary_epoch_is t is slot);
           most = omega arith;
         })
-    keeps_is (Code index) word e = let kept = r.kept word e in record { least = kept.least; most = kept.most }
-    keeps_is (Quiet guest) word e = let kept = r.kept word e in record { least = kept.least; most = kept.most }
+    keeps_is b (Code index) inside word e = let kept = b.kept word e in record { least = kept.least; most = kept.most }
+    keeps_is b (Quiet guest) inside word e = let kept = b.kept word e in record { least = kept.least; most = kept.most }
+
+    loaded_bounded : IsBounded k u p → IsBounded k u after
+    loaded_bounded b = record {
+      floor = b.floor;
+      published = b.published;
+      stored = b.stored;
+      kept = λ word e. keeps_is b place at word
+          (sym (kept_snoc k p.sight.accesses place found (moment_of t) at (tells_store place tells)) ∙ e);
+      newest = b.newest;
+      next = b.next;
+    }
 
     pub loaded_registered : IsRegistered k u after
     loaded_registered =
@@ -194,26 +215,35 @@ module _ (k : Key) (u : KeeperView) (is : IsTables (tables_of k u)) where
           within = r.within;
           out = r.out;
           published = omega (arith, grows, r.published);
-          kept = λ word e. keeps_is place word
-              (sym (kept_snoc k p.sight.accesses place found (moment_of t) at (tells_store place tells)) ∙ e);
-          newest = r.newest;
-          next = r.next;
+          heard = r.heard;
+          bounded = λ outside. loaded_bounded (r.bounded outside);
         }
 
 -- ---- a quiescent point
 
 -- with no Bary word kept, the latest epoch that was seen may be published
-pub published_registered : (k : Key) (u : KeeperView) (p : PassView) → IsRegistered k u p
+pub published_registered : (k : Key) (u : KeeperView) → IsTables (tables_of k u) → (p : PassView) → IsRegistered k u p
     → kept_of k p.sight.accesses ≡ None → IsRegistered k u (published p)
-published_registered k u p r bare = record {
+published_registered k u is p r bare = record {
   seen = r.seen;
   within = r.within;
   out = r.out;
   published = omega arith;
-  kept = λ word e. absurd (no_word word (sym bare ∙ e));
-  newest = omega (arith, r.newest, r.published);
-  next = λ tested. omega (arith, r.next tested, r.published);
+  heard = omega (arith, r.heard, r.published);
+  bounded = λ outside. bounded_now k u is (published p) r.seen.latest (λ word e. no_word word (sym bare ∙ e));
 }
   where
     no_word : (word : ℕ) → None ≡ Some word → ⊥
     no_word word e = absurd (cc)
+
+-- ---- a guest parks
+
+pub parked_registered : (k : Key) (u : KeeperView) (p : PassView) → IsRegistered k u p → IsRegistered k u (parked p)
+parked_registered k u p r = record {
+  seen = r.seen;
+  within = r.within;
+  out = r.out;
+  published = r.published;
+  heard = r.heard;
+  bounded = λ outside. absurd (true≢false outside);
+}

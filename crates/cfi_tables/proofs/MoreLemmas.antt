@@ -42,6 +42,7 @@ abbrev pub loaded : Key → KeeperView → Place → (found : ℕ) → PassView 
 loaded k u place found p = record {
   guest = p.guest;
   quiet = p.quiet;
+  parked = p.parked;
   sight = record {
     refusals = p.sight.refusals;
     entries = entries_after p.sight.entries u.entries (number_at (tables_of k u) place);

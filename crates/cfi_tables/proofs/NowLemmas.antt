@@ -11,6 +11,7 @@ use Rattle.cfi_model.specs.Tables.{IsTables}
 use Rattle.cfi_model.specs.Words.{HasStore, Tables, word_at}
 use Rattle.cfi_model.proofs.TableMomentLemmas.{by_same, by_trans, order_snoc}
 use Rattle.cfi_tables.specs.Key.{Key}
+use Rattle.cfi_tables.specs.Keeping.{no_quiets}
 use Rattle.cfi_tables.specs.Loads.{IsLoadNow, access_of}
 use Rattle.cfi_tables.specs.Rule.{GoesOnTo}
 use Rattle.cfi_tables.specs.Views.{last_moment, tables_of, tables_with, view_at}
@@ -21,7 +22,8 @@ use Rattle.cfi_tables.proofs.Prefixes.{prefix_length, prefix_same}
 
 -- the tables of these entries, after so many stores
 abbrev at_stores : Key → (stored : ℕ) → List Entry → Tables
-at_stores k stored entries = tables_of k (view_at (record { entries = entries; refusals = []; out = []; quiets = [] }) stored)
+at_stores k stored entries =
+    tables_of k (view_at (record { entries = entries; refusals = []; out = []; quiets = no_quiets }) stored)
 
 -- ---- loads stay what they were while entries come
 

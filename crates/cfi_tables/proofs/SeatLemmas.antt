@@ -36,14 +36,14 @@ leave_at k u p is_held s r at =
       tells = r.quiets.tells;
     }) r.code tt
     (λ seat q there o. record {
-      registered = registered_same k v v.out v.quiets None q o.registered o.registered.out;
+      registered = registered_same k v v.out v.quiets None q o.registered o.registered.out o.registered.heard;
       published = o.published;
       apart = tt;
     }) in
     subst (λ z. KeepsRule k (with s s.words (slice_set s.views 0 (Keeper (record z { held = None })) ++ Pass p ∷ []))) e
     (pass_comes k (with s s.words (slice_set s.views 0 (Keeper new))) kept p
     (record {
-      registered = registered_same k v v.out v.quiets None p fits.registered fits.registered.out;
+      registered = registered_same k v v.out v.quiets None p fits.registered fits.registered.out fits.registered.heard;
       published = fits.published;
       apart = tt;
     })
@@ -99,11 +99,11 @@ return_at k u other p free s r at apart there =
       tells = r.quiets.tells;
     }) r.code
     (record {
-      registered = registered_same k v v.out v.quiets (Some p) p registered registered.out;
+      registered = registered_same k v v.out v.quiets (Some p) p registered registered.out registered.heard;
       published = r.published other p here;
     })
     (λ seat q at_seat o. record {
-      registered = registered_same k v v.out v.quiets (Some p) q o.registered o.registered.out;
+      registered = registered_same k v v.out v.quiets (Some p) q o.registered o.registered.out o.registered.heard;
       published = o.published;
       apart = λ same. not_spent seat q at_seat (r.alone seat other q p (was seat q at_seat) here (sym same));
     }) in

@@ -1,18 +1,18 @@
 -- The keeper's stores, tests and loads keep the rule.
 use native.Mathlib.Decide.{ℕ_discrete}
 use mathlib.Core.Logic.{dite}
-use Rattle.std.proofs.Common.{◌≡◌, inl, inr, ℕ, ◌+◌, ◌<◌, ◌≤◌, true, List, [], length, length-set, slice_index, slice_set, None, refl, sym, ap, subst, ◌∙◌, arith, ◌^◌}
+use Rattle.std.proofs.Common.{◌≡◌, inl, inr, ℕ, ◌+◌, ◌<◌, ◌≤◌, true, false, List, [], length, length-set, slice_index, slice_set, None, refl, sym, ap, subst, ◌∙◌, arith, ◌^◌}
 use Rattle.std.proofs.lemmas.List.{get_or-set_other, set-get_or, get_or-set_same}
 use mathlib.Core.Option.{none}
 use Rattle.atomic_table.specs.Table.{Allows, keeps, step}
 use Rattle.cfi_word.specs.declared.limits.TheConstants.{GUESTS}
 use Rattle.cfi_word.specs.Rank.{rank}
-use Rattle.cfi_word.specs.Table.{Place, IsPlace, quiet_word, word_count, word_number, Code, code_word}
+use Rattle.cfi_word.specs.Table.{Place, IsPlace, quiet_word, word_count, word_number, Bary, Code, code_word}
 use Rattle.cfi_model.specs.Tables.{IsTables}
-use Rattle.cfi_model.specs.Words.{newest, next_epoch, rank_at, word_of_entry}
+use Rattle.cfi_model.specs.Words.{newest, rank_at, word_of_entry}
 use Rattle.cfi_tables.specs.Key.{Key}
 use Rattle.cfi_tables.specs.Keeping.{is_out}
-use Rattle.cfi_tables.specs.Rule.{HeldFits, IsElse, KeepsRule, IsPublished, IsRegistered, ShowQuiets, ShowTables, TellsForce, CodeFits}
+use Rattle.cfi_tables.specs.Rule.{HeldFits, IsBounded, IsElse, KeepsRule, IsPublished, IsRegistered, ShowQuiets, ShowTables, TellsForce, CodeFits}
 use Rattle.cfi_model.specs.Words.{HasStore}
 use Rattle.cfi_tables.specs.Views.{keeper_of, tables_of}
 use Rattle.cfi_tables.specs.inner.Steps.{Seated, Stores, stored_to}
@@ -26,14 +26,15 @@ use Rattle.cfi_model.proofs.PhaseLemmas.{same_place}
 use Rattle.cfi_tables.proofs.TablesLemmas.{goes_on, stored_force, stored_is, stored_numbers}
 use Rattle.cfi_tables.proofs.ShowLemmas.{AreSkipped, store_shows}
 use Rattle.cfi_tables.proofs.SeenLemmas.{IsLater, rises, seen_stays}
+use Rattle.cfi_tables.proofs.BoundLemmas.{bounded_stays}
 use Rattle.cfi_tables.proofs.KeptLemmas.{IsNext, IsOut, Shared, keeper_goes, the_keeper, with}
 
 -- ---- what goes on with the tables
 
--- the bounds on what is published, where no more is asked of them
+-- what is known of what is published, and the bounds on the pass, where no more is asked of them
 pub record AreBound (k : Key) (old new : KeeperView) (p : PassView) : Type 0 where
-  pub newest : next_epoch (tables_of k new) + 1 ≤ p.quiet + k.versions
-  pub next : p.guest < new.tested → next_epoch (tables_of k new) + 2 ≤ p.quiet + k.versions
+  pub heard : slice_index new.quiets.heard p.guest ≤ p.quiet + 1
+  pub bounded : p.parked ≡ false → IsBounded k new p
 
 module _ (k : Key) (old new : KeeperView) (later : IsLater k old new) where
   pub registered_stays : (p : PassView) → IsRegistered k old p → is_out new.out p.guest ≡ true → AreBound k old new p
@@ -43,18 +44,18 @@ module _ (k : Key) (old new : KeeperView) (later : IsLater k old new) where
     within = r.within;
     out = out;
     published = r.published;
-    kept = r.kept;
-    newest = bound.newest;
-    next = bound.next;
+    heard = bound.heard;
+    bounded = bound.bounded;
   }
 
   tells_stays : (word : ℕ) → TellsForce k old word → TellsForce k new word
   tells_stays word (inl zeroth) = inl zeroth
-  tells_stays word (inr tells) = inr (tells.0, omega (arith, tells.1, rises k old new later))
+  tells_stays word (inr (inl parked)) = inr (inl parked)
+  tells_stays word (inr (inr tells)) = inr (inr (tells.0, omega (arith, tells.1, rises k old new later)))
 
   -- where no QUIET word and no pass changes
-  pub quiets_stay : (before words : List ℕ) → new.out ≡ old.out → length new.quiets ≡ GUESTS
-      → ((guest : ℕ) → guest < GUESTS → slice_index new.quiets guest ≤ slice_index before (quiet_word guest))
+  pub quiets_stay : (before words : List ℕ) → new.out ≡ old.out → length new.quiets.heard ≡ GUESTS
+      → ((guest : ℕ) → guest < GUESTS → slice_index new.quiets.heard guest ≤ slice_index before (quiet_word guest))
       → ((guest : ℕ) → guest < GUESTS → slice_index words (quiet_word guest) ≡ slice_index before (quiet_word guest))
       → ShowQuiets k before old → ShowQuiets k words new
   quiets_stay before words out many least same quiets = record {
@@ -133,7 +134,13 @@ store_next k words u is many shows quiets idle free place at has least skipped w
       code = code_set k words place word at many code small;
       held = subst (HeldFits k after (stored_to n u)) (sym free) tt;
       each = out_stays k u (stored_to n u) later words after refl free same
-          (λ p r published. record { newest = r.newest; next = r.next });
+          (λ p r published. record {
+            heard = r.heard;
+            bounded = λ outside.
+                (let b = r.bounded outside in
+                bounded_stays k u (stored_to n u) p b (λ slot. stored_numbers k u is n least (Bary slot)) b.newest
+                b.next);
+          });
     }
 
 -- a step of the keeper's seat, whose view is known

@@ -1,5 +1,5 @@
 -- The stores of an update, one after the other.
-use Rattle.std.proofs.Common.{List, ◌≡◌, ℕ, ◌+◌, ◌-◌, ◌<◌, ◌≤◌, [], ◌∷◌, length, length-append, slice_index, slice_index_or, refl, sym, ap, subst, ◌∙◌, arith}
+use Rattle.std.proofs.Common.{◌≡◌, ℕ, ◌+◌, ◌-◌, ◌<◌, ◌≤◌, [], ◌∷◌, length, length-append, slice_index, slice_index_or, refl, sym, ap, subst, ◌∙◌, arith}
 use Rattle.std.proofs.lemmas.List.{get_or_push, get_or_append_left}
 use mathlib.Core.Option.{none}
 use Rattle.atomic_table.specs.Table.{Allows, step}
@@ -15,6 +15,7 @@ use Rattle.cfi_tables.specs.Views.{idle_view, keeper_of, keeping_of, tables_of, 
 use Rattle.cfi_tables.specs.inner.Steps.{Seated, Stores, stored_to}
 use Rattle.cfi_tables.specs.inner.Stores.{HasStoredBelow, keeping_at}
 use Rattle.cfi_tables.specs.declared.view.KeeperView.{KeeperView}
+use Rattle.cfi_tables.specs.declared.view.Quiets.{Quiets}
 use Rattle.cfi_tables.specs.declared.view.View.TheVariants.{Keeper}
 use Rattle.cfi_tables.proofs.PlaceLemmas.{rank_is}
 use Rattle.cfi_tables.proofs.StepLemmas.{store_allowed, FitsCode}
@@ -64,7 +65,7 @@ module _ (k : Key) (u : KeeperView) (place : Place) (at : IsPlace k.code_words p
 
 -- ---- from the test to the stores
 
-module _ (k : Key) (keeping : Keeping) (entry : Entry) (quiets : List ℕ) (some : 1 ≤ length keeping.entries) where
+module _ (k : Key) (keeping : Keeping) (entry : Entry) (quiets : Quiets) (some : 1 ≤ length keeping.entries) where
   abbrev grown : Keeping
   grown = grown_by entry quiets keeping
 

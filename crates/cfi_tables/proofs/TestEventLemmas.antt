@@ -1,19 +1,17 @@
 -- The test of a QUIET word is an event.
-use Rattle.std.proofs.Common.{◌≡◌, inl, ℕ, zero, suc, ◌+◌, ◌-◌, ◌<◌, ◌≤◌, nat_lt, cond, Bool, true, false, List, [], ◌∷◌, length, slice_index, Some, refl, sym, ap, subst, ◌∙◌, arith}
+use Rattle.std.proofs.Common.{◌≡◌, inl, ℕ, ◌+◌, ◌-◌, ◌<◌, ◌≤◌, nat_lt, cond, Bool, true, false, List, [], ◌∷◌, length, slice_index, Some, refl, sym, ap, subst, ◌∙◌, arith}
 use Rattle.std.proofs.lemmas.List.{get_or_append_left, length-append, set-get_or}
 use mathlib.Core.Option.{none}
 use Rattle.atomic_table.specs.Table.{carried_after, opening, step, stepped}
 use Rattle.cfi_word.specs.declared.limits.TheConstants.{GUESTS}
 use Rattle.cfi_word.specs.Table.{Place, IsPlace, quiet_word, word_number}
 use Rattle.cfi_model.specs.declared.history.Entry.{Entry}
-use Rattle.cfi_model.specs.declared.quiet.Quiet.TheVariants.{Published}
-use Rattle.cfi_model.specs.Quiet.{admits, quiet_word_of}
+use Rattle.cfi_model.specs.Quiet.{quiet_in}
 use Rattle.cfi_model.specs.SharedEvents.{Past, Shared, SharedEvent, AreSame, Makes, MakesPass, MakesRefusal, IsSet, newest_word, past_passed}
 use Rattle.cfi_model.specs.SharedEvents as events
 use Rattle.cfi_model.specs.Tables.{IsTables, IsAsked, MayBeAsked}
 use Rattle.cfi_model.specs.Words.{Tables, HasStore, before, entry_word, newest, next_epoch, no_entry, word_of_entry}
 use Rattle.cfi_tables.specs.Events.{TableState, IsSeatStep, Relates, TestsCome, past_of, shared_of, tested_event}
-use Rattle.cfi_tables.specs.Faults.{quiet_in}
 use Rattle.cfi_tables.specs.Key.{Key}
 use Rattle.cfi_tables.specs.Keeping.{entry_by, is_out, opened_keeping}
 use Rattle.cfi_tables.specs.Rule.{KeepsRule, ShowTables}
@@ -27,20 +25,8 @@ use Rattle.cfi_tables.proofs.OpeningLemmas.{opening_kept}
 use Rattle.cfi_tables.proofs.PlaceLemmas.{rank_most}
 use Rattle.cfi_tables.proofs.ShowLemmas.{word_new, word_old}
 use Rattle.cfi_tables.proofs.TestLemmas.{test_allowed}
+use Rattle.cfi_tables.proofs.QuietLemmas.{told_back, told_some}
 use Rattle.cfi_tables.proofs.RelateLemmas.{keeper_is, keeper_relates, keeper_was, words_are}
-
--- ---- the word that is found
-
-told_back : (word : ℕ) → word ≡ quiet_word_of (quiet_in word)
-told_back zero = refl
-told_back (suc epoch) = omega arith
-
-told_some : (versions epoch word : ℕ) → admits versions epoch (quiet_in word) ≡ false
-    → (word ≡ word - 1 + 1) × (admits versions epoch (Published (word - 1)) ≡ false)
-told_some versions epoch zero spent = absurd (cc)
-told_some versions epoch (suc quiet) spent =
-    let same : quiet ≡ suc quiet - 1 = omega arith in
-    (omega arith, subst (λ (q : ℕ). admits versions epoch (Published q) ≡ false) same spent)
 
 -- all words are those of the last entry
 abbrev pub AreSettled : Key → (words : List ℕ) → KeeperView → Type 0

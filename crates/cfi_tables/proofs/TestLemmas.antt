@@ -9,19 +9,22 @@ use native.Mathlib.Decide.{ℕ_discrete}
 use Rattle.atomic_table.specs.Table.{Allows, step}
 use Rattle.cfi_word.specs.declared.limits.TheConstants.{GUESTS, MAX_EPOCH}
 use Rattle.cfi_word.specs.Rank.{stores_of}
-use Rattle.cfi_word.specs.Table.{quiet_word, word_count, Code}
+use Rattle.cfi_word.specs.Table.{quiet_word, word_count, Bary, Code}
 use Rattle.cfi_model.specs.declared.history.Entry.{Entry}
 use Rattle.cfi_model.specs.declared.history.Refusal.{Refusal}
+use Rattle.cfi_model.specs.declared.quiet.TheConstants.{PARKED}
 use Rattle.cfi_model.specs.Tables.{IsTables, IsUpdate}
 use Rattle.cfi_model.specs.Words.{next_epoch}
 use Rattle.cfi_tables.specs.Key.{Key}
-use Rattle.cfi_tables.specs.Keeping.{is_out, last_of}
-use Rattle.cfi_tables.specs.Rule.{HeldFits, KeepsRule, IsPublished, IsRegistered, ShowQuiets, ShowTables, TellsForce, CodeFits}
-use Rattle.cfi_tables.specs.Views.{keeper_of, tables_of}
+use Rattle.cfi_tables.specs.Keeping.{heard_in, is_out, last_of}
+use Rattle.cfi_tables.specs.Rule.{HeldFits, IsBounded, KeepsRule, IsPublished, IsRegistered, ShowQuiets, ShowTables, TellsForce, CodeFits}
+use Rattle.cfi_tables.specs.Views.{keeper_of, tables_of, word_of_pass}
 use Rattle.cfi_tables.specs.inner.Steps.{Seated, Tests, grown, is_passed, loaded, test_passed, test_refusal, refused, tested_by}
 use Rattle.cfi_tables.specs.declared.view.KeeperView.{KeeperView}
 use Rattle.cfi_tables.specs.declared.view.PassView.{PassView}
 use Rattle.cfi_tables.specs.declared.view.View.TheVariants.{Keeper}
+use Rattle.cfi_tables.proofs.BoundLemmas.{bounded_stays}
+use Rattle.cfi_tables.proofs.QuietLemmas.{heard_of_word, quiet_small, told_admits, word_either, word_outside}
 use Rattle.cfi_tables.proofs.Prefixes.{prefix_more, prefix_same}
 use Rattle.cfi_tables.proofs.TablesLemmas.{asked_is, dropped_is, goes_on, grown_force, grown_is, grown_numbers}
 use Rattle.cfi_tables.proofs.ShowLemmas.{grown_shows}
@@ -29,13 +32,14 @@ use Rattle.cfi_tables.proofs.SeenLemmas.{IsLater}
 use Rattle.cfi_tables.proofs.KeptLemmas.{IsNext, Shared}
 use Rattle.cfi_tables.proofs.StepLemmas.{keeper_moves, out_stays, quiets_stay}
 
--- a word that passes the test bounds the update
-pass_bound : (k : Key) (u : KeeperView) (word quiet : ℕ) → word ≡ quiet + 1 → is_passed k u word ≡ true
-    → 3 ≤ k.versions → next_epoch (tables_of k u) + 2 ≤ quiet + k.versions
-pass_bound k u zero quiet e ok three = absurd (omega (arith, e))
-pass_bound k u (suc epoch) quiet e ok three =
+-- a word that tells an epoch and passes the test bounds the update
+pass_bound : (k : Key) (u : KeeperView) (word quiet : ℕ) → word ≡ quiet + 1 → quiet + 1 < PARKED
+    → is_passed k u word ≡ true → 3 ≤ k.versions → next_epoch (tables_of k u) + 2 ≤ quiet + k.versions
+pass_bound k u zero quiet e small ok three = absurd (omega (arith, e))
+pass_bound k u (suc epoch) quiet e small ok three =
     let same : epoch ≡ quiet = omega (arith, e) in
-    within (next_epoch (tables_of k u)) (epoch + k.versions - 2) epoch quiet k.versions same three ok refl
+    let tells = told_admits k.versions (next_epoch (tables_of k u)) epoch (omega (arith, e, small)) ok in
+    within (next_epoch (tables_of k u)) (epoch + k.versions - 2) epoch quiet k.versions same three tells refl
   where
     within : (m most epoch quiet v : ℕ) → epoch ≡ quiet → 3 ≤ v → nat_le m most ≡ true → most ≡ epoch + v - 2
         → m + 2 ≤ quiet + v
@@ -54,22 +58,53 @@ module _ (k : Key) (words : List ℕ) (u : KeeperView) (is : IsTables (tables_of
   abbrev with_found : KeeperView
   with_found = loaded found u
 
-  loaded_many : length with_found.quiets ≡ GUESTS
-  loaded_many = length-set u.quiets u.tested found ∙ quiets.quiets_many
+  -- what was known of its guest, and what is known then
+  abbrev known : ℕ
+  known = slice_index u.quiets.heard u.tested
 
-  loaded_least : (guest : ℕ) → guest < GUESTS → slice_index with_found.quiets guest ≤ slice_index words (quiet_word guest)
+  abbrev now : ℕ
+  now = heard_in found known
+
+  now_here : slice_index with_found.quiets.heard u.tested ≡ now
+  now_here = get_or-set_same u.quiets.heard u.tested now 0 (omega (arith, few, quiets.quiets_many))
+
+  now_else : (guest : ℕ) → guest ≢ u.tested
+      → slice_index with_found.quiets.heard guest ≡ slice_index u.quiets.heard guest
+  now_else guest apart = get_or-set_other u.quiets.heard u.tested guest now 0 apart
+
+  loaded_many : length with_found.quiets.heard ≡ GUESTS
+  loaded_many = length-set u.quiets.heard u.tested now ∙ quiets.quiets_many
+
+  loaded_least : (guest : ℕ) → guest < GUESTS
+      → slice_index with_found.quiets.heard guest ≤ slice_index words (quiet_word guest)
   loaded_least guest inside = dite (ℕ_discrete guest u.tested)
       (λ same. omega (
         arith,
-        ap (slice_index with_found.quiets) same
-            ∙ get_or-set_same u.quiets u.tested found 0 (omega (arith, few, quiets.quiets_many)),
+        ap (slice_index with_found.quiets.heard) same ∙ now_here,
+        heard_of_word (λ n. n ≤ found) found known (quiets.later u.tested few) (λ apart. omega arith),
         ap (λ g. slice_index words (quiet_word g)) same,
       ))
-      (λ apart. omega (
+      (λ apart. omega (arith, now_else guest apart, quiets.later guest inside))
+
+  -- the keeper has heard of nothing later than what a guest has published
+  now_most : (p : PassView) → IsRegistered k u p → IsPublished words p → p.guest ≡ u.tested → now ≤ p.quiet + 1
+  now_most p r published same =
+      let is_word : found ≡ word_of_pass p = ap (λ g. slice_index words (quiet_word g)) (sym same) ∙ published in
+      heard_of_word (λ n. n ≤ p.quiet + 1) found known
+      (omega (arith, r.heard, ap (slice_index u.quiets.heard) same))
+      (λ apart. subst (λ n. n ≤ p.quiet + 1) (sym is_word)
+      (word_either p (λ n. word_of_pass p ≡ n → n ≤ p.quiet + 1)
+      (λ e. absurd (apart (is_word ∙ e))) (λ outside e. omega arith) refl))
+
+  loaded_heard : (p : PassView) → IsRegistered k u p → IsPublished words p
+      → slice_index with_found.quiets.heard p.guest ≤ p.quiet + 1
+  loaded_heard p r published = dite (ℕ_discrete p.guest u.tested)
+      (λ same. omega (
         arith,
-        get_or-set_other u.quiets u.tested guest found 0 apart,
-        quiets.later guest inside,
+        ap (slice_index with_found.quiets.heard) same ∙ now_here,
+        now_most p r published same,
       ))
+      (λ apart. omega (arith, now_else p.guest apart, r.heard))
 
   same_words : (guest : ℕ) → guest < GUESTS
       → slice_index words (quiet_word guest) ≡ slice_index words (quiet_word guest)
@@ -77,13 +112,16 @@ module _ (k : Key) (words : List ℕ) (u : KeeperView) (is : IsTables (tables_of
 
   -- the next update is bound by each guest that it has passed
   next_bound : is_passed k u found ≡ true → (p : PassView) → IsRegistered k u p → IsPublished words p
-      → p.guest < u.tested + 1 → next_epoch (tables_of k u) + 2 ≤ p.quiet + k.versions
-  next_bound ok p r published tested = elim (cases_lt p.guest u.tested) [
-    | inl before ↦ r.next before
+      → p.parked ≡ false → (b : IsBounded k u p) → p.guest < u.tested + 1
+      → next_epoch (tables_of k u) + 1 ≤ b.floor + k.versions
+  next_bound ok p r published outside b tested = elim (cases_lt p.guest u.tested) [
+    | inl before ↦ b.next before
     | inr here ↦
         let same : p.guest ≡ u.tested = omega (arith, here, tested) in
-        pass_bound k u found p.quiet (ap (λ g. slice_index words (quiet_word g)) (sym same) ∙ published) ok
-        is.versions_least
+        let bound = pass_bound k u found p.quiet
+        (ap (λ g. slice_index words (quiet_word g)) (sym same) ∙ (published ∙ word_outside p outside))
+        (quiet_small k u is p r) ok is.versions_least in
+        omega (arith, bound, b.published)
   ]
 
   -- the test goes on
@@ -109,8 +147,11 @@ module _ (k : Key) (words : List ℕ) (u : KeeperView) (is : IsTables (tables_of
         code = code;
         held = subst (HeldFits k words new) (sym free) tt;
         each = out_stays k u new later words words refl free same_words (λ p r published. record {
-          newest = r.newest;
-          next = λ tested. next_bound ok p r published tested;
+          heard = loaded_heard p r published;
+          bounded = λ outside.
+              (let b = r.bounded outside in
+              bounded_stays k u new p b (λ slot. omega arith) b.newest
+              (λ tested. next_bound ok p r published outside b tested));
         });
       }
 
@@ -138,8 +179,12 @@ module _ (k : Key) (words : List ℕ) (u : KeeperView) (is : IsTables (tables_of
         code = code;
         held = subst (HeldFits k words new) (sym free) tt;
         each = out_stays k u new later words words refl free same_words (λ p r published. record {
-          newest = omega (arith, long, next_bound ok p r published (omega (arith, r.within, last)));
-          next = λ tested. absurd (omega (arith, tested));
+          heard = loaded_heard p r published;
+          bounded = λ outside.
+              (let b = r.bounded outside in
+              let bound = next_bound ok p r published outside b (omega (arith, r.within, last)) in
+              bounded_stays k u new p b (λ slot. grown_numbers k u is entry (Bary slot)) (omega (arith, long, bound))
+              (λ tested. absurd (omega (arith, tested))));
         });
       }
 
@@ -174,8 +219,10 @@ module _ (k : Key) (words : List ℕ) (u : KeeperView) (is : IsTables (tables_of
         code = code;
         held = subst (HeldFits k words new) (sym free) tt;
         each = out_stays k u new later words words refl free same_words (λ p r published. record {
-          newest = r.newest;
-          next = λ tested. absurd (omega (arith, tested));
+          heard = loaded_heard p r published;
+          bounded = λ outside.
+              (let b = r.bounded outside in
+              bounded_stays k u new p b (λ slot. omega arith) b.newest (λ tested. absurd (omega (arith, tested))));
         });
       }
 
@@ -224,7 +271,9 @@ test_allowed k key slots id i me u entry same zeroth is idle free few follows fi
             out = subst (λ (z : Seated). found ≢ 0 → is_out (keeper_of z.0).out (keeper_of z.0).tested ≡ true) (sym is)
                 (found_out k s.words u tables r.many shows quiets r.code idle free few entry follows fits);
             tells = subst (λ (z : Seated). TellsForce k (keeper_of z.0) found) (sym is) (quiets.tells u.tested few);
-            later = subst (λ (z : Seated). slice_index (keeper_of z.0).quiets (keeper_of z.0).tested ≤ found) (sym is)
-                (quiets.later u.tested few);
+            later = subst (λ (z : Seated). slice_index (keeper_of z.0).quiets.heard (keeper_of z.0).tested
+                ≤ heard_in found (slice_index (keeper_of z.0).quiets.heard (keeper_of z.0).tested)) (sym is)
+                (heard_of_word (λ n. slice_index u.quiets.heard u.tested ≤ n) found
+                (slice_index u.quiets.heard u.tested) (omega arith) (λ apart. quiets.later u.tested few));
           },
         )

@@ -1,10 +1,11 @@
 -- The views after the steps for a pass that the keeper holds.
 use Rattle.std.proofs.Common.{◌-◌, ◌+◌, ◌≤◌, ℕ, ◌≡◌, [], slice_index, slice_set, false, Some, None, ap, subst, ◌∙◌}
 use Rattle.cfi_tables.specs.Key.{Key}
+use Rattle.cfi_tables.specs.Keeping.{heard_as}
 use Rattle.cfi_tables.specs.Rule.{AgreesWith}
-use Rattle.cfi_tables.specs.Views.{held_by, keeper_of, keeping_of, noted, pass_of}
+use Rattle.cfi_tables.specs.Views.{held_by, keeper_of, keeping_of, noted, parked, pass_of}
 use Rattle.cfi_word.specs.Table.{quiet_word}
-use Rattle.cfi_tables.proofs.HoldLemmas.{back}
+use Rattle.cfi_tables.proofs.HoldStepLemmas.{back}
 use Rattle.cfi_tables.specs.inner.Steps.{IsHeard, Seated, cleared, registered, left_view, published, returned_view, seat_view, told}
 use Rattle.cfi_tables.specs.declared.view.KeeperView.{KeeperView}
 use Rattle.cfi_tables.specs.declared.view.PassView.{PassView}
@@ -27,7 +28,7 @@ module _ (me : Seated) (u : KeeperView) (p : PassView) (is : me ≡ (Keeper (rec
   pub told_to : (k : Key) (new : Seated) → new ≡ (Keeper (told k (keeper_of me.0)), me.1)
       → new ≡ (
         Keeper (record u {
-          quiets = slice_set u.quiets p.guest (p.quiet + 1);
+          quiets = heard_as p.guest (p.quiet + 1) u.quiets;
           held = Some (noted k (keeping_of u) p);
         }),
         [],
@@ -40,7 +41,7 @@ module _ (me : Seated) (u : KeeperView) (p : PassView) (is : me ≡ (Keeper (rec
   agrees_to k = subst (λ (z : Seated). AgreesWith k (keeper_of z.0).entries (keeper_of z.0).refusals
       (held_by (keeper_of z.0).held).sight) is
 
-  pub heard_to : IsHeard (keeper_of me.0) → slice_index u.quiets p.guest ≤ p.quiet + 1
+  pub heard_to : IsHeard (keeper_of me.0) → slice_index u.quiets.heard p.guest ≤ p.quiet + 1
   heard_to = subst (λ (z : Seated). IsHeard (keeper_of z.0)) is
 
   pub left_to : (new : Seated) → new ≡ (left_view me.0, me.1) → new ≡ (Keeper (record u { held = None }), [])
@@ -51,10 +52,15 @@ module _ (me : Seated) (u : KeeperView) (p : PassView) (is : me ≡ (Keeper (rec
 
   pub cleared_to : (new : Seated) → new ≡ (Keeper (cleared (keeper_of me.0)), me.1)
       → new ≡ (
-        Keeper (record u { out = slice_set u.out p.guest false; quiets = slice_set u.quiets p.guest 0; held = None }),
+        Keeper (record u { out = slice_set u.out p.guest false; quiets = heard_as p.guest 0 u.quiets; held = None }),
         [],
       )
   cleared_to new goes = goes ∙ ap (λ (z : Seated). (Keeper (cleared (keeper_of z.0)), z.1)) is
+
+-- after a guest has parked
+pub parked_to : (me new : Seated) (p : PassView) → me ≡ (Pass p, []) → new ≡ (Pass (parked (pass_of me.0)), me.1)
+    → new ≡ (Pass (parked p), [])
+parked_to me new p is goes = goes ∙ ap (λ (z : Seated). (Pass (parked (pass_of z.0)), z.1)) is
 
 -- and after a quiescent point
 pub published_to : (me new : Seated) (p : PassView) → me ≡ (Pass p, []) → new ≡ (Pass (published (pass_of me.0)), me.1)

@@ -1,5 +1,5 @@
 -- The test of one QUIET word: the step may be made, and the word passes or does not.
-use Rattle.std.proofs.Common.{◌≡◌, ℕ, zero, suc, ◌+◌, ◌-◌, ◌<◌, ◌≤◌, nat_lt, cond, true, false, List, [], ◌∷◌, length, slice_set, Some, None, refl, sym, ap, subst, ◌∙◌, arith}
+use Rattle.std.proofs.Common.{◌≡◌, ℕ, zero, suc, ◌+◌, ◌-◌, ◌<◌, ◌≤◌, nat_lt, cond, true, false, List, [], length, Some, None, refl, sym, ap, subst, ◌∙◌, arith}
 use Rattle.std.proofs.lemmas.Bool.{lt-ltb}
 use mathlib.Core.Option.{none}
 use Rattle.atomic_table.specs.Table.{Allows, step}
@@ -8,12 +8,12 @@ use Rattle.cfi_word.specs.Rank.{stores_of}
 use Rattle.cfi_word.specs.Table.{quiet_word}
 use Rattle.cfi_model.specs.declared.history.Entry.{Entry}
 use Rattle.cfi_model.specs.declared.history.Refusal.{Refusal}
-use Rattle.cfi_model.specs.Quiet.{admits}
+use Rattle.cfi_model.specs.Quiet.{admits, quiet_in}
 use Rattle.cfi_model.specs.Tables.{IsUpdate}
 use Rattle.cfi_model.specs.Words.{epoch_in_force}
-use Rattle.cfi_tables.specs.Faults.{epoch_after, quiet_in}
+use Rattle.cfi_tables.specs.Faults.{epoch_after}
 use Rattle.cfi_tables.specs.Key.{Key}
-use Rattle.cfi_tables.specs.Keeping.{Keeping, grown_by, last_of, refused_by}
+use Rattle.cfi_tables.specs.Keeping.{Keeping, found_as, grown_by, last_of, refused_by}
 use Rattle.cfi_tables.specs.Rule.{KeepsRule}
 use Rattle.cfi_tables.specs.Views.{idle_tables, idle_view, keeper_of, keeping_of, tables_of, view_at}
 use Rattle.cfi_tables.specs.inner.Steps.{Seated, Tests, grown, is_passed, loaded, test_passed, test_refusal, refused, tested_by}
@@ -24,7 +24,7 @@ use Rattle.cfi_tables.proofs.TestLemmas.{test_allowed}
 
 -- what the keeper keeps after the load of one QUIET word more
 abbrev pub heard : (word tested : ℕ) → Keeping → Keeping
-heard word tested keeping = record keeping { quiets = slice_set keeping.quiets tested word }
+heard word tested keeping = record keeping { quiets = found_as tested word keeping.quiets }
 
 module _ (k : Key) (keeping : Keeping) (entry : Entry) where
   -- a view of the test is the idle one, but for the update and the count

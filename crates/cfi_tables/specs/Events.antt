@@ -1,7 +1,7 @@
 -- Which event on what is shared each kind of step is. The keeper's seat is the seat 0.
 -- No events are the opening, the store that registers a guest, splits and joins, and two loads of the keeper, which
 -- change nothing: of a code word, before it is stored, and of EPOCH, with a note.
-use Rattle.std.specs.Prelude.{◌≡◌, ℕ, ◌-◌, ◌<◌, ◌^◌, List, [], length, slice_index, Some, if◌then◌else◌}
+use Rattle.std.specs.Prelude.{◌≡◌, ℕ, ◌+◌, ◌-◌, ◌<◌, ◌^◌, List, [], length, slice_index, Some, if◌then◌else◌, Bool, true, false}
 use mathlib.Core.Option.{some, none}
 use lib.ListN.{get_elem?}
 use Rattle.atomic_table.specs.Table.{State, Act, opening, step, stepped}
@@ -9,16 +9,17 @@ use Rattle.cfi_word.specs.declared.limits.TheConstants.{GUESTS, MAX_EPOCH}
 use Rattle.cfi_word.specs.Table.{Place, IsPlace, quiet_word, word_number}
 use Rattle.cfi_word.specs.Table as places
 use Rattle.cfi_model.specs.declared.history.Entry.{Entry}
+use Rattle.cfi_model.specs.declared.quiet.TheConstants.{PARKED}
 use Rattle.cfi_model.specs.SharedEvents.{Past, Shared, SharedEvent, AreSame, Makes, IsSet}
 use Rattle.cfi_model.specs.SharedEvents as events
 use Rattle.cfi_model.specs.Tables.{IsTables}
 use Rattle.cfi_model.specs.Words.{HasStore, next_epoch}
 use Rattle.cfi_tables.specs.Key.{Key}
 use Rattle.cfi_tables.specs.Keeping.{entry_by, opened_keeping}
-use Rattle.cfi_tables.specs.Loads.{TellsEpoch}
+use Rattle.cfi_tables.specs.Loads.{MayLoad, TellsEpoch}
 use Rattle.cfi_tables.specs.Rule.{KeepsRule}
 use Rattle.cfi_tables.specs.Views.{idle_tables, idle_view, opened_view, tables_of}
-use Rattle.cfi_tables.specs.inner.Steps.{Seated, Clears, Fetches, Loads, Looks, Publishes, Registers, Stores, Tells, Tests, is_passed}
+use Rattle.cfi_tables.specs.inner.Steps.{Seated, Clears, Fetches, Loads, Looks, Parks, Publishes, Registers, Stores, Tells, Tests, is_passed}
 use Rattle.cfi_tables.specs.declared.view.KeeperView.{KeeperView}
 use Rattle.cfi_tables.specs.declared.view.PassView.{PassView}
 use Rattle.cfi_tables.specs.declared.view.View.{View}
@@ -78,13 +79,30 @@ FetchesAreEvents =
     Fetches k (step slots number 0 0 none) (Pass p, []) found new →
     Relates (Makes (events.Load (places.Code index) found)) k s t one.before one.after
 
+-- a guest that is not parked parks; where one that is parked stores its word again, nothing changes
+abbrev pub MakesParkBy : (parked : Bool) → (guest : ℕ) → (old new : Shared) → Type 0
+MakesParkBy true guest old new = AreSame old new
+MakesParkBy false guest old new = Makes (events.Park guest) old new
+
+abbrev pub ParksAreEvents : Type 0
+ParksAreEvents =
+    (k : Key) (slots seat word : ℕ) (p : PassView) (new : Seated) (s t : TableState) →
+    (one : IsSeatStep k seat (quiet_word p.guest) word (Pass p, []) new s t) →
+    Parks (step slots (quiet_word p.guest) word 0 none) (Pass p, []) word new →
+    Relates (MakesParkBy p.parked p.guest) k s t one.before one.after
+
+-- a guest that is parked publishes; a quiescent point of one that is not, in no service, sets its QUIET word alone
+abbrev pub MakesPublishBy : (parked : Bool) → (guest epoch : ℕ) → (old new : Shared) → Type 0
+MakesPublishBy true guest epoch old new = Makes (events.Publish guest epoch) old new
+MakesPublishBy false guest epoch old new = IsSet (places.Quiet guest) (epoch + 1) old new
+
 -- what is published is the latest epoch that was seen
 abbrev pub PublishesAreEvents : Type 0
 PublishesAreEvents =
     (k : Key) (slots seat word : ℕ) (p : PassView) (new : Seated) (s t : TableState) →
     (one : IsSeatStep k seat (quiet_word p.guest) word (Pass p, []) new s t) →
     Publishes (step slots (quiet_word p.guest) word 0 none) (Pass p, []) word new →
-    Relates (Makes (events.Publish p.guest p.sight.latest)) k s t one.before one.after
+    Relates (MakesPublishBy p.parked p.guest p.sight.latest) k s t one.before one.after
 
 -- ---- steps of the keeper
 
@@ -167,8 +185,16 @@ TestsCome =
 abbrev pub LoadsCome : Type 0
 LoadsCome =
     (k : Key) (slots seat : ℕ) (p : PassView) (s : TableState) (place : Place) → KeepsRule k s → length s.homes ≡ slots →
-    get_elem? s.views seat ≡ some (Pass p) → IsPlace k.code_words place → TellsEpoch place →
+    get_elem? s.views seat ≡ some (Pass p) → IsPlace k.code_words place → TellsEpoch place → MayLoad p place →
     let number = word_number k.code_words place in
     let found = slice_index s.words number in
     found < 2 ^ 64 →
     StepComes k seat number found (Pass p, []) s (Loads k (step slots number 0 0 none) (Pass p, []) found)
+
+-- a pass's store by which its guest parks, wherever its seat is
+abbrev pub ParksCome : Type 0
+ParksCome =
+    (k : Key) (slots seat : ℕ) (p : PassView) (s : TableState) → KeepsRule k s → length s.homes ≡ slots →
+    get_elem? s.views seat ≡ some (Pass p) → slice_index s.words (quiet_word p.guest) < 2 ^ 64 →
+    StepComes k seat (quiet_word p.guest) PARKED (Pass p, []) s
+    (Parks (step slots (quiet_word p.guest) PARKED 0 none) (Pass p, []) PARKED)

@@ -1,5 +1,5 @@
 -- What a guest's load of a table word tells its pass. Epochs are numbers; an address is in bytes.
-use Rattle.std.specs.Prelude.{◌≡◌, ℕ, ◌+◌, ◌-◌, ◌*◌, ◌/◌, ◌%◌, ◌≤◌, ◌<◌, ◌⊎◌, max, nat_le, if◌then◌else◌, [], ◌∷◌, ◌++◌, List, length, slice_index_or, Option, ⊤, slice_index, ◌≢◌}
+use Rattle.std.specs.Prelude.{◌≡◌, ℕ, ◌+◌, ◌-◌, ◌*◌, ◌/◌, ◌%◌, ◌≤◌, ◌<◌, ◌⊎◌, max, nat_le, if◌then◌else◌, [], ◌∷◌, ◌++◌, List, length, slice_index_or, Option, ⊤, slice_index, ◌≢◌, false}
 use mathlib.Core.List.{IsPrefix}
 use Rattle.cfi_word.specs.declared.map.TheConstants.{TARY, BARY, CODE_BYTES}
 use Rattle.cfi_word.specs.Table.{Place, slots_of, word_number}
@@ -85,11 +85,16 @@ IsFairAt k kept (places.Bary slot) found = ⊤
 IsFairAt k kept (places.Code index) found = ⊤
 IsFairAt k kept (places.Quiet guest) found = ⊤
 
+-- a guest that is parked loads EPOCH alone
+abbrev pub MayLoad : PassView → Place → Type 0
+MayLoad p place = (p.parked ≡ false) ⊎ (place ≡ places.Epoch)
+
 -- what a pass knows after a load: what it found is the word of this moment, and is of an entry that it has seen then,
 -- which are entries of tables
 pub record IsLoad (k : Key) (place : Place) (found : ℕ) (old new : PassView) : Type 0 where
   pub guest : new.guest ≡ old.guest
   pub quiet : new.quiet ≡ old.quiet
+  pub parked : new.parked ≡ old.parked
   pub refusals : new.sight.refusals ≡ old.sight.refusals
   pub now : IsLoadNow k place found old.sight new.sight
   pub grows : IsPrefix old.sight.entries new.sight.entries
@@ -99,12 +104,15 @@ pub record IsLoad (k : Key) (place : Place) (found : ℕ) (old new : PassView) :
   pub tells : Tells place found old.sight.latest new.sight.latest
   pub fair : IsFairAt k (kept_of k old.sight.accesses) place found
 
--- what a pass knows after a quiescent point: a load of EPOCH, and a store of the epoch found in the guest's QUIET word
+-- what a pass knows after a quiescent point: a load of EPOCH, and a store of the epoch found, which is not below the
+-- one that was published before, in the guest's QUIET word, by which the guest is parked no more
 pub record IsQuiet (k : Key) (epoch : ℕ) (old new : PassView) : Type 0 where
   pub found : ℕ
   pub epoch_is : epoch ≡ epoch_in found
   pub quiet : new.quiet ≡ epoch
-  pub load : IsLoad k places.Epoch found old (record new { quiet = old.quiet })
+  pub later : old.quiet ≤ epoch
+  pub parked : new.parked ≡ false
+  pub load : IsLoad k places.Epoch found old (record new { quiet = old.quiet; parked = old.parked })
 
 -- what a pass knows after the fetch of a code word: it is the word of this moment; and that of an entry which the pass
 -- has seen, if not 0, is what it found

@@ -11,6 +11,7 @@ use Rattle.cfi_word.specs.Word.{epoch_in}
 use Rattle.cfi_model.specs.declared.history.Access.{Access}
 use Rattle.cfi_model.specs.declared.history.Entry.{Entry}
 use Rattle.cfi_model.specs.declared.history.Refusal.{Refusal}
+use Rattle.cfi_model.specs.declared.quiet.TheConstants.{PARKED}
 use Rattle.cfi_model.specs.Tables.{IsTables}
 use Rattle.cfi_model.specs.Accesses.{AreFair}
 use Rattle.cfi_model.specs.TableMoments.{AreTimed, IsBy, moment_of}
@@ -18,7 +19,7 @@ use Rattle.cfi_model.specs.Words.{HasStore, epoch_in_force, next_epoch, word_at,
 use Rattle.cfi_tables.specs.Fair.{history_at, kept_of}
 use Rattle.cfi_tables.specs.Key.{Key}
 use Rattle.cfi_tables.specs.Keeping.{is_out}
-use Rattle.cfi_tables.specs.Views.{last_moment, tables_of, tables_with}
+use Rattle.cfi_tables.specs.Views.{last_moment, tables_of, tables_with, word_of_pass}
 use Rattle.cfi_tables.specs.declared.view.KeeperView.{KeeperView}
 use Rattle.cfi_tables.specs.declared.view.PassView.{PassView}
 use Rattle.cfi_tables.specs.declared.view.Sight.{Sight}
@@ -48,30 +49,40 @@ pub record IsSeen (k : Key) (u : KeeperView) (sight : Sight) : Type 0 where
   pub code : (index : ℕ) → index < k.code_words
       → length sight.entries ≤ number_at (tables_of k u) (places.Code index) + 1
 
--- a Bary word that a guest keeps is of the epoch before that which it has published, at the earliest
-pub record IsKeptBy (p : PassView) (word : ℕ) : Type 0 where
-  pub least : p.quiet ≤ epoch_in word + 1
+-- a Bary word that a guest keeps is of this epoch at the earliest
+pub record IsKeptBy (p : PassView) (floor word : ℕ) : Type 0 where
+  pub least : floor ≤ epoch_in word
   pub most : epoch_in word ≤ p.sight.latest
 
--- a pass that is out: its guest has published an epoch since which no update has come too far, neither the newest one,
--- nor the next one, where it has passed the guest's test
+-- The Bary words of a guest that is not parked, those that it keeps and those that are stored, are of a floor's epoch
+-- at least, which is at most one below what it has published; and no update has come too far above it, neither the
+-- newest one, nor the next one, where it has passed the guest's test.
+pub record IsBounded (k : Key) (u : KeeperView) (p : PassView) : Type 0 where
+  pub floor : ℕ
+  pub published : p.quiet ≤ floor + 1
+  pub stored : (slot : ℕ) → IsPlace k.code_words (places.Bary slot)
+      → floor ≤ k.first + number_at (tables_of k u) (places.Bary slot)
+  pub kept : (word : ℕ) → kept_of k p.sight.accesses ≡ Some word → IsKeptBy p floor word
+  pub newest : next_epoch (tables_of k u) ≤ floor + k.versions
+  pub next : p.guest < u.tested → next_epoch (tables_of k u) + 1 ≤ floor + k.versions
+
+-- a pass that is out: what it has seen is true, and the keeper knows of nothing later that its guest has published
 pub record IsRegistered (k : Key) (u : KeeperView) (p : PassView) : Type 0 where
   pub seen : IsSeen k u p.sight
   pub within : p.guest < GUESTS
   pub out : is_out u.out p.guest ≡ true
   pub published : p.quiet ≤ p.sight.latest
-  pub kept : (word : ℕ) → kept_of k p.sight.accesses ≡ Some word → IsKeptBy p word
-  pub newest : next_epoch (tables_of k u) + 1 ≤ p.quiet + k.versions
-  pub next : p.guest < u.tested → next_epoch (tables_of k u) + 2 ≤ p.quiet + k.versions
+  pub heard : slice_index u.quiets.heard p.guest ≤ p.quiet + 1
+  pub bounded : p.parked ≡ false → IsBounded k u p
 
 abbrev pub IsTrueOf : Key → KeeperView → View → Type 0
 IsTrueOf k u (Keeper view) = ⊤
 IsTrueOf k u (Pass p) = IsRegistered k u p
 IsTrueOf k u Spent = ⊤
 
--- the guest's QUIET word tells the epoch that it has published
+-- the guest's QUIET word tells that it is parked, or the epoch that it has published
 abbrev pub IsPublished : (words : List ℕ) → PassView → Type 0
-IsPublished words p = slice_index words (quiet_word p.guest) ≡ p.quiet + 1
+IsPublished words p = slice_index words (quiet_word p.guest) ≡ word_of_pass p
 
 -- the pass that the keeper holds is out too
 pub record IsHeldOut (k : Key) (words : List ℕ) (u : KeeperView) (p : PassView) : Type 0 where
@@ -93,16 +104,16 @@ ShowTables k words u =
     (place : Place) → IsPlace k.code_words place → HasStore place
     → slice_index words (word_number k.code_words place) ≡ word_at (tables_of k u) place
 
--- the QUIET word of a guest is 0, or tells an epoch that is or was in force
+-- the QUIET word of a guest is 0, or that of one that is parked, or tells an epoch that is or was in force
 abbrev pub TellsForce : Key → KeeperView → (word : ℕ) → Type 0
-TellsForce k u word = (word ≡ 0) ⊎ ((k.first < word) × (word ≤ epoch_in_force (tables_of k u) + 1))
+TellsForce k u word =
+    (word ≡ 0) ⊎ (word ≡ PARKED) ⊎ ((k.first < word) × (word ≤ epoch_in_force (tables_of k u) + 1))
 
--- that of a guest whose pass is not out is 0; none is less than it was when the keeper stored it, loaded it or heard of
--- it
+-- that of a guest whose pass is not out is 0; none is less than what the keeper knows that its guest has published
 pub record ShowQuiets (k : Key) (words : List ℕ) (u : KeeperView) : Type 0 where
   pub out_many : length u.out ≡ GUESTS
-  pub quiets_many : length u.quiets ≡ GUESTS
-  pub later : (guest : ℕ) → guest < GUESTS → slice_index u.quiets guest ≤ slice_index words (quiet_word guest)
+  pub quiets_many : length u.quiets.heard ≡ GUESTS
+  pub later : (guest : ℕ) → guest < GUESTS → slice_index u.quiets.heard guest ≤ slice_index words (quiet_word guest)
   pub away : (guest : ℕ) → guest < GUESTS → is_out u.out guest ≡ false → slice_index words (quiet_word guest) ≡ 0
   pub tells : (guest : ℕ) → guest < GUESTS → TellsForce k u (slice_index words (quiet_word guest))
 

@@ -1,13 +1,14 @@
 -- What a seat's view tells: the keeper's view is the tables as they are.
-use Rattle.std.specs.Prelude.{ℕ, ◌+◌, ◌-◌, List, [], length, Option, Some, None}
+use Rattle.std.specs.Prelude.{ℕ, ◌+◌, ◌-◌, List, [], length, Option, Some, None, true, false, if◌then◌else◌}
 use Rattle.cfi_word.specs.Rank.{stores_of}
 use Rattle.cfi_model.specs.declared.history.Access.{Access}
 use Rattle.cfi_model.specs.declared.history.Entry.{Entry}
 use Rattle.cfi_model.specs.declared.history.Moment.{Moment}
+use Rattle.cfi_model.specs.declared.quiet.TheConstants.{PARKED}
 use Rattle.cfi_model.specs.TableMoments.{moment_of}
 use Rattle.cfi_model.specs.Words.{Tables}
 use Rattle.cfi_tables.specs.Key.{Key}
-use Rattle.cfi_tables.specs.Keeping.{Keeping, opened_keeping}
+use Rattle.cfi_tables.specs.Keeping.{Keeping, no_quiets, opened_keeping}
 use Rattle.cfi_tables.specs.declared.view.KeeperView.{KeeperView}
 use Rattle.cfi_tables.specs.declared.view.PassView.{PassView}
 use Rattle.cfi_tables.specs.declared.view.Sight.{Sight}
@@ -48,11 +49,12 @@ idle_tables k keeping = tables_of k (idle_view k keeping)
 
 -- the tables of these entries, all of whose words are stored
 abbrev pub tables_with : Key → List Entry → Tables
-tables_with k entries = idle_tables k (record { entries = entries; refusals = []; out = []; quiets = [] })
+tables_with k entries = idle_tables k (record { entries = entries; refusals = []; out = []; quiets = no_quiets })
 
 -- the tables of a pass's last load, and their moment
 abbrev pub last_tables : Key → Sight → Tables
-last_tables k sight = tables_of k (view_at (record { entries = sight.had; refusals = []; out = []; quiets = [] }) sight.stored)
+last_tables k sight =
+    tables_of k (view_at (record { entries = sight.had; refusals = []; out = []; quiets = no_quiets }) sight.stored)
 
 abbrev pub last_moment : Key → Sight → Moment
 last_moment k sight = moment_of (last_tables k sight)
@@ -81,6 +83,7 @@ abbrev pub admitted : Key → Keeping → (guest : ℕ) → PassView
 admitted k keeping guest = record {
   guest = guest;
   quiet = k.first + (length keeping.entries - 1);
+  parked = false;
   sight = sight_of k keeping [];
 }
 
@@ -88,9 +91,17 @@ admitted k keeping guest = record {
 abbrev pub noted : Key → Keeping → PassView → PassView
 noted k keeping p = record p { sight = sight_of k keeping p.sight.accesses }
 
+-- a pass whose guest has parked
+abbrev pub parked : PassView → PassView
+parked p = record p { parked = true }
+
+-- the QUIET word of a pass's guest
+abbrev pub word_of_pass : PassView → ℕ
+word_of_pass p = if p.parked then PARKED else p.quiet + 1
+
 -- the keeper's view, where the seat is the keeper's
 abbrev pub no_view : KeeperView
-no_view = view_at (record { entries = []; refusals = []; out = []; quiets = [] }) 0
+no_view = view_at (record { entries = []; refusals = []; out = []; quiets = no_quiets }) 0
 
 abbrev pub keeper_of : View → KeeperView
 keeper_of (Keeper u) = u
@@ -102,6 +113,7 @@ abbrev pub no_pass : PassView
 no_pass = record {
   guest = 0;
   quiet = 0;
+  parked = false;
   sight = record { entries = []; refusals = []; latest = 0; accesses = []; had = []; stored = 0 };
 }
 

@@ -1,9 +1,9 @@
 //! The test of the QUIET words, by which an update is admitted.
 
 ghost use Rattle.std.specs.Prelude.{◌≡◌, ◌≤◌, IfSome, IfNone};
-ghost use Rattle.cfi_model.specs.Quiet.{admits};
+ghost use Rattle.cfi_model.specs.Quiet.{admits, quiet_in};
 ghost use Rattle.cfi_word.specs.declared.limits.TheConstants.{MIN_VERSIONS, MAX_VERSIONS, MAX_EPOCH};
-ghost use Rattle.cfi_tables.specs.Faults.{AllAdmit, AreLater, IsFarBehind, IsFirstBehind, epoch_after, quiet_in};
+ghost use Rattle.cfi_tables.specs.Faults.{AllAdmit, AreLater, IsFarBehind, IsFirstBehind, epoch_after};
 ghost use Rattle.cfi_tables.specs.Keeping.{entry_by, grown_by, refused_by};
 ghost use Rattle.cfi_tables.specs.Views.{idle_view, view_at};
 ghost use Rattle.cfi_tables.specs.inner.Stores.{IsAt, CanAsk, keeping_at};
@@ -11,6 +11,7 @@ ghost use Rattle.cfi_tables.specs.inner.Stores.{IsAt, CanAsk, keeping_at};
 use crate::blank::Place;
 use crate::rule::{Asks, TableName, Test};
 use crate::tables::Tables;
+use cfi_model::PARKED;
 use cfi_word::Image;
 use cfi_word::limits::GUESTS;
 
@@ -74,5 +75,8 @@ fn admits(epoch: u32, versions: u32, word: u64) -> bool
     requires most { versions ≤ MAX_VERSIONS }
     ensures { result ≡ admits versions epoch (quiet_in word) }
 {
-    word == 0 || u64::from((epoch + 2).saturating_sub(versions)) <= word - 1
+    if word == 0 || word == PARKED {
+        return true;
+    }
+    u64::from((epoch + 2).saturating_sub(versions)) <= word - 1
 }

@@ -131,9 +131,10 @@ impl<N: TableName> Keeper<N> {
     }
 
     /// Puts an image in force, with its policy, and answers the new epoch. The mark goes into the history, or with an
-    /// update that is not admitted into the refusals. It is admitted exactly where the QUIET word of each guest is, as
-    /// this call loads them from the least guest on. `later`: none is less than an update has found before, nor than what
-    /// its guest had published when the keeper last let out its pass or told it.
+    /// update that is not admitted into the refusals. It is admitted exactly where the QUIET word of each guest admits
+    /// it, as this call loads them from the least guest on; that of a guest that is parked does. `later`: no guest has
+    /// published less than an update has found before, nor than it had when the keeper last let out its pass or told
+    /// it.
     ///
     /// The policy is the one in force, with the image in force, or the next one, with an image that keeps the code.
     pub fn update(
@@ -180,7 +181,7 @@ impl<N: TableName> Keeper<N> {
     pub fn note(&mut self, tables: &Tables<N>, pass: &mut Pass<N>)
         ensures pass { pass.new ≡ noted N.key self.old pass.old }
         ensures agrees { AgreesWith N.key self.old.entries self.old.refusals pass.old.sight }
-        ensures heard { slice_index self.old.quiets pass.old.guest ≤ pass.old.quiet + 1 }
+        ensures heard { slice_index self.old.quiets.heard pass.old.guest ≤ pass.old.quiet + 1 }
         ensures tables { IsTables (tables_with N.key self.old.entries) }
         ensures kept { self.new ≡ heard_of pass.old.guest pass.old.quiet self.old }
     {
@@ -191,7 +192,7 @@ impl<N: TableName> Keeper<N> {
     /// part of the history, and what it has loaded are words of it.
     pub fn release(&mut self, tables: &Tables<N>, pass: Pass<N>) -> Seen
         ensures agrees { AgreesWith N.key self.old.entries self.old.refusals pass.sight }
-        ensures heard { slice_index self.old.quiets pass.guest ≤ pass.quiet + 1 }
+        ensures heard { slice_index self.old.quiets.heard pass.guest ≤ pass.quiet + 1 }
         ensures out { self.new ≡ let_in pass.guest self.old }
         ensures epoch { result.epoch + 1 ≡ epoch_after N.key self.old }
         ensures policy { result.policy ≡ (last_of self.old.entries).policy }

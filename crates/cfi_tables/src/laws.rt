@@ -7,8 +7,8 @@ ghost use Rattle.cfi_model.specs.declared.history.Entry.{Entry};
 ghost use Rattle.cfi_model.specs.Phases.{number_in, phase_of};
 ghost use Rattle.cfi_model.specs.Tables.{IsTables, IsUpdate};
 ghost use Rattle.cfi_model.specs.Words.{word_of_entry};
-ghost use Rattle.cfi_tables.specs.Events.{ClearsAreEvents, FetchesAreEvents, LoadsAreEvents, PublishesAreEvents};
-ghost use Rattle.cfi_tables.specs.Events.{LoadsCome, StoresAreEvents, TestsAreEvents, TestsCome};
+ghost use Rattle.cfi_tables.specs.Events.{ClearsAreEvents, FetchesAreEvents, LoadsAreEvents, ParksAreEvents};
+ghost use Rattle.cfi_tables.specs.Events.{LoadsCome, ParksCome, PublishesAreEvents, StoresAreEvents, TestsAreEvents, TestsCome};
 ghost use Rattle.cfi_tables.specs.Events.{LooksChangeNothing, RegistersSetOne, TellsChangeNothing};
 ghost use Rattle.cfi_tables.specs.Key.{Key};
 ghost use Rattle.cfi_tables.specs.Keeping.{entry_by, opened_keeping};
@@ -45,13 +45,16 @@ pub fn some_tables_are_kept()
 
 /// Each step of a pass and each store and test of the keeper is one event on what is shared.
 ///
-/// A pass loads a word, fetches one or publishes an epoch; the keeper tests a QUIET word, stores a word of an update,
-/// or clears the QUIET word of a guest that leaves. Three steps are none: `registers`, by which a guest comes, sets its
-/// QUIET word alone; `looks`, the keeper's load of a code word that it may store, and `tells`, its load of EPOCH with a
-/// note, change nothing. `test_comes` and `load_comes`: there are such steps.
+/// A pass loads a word, fetches one, parks or publishes an epoch; the keeper tests a QUIET word, stores a word of an
+/// update, or clears the QUIET word of a guest that leaves. Three steps are none: `registers`, by which a guest comes,
+/// sets its QUIET word alone; `looks`, the keeper's load of a code word that it may store, and `tells`, its load of
+/// EPOCH with a note, change nothing. Nor are two that no service makes: a guest that is parked parks again, which
+/// changes nothing, or one that is not publishes an epoch, which sets its QUIET word alone. `test_comes`, `load_comes`
+/// and `park_comes`: there are such steps.
 pub fn steps_are_events()
     ensures loads { LoadsAreEvents }
     ensures fetches { FetchesAreEvents }
+    ensures parks { ParksAreEvents }
     ensures publishes { PublishesAreEvents }
     ensures tests { TestsAreEvents }
     ensures stores { StoresAreEvents }
@@ -61,4 +64,5 @@ pub fn steps_are_events()
     ensures tells { TellsChangeNothing }
     ensures test_comes { TestsCome }
     ensures load_comes { LoadsCome }
+    ensures park_comes { ParksCome }
 {}

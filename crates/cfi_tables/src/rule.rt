@@ -103,7 +103,16 @@ impl<N: TableName> Play<(), View> for Look<N> {
     ghost then = { Looks N.key };
 }
 
-// A guest's store of its QUIET word.
+// A guest's store of the parked number in its QUIET word.
+pub(crate) struct Park;
+
+impl Play<(), View> for Park {
+    ghost use Rattle.cfi_tables.specs.inner.Steps.{Parks};
+
+    ghost then = { Parks };
+}
+
+// A guest's store of an epoch in its QUIET word.
 pub(crate) struct Publish;
 
 impl Play<(), View> for Publish {

@@ -1,12 +1,14 @@
 //! The tables under a name, and the passes that load them.
 
-ghost use Rattle.std.specs.Prelude.{◌≡◌, ◌<◌};
+ghost use Rattle.std.specs.Prelude.{◌≡◌, ◌<◌, false};
 ghost use Rattle.cfi_word.specs.Table.{IsSize, word_count, word_number};
 ghost use Rattle.cfi_tables.specs.Key.{key_of};
 ghost use Rattle.cfi_tables.specs.Loads.{IsFetch, IsLoad, IsQuiet, IsTableAddress, place_at};
+ghost use Rattle.cfi_tables.specs.Views.{parked};
 
 use crate::blank::{Place, Words};
-use crate::rule::{Fetch, Load, Publish, TableName};
+use crate::rule::{Fetch, Load, Park, Publish, TableName};
+use cfi_model::PARKED;
 use cfi_word::map::{BARY, TARY};
 use cfi_word::{EPOCH, Layout, Word};
 use std::marker::{Model, PhantomData};
@@ -58,10 +60,11 @@ impl<N: TableName> Tables<N> {
     /// Loads the Bary word of a slot, for the address `BARY + 4 b`, or the Tary word of a code address, for `TARY + t`.
     ///
     /// The slot is below the layout's, the code address below `CODE_BYTES`, and both addresses are multiples of 4. Past
-    /// the code the Tary word of code word 0 answers.
+    /// the code the Tary word of code word 0 answers. The guest is not parked.
     #[inline(always)]
     pub fn load(&self, pass: &mut Pass<N>, address: u32) -> u64
-        requires { IsTableAddress N.key.code_words address }
+        requires address { IsTableAddress N.key.code_words address }
+        requires outside { pass.old.parked ≡ false }
         ensures { IsLoad N.key (place_at N.key.code_words address) result pass.old pass.new }
     {
         let word = word_at(&self.layout, address);
@@ -70,10 +73,12 @@ impl<N: TableName> Tables<N> {
             .load::<Load<N>>(&mut pass.seat, word as usize)
     }
 
-    /// Fetches the code word of this number, which is below the layout's number of code words.
+    /// Fetches the code word of this number, which is below the layout's number of code words. The guest is not
+    /// parked.
     #[inline(always)]
     pub fn fetch(&self, pass: &mut Pass<N>, word: u32) -> u32
-        requires { word < N.key.code_words }
+        requires word { word < N.key.code_words }
+        requires outside { pass.old.parked ≡ false }
         ensures { IsFetch N.key word result pass.old pass.new }
     {
         let number = self.layout.code(word);
@@ -84,7 +89,19 @@ impl<N: TableName> Tables<N> {
         found as u32
     }
 
-    /// A quiescent point: loads EPOCH, publishes the epoch found in the guest's QUIET word, and answers it.
+    /// Parks the guest, which enters a service: stores the parked number in its QUIET word. Updates then pass it by,
+    /// until its next quiescent point.
+    pub fn park(&self, pass: &mut Pass<N>)
+        ensures { pass.new ≡ parked pass.old }
+    {
+        let number = self.layout.quiet(pass.guest);
+        self.words
+            .shared
+            .store::<Park>(&mut pass.seat, number as usize, PARKED);
+    }
+
+    /// A quiescent point: loads EPOCH, publishes the epoch found in the guest's QUIET word, and answers it. The guest
+    /// is then parked no more.
     pub fn quiet(&self, pass: &mut Pass<N>) -> u32
         ensures { IsQuiet N.key result pass.old pass.new }
     {

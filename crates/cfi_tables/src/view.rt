@@ -25,10 +25,20 @@ pub struct Sight {
 pub struct PassView {
     /// The guest's number.
     pub guest: u32,
-    /// The epoch that the guest's QUIET word tells.
+    /// The epoch that the guest has last published.
     pub quiet: u32,
+    /// Whether the guest is parked: its QUIET word then tells no epoch.
+    pub parked: bool,
     /// What the pass has seen.
     pub sight: Sight,
+}
+
+/// What the keeper knows of the QUIET words, by guest number.
+pub struct Quiets {
+    /// The word that tells what the guest has published, as the keeper has last stored it, loaded it or heard of it.
+    pub heard: [u64; 0],
+    /// The word that an update has last loaded.
+    pub found: [u64; 0],
 }
 
 /// What the keeper's seat knows: all that the tables have had.
@@ -45,8 +55,8 @@ pub struct KeeperView {
     pub refusals: [Refusal; 0],
     /// For each guest number, whether its pass is out.
     pub out: [bool; 0],
-    /// For each guest number, its QUIET word as the keeper has last stored it, loaded it or heard of it.
-    pub quiets: [u64; 0],
+    /// What it knows of the QUIET words.
+    pub quiets: Quiets,
     /// A pass that is out and has no seat of its own.
     pub held: Option<PassView>,
 }

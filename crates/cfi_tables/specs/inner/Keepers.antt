@@ -26,4 +26,5 @@ pub record IsKeeper (table : TableId) (k : Key) (at : TableId) (id : ℕ) (me : 
   pub tables : IsTables (idle_tables k (keeping_at me))
   pub out_is : a.out ≡ (keeping_at me).out
   pub out_many : length (keeping_at me).out ≡ GUESTS
-  pub quiets_many : length (keeping_at me).quiets ≡ GUESTS
+  pub quiets_many : length (keeping_at me).quiets.heard ≡ GUESTS
+  pub found_many : length (keeping_at me).quiets.found ≡ GUESTS

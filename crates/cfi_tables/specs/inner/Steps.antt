@@ -6,15 +6,14 @@ use Rattle.cfi_word.specs.Rank.{rank}
 use Rattle.cfi_word.specs.Table.{Place, IsPlace, word_number, code_word}
 use Rattle.cfi_model.specs.declared.history.Entry.{Entry}
 use Rattle.cfi_model.specs.declared.history.Refusal.{Refusal}
-use Rattle.cfi_model.specs.Quiet.{admits}
+use Rattle.cfi_model.specs.Quiet.{admits, quiet_in}
 use Rattle.cfi_model.specs.Words.{next_epoch, word_at}
-use Rattle.cfi_tables.specs.Faults.{quiet_in}
 use Rattle.cfi_tables.specs.Key.{Key}
-use Rattle.cfi_tables.specs.Keeping.{is_out}
+use Rattle.cfi_tables.specs.Keeping.{found_as, heard_as, heard_in, is_out}
 use Rattle.cfi_tables.specs.Loads.{IsLoad, TellsEpoch, IsFetch}
 use Rattle.cfi_tables.specs.Rule.{AgreesWith, TellsForce}
 use Rattle.cfi_model.specs.Words.{HasStore}
-use Rattle.cfi_tables.specs.Views.{admitted, held_by, keeper_of, keeping_of, noted, pass_of, tables_of}
+use Rattle.cfi_tables.specs.Views.{admitted, held_by, keeper_of, keeping_of, noted, parked, pass_of, tables_of}
 use Rattle.cfi_tables.specs.declared.view.KeeperView.{KeeperView}
 use Rattle.cfi_tables.specs.declared.view.PassView.{PassView}
 use Rattle.cfi_tables.specs.declared.view.View.{View}
@@ -42,7 +41,7 @@ pub record Looks (k : Key) (s : Step (Unit {0})) (old : Seated) (found : ℕ) (n
 
 -- it has loaded the word of the guest whose turn it is
 abbrev pub loaded : (word : ℕ) → KeeperView → KeeperView
-loaded word u = record u { quiets = slice_set u.quiets u.tested word }
+loaded word u = record u { quiets = found_as u.tested word u.quiets }
 
 -- the word admits the next update
 abbrev pub is_passed : Key → KeeperView → (word : ℕ) → Bool
@@ -70,14 +69,15 @@ tested_by k entry word u =
     if is_passed k u word then test_passed entry (loaded word u)
     else refused (test_refusal k entry.mark u word) (loaded word u)
 
--- a word that is not 0 is that of a pass that is out, and tells an epoch that is or was in force; it is not less than
--- it was when the keeper stored it, loaded it or heard of it before
+-- a word that is not 0 is that of a pass that is out, whose guest is parked, or tells an epoch that is or was in force;
+-- it tells nothing less than what the keeper knew that its guest had published
 pub record Tests (k : Key) (entry : Entry) (s : Step (Unit {0})) (old : Seated) (found : ℕ) (new : Seated)
     : Type 0 where
   pub is : new ≡ (Keeper (tested_by k entry found (keeper_of old.0)), old.1)
   pub out : found ≢ 0 → is_out (keeper_of old.0).out (keeper_of old.0).tested ≡ true
   pub tells : TellsForce k (keeper_of old.0) found
-  pub later : slice_index (keeper_of old.0).quiets (keeper_of old.0).tested ≤ found
+  pub later : let known = slice_index (keeper_of old.0).quiets.heard (keeper_of old.0).tested in
+      known ≤ heard_in found known
 
 -- ---- a pass's loads and stores
 
@@ -92,12 +92,17 @@ pub record Fetches (k : Key) (s : Step (Unit {0})) (old : Seated) (found : ℕ) 
   pub fetch : (index : ℕ) → index < k.code_words → code_word index ≡ s.word
       → IsFetch k index found (pass_of old.0) (pass_of new.0)
 
--- the guest publishes the latest epoch that it has seen
-abbrev pub published : PassView → PassView
-published p = record p { quiet = p.sight.latest }
+-- the guest parks
+abbrev pub Parks : Step (Unit {0}) → Seated → (found : ℕ) → Seated → Type 0
+Parks s old found new = new ≡ (Pass (parked (pass_of old.0)), old.1)
 
-abbrev pub Publishes : Step (Unit {0}) → Seated → (found : ℕ) → Seated → Type 0
-Publishes s old found new = new ≡ (Pass (published (pass_of old.0)), old.1)
+-- it publishes the latest epoch that it has seen, which is not below the one that it had published, and is not parked
+abbrev pub published : PassView → PassView
+published p = record p { quiet = p.sight.latest; parked = false }
+
+pub record Publishes (s : Step (Unit {0})) (old : Seated) (found : ℕ) (new : Seated) : Type 0 where
+  pub is : new ≡ (Pass (published (pass_of old.0)), old.1)
+  pub later : (pass_of old.0).quiet ≤ (pass_of old.0).sight.latest
 
 -- ---- the keeper's steps for a pass that it holds
 
@@ -105,7 +110,7 @@ Publishes s old found new = new ≡ (Pass (published (pass_of old.0)), old.1)
 abbrev pub registered : Key → (guest : ℕ) → KeeperView → KeeperView
 registered k guest u = record u {
   out = slice_set u.out guest true;
-  quiets = slice_set u.quiets guest (k.first + length u.entries);
+  quiets = heard_as guest (k.first + length u.entries) u.quiets;
   held = Some (admitted k (keeping_of u) guest);
 }
 
@@ -114,13 +119,13 @@ Registers k s old found new = new ≡ (Keeper (registered k (s.word - 1) (keeper
 
 -- what the keeper has last found of the guest of the pass that it holds is not above what this has published
 abbrev pub IsHeard : KeeperView → Type 0
-IsHeard u = slice_index u.quiets (held_by u.held).guest ≤ (held_by u.held).quiet + 1
+IsHeard u = slice_index u.quiets.heard (held_by u.held).guest ≤ (held_by u.held).quiet + 1
 
 -- the pass that is held is told all that the keeper has seen, and the keeper hears what its guest has published; what
 -- the pass has seen agrees with what the keeper has
 abbrev pub told : Key → KeeperView → KeeperView
 told k u = record u {
-  quiets = slice_set u.quiets (held_by u.held).guest ((held_by u.held).quiet + 1);
+  quiets = heard_as (held_by u.held).guest ((held_by u.held).quiet + 1) u.quiets;
   held = Some (noted k (keeping_of u) (held_by u.held));
 }
 
@@ -133,7 +138,7 @@ pub record Tells (k : Key) (s : Step (Unit {0})) (old : Seated) (found : ℕ) (n
 abbrev pub cleared : KeeperView → KeeperView
 cleared u = record u {
   out = slice_set u.out (held_by u.held).guest false;
-  quiets = slice_set u.quiets (held_by u.held).guest 0;
+  quiets = heard_as (held_by u.held).guest 0 u.quiets;
   held = None;
 }
 

@@ -1,12 +1,12 @@
 -- The steps of an update, as far as they have come.
-use Rattle.std.specs.Prelude.{◌≡◌, ℕ, zero, suc, ◌+◌, ◌-◌, ◌≤◌, ◌<◌, nat_lt, if◌then◌else◌, List, [], length, Some, slice_index}
+use Rattle.std.specs.Prelude.{◌≡◌, ℕ, zero, suc, ◌+◌, ◌-◌, ◌≤◌, ◌<◌, nat_lt, if◌then◌else◌, List, [], length, Some}
 use Rattle.atomic_table.specs.Seated.{TableId}
 use Rattle.cfi_word.specs.declared.limits.TheConstants.{GUESTS, MAX_EPOCH}
 use Rattle.cfi_word.specs.Table.{Place, IsPlace}
 use Rattle.cfi_model.specs.declared.history.Entry.{Entry}
 use Rattle.cfi_model.specs.Tables.{IsTables, IsUpdate}
 use Rattle.cfi_model.specs.Words.{before, newest, next_epoch, rank_at, word_of_entry}
-use Rattle.cfi_tables.specs.Faults.{AdmitBelow, AreLater}
+use Rattle.cfi_tables.specs.Faults.{AdmitBelow, AreLater, HeardBelow, IsSameOf}
 use Rattle.cfi_tables.specs.Key.{Key}
 use Rattle.cfi_tables.specs.Keeping.{Keeping, grown_by, last_of}
 use Rattle.cfi_model.specs.Words.{HasStore}
@@ -14,6 +14,7 @@ use Rattle.cfi_tables.specs.Views.{idle_tables, idle_view, keeper_of, keeping_of
 use Rattle.cfi_tables.specs.inner.Stamps.{Stamp}
 use Rattle.cfi_tables.specs.inner.Steps.{Seated}
 use Rattle.cfi_tables.specs.declared.view.KeeperView.{KeeperView}
+use Rattle.cfi_tables.specs.declared.view.Quiets.{Quiets}
 use Rattle.cfi_tables.specs.declared.view.View.TheVariants.{Keeper}
 
 -- the keeper's seat is at the table, and has this view
@@ -31,7 +32,8 @@ pub record CanAsk (k : Key) (keeping : Keeping) (entry : Entry) : Type 0 where
   pub tables : IsTables (idle_tables k keeping)
   pub follows : IsUpdate k.code_words (last_of keeping.entries) entry
   pub fits : next_epoch (idle_tables k keeping) ≤ MAX_EPOCH
-  pub many : length keeping.quiets ≡ GUESTS
+  pub many : length keeping.quiets.heard ≡ GUESTS
+  pub found_many : length keeping.quiets.found ≡ GUESTS
 
 -- the view where so many QUIET words have passed the test of the update to the entry, and where all have
 abbrev pub asked_at : Key → Keeping → Entry → (tested : ℕ) → KeeperView
@@ -43,10 +45,11 @@ testing k keeping entry tested =
     if nat_lt tested GUESTS then asked_at k keeping entry tested else view_at (grown_by entry keeping.quiets keeping) 0
 
 -- the QUIET words where the test has loaded one of each guest that it has passed, and no other
-pub record HavePassed (k : Key) (keeping : Keeping) (quiets : List ℕ) (tested : ℕ) : Type 0 where
+pub record HavePassed (k : Key) (keeping : Keeping) (quiets : Quiets) (tested : ℕ) : Type 0 where
   pub admit : AdmitBelow k keeping quiets tested
   pub later : AreLater keeping.quiets quiets
-  pub rest : (other : ℕ) → tested ≤ other → slice_index quiets other ≡ slice_index keeping.quiets other
+  pub heard : HeardBelow keeping.quiets quiets tested
+  pub rest : (other : ℕ) → tested ≤ other → IsSameOf keeping.quiets quiets other
 
 -- the test of the update to the entry, where the keeper has kept this before, and has loaded these QUIET words
 pub record IsTesting (table : TableId) (k : Key) (keeping : Keeping) (entry : Entry) (at : TableId) (id : ℕ)

@@ -26,9 +26,12 @@ loop-init g c =
 pub fetch-word-requires : goal.fetch-word-requires
 fetch-word-requires g c =
     let k = g.N.TableName.key in
-    subst (λ n. n / 4 < k.code_words) (sym c.pc.ensures)
-    (place_within k c.args.fuel c.args.pass.now c.args.guest.now c.requires.can c.loop.pass c.loop.guest
-    c.loop.invariant.under)
+    let under = c.loop.invariant.under in
+    record {
+      word = subst (λ n. n / 4 < k.code_words) (sym c.pc.ensures)
+          (place_within k c.args.fuel c.args.pass.now c.args.guest.now c.requires.can c.loop.pass c.loop.guest under);
+      outside = under.way.keeps.parked ∙ c.requires.outside;
+    }
 
 -- the table word that is waited for has this address
 pub load-loaded-requires : goal.load-loaded-requires
@@ -38,8 +41,11 @@ load-loaded-requires g c =
     c.loop.invariant.under c.pc.result c.pc.ensures c.fetch-word.new.pass c.fetch-word.result c.fetch-word.ensures in
     let tells = subst (λ a. Tells a (begin_of c.loop.guest c.fetch-word.result))
     (sym c.begin.ensures.act ∙ c.in-Need.is) begun.tells in
-    address_within k c.args.fuel c.args.pass.now c.args.guest.now c.requires.can c.fetch-word.new.pass
-    (begin_of c.loop.guest c.fetch-word.result) begun.way c.in-Need.address tells.0
+    record {
+      address = address_within k c.args.fuel c.args.pass.now c.args.guest.now c.requires.can c.fetch-word.new.pass
+          (begin_of c.loop.guest c.fetch-word.result) begun.way c.in-Need.address tells.0;
+      outside = begun.way.keeps.parked ∙ c.requires.outside;
+    }
 
 -- and may come
 pub finish-requires : goal.finish-requires

@@ -19,8 +19,8 @@ load-found-requires g c =
     let before : Keeping = record keeping { quiets = quiets } in (
       i.seat.table_is ∙ sym t.name,
       omega (arith, t.many, number, few),
-      testing_allowed k before g.A.Asks.entry (ready_before k keeping g.A.Asks.entry quiets r.ready (i.passed.later.many ∙ r.ready.many)) c.loop-guest.guest few
-          _ _ _ _ _ t.key i.seat.id_is i.seat.me_is number,
+      testing_allowed k before g.A.Asks.entry
+          (ready_before k keeping g.A.Asks.entry quiets r.ready i.passed.later) c.loop-guest.guest few _ _ _ _ _ t.key i.seat.id_is i.seat.me_is number,
     )
 
 pub loop-guest-preserved : goal.loop-guest-preserved

@@ -5,7 +5,7 @@ use Rattle.cfi_tables.specs.inner.Steps.{Seated}
 use Rattle.cfi_tables.specs.inner.Stores.{keeping_at}
 use Rattle.cfi_tables.specs.declared.view.KeeperView.{KeeperView}
 use Rattle.cfi_tables.specs.declared.view.PassView.{PassView}
-use Rattle.cfi_tables.proofs.HoldLemmas.{clear_allowed}
+use Rattle.cfi_tables.proofs.HoldStepLemmas.{clear_allowed}
 use Rattle.cfi_tables.proofs.SeatLemmas.{return_joins}
 use Rattle.cfi_tables.proofs.ViewLemmas.{returned_to}
 use Rattle.cfi_tables.proofs.holding.clear.Goals as goal

@@ -2,7 +2,7 @@ use Rattle.std.proofs.Common.{sym, ap, ◌∙◌, refl, arith}
 use Rattle.cfi_tables.specs.Views.{admitted, idle_view}
 use Rattle.cfi_tables.specs.inner.Steps.{Seated, registered}
 use Rattle.cfi_tables.specs.inner.Stores.{keeping_at}
-use Rattle.cfi_tables.proofs.HoldLemmas.{register_allowed}
+use Rattle.cfi_tables.proofs.HoldStepLemmas.{register_allowed}
 use Rattle.cfi_tables.proofs.ViewLemmas.{registered_view}
 use Rattle.cfi_tables.proofs.SeatLemmas.{leave_splits}
 use Rattle.cfi_tables.proofs.holding.register.Goals as goal

@@ -1,11 +1,12 @@
-use Rattle.std.proofs.Common.{◌≡◌, ◌+◌, Some, sym, ap, ◌∙◌, refl, arith, slice_set}
+use Rattle.std.proofs.Common.{◌≡◌, ◌+◌, Some, sym, ap, ◌∙◌, refl, arith}
+use Rattle.cfi_tables.specs.Keeping.{heard_as}
 use Rattle.cfi_tables.specs.Views.{idle_view, noted, pass_of}
 use Rattle.cfi_tables.specs.inner.Steps.{Seated}
 use Rattle.cfi_tables.specs.inner.Stores.{keeping_at}
 use Rattle.cfi_tables.specs.declared.view.KeeperView.{KeeperView}
 use Rattle.cfi_tables.specs.declared.view.PassView.{PassView}
 use Rattle.cfi_tables.specs.declared.view.View.TheVariants.{Pass}
-use Rattle.cfi_tables.proofs.HoldLemmas.{tell_allowed}
+use Rattle.cfi_tables.proofs.HoldStepLemmas.{tell_allowed}
 use Rattle.cfi_tables.proofs.SeatLemmas.{leave_splits, return_joins, vacate_splits}
 use Rattle.cfi_tables.proofs.ViewLemmas.{returned_to, told_to}
 use Rattle.cfi_tables.proofs.holding.tell.Goals as goal
@@ -70,6 +71,7 @@ split_seat-requires g c =
     let q : PassView = noted k (keeping_at c.args.seat.now.me) p in (
       l.0 ∙ (j.0 ∙ (v.0 ∙ (r.seat.table_is ∙ sym t.name))),
       omega (arith, t.many),
-      leave_splits k _ _ _ (record u { quiets = slice_set u.quiets p.guest (p.quiet + 1); held = Some q }) q t.key (l.1 ∙ (j.1 ∙ (v.1 ∙ r.seat.id_is)))
+      leave_splits k _ _ _ (record u { quiets = heard_as p.guest (p.quiet + 1) u.quiets; held = Some q }) q t.key
+          (l.1 ∙ (j.1 ∙ (v.1 ∙ r.seat.id_is)))
           (ap (λ (z : Seated). z.0) told) refl,
     )

@@ -1,5 +1,5 @@
 use Rattle.cfi_word.specs.Table as places
-use Rattle.cfi_tables.proofs.EventLemmas.{clear_event, load_event, loads_come, look_same, publish_event, register_sets, store_event, tell_same}
+use Rattle.cfi_tables.proofs.EventLemmas.{clear_event, load_event, loads_come, look_same, park_event, parks_come, publish_event, register_sets, store_event, tell_same}
 use Rattle.cfi_tables.proofs.TestEventLemmas.{test_event, tests_come}
 use Rattle.cfi_tables.proofs.laws.steps_are_events.Goals as goal
 
@@ -10,9 +10,12 @@ pub returns-clause-fetches : goal.returns-clause-fetches
 returns-clause-fetches c = λ k slots seat p new s t index one fetches.
     load_event k seat p new s t (places.Code index) one
 
+pub returns-clause-parks : goal.returns-clause-parks
+returns-clause-parks c = λ k slots seat word p new s t one parks. park_event k seat word p new s t one parks
+
 pub returns-clause-publishes : goal.returns-clause-publishes
 returns-clause-publishes c = λ k slots seat word p new s t one publishes.
-    publish_event k seat word p new s t one publishes
+    publish_event k seat word p new s t one publishes.is
 
 pub returns-clause-tests : goal.returns-clause-tests
 returns-clause-tests c = λ k slots u new s t entry few one tests. test_event k slots u new s t entry few one tests
@@ -39,3 +42,6 @@ returns-clause-test_comes c = tests_come
 
 pub returns-clause-load_comes : goal.returns-clause-load_comes
 returns-clause-load_comes c = loads_come
+
+pub returns-clause-park_comes : goal.returns-clause-park_comes
+returns-clause-park_comes c = parks_come

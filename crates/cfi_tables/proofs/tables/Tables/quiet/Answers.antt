@@ -1,4 +1,4 @@
-use Rattle.std.proofs.Common.{◌≡◌, ◌+◌, [], sym, ap, subst, ◌∙◌, refl, arith}
+use Rattle.std.proofs.Common.{◌≡◌, inr, ◌+◌, [], sym, ap, subst, ◌∙◌, refl, arith}
 use Rattle.cfi_word.specs.Table.{Epoch, quiet_word}
 use Rattle.cfi_tables.specs.Loads.{IsLoad}
 use Rattle.cfi_tables.specs.Views.{pass_of}
@@ -14,7 +14,7 @@ load-found-requires g c =
     let i = c.pass.invariant in (
       i.table_is ∙ sym t.name,
       omega (arith, t.many),
-      load_allowed g.N.TableName.key _ _ _ _ _ t.key i.me_is Epoch tt tt refl,
+      load_allowed g.N.TableName.key _ _ _ _ _ t.key i.me_is Epoch tt tt (inr refl) refl,
     )
 
 -- the guest keeps no Bary word, and publishes the epoch that it has found
@@ -46,7 +46,7 @@ invariant_of-pass g c =
     let me_is : me ≡ (Pass (pass_of me.0), []) =
     l.2.same ∙ ap (λ (z : Seated). (Pass (pass_of me.0), z.1)) i.me_is in
     let s = c.store.ensures in
-    let after = published_to me _ (pass_of me.0) me_is s.2 in
+    let after = published_to me _ (pass_of me.0) me_is s.2.is in
     let view = ap (λ (z : Seated). pass_of z.0) after in
     record {
       table_is = s.0 ∙ (l.0 ∙ i.table_is);
@@ -64,8 +64,9 @@ returns g c =
     let me : Seated = c.load-found.new.seat.me in
     let me_is : me ≡ (Pass (pass_of me.0), []) =
     l.2.same ∙ ap (λ (z : Seated). (Pass (pass_of me.0), z.1)) i.me_is in
-    let after = published_to me _ (pass_of me.0) me_is c.store.ensures.2 in
+    let after = published_to me _ (pass_of me.0) me_is c.store.ensures.2.is in
     let view = ap (λ (z : Seated). pass_of z.0) after in
     let found = c.epoch_of-epoch.ensures.field in
     let old : pass_of c.pass.inside.seat.me.0 ≡ c.args.pass.now = c.pass.view_is in
-    quiet_is k _ _ _ _ found (subst (λ p. IsLoad k Epoch c.load-found.result p (pass_of me.0)) old load) _ view
+    quiet_is k _ _ _ _ found (subst (λ p. IsLoad k Epoch c.load-found.result p (pass_of me.0)) old load)
+    c.store.ensures.2.later _ view
