@@ -38,7 +38,7 @@ use Rattle.cfi_valid.proofs.SeriesLemmas.{journal_series}
 use Rattle.cfi_word.specs.declared.limits.TheConstants.{MAX_OPENS, MAX_POLICY}
 use Rattle.cfi_word.specs.declared.services.TheConstants.{NO_FUNCTION, OPEN, TOO_MANY}
 use Rattle.cfi_drive.specs.Path.{IsDueWith}
-use Rattle.cfi_drive.specs.Runner.{HasAsked, IsRunner, IsRunnerBy, SeesOn}
+use Rattle.cfi_drive.specs.Runner.{HasAsked, IsRunnerBy, IsServed, SeesOn}
 use Rattle.cfi_drive.specs.Serving.{IsPassTold}
 use Rattle.cfi_drive.proofs.CauseLemmas.{fits_no_function, fits_open}
 use Rattle.cfi_drive.proofs.NoteLemmas.{told_fits, told_policy, told_settled}
@@ -96,8 +96,8 @@ module _ (k : Key) (plan : Plan) (modules : List Module) (p : PassView) (r : Raw
   wait : r.waits ≡ Some (waits.Service OPEN)
   wait = ap (λ x. x.waits) asked.run.pauses.0 ∙ asked.run.pauses.1
 
-  on : SeesOn k r p n
-  on = on_noted k r l.keeping p is.told.tables note.agrees asked.sees.sees.is
+  on : SeesOn k p n
+  on = on_noted k l.keeping p is.told.tables note.agrees asked.sees.sees.is
 
   -- the log with the entry of the answer fits the run
   logged_more : (one : Log) → FitsEntry old new p.guest r.base.log one
@@ -111,7 +111,7 @@ module _ (k : Key) (plan : Plan) (modules : List Module) (p : PassView) (r : Raw
   -- the guest goes on with the answer
   answered : (one : Log) (reply : Reply) → (serve_of r reply).base.log ≡ r.base.log ++ one ∷ []
       → FitsEntry old new p.guest r.base.log one → MayServe k n.sight OPEN reply r
-      → IsDueWith l.course.end r (Served reply) → IsRunner k plan modules n (serve_of r reply)
+      → IsDueWith l.course.end r (Served reply) → IsServed k plan modules n (serve_of r reply)
   answered one reply is_log fits may due = (
     l,
     runner_served k plan modules p n r OPEN asked on first l at (told_settled k plan modules l p is) later reply may due
@@ -125,7 +125,7 @@ module _ (k : Key) (plan : Plan) (modules : List Module) (p : PassView) (r : Raw
       → (serve_of r (reply_of 0 cause l.course.end.policy [])).base.log
       ≡ r.base.log ++ Cause (argument r.base) cause ∷ []
       → FitsEntry old new p.guest r.base.log (Cause (argument r.base) cause)
-      → IsRunner k plan modules n (serve_of r (reply_of 0 cause l.course.end.policy []))
+      → IsServed k plan modules n (serve_of r (reply_of 0 cause l.course.end.policy []))
   refused cause some known is_log fits =
       answered (Cause (argument r.base) cause) (reply_of 0 cause l.course.end.policy []) is_log fits (record {
         fits = λ asks. record {
@@ -143,7 +143,7 @@ module _ (k : Key) (plan : Plan) (modules : List Module) (p : PassView) (r : Raw
   -- ---- a module that is loaded
 
   pub opened : (address : ℕ) → IsAddressOf l.course.end.loaded (argument r.base) (Some address)
-      → IsRunner k plan modules n (serve_of r (reply_with l r.base.log (Some address)))
+      → IsServed k plan modules n (serve_of r (reply_with l r.base.log (Some address)))
   opened address has =
       let reply = reply_with l r.base.log (Some address) in
       let rises : last_policy r.base.log ≤ l.course.end.policy = omega (arith, logged.most, later.policy) in
@@ -165,7 +165,7 @@ module _ (k : Key) (plan : Plan) (modules : List Module) (p : PassView) (r : Raw
       (λ free. record { most = omega arith; fills = refl })
 
   pub opened_none : IsAddressOf l.course.end.loaded (argument r.base) None
-      → IsRunner k plan modules n (serve_of r (reply_with l r.base.log None))
+      → IsServed k plan modules n (serve_of r (reply_with l r.base.log None))
   opened_none none =
       refused NO_FUNCTION (λ e. absurd (omega (arith, e))) (λ e. absurd (omega (arith, e)))
       (served_log_is r (reply_of 0 NO_FUNCTION l.course.end.policy []) wait)
@@ -173,6 +173,6 @@ module _ (k : Key) (plan : Plan) (modules : List Module) (p : PassView) (r : Raw
       (policies_below l.course.plan l.course.end is.policies) (argument r.base) NO_FUNCTION entry none refl)
 
   pub given : (found : Option ℕ) → IsAddressOf l.course.end.loaded (argument r.base) found
-      → IsRunner k plan modules n (serve_of r (reply_with l r.base.log found))
+      → IsServed k plan modules n (serve_of r (reply_with l r.base.log found))
   given None has = opened_none has
   given (Some address) has = opened address has

@@ -1,16 +1,14 @@
 -- What came to a guest, with more at its end.
-use Rattle.std.proofs.Common.{◌≡◌, ◌≤◌, ℕ, cond, Option, Some, None, List, [], ◌∷◌, ◌++◌, map, inl, inr, refl, sym, ap, ◌∙◌, subst, arith, append_assoc}
+use Rattle.std.proofs.Common.{◌≡◌, ◌≤◌, ℕ, cond, Option, Some, List, [], ◌∷◌, ◌++◌, map, inl, refl, sym, ap, ◌∙◌, subst, append_assoc}
 use Rattle.cfi_word.specs.declared.layout.TheConstants.{EPOCH, FIRST_CODE}
 use Rattle.cfi_model.specs.declared.history.Access.{Access}
-use Rattle.cfi_model.specs.Came.{AreAskedBy, Came, Ended, Loaded, load_in, loads_in, taken_in, takes_in}
+use Rattle.cfi_model.specs.Came.{AreAskedBehind, Came, Loaded, load_in, loads_in, taken_in, takes_in}
 use Rattle.cfi_model.specs.Raw.{Raw}
 use Rattle.cfi_model.specs.Run.{Take, Word, take_one, run_of}
-use Rattle.cfi_model.specs.Service.{Reply}
 use Rattle.cfi_model.proofs.KeptLemmas.{is_epoch, not_epoch}
 use Rattle.cfi_model.proofs.SnocLemmas.{run_append}
 use Rattle.cfi_runner.specs.Run.{AreAsked, words_found}
 use Rattle.cfi_runner.proofs.TakenLemmas.{first_code}
-use Rattle.cfi_drive.specs.Path.{ArePoints}
 
 -- ---- one list after the other
 
@@ -26,13 +24,22 @@ loads_append (one ∷ a) b =
     ap (λ (l : List Access). load_in one ++ l) (loads_append a b)
     ∙ sym (append_assoc (load_in one) (loads_in a) (loads_in b))
 
-pub asked_append : (c : ℕ) (a b : List Came) (r : Raw) → AreAskedBy c r a → AreAskedBy c (run_of r (takes_in a)) b
-    → AreAskedBy c r (a ++ b)
-asked_append c [] b r first then = then
-asked_append c (one ∷ a) b r first then = (
+-- what came last, where this came before
+abbrev pub last_came : (before : Option Came) → List Came → Option Came
+last_came before [] = before
+last_came before (one ∷ later) = last_came (Some one) later
+
+pub last_snoc : (before : Option Came) (a : List Came) (one : Came) → last_came before (a ++ one ∷ []) ≡ Some one
+last_snoc before [] one = refl
+last_snoc before (first ∷ a) one = last_snoc (Some first) a one
+
+pub asked_append : (c : ℕ) (before : Option Came) (a b : List Came) (r : Raw) → AreAskedBehind c before r a
+    → AreAskedBehind c (last_came before a) (run_of r (takes_in a)) b → AreAskedBehind c before r (a ++ b)
+asked_append c before [] b r first then = then
+asked_append c before (one ∷ a) b r first then = (
   first.0,
-  asked_append c a b (run_of r (taken_in one)) first.1
-      (subst (λ x. AreAskedBy c x b) (run_append (taken_in one) (takes_in a) r) then),
+  asked_append c (Some one) a b (run_of r (taken_in one)) first.1
+      (subst (λ x. AreAskedBehind c (last_came (Some one) a) x b) (run_append (taken_in one) (takes_in a) r) then),
 )
 
 -- ---- the loads of a run
@@ -58,35 +65,18 @@ takes_loaded c (access ∷ later) r asked =
     (takes_loaded c later (take_one r (Word access.found)) asked.1)
 
 -- and were asked for
-pub asked_loaded : (c : ℕ) (accesses : List Access) (r : Raw) → AreAsked c r accesses
-    → AreAskedBy c r (all_loaded accesses)
-asked_loaded c [] r asked = tt
-asked_loaded c (access ∷ later) r asked = (
+pub asked_loaded : (c : ℕ) (before : Option Came) (accesses : List Access) (r : Raw) → AreAsked c r accesses
+    → AreAskedBehind c before r (all_loaded accesses)
+asked_loaded c before [] r asked = tt
+asked_loaded c before (access ∷ later) r asked = (
   inl asked.0,
-  subst (λ (l : List Take). AreAskedBy c (run_of r l) (all_loaded later))
+  subst (λ (l : List Take). AreAskedBehind c (Some (Loaded access)) (run_of r l) (all_loaded later))
       (sym (brings access (first_code c r.waits r access.word asked.0)))
-      (asked_loaded c later (take_one r (Word access.found)) asked.1),
+      (asked_loaded c (Some (Loaded access)) later (take_one r (Word access.found)) asked.1),
 )
 
--- ---- those of quiescent points
+-- ---- the load of a quiescent point
 
-brings_none : (access : Access) → access.word ≡ EPOCH → taken_in (Loaded access) ≡ []
+-- brings nothing
+pub brings_none : (access : Access) → access.word ≡ EPOCH → taken_in (Loaded access) ≡ []
 brings_none access is = ap (λ b. cond b [] (Word access.found ∷ [])) (is_epoch access.word is)
-
--- bring nothing
-pub takes_points : (r : Raw) (points : List Access) → ArePoints r points → takes_in (all_loaded points) ≡ []
-takes_points r [] are = refl
-takes_points r (access ∷ later) are =
-    ap (λ (l : List Take). l ++ takes_in (all_loaded later)) (brings_none access are.0.is) ∙ takes_points r later are.1
-
-pub asked_points : (c : ℕ) (r : Raw) (points : List Access) → ArePoints r points → AreAskedBy c r (all_loaded points)
-asked_points c r [] are = tt
-asked_points c r (access ∷ later) are = (
-  inr are.0,
-  subst (λ (l : List Take). AreAskedBy c (run_of r l) (all_loaded later)) (sym (brings_none access are.0.is))
-      (asked_points c r later are.1),
-)
-
-pub points_append : (r : Raw) (a b : List Access) → ArePoints r a → ArePoints r b → ArePoints r (a ++ b)
-points_append r [] b one other = other
-points_append r (access ∷ a) b one other = (one.0, points_append r a b one.1 other)

@@ -42,7 +42,7 @@ module _ (k : Key) (plan : Plan) (modules : List Module) (l : Ledger) (is : IsLe
     told = record { ledger = is; agrees = agrees; is = refl }
 
     at : IsRunnerBy k plan modules n r l
-    at = runner_told k plan modules p r was.0 l was.1 was.1.sight is told
+    at = runner_told k plan modules p r was.ledger l was.is was.is.sight is told
 
     run : HasRun l.course (tables_by k l) (history_by k l) (code_by k l) p.guest r
     run = record {
@@ -63,7 +63,7 @@ module _ (k : Key) (plan : Plan) (modules : List Module) (l : Ledger) (is : IsLe
     runner_part stopped entry named =
         let made = part_made l.course (tables_by k l) (history_by k l) (code_by k l) (history_is k plan modules l is) p.guest r run
         stopped (subst (λ (a : Plan). IsWithin a.fuel r) (sym is.plan_is) at.within)
-        (logged_now k plan modules p r was.0 l was.1 was.1.sight is told) entry
+        (logged_now k plan modules p r was.ledger l was.is was.is.sight is told) entry
         (ap (λ (a : Plan). slice_get a.guests p.guest) is.plan_is ∙ named) in
         record { ended = made.0; run = made.1 }
 
@@ -74,9 +74,9 @@ module _ (k : Key) (plan : Plan) (modules : List Module) (l : Ledger) (is : IsLe
   -- the guest is one of the plan
   entry_at : (d : List ℕ) → slice_get plan.guests p.guest ≡ Some (get_or plan.guests p.guest d)
   entry_at d =
-      let opened = was.1.path.opened in
+      let opened = was.is.path.opened in
       let there : slice_get plan.guests p.guest ≡ Some opened.entry =
-      ap (λ (a : Plan). slice_get a.guests p.guest) (sym was.1.settled.ledger.plan_is) ∙ opened.entry_is in
+      ap (λ (a : Plan). slice_get a.guests p.guest) (sym was.is.settled.ledger.plan_is) ∙ opened.entry_is in
       there ∙ ap (λ (e : List ℕ). Some e) (sym (get_or_from_slice_get plan.guests p.guest opened.entry d there))
 
   module _ (q : PassView) (g : Raw) (number : ℕ) (a : Plan) (guests : List (List ℕ)) (item name : List ℕ)

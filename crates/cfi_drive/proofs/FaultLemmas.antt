@@ -28,7 +28,7 @@ use Rattle.cfi_valid.specs.declared.causes.TheConstants as causes
 use Rattle.cfi_verify.specs.declared.fault.VerifyFault.TheVariants as verifying
 use Rattle.cfi_word.specs.declared.limits.TheConstants.{MAX_OPENS}
 use Rattle.cfi_word.specs.declared.services.TheConstants.{OPEN}
-use Rattle.cfi_drive.specs.Runner.{HasAsked, IsRunner, IsRunnerBy}
+use Rattle.cfi_drive.specs.Runner.{HasAsked, IsRunnerBy, IsServed}
 use Rattle.cfi_drive.specs.Serving.{IsPassTold, cause_by}
 use Rattle.cfi_drive.proofs.CauseLemmas.{fits_epochs, fits_full, fits_place, fits_verify, fits_versions}
 use Rattle.cfi_drive.proofs.AnswerLemmas.{refused, served_log_is}
@@ -42,7 +42,7 @@ module _ (k : Key) (plan : Plan) (modules : List Module) (p : PassView) (r : Raw
 
   abbrev Answers : (cause : ℕ) → Type 0
   Answers cause =
-      IsRunner k plan modules (noted k l.keeping p) (serve_of r (reply_of 0 cause l.course.end.policy []))
+      IsServed k plan modules (noted k l.keeping p) (serve_of r (reply_of 0 cause l.course.end.policy []))
 
   is_waiting : r.waits ≡ Some (waits.Service OPEN)
   is_waiting = ap (λ x. x.waits) asked.run.pauses.0 ∙ asked.run.pauses.1

@@ -10,6 +10,7 @@ use Rattle.cfi_runner.specs.Run.{HasRunOn}
 use Rattle.cfi_runner.specs.declared.pause.Pause.{Pause}
 use Rattle.cfi_tables.specs.Key.{Key}
 use Rattle.cfi_tables.specs.Loads.{IsQuiet}
+use Rattle.cfi_tables.specs.Views.{parked}
 use Rattle.cfi_tables.specs.declared.view.PassView.{PassView}
 use Rattle.cfi_tables.proofs.Prefixes.{prefix_same, prefix_trans}
 use Rattle.cfi_drive.specs.Serving.{IsPassTold, KeepsPass}
@@ -31,6 +32,10 @@ keeps_told k plan modules l p q told = record {
   accesses = subst (IsPrefix p.sight.accesses) (sym (ap (λ (v : PassView). v.sight.accesses) told.is))
       (prefix_same p.sight.accesses);
 }
+
+-- where its guest parks
+pub keeps_parked : (p : PassView) → KeepsPass p (parked p)
+keeps_parked p = record { guest = refl; accesses = prefix_same p.sight.accesses }
 
 -- with a quiescent point
 pub keeps_quiet : (k : Key) (epoch : ℕ) (p q : PassView) → IsQuiet k epoch p q → KeepsPass p q

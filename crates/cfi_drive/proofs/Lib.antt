@@ -7,6 +7,7 @@ pub mod LedgerLemmas
 pub mod TellingLemmas
 pub mod ToldLemmas
 pub mod SeesLemmas
+pub mod PointLemmas
 pub mod ServeLemmas
 pub mod NoteLemmas
 pub mod CauseLemmas
@@ -24,3 +25,4 @@ pub mod ReadableLemmas
 pub mod ConcludedLemmas
 pub mod OpensLemmas
 pub mod KeepsLemmas
+pub mod ServiceLemmas

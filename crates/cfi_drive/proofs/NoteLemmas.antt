@@ -88,8 +88,8 @@ module _ (k : Key) (plan : Plan) (modules : List Module) (p : PassView) (r : Raw
   abbrev n : PassView
   n = noted k m.keeping p
 
-  on : SeesOn k r p n
-  on = on_noted k r m.keeping p is.told.tables told.agrees seen
+  on : SeesOn k p n
+  on = on_noted k m.keeping p is.told.tables told.agrees seen
 
   begins : IsPrefix l.keeping.entries m.keeping.entries
   begins =

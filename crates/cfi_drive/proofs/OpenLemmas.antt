@@ -1,5 +1,5 @@
 -- A runner in an open, by the answers of the loader's calls.
-use Rattle.std.proofs.Common.{◌≡◌, ◌≤◌, ◌<◌, ℕ, Some, List, [], length, refl, sym, ap, subst, ◌∙◌, arith}
+use Rattle.std.proofs.Common.{◌≡◌, ◌≤◌, ◌<◌, ℕ, Some, None, List, [], length, refl, sym, ap, subst, ◌∙◌, arith}
 use Rattle.cfi_aux.specs.declared.modules.Module.{Module}
 use Rattle.cfi_loader.specs.Ledger.{Ledger, IsLedger}
 use Rattle.cfi_loader.specs.Passes.{heard_from, reply_with}
@@ -22,7 +22,7 @@ use Rattle.cfi_tables.specs.declared.view.PassView.{PassView}
 use Rattle.cfi_valid.specs.Log.{IsLogged}
 use Rattle.cfi_word.specs.declared.limits.TheConstants.{MAX_OPENS}
 use Rattle.cfi_word.specs.declared.services.TheConstants.{OPEN}
-use Rattle.cfi_drive.specs.Runner.{HasAsked, IsRunner, IsRunnerBy}
+use Rattle.cfi_drive.specs.Runner.{HasAsked, IsRunner, IsRunnerBy, IsServed}
 use Rattle.cfi_drive.specs.Serving.{IsPassTold, cause_by}
 use Rattle.cfi_drive.proofs.AnswerLemmas.{given, policy_fits}
 use Rattle.cfi_drive.proofs.FaultLemmas.{refused_by}
@@ -33,6 +33,18 @@ use Rattle.cfi_drive.proofs.SeesLemmas.{asked_on, on_noted}
 pub asked_waits : (k : Key) (fuel : ℕ) (p : PassView) (r : Raw) (number : ℕ) → HasAsked k fuel p r number
     → r.waits ≡ Some (waits.Service number)
 asked_waits k fuel p r number asked = ap (λ x. x.waits) asked.run.pauses.0 ∙ asked.run.pauses.1
+
+-- and so is a runner's, parked or not
+pub asked_runner : (k : Key) (plan : Plan) (modules : List Module) (p : PassView) (r : Raw) (number : ℕ) (l : Ledger)
+    → HasAsked k plan.fuel p r number → IsRunnerBy k plan modules p r l → IsRunner k plan modules p r
+asked_runner k plan modules p r number l asked is = record {
+  ledger = l;
+  is = is;
+  outside = λ going idle. absurd (none_some (sym idle ∙ asked_waits k plan.fuel p r number asked));
+}
+  where
+    none_some : None ≡ Some (waits.Service number) → ⊥
+    none_some e = absurd (cc)
 
 -- what is known of a guest in an open that was told of a ledger, which knows then what it has published
 pub record IsToldOf (k : Key) (plan : Plan) (modules : List Module) (n : PassView) (r : Raw) (l : Ledger) : Type 0 where
@@ -54,11 +66,11 @@ told_of k plan modules p n r l was asked told =
     } in
     let seen = asked.sees.sees.is in
     subst (λ v. IsToldOf k plan modules v r m) (sym told.is) (record {
-      at = runner_told k plan modules p r was.0 m was.1 seen is note;
+      at = runner_told k plan modules p r was.ledger m was.is seen is note;
       asked = asked_on k plan.fuel p (noted k m.keeping p) r OPEN
-          (on_noted k r m.keeping p is.told.tables told.agrees seen) asked;
-      logged = logged_now k plan modules p r was.0 m was.1 seen is note;
-      planned = planned k plan modules p r was.0 m was.1 seen is note;
+          (on_noted k m.keeping p is.told.tables told.agrees seen) asked;
+      logged = logged_now k plan modules p r was.ledger m was.is seen is note;
+      planned = planned k plan modules p r was.ledger m was.is seen is note;
     })
 
 module _ (k : Key) (plan : Plan) (modules : List Module) (p n : PassView) (r : Raw) (first l : Ledger)
@@ -69,9 +81,9 @@ module _ (k : Key) (plan : Plan) (modules : List Module) (p n : PassView) (r : R
 
   -- its module is loaded
   pub opens_loaded : (loaded : Loaded) → HasLoaded k (Guest p.guest) (argument r.base) loaded first l → (new : Raw)
-      → new ≡ serve_of r (reply_with l r.base.log loaded.address) → IsRunner k plan modules n new
+      → new ≡ serve_of r (reply_with l r.base.log loaded.address) → IsServed k plan modules n new
   opens_loaded loaded has new is =
-      subst (λ (z : PassView × Raw). IsRunner k plan modules z.0 z.1) (λ i. (sym told.is i, sym is i))
+      subst (λ (z : PassView × Raw). IsServed k plan modules z.0 z.1) (λ i. (sym told.is i, sym is i))
       (given k plan modules p r first of.at of.asked few of.logged (loaded_line (argument r.base) loaded) l has.told
       told.ledger note loaded.address has.address_is)
 
@@ -82,9 +94,9 @@ module _ (k : Key) (plan : Plan) (modules : List Module) (p n : PassView) (r : R
   -- or it is refused
   pub opens_refused : (fault : LoadFault) (cause policy : ℕ) → cause_by fault ≡ Some cause
       → IsLoadFault k (Guest p.guest) (argument r.base) fault first l → policy ≡ l.course.end.policy → (new : Raw)
-      → new ≡ serve_of r (reply_of 0 cause policy []) → IsRunner k plan modules n new
+      → new ≡ serve_of r (reply_of 0 cause policy []) → IsServed k plan modules n new
   opens_refused fault cause policy why has force new is =
-      subst (λ (z : PassView × Raw). IsRunner k plan modules z.0 z.1)
+      subst (λ (z : PassView × Raw). IsServed k plan modules z.0 z.1)
       (λ i. (sym told.is i, sym (is ∙ ap (λ m. serve_of r (reply_of 0 cause m [])) force) i))
       (refused_by k plan modules p r first of.at of.asked few of.logged l told.ledger note fault cause why has)
 

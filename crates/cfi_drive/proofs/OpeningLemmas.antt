@@ -116,4 +116,8 @@ pub opening_runs : (k : Key) (plan : Plan) (modules : List Module) (p : PassView
 opening_runs k plan modules p r opening =
     let l = opening.ledger in
     subst (λ (v : PassView). IsRunner k plan modules v r) (sym opening.pass)
-    (l, runner_opened k plan modules p.guest r l opening.is opening.guest opening.starts)
+    (record {
+      ledger = l;
+      is = runner_opened k plan modules p.guest r l opening.is opening.guest opening.starts;
+      outside = λ going idle. refl;
+    })

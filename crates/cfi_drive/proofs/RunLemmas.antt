@@ -5,7 +5,7 @@ use Rattle.cfi_aux.specs.declared.modules.Module.{Module}
 use Rattle.cfi_loader.specs.Ledger.{Ledger}
 use Rattle.cfi_model.specs.declared.history.Access.{Access}
 use Rattle.cfi_model.specs.declared.act.Wait.TheVariants as waits
-use Rattle.cfi_model.specs.Came.{AreAskedBy, Came, loads_in, takes_in}
+use Rattle.cfi_model.specs.Came.{AreAskedBehind, Came, loads_in, takes_in}
 use Rattle.cfi_model.specs.Fits.{Along}
 use Rattle.cfi_model.specs.Raw.{Raw}
 use Rattle.cfi_model.specs.Run.{Take, run_of}
@@ -24,9 +24,9 @@ use Rattle.cfi_unit.specs.declared.log.Stop.TheVariants as stops
 use Rattle.cfi_part.specs.Ran.{IsOpenedAs}
 use Rattle.cfi_drive.specs.Path.{AreDue, IsPath}
 use Rattle.cfi_part.specs.Part.{IsEndOf}
-use Rattle.cfi_drive.specs.Runner.{IsRunnerBy}
+use Rattle.cfi_drive.specs.Runner.{IsRunner, IsRunnerBy}
 use Rattle.cfi_drive.specs.Settled.{FitsSettled}
-use Rattle.cfi_drive.proofs.CameLemmas.{all_loaded, asked_append, asked_loaded, loads_append, loads_loaded, takes_append, takes_loaded}
+use Rattle.cfi_drive.proofs.CameLemmas.{all_loaded, asked_append, asked_loaded, last_came, loads_append, loads_loaded, takes_append, takes_loaded}
 use Rattle.cfi_drive.proofs.PathLemmas.{due_append, due_words}
 use Rattle.cfi_drive.proofs.SettledLemmas.{fits_picked}
 
@@ -120,9 +120,9 @@ module _ (k : Key) (plan : Plan) (modules : List Module) (p q : PassView) (old n
         ∙ ap (λ (l : List Access). loads_in path.came ++ l) (loads_loaded accesses)
         ∙ ap (λ (l : List Access). l ++ accesses) path.loads
         ∙ sym run.taken.appended;
-    asked = asked_append k.code_words path.came (all_loaded accesses) path.start path.asked
-        (subst (λ r. AreAskedBy k.code_words r (all_loaded accesses)) here
-        (asked_loaded k.code_words accesses old run.taken.asked));
+    asked = asked_append k.code_words None path.came (all_loaded accesses) path.start path.asked
+        (subst (λ r. AreAskedBehind k.code_words (last_came None path.came) r (all_loaded accesses)) here
+        (asked_loaded k.code_words (last_came None path.came) accesses old run.taken.asked));
     due = subst (AreDue l.course.end path.start) takes_are
         (due_append l.course.end (takes_in path.came) (words_found accesses) path.start path.due
         (due_words l.course.end accesses (run_of path.start (takes_in path.came))));
@@ -158,4 +158,12 @@ module _ (k : Key) (plan : Plan) (modules : List Module) (p q : PassView) (old n
       spent = spent_at plan.fuel run.last new pause run.pauses;
     };
     ready = λ going idle. absurd (never_idle plan.fuel run.last new pause run.pauses going idle);
+  }
+
+  -- one that runs on is in no service, and this one has paused
+  pub runner_paused : IsRunner k plan modules q new
+  runner_paused = record {
+    ledger = l;
+    is = runner_run;
+    outside = λ going idle. absurd (never_idle plan.fuel run.last new pause run.pauses going idle);
   }

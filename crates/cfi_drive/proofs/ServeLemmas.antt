@@ -34,7 +34,7 @@ use Rattle.cfi_valid.proofs.GrowthLemmas.{loaded_stays}
 use Rattle.cfi_model.specs.Raw.{raw_opened}
 use Rattle.cfi_part.specs.Ran.{IsOpenedAs}
 use Rattle.cfi_drive.specs.Path.{AreDue, IsDueWith, IsPath}
-use Rattle.cfi_drive.specs.Runner.{HasAsked, IsRunnerBy, SeesOn}
+use Rattle.cfi_drive.specs.Runner.{HasAsked, HasEnded, IsRunnerBy, SeesOn}
 use Rattle.cfi_drive.specs.Settled.{ComeBetween, FitsSettled, IsSettled, log_with_all}
 use Rattle.cfi_drive.proofs.CameLemmas.{asked_append, loads_append, takes_append}
 use Rattle.cfi_drive.proofs.PathLemmas.{due_append, due_later}
@@ -91,13 +91,13 @@ fits_served : (h : History) (code : List ℕ) (number : ℕ) (reply : Reply) (r 
 fits_served h code number reply r wait fits = subst (λ w. FitsReply w r reply) (sym wait) fits
 
 module _ (k : Key) (plan : Plan) (modules : List Module) (q n : PassView) (r : Raw) (number : ℕ)
-    (asked : HasAsked k plan.fuel q r number) (on : SeesOn k r q n) (l m : Ledger)
+    (asked : HasAsked k plan.fuel q r number) (on : SeesOn k q n) (l m : Ledger)
     (at : IsRunnerBy k plan modules q r l) (settled : IsSettled k plan modules n.sight m)
     (later : IsLater l.course.end m.course.end) (reply : Reply) (may : MayServe k n.sight number reply r)
     (due : IsDueWith m.course.end r (Served reply))
     (log : FitsSettled k n.sight n.guest m (serve_of r reply).base.log) where
   abbrev path : IsPath k l.course n at.last
-  path = path_on k l.course q n at.last r at.path at.ends on asked.sees.sees.is
+  path = path_on k l.course q n at.last at.path on asked.sees.sees.is
 
   wait : r.waits ≡ Some (waits.Service number)
   wait = ap (λ x. x.waits) asked.run.pauses.0 ∙ asked.run.pauses.1
@@ -134,7 +134,7 @@ module _ (k : Key) (plan : Plan) (modules : List Module) (q n : PassView) (r : R
     starts = path.starts;
     came = more;
     loads = loads_append path.came (Ended reply ∷ []) ∙ (append-nil (loads_in path.came) ∙ path.loads);
-    asked = asked_append k.code_words path.came (Ended reply ∷ []) path.start path.asked (tt, tt);
+    asked = asked_append k.code_words None path.came (Ended reply ∷ []) path.start path.asked (tt, tt);
     due = subst (AreDue m.course.end path.start) takes_are
         (due_append m.course.end (takes_in path.came) (Served reply ∷ []) path.start
         (due_later l.course.end m.course.end later (takes_in path.came) path.start path.due)
@@ -149,8 +149,8 @@ module _ (k : Key) (plan : Plan) (modules : List Module) (q n : PassView) (r : R
         (fits_served (history_seen k after) (code_seen k after) number reply r wait may.fits)));
   }
 
-  pub runner_served : IsRunnerBy k plan modules n (serve_of r reply) m
-  runner_served = record {
+  served_by : IsRunnerBy k plan modules n (serve_of r reply) m
+  served_by = record {
     sight = sees.is;
     settled = settled;
     last = serve_of r reply;
@@ -165,3 +165,7 @@ module _ (k : Key) (plan : Plan) (modules : List Module) (q n : PassView) (r : R
     ready = λ going idle.
         hands_on k plan.fuel asked.before asked.then n asked.old r number asked.can asked.run sees reply may going;
   }
+
+  pub runner_served : HasEnded k plan modules n (serve_of r reply) m
+  unfolding served_by path_served
+  runner_served = record { is = served_by; front = path.came; reply = reply; last = refl }

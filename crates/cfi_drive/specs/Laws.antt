@@ -1,5 +1,5 @@
 -- How what a runner keeps goes on.
-use Rattle.std.specs.Prelude.{◌≡◌, ◌≢◌, ℕ, ◌<◌, ◌≤◌, List, slice_get, Some, None}
+use Rattle.std.specs.Prelude.{◌≡◌, ◌≢◌, ℕ, ◌<◌, ◌≤◌, false, List, slice_get, Some, None}
 use mathlib.Core.List.{IsPrefix}
 use Rattle.cfi_aux.specs.declared.modules.Module.{Module}
 use Rattle.cfi_model.specs.Raw.{Raw}
@@ -13,6 +13,7 @@ use Rattle.cfi_runner.specs.declared.pause.Pause.{Pause}
 use Rattle.cfi_loader.specs.Ledger.{Ledger, IsLedger}
 use Rattle.cfi_part.specs.Part.{part_of}
 use Rattle.cfi_tables.specs.Key.{Key}
+use Rattle.cfi_tables.specs.Loads.{IsQuiet}
 use Rattle.cfi_tables.specs.Rule.{AgreesWith}
 use Rattle.cfi_tables.specs.declared.view.PassView.{PassView}
 use Rattle.cfi_tables.specs.declared.view.Sight.{Sight}
@@ -22,7 +23,7 @@ use Rattle.cfi_valid.specs.Log.{IsLogged}
 use Rattle.cfi_word.specs.declared.limits.TheConstants.{GUESTS}
 use Rattle.cfi_drive.specs.Ending.{IsPartAt}
 use Rattle.cfi_drive.specs.Path.{IsDueWith}
-use Rattle.cfi_drive.specs.Runner.{HasAsked, IsRunner, IsRunnerBy, SeesOn}
+use Rattle.cfi_drive.specs.Runner.{HasAsked, HasEnded, IsRunner, IsRunnerBy, SeesOn}
 use Rattle.cfi_drive.specs.Settled.{FitsSettled, IsSettled}
 
 -- a run of the guest over its pass
@@ -40,20 +41,26 @@ LogsLast =
     IsPrefix l.keeping.refusals m.keeping.refusals → (guest : ℕ) → guest < GUESTS → (s : Sight) (log : List Log) →
     FitsSettled k s guest l log → policy_seen k s ≤ m.course.end.policy → IsLogged m.course guest log
 
--- a runner is one with all that its pass sees later
+-- a runner is one with all that its pass sees later, where one that runs is not parked
 abbrev pub SightsKeep : Type 0
 SightsKeep =
-    (k : Key) (plan : Plan) (modules : List Module) (p q : PassView) (r : Raw) → SeesOn k r p q → IsSight k p.sight →
-    IsRunner k plan modules p r → IsRunner k plan modules q r
+    (k : Key) (plan : Plan) (modules : List Module) (p q : PassView) (r : Raw) → SeesOn k p q → IsSight k p.sight →
+    (r.base.stop ≡ None → r.waits ≡ None → q.parked ≡ false) → IsRunner k plan modules p r → IsRunner k plan modules q r
 
--- and after a service, whose answer the log fits over a ledger that its pass has settled by then
+-- what it keeps is kept by a service, whose answer the log fits over a ledger that its pass has settled by then
 abbrev pub ServicesKeep : Type 0
 ServicesKeep =
     (k : Key) (plan : Plan) (modules : List Module) (q n : PassView) (r : Raw) (number : ℕ) →
-    HasAsked k plan.fuel q r number → SeesOn k r q n → (l m : Ledger) → IsRunnerBy k plan modules q r l →
+    HasAsked k plan.fuel q r number → SeesOn k q n → (l m : Ledger) → IsRunnerBy k plan modules q r l →
     IsSettled k plan modules n.sight m → IsLater l.course.end m.course.end → (reply : Reply) →
     MayServe k n.sight number reply r → IsDueWith m.course.end r (Served reply) →
-    FitsSettled k n.sight n.guest m (serve_of r reply).base.log → IsRunnerBy k plan modules n (serve_of r reply) m
+    FitsSettled k n.sight n.guest m (serve_of r reply).base.log → HasEnded k plan modules n (serve_of r reply) m
+
+-- and the quiescent point that comes straight behind leaves a runner
+abbrev pub PointsKeep : Type 0
+PointsKeep =
+    (k : Key) (plan : Plan) (modules : List Module) (p q : PassView) (r : Raw) (l : Ledger) →
+    HasEnded k plan modules p r l → r.waits ≡ None → (epoch : ℕ) → IsQuiet k epoch p q → IsRunner k plan modules q r
 
 -- where a ledger agrees with what a pass has seen, the part of its guest, which has stopped, is valid for the ledger's
 -- course, and tells how the guest has run over the whole history

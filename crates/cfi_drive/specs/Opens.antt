@@ -1,5 +1,5 @@
 -- How an open is answered, and what the pass of its guest has seen by then.
-use Rattle.std.specs.Prelude.{◌≡◌, ◌⊎◌, ℕ, nat_le, Bool, true, false, List, [], length, Some}
+use Rattle.std.specs.Prelude.{◌≡◌, ◌⊎◌, ℕ, ◌==◌, nat_le, Bool, true, false, List, [], length, Some}
 use Rattle.cfi_aux.specs.declared.modules.Module.{Module}
 use Rattle.cfi_loader.specs.Ledger.{Ledger}
 use Rattle.cfi_loader.specs.Passes.{heard_from, reply_with}
@@ -14,9 +14,10 @@ use Rattle.cfi_plan.specs.declared.journal.Who.TheVariants.{Guest}
 use Rattle.cfi_plan.specs.declared.plan.Plan.{Plan}
 use Rattle.cfi_tables.specs.Key.{Key}
 use Rattle.cfi_tables.specs.Loads.{IsQuiet}
+use Rattle.cfi_tables.specs.Views.{parked}
 use Rattle.cfi_tables.specs.declared.view.PassView.{PassView}
 use Rattle.cfi_word.specs.declared.limits.TheConstants.{MAX_OPENS}
-use Rattle.cfi_word.specs.declared.services.TheConstants.{NO_MODULE, TOO_MANY}
+use Rattle.cfi_word.specs.declared.services.TheConstants.{EXIT, NO_MODULE, TOO_MANY}
 use Rattle.cfi_drive.specs.Serving.{IsPassTold, cause_by}
 
 -- the load of the guest's module came through, and that is the answer
@@ -60,14 +61,19 @@ HasOpened k plan modules p q r new =
     OpensBy (nat_le MAX_OPENS (opens r.base.log)) (nat_le (length plan.modules) (argument r.base)) k plan modules p q r
     new
 
--- the service begins with a quiescent point: that of an open, and each other, which looks at no answer
+-- An open: the guest parks, the open is answered, and a quiescent point ends it.
 pub record HasServedOpen (k : Key) (plan : Plan) (modules : List Module) (p q : PassView) (r new : Raw) : Type 0 where
-  pub epoch : ℕ
   pub mid : PassView
-  pub quiet : IsQuiet k epoch p mid
-  pub opened : HasOpened k plan modules mid q r new
-
-pub record HasServedElse (k : Key) (p q : PassView) (r new : Raw) : Type 0 where
+  pub opened : HasOpened k plan modules (parked p) mid r new
   pub epoch : ℕ
-  pub quiet : IsQuiet k epoch p q
+  pub quiet : IsQuiet k epoch mid q
+
+-- a guest leaves its service by a quiescent point, but for one that exits, which stays parked
+abbrev pub Leaves : (exits : Bool) → Key → (p q : PassView) → Type 0
+Leaves true k p q = q ≡ p
+Leaves false k p q = (epoch : ℕ) × IsQuiet k epoch p q
+
+-- each other service, which looks at no answer
+pub record HasServedElse (k : Key) (number : ℕ) (p q : PassView) (r new : Raw) : Type 0 where
   pub is : new ≡ serve_of r too_many
+  pub left : Leaves (number == EXIT) k (parked p) q

@@ -1,7 +1,6 @@
 -- What came to a guest, from its opening on: what its pass has loaded, and the ends of its services.
-use Rattle.std.specs.Prelude.{◌≡◌, ℕ, ◌≤◌, List, [], ◌∷◌, ⊤}
-use Rattle.cfi_model.specs.declared.history.Access.{Access}
-use Rattle.cfi_model.specs.Came.{AreAskedBy, Came, IsPoint, loads_in, takes_in}
+use Rattle.std.specs.Prelude.{◌≡◌, ◌≤◌, List, [], ◌∷◌, ⊤}
+use Rattle.cfi_model.specs.Came.{AreAskedBy, Came, loads_in, takes_in}
 use Rattle.cfi_model.specs.Fits.{Along}
 use Rattle.cfi_model.specs.History.{IsStart}
 use Rattle.cfi_model.specs.Raw.{Raw}
@@ -16,11 +15,6 @@ use Rattle.cfi_valid.specs.Course.{Course}
 use Rattle.cfi_valid.specs.Journal.{JournalState}
 use Rattle.cfi_valid.specs.Loaded.{fills_between}
 use Rattle.cfi_valid.specs.Replay.{given_by}
-
--- loads of quiescent points, which a guest that waits in a service makes
-abbrev pub ArePoints : Raw → List Access → Type 0
-ArePoints r [] = ⊤
-ArePoints r (access ∷ later) = IsPoint r access × ArePoints r later
 
 -- the answer to an open that succeeds brings the data of all modules up to its policy that the guest lacks
 pub record IsDue (end : JournalState) (r : Raw) (reply : Reply) : Type 0 where

@@ -1,11 +1,12 @@
 -- What the type of a runner keeps: five facts of a guest and its pass.
-use Rattle.std.specs.Prelude.{◌≡◌, ℕ, ◌≤◌, List, ◌++◌, None}
+use Rattle.std.specs.Prelude.{◌≡◌, ℕ, ◌≤◌, false, List, [], ◌∷◌, ◌++◌, None}
 use mathlib.Core.List.{IsPrefix}
 use Rattle.cfi_aux.specs.declared.modules.Module.{Module}
 use Rattle.cfi_loader.specs.Ledger.{Ledger, IsLedger}
-use Rattle.cfi_model.specs.declared.history.Access.{Access}
+use Rattle.cfi_model.specs.Came.{Came, Ended}
 use Rattle.cfi_model.specs.Log.{last_policy}
 use Rattle.cfi_model.specs.Raw.{Raw}
+use Rattle.cfi_model.specs.Service.{Reply}
 use Rattle.cfi_model.specs.Closed.{IsStartIn}
 use Rattle.cfi_plan.specs.declared.plan.Plan.{Plan}
 use Rattle.cfi_runner.specs.Run.{CanRunOn, HasRunOn}
@@ -17,7 +18,7 @@ use Rattle.cfi_tables.specs.Views.{admitted}
 use Rattle.cfi_tables.specs.declared.view.PassView.{PassView}
 use Rattle.cfi_part.specs.Part.{IsEndOf, IsWithin}
 use Rattle.cfi_part.specs.Ran.{IsOpenedAs}
-use Rattle.cfi_drive.specs.Path.{ArePoints, IsPath}
+use Rattle.cfi_drive.specs.Path.{IsPath}
 use Rattle.cfi_drive.specs.Settled.{IsSettled, FitsSettled}
 
 -- a guest with the pass that loads for it
@@ -41,8 +42,22 @@ pub record IsRunnerBy (k : Key) (plan : Plan) (modules : List Module) (p : PassV
   pub within : IsWithin plan.fuel r
   pub ready : r.base.stop ≡ None → r.waits ≡ None → CanRunOn k plan.fuel p r
 
-abbrev pub IsRunner : Key → Plan → List Module → PassView → Raw → Type 0
-IsRunner k plan modules p r = (l : Ledger) × IsRunnerBy k plan modules p r l
+-- and a guest that runs is not parked
+pub record IsRunner (k : Key) (plan : Plan) (modules : List Module) (p : PassView) (r : Raw) : Type 0 where
+  pub ledger : Ledger
+  pub is : IsRunnerBy k plan modules p r ledger
+  pub outside : r.base.stop ≡ None → r.waits ≡ None → p.parked ≡ false
+
+-- what is kept of a guest whose service has ended straight before, and which is parked yet
+pub record HasEnded (k : Key) (plan : Plan) (modules : List Module) (p : PassView) (r : Raw) (l : Ledger)
+    : Type 0 where
+  pub is : IsRunnerBy k plan modules p r l
+  pub front : List Came
+  pub reply : Reply
+  pub last : is.path.came ≡ front ++ Ended reply ∷ []
+
+abbrev pub IsServed : Key → Plan → List Module → PassView → Raw → Type 0
+IsServed k plan modules p r = (l : Ledger) × HasEnded k plan modules p r l
 
 -- a guest as it is opened for the plan's guest of the pass's number, at a start of the image in force, with a pass as a
 -- loader has admitted it
@@ -53,14 +68,12 @@ pub record IsOpening (k : Key) (plan : Plan) (modules : List Module) (p : PassVi
   pub guest : IsOpenedAs plan ledger.course.end.loaded p.guest r
   pub starts : IsStartIn (last_of ledger.keeping.entries).image r.base.pc
 
--- a pass has seen more of the tables, or as much, and has loaded no more than at quiescent points of its guest
-pub record SeesOn (k : Key) (r : Raw) (old new : PassView) : Type 0 where
+-- inside a service a pass may have parked, and has seen more of the tables, or as much, but has loaded nothing
+pub record SeesOn (k : Key) (old new : PassView) : Type 0 where
   pub guest : new.guest ≡ old.guest
   pub sees : SeesMore k old.sight new.sight
   pub refusals : IsPrefix old.sight.refusals new.sight.refusals
-  pub points : List Access
-  pub accesses : new.sight.accesses ≡ old.sight.accesses ++ points
-  pub are : ArePoints r points
+  pub accesses : new.sight.accesses ≡ old.sight.accesses
 
 -- the guest waits in the service of this number, as a run over its pass has left it
 pub record HasAsked (k : Key) (fuel : ℕ) (p : PassView) (r : Raw) (number : ℕ) : Type 0 where
@@ -69,4 +82,4 @@ pub record HasAsked (k : Key) (fuel : ℕ) (p : PassView) (r : Raw) (number : �
   pub can : CanRunOn k fuel before old
   pub then : PassView
   pub run : HasRunOn k fuel before then old r (pauses.Service number)
-  pub sees : SeesOn k r then p
+  pub sees : SeesOn k then p

@@ -1,12 +1,14 @@
 //! What holds of runners.
 
-ghost use Rattle.cfi_drive.specs.Laws.{LogsLast, RunnersMakeParts, RunsKeep, ServicesKeep, SightsKeep};
+ghost use Rattle.cfi_drive.specs.Laws.{LogsLast, PointsKeep, RunnersMakeParts, RunsKeep, ServicesKeep, SightsKeep};
 
-/// What a runner keeps, it keeps when its pass sees more, with a run of its guest, and with the end of a service.
+/// What a runner keeps, it keeps when its pass sees more, with a run of its guest, and with the end of a service and
+/// the quiescent point that comes straight behind.
 pub fn runners_go_on()
     ensures sights { SightsKeep }
     ensures runs { RunsKeep }
     ensures services { ServicesKeep }
+    ensures points { PointsKeep }
 {}
 
 /// What a guest has logged lasts while the run goes on.

@@ -22,8 +22,8 @@ const APART: usize = 16;
 /// A guest of a plan, with its pass.
 ///
 /// Its type keeps that the guest is where the raw machine is after what the pass has loaded and what its opens were
-/// answered, that its log fits what the pass has settled, that its steps are within the plan's fuel, and that it can run
-/// on where it has not stopped and waits for nothing.
+/// answered, that its log fits what the pass has settled, that its steps are within the plan's fuel, and that it is not
+/// parked and can run on where it has not stopped and waits for nothing.
 #[derive(Drop)]
 pub struct Runner<N: LoaderName> {
     guest: Guest,

@@ -1,6 +1,6 @@
 //! The services of a guest.
 
-ghost use Rattle.std.specs.Prelude.{◌≡◌, ◌≢◌, ◌<◌, length, Some, IfOk, IfErr, OnOk, OnErr, []};
+ghost use Rattle.std.specs.Prelude.{◌≡◌, ◌≢◌, ◌<◌, length, Some, IfOk, IfErr, OnOk, OnErr, [], true, ◌==◌};
 ghost use Rattle.cfi_loader.specs.Results.{HasLoaded, IsLoadFault};
 ghost use Rattle.cfi_loader.specs.Told.{MayAskFor};
 ghost use Rattle.cfi_plan.specs.declared.journal.Who.TheVariants.{Guest as AskerGuest};
@@ -11,10 +11,10 @@ ghost use Rattle.cfi_model.specs.Service.{argument, reply_of, too_many};
 ghost use Rattle.cfi_model.specs.declared.act.Wait.TheVariants as waits;
 ghost use Rattle.rv_guest.specs.Guest.{MayAnswer};
 ghost use Rattle.cfi_word.specs.declared.limits.TheConstants.{MAX_OPENS};
-ghost use Rattle.cfi_word.specs.declared.services.TheConstants.{OPEN};
+ghost use Rattle.cfi_word.specs.declared.services.TheConstants.{EXIT, OPEN};
 ghost use Rattle.cfi_loader.specs.Passes.{heard_from};
-ghost use Rattle.cfi_drive.specs.Runner.{HasAsked, IsRunner};
-ghost use Rattle.cfi_drive.specs.Opens.{HasAskedLoader, HasOpened, HasServedElse, HasServedOpen};
+ghost use Rattle.cfi_drive.specs.Runner.{HasAsked, IsRunner, IsServed};
+ghost use Rattle.cfi_drive.specs.Opens.{HasAskedLoader, HasOpened, HasServedElse, HasServedOpen, Leaves};
 ghost use Rattle.cfi_drive.specs.Serving.{HasServed, IsPassTold, KeepsPass};
 
 use crate::causes::{cause_by, last_policy};
@@ -78,11 +78,13 @@ fn open_at<N: LoaderName>(
     requires asked { HasAsked N.key N.plan.fuel pass.old guest.old OPEN }
     requires few { opens guest.old.base.log < MAX_OPENS }
     requires known { argument guest.old.base < length N.plan.modules }
-    ensures runner { IsRunner N.key N.plan N.modules pass.new guest.new }
+    ensures runner { OnErr result (IsRunner N.key N.plan N.modules pass.new guest.new) }
+    ensures ended { OnOk result (IsServed N.key N.plan N.modules pass.new guest.new) }
     ensures ok { OnOk result (HasServed guest.old guest.new) }
     ensures answer { OnOk result
         (HasAskedLoader N.key N.plan N.modules pass.old pass.new guest.old guest.new) }
     ensures same { OnErr result (guest.new ≡ guest.old) }
+    ensures stays { pass.new.parked ≡ pass.old.parked }
     ensures keeps { KeepsPass pass.old pass.new }
 {
     tell(desk, tables, pass);
@@ -102,7 +104,8 @@ fn open_at<N: LoaderName>(
     Ok(())
 }
 
-// Ends an open: a refusal where no more are logged, and where the plan lacks the module; else the loader's answer.
+// Ends an open: a refusal where no more are logged, and where the plan lacks the module; else the loader's answer. The
+// guest is parked, so that it hinders no update while it waits for the lock.
 fn open<N: LoaderName, R: Wait>(
     rt: &R,
     guest: &mut Guest,
@@ -110,13 +113,16 @@ fn open<N: LoaderName, R: Wait>(
     pass: &mut Pass<N>,
     loader: &Mutex<Loader<N>>,
 ) -> Result<(), AllocError>
+    requires inside { pass.old.parked ≡ true }
     requires runner { IsRunner N.key N.plan N.modules pass.old guest.old }
     requires asked { HasAsked N.key N.plan.fuel pass.old guest.old OPEN }
-    ensures runner { IsRunner N.key N.plan N.modules pass.new guest.new }
+    ensures runner { OnErr result (IsRunner N.key N.plan N.modules pass.new guest.new) }
+    ensures ended { OnOk result (IsServed N.key N.plan N.modules pass.new guest.new) }
     ensures ok { OnOk result (HasServed guest.old guest.new) }
     ensures answer { OnOk result
         (HasOpened N.key N.plan N.modules pass.old pass.new guest.old guest.new) }
     ensures same { OnErr result (guest.new ≡ guest.old) }
+    ensures stays { pass.new.parked ≡ pass.old.parked }
     ensures keeps { KeepsPass pass.old pass.new }
 {
     let policy = last_policy(guest.log());
@@ -145,12 +151,30 @@ fn end(guest: &mut Guest, number: u32)
     }
 }
 
-/// Does one service of a guest, in which it waits, as a run over its pass has left it: the quiescent point, the gate, and
-/// the service's work.
+// Leaves a service that needs no loader, once its work is done, by a quiescent point; a guest that exits stays parked.
+fn leave<N: LoaderName>(tables: &Tables<N>, pass: &mut Pass<N>, number: u32)
+    ensures { Leaves (number == EXIT) N.key pass.old pass.new }
+{
+    if number != EXIT {
+        tables.quiet(pass);
+    }
+}
+
+// Passes the gate, inside a service: the guest is parked, so that it hinders no update there.
+fn pass_gate<N: LoaderName, G: Gate>(gate: &G, pass: &Pass<N>, number: u32)
+    requires { pass.now.parked ≡ true }
+{
+    gate.pass(pass.guest(), number);
+}
+
+/// Does one service of a guest, in which it waits, as a run over its pass has left it: the guest parks, and passes the
+/// gate; the service's work is done; and a quiescent point ends it, but for an exit, after which the guest stays
+/// parked.
 ///
 /// An open takes the loader's lock, but for one that is answered `TOO_MANY`. One of a module that the plan lacks is
 /// answered `NO_MODULE`; for each other the pass is told all that the keeper has seen before the load and again before
-/// the answer. `AllocError` comes in an open alone, where its load found no memory; the open then stays unanswered.
+/// the answer. `AllocError` comes in an open alone, where its load found no memory; the open then stays unanswered, and
+/// the guest parked.
 pub fn serve<N: LoaderName, G: Gate, R: Wait>(
     rt: &R,
     guest: &mut Guest,
@@ -167,16 +191,20 @@ pub fn serve<N: LoaderName, G: Gate, R: Wait>(
     ensures open { OnOk result (number ≡ OPEN →
         HasServedOpen N.key N.plan N.modules pass.old pass.new guest.old guest.new) }
     ensures other { number ≢ OPEN →
-        HasServedElse N.key pass.old pass.new guest.old guest.new }
+        HasServedElse N.key number pass.old pass.new guest.old guest.new }
     ensures fault { OnErr result (number ≡ OPEN) }
     ensures same { OnErr result (guest.new ≡ guest.old) }
+    ensures parked { OnErr result (pass.new.parked ≡ true) }
     ensures keeps { KeepsPass pass.old pass.new }
 {
-    tables.quiet(pass);
-    gate.pass(pass.guest(), number);
+    tables.park(pass);
+    pass_gate(gate, pass, number);
     if number == OPEN {
-        return open(rt, guest, tables, pass, loader);
+        open(rt, guest, tables, pass, loader)?;
+        tables.quiet(pass);
+        return Ok(());
     }
     end(guest, number);
+    leave(tables, pass, number);
     Ok(())
 }

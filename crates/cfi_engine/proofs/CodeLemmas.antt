@@ -1,11 +1,10 @@
 -- There is code for the guests to begin in.
-use Rattle.std.proofs.Common.{◌≡◌, ℕ, ◌<◌, true, List, [], ◌∷◌, length, refl, sym, subst, arith}
+use Rattle.std.proofs.Common.{◌≡◌, ℕ, ◌<◌, List, [], ◌∷◌, length, refl, sym, subst, arith}
 use Rattle.cfi_aux.specs.declared.modules.Module.{Module}
 use Rattle.cfi_bare.specs.Module.{bare_functions, bare_module}
 use Rattle.cfi_plan.specs.Bare.{bare_one, bare_plan}
 use Rattle.cfi_plan.specs.Plan.{IsPlan}
 use Rattle.cfi_plan.specs.declared.plan.Plan.{Plan}
-use Rattle.cfi_valid.specs.Bare.{is_bare_plan}
 use Rattle.cfi_valid.proofs.BareLemmas.{not_bare}
 use Rattle.cfi_engine.specs.Guests.{HasCode}
 

@@ -87,8 +87,8 @@ end_same last r = ⊎_elim
 pub runner_number : (k : Key) (plan : Plan) (modules : List Module) (p : PassView) (r : Raw)
     → IsRunner k plan modules p r → r.base.number ≡ p.guest
 runner_number k plan modules p r runner =
-    let path = runner.1.path in
-    end_same runner.1.last r runner.1.ends
+    let path = runner.is.path in
+    end_same runner.is.last r runner.is.ends
     ∙ ap (λ (a : Raw). a.base.number) path.is
     ∙ run_same path.start (takes_in path.came)
     ∙ ap (λ (a : Raw). a.base.number) path.opened.is

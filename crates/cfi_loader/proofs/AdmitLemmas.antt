@@ -11,7 +11,8 @@ use Rattle.cfi_plan.specs.Draft.{starts}
 use Rattle.cfi_plan.specs.declared.plan.Plan.{Plan}
 use Rattle.cfi_series.specs.Fills.{fill_of, fills_of}
 use Rattle.cfi_tables.specs.Key.{Key}
-use Rattle.cfi_tables.specs.Keeping.{Keeping, AreAllOut, IsFree, heard_of, is_out, let_out}
+use Rattle.cfi_tables.specs.declared.view.Quiets.{Quiets}
+use Rattle.cfi_tables.specs.Keeping.{Keeping, AreAllOut, IsFree, heard_as, heard_of, is_out, let_out}
 use Rattle.cfi_tables.specs.declared.fault.AdmitFault.{AdmitFault}
 use Rattle.cfi_tables.specs.declared.view.PassView.{PassView}
 use Rattle.cfi_valid.specs.Journal.{JournalState}
@@ -109,7 +110,7 @@ out_other out guest other b n before here there = ⊎_elim
     (cases_lt other guest)
 
 -- the books agree with a keeper that has another pass out
-pub passes_kept : (k : Key) (b : Books) (keeping : Keeping) (out : List Bool) (quiets : List ℕ) → BooksAgree k b keeping
+pub passes_kept : (k : Key) (b : Books) (keeping : Keeping) (out : List Bool) (quiets : Quiets) → BooksAgree k b keeping
     → ((one : ℕ) → is_out out one ≡ true → one < length b.plan.guests)
     → BooksAgree k b (record keeping { out = out; quiets = quiets })
 passes_kept k b keeping out quiets kept guests =
@@ -147,7 +148,7 @@ pub out_kept : (k : Key) (b : Books) (keeping : Keeping) (guest : ℕ) → Books
     → guest < length b.plan.guests → BooksAgree k b (let_out k guest keeping)
 out_kept k b keeping guest kept known =
     passes_kept k b keeping (slice_set keeping.out guest true)
-    (slice_set keeping.quiets guest (k.first + length keeping.entries)) kept
+    (heard_as guest (k.first + length keeping.entries) keeping.quiets) kept
     (λ one there.
     out_other keeping.out guest one true (length b.plan.guests) kept.ledger.told.guests (λ _. known) there)
 
@@ -155,7 +156,7 @@ out_kept k b keeping guest kept known =
 pub heard_kept : (k : Key) (plan : Plan) (modules : List Module) (b : Books) (old new : Keeping) (guest quiet : ℕ)
     → IsLoader k plan modules b old → new ≡ heard_of guest quiet old → IsLoader k plan modules b new
 heard_kept k plan modules b old new guest quiet is heard = record {
-  kept = subst (BooksAgree k b) (sym heard) (passes_kept k b old old.out (slice_set old.quiets guest (quiet + 1)) is.kept
+  kept = subst (BooksAgree k b) (sym heard) (passes_kept k b old old.out (heard_as guest (quiet + 1) old.quiets) is.kept
       is.kept.ledger.told.guests);
   plan_is = is.plan_is;
   modules_are = is.modules_are;

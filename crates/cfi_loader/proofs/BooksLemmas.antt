@@ -1,5 +1,5 @@
 -- What a loader has agrees again after each line.
-use Rattle.std.proofs.Common.{List, ◌≡◌, ℕ, ◌+◌, ◌-◌, ◌<◌, false, length, Some, None, inl, refl, sym, ap, subst, ◌∙◌, arith}
+use Rattle.std.proofs.Common.{◌≡◌, ℕ, ◌+◌, ◌-◌, ◌<◌, false, length, Some, None, inl, refl, sym, ap, subst, ◌∙◌, arith}
 use Rattle.cfi_model.specs.declared.history.Entry.{Entry as TableEntry}
 use Rattle.cfi_model.specs.declared.history.Refusal.{Refusal}
 use Rattle.cfi_model.specs.Tables.{IsTables}
@@ -11,6 +11,7 @@ use Rattle.cfi_plan.specs.declared.journal.Who.{Who}
 use Rattle.cfi_tables.specs.Faults.{epoch_after}
 use Rattle.cfi_tables.specs.Keeping.{Keeping, entry_by, grown_by, refused_by, last_of}
 use Rattle.cfi_tables.specs.Key.{Key}
+use Rattle.cfi_tables.specs.declared.view.Quiets.{Quiets}
 use Rattle.cfi_tables.specs.Views.{idle_tables}
 use Rattle.cfi_tables.proofs.KeeperLemmas.{grown_are}
 use Rattle.cfi_valid.specs.Journal.{EntryLeads, MayAsk}
@@ -124,7 +125,7 @@ module _ (k : Key) (b : Books) (keeping : Keeping) (kept : BooksAgree k b keepin
 -- ---- a refresh that was made
 
 module _ (k : Key) (b : Books) (j : Minutes) (keeping : Keeping) (kept : BooksAgree k b keeping) (who : Who)
-    (quiets : List ℕ) where
+    (quiets : Quiets) where
   abbrev last : TableEntry
   last = last_of keeping.entries
 

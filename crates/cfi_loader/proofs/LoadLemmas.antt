@@ -26,6 +26,7 @@ use Rattle.cfi_series.proofs.ImageLemmas.{closed}
 use Rattle.cfi_series.proofs.OrderLemmas.{series_more}
 use Rattle.cfi_tables.specs.Keeping.{Keeping, entry_by, grown_by, last_of}
 use Rattle.cfi_tables.specs.Key.{Key}
+use Rattle.cfi_tables.specs.declared.view.Quiets.{Quiets}
 use Rattle.cfi_tables.specs.Views.{idle_tables}
 use Rattle.cfi_tables.proofs.KeeperLemmas.{grown_are}
 use Rattle.cfi_valid.specs.Journal.{IsClean, MayAsk, with_loaded}
@@ -113,7 +114,7 @@ module _ (k : Key) (b : Books) (keeping : Keeping) (kept : BooksAgree k b keepin
 -- ---- the line of a load
 
 module _ (k : Key) (b : Books) (j : Minutes) (keeping : Keeping) (kept : BooksAgree k b keeping) (who : Who)
-    (number : ℕ) (unplaced : Module) (one : Placed) (image : Image) (quiets : List ℕ) where
+    (number : ℕ) (unplaced : Module) (one : Placed) (image : Image) (quiets : Quiets) where
   abbrev what : JournalLine
   what = LoadOk number (b.epoch + 1) (b.policy + 1)
 

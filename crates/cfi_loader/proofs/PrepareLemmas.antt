@@ -15,6 +15,7 @@ use Rattle.cfi_series.specs.Order.{Joins}
 use Rattle.cfi_tables.specs.Faults.{epoch_after}
 use Rattle.cfi_tables.specs.Keeping.{Keeping, entry_by, grown_by, last_of}
 use Rattle.cfi_tables.specs.Key.{Key}
+use Rattle.cfi_tables.specs.declared.view.Quiets.{Quiets}
 use Rattle.cfi_valid.specs.Journal.{IsClean}
 use Rattle.cfi_valid.specs.Loaded.{planned_name}
 use Rattle.cfi_valid.specs.Script.{Load}
@@ -105,7 +106,7 @@ module _ (k : Key) (b : Books) (keeping : Keeping) (kept : BooksAgree k b keepin
       policy = b.policy + 1;
     }
 
-    pub load_made : (quiets : List ℕ) (who : Who) (epoch : ℕ) (j : Minutes) → epoch ≡ epoch_after k keeping → b.epoch < MAX_EPOCH
+    pub load_made : (quiets : Quiets) (who : Who) (epoch : ℕ) (j : Minutes) → epoch ≡ epoch_after k keeping → b.epoch < MAX_EPOCH
         → HasLine (asked_by who (LoadOk number epoch (b.policy + 1))) b.journal j
         → MayAskFor (ledger_of b keeping) who (Load number)
         → IsAfter k (asked_by who (LoadOk number epoch (b.policy + 1))) b (loaded_there_by epoch j) keeping

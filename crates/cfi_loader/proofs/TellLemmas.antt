@@ -11,6 +11,7 @@ use Rattle.cfi_plan.specs.declared.journal.Entry.{Entry}
 use Rattle.cfi_plan.specs.declared.plan.Plan.{Plan}
 use Rattle.cfi_tables.specs.Keeping.{Keeping, grown_by, is_out, last_of, refused_by}
 use Rattle.cfi_tables.specs.Key.{Key}
+use Rattle.cfi_tables.specs.declared.view.Quiets.{Quiets}
 use Rattle.cfi_tables.specs.Views.{idle_tables}
 use Rattle.cfi_valid.specs.Course.{Course}
 use Rattle.cfi_valid.specs.Growth.{IsLater}
@@ -63,7 +64,7 @@ module _ (k : Key) (old new : Course) (entry : Entry) (goes : GoesOnBy entry old
   }
 
   -- an update was not admitted
-  pub tells_refused : (r : Refusal) (quiets : List ℕ) → new.end ≡ old.end → is_made entry.what ≡ false
+  pub tells_refused : (r : Refusal) (quiets : Quiets) → new.end ≡ old.end → is_made entry.what ≡ false
       → spent_in entry ≡ Some (spent_of r) → TellsOf k new (refused_by r quiets keeping)
   tells_refused r quiets end made spent = record {
     tables = told.tables;
@@ -80,7 +81,7 @@ module _ (k : Key) (old new : Course) (entry : Entry) (goes : GoesOnBy entry old
   }
 
   -- an update was made
-  pub tells_grown : (e : TableEntry) (quiets : List ℕ) → IsTables (idle_tables k (grown_by e quiets keeping))
+  pub tells_grown : (e : TableEntry) (quiets : Quiets) → IsTables (idle_tables k (grown_by e quiets keeping))
       → new.end.epoch ≡ old.end.epoch + 1 → new.end.policy ≡ e.policy → IsEntryOf new e → is_made entry.what ≡ true
       → spent_in entry ≡ None → e.mark ≡ mark_of entry
       → policy_put (last_of keeping.entries).policy entry.what ≡ e.policy ∷ [] → TellsOf k new (grown_by e quiets keeping)

@@ -2,31 +2,31 @@ use Rattle.std.proofs.Common.{length, refl, sym, ap, subst, arith}
 use Rattle.cfi_model.specs.Raw.{Raw}
 use Rattle.cfi_plan.specs.declared.plan.Plan.{Plan}
 use Rattle.cfi_word.specs.declared.services.TheConstants.{OPEN}
-use Rattle.cfi_drive.specs.Runner.{IsRunner}
+use Rattle.cfi_drive.specs.Runner.{IsServed}
 use Rattle.cfi_drive.proofs.KeepsLemmas.{keeps_same}
 use Rattle.cfi_drive.proofs.OtherLemmas.{served_unlogged, served_unplanned}
 use Rattle.cfi_drive.proofs.serving.open.Goals as goal
 
 -- no more opens are logged
-pub returns-then-opens-ge-MAX_OPENS-clause-runner :
-    goal.returns-then-opens-ge-MAX_OPENS-clause-runner
-returns-then-opens-ge-MAX_OPENS-clause-runner g c =
+pub returns-then-opens-ge-MAX_OPENS-clause-ended :
+    goal.returns-then-opens-ge-MAX_OPENS-clause-ended
+returns-then-opens-ge-MAX_OPENS-clause-ended g c =
     let k = g.N.TableName.key in
     let plan = g.N.LoaderName.plan in
     let modules = g.N.LoaderName.modules in
-    subst (λ (r : Raw). IsRunner k plan modules c.args.pass.now r) (sym c.refuse.ensures)
+    subst (λ (r : Raw). IsServed k plan modules c.args.pass.now r) (sym c.refuse.ensures)
     (served_unlogged k plan modules c.args.pass.now c.args.guest.now OPEN c.requires.runner c.requires.asked
     c.last_policy-policy.result (λ same. omega (arith, c.if-opens-ge-MAX_OPENS.true, c.opens.ensures.count)))
 
 -- the plan lacks the module
-pub returns-then-argument-len-clause-runner : goal.returns-then-argument-len-clause-runner
-returns-then-argument-len-clause-runner g c =
+pub returns-then-argument-len-clause-ended : goal.returns-then-argument-len-clause-ended
+returns-then-argument-len-clause-ended g c =
     let k = g.N.TableName.key in
     let plan = g.N.LoaderName.plan in
     let modules = g.N.LoaderName.modules in
     let few = c.if-opens-ge-MAX_OPENS.false in
     let same = ap (λ (p : Plan). length p.modules) c.plan.ensures in
-    subst (λ (r : Raw). IsRunner k plan modules c.args.pass.now r) (sym c.refuse-then-argument-len.ensures)
+    subst (λ (r : Raw). IsServed k plan modules c.args.pass.now r) (sym c.refuse-then-argument-len.ensures)
     (served_unplanned k plan modules c.args.pass.now c.args.guest.now OPEN c.requires.runner c.requires.asked
     c.last_policy-policy.result refl (omega (arith, few, c.opens.ensures.count))
     (omega (arith, c.if-argument-len.true, c.len.ensures, same, c.argument.ensures)))

@@ -3,7 +3,9 @@ use Rattle.cfi_loader.specs.Ledger.{Ledger}
 use Rattle.cfi_loader.specs.Passes.{heard_from, reply_with}
 use Rattle.cfi_model.specs.Log.{last_policy}
 use Rattle.cfi_model.specs.Run.{serve_of}
-use Rattle.cfi_drive.proofs.OpenLemmas.{loaded_as, may_refuse, opens_loaded, opens_refused, refused_as, rises, told_of}
+use Rattle.cfi_word.specs.declared.services.TheConstants.{OPEN}
+use Rattle.cfi_tables.specs.declared.view.PassView.{PassView}
+use Rattle.cfi_drive.proofs.OpenLemmas.{asked_runner, loaded_as, may_refuse, opens_loaded, opens_refused, refused_as, rises, told_of}
 use Rattle.cfi_drive.proofs.KeepsLemmas.{keeps_told, keeps_trans}
 use Rattle.cfi_drive.proofs.OpensLemmas.{asked_loaded, asked_refused}
 use Rattle.cfi_drive.proofs.serving.open_at.Goals as goal
@@ -28,7 +30,8 @@ returns-in_default-clause-runner g c =
     let k = g.N.TableName.key in
     let of = told_of k g.N.LoaderName.plan g.N.LoaderName.modules c.args.pass.now c.tell.new.pass c.args.guest.now
     c.args.desk.now c.requires.runner c.requires.asked c.tell.ensures.told in
-    (heard_from c.args.pass.now c.args.desk.now, of.at)
+    asked_runner k g.N.LoaderName.plan g.N.LoaderName.modules c.tell.new.pass c.args.guest.now OPEN
+    (heard_from c.args.pass.now c.args.desk.now) of.asked of.at
 
 -- a refusal may be answered
 pub refuse-requires : goal.refuse-requires
@@ -45,8 +48,8 @@ refuse-requires g c =
     (c.force.ensures.policy ∙ ap (λ (l : Ledger). l.course.end.policy) c.tell-in-Err.ensures.kept)
 
 -- the module is loaded
-pub returns-in-Ok-clause-runner : goal.returns-in-Ok-clause-runner
-returns-in-Ok-clause-runner g c =
+pub returns-in-Ok-clause-ended : goal.returns-in-Ok-clause-ended
+returns-in-Ok-clause-ended g c =
     let first = heard_from c.args.pass.now c.args.desk.now in
     let k = g.N.TableName.key in
     let plan = g.N.LoaderName.plan in
@@ -77,8 +80,8 @@ returns-in-Ok-clause-answer g c =
     c.tell-in-Ok.ensures.kept)
 
 -- or it was refused
-pub returns-in-Some-clause-runner : goal.returns-in-Some-clause-runner
-returns-in-Some-clause-runner g c =
+pub returns-in-Some-clause-ended : goal.returns-in-Some-clause-ended
+returns-in-Some-clause-ended g c =
     let first = heard_from c.args.pass.now c.args.desk.now in
     let k = g.N.TableName.key in
     let plan = g.N.LoaderName.plan in
@@ -131,3 +134,18 @@ returns-in-Some-clause-keeps g c =
     keeps_trans c.args.pass.now c.tell.new.pass c.tell-in-Err.new.pass
     (keeps_told k plan modules c.args.desk.now c.args.pass.now c.tell.new.pass c.tell.ensures.told)
     (keeps_told k plan modules c.ask.new.desk c.tell.new.pass c.tell-in-Err.new.pass c.tell-in-Err.ensures.told)
+
+-- ---- a note leaves it parked
+
+pub returns-in_default-clause-stays : goal.returns-in_default-clause-stays
+returns-in_default-clause-stays g c = ap (λ (v : PassView). v.parked) c.tell.ensures.told.is
+
+pub returns-in-Ok-clause-stays : goal.returns-in-Ok-clause-stays
+returns-in-Ok-clause-stays g c =
+    ap (λ (v : PassView). v.parked) c.tell-in-Ok.ensures.told.is
+    ∙ ap (λ (v : PassView). v.parked) c.tell.ensures.told.is
+
+pub returns-in-Some-clause-stays : goal.returns-in-Some-clause-stays
+returns-in-Some-clause-stays g c =
+    ap (λ (v : PassView). v.parked) c.tell-in-Err.ensures.told.is
+    ∙ ap (λ (v : PassView). v.parked) c.tell.ensures.told.is

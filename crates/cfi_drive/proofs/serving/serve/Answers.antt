@@ -1,54 +1,58 @@
-use Rattle.std.proofs.Common.{subst}
-use Rattle.cfi_drive.specs.Runner.{HasAsked}
-use Rattle.cfi_drive.proofs.OpenLemmas.{asked_waits}
-use Rattle.cfi_drive.proofs.OtherLemmas.{asked_quiet, runner_quiet, served_other}
-use Rattle.cfi_drive.proofs.KeepsLemmas.{keeps_quiet, keeps_trans}
-use Rattle.cfi_drive.proofs.OpensLemmas.{on_ok}
+use Rattle.std.proofs.Common.{ℕ, sym, subst}
+use Rattle.cfi_tables.specs.declared.view.PassView.{PassView}
+use Rattle.cfi_drive.specs.Runner.{HasAsked, IsRunner}
+use Rattle.cfi_drive.proofs.OtherLemmas.{asked_parked, runner_parked}
+use Rattle.cfi_drive.proofs.ServiceLemmas.{left_on, left_runs, left_so, opened_on, opened_so, opens}
 use Rattle.cfi_drive.proofs.serving.serve.Goals as goal
 
--- an open
+-- inside an open the guest is parked
 pub open-requires-clause-runner : goal.open-requires-clause-runner
 open-requires-clause-runner g c =
-    runner_quiet g.N.TableName.key g.N.LoaderName.plan g.N.LoaderName.modules c.args.pass.now c.quiet.new.pass
-    c.args.guest.now c.args.number c.quiet.result c.quiet.ensures c.requires.runner c.requires.asked
+    subst (λ (v : PassView). IsRunner g.N.TableName.key g.N.LoaderName.plan g.N.LoaderName.modules v c.args.guest.now)
+    (sym c.park.ensures)
+    (runner_parked g.N.TableName.key g.N.LoaderName.plan g.N.LoaderName.modules c.args.pass.now c.args.guest.now
+    c.args.number c.requires.runner c.requires.asked)
 
 pub open-requires-clause-asked : goal.open-requires-clause-asked
 open-requires-clause-asked g c =
-    subst (HasAsked g.N.TableName.key g.N.LoaderName.plan.fuel c.quiet.new.pass c.args.guest.now)
-    c.if-number-eq-OPEN.true
-    (asked_quiet g.N.TableName.key g.N.LoaderName.plan.fuel c.args.pass.now c.quiet.new.pass c.args.guest.now
-    c.args.number c.quiet.result c.quiet.ensures c.requires.asked)
+    subst (λ (z : PassView × ℕ). HasAsked g.N.TableName.key g.N.LoaderName.plan.fuel z.0 c.args.guest.now z.1)
+    (λ i. (sym c.park.ensures i, c.if-number-eq-OPEN.true i))
+    (asked_parked g.N.TableName.key g.N.LoaderName.plan.fuel c.args.pass.now c.args.guest.now c.args.number
+    c.requires.asked)
 
--- its answer, after the quiescent point
+pub returns-then-number-eq-OPEN-clause-runner : goal.returns-then-number-eq-OPEN-clause-runner
+returns-then-number-eq-OPEN-clause-runner g c =
+    opens g.N.TableName.key g.N.LoaderName.plan g.N.LoaderName.modules c.args.pass.now c.park.new.pass
+    c.args.guest.now c.open.new.guest c.args.number c.requires.runner c.requires.asked c.park.ensures
+    c.open.new.pass c.quiet.new.pass c.quiet.result c.quiet.ensures c.in_ok-open.ensures.ended c.in_ok-open.ensures.ok
+
 pub returns-then-number-eq-OPEN-clause-open : goal.returns-then-number-eq-OPEN-clause-open
-returns-then-number-eq-OPEN-clause-open g c =
-    on_ok c.open.result
-    (λ opened asks. record {
-      epoch = c.quiet.result;
-      mid = c.quiet.new.pass;
-      quiet = c.quiet.ensures;
-      opened = opened;
-    })
-    c.open.ensures.answer
+returns-then-number-eq-OPEN-clause-open g c asks =
+    opened_so g.N.TableName.key g.N.LoaderName.plan g.N.LoaderName.modules c.args.pass.now c.park.new.pass
+    c.args.guest.now c.open.new.guest c.args.number c.requires.runner c.requires.asked c.park.ensures
+    c.open.new.pass c.quiet.new.pass c.quiet.result c.quiet.ensures c.in_ok-open.ensures.answer
 
--- any other service
-pub end-requires-clause-waits : goal.end-requires-clause-waits
-end-requires-clause-waits g c =
-    asked_waits g.N.TableName.key g.N.LoaderName.plan.fuel c.args.pass.now c.args.guest.now c.args.number
-    c.requires.asked
-
-pub returns-clause-runner : goal.returns-clause-runner
-returns-clause-runner g c =
-    served_other g.N.TableName.key g.N.LoaderName.plan g.N.LoaderName.modules c.args.pass.now c.quiet.new.pass
-    c.args.guest.now c.end.new.guest c.args.number c.quiet.result c.quiet.ensures c.requires.runner c.requires.asked
-    c.if-number-eq-OPEN.false c.end.ensures
-
--- the pass goes on
 pub returns-then-number-eq-OPEN-clause-keeps : goal.returns-then-number-eq-OPEN-clause-keeps
 returns-then-number-eq-OPEN-clause-keeps g c =
-    keeps_trans c.args.pass.now c.quiet.new.pass c.open.new.pass
-    (keeps_quiet g.N.TableName.key c.quiet.result c.args.pass.now c.quiet.new.pass c.quiet.ensures) c.open.ensures.keeps
+    opened_on g.N.TableName.key g.N.LoaderName.plan g.N.LoaderName.modules c.args.pass.now c.park.new.pass
+    c.args.guest.now c.open.new.guest c.args.number c.requires.runner c.requires.asked c.park.ensures
+    c.open.new.pass c.quiet.new.pass c.quiet.result c.quiet.ensures c.in_ok-open.ensures.keeps
+
+-- any other service, from which the guest leaves, or stays parked
+pub returns-clause-runner : goal.returns-clause-runner
+returns-clause-runner g c =
+    left_runs g.N.TableName.key g.N.LoaderName.plan g.N.LoaderName.modules c.args.pass.now c.park.new.pass
+    c.args.guest.now c.end.new.guest c.args.number c.requires.runner c.requires.asked c.park.ensures
+    c.if-number-eq-OPEN.false c.end.ensures c.leave.new.pass c.leave.ensures
+
+pub returns-clause-other : goal.returns-clause-other
+returns-clause-other g c other =
+    left_so g.N.TableName.key g.N.LoaderName.plan g.N.LoaderName.modules c.args.pass.now c.park.new.pass
+    c.args.guest.now c.end.new.guest c.args.number c.requires.runner c.requires.asked c.park.ensures other
+    c.end.ensures c.leave.new.pass c.leave.ensures
 
 pub returns-clause-keeps : goal.returns-clause-keeps
 returns-clause-keeps g c =
-    keeps_quiet g.N.TableName.key c.quiet.result c.args.pass.now c.quiet.new.pass c.quiet.ensures
+    left_on g.N.TableName.key g.N.LoaderName.plan g.N.LoaderName.modules c.args.pass.now c.park.new.pass
+    c.args.guest.now c.end.new.guest c.args.number c.requires.runner c.requires.asked c.park.ensures
+    c.if-number-eq-OPEN.false c.end.ensures c.leave.new.pass c.leave.ensures
