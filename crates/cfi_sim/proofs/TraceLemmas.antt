@@ -1,9 +1,9 @@
 -- Traces, as a simulation under way tells them.
 use Rattle.std.specs.Prelude.{IfSome, option_map}
-use Rattle.std.proofs.Common.{◌≡◌, ℕ, zero, suc, ◌+◌, ◌<◌, ◌≤◌, ◌++◌, Bool, true, false, Option, Some, None, List, [], ◌∷◌, slice_get, add-one, refl, sym, ◌∙◌, ap, subst, arith, append_assoc}
+use Rattle.std.proofs.Common.{◌≡◌, ℕ, zero, suc, ◌+◌, ◌<◌, ◌≤◌, ◌++◌, Bool, true, false, Option, Some, List, [], ◌∷◌, slice_get, add-one, refl, sym, ◌∙◌, ap, subst, arith, append_assoc}
 use Rattle.std.proofs.lemmas.List.{append-nil}
 use Rattle.cfi_aux.specs.declared.modules.Module.{Module}
-use Rattle.cfi_model.specs.Raw.{Raw}
+use Rattle.cfi_model.specs.World.{point_of}
 use Rattle.cfi_plan.specs.declared.plan.Plan.{Plan}
 use Rattle.cfi_sim.specs.declared.fault.SimFault.{SimFault}
 use Rattle.cfi_sim.specs.declared.limits.TheConstants.{MAX_EVENTS}
@@ -20,7 +20,7 @@ use Rattle.cfi_sim.specs.inner.Opening.{IsOpened}
 use Rattle.cfi_sim.specs.inner.Standing.{Whole, GoesBy, IsUnderWay}
 use Rattle.cfi_sim.specs.inner.Tracing.{HasTold, TellsBy, TellManyBy, TellsLineBy, TracesTo}
 use Rattle.cfi_sim.proofs.FollowLemmas.{follows_fault}
-use Rattle.cfi_sim.proofs.RepeatLemmas.{goes_made, goes_none}
+use Rattle.cfi_sim.proofs.RepeatLemmas.{goes_made}
 use Rattle.cfi_steps.specs.declared.seen.Seen.{Seen}
 use Rattle.cfi_steps.specs.Step.{seen_of}
 use Rattle.cfi_text.specs.Lines.{numbered_lines, statement_of}
@@ -71,7 +71,7 @@ lines_make plan modules (text ∷ texts) old new tells = (
 -- an event, or none
 pub event_told : (x y : Whole) (guest : ℕ) (before text : List ℕ) (seen : Option Seen) (went : Bool)
     → x.stage.events < MAX_EVENTS → GoesBy guest x y went → went ≡ true
-    → seen ≡ option_map seen_of (slice_get x.stage.world.guests guest)
+    → seen ≡ option_map (seen_of (point_of x.stage.world guest)) (slice_get x.stage.world.guests guest)
     → text ≡ before ++ told_of y.stage.world.tables guest seen (slice_get y.stage.world.guests guest)
     → HasTold (TellsEvent x.plan guest) x before y text
 event_told x y guest before text seen went few goes is kept told =

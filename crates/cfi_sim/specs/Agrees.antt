@@ -5,7 +5,7 @@ use Rattle.cfi_aux.specs.declared.modules.Module.{Module}
 use Rattle.cfi_graph.specs.Direct.{DirectEdge}
 use Rattle.cfi_model.specs.declared.history.Entry.{Entry}
 use Rattle.cfi_model.specs.declared.quiet.Point.{Point}
-use Rattle.cfi_model.specs.declared.quiet.Point.TheVariants.{Outside, Found, Asking}
+use Rattle.cfi_model.specs.declared.quiet.Point.TheVariants.{Outside, Asking, Leaving, Found}
 use Rattle.cfi_model.specs.declared.quiet.Quiet.TheVariants.{Published}
 use Rattle.cfi_model.specs.InForce.{in_force}
 use Rattle.cfi_model.specs.Raw.{Raw}
@@ -96,8 +96,9 @@ pub record IsOfPlan (plan : Plan) (w : World) (guest quiet : ℕ) : Type 0 where
 -- one in a quiescent point has found none below it
 abbrev pub HasFound : (first : ℕ) → Point → Type 0
 HasFound first Outside = ⊤
-HasFound first (Found epoch) = first ≤ epoch
 HasFound first Asking = ⊤
+HasFound first Leaving = ⊤
+HasFound first (Found epoch) = first ≤ epoch
 
 pub record GuestsAgree (plan : Plan) (w : World) : Type 0 where
   pub count : length w.guests ≡ length plan.guests

@@ -77,7 +77,7 @@ abbrev pub reply_by : JournalState → State → Found → Reply
 reply_by state s found =
     reply_of (address_in found) (cause_in found) state.policy (fills_in state (given_by s.log) found)
 
--- the open of a guest is answered at once
+-- an open that is to be answered is so in the event in which its guest parks
 pub record IsAnswered (plan : Plan) (state : JournalState) (old new : World) (guest number : ℕ) : Type 0 where
   pub r : Raw
   pub there : slice_get old.guests guest ≡ Some r

@@ -1,10 +1,10 @@
 -- Traces: what is told of a schedule, line by line, and of each event of its guests. A line that has a word is told first,
 -- with its number; of the updater's events, loads and releases nothing else is told.
-use Rattle.std.specs.Prelude.{◌≡◌, ℕ, zero, suc, List, [], ◌∷◌, ◌++◌, slice_get, option_map, codes, Option, Some, None}
+use Rattle.std.specs.Prelude.{◌≡◌, ℕ, zero, suc, List, [], ◌∷◌, ◌++◌, slice_get, option_map, codes, Option, Some}
 use Rattle.cfi_aux.specs.declared.modules.Module.{Module}
 use Rattle.cfi_model.specs.Raw.{Raw}
 use Rattle.cfi_model.specs.Words.{Tables}
-use Rattle.cfi_model.specs.World.{World}
+use Rattle.cfi_model.specs.World.{World, point_of}
 use Rattle.cfi_plan.specs.declared.plan.Plan.{Plan}
 use Rattle.cfi_sim.specs.declared.line.Line.{Line}
 use Rattle.cfi_sim.specs.declared.line.Line.TheVariants.{Blank, Guest, Load, Refresh, Update, UpdateAll, Release}
@@ -29,14 +29,15 @@ tracing stage text = record { stage = stage; text = text }
 
 -- ---- events of guests
 
--- what is told of an event of a guest, by the guest before and after it
+-- what is told of an event of a guest, by the guest before and after it, and by how far it was in a service
 abbrev pub told_of : Tables → (guest : ℕ) → Option Seen → Option Raw → List ℕ
 told_of t guest (Some old) (Some new) = step_text t guest old new
 told_of t guest old new = []
 
 abbrev pub event_text : (guest : ℕ) → (old new : World) → List ℕ
 event_text guest old new =
-    told_of new.tables guest (option_map seen_of (slice_get old.guests guest)) (slice_get new.guests guest)
+    told_of new.tables guest (option_map (seen_of (point_of old guest)) (slice_get old.guests guest))
+    (slice_get new.guests guest)
 
 pub record TellsEvent (plan : Plan) (guest : ℕ) (old new : Tracing) : Type 0 where
   pub event : IsGuestEvent plan guest old.stage new.stage

@@ -1,14 +1,16 @@
--- What a trace tells of an event of a guest: a line where a unit has ended, a table word was loaded, a try begins anew or
--- the guest has stopped. A line has the guest, the number of its unit, from 1, the address at which the unit begins, what
--- it is, and behind # what it has done.
+-- What a trace tells of an event of a guest: a line where a unit has ended, a table word was loaded, a try begins anew,
+-- the guest has stopped, or a quiescent point has loaded EPOCH or has published. A line has the guest, the number of its
+-- unit, from 1, the address at which the unit begins, what it is, and behind # what it has done.
 use Rattle.std.specs.Prelude.{ℕ, zero, suc, ◌+◌, ◌-◌, ◌/◌, ◌==◌, ◌&&◌, nat_lt, if◌then◌else◌, List, [], ◌∷◌, ◌++◌, length, slice_index, Option, Some, None, codes}
 use Rattle.cfi_model.specs.declared.act.Wait.{Wait}
 use Rattle.cfi_model.specs.declared.act.Wait.TheVariants as waits
+use Rattle.cfi_model.specs.declared.quiet.Point.{Point}
+use Rattle.cfi_model.specs.declared.quiet.Point.TheVariants.{Outside, Asking, Leaving, Found}
 use Rattle.cfi_model.specs.InForce.{tary_index}
 use Rattle.cfi_model.specs.Log.{last_of, last_picks}
 use Rattle.cfi_model.specs.Raw.{Raw, reg}
 use Rattle.cfi_model.specs.State.{after}
-use Rattle.cfi_model.specs.Words.{Tables, word_at}
+use Rattle.cfi_model.specs.Words.{Tables, epoch_in_force, policy_in_force, word_at}
 use Rattle.cfi_steps.specs.declared.seen.Seen.{Seen}
 use Rattle.cfi_steps.specs.declared.span.Span.{Span}
 use Rattle.cfi_steps.specs.Span.{span_of, plain_of}
@@ -33,8 +35,9 @@ unfoldable pub first_registers : Raw → (count : ℕ) → List ℕ
 first_registers r zero = []
 first_registers r (suc count) = first_registers r count ++ reg r count ∷ []
 
-abbrev pub seen_of : Raw → Seen
-seen_of r = record {
+abbrev pub seen_of : Point → Raw → Seen
+seen_of point r = record {
+  point = point;
   pc = r.base.pc;
   units = r.base.units;
   waits = r.waits;
@@ -102,6 +105,14 @@ target_text at = codes "tary " ++ hex8_text at
 abbrev pub tary_text : (at word : ℕ) → List ℕ
 tary_text at word = target_text at ++ word_text word
 
+-- what EPOCH has
+unfoldable pub epoch_text : Tables → List ℕ
+epoch_text t = codes "epoch " ++ dec_text (epoch_in_force t) ++ codes " policy " ++ dec_text (policy_in_force t)
+
+-- the epoch that is published
+abbrev pub quiet_text : (epoch : ℕ) → List ℕ
+quiet_text epoch = codes "quiet " ++ dec_text epoch
+
 -- something stands behind #, or nothing does
 abbrev pub behind : List ℕ → List ℕ
 behind [] = []
@@ -151,7 +162,7 @@ fetched_text t guest old new =
     else inside_text t guest old new.base.stop)
     else ended_text t guest old new (span_of (insn_at t old.pc))
 
--- a service has ended, or has not
+-- a guest has parked, and the service's work is done, or it is not
 unfoldable pub service_text : (guest : ℕ) → Seen → Raw → List ℕ
 service_text guest old new =
     if new.base.units == old.units
@@ -167,13 +178,25 @@ unfoldable pub tary_line : Tables → (guest : ℕ) → Seen → (at : ℕ) → 
 tary_line t guest old at stop =
     line_of guest old (old.pc - 32) (tary_text at (word_at t (Tary (tary_index t.code_words at)))) [] stop
 
--- by what the guest waited for
+-- the quiescent point that ends a service: its lines have the number and the address of the service
+unfoldable pub left_line : (guest : ℕ) → Seen → (what : List ℕ) → Option Stop → List ℕ
+left_line guest old what stop =
+    head_text guest old.units (old.pc - 4) ++ what ++ behind (stop_text stop) ++ codes "\n"
+
+-- outside services, by what the guest waited for
 abbrev pub step_by : Option Wait → Tables → (guest : ℕ) → Seen → Raw → List ℕ
 step_by None t guest old new = fetched_text t guest old new
 step_by (Some (waits.Bary slot rd)) t guest old new = bary_line t guest old slot new.base.stop
 step_by (Some (waits.Tary at rd)) t guest old new = tary_line t guest old at new.base.stop
 step_by (Some (waits.Service number)) t guest old new = service_text guest old new
 
+-- by how far the guest was in a service
+abbrev pub step_at : Point → Tables → (guest : ℕ) → Seen → Raw → List ℕ
+step_at Outside t guest old new = step_by old.waits t guest old new
+step_at Asking t guest old new = []
+step_at Leaving t guest old new = left_line guest old (epoch_text t) new.base.stop
+step_at (Found epoch) t guest old new = left_line guest old (quiet_text epoch) new.base.stop
+
 -- an event of a guest, over these tables
 abbrev pub step_text : Tables → (guest : ℕ) → Seen → Raw → List ℕ
-step_text t guest old new = step_by old.waits t guest old new
+step_text t guest old new = step_at old.point t guest old new

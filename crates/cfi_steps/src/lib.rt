@@ -6,6 +6,7 @@
 #![tactic(auto)]
 
 mod did;
+mod line;
 mod seen;
 mod span;
 mod step;

@@ -5,6 +5,7 @@ ghost use Rattle.cfi_model.specs.Log.{last_of, last_picks, picks_in};
 ghost use Rattle.cfi_steps.specs.Step.{first_registers, seen_of};
 ghost use Rattle.cfi_unit.specs.declared.unit.TheConstants.{FREE_REGISTERS};
 
+use cfi_model::Point;
 use cfi_unit::{FREE_REGISTERS, Log};
 use cfi_values::Numbers;
 use rv_guest::{Guest, Wait};
@@ -13,6 +14,8 @@ use std::alloc::{AllocError, Global};
 /// A guest before an event.
 #[derive(Debug, Drop)]
 pub struct Seen {
+    /// How far it was in a service.
+    pub point: Point,
     /// The address of the next instruction.
     pub pc: u32,
     /// How many units were run.
@@ -59,12 +62,13 @@ fn registers_of(alloc: Global, guest: &Guest) -> Result<Vec<u32>, AllocError>
     Ok(registers)
 }
 
-/// What a trace keeps of a guest.
-pub fn see(alloc: Global, guest: &Guest) -> Result<Seen, AllocError>
-    ensures { IfOk result (λ seen. seen ≡ seen_of guest.now) }
+/// What a trace keeps of a guest that is so far in a service.
+pub fn see(alloc: Global, point: Point, guest: &Guest) -> Result<Seen, AllocError>
+    ensures { IfOk result (λ seen. seen ≡ seen_of point guest.now) }
 {
     let registers = registers_of(alloc, guest)?;
     Ok(Seen {
+        point,
         pc: guest.pc(),
         units: guest.units(),
         waits: guest.waits(),

@@ -2,15 +2,16 @@
 
 ghost use Rattle.std.specs.Prelude.{◌≡◌, ◌++◌, ◌+◌, ◌^◌, ◌<◌, [], IfSome, OnOk, OnErr};
 ghost use Rattle.rv_insn.specs.Insn.{InRange};
-ghost use Rattle.cfi_steps.specs.Step.{behind, ended_text, fetched_text, insn_at, insn_text, inside_text, line_of};
-ghost use Rattle.cfi_steps.specs.Step.{bary_line, head_text, service_text, step_text, tary_line, unit_text};
-ghost use Rattle.std.specs.Prelude.{codes};
+ghost use Rattle.cfi_steps.specs.Step.{ended_text, fetched_text, insn_at, insn_text, inside_text, unit_text};
+ghost use Rattle.cfi_steps.specs.Step.{bary_line, epoch_text, left_line, quiet_text, service_text, step_by, step_text};
+ghost use Rattle.cfi_steps.specs.Step.{tary_line};
 
-use crate::did::{put_did, put_stop};
+use crate::did::put_did;
+use crate::line::{put_left, put_line};
 use crate::seen::Seen;
 use crate::span::{Span, plain_of, span_of};
-use crate::word::{put_bary, put_tary};
-use cfi_text::{put_dec, put_hex8};
+use crate::word::{put_bary, put_epoch, put_quiet, put_tary};
+use cfi_model::Point;
 use cfi_unit::Stop;
 use cfi_world::World;
 use rv_guest::{Guest, Wait};
@@ -35,53 +36,6 @@ fn put_insn(out: &mut Vec<u8>, insn: Option<Insn>) -> Result<(), AllocError>
         None => Ok(()),
         Some(insn) => print(&insn, out),
     }
-}
-
-// Appends what stands behind #, if something does.
-fn put_behind(out: &mut Vec<u8>, did: &[u8]) -> Result<(), AllocError>
-    ensures { OnOk result (out.new.items ≡ out.old.items ++ behind did.now) }
-{
-    if did.is_empty() {
-        return Ok(());
-    }
-    out.extend_from_slice(b" #")?;
-    out.extend_from_slice(did)
-}
-
-// Appends the guest, the number of its unit, and the unit's address.
-fn put_head(out: &mut Vec<u8>, guest: u32, number: u64, address: u32) -> Result<(), AllocError>
-    ensures { OnOk result (out.new.items ≡ out.old.items ++ head_text guest number address) }
-{
-    put_dec(out, u64::from(guest))?;
-    out.push(b' ')?;
-    put_dec(out, number)?;
-    out.push(b' ')?;
-    put_hex8(out, address)?;
-    out.push(b' ')?;
-    Ok(())
-}
-
-// Appends a line.
-#[tactic(auto, unfolding(crate::specs::Step::line_of))]
-fn put_line(
-    out: &mut Vec<u8>,
-    guest: u32,
-    old: &Seen,
-    address: u32,
-    what: &[u8],
-    did: Vec<u8>,
-    stop: Option<Stop>,
-) -> Result<(), AllocError>
-    ensures { OnOk result (out.new.items ≡ out.old.items
-        ++ line_of guest old.now address what.now did.items stop) }
-{
-    let mut did = did;
-    put_stop(&mut did, stop)?;
-    put_head(out, guest, u64::from(old.units) + 1, address)?;
-    out.extend_from_slice(what)?;
-    put_behind(out, &did)?;
-    out.push(b'\n')?;
-    Ok(())
 }
 
 // Appends the line of a unit that has ended.
@@ -152,7 +106,7 @@ fn put_fetched(
     put_line(out, guest, old, address, b"again", did, new.stop())
 }
 
-// Appends the line of a service that has ended.
+// Appends the line of a service whose work is done.
 #[tactic(auto, unfolding(crate::specs::Step::service_text))]
 fn put_service(out: &mut Vec<u8>, guest: u32, old: &Seen, new: &Guest) -> Result<(), AllocError>
     ensures { OnOk result
@@ -207,6 +161,57 @@ fn put_tary_line(
     put_line(out, guest, old, address, &what, did, stop)
 }
 
+// Appends the line of the load of EPOCH.
+fn put_epoch_line(
+    out: &mut Vec<u8>,
+    world: &World,
+    guest: u32,
+    old: &Seen,
+    stop: Option<Stop>,
+) -> Result<(), AllocError>
+    ensures { OnOk result (out.new.items ≡ out.old.items
+        ++ left_line guest old.now (epoch_text world.now.tables) stop) }
+{
+    let mut what = Vec::new(*out.allocator());
+    put_epoch(&mut what, world)?;
+    put_left(out, guest, old, &what, stop)
+}
+
+// Appends the line of an epoch that is published.
+fn put_quiet_line(
+    out: &mut Vec<u8>,
+    guest: u32,
+    old: &Seen,
+    epoch: u32,
+    stop: Option<Stop>,
+) -> Result<(), AllocError>
+    ensures { OnOk result (out.new.items ≡ out.old.items
+        ++ left_line guest old.now (quiet_text epoch) stop) }
+{
+    let mut what = Vec::new(*out.allocator());
+    put_quiet(&mut what, epoch)?;
+    put_left(out, guest, old, &what, stop)
+}
+
+// Appends what a trace tells of an event outside services.
+fn put_outside(
+    out: &mut Vec<u8>,
+    world: &World,
+    guest: u32,
+    old: &Seen,
+    new: &Guest,
+) -> Result<(), AllocError>
+    ensures { OnOk result (out.new.items ≡ out.old.items
+        ++ step_by old.now.waits world.now.tables guest old.now new.now) }
+{
+    match old.waits {
+        None => put_fetched(out, world, guest, old, new),
+        Some(Wait::Service(_)) => put_service(out, guest, old, new),
+        Some(Wait::Bary { slot, .. }) => { put_bary_line(out, world, guest, old, slot, new.stop()) }
+        Some(Wait::Tary { at, .. }) => put_tary_line(out, world, guest, old, at, new.stop()),
+    }
+}
+
 // Appends what a trace tells of an event of a guest, and where no memory is left perhaps not all.
 fn put_event(
     out: &mut Vec<u8>,
@@ -218,11 +223,11 @@ fn put_event(
     ensures { OnOk result (out.new.items ≡ out.old.items
         ++ step_text world.now.tables guest old.now new.now) }
 {
-    match old.waits {
-        None => put_fetched(out, world, guest, old, new),
-        Some(Wait::Service(_)) => put_service(out, guest, old, new),
-        Some(Wait::Bary { slot, .. }) => { put_bary_line(out, world, guest, old, slot, new.stop()) }
-        Some(Wait::Tary { at, .. }) => put_tary_line(out, world, guest, old, at, new.stop()),
+    match old.point {
+        Point::Outside => put_outside(out, world, guest, old, new),
+        Point::Asking => Ok(()),
+        Point::Leaving => put_epoch_line(out, world, guest, old, new.stop()),
+        Point::Found(epoch) => put_quiet_line(out, guest, old, epoch, new.stop()),
     }
 }
 

@@ -11,7 +11,7 @@ use Rattle.cfi_model.proofs.RunningLemmas.{running_shows}
 use Rattle.cfi_model.specs.Raw.{Raw}
 use Rattle.cfi_model.specs.Words.{Tables}
 use Rattle.cfi_model.proofs.ShownLemmas.{shown_log}
-use Rattle.cfi_world.proofs.RestLemmas.{going_runs, same_tary}
+use Rattle.cfi_world.proofs.RestLemmas.{going_runs}
 use Rattle.cfi_model.specs.Run.{serve_as, serve_of}
 use Rattle.cfi_sim.specs.declared.found.Found.{Found}
 use Rattle.cfi_sim.specs.Events.{IsFound, reply_by}
@@ -32,7 +32,7 @@ use Rattle.cfi_world.proofs.ChoiceLemmas.{asks_it}
 use Rattle.cfi_model.proofs.InForceLemmas.{history_is}
 use Rattle.cfi_world.specs.Worlds.{IsWorld, FitsPoint}
 use Rattle.cfi_model.specs.Running.{IsGuest}
-use Rattle.cfi_world.specs.Seats.{rested, is_asking}
+use Rattle.cfi_world.specs.Seats.{is_asking}
 use Rattle.cfi_model.specs.declared.quiet.Point.TheVariants.{Asking}
 use Rattle.cfi_world.proofs.RefineLemmas.{refines}
 use Rattle.cfi_world.specs.Turns.{did, nothing, answered, answer_turn, turn_of}
@@ -107,13 +107,12 @@ module _ (plan : Plan) (modules : List Module) (sound : All IsSoundModule module
                 (shown_log (history_of mid.tables) (code_in_force mid.tables) run.retries run.shown r shows);
           }
 
-      kept_none : (word : ℕ) → point_of mid guest ≡ Asking → (rested mid.fuel (serve_of r reply)).tary ≡ Some word → ⊥
+      kept_none : (word : ℕ) → point_of mid guest ≡ Asking → (serve_of r reply).tary ≡ Some word → ⊥
       kept_none word at kept =
-          none_some word (sym (ap (λ (x : Option Wait). (serve_as x r reply).tary) (waiting at))
-          ∙ sym (same_tary mid.fuel (serve_of r reply)) ∙ kept)
+          none_some word (sym (ap (λ (x : Option Wait). (serve_as x r reply).tary) (waiting at)) ∙ kept)
 
       own_answer : (now : Raw) → slice_get next.guests guest ≡ Some now → point_of mid guest ≡ Asking
-          → now ≡ rested mid.fuel (serve_of r reply) → HasRun plan modules old.state mid.tables guest now
+          → now ≡ serve_of r reply → HasRun plan modules old.state mid.tables guest now
       own_answer now there at now_is =
           let same : refined.now ≡ now = some_same refined.now now (sym refined.there ∙ there) in
           let shows : IsGuest (history_of mid.tables) (code_in_force mid.tables) refined.more refined.after now =
@@ -156,9 +155,9 @@ module _ (plan : Plan) (modules : List Module) (sound : All IsSoundModule module
           → slice_get next.guests guest ≡ Some now → HasRun plan modules old.state mid.tables guest now
       answered_by true e whole now there =
           let at = asks_it (point_of mid guest) e in
-          let one = set_one mid.guests guest r (rested mid.fuel (serve_of r reply)) here in
+          let one = set_one mid.guests guest r (serve_of r reply) here in
           own_answer now there at
-          (some_same now (rested mid.fuel (serve_of r reply))
+          (some_same now (serve_of r reply)
           (sym there ∙ ap (λ (v : World). slice_get v.guests guest) whole ∙ one))
       answered_by false e whole now there =
           all guest now (sym (ap (λ (v : World). slice_get v.guests guest) whole) ∙ there)

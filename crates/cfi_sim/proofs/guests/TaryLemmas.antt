@@ -8,7 +8,7 @@ use Rattle.cfi_word.specs.Word.{policy_in}
 use Rattle.cfi_model.specs.declared.act.Wait.{Wait}
 use Rattle.cfi_model.specs.declared.act.Wait.TheVariants as waits
 use Rattle.cfi_model.specs.declared.quiet.Point.{Point}
-use Rattle.cfi_model.specs.declared.quiet.Point.TheVariants.{Outside, Found, Asking}
+use Rattle.cfi_model.specs.declared.quiet.Point.TheVariants.{Outside, Asking, Leaving, Found}
 use Rattle.cfi_model.specs.InForce.{tary_index}
 use Rattle.cfi_model.specs.Raw.{Raw}
 use Rattle.cfi_model.specs.Run.{finish_as, serve_as, serve_of}
@@ -17,7 +17,7 @@ use Rattle.cfi_model.specs.Tables.{IsTables}
 use Rattle.cfi_model.specs.Words.{Tables, policy_in_force, word_at}
 use Rattle.cfi_model.proofs.BeginLemmas.{begin_keeps_tary}
 use Rattle.cfi_model.proofs.InForceLemmas.{tary_policy, index_within}
-use Rattle.cfi_world.specs.Seats.{Seat, rested, loads, needs_answer, serves, seat_by, seat_after}
+use Rattle.cfi_world.specs.Seats.{Seat, loads, needs_answer, serves, seat_by, seat_at, seat_after}
 use Rattle.cfi_world.proofs.RestLemmas.{same_tary}
 
 -- ---- every event of the guest
@@ -31,18 +31,15 @@ module _ (t : Tables) (is : IsTables t) (fuel : ℕ) (s : Seat) where
   WasKept word = (r.tary ≡ Some word) ⊎ (policy_in_force t ≤ policy_in word)
 
   served_none : (number word : ℕ) (reply : Reply) → r.waits ≡ Some (waits.Service number)
-      → (rested fuel (serve_of r reply)).tary ≡ Some word → ⊥
+      → (serve_of r reply).tary ≡ Some word → ⊥
   served_none number word reply waiting kept =
-      none-some word (sym (ap (λ (w : Option Wait). (serve_as w r reply).tary) waiting)
-      ∙ sym (same_tary fuel (serve_of r reply)) ∙ kept)
+      none-some word (sym (ap (λ (w : Option Wait). (serve_as w r reply).tary) waiting) ∙ kept)
 
-  serves_kept : (number : ℕ) → r.waits ≡ Some (waits.Service number) → (point : Point) (word : ℕ)
-      → (serves point t fuel number s).guest.tary ≡ Some word → WasKept word
-  serves_kept number waiting Outside word kept = inl kept
-  serves_kept number waiting Asking word kept = inl kept
-  serves_kept number waiting (Found epoch) word kept = by_need (needs_answer number r) kept
+  serves_kept : (number : ℕ) → r.waits ≡ Some (waits.Service number) → (word : ℕ)
+      → (serves number s).guest.tary ≡ Some word → WasKept word
+  serves_kept number waiting word kept = by_need (needs_answer number r) kept
     where
-      by_need : (need : Bool) → (cond need r (rested fuel (serve_of r too_many))).tary ≡ Some word → WasKept word
+      by_need : (need : Bool) → (cond need r (serve_of r too_many)).tary ≡ Some word → WasKept word
       by_need true kept = inl kept
       by_need false kept = absurd (served_none number word too_many waiting kept)
 
@@ -61,7 +58,13 @@ module _ (t : Tables) (is : IsTables t) (fuel : ℕ) (s : Seat) where
   kept_by (Some (waits.Bary slot rd)) waiting word kept =
       inl (sym (ap (λ (w : Option Wait). (finish_as w r (word_at t (Bary slot))).tary) waiting)
       ∙ sym (same_tary fuel (loads (Some (waits.Bary slot rd)) t r)) ∙ kept)
-  kept_by (Some (waits.Service number)) waiting word kept = serves_kept number waiting s.point word kept
+  kept_by (Some (waits.Service number)) waiting word kept = serves_kept number waiting word kept
+
+  kept_at : (point : Point) (word : ℕ) → (seat_at point t fuel s).guest.tary ≡ Some word → WasKept word
+  kept_at Outside word kept = kept_by r.waits refl word kept
+  kept_at Asking word kept = inl kept
+  kept_at Leaving word kept = inl kept
+  kept_at (Found epoch) word kept = inl (sym (same_tary fuel r) ∙ kept)
 
   pub kept_after : (word : ℕ) → (seat_after t fuel s).guest.tary ≡ Some word → WasKept word
-  kept_after word kept = kept_by r.waits refl word kept
+  kept_after word kept = kept_at s.point word kept

@@ -10,7 +10,7 @@ use Rattle.cfi_model.specs.declared.history.Entry.{Entry}
 use Rattle.cfi_model.specs.declared.phase.Phase.{Phase}
 use Rattle.cfi_model.specs.declared.phase.Phase.TheVariants as phases
 use Rattle.cfi_model.specs.declared.quiet.Quiet.{Quiet}
-use Rattle.cfi_model.specs.declared.quiet.Quiet.TheVariants.{Unregistered, Published}
+use Rattle.cfi_model.specs.declared.quiet.Quiet.TheVariants.{Unregistered, Parked, Published}
 use Rattle.cfi_model.specs.InForce.{in_force}
 use Rattle.cfi_model.specs.Phases.{phase_of, phase_by, phase_after}
 use Rattle.cfi_model.specs.Quiet.{admits}
@@ -127,6 +127,9 @@ module _ (plan : Plan) (modules : List Module) (old : Stage) (agrees : WorldAgre
       IsNoted plan modules (phases.Testing guest) turn.answer (after_event turn.world old) new)
       → WorldAgrees plan modules new
   refused_agrees guest at Unregistered new noted =
+      subst (WorldAgrees plan modules) (sym noted)
+      (record { world = agrees.world; tables = agrees.tables; guests = agrees.guests })
+  refused_agrees guest at Parked new noted =
       subst (WorldAgrees plan modules) (sym noted)
       (record { world = agrees.world; tables = agrees.tables; guests = agrees.guests })
   refused_agrees guest at (Published quiet) new noted =

@@ -41,7 +41,7 @@ use Rattle.cfi_sim.proofs.journal.LegalLemmas.{event_stands}
 use Rattle.cfi_world.specs.Worlds.{IsWorld}
 use Rattle.cfi_sim.specs.Reach.{Happening, OfGuest, OfUpdate, OfLoad, OfRefresh, OfRelease, Happens}
 use Rattle.cfi_aux.specs.Sound.{IsSoundModule}
-use Rattle.cfi_world.specs.Seats.{seat_of, seat_after, rested, is_asking}
+use Rattle.cfi_world.specs.Seats.{seat_of, seat_after, is_asking}
 use Rattle.cfi_valid.specs.Journal.{JournalState}
 use Rattle.cfi_model.specs.World.{World, quiet_of, point_of}
 
@@ -136,7 +136,7 @@ module _ (plan : Plan) (modules : List Module) (sound : All IsSoundModule module
         by_asking : (asking : Bool)
             → GuestsAgree plan (cond asking (did (answered mid guest reply r)) (nothing mid)).world
         by_asking true =
-            answer_agrees plan mid beside.world beside.guests guest r there (rested mid.fuel (serve_of r reply))
+            answer_agrees plan mid beside.world beside.guests guest r there (serve_of r reply)
         by_asking false = beside.guests
 
     -- after the answer

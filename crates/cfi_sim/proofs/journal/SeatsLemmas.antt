@@ -1,20 +1,22 @@
 -- An event of a guest, and a release, leave the world in agreement with the journal.
-use Rattle.std.proofs.Common.{◌≡◌, ◌≢◌, ℕ, ◌<◌, ◌≤◌, cond, Bool, true, false, List, length, length-set, slice_get, slice_set, slice_index_or, Option, Some, None, refl, sym, ◌∙◌, ap, subst, arith, inl, inr}
+use Rattle.std.proofs.Common.{◌≡◌, ◌≢◌, ℕ, ◌<◌, ◌≤◌, cond, is_some, Bool, true, false, List, length, length-set, slice_get, slice_set, slice_index_or, Option, Some, None, refl, sym, ◌∙◌, ap, subst, arith, inl, inr}
 use Rattle.std.proofs.lemmas.Bool.{cases_eq}
 use Rattle.std.proofs.lemmas.List.{get_or-set_same, get_or-set_other}
 use Rattle.std.proofs.lemmas.Option.{slice_get_within, slice_get-get_or}
 use Rattle.cfi_model.specs.declared.act.Wait.{Wait}
 use Rattle.cfi_model.specs.declared.act.Wait.TheVariants as waits
 use Rattle.cfi_model.specs.declared.quiet.Point.{Point}
-use Rattle.cfi_model.specs.declared.quiet.Point.TheVariants.{Outside, Found, Asking}
+use Rattle.cfi_model.specs.declared.quiet.Point.TheVariants.{Outside, Asking, Leaving, Found}
 use Rattle.cfi_model.specs.declared.quiet.Quiet.{Quiet}
-use Rattle.cfi_model.specs.declared.quiet.Quiet.TheVariants.{Unregistered, Published}
+use Rattle.cfi_model.specs.declared.quiet.Quiet.TheVariants.{Unregistered, Parked, Published}
 use Rattle.cfi_model.specs.Raw.{Raw}
+use Rattle.cfi_model.specs.Run.{serve_of}
+use Rattle.cfi_model.specs.Service.{too_many}
 use Rattle.cfi_model.specs.Words.{epoch_in_force}
 use Rattle.cfi_model.specs.World.{World, quiet_of, point_of}
 use Rattle.cfi_plan.specs.declared.plan.Plan.{Plan}
 use Rattle.cfi_sim.specs.Agrees.{IsOfPlan, HasFound, GuestsAgree}
-use Rattle.cfi_world.specs.Seats.{Seat, seat_of, with_seat, needs_answer, serves, seat_by, seat_after}
+use Rattle.cfi_world.specs.Seats.{Seat, seat_of, with_seat, needs_answer, left_by, serves, seat_by, seat_at, seat_after}
 use Rattle.cfi_world.specs.Worlds.{IsWorld}
 use Rattle.cfi_world.proofs.OthersLemmas.{set_apart}
 
@@ -23,6 +25,9 @@ published_same a b e = cc
 
 never_published : (quiet : ℕ) → Unregistered ≡ Published quiet → ⊥
 never_published quiet e = absurd (cc)
+
+parked_apart : (quiet : ℕ) → Parked ≡ Published quiet → ⊥
+parked_apart quiet e = absurd (cc)
 
 pub set_one : {X : Type 0} (xs : List X) (k : ℕ) (x v : X) → slice_get xs k ≡ Some x
     → slice_get (slice_set xs k v) k ≡ Some v
@@ -95,39 +100,43 @@ module _ (plan : Plan) (w : World) (is : IsWorld w) (agrees : GuestsAgree plan w
     least_before : (quiet : ℕ) → seat.quiet ≡ Published quiet → plan.first ≤ quiet
     least_before quiet published = (agrees.quiets guest quiet published).least
 
-    either_found : (need : Bool) → HasFound plan.first (cond need Asking Outside)
-    either_found true = tt
-    either_found false = tt
+    left_found : (stopped : Bool) → HasFound plan.first (cond stopped Outside Leaving)
+    left_found true = tt
+    left_found false = tt
 
-    served_by : (number : ℕ) (point : Point) → seat.point ≡ point
-        → GuestsAgree plan (with_seat w guest (serves point w.tables w.fuel number seat))
-    served_by number Outside at =
-        seat_agrees (serves Outside w.tables w.fuel number seat) least_before force
-    served_by number (Found epoch) at =
-        seat_agrees (serves (Found epoch) w.tables w.fuel number seat)
-        (λ quiet published.
-        let same = published_same epoch quiet published in
-        subst (λ (n : ℕ). plan.first ≤ n) same (subst (HasFound plan.first) at (agrees.points guest)))
-        (either_found (needs_answer number r))
-    served_by number Asking at =
-        seat_agrees (serves Asking w.tables w.fuel number seat) least_before (agrees.points guest)
+    either_found : (need : Bool) (after : Raw) → HasFound plan.first (cond need Asking (left_by after))
+    either_found true after = tt
+    either_found false after = left_found (is_some after.base.stop)
 
-    pub turned_by : (wait : Option Wait) → GuestsAgree plan (with_seat w guest (seat_by wait w.tables w.fuel seat))
-    turned_by (Some (waits.Service number)) = served_by number seat.point refl
+    turned_by : (wait : Option Wait) → GuestsAgree plan (with_seat w guest (seat_by wait w.tables w.fuel seat))
+    turned_by (Some (waits.Service number)) =
+        seat_agrees (serves number seat) (λ quiet published. absurd (parked_apart quiet published))
+        (either_found (needs_answer number r) (serve_of r too_many))
     turned_by None = seat_agrees (seat_by None w.tables w.fuel seat) least_before (agrees.points guest)
     turned_by (Some (waits.Tary at rd)) =
         seat_agrees (seat_by (Some (waits.Tary at rd)) w.tables w.fuel seat) least_before (agrees.points guest)
     turned_by (Some (waits.Bary slot rd)) =
         seat_agrees (seat_by (Some (waits.Bary slot rd)) w.tables w.fuel seat) least_before (agrees.points guest)
 
+    turned_at : (point : Point) → seat.point ≡ point
+        → GuestsAgree plan (with_seat w guest (seat_at point w.tables w.fuel seat))
+    turned_at Outside at = turned_by r.waits
+    turned_at Asking at = seat_agrees (seat_at Asking w.tables w.fuel seat) least_before (agrees.points guest)
+    turned_at Leaving at = seat_agrees (seat_at Leaving w.tables w.fuel seat) least_before force
+    turned_at (Found epoch) at =
+        seat_agrees (seat_at (Found epoch) w.tables w.fuel seat)
+        (λ quiet published.
+        let same = published_same epoch quiet published in
+        subst (λ (n : ℕ). plan.first ≤ n) same (subst (HasFound plan.first) at (agrees.points guest))) tt
+
     pub turn_agrees : GuestsAgree plan (with_seat w guest (seat_after w.tables w.fuel seat))
-    turn_agrees = turned_by r.waits
+    turn_agrees = turned_at seat.point refl
 
   -- ---- an answer, and a release
 
   pub answer_agrees : (v : Raw)
       → GuestsAgree plan
-      (record w { guests = slice_set w.guests guest v; points = slice_set w.points guest Outside })
+      (record w { guests = slice_set w.guests guest v; points = slice_set w.points guest Leaving })
   answer_agrees v = record {
     count = length-set w.guests guest v ∙ agrees.count;
     fuel = agrees.fuel;
@@ -149,7 +158,7 @@ module _ (plan : Plan) (w : World) (is : IsWorld w) (agrees : GuestsAgree plan w
           }
         ];
     points = λ other.
-        set_cases w.points guest other Outside Outside (HasFound plan.first)
+        set_cases w.points guest other Leaving Outside (HasFound plan.first)
         (omega (arith, inside, is.few, is.points_many)) (λ same. tt) (λ apart. agrees.points other);
   }
 

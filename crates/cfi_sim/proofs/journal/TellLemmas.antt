@@ -21,6 +21,7 @@ use Rattle.cfi_world.specs.declared.event.Event.TheVariants as events
 use Rattle.cfi_world.specs.declared.event.Turned.TheVariants.{Did}
 use Rattle.cfi_world.specs.Outcomes.{IsRefusal}
 use Rattle.cfi_world.specs.Turns.{turn_of}
+use Rattle.cfi_world.specs.Seats.{seat_of}
 use Rattle.cfi_world.specs.Updates.{is_idle}
 use Rattle.cfi_world.specs.Worlds.{IsWorld, IsQuietSince, QuietFits}
 use Rattle.cfi_world.proofs.AskLemmas.{begin_by, epochs_only}
@@ -73,7 +74,8 @@ late plan modules s agrees guest quiet refusal =
     let force : epoch_in_force w.tables + 1 ≡ next_epoch w.tables =
     force_is w.tables agrees.world.tables (omega (arith, under.0)) in
     let since : IsQuietSince w.tables guest of.r quiet =
-    subst (QuietFits w.tables guest of.r) refusal.published (agrees.world.running guest of.r of.there).quiet in
+    (subst (QuietFits w.tables guest (seat_of w guest of.r)) refusal.published
+    (agrees.world.running guest of.r of.there).quiet).1 in
     record {
       left = omega (arith, force, under.1, epoch);
       known = of.known;

@@ -1,8 +1,7 @@
 -- What a simulation under way tells while it makes the lines of a schedule.
-use Rattle.std.specs.Prelude.{◌≡◌, ℕ, Bool, true, false, List, [], ◌++◌}
+use Rattle.std.specs.Prelude.{◌≡◌, ℕ, Bool, true, false, List, ◌++◌}
 use Rattle.cfi_sim.specs.Schedule.{PassesNoLimit, Makes, Repeats}
 use Rattle.cfi_sim.specs.Events.{IsGuestEvent}
-use Rattle.cfi_sim.specs.Stage.{Stage}
 use Rattle.cfi_sim.specs.Trace.{Tracing, tracing, TellsEvent, TellEvents, Tells, LinesTell}
 use Rattle.cfi_sim.specs.declared.line.Line.{Line}
 use Rattle.cfi_sim.specs.inner.Making.{Cannot}

@@ -1,6 +1,7 @@
 // Events of guests, told.
 
 ghost use Rattle.std.specs.Prelude.{◌≡◌, ◌++◌, ◌<◌, IfOk, OnOk, option_map, slice_get};
+ghost use Rattle.cfi_model.specs.World.{point_of};
 ghost use Rattle.cfi_sim.specs.Line.{IsKnown};
 ghost use Rattle.cfi_sim.specs.Schedule.{PassesNoLimit};
 ghost use Rattle.cfi_sim.specs.Trace.{told_of};
@@ -19,10 +20,10 @@ use std::alloc::{AllocError, Global};
 // What a trace keeps of a guest of this number, if there is one.
 fn seen_in(alloc: Global, world: &World, guest: u32) -> Result<Option<Seen>, AllocError>
     ensures { IfOk result (λ seen.
-        seen ≡ option_map seen_of (slice_get world.now.guests guest)) }
+        seen ≡ option_map (seen_of (point_of world.now guest)) (slice_get world.now.guests guest)) }
 {
     match world.guests().get(guest as usize) {
-        Some(one) => Ok(Some(see(alloc, one)?)),
+        Some(one) => Ok(Some(see(alloc, world.point(guest), one)?)),
         None => Ok(None),
     }
 }

@@ -1,4 +1,4 @@
-use Rattle.std.proofs.Common.{◌≡◌, ℕ, List, [], subst}
+use Rattle.std.proofs.Common.{ℕ, List, [], subst}
 use Rattle.cfi_aux.specs.declared.modules.Module.{Module}
 use Rattle.cfi_sim.specs.inner.Opening.{IsOpened}
 use Rattle.cfi_sim.specs.inner.Tracing.{TracesTo}

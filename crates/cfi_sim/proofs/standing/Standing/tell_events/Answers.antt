@@ -1,4 +1,4 @@
-use Rattle.std.proofs.Common.{◌≤◌, ◌<◌, subst, inl, inr, arith}
+use Rattle.std.proofs.Common.{◌≤◌, subst, inl, inr, arith}
 use Rattle.cfi_sim.specs.declared.limits.TheConstants.{MAX_EVENTS}
 use Rattle.cfi_sim.specs.inner.Standing.{Whole}
 use Rattle.cfi_sim.proofs.RepeatLemmas.{guests_stuck}
