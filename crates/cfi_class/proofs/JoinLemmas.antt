@@ -61,6 +61,18 @@ joined_root-cases one other first second equal =
       ]
     ]
 
+-- what holds of the two roots and of a third holds of the one that it has then
+pub joined_root-kept : (P : ℕ → Type 0) → (one other root : ℕ) → P one → P other → P root
+    → P (joined_root one other root)
+joined_root-kept P one other root of_one of_other of_root =
+    elim (cases_eq root (max one other)) [
+      | inl most ↦ subst P (sym (joined_root-most one other root most)) (elim (cases_lt one other) [
+        | inl lower ↦ let is : one ≡ min one other = omega arith in subst P is of_one
+        | inr higher ↦ let is : other ≡ min one other = omega arith in subst P is of_other
+      ])
+      | inr differs ↦ subst P (sym (joined_root-other one other root differs)) of_root
+    ]
+
 -- ---- the step
 
 module _ (parents : List ℕ) (one other : ℕ) (forest : IsForest parents) (one_within : one < length parents)

@@ -4,24 +4,25 @@ use Rattle.cfi_word.specs.declared.lists.Edge.{Edge}
 use Rattle.cfi_word.specs.Chain.{ChainOf, Chain}
 use Rattle.cfi_class.specs.inner.Forest.{root_of}
 use Rattle.cfi_class.specs.Labels.{HasEdge, IsEdgeWithin, IsReached, IsUsed}
-use Rattle.cfi_class.specs.inner.Linked.{IsEnd, end_node, IsForestOf}
+use Rattle.cfi_class.specs.inner.Linked.{End, IsEnd, IsForestBy}
 use Rattle.cfi_class.specs.inner.Linked.End.{Slot, Address}
 use Rattle.cfi_class.proofs.LinkedLemmas.{chain_from_Linked}
 
 -- a chain stays in one tree
-pub chain_root : (joins : (slot address : ℕ) → Type 0) (slots code_words : ℕ) (parents : List ℕ)
-    → IsForestOf joins slots code_words parents → (more slot address : ℕ) → ChainOf joins more slot address
-    → root_of parents slot ≡ root_of parents (end_node slots (Address address))
+pub chain_root : {node : End → ℕ} {nodes : ℕ} (joins : (slot address : ℕ) → Type 0) (slots code_words : ℕ)
+    (parents : List ℕ) → IsForestBy node nodes joins slots code_words parents
+    → (more slot address : ℕ) → ChainOf joins more slot address
+    → root_of parents (node (Slot slot)) ≡ root_of parents (node (Address address))
 chain_root joins slots code_words parents forest zero slot address edge = forest.joined slot address edge
 chain_root joins slots code_words parents forest (suc more) slot address (shared, other, edge, back, rest) =
     forest.joined slot shared edge ∙ sym (forest.joined other shared back)
     ∙ chain_root joins slots code_words parents forest more other address rest
 
 -- what is in one tree is joined by a chain
-pub chain_from_roots : (joins : (slot address : ℕ) → Type 0) (slots code_words : ℕ) (parents : List ℕ)
-    → IsForestOf joins slots code_words parents → (slot address : ℕ) → IsEnd slots code_words (Slot slot)
-    → IsEnd slots code_words (Address address)
-    → root_of parents slot ≡ root_of parents (end_node slots (Address address)) → Chain joins slot address
+pub chain_from_roots : {node : End → ℕ} {nodes : ℕ} (joins : (slot address : ℕ) → Type 0) (slots code_words : ℕ)
+    (parents : List ℕ) → IsForestBy node nodes joins slots code_words parents
+    → (slot address : ℕ) → IsEnd slots code_words (Slot slot) → IsEnd slots code_words (Address address)
+    → root_of parents (node (Slot slot)) ≡ root_of parents (node (Address address)) → Chain joins slot address
 chain_from_roots joins slots code_words parents forest slot address is_slot is_address equal =
     let way = chain_from_Linked joins (forest.linked (Slot slot) (Address address) is_slot is_address equal) in
     record { more = way.0; chain = way.1 }

@@ -1,5 +1,5 @@
 -- Ends that are linked: along the edges on from one to the next, and what the first and the last edge tell.
-use Rattle.std.proofs.Common.{◌≡◌, ◌⊎◌, ℕ, suc, refl, subst, inl, inr}
+use Rattle.std.proofs.Common.{◌≡◌, ◌⊎◌, ℕ, zero, suc, refl, subst, inl, inr}
 use Rattle.cfi_word.specs.Chain.{ChainOf}
 use Rattle.cfi_class.specs.Labels.{IsReached, IsUsed}
 use Rattle.cfi_class.specs.inner.Linked.{End, Linked}
@@ -44,6 +44,19 @@ module _ (joins : (slot address : ℕ) → Type 0) where
   chain_from_Linked (to_address edge same) = (0, edge)
   chain_from_Linked (to_address edge (to_slot back way)) =
       let rest = chain_from_Linked way in (suc rest.0, (_, _, edge, back, rest.1))
+
+  -- and a chain is such a way
+  pub Linked-from_chain : (more : ℕ) {slot address : ℕ} → ChainOf joins more slot address
+      → Linked joins (Slot slot) (Address address)
+  Linked-from_chain zero edge = to_address edge same
+  Linked-from_chain (suc more) (shared, other, edge, back, rest) =
+      to_address edge (to_slot back (Linked-from_chain more rest))
+
+  -- the way back
+  pub Linked-back : {one other : End} → Linked joins one other → Linked joins other one
+  Linked-back same = same
+  Linked-back (to_address edge way) = Linked-append (Linked-back way) (to_slot edge same)
+  Linked-back (to_slot edge way) = Linked-append (Linked-back way) (to_address edge same)
 
 -- a way stays one where there are more edges
 pub Linked-map : (old new : (slot address : ℕ) → Type 0) → ((slot address : ℕ) → old slot address → new slot address)

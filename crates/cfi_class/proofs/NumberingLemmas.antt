@@ -1,10 +1,11 @@
 -- Numbers of slots, one more slot at a time.
 use Rattle.std.proofs.Common.{◌≡◌, ◌↔◌, ℕ, ◌+◌, ◌<◌, ◌≤◌, max, cond, ltb, Bool, false, List, [], ◌∷◌, ◌++◌, length, get_or, refl, sym, ap, subst, ◌∙◌, arith, inl, inr}
 use Rattle.std.proofs.lemmas.Bool.{cases_lt, lt-ltb, le-ltb, cond-true, cond-false, false≢true}
-use Rattle.std.proofs.lemmas.List.{length_push, get_or_append_left, get_or_at, get_or_past}
+use Rattle.std.proofs.lemmas.List.{length_push, get_or_past}
 use Rattle.cfi_word.specs.declared.ids.TheConstants.{FIELD_MAX}
 use Rattle.cfi_class.specs.inner.Forest.{root_of}
 use Rattle.cfi_class.specs.inner.Numbering.{IsMarked, AreSlotNumbers}
+use Rattle.cfi_class.proofs.PushedLemmas.{before, here, last_or, each}
 
 -- two slots have one number exactly where they have one root
 abbrev pub AreAlike : (parents numbers : List ℕ) (one other : ℕ) → Type 0
@@ -42,58 +43,37 @@ pub record IsNext (parents : List ℕ) (marks : List Bool) (numbers : List ℕ) 
 
 module _ (parents : List ℕ) (marks : List Bool) (numbers : List ℕ) (count number next : ℕ)
     (old : NumbersSoFar parents marks numbers count) (is : IsNext parents marks numbers count number next) where
-  before : (slot : ℕ) → slot < length numbers → get_or (numbers ++ number ∷ []) slot 0 ≡ get_or numbers slot 0
-  before slot lower = get_or_append_left numbers (number ∷ []) 0 slot lower
-
-  here : (slot : ℕ) → length numbers ≡ slot → get_or (numbers ++ number ∷ []) slot 0 ≡ number
-  here slot last = get_or_at numbers number [] 0 slot last
-
-  last_or : (slot : ℕ) → slot < length (numbers ++ number ∷ []) → length numbers ≤ slot → length numbers ≡ slot
-  last_or slot within higher = let len = length_push numbers number in omega arith
-
   pushed_same : (one other : ℕ) → one < length (numbers ++ number ∷ []) → other < length (numbers ++ number ∷ [])
       → IsMarked marks one → IsMarked marks other → AreAlike parents (numbers ++ number ∷ []) one other
   pushed_same one other one_within other_within one_marked other_marked =
       elim (cases_lt one (length numbers)) [
         | inl one_lower ↦ elim (cases_lt other (length numbers)) [
           | inl other_lower ↦
-              rw (before one one_lower, before other other_lower)
+              rw (before numbers number one one_lower, before numbers number other other_lower)
               (old.same one other one_lower other_lower one_marked other_marked)
           | inr other_higher ↦
-              let last = last_or other other_within other_higher in
-              rw (before one one_lower, here other last, ← last)
+              let last = last_or numbers number other other_within other_higher in
+              rw (before numbers number one one_lower, here numbers number other last, ← last)
               (is.same (rw last other_marked) one one_lower one_marked)
         ]
         | inr one_higher ↦ elim (cases_lt other (length numbers)) [
           | inl other_lower ↦
-              let last = last_or one one_within one_higher in
+              let last = last_or numbers number one one_within one_higher in
               let alike = is.same (rw last one_marked) other other_lower other_marked in
-              rw (before other other_lower, here one last, ← last)
+              rw (before numbers number other other_lower, here numbers number one last, ← last)
               (λ equal. sym (alike.0 (sym equal)), λ equal. sym (alike.1 (sym equal)))
           | inr other_higher ↦
-              let both : one ≡ other = sym (last_or one one_within one_higher)
-              ∙ last_or other other_within other_higher in
+              let both : one ≡ other = sym (last_or numbers number one one_within one_higher)
+              ∙ last_or numbers number other other_within other_higher in
               (λ equal. ap (root_of parents) both, λ equal. ap (λ n. get_or (numbers ++ number ∷ []) n 0) both)
         ]
-      ]
-
-  -- at each place of the longer list: what holds of the places before, and of the last
-  each : (P : (slot number : ℕ) → Type 0) → ((slot : ℕ) → slot < length numbers → P slot (get_or numbers slot 0))
-      → P (length numbers) number
-      → (slot : ℕ) → slot < length (numbers ++ number ∷ []) → P slot (get_or (numbers ++ number ∷ []) slot 0)
-  each P earlier last slot within =
-      elim (cases_lt slot (length numbers)) [
-        | inl lower ↦ subst (P slot) (sym (before slot lower)) (earlier slot lower)
-        | inr higher ↦
-            let at = last_or slot within higher in
-            subst (P slot) (sym (here slot at)) (subst (λ n. P n number) at last)
       ]
 
   -- what a slot had before
   kept : (end sought : ℕ) → end ≤ length numbers → HasBefore marks numbers end sought
       → HasBefore marks (numbers ++ number ∷ []) end sought
   kept end sought within (earlier, lower, marked, has) =
-      (earlier, lower, marked, before earlier (omega arith) ∙ has)
+      (earlier, lower, marked, before numbers number earlier (omega arith) ∙ has)
 
   widened : (few many sought : ℕ) → few ≤ many → HasBefore marks (numbers ++ number ∷ []) few sought
       → HasBefore marks (numbers ++ number ∷ []) many sought
@@ -106,7 +86,7 @@ module _ (parents : List ℕ) (marks : List Bool) (numbers : List ℕ) (count nu
       elim (cases_lt count sought) [
         | inl above ↦
             let new = is.top sought above low in
-            (length numbers, omega arith, new.0, here (length numbers) refl ∙ new.1)
+            (length numbers, omega arith, new.0, here numbers number (length numbers) refl ∙ new.1)
         | inr below ↦ widened (length numbers) (length numbers + 1) sought (omega arith)
             (kept (length numbers) sought (omega arith) (old.each sought some below))
       ]
@@ -117,12 +97,12 @@ module _ (parents : List ℕ) (marks : List Bool) (numbers : List ℕ) (count nu
   pushed_order slot sought within marked some low =
       elim (cases_lt slot (length numbers)) [
         | inl lower ↦
-            let was : sought ≤ get_or numbers slot 0 = rw (before slot lower) at low in
+            let was : sought ≤ get_or numbers slot 0 = rw (before numbers number slot lower) at low in
             kept (slot + 1) sought (omega arith) (old.order slot sought lower marked some was)
         | inr higher ↦
-            let last = last_or slot within higher in
+            let last = last_or numbers number slot within higher in
             let most = is.most (rw last marked) in
-            let own = here slot last in
+            let own = here numbers number slot last in
             subst (λ n. HasBefore marks (numbers ++ number ∷ []) (n + 1) sought) last
             (pushed_each sought some (omega arith))
       ]
@@ -130,9 +110,9 @@ module _ (parents : List ℕ) (marks : List Bool) (numbers : List ℕ) (count nu
   pub pushed : NumbersSoFar parents marks (numbers ++ number ∷ []) next
   pushed = record {
     few = let len = length_push numbers number in let bound = is.few in omega arith;
-    idle = each (λ slot n. get_or marks slot false ≡ false → n ≡ FIELD_MAX) old.idle is.idle;
-    least = each (λ slot n. IsMarked marks slot → 1 ≤ n) old.least is.least;
-    most = each (λ slot n. IsMarked marks slot → n ≤ next)
+    idle = each numbers number (λ slot n. get_or marks slot false ≡ false → n ≡ FIELD_MAX) old.idle is.idle;
+    least = each numbers number (λ slot n. IsMarked marks slot → 1 ≤ n) old.least is.least;
+    most = each numbers number (λ slot n. IsMarked marks slot → n ≤ next)
         (λ slot lower marked. let most = old.most slot lower marked in let rises = is.rises in omega arith) is.most;
     same = pushed_same;
     each = λ sought some low.

@@ -1,2 +1,3 @@
+pub mod Kept
 pub mod Labels
 pub mod inner

@@ -25,11 +25,23 @@ abbrev pub end_node : (slots : ℕ) → End → ℕ
 end_node slots (Slot slot) = slot
 end_node slots (Address address) = slots + address / 4
 
--- a forest whose trees are the ends that are linked
-pub record IsForestOf (joins : (slot address : ℕ) → Type 0) (slots code_words : ℕ) (parents : List ℕ) : Type 0 where
+-- the root is the node of an end
+abbrev pub IsNodeOfEnd : (slots code_words : ℕ) → (node : End → ℕ) → (root : ℕ) → Type 0
+IsNodeOfEnd slots code_words node root = (top : End) × IsEnd slots code_words top × (node top ≡ root)
+
+-- a forest whose trees are the ends that are linked, each at its node; ends of one node are linked
+pub record IsForestBy (node : End → ℕ) (nodes : ℕ) (joins : (slot address : ℕ) → Type 0) (slots code_words : ℕ)
+    (parents : List ℕ) : Type 0 where
   pub forest : IsForest parents
-  pub len : length parents ≡ slots + code_words
+  pub len : length parents ≡ nodes
   pub joined : (slot address : ℕ) → joins slot address
-      → root_of parents slot ≡ root_of parents (end_node slots (Address address))
+      → root_of parents (node (Slot slot)) ≡ root_of parents (node (Address address))
   pub linked : (one other : End) → IsEnd slots code_words one → IsEnd slots code_words other
-      → root_of parents (end_node slots one) ≡ root_of parents (end_node slots other) → Linked joins one other
+      → root_of parents (node one) ≡ root_of parents (node other) → Linked joins one other
+  pub topped : (one : End) → IsEnd slots code_words one
+      → IsNodeOfEnd slots code_words node (root_of parents (node one))
+
+-- such a forest where each end has a node of its own
+abbrev pub IsForestOf : (joins : (slot address : ℕ) → Type 0) → (slots code_words : ℕ) → (parents : List ℕ) → Type 0
+IsForestOf joins slots code_words parents =
+    IsForestBy (end_node slots) (slots + code_words) joins slots code_words parents
