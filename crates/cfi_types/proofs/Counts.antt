@@ -5,13 +5,9 @@ use Rattle.std.proofs.lemmas.Bool.{cases_lt, lt-ltb}
 use Rattle.std.proofs.lemmas.Bool.Decides.{nat_tests}
 use Rattle.std.proofs.lemmas.List.{length_push, get_or_push, get_or_append_left}
 use Rattle.cfi_types.specs.Classes.{InOrder}
+use Rattle.cfi_types.specs.inner.Extending.{next_after}
 use Rattle.cfi_types.specs.inner.Splitting.{IsLow}
 use Rattle.cfi_types.specs.Numbering.{AreNumbers}
-
--- the next number after these
-abbrev pub next_after : (next : ℕ) → List ℕ → ℕ
-next_after next [] = next
-next_after next (n ∷ ns) = next_after (max next (n + 1)) ns
 
 InOrder-push : (next : ℕ) (ns : List ℕ) (n : ℕ) → InOrder next ns → n ≤ next_after next ns → InOrder next (ns ++ n ∷ [])
 InOrder-push next [] n h le = (le, tt)

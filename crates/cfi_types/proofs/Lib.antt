@@ -17,3 +17,11 @@ pub mod ListLemmas
 pub mod KeepLemmas
 pub mod LeadLemmas
 pub mod SieveLemmas
+pub mod DepthLemmas
+pub mod OrderLemmas
+pub mod BackLemmas
+pub mod NearLemmas
+pub mod RenumberLemmas
+pub mod PreparedLemmas
+pub mod KnownLemmas
+pub mod ExtendLemmas

@@ -4,6 +4,8 @@ pub mod Leader
 pub mod Splitting
 pub mod Refining
 pub mod Digest
+pub mod Depth
+pub mod Extending
 pub mod Keeping
 pub mod Parents
 pub mod Hits

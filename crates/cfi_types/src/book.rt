@@ -6,6 +6,7 @@ ghost use Rattle.cfi_type_table.specs.Spelling.{AreTypes};
 ghost use Rattle.cfi_types.specs.Classes.{AreClasses, table_of};
 
 use crate::classes::{Classes, by_table};
+use crate::extending::row_behind;
 use crate::graph::join;
 use crate::linked::Lent;
 use crate::numbering::number;
@@ -15,7 +16,7 @@ use std::alloc::{AllocError, Global};
 use std::marker::Model;
 
 // The numbers of the tables' nodes.
-fn classes_of(alloc: Global, tables: &[Lent]) -> Result<Classes, AllocError>
+pub(crate) fn classes_of(alloc: Global, tables: &[Lent]) -> Result<Classes, AllocError>
     requires fits { length (flat_map (λ xs. xs) tables.now) < 2 ^ 32 }
     requires types { AllByRecursion AreTypes tables.now }
     ensures { IfOk result (λ classes. AreClasses tables.now classes) }
@@ -90,5 +91,26 @@ impl<'a> TypeBook<'a> {
         ensures { IfOk result (λ classes. AreClasses self.now classes) }
     {
         classes_of(*self.tables.allocator(), self.tables.as_slice())
+    }
+    /// Adds a table at the end, and its nodes' numbers to those of the tables before it.
+    ///
+    /// `kept` is `classes` of this book, and is that of the longer one then. The number of all nodes is below 2^32. The
+    /// table is compared only with tables that may have a type of it. Where memory is missing, both are as before.
+    pub fn extend(&mut self, table: &'a TypeTable, kept: &mut Classes) -> Result<(), AllocError>
+        requires types { AreTypes table.now }
+        requires fits { length (flat_map (λ xs. xs) (self.old ++ table.now ∷ [])) < 2 ^ 32 }
+        requires kept { AreClasses self.old kept.old }
+        ensures ok { OnOk result (self.new ≡ self.old ++ table.now ∷ []) }
+        ensures classes { OnOk result (AreClasses self.new kept.new) }
+        ensures err { OnErr result (self.new ≡ self.old) }
+        ensures same { OnErr result (kept.new ≡ kept.old) }
+    {
+        let alloc = *self.tables.allocator();
+        let lent = Lent::new(table);
+        let row = row_behind(alloc, self.tables.as_slice(), kept, &lent)?;
+        kept.rows.reserve(1)?;
+        self.tables.push(lent)?;
+        kept.rows.push_reserved(row);
+        Ok(())
     }
 }

@@ -11,7 +11,7 @@ use std::marker::Model;
 /// A number for each node of several tables: equal types alone have one number.
 #[derive(Debug, Drop)]
 pub struct Classes {
-    rows: Vec<Vec<u32>>,
+    pub(crate) rows: Vec<Vec<u32>>,
 }
 
 impl Model for Classes {

@@ -1,18 +1,21 @@
 //! Which types of several tables are equal.
 //!
 //! Stands on `cfi_type_table` and `cfi_word`. Proved: two nodes have one class exactly where their unfoldings agree to
-//! every depth. Open: nothing.
+//! every depth; where a book grows by a table, its nodes get the numbers of the longer book's classes, and those that
+//! stand keep theirs. Only tested, by `cfi_calls`: that ample memory is enough. Open: nothing.
 #![tactic(auto)]
 
 mod book;
 mod classes;
 mod digest;
 mod dividing;
+mod extending;
 mod graph;
 mod hits;
 mod leader;
 mod linked;
 mod lists;
+mod near;
 mod numbering;
 mod parents;
 mod partition;

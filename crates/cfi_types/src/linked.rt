@@ -28,6 +28,13 @@ impl<'a> Lent<'a> {
         Lent { table }
     }
 
+    // The same table once more.
+    pub(crate) fn again(&self) -> Lent<'a>
+        ensures { result ≡ self.now }
+    {
+        Lent { table: self.table }
+    }
+
     // The table's nodes.
     pub(crate) fn nodes(&self) -> &'a [TypeNode]
         ensures { result.now ≡ self.now }
