@@ -1,10 +1,10 @@
 //! Classes of slots and code words, and which a chain of edges joins.
 
-ghost use Rattle.std.specs.Prelude.{All, IfOk};
+ghost use Rattle.std.specs.Prelude.{◌≡◌, ◌≤◌, All, length, IfOk};
 ghost use Rattle.cfi_class.specs.Labels.{IsEdgeWithin};
 
-use cfi_class::{are_joined, label};
-use cfi_word::{Edge, Layout};
+use cfi_class::{Kept, are_joined, label};
+use cfi_word::{Edge, Labels, Layout};
 use std::alloc::{AllocError, Global};
 
 // Those edges of these slots and addresses that lie within a table of 1,024 code words.
@@ -39,6 +39,18 @@ fn numbers_of(
     Ok(all)
 }
 
+// Whether labels of a table of 1,024 code words have these classes of slots and of code words, and no others.
+fn has_classes(
+    alloc: Global,
+    labels: &Labels,
+    bary: &[(usize, u32)],
+    tary: &[(usize, u32)],
+) -> Result<bool, AllocError> {
+    let words = numbers_of(alloc, 1024, 0, tary)?;
+    let branches = numbers_of(alloc, 74, 16383, bary)?;
+    Ok(labels.tary.as_slice() == words.as_slice() && labels.bary.as_slice() == branches.as_slice())
+}
+
 // An indirect call of two functions, and the returns of both: slots 1 and 2 share the address 0x80.
 const CALLS: [(u32, u32); 6] = [
     (0, 0x84),
@@ -64,13 +76,7 @@ fn are_labels(
     }
     let edges = edges_of(alloc, pairs, slots)?;
     let labels = label(alloc, &edges, slots, &layout)?;
-    let words = numbers_of(alloc, 1024, 0, tary)?;
-    let branches = numbers_of(alloc, 74, 16383, bary)?;
-    Ok(
-        edges.len() == pairs.len()
-            && labels.tary.as_slice() == words.as_slice()
-            && labels.bary.as_slice() == branches.as_slice(),
-    )
+    Ok(edges.len() == pairs.len() && has_classes(alloc, &labels, bary, tary)?)
 }
 
 // No edge, one, a class of two slots, and two classes.
@@ -103,6 +109,69 @@ fn ordered_labels(alloc: Global) -> Result<bool, AllocError> {
 /// The classes of slots and of code words.
 pub fn labels(alloc: Global) -> Result<bool, AllocError> {
     Ok(few_labels(alloc)? && chain_labels(alloc)? && ordered_labels(alloc)?)
+}
+
+// These labels and some further edges, by slot and address.
+fn with_edges(
+    alloc: Global,
+    kept: &Kept,
+    pairs: &[(u32, u32)],
+    slots: u32,
+) -> Result<Kept, AllocError>
+    requires size { length kept.now.tary ≡ 1024 }
+    requires room { slots ≤ 74 }
+    ensures { IfOk result (λ labels. length labels.tary ≡ 1024) }
+{
+    let edges = edges_of(alloc, pairs, slots)?;
+    kept.joined(alloc, &edges, slots)
+}
+
+// Two classes.
+fn two_classes(alloc: Global) -> Result<Kept, AllocError>
+    ensures { IfOk result (λ labels. length labels.tary ≡ 1024) }
+{
+    let layout = Layout::new(1024).unwrap();
+    let edges = edges_of(alloc, &[(0, 0x40), (1, 0x44)], 2)?;
+    Kept::of(alloc, &edges, 2, &layout)
+}
+
+// A slot that makes one of them, and another class.
+fn joined_classes(alloc: Global) -> Result<Kept, AllocError>
+    ensures { IfOk result (λ labels. length labels.tary ≡ 1024) }
+{
+    let kept = two_classes(alloc)?;
+    with_edges(alloc, &kept, &[(2, 0x40), (2, 0x44), (3, 0x48)], 4)
+}
+
+// Whether the two classes are numbered in order.
+fn are_two(alloc: Global) -> Result<bool, AllocError> {
+    let kept = two_classes(alloc)?;
+    has_classes(alloc, kept.labels(), &[(0, 1), (1, 2)], &[(16, 1), (17, 2)])
+}
+
+// Whether the joined class has the lesser number, and the other one the next after both.
+fn are_joined_classes(alloc: Global) -> Result<bool, AllocError> {
+    let kept = joined_classes(alloc)?;
+    let bary = [(0, 1), (1, 1), (2, 1), (3, 3)];
+    has_classes(alloc, kept.labels(), &bary, &[(16, 1), (17, 1), (18, 3)])
+}
+
+// Whether the next class has the number that the joined class has left.
+fn is_number_taken_again(alloc: Global) -> Result<bool, AllocError> {
+    let joined = joined_classes(alloc)?;
+    let kept = with_edges(alloc, &joined, &[(4, 0x4c)], 5)?;
+    let bary = [(0, 1), (1, 1), (2, 1), (3, 3), (4, 2)];
+    has_classes(
+        alloc,
+        kept.labels(),
+        &bary,
+        &[(16, 1), (17, 1), (18, 3), (19, 2)],
+    )
+}
+
+/// Labels that are kept while edges are added, by hand.
+pub fn kept(alloc: Global) -> Result<bool, AllocError> {
+    Ok(are_two(alloc)? && are_joined_classes(alloc)? && is_number_taken_again(alloc)?)
 }
 
 /// Whether a chain joins a slot and an address.

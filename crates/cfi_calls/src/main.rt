@@ -77,6 +77,7 @@ fn tell_policies(rt: &HostRuntime, alloc: Global) -> io::Result<()> {
     tell(rt, "equal types", types::equal_types(alloc)?)?;
     tell(rt, "wider types", types::wider_types(alloc)?)?;
     tell(rt, "labels", classes::labels(alloc)?)?;
+    tell(rt, "kept labels", classes::kept(alloc)?)?;
     tell(rt, "joined by chains", classes::joined(alloc)?)?;
     tell(
         rt,

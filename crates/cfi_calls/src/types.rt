@@ -1,11 +1,12 @@
 //! Which types of tables are equal, and which are wider than others.
 
-ghost use Rattle.std.specs.Prelude.{IfOk, IfSome};
+ghost use Rattle.std.specs.Prelude.{IfOk, IfSome, [], ◌∷◌};
 ghost use Rattle.cfi_type_table.specs.Spelling.{AreTypes};
+ghost use Rattle.cfi_types.specs.Classes.{AreClasses};
 
 use cfi_fits::widenings;
 use cfi_type_table::{TypeTable, read_types};
-use cfi_types::TypeBook;
+use cfi_types::{Classes, TypeBook};
 use std::alloc::{AllocError, Global};
 
 // The table of these words.
@@ -19,15 +20,17 @@ fn table(alloc: Global, words: &[u32]) -> Result<Option<TypeTable>, AllocError>
     Ok(read_types(alloc, bytes.as_slice()).ok())
 }
 
-// The classes of the nodes of two tables, one table after the other.
-fn classes(alloc: Global, first: &TypeTable, second: &TypeTable) -> Result<Vec<u32>, AllocError>
+// The numbers of the nodes of two tables, one table after the other.
+fn numbers(
+    alloc: Global,
+    classes: &Classes,
+    first: &TypeTable,
+    second: &TypeTable,
+) -> Result<Vec<u32>, AllocError>
     requires first { AreTypes first.now }
     requires second { AreTypes second.now }
+    requires classes { AreClasses (first.now ∷ second.now ∷ []) classes.now }
 {
-    let mut book = TypeBook::new(alloc);
-    book.add(first)?;
-    book.add(second)?;
-    let classes = book.classes()?;
     let mut all = Vec::new(alloc);
     for node in 0..first.nodes().len() {
         all.push(classes.of(0, node as u32))?;
@@ -36,6 +39,30 @@ fn classes(alloc: Global, first: &TypeTable, second: &TypeTable) -> Result<Vec<u
         all.push(classes.of(1, node as u32))?;
     }
     Ok(all)
+}
+
+// The classes of two tables.
+fn classes(alloc: Global, first: &TypeTable, second: &TypeTable) -> Result<Vec<u32>, AllocError>
+    requires first { AreTypes first.now }
+    requires second { AreTypes second.now }
+{
+    let mut book = TypeBook::new(alloc);
+    book.add(first)?;
+    book.add(second)?;
+    let classes = book.classes()?;
+    numbers(alloc, &classes, first, second)
+}
+
+// The same, where the second table comes to a book of the first one and its classes.
+fn extended(alloc: Global, first: &TypeTable, second: &TypeTable) -> Result<Vec<u32>, AllocError>
+    requires first { AreTypes first.now }
+    requires second { AreTypes second.now }
+{
+    let mut book = TypeBook::new(alloc);
+    book.add(first)?;
+    let mut classes = book.classes()?;
+    book.extend(second, &mut classes)?;
+    numbers(alloc, &classes, first, second)
 }
 
 // Whether the nodes of two tables have these classes.
@@ -52,10 +79,11 @@ fn are_classes(
         return Ok(false);
     };
     let found = classes(alloc, &one, &other)?;
-    Ok(found.as_slice() == wanted)
+    let grown = extended(alloc, &one, &other)?;
+    Ok(found.as_slice() == wanted && grown.as_slice() == wanted)
 }
 
-/// Types of two tables that are equal, and types that are not.
+/// Types of two tables that are equal, and types that are not; also where the second table comes later.
 pub fn equal_types(alloc: Global) -> Result<bool, AllocError> {
     // Ptr(1), Struct(0, 2), Int(32, 1), and the same in another order.
     let list = [3, 3, 1, 1, 5, 2, 0, 2, 1, 2, 32, 1];

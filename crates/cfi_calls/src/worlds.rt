@@ -54,7 +54,7 @@ fn is_refreshed(world: &mut World) -> bool
 // Whether guest 0 asks for module 0, and that is answered in vain.
 fn is_answered(world: &mut World) -> bool {
     let mut did = true;
-    for _ in 0..3 {
+    for _ in 0..2 {
         did = did && world.turn(Event::Guest(0)) == Turned::Did;
     }
     let asks = Turned::Asks {
@@ -71,9 +71,12 @@ fn is_answered(world: &mut World) -> bool {
     did && has_asked && world.turn(Event::Answer(0, answer)) == Turned::Did
 }
 
-// Whether the fuel stops guest 0, which then is released.
+// Whether guest 0 makes its quiescent point, and the fuel stops it with its next fetch; it is released then.
 fn is_released(world: &mut World) -> bool {
-    let did = world.turn(Event::Guest(0)) == Turned::Did;
+    let mut did = true;
+    for _ in 0..3 {
+        did = did && world.turn(Event::Guest(0)) == Turned::Did;
+    }
     let stops = world.guests().first().and_then(Guest::stop);
     did && stops == Some(Stop::Fuel) && world.turn(Event::Release(0)) == Turned::Did
 }

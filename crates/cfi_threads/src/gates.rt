@@ -147,6 +147,65 @@ impl Gate for Crossing {
     }
 }
 
+/// Holds the script's first call until guest 0 has come to its quiet service, that guest there until the script has made
+/// its first so many calls, and the next call until the guest has come to its exit.
+#[derive(Drop)]
+pub struct Parking {
+    calls: u32,
+    come: Mark,
+    made: Mark,
+    exit: Mark,
+    late: Mark,
+}
+
+impl Parking {
+    /// Neither has come.
+    pub fn new(calls: u32) -> Parking {
+        Parking {
+            calls,
+            come: Mark::new(),
+            made: Mark::new(),
+            exit: Mark::new(),
+            late: Mark::new(),
+        }
+    }
+
+    /// Whether nobody has waited in vain.
+    pub fn is_kept(&self) -> bool {
+        !self.late.is_put()
+    }
+
+    // Waits for a mark.
+    fn hold(&self, mark: &Mark) {
+        if !mark.came() {
+            self.late.put();
+        }
+    }
+}
+
+impl Gate for Parking {
+    fn pass(&self, guest: u32, service: u32) {
+        match (guest, service) {
+            (0, QUIET) => {
+                self.come.put();
+                self.hold(&self.made);
+            }
+            (0, EXIT) => self.exit.put(),
+            _ => {}
+        }
+    }
+
+    fn line(&self, call: u32) {
+        if call == 0 {
+            self.hold(&self.come);
+        }
+        if call == self.calls {
+            self.made.put();
+            self.hold(&self.exit);
+        }
+    }
+}
+
 /// Tells of guest 0 in its quiet service, and holds it there until another thread holds the lock, which keeps it until
 /// that guest has ended.
 #[derive(Drop)]

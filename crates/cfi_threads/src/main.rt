@@ -7,8 +7,9 @@
 //! some updates are admitted and some are not; a guest loads while others come, are told of updates, and go; a guest
 //! fetches beside an update that adds code, and one without quiescent points hinders an update; guests run beside
 //! refreshes, one of them repeats a try, and each pause comes; two guests of a plan are in their services at once, its
-//! script goes on beside a guest, the script and a guest load one module in both orders, and a guest runs to its end while
-//! the loader's lock is held, and so does one that has opened as often as it may and asks for each service that needs no
+//! script goes on beside a guest, the script and a guest load one module in both orders; under three versions six
+//! refreshes are made while a guest is held in a service, and it checks on then; a guest runs to its end while the
+//! loader's lock is held, and so does one that has opened as often as it may and asks for each service that needs no
 //! loader. Open: nothing.
 #![tactic(auto)]
 
@@ -109,6 +110,13 @@ fn main(rt: HostRuntime) -> io::Result<()> {
         &rt,
         "the script's load before a guest's",
         plans::a_load_before_a_guests(&rt, rt.alloc(), &load, &load_report),
+    )?;
+    let parked = texts(&rt, "parked.plan", &["parked.s"])?;
+    let parked_report = fs::read(&rt, "parked.report")?;
+    tell(
+        &rt,
+        "a guest parked beside refreshes",
+        plans::a_guest_parked_beside_refreshes(&rt, rt.alloc(), &parked, &parked_report),
     )?;
     let call = texts(&rt, "call.plan", &["call.s"])?;
     tell(

@@ -6,7 +6,7 @@ ghost use Rattle.cfi_loader.specs.Plans.{CanStart};
 ghost use Rattle.cfi_loader.specs.Starting.{IsStarted};
 
 use crate::files::planned;
-use crate::gates::{Crossing, Holding, Meeting, Weaving};
+use crate::gates::{Crossing, Holding, Meeting, Parking, Weaving};
 use cfi_aux::Module;
 use cfi_engine::{Runner, drive, open_guests, run_plan};
 use cfi_io::Gate;
@@ -93,6 +93,21 @@ pub fn a_load_before_a_guests<R: Threads + Wait + Sync>(
         return false;
     };
     let gate = Crossing::new();
+    has_report(rt, alloc, &plan, modules, &gate, report) && gate.is_kept()
+}
+
+/// A guest is held in its first service beside twice as many refreshes as there are versions, 3, and checks a call and a
+/// return then; the run has this report.
+pub fn a_guest_parked_beside_refreshes<R: Threads + Wait + Sync>(
+    rt: &R,
+    alloc: Global,
+    texts: &Texts,
+    report: &[u8],
+) -> bool {
+    let Some((plan, modules)) = planned(alloc, &texts.plan, texts.sources.as_slice()) else {
+        return false;
+    };
+    let gate = Parking::new(6);
     has_report(rt, alloc, &plan, modules, &gate, report) && gate.is_kept()
 }
 

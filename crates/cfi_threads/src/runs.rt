@@ -1,6 +1,6 @@
 //! Guests beside a keeper, over one table.
 
-ghost use Rattle.std.specs.Prelude.{◌≡◌, IfOk, OnOk};
+ghost use Rattle.std.specs.Prelude.{◌≡◌, IfOk, OnOk, false};
 ghost use Rattle.cfi_model.specs.Closed.{IsStartIn};
 ghost use Rattle.cfi_model.specs.History.{IsStart};
 ghost use Rattle.cfi_runner.specs.Seen.{IsSight, SeesMore, history_seen};
@@ -36,14 +36,17 @@ fn drive<N: TableName>(
 ) -> Result<(Guest, Pause), AllocError>
     requires sight { IsSight N.key pass.old.sight }
     requires start { IsStart (history_seen N.key pass.old.sight) entry }
+    requires outside { pass.old.parked ≡ false }
     ensures sees { OnOk result (SeesMore N.key pass.old.sight pass.new.sight) }
+    ensures outside { OnOk result (pass.new.parked ≡ false) }
 {
     let mut guest = Guest::open(alloc, number, entry, &[])?;
     let first = run_until(&mut guest, tables, pass, fuel);
     match first {
         Pause::Service(QUIET) => {
-            let _ = tables.quiet(pass);
+            tables.park(pass);
             guest.proceed();
+            let _ = tables.quiet(pass);
             let second = run_until(&mut guest, tables, pass, fuel);
             match second {
                 Pause::Service(EXIT) => guest.exit(),
@@ -87,6 +90,7 @@ fn run_guests<N: TableName>(
 ) -> Result<Reader<N>, AllocError>
     requires sight { IsSight N.key reader.pass.sight }
     requires start { IsStart (history_seen N.key reader.pass.sight) 88 }
+    requires outside { reader.pass.parked ≡ false }
 {
     for _ in 0..guests {
         let (guest, _) = drive(alloc, tables, &mut reader.pass, 0, MAIN, 1_000_000_000)?;
@@ -104,10 +108,13 @@ fn run_guests<N: TableName>(
 
 // Waits until an update is in force, for so many turns at most.
 fn await_update<N: TableName>(tables: &Tables<N>, pass: &mut Pass<N>, turns: u32)
-    requires { IsSight N.key pass.old.sight }
-    ensures { SeesMore N.key pass.old.sight pass.new.sight }
+    requires sight { IsSight N.key pass.old.sight }
+    requires outside { pass.old.parked ≡ false }
+    ensures sees { SeesMore N.key pass.old.sight pass.new.sight }
+    ensures outside { pass.new.parked ≡ false }
 {
     for _ in 0..turns {
+        tables.park(pass);
         if tables.quiet(pass) > 0 {
             return;
         }
@@ -147,6 +154,7 @@ fn beside<N: TableName + Send + Sync, R: Threads + Sync>(
         || -> Result<Reader<N>, AllocError>
             requires sight { IsSight N.key reader.pass.sight }
             requires start { IsStart (history_seen N.key reader.pass.sight) 88 }
+            requires outside { reader.pass.parked ≡ false }
         { wait_and_run(alloc, &tables, reader, waits, guests) },
     );
     let reader = reader?;
@@ -163,6 +171,7 @@ fn wait_and_run<N: TableName>(
 ) -> Result<Reader<N>, AllocError>
     requires sight { IsSight N.key reader.pass.sight }
     requires start { IsStart (history_seen N.key reader.pass.sight) 88 }
+    requires outside { reader.pass.parked ≡ false }
 {
     await_update(tables, &mut reader.pass, waits);
     run_guests(alloc, tables, reader, guests)

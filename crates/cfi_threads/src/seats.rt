@@ -1,6 +1,6 @@
 //! Guests that hinder updates, and guests that come and go, beside others that go on.
 
-ghost use Rattle.std.specs.Prelude.{◌≡◌};
+ghost use Rattle.std.specs.Prelude.{◌≡◌, false};
 ghost use Rattle.cfi_threads.specs.Like.{IsLike};
 
 use crate::marks::{Mark, TURNS};
@@ -24,6 +24,7 @@ fn quiesce<N: TableName>(
         return reader;
     }
     for _ in 0..TURNS {
+        tables.park(&mut reader.pass);
         if tables.quiet(&mut reader.pass) == last {
             reader.sound = true;
             break;
@@ -93,7 +94,9 @@ fn passing<N: TableName + Send + Sync, R: Threads + Sync>(
         || -> (Keeper<N>, u32)
             requires { IsLike image keeper.entries }
         { come_and_go(&tables, keeper, &image, 100) },
-        || -> Reader<N> { load(&tables, reader, 100, &seen) },
+        || -> Reader<N>
+            requires { reader.pass.parked ≡ false }
+        { load(&tables, reader, 100, &seen) },
     );
     (gone, reader.sound && seen.is_put())
 }

@@ -1,6 +1,6 @@
 //! A keeper and passes beside each other, over one table.
 
-ghost use Rattle.std.specs.Prelude.{◌≡◌, ◌≤◌, ◌-◌, ◌⊎◌, ◌∷◌, ◌++◌, [], replicate, IfOk};
+ghost use Rattle.std.specs.Prelude.{◌≡◌, ◌≤◌, ◌-◌, ◌⊎◌, ◌∷◌, ◌++◌, [], false, replicate, IfOk};
 ghost use Rattle.cfi_model.specs.Closed.{IsClosed};
 ghost use Rattle.cfi_model.specs.Tables.{IsLoad, KeepsCode};
 ghost use Rattle.cfi_tables.specs.Keeping.{entry_by, last_of};
@@ -48,7 +48,10 @@ pub struct Reader<N: TableName> {
 
 // One try under 16,384 versions: the epoch of its words, where they are the IDs of no class and no target, of epochs in
 // order and not before this one.
-fn try_once<N: TableName>(tables: &Tables<N>, pass: &mut Pass<N>, latest: u32) -> Option<u32> {
+fn try_once<N: TableName>(tables: &Tables<N>, pass: &mut Pass<N>, latest: u32) -> Option<u32>
+    requires { pass.old.parked ≡ false }
+    ensures { pass.new.parked ≡ false }
+{
     let bary = tables.load(pass, BARY);
     let tary = tables.load(pass, TARY + 64);
     let instruction = tables.fetch(pass, 16);
@@ -68,7 +71,9 @@ pub fn load<N: TableName>(
     mut reader: Reader<N>,
     last: u32,
     seen: &Mark,
-) -> Reader<N> {
+) -> Reader<N>
+    requires { reader.pass.parked ≡ false }
+{
     reader.sound = false;
     let mut latest = 0;
     for _ in 0..TURNS {
@@ -120,11 +125,18 @@ fn beside<N: TableName + Send + Sync, R: Threads + Sync>(
         || -> (Keeper<N>, u32)
             requires { IsLike image keeper.entries }
         { refresh_around(&tables, keeper, &image, 50, (&seen_by_one, &seen_by_two)) },
-        || -> (Reader<N>, Reader<N>) {
+        || -> (Reader<N>, Reader<N>)
+            requires one { one.pass.parked ≡ false }
+            requires two { two.pass.parked ≡ false }
+        {
             join(
                 rt,
-                || -> Reader<N> { load(&tables, one, 100, &seen_by_one) },
-                || -> Reader<N> { load(&tables, two, 100, &seen_by_two) },
+                || -> Reader<N>
+                    requires { one.pass.parked ≡ false }
+                { load(&tables, one, 100, &seen_by_one) },
+                || -> Reader<N>
+                    requires { two.pass.parked ≡ false }
+                { load(&tables, two, 100, &seen_by_two) },
             )
         },
     );
@@ -152,7 +164,10 @@ fn widen<N: TableName>(
 }
 
 // Makes so many fetches of the second instruction: it is sound that it is there after some, and then in all.
-fn fetch<N: TableName>(tables: &Tables<N>, mut reader: Reader<N>, turns: u32) -> Reader<N> {
+fn fetch<N: TableName>(tables: &Tables<N>, mut reader: Reader<N>, turns: u32) -> Reader<N>
+    requires { reader.pass.parked ≡ false }
+    ensures { result.pass.parked ≡ false }
+{
     let mut latest = 0;
     for _ in 0..turns {
         let found = tables.fetch(&mut reader.pass, 17);
@@ -184,7 +199,10 @@ fn added<N: TableName + Send + Sync, R: Threads + Sync>(
         || -> (Keeper<N>, bool)
             requires { IsLoad N.key.code_words (last_of keeper.entries) (entry_by 1 image 7) }
         { widen(&tables, keeper, &image) },
-        || -> Reader<N> { fetch(&tables, reader, 100_000) },
+        || -> Reader<N>
+            requires { reader.pass.parked ≡ false }
+            ensures { result.pass.parked ≡ false }
+        { fetch(&tables, reader, 100_000) },
     );
     let found = tables.fetch(&mut reader.pass, 17);
     (made, reader.sound, found)
@@ -204,8 +222,10 @@ fn hindered<N: TableName>(
     let mut one = keeper.admit(&tables).ok()?;
     let mut two = keeper.admit(&tables).ok()?;
     let first = refresh_once(&tables, &mut keeper, image);
+    tables.park(&mut one);
     let _ = tables.quiet(&mut one);
     let second = refresh_once(&tables, &mut keeper, image);
+    tables.park(&mut two);
     let _ = tables.quiet(&mut two);
     let third = refresh_once(&tables, &mut keeper, image);
     keeper.note(&tables, &mut two);

@@ -1,4 +1,4 @@
-use Rattle.std.proofs.Common.{rules, ◌≡◌, [], ap, subst, sym, ◌∙◌}
+use Rattle.std.proofs.Common.{rules, ◌≡◌, [], false, ap, subst, sym, ◌∙◌}
 use Rattle.cfi_model.specs.History.{IsStart}
 use Rattle.cfi_model.specs.Tables.{IsTables}
 use Rattle.cfi_tables.specs.Keeping.{Keeping, opened_keeping}
@@ -19,12 +19,16 @@ join-made-requires-after_bounds g c =
     c.in-Ok.ensures.ok ∙ ap (λ (s : Keeping). admitted k s c.in-Ok.pass.guest) c.open-tables.ensures in
     let like : IsLike c.args.image c.admit.new.self.entries = search rules in
     let both : (IsLike c.args.image c.admit.new.self.entries)
-    × (IsSight k c.in-Ok.pass.sight × IsStart (history_seen k c.in-Ok.pass.sight) 88) = (
+    × (IsSight k c.in-Ok.pass.sight
+    × (IsStart (history_seen k c.in-Ok.pass.sight) 88 × (c.in-Ok.pass.parked ≡ false))) = (
       like,
       (
         subst (λ (q : PassView). IsSight k q.sight) (sym pass) (all_sight k (opened_keeping k) [] tables),
-        subst (λ (q : PassView). IsStart (history_seen k q.sight) 88) (sym pass)
-            (all_start k (opened_keeping k) [] tables 88 c.requires.start),
+        (
+          subst (λ (q : PassView). IsStart (history_seen k q.sight) 88) (sym pass)
+              (all_start k (opened_keeping k) [] tables 88 c.requires.start),
+          ap (λ (q : PassView). q.parked) pass,
+        ),
       ),
     ) in
     λ lifetimes bounds. both

@@ -1,4 +1,4 @@
-use Rattle.std.proofs.Common.{◌≡◌, ap, subst, sym}
+use Rattle.std.proofs.Common.{◌≡◌, ap, subst, sym, ◌∙◌}
 use Rattle.cfi_model.specs.History.{IsStart}
 use Rattle.cfi_tables.specs.declared.view.PassView.{PassView}
 use Rattle.cfi_runner.specs.Seen.{IsSight, history_seen}
@@ -20,4 +20,5 @@ loop-preserved g c =
     record {
       sight = subst (λ (q : PassView). IsSight k q.sight) (sym same) sees.is;
       start = subst (λ (q : PassView). IsStart (history_seen k q.sight) 88) (sym same) start;
+      outside = ap (λ (q : PassView). q.parked) same ∙ c.in_ok-guest.ensures.outside;
     }
