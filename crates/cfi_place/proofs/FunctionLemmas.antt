@@ -1,5 +1,5 @@
 -- A global function stands where the global symbols of text have its name.
-use Rattle.std.proofs.Common.{◌≡◌, ℕ, suc, ◌<◌, ◌&&◌, ◌==◌, true, false, List, [], ◌∷◌, length, get_or, Option, refl, sym, ap, ◌∙◌, inl, inr, arith, ◌++◌, ◌+◌, map, filter, take}
+use Rattle.std.proofs.Common.{◌≡◌, ℕ, suc, ◌<◌, ◌&&◌, ◌==◌, true, false, List, [], ◌∷◌, length, get_or, refl, sym, ap, ◌∙◌, inl, inr, arith, ◌++◌, ◌+◌, map, filter, take}
 use Rattle.std.specs.List.{list_any, AllPairs}
 use Rattle.std.specs.Str.{bytes_eq}
 use Rattle.std.proofs.lemmas.Bool.{cases_Bool, and_parts, false≢true}
@@ -15,8 +15,8 @@ use Rattle.elf_read.specs.declared.object.Place.TheVariants as places
 use Rattle.cfi_aux.specs.declared.records.Function.{Function}
 use Rattle.elf_read.specs.Sound.{is_exported, is_defined, are_rivals}
 use Rattle.cfi_aux.specs.Placed.{is_global_binding, is_text, names_function, is_global}
-use Rattle.cfi_place.specs.Names.{Names, first_in}
-use Rattle.cfi_place.specs.Functions.{is_global_text, globals_in, stands_at, has_global, make_function, placed_functions}
+use Rattle.cfi_place.specs.Names.{first_in}
+use Rattle.cfi_place.specs.Functions.{is_global_text, globals_in, has_global}
 use Rattle.cfi_place.proofs.NameLemmas.{bytes_eq-sym}
 
 global_exported : (b : Binding) → is_global_binding b ≡ true → is_exported b ≡ true
@@ -67,7 +67,7 @@ no_other s rest f pairs global same = list_any_none (names_function f) rest (λ 
       | inr none ↦ none
     ])
 
-tail_pairs : (s : Symbol) (rest : List Symbol) → AllPairs (λ a b. are_rivals a b ≡ false) (s ∷ rest)
+pub tail_pairs : (s : Symbol) (rest : List Symbol) → AllPairs (λ a b. are_rivals a b ≡ false) (s ∷ rest)
     → AllPairs (λ a b. are_rivals a b ≡ false) rest
 tail_pairs s rest pairs = λ i j d lt within. pairs (suc i) (suc j) d (omega arith) (omega arith)
 
@@ -113,14 +113,3 @@ globals_in-more symbols i d lt global =
     let more = filter_more is_global_text symbols i d lt in
     rw (more, global)
     (map-append (λ (s : Symbol). (s.name, s.value)) (filter is_global_text (take i symbols)) (get_or symbols i d ∷ []))
-
-pub functions-same : (globals : Names) (symbols : List Symbol) (functions : List Function)
-    → AllPairs (λ a b. are_rivals a b ≡ false) symbols
-    → ((name : List ℕ) → globals name ≡ first_in (globals_in symbols) name)
-    → map (λ f. make_function (has_global globals f) f) functions ≡ placed_functions symbols functions
-functions-same globals symbols [] pairs same = refl
-functions-same globals symbols (f ∷ rest) pairs same =
-    let one : has_global globals f ≡ is_global symbols f =
-    ap (λ (found : Option ℕ). stands_at found f.offset) (same f.name) ∙ has_global-is symbols f pairs in
-    let all = functions-same globals symbols rest pairs same in
-    rw (one, all) refl

@@ -4,3 +4,4 @@ pub mod Relocated
 pub mod Slots
 pub mod Functions
 pub mod Placed
+pub mod inner

@@ -33,11 +33,8 @@ impl Symbols {
         ensures err { OnErr result ((other : List ℕ) →
             find_in self.new other ≡ find_in self.old other) }
     {
-        if self.addresses.contains_key(name) {
-            return Ok(());
-        }
         let name = String::from_str(self.alloc, name)?;
-        self.addresses.insert(name, address)?;
+        self.addresses.entry(name)?.or_insert(address);
         Ok(())
     }
 

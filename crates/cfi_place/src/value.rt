@@ -1,9 +1,12 @@
 //! What the symbols of a module stand for.
 
 ghost use Rattle.std.specs.Prelude.{◌≡◌, ◌<◌, ◌^◌, ℕ, List, All, IfOk};
+ghost use Rattle.std.specs.List.{list_any};
 ghost use Rattle.cfi_aux.specs.Placed.{address_of};
-ghost use Rattle.cfi_place.specs.Names.{find_in, first_in};
+ghost use Rattle.cfi_place.specs.Names.{Names, find_in, first_in};
 ghost use Rattle.cfi_place.specs.Value.{named_value, value_of, values_by};
+ghost use Rattle.cfi_place.specs.inner.Wanted.{is_undefined};
+ghost use Rattle.cfi_place.specs.declared.room.Room.{Room};
 
 use crate::room::Room;
 use crate::symbols::Symbols;
@@ -39,6 +42,38 @@ fn own_addresses(alloc: Global, exports: &Items<(Name, u32)>) -> Result<Symbols,
         own.add(name.as_str(), *address)?;
     }
     Ok(own)
+}
+
+fn is_undefined(symbol: &Symbol) -> bool
+    ensures { result ≡ is_undefined symbol.now }
+{
+    match symbol.place {
+        Place::Undefined => true,
+        Place::Absolute | Place::Text | Place::Data => false,
+    }
+}
+
+// Whether some symbol is undefined.
+fn some_undefined(symbols: &[Symbol]) -> bool
+    ensures { result ≡ list_any is_undefined symbols.now }
+{
+    symbols.iter().any(|symbol| is_undefined(symbol))
+}
+
+// The module's own addresses of the names that symbols leave undefined; none are looked up where no symbol does.
+fn wanted_addresses(
+    alloc: Global,
+    exports: &Items<(Name, u32)>,
+    symbols: &[Symbol],
+) -> Result<Symbols, AllocError>
+    ensures { IfOk result (λ own. (room : Room) (names : Names) →
+        values_by room (find_in own) names symbols.now
+        ≡ values_by room (first_in exports.now) names symbols.now) }
+{
+    if some_undefined(symbols) {
+        return own_addresses(alloc, exports);
+    }
+    Ok(Symbols::new(alloc))
 }
 
 fn named_value(own: &Symbols, names: &Symbols, symbol: &Symbol) -> Option<u32>
@@ -83,7 +118,7 @@ pub fn values(
     ensures { IfOk result (λ values. values.items
         ≡ values_by room.now (first_in exports.now) (find_in names.now) symbols.now) }
 {
-    let own = own_addresses(alloc, exports)?;
+    let own = wanted_addresses(alloc, exports, symbols)?;
     let mut values = Vec::with_capacity(alloc, symbols.len())?;
     for symbol in symbols {
         values.push(value_of(room, &own, names, symbol))?;

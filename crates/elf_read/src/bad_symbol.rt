@@ -1,10 +1,11 @@
-ghost use Rattle.std.specs.Prelude.{◌≡◌, ◌<◌, ◌||◌, ℕ, true, List, is_some, IfOk, OnOk, IfErr};
+ghost use Rattle.std.specs.Prelude.{◌≡◌, ◌<◌, ◌||◌, ℕ, true, false, List, is_some, IfOk, OnOk, IfErr};
 ghost use Rattle.std.specs.BTreeMap.{get_by};
 ghost use Rattle.std.specs.Cmp.Lexicographic.{slice_cmp};
 ghost use Rattle.std.specs.Ordering.{nat_cmp};
 ghost use Rattle.elf_read.specs.Places.{some_below};
 ghost use Rattle.elf_read.specs.Fault.{IsFirstFault, HasSections, HasSymbols, HasKinds, HasPlaces};
 ghost use Rattle.elf_read.specs.Symbol.{symbol_count, name_of, defines, is_bad_info, is_bad_place, is_nameless, is_local_undefined, is_past_section, is_second_definition, is_well_named, is_bad_symbol};
+ghost use Rattle.elf_read.specs.inner.Alone.{is_bad_alone};
 ghost use Rattle.elf_read.specs.declared.fault.ElfFault.TheVariants.{Memory};
 
 use crate::fault::ElfFault;
@@ -67,30 +68,11 @@ fn is_past_section(table: &SymbolTable<'_>, k: usize) -> bool
     table.is_in_section(k) && table.is_loaded(section) && table.section(section).size < entry.value
 }
 
-/// Whether an earlier symbol defines the name that symbol `k` defines.
-#[tactic(auto, unfolding(crate::specs::Symbol::is_second_definition))]
-fn is_second_definition(
-    table: &SymbolTable<'_>,
-    k: usize,
-    name: &str,
-    defined: &BTreeMap<&str, usize>,
-) -> bool
+/// Whether symbol `k` breaks a rule that other symbols have no part in.
+#[tactic(auto, unfolding(crate::specs::inner::Alone::is_bad_alone))]
+fn is_bad_alone(table: &SymbolTable<'_>, k: usize) -> bool
     requires within { k < symbol_count table.now }
-    requires name { name.now ≡ name_of table.now k }
-    requires defined { (q : List ℕ) →
-        is_some (get_by (λ key. slice_cmp nat_cmp q key.now) defined.now) ≡ some_below (defines table.now q) k }
-    ensures { result ≡ is_second_definition table.now k }
-{
-    table.is_definition_at(k) && defined.contains_key(name)
-}
-
-/// Whether symbol `k` breaks a rule, where `defined` has the names that the symbols before it define.
-#[tactic(auto, unfolding(crate::specs::Symbol::is_bad_symbol))]
-fn is_bad_symbol(table: &SymbolTable<'_>, k: usize, defined: &BTreeMap<&str, usize>) -> bool
-    requires within { k < symbol_count table.now }
-    requires defined { (q : List ℕ) →
-        is_some (get_by (λ key. slice_cmp nat_cmp q key.now) defined.now) ≡ some_below (defines table.now q) k }
-    ensures { result ≡ is_bad_symbol table.now k }
+    ensures { result ≡ is_bad_alone table.now k }
 {
     let Some(name) = table.name(k) else {
         return true;
@@ -100,29 +82,55 @@ fn is_bad_symbol(table: &SymbolTable<'_>, k: usize, defined: &BTreeMap<&str, usi
         || is_nameless(table, k, name)
         || is_local_undefined(table, k)
         || is_past_section(table, k)
-        || is_second_definition(table, k, name, defined)
 }
 
-/// Adds the name that symbol `k` defines, if it defines one.
-#[tactic(auto, unfolding(crate::specs::Symbol::defines))]
-fn define<'a>(
+/// Adds the name that symbol `k` defines, if it defines one, to those that the symbols before it define; answers whether
+/// it was there.
+#[tactic(auto, unfolding(crate::specs::Symbol::defines, crate::specs::Symbol::is_second_definition))]
+fn defines_again<'a>(
     table: &SymbolTable<'a>,
     k: usize,
     defined: &mut BTreeMap<&'a str, usize>,
-) -> Result<(), ElfFault>
+) -> Result<bool, ElfFault>
     requires within { k < symbol_count table.now }
     requires named { is_well_named table.now k ≡ true }
+    requires defined { (q : List ℕ) →
+        is_some (get_by (λ key. slice_cmp nat_cmp q key.now) defined.old) ≡ some_below (defines table.now q) k }
+    ensures same { IfOk result (λ again. again ≡ is_second_definition table.now k) }
     ensures ok { OnOk result ((q : List ℕ) →
         is_some (get_by (λ key. slice_cmp nat_cmp q key.now) defined.new)
-        ≡ (is_some (get_by (λ key. slice_cmp nat_cmp q key.now) defined.old) || defines table.now q k)) }
+        ≡ (some_below (defines table.now q) k || defines table.now q k)) }
     ensures memory { IfErr result (λ fault. fault ≡ Memory) }
 {
     if table.is_definition_at(k) {
         if let Some(name) = table.name(k) {
-            defined.insert(name, k)?;
+            return Ok(defined.insert(name, k)?.is_some());
         }
     }
-    Ok(())
+    Ok(false)
+}
+
+/// Whether symbol `k` breaks a rule, where `defined` has the names that the symbols before it define; of one that breaks
+/// none its name is added.
+#[tactic(auto, using(crate::proofs::SymbolLemmas::bad_symbol, crate::proofs::SymbolLemmas::good_alone))]
+fn is_bad_symbol<'a>(
+    table: &SymbolTable<'a>,
+    k: usize,
+    defined: &mut BTreeMap<&'a str, usize>,
+) -> Result<bool, ElfFault>
+    requires within { k < symbol_count table.now }
+    requires defined { (q : List ℕ) →
+        is_some (get_by (λ key. slice_cmp nat_cmp q key.now) defined.old) ≡ some_below (defines table.now q) k }
+    ensures same { IfOk result (λ bad. bad ≡ is_bad_symbol table.now k) }
+    ensures ok { IfOk result (λ bad. bad ≡ false → (q : List ℕ) →
+        is_some (get_by (λ key. slice_cmp nat_cmp q key.now) defined.new)
+        ≡ (some_below (defines table.now q) k || defines table.now q k)) }
+    ensures memory { IfErr result (λ fault. fault ≡ Memory) }
+{
+    if is_bad_alone(table, k) {
+        return Ok(true);
+    }
+    defines_again(table, k, defined)
 }
 
 /// Whether no symbol breaks a rule.
@@ -133,10 +141,9 @@ pub fn check_symbols(alloc: Global, table: &SymbolTable<'_>) -> Result<(), ElfFa
 {
     let mut defined = BTreeMap::new(alloc);
     for k in 0..table.count() {
-        if is_bad_symbol(table, k, &defined) {
+        if is_bad_symbol(table, k, &mut defined)? {
             return Err(ElfFault::BadSymbol(k as u32));
         }
-        define(table, k, &mut defined)?;
     }
     Ok(())
 }

@@ -1,4 +1,4 @@
-ghost use Rattle.std.specs.Prelude.{◌≡◌, ◌<◌, ◌+◌, ◌++◌, false, IfOk, OnOk};
+ghost use Rattle.std.specs.Prelude.{◌≡◌, ◌<◌, ◌≤◌, ◌+◌, ◌*◌, ◌++◌, false, length, IfOk, OnOk};
 ghost use Rattle.elf_read.specs.Header.{section_count};
 ghost use Rattle.elf_read.specs.Places.{joined};
 ghost use Rattle.elf_read.specs.Symbol.{symbol_count, is_left_out};
@@ -6,11 +6,13 @@ ghost use Rattle.elf_read.specs.Relocation.{rela_count};
 ghost use Rattle.elf_read.specs.Object.{kept_binding, kept_place, kept_value, kept_symbol, symbols_of, area_of, reference_of, kept_reloc, reloc_of, relocs_of};
 ghost use Rattle.elf_read.specs.Layout.{IsLayout, IsNumbering};
 ghost use Rattle.elf_read.specs.Fault.{IsSound, IsObject};
+ghost use Rattle.elf_read.specs.Section.{contents};
+ghost use Rattle.elf_read.specs.declared.relocation.TheConstants.{RELA_SIZE};
 
 use crate::join::{join_data, join_text, record_bytes};
 use crate::layout::Layout;
 use crate::object::{Area, Binding, Name, Object, Place, Reloc, Relocs, Symbol, Symbols};
-use crate::rela::{kind_of, rela_at, rela_count, symbol_index, target_of};
+use crate::rela::{entries_of, entry_in, kind_of, rela_at, rela_count, symbol_index, target_of};
 use crate::relocation::is_dropped;
 use crate::section::{CFI_RECORDS, CFI_TYPES};
 use crate::symbol::{ABSOLUTE, GLOBAL, LOCAL, UNDEFINED};
@@ -200,24 +202,27 @@ fn kept_reloc(
     }
 }
 
-/// Adds entry `i` of section `s`, if it is kept.
-#[tactic(auto, unfolding(crate::specs::Object::reloc_of))]
+/// Adds entry `i` of section `s`, if it is kept. `entries` are the section's bytes.
+#[tactic(auto, unfolding(crate::specs::Object::reloc_of, crate::specs::Relocation::rela_at))]
 fn push_reloc(
     out: &mut Vec<Reloc>,
     table: &SymbolTable<'_>,
     layout: &Layout,
     numbers: &[usize],
+    entries: &[u8],
     s: usize,
     i: usize,
 ) -> Result<(), AllocError>
     requires within { s < section_count table.now }
     requires entry { i < rela_count table.now s }
+    requires entries { entries.now ≡ contents table.now s }
+    requires whole { RELA_SIZE * rela_count table.now s ≤ length entries.now }
     requires sound { IsSound table.now }
     requires layout { IsLayout table.now layout.now }
     requires numbers { IsNumbering table.now numbers.now }
     ensures { OnOk result (out.new.items ≡ out.old.items ++ reloc_of table.now s i) }
 {
-    if !is_dropped(kind_of(rela_at(table, s, i))) {
+    if !is_dropped(kind_of(entry_in(entries, i))) {
         out.push(kept_reloc(table, layout, numbers, s, i))?;
     }
     Ok(())
@@ -238,8 +243,9 @@ fn push_relocs(
     requires numbers { IsNumbering table.now numbers.now }
     ensures { OnOk result (out.new.items ≡ out.old.items ++ relocs_of table.now s) }
 {
+    let entries = entries_of(table, s);
     for i in 0..rela_count(table, s) {
-        push_reloc(out, table, layout, numbers, s, i)?;
+        push_reloc(out, table, layout, numbers, entries, s, i)?;
     }
     Ok(())
 }

@@ -1,12 +1,14 @@
-ghost use Rattle.std.specs.Prelude.{◌≡◌, ◌<◌, ◌^◌, IfOk, IfErr};
+ghost use Rattle.std.specs.Prelude.{◌≡◌, ◌<◌, ◌≤◌, ◌*◌, ◌^◌, length, IfOk, IfErr};
 ghost use Rattle.elf_read.specs.Header.{section_count};
 ghost use Rattle.elf_read.specs.Object.{symbol_number, kept_count};
 ghost use Rattle.elf_read.specs.Layout.{IsLayout, IsNumbering};
+ghost use Rattle.elf_read.specs.inner.Targets.{kept_in};
+ghost use Rattle.elf_read.specs.declared.relocation.TheConstants.{RELA_SIZE};
 ghost use Rattle.elf_read.specs.Fault.{IsFirstFault, HasPlaces, IsSound, kept_symbols, kept_relocs};
 
 use crate::fault::{ElfFault, Limit};
 use crate::layout::Layout;
-use crate::rela::{kind_of, rela_at, rela_count};
+use crate::rela::{entries_of, entry_in, kind_of, rela_count};
 use crate::relocation::is_dropped;
 use crate::symbol_table::SymbolTable;
 use cfi_word::limits::{MAX_DATA, MAX_RELOCS, MAX_SYMBOLS, MAX_WORDS};
@@ -27,18 +29,28 @@ pub fn number_symbols(alloc: Global, table: &SymbolTable<'_>) -> Result<Vec<usiz
     Ok(numbers)
 }
 
+/// How many of `count` entries are kept.
+fn kept_of(entries: &[u8], count: usize) -> usize
+    requires { RELA_SIZE * count ≤ length entries.now }
+    ensures same { result ≡ kept_in entries.now count }
+    ensures few { result ≤ count }
+{
+    let mut kept = 0usize;
+    for i in 0..count {
+        kept += usize::from(!is_dropped(kind_of(entry_in(entries, i))));
+    }
+    kept
+}
+
 /// How many relocations of section `s` are kept.
-#[tactic(auto, unfolding(crate::specs::Object::kept_count))]
+#[tactic(auto, unfolding(crate::specs::Object::kept_count, crate::specs::Relocation::rela_at))]
 fn kept_count(table: &SymbolTable<'_>, s: usize) -> usize
     requires within { s < section_count table.now }
     ensures same { result ≡ kept_count table.now s }
     ensures small { result < 2 ^ 32 }
 {
-    let mut kept = 0usize;
-    for i in 0..rela_count(table, s) {
-        kept += usize::from(!is_dropped(kind_of(rela_at(table, s, i))));
-    }
-    kept
+    let entries = entries_of(table, s);
+    kept_of(entries, rela_count(table, s))
 }
 
 /// How many relocations are kept.

@@ -55,7 +55,7 @@ pub fn target_of(table: &SymbolTable<'_>, s: usize) -> usize
 }
 
 /// The bytes of the relocations of section `s`.
-fn entries_of<'a>(table: &SymbolTable<'a>, s: usize) -> &'a [u8]
+pub fn entries_of<'a>(table: &SymbolTable<'a>, s: usize) -> &'a [u8]
     requires within { s < section_count table.now }
     ensures same { result.now ≡ contents table.now s }
     ensures whole { RELA_SIZE * rela_count table.now s ≤ length result.now }
@@ -65,7 +65,7 @@ fn entries_of<'a>(table: &SymbolTable<'a>, s: usize) -> &'a [u8]
 }
 
 /// Entry `i` of these bytes.
-fn entry_in(entries: &[u8], i: usize) -> Rela
+pub fn entry_in(entries: &[u8], i: usize) -> Rela
     requires { RELA_SIZE * i + RELA_SIZE ≤ length entries.now }
     ensures { result ≡ entry_in entries.now i }
 {

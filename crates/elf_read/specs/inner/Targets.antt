@@ -1,7 +1,8 @@
 -- What is looked at once for all relocations: which symbols were left out, and the section that they change.
 use Rattle.std.specs.Prelude.{◌≡◌, ◌+◌, ◌<◌, ℕ, Bool, false, not, ◌&&◌, ◌||◌, ◌==◌, nat_lt, List, length, slice_index_or}
 use Rattle.elf_read.specs.Symbol.{symbol_count, is_left_out}
-use Rattle.elf_read.specs.Relocation.{symbol_index, kind_of, field_size, misfits}
+use Rattle.elf_read.specs.Places.{count_where}
+use Rattle.elf_read.specs.Relocation.{entry_in, is_dropped, symbol_index, kind_of, field_size, misfits}
 use Rattle.elf_read.specs.declared.relocation.Rela.{Rela}
 use Rattle.elf_read.specs.declared.rela.Target.{Target}
 
@@ -21,3 +22,7 @@ breaks marks target rela =
     is_bad_symbol_number marks (symbol_index rela)
     || nat_lt target.size (rela.offset + field_size (kind_of rela))
     || misfits target.is_text target.is_data rela
+
+-- how many of the first entries are kept
+abbrev pub kept_in : (entries : List ℕ) → (count : ℕ) → ℕ
+kept_in entries count = count_where (λ i. not (is_dropped (kind_of (entry_in entries i)))) count

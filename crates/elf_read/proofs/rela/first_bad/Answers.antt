@@ -1,6 +1,4 @@
-use Rattle.std.proofs.Common.{◌≡◌, ◌<◌, ℕ, subst}
-use Rattle.elf_read.specs.Relocation.{entry_in, is_bad_rela_at, rela_count}
-use Rattle.elf_read.specs.inner.Targets.{breaks}
+use Rattle.elf_read.specs.Relocation.{rela_count}
 use Rattle.elf_read.proofs.TargetLemmas.{bad_same, some_same, none_same}
 use Rattle.elf_read.proofs.rela.first_bad.Goals as goal
 
