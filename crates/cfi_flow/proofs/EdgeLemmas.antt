@@ -32,7 +32,7 @@ listed_link links slot address h =
 
 -- ---- all edges of a fan
 
-from_edge : (targets : List ℕ) (from slot address : ℕ) → Contains (map (edge_of from) targets) (edge_of slot address)
+pub from_edge : (targets : List ℕ) (from slot address : ℕ) → Contains (map (edge_of from) targets) (edge_of slot address)
     → (from ≡ slot) × Contains targets address
 from_edge targets from slot address h =
     let m = from_map (edge_of from) targets (edge_of slot address) h in

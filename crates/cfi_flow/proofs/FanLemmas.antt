@@ -131,25 +131,25 @@ module _ (count : ℕ) (along branches addresses : List Link) (paths slots ends 
 
 module _ (flow : Flow) (rows : FlowRows) (s : IsSound flow) (r : AreFlowRows flow rows) (node : ℕ)
     (h : node < flow.nodes) (fan : Fan) (slot address : ℕ) where
-  pointer_sound : IsPointerFan rows node fan → Joins fan slot address → PointsAt flow node slot address
+  pub pointer_sound : IsPointerFan rows node fan → Joins fan slot address → PointsAt flow node slot address
   pointer_sound f j =
       let m = fan_sound flow.nodes flow.widenings.items flow.pointers.items flow.entries.items rows.widenings
       rows.pointers rows.entries s.widenings r.widenings r.pointers r.entries node h fan f slot address j in
       record { entry = m.here; pointing = m.there; wider = m.reached; pointer = m.branch }
 
-  pointer_whole : IsPointerFan rows node fan → PointsAt flow node slot address → Joins fan slot address
+  pub pointer_whole : IsPointerFan rows node fan → PointsAt flow node slot address → Joins fan slot address
   pointer_whole f p =
       fan_whole flow.nodes flow.widenings.items flow.pointers.items flow.entries.items rows.widenings
       rows.pointers rows.entries s.widenings r.widenings r.pointers r.entries node h fan f slot address s.pointers
       (record { here = p.entry; there = p.pointing; reached = p.wider; branch = p.pointer })
 
-  return_sound : IsReturnFan rows node fan → Joins fan slot address → ReturnsAt flow node slot address
+  pub return_sound : IsReturnFan rows node fan → Joins fan slot address → ReturnsAt flow node slot address
   return_sound f j =
       let m = fan_sound flow.nodes flow.arrows.items flow.returns.items flow.sites.items rows.arrows
       rows.returns rows.sites s.arrows r.arrows r.returns r.sites node h fan f slot address j in
       record { site = m.here; returning = m.there; reached = m.reached; back = m.branch }
 
-  return_whole : IsReturnFan rows node fan → ReturnsAt flow node slot address → Joins fan slot address
+  pub return_whole : IsReturnFan rows node fan → ReturnsAt flow node slot address → Joins fan slot address
   return_whole f p =
       fan_whole flow.nodes flow.arrows.items flow.returns.items flow.sites.items rows.arrows
       rows.returns rows.sites s.arrows r.arrows r.returns r.sites node h fan f slot address s.returns

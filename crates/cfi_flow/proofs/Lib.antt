@@ -5,6 +5,14 @@ pub mod ListLemmas
 pub mod FanLemmas
 pub mod EdgeLemmas
 pub mod OrderLemmas
+pub mod OtherLemmas
+pub mod FreshLemmas
 pub mod SpreadLemmas
 pub mod PathLemmas
 pub mod WayLemmas
+pub mod RowWayLemmas
+pub mod KeptWayLemmas
+pub mod SideLemmas
+pub mod KeptFlowLemmas
+pub mod StarLemmas
+pub mod TaggedLemmas

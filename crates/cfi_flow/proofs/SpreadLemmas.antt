@@ -64,7 +64,7 @@ tag_within tags k m =
       | inr b ↦ absurd (none_some m.0 (sym (get_or_past tags k None b) ∙ m.1))
     ]
 
-still : (order o : List Link) (l : Link) → length order ≤ length o
+pub still : (order o : List Link) (l : Link) → length order ≤ length o
     → ((j : ℕ) (d : Link) → j < length order → slice_index_or o j d ≡ slice_index_or order j d) → Contains order l
     → Contains o l
 still order o l longer stays h =

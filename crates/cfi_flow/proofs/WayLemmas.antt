@@ -1,21 +1,19 @@
 -- Few edges of what comes back from nodes.
-use Rattle.std.proofs.Common.{◌≡◌, ℕ, zero, suc, ◌+◌, ◌*◌, ◌<◌, ◌≤◌, Option, Some, None, List, [], ◌∷◌, ◌++◌, length, map, get_or, refl, sym, ap, subst, inl, inr, arith}
+use Rattle.std.proofs.Common.{◌≡◌, ℕ, zero, suc, ◌+◌, ◌*◌, ◌≤◌, Option, Some, None, List, [], ◌∷◌, ◌++◌, length, refl, sym, ap, subst, inl, inr, arith}
 use Rattle.std.specs.List.{Contains, flat_map}
 use Rattle.std.proofs.lemmas.List.{length-append}
-use Rattle.std.proofs.lemmas.List.Elements.{All-contains, Contains-get_or, Contains-append_left, Contains-append_right, Contains-append_cases}
+use Rattle.std.proofs.lemmas.List.Elements.{Contains-append_left, Contains-append_right, Contains-append_cases}
 use Rattle.cfi_word.specs.declared.lists.Edge.{Edge}
 use Rattle.cfi_word.specs.Chain.{ChainOf, Chain}
 use Rattle.cfi_word.specs.Edge.{edge_of}
 use Rattle.cfi_flow.specs.declared.links.Link.{Link}
-use Rattle.cfi_flow.specs.Flow.{Links, flipped, IsPath, Reaches, BeginBelow, AreBelow}
-use Rattle.cfi_flow.specs.Rows.{AreRows}
+use Rattle.cfi_flow.specs.Flow.{Links, IsPath, Reaches}
 use Rattle.cfi_flow.specs.Fans.{IsListed}
-use Rattle.cfi_flow.specs.inner.Spread.{tag_of, HasTag, AreSpread}
+use Rattle.cfi_flow.specs.inner.Spread.{tag_of, HasTag}
 use Rattle.cfi_flow.specs.inner.Ways.{between, return_edges, site_edges, arrow_edges, tied, ComesBack, AreWays}
-use Rattle.cfi_flow.proofs.Members.{no_member, member_first, member_of_one, from_map, member_flat, from_flat}
+use Rattle.cfi_flow.proofs.Members.{no_member, member_first, member_of_one, member_flat, from_flat}
 use Rattle.cfi_flow.proofs.RowLemmas.{make_link, link_is}
-use Rattle.cfi_flow.proofs.PathLemmas.{reaches_then, one_arrow, flip, unflip}
-use Rattle.cfi_flow.proofs.FanLemmas.{walk_path, path_walk, begins}
+use Rattle.cfi_flow.proofs.PathLemmas.{reaches_then, one_arrow}
 use Rattle.cfi_flow.proofs.SpreadLemmas.{same_tag}
 
 -- ---- chains
@@ -30,30 +28,9 @@ snoc_of R (suc more) s t s' t' c old new =
 pub snoc : (R : (slot address : ℕ) → Type 0) (s t s' t' : ℕ) → Chain R s t' → R s' t' → R s' t → Chain R s t
 snoc R s t s' t' c old new = record { more = suc c.more; chain = snoc_of R c.more s t s' t' c.chain old new }
 
--- ---- paths
-
-back_path : (arrows : List Link) (steps a b : ℕ) → IsPath (map flipped arrows) steps a b → Reaches arrows b a
-back_path arrows zero a b e = (zero, sym e)
-back_path arrows (suc steps) a b w =
-    let r = back_path arrows steps w.0 b w.2 in
-    reaches_then arrows r.0 b w.0 a r.1 (one_arrow arrows w.0 a (unflip arrows a w.0 w.1))
-
-forth_path : (arrows : List Link) (steps a b : ℕ) → IsPath arrows steps a b → Reaches (map flipped arrows) b a
-forth_path arrows zero a b e = (zero, sym e)
-forth_path arrows (suc steps) a b w =
-    let r = forth_path arrows steps w.0 b w.2 in
-    reaches_then (map flipped arrows) r.0 b w.0 a r.1
-    (one_arrow (map flipped arrows) w.0 a (flip arrows a w.0 w.1))
-
-pub flipped_below : (count : ℕ) (arrows : List Link) → AreBelow count arrows → AreBelow count (map flipped arrows)
-flipped_below count arrows all = λ k d lt.
-    let has = from_map flipped arrows (get_or (map flipped arrows) k d) (Contains-get_or (map flipped arrows) k d lt) in
-    let both = All-contains (λ link. (link.from < count) × (link.to < count)) arrows has.0 all has.1 in
-    subst (λ l. (l.from < count) × (l.to < count)) has.2 (both.1, both.0)
-
 -- ---- edges between
 
-between_is : (slot target : Option ℕ) (s t : ℕ) → Contains (between slot target) (edge_of s t)
+pub between_is : (slot target : Option ℕ) (s t : ℕ) → Contains (between slot target) (edge_of s t)
     → (slot ≡ Some s) × (target ≡ Some t)
 between_is (Some a) (Some b) s t h =
     let e = member_of_one (edge_of a b) (edge_of s t) h in
@@ -61,7 +38,7 @@ between_is (Some a) (Some b) s t h =
 between_is (Some a) None s t h = absurd (no_member (edge_of s t) h)
 between_is None target s t h = absurd (no_member (edge_of s t) h)
 
-between_has : (slot target : Option ℕ) (s t : ℕ) → slot ≡ Some s → target ≡ Some t
+pub between_has : (slot target : Option ℕ) (s t : ℕ) → slot ≡ Some s → target ≡ Some t
     → Contains (between slot target) (edge_of s t)
 between_has slot target s t e f =
     subst (λ o. Contains (between o target) (edge_of s t)) (sym e)
@@ -82,56 +59,15 @@ flat_few f few (link ∷ links) =
 
 -- ---- the edges of the ways
 
-module _ (nodes : ℕ) (arrows sites returns : List Link) (forth back : List (List ℕ)) (places slots : List (Option ℕ))
-    (below : AreBelow nodes arrows) (begin : BeginBelow nodes sites) (end : BeginBelow nodes returns)
-    (forth_rows : AreRows nodes arrows forth) (back_rows : AreRows nodes (map flipped arrows) back)
-    (come : AreSpread forth sites places) (go : AreSpread back returns slots) where
-  behind : AreBelow nodes (map flipped arrows)
-  behind = flipped_below nodes arrows below
+-- what holds of the addresses and branches of nodes: each comes to its node, and where something comes is one
+pub record AreEndsOf (arrows sites returns : List Link) (places slots : List (Option ℕ)) : Type 0 where
+  pub place_sound : (k t : ℕ) → tag_of places k ≡ Some t → (origin : ℕ) × Links sites origin t × Reaches arrows origin k
+  pub place_whole : (k t origin : ℕ) → Links sites origin t → Reaches arrows origin k → HasTag places k
+  pub slot_sound : (k s : ℕ) → tag_of slots k ≡ Some s → (end : ℕ) × Links returns end s × Reaches arrows k end
+  pub slot_whole : (k s last : ℕ) → Links returns last s → Reaches arrows k last → HasTag slots k
 
-  -- the address of a node comes back to what gets there, and each node to which something comes back has one
-  place_sound : (k t : ℕ) → tag_of places k ≡ Some t → (origin : ℕ) × Links sites origin t × Reaches arrows origin k
-  place_sound k t h =
-      let a = come.sound k t h in (
-        a.origin,
-        a.seed,
-        (
-          a.steps,
-          walk_path nodes arrows forth below forth_rows a.steps a.origin k
-              (begins nodes sites a.origin t begin a.seed) a.walk,
-        ),
-      )
-
-  place_whole : (k t origin : ℕ) → Links sites origin t → Reaches arrows origin k → HasTag places k
-  place_whole k t origin h r =
-      come.whole k t (record {
-        origin = origin;
-        seed = h;
-        steps = r.0;
-        walk = path_walk nodes arrows forth below forth_rows r.0 origin k r.1;
-      })
-
-  -- the branch of a node returns from where it gets to, and each node that gets to a return has one
-  slot_sound : (k s : ℕ) → tag_of slots k ≡ Some s → (end : ℕ) × Links returns end s × Reaches arrows k end
-  slot_sound k s h =
-      let a = go.sound k s h in (
-        a.origin,
-        a.seed,
-        back_path arrows a.steps a.origin k
-            (walk_path nodes (map flipped arrows) back behind back_rows a.steps a.origin k
-            (begins nodes returns a.origin s end a.seed) a.walk),
-      )
-
-  slot_whole : (k s last : ℕ) → Links returns last s → Reaches arrows k last → HasTag slots k
-  slot_whole k s last h r =
-      let p = forth_path arrows r.0 k last r.1 in
-      go.whole k s (record {
-        origin = last;
-        seed = h;
-        steps = p.0;
-        walk = path_walk nodes (map flipped arrows) back behind back_rows p.0 last k p.1;
-      })
-
+module _ (arrows sites returns : List Link) (places slots : List (Option ℕ))
+    (are : AreEndsOf arrows sites returns places slots) where
   abbrev pub added : List Edge
   added = tied arrows sites returns places slots
 
@@ -139,8 +75,8 @@ module _ (nodes : ℕ) (arrows sites returns : List Link) (forth back : List (Li
   meet : (x y s t : ℕ) → tag_of places x ≡ Some t → Reaches arrows x y → tag_of slots y ≡ Some s
       → ComesBack arrows sites returns s t
   meet x y s t p r q =
-      let from = place_sound x t p in
-      let to = slot_sound y s q in
+      let from = are.place_sound x t p in
+      let to = are.slot_sound y s q in
       record {
         node = from.0;
         site = from.1;
@@ -161,7 +97,7 @@ module _ (nodes : ℕ) (arrows sites returns : List Link) (forth back : List (Li
   of_return s t h =
       let m = from_flat (return_edges places) returns (edge_of s t) h in
       let e = between_is (Some m.0.to) (tag_of places m.0.from) s t m.2 in
-      let from = place_sound m.0.from t e.1 in
+      let from = are.place_sound m.0.from t e.1 in
       record {
         node = from.0;
         site = from.1;
@@ -179,7 +115,7 @@ module _ (nodes : ℕ) (arrows sites returns : List Link) (forth back : List (Li
       (edge_of s t) m.2) [
         | inl a ↦
             let e = between_is (tag_of slots k) (Some m.0.to) s t a in
-            let to = slot_sound k s e.0 in
+            let to = are.slot_sound k s e.0 in
             record {
               node = k;
               site = subst (λ l. Contains sites l) (link_is m.0 k t refl (same_tag m.0.to t e.1)) m.1;
@@ -206,7 +142,7 @@ module _ (nodes : ℕ) (arrows sites returns : List Link) (forth back : List (Li
             let e = between_is (tag_of slots y) (tag_of places y) s t a in meet y y s t e.1 (here y) e.0
       ]
 
-  ways_sound : (s t : ℕ) → IsListed added s t → ComesBack arrows sites returns s t
+  pub ways_sound : (s t : ℕ) → IsListed added s t → ComesBack arrows sites returns s t
   ways_sound s t h =
       let r = flat_map (return_edges places) returns in
       let c = flat_map (site_edges places slots) sites in
@@ -275,18 +211,18 @@ module _ (nodes : ℕ) (arrows sites returns : List Link) (forth back : List (Li
       record { more = 0; chain = return_listed last s t h (subst (λ k. tag_of places k ≡ Some t) e p) }
   chain_along (suc steps) x last s t w h p =
       let y = w.0 in
-      let from = place_sound x t p in
-      let place = place_whole y t from.0 from.1
+      let from = are.place_sound x t p in
+      let place = are.place_whole y t from.0 from.1
       (reaches_then arrows from.2.0 from.0 x y from.2.1 (one_arrow arrows x y w.1)) in
-      let slot = slot_whole y s last h (steps, w.2) in
+      let slot = are.slot_whole y s last h (steps, w.2) in
       snoc (IsListed added) s t slot.0 place.0 (chain_along steps y last s place.0 w.2 h place.1)
       (end_listed x y slot.0 place.0 w.1 slot.1 place.1) (begin_listed x y slot.0 t w.1 slot.1 p)
 
   ways_whole : (s t : ℕ) → ComesBack arrows sites returns s t → Chain (IsListed added) s t
   ways_whole s t b =
       let k = b.node in
-      let place = place_whole k t k b.site (here k) in
-      let slot = slot_whole k s b.returning b.back b.reached in
+      let place = are.place_whole k t k b.site (here k) in
+      let slot = are.slot_whole k s b.returning b.back b.reached in
       snoc (IsListed added) s t slot.0 place.0
       (chain_along b.reached.0 k b.returning s place.0 b.reached.1 b.back place.1)
       (place_listed k t slot.0 place.0 b.site slot.1 place.1) (site_listed k t slot.0 b.site slot.1)
@@ -313,5 +249,5 @@ module _ (nodes : ℕ) (arrows sites returns : List Link) (forth back : List (Li
       two (tag_of slots link.to) (tag_of places link.from) (tag_of slots link.to) (tag_of places link.to)) arrows in
       omega (arith, one, other, rs, cs, arr)
 
-  pub ways : AreWays arrows sites returns added
-  ways = record { sound = ways_sound; whole = ways_whole; few = ways_few }
+  pub ways_by : AreWays arrows sites returns added
+  ways_by = record { sound = ways_sound; whole = ways_whole; few = ways_few }

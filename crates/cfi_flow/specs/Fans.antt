@@ -29,9 +29,13 @@ pub record AreFans (flow : Flow) (count : ℕ) (fans : List Fan) : Type 0 where
 abbrev pub link_edge : Link → Edge
 link_edge link = edge_of link.from link.to
 
+-- the edges from each of the branches to each of the addresses
+abbrev pub pairs_of : (slots targets : List ℕ) → List Edge
+pairs_of slots targets = flat_map (λ slot. map (edge_of slot) targets) slots
+
 -- all edges of a fan
 abbrev pub all_of : Fan → List Edge
-all_of fan = flat_map (λ slot. map (edge_of slot) fan.targets.items) fan.slots.items
+all_of fan = pairs_of fan.slots.items fan.targets.items
 
 -- an edge of the list joins them
 abbrev pub IsListed : List Edge → (slot address : ℕ) → Type 0

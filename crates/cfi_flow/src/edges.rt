@@ -4,11 +4,10 @@ ghost use Rattle.std.specs.Prelude.{◌≡◌, ◌*◌, ◌≤◌, ◌++◌, len
 ghost use Rattle.std.specs.List.{Contains};
 ghost use Rattle.cfi_word.specs.declared.lists.Edge.{Edge};
 ghost use Rattle.cfi_flow.specs.Flow.{IsSound, link_count};
-ghost use Rattle.cfi_flow.specs.Fans.{link_edge, all_of, AreEdges, AreFewEdges};
+ghost use Rattle.cfi_flow.specs.Fans.{link_edge, pairs_of, AreEdges, AreFewEdges};
 ghost use Rattle.cfi_word.specs.Edge.{edge_of};
 ghost use Rattle.cfi_flow.specs.Order.{AreInOrder};
 
-use crate::fan::Fan;
 use crate::fans::fans;
 use crate::links::{Flow, Link};
 use crate::ways::add_ways;
@@ -16,7 +15,7 @@ use cfi_word::Edge;
 use std::alloc::{AllocError, Global};
 
 // The edges of links.
-fn edges_of(alloc: Global, links: &[Link]) -> Result<Vec<Edge>, AllocError>
+pub(crate) fn edges_of(alloc: Global, links: &[Link]) -> Result<Vec<Edge>, AllocError>
     ensures { IfOk result (λ edges. edges.items ≡ map link_edge links.now) }
 {
     links
@@ -41,18 +40,22 @@ fn add_from(edges: &mut Vec<Edge>, branch: u32, targets: &[u32]) -> Result<(), A
     Ok(())
 }
 
-// Adds all edges of a fan.
-fn add_all(edges: &mut Vec<Edge>, fan: &Fan) -> Result<(), AllocError>
-    ensures { OnOk result (edges.new.items ≡ edges.old.items ++ all_of fan.now) }
+// Adds the edges from each of these branches to each of these addresses.
+pub(crate) fn add_pairs(
+    edges: &mut Vec<Edge>,
+    slots: &[u32],
+    targets: &[u32],
+) -> Result<(), AllocError>
+    ensures { OnOk result (edges.new.items ≡ edges.old.items ++ pairs_of slots.now targets.now) }
 {
-    for slot in &fan.slots {
-        add_from(edges, *slot, fan.targets.as_slice())?;
+    for slot in slots {
+        add_from(edges, *slot, targets)?;
     }
     Ok(())
 }
 
 // The same edges in order, each once.
-fn in_order(mut edges: Vec<Edge>) -> Vec<Edge>
+pub(crate) fn in_order(mut edges: Vec<Edge>) -> Vec<Edge>
     ensures len { length result.items ≤ length edges.items }
     ensures kept { (e : Edge) → Contains edges.items e → Contains result.items e }
     ensures only { (e : Edge) → Contains result.items e → Contains edges.items e }
@@ -71,7 +74,7 @@ pub fn all_edges(alloc: Global, flow: &Flow) -> Result<Vec<Edge>, AllocError>
     let fans = fans(alloc, flow)?;
     let mut edges = edges_of(alloc, flow.listed.as_slice())?;
     for fan in &fans {
-        add_all(&mut edges, fan)?;
+        add_pairs(&mut edges, fan.slots.as_slice(), fan.targets.as_slice())?;
     }
     Ok(in_order(edges))
 }

@@ -5,7 +5,7 @@ ghost use Rattle.std.specs.List.{flat_map};
 ghost use Rattle.cfi_flow.specs.Flow.{IsSound};
 ghost use Rattle.cfi_flow.specs.Fans.{AreFans};
 ghost use Rattle.cfi_flow.specs.inner.Reach.{AreClear};
-ghost use Rattle.cfi_flow.specs.inner.FlowRows.{flow_row, AreFlowRows, AreInside, IsFan};
+ghost use Rattle.cfi_flow.specs.inner.FlowRows.{flow_row, AreFlowRows, AreInside, HaveNodes, IsFan, IsPointerFan, IsReturnFan};
 
 use crate::fan::Fan;
 use crate::links::Flow;
@@ -15,8 +15,8 @@ use std::alloc::{AllocError, Global};
 
 // The links of a flow by the nodes at which they begin.
 #[derive(Debug, Drop)]
-struct FlowRows {
-    arrows: Rows,
+pub(crate) struct FlowRows {
+    pub(crate) arrows: Rows,
     sites: Rows,
     returns: Rows,
     pointers: Rows,
@@ -25,7 +25,7 @@ struct FlowRows {
 }
 
 // The rows of a flow.
-fn flow_rows(alloc: Global, flow: &Flow) -> Result<FlowRows, AllocError>
+pub(crate) fn flow_rows(alloc: Global, flow: &Flow) -> Result<FlowRows, AllocError>
     requires { IsSound flow.now }
     ensures { IfOk result (λ rows. AreFlowRows flow.now rows) }
 {
@@ -93,6 +93,27 @@ fn fan_of(
     })
 }
 
+// The fan of the pointers to what a node stands for, and the fan of the returns from what it gets to.
+pub(crate) fn node_fans(
+    alloc: Global,
+    marks: &mut Vec<bool>,
+    rows: &FlowRows,
+    node: u32,
+) -> Result<(Fan, Fan), AllocError>
+    requires rows { HaveNodes (length rows.now.arrows) rows.now }
+    requires node { node < length rows.now.arrows }
+    requires clear { AreClear (length rows.now.arrows) marks.old.items }
+    ensures points { IfOk result (λ both. IsPointerFan rows.now node both.0) }
+    ensures backs { IfOk result (λ both. IsReturnFan rows.now node both.1) }
+    ensures clear { OnOk result (AreClear (length rows.now.arrows) marks.new.items) }
+{
+    let (wider, pointers) = (&rows.widenings, &rows.pointers);
+    let points = fan_of(alloc, marks, wider, pointers, &rows.entries, node)?;
+    let (arrows, returns) = (&rows.arrows, &rows.returns);
+    let backs = fan_of(alloc, marks, arrows, returns, &rows.sites, node)?;
+    Ok((points, backs))
+}
+
 // The fans of the nodes.
 pub(crate) fn fans(alloc: Global, flow: &Flow) -> Result<Vec<Fan>, AllocError>
     requires { IsSound flow.now }
@@ -102,10 +123,7 @@ pub(crate) fn fans(alloc: Global, flow: &Flow) -> Result<Vec<Fan>, AllocError>
     let mut marks = vec![in alloc; false; rows.arrows.count()]?;
     let mut fans = Vec::new(alloc);
     for node in 0..flow.nodes {
-        let (wider, pointers) = (&rows.widenings, &rows.pointers);
-        let points = fan_of(alloc, &mut marks, wider, pointers, &rows.entries, node)?;
-        let (arrows, returns) = (&rows.arrows, &rows.returns);
-        let backs = fan_of(alloc, &mut marks, arrows, returns, &rows.sites, node)?;
+        let (points, backs) = node_fans(alloc, &mut marks, &rows, node)?;
         fans.push(points)?;
         fans.push(backs)?;
     }

@@ -10,7 +10,7 @@ use crate::rows::Rows;
 use std::alloc::{AllocError, Global};
 
 // Gives the tag to the nodes of a row that have none, and adds these to the order, each with its tag.
-fn visit(
+pub(crate) fn visit(
     tags: &mut Vec<Option<u32>>,
     order: &mut Vec<Link>,
     row: &[u32],
@@ -33,7 +33,7 @@ fn visit(
 }
 
 // Gives each node at which seeds begin the end of one of them. No node has a tag before.
-fn begin(
+pub(crate) fn begin(
     tags: &mut Vec<Option<u32>>,
     order: &mut Vec<Link>,
     seeds: &[Link],

@@ -12,7 +12,7 @@ use cfi_word::Edge;
 use std::alloc::{AllocError, Global};
 
 // The links, each from its end to its beginning.
-fn flipped(alloc: Global, links: &[Link]) -> Result<Vec<Link>, AllocError>
+pub(crate) fn flipped(alloc: Global, links: &[Link]) -> Result<Vec<Link>, AllocError>
     ensures { IfOk result (λ others. others.items ≡ map flipped links.now) }
 {
     links.iter().map(|link| link.flipped()).collect(alloc)
@@ -94,7 +94,7 @@ fn add_arrows(
 }
 
 // Adds all of these.
-fn add_tied(
+pub(crate) fn add_tied(
     edges: &mut Vec<Edge>,
     arrows: &[Link],
     sites: &[Link],

@@ -3,7 +3,7 @@ use Rattle.cfi_flow.specs.Flow.{flipped, AreBelow, BeginBelow}
 use Rattle.cfi_flow.specs.Rows.{AreRows}
 use Rattle.cfi_flow.specs.inner.Ways.{tied}
 use Rattle.cfi_flow.proofs.FanLemmas.{are_inside}
-use Rattle.cfi_flow.proofs.WayLemmas.{ways, flipped_below}
+use Rattle.cfi_flow.proofs.RowWayLemmas.{ways, flipped_below}
 use Rattle.cfi_flow.proofs.ways.add_some_ways.Goals as goal
 
 pub spread-requires-clause-arrows : goal.spread-requires-clause-arrows
