@@ -19,7 +19,6 @@ use Rattle.cfi_graph.specs.Reading.{tables_of, node_count}
 use Rattle.cfi_graph.proofs.BoundLemmas.{inside, branch_names}
 use Rattle.cfi_graph.proofs.ImportLemmas.{imported_at, imported_word}
 use Rattle.cfi_graph.proofs.NodeLemmas.{StandsAt, lies_there, shaped_at, node_low}
-use Rattle.cfi_graph.proofs.WiderLemmas.{AreWider}
 use Rattle.cfi_graph.proofs.ReadLemmas.{IsArrow, TellsFlow, Tell, unit_cases}
 use Rattle.cfi_flow.proofs.RowLemmas.{make_link}
 use Rattle.cfi_graph.proofs.ClassLemmas.{type_low}
@@ -163,12 +162,12 @@ module _ (ms : List Placed) (imports : ByName) (classes : List (List ℕ)) (name
             (both.1, both.0)
       ]
 
-  pub below_nodes : (flow : Flow) → AreWider ms classes flow.widenings.items → TellsFlow ms imports classes flow
+  pub below_nodes : (flow : Flow) → AreBelow (node_count ms) flow.widenings.items → TellsFlow ms imports classes flow
       → flow.nodes ≡ node_count ms → IsSound flow
-  below_nodes flow wider tells is = record {
+  below_nodes flow low tells is = record {
     arrows = subst (λ n. AreBelow n flow.arrows.items) (sym is) (λ k d within.
         let l = get_or flow.arrows.items k d in
-        arrow_low flow wider.low l.from l.to
+        arrow_low flow low l.from l.to
         ((tells.arrows l.from l.to).0 (Contains-get_or flow.arrows.items k d within)));
     sites = subst (λ n. BeginBelow n flow.sites.items) (sym is)
         (all_by (λ l. facts.Site l) flow.sites.items tells.sites (λ l. l.from < node_count ms)
@@ -182,5 +181,5 @@ module _ (ms : List Placed) (imports : ByName) (classes : List (List ℕ)) (name
     entries = subst (λ n. BeginBelow n flow.entries.items) (sym is)
         (all_by (λ l. facts.Entry l) flow.entries.items tells.entries (λ l. l.from < node_count ms)
         (λ l told. told_low (facts.Entry l) told));
-    widenings = subst (λ n. AreBelow n flow.widenings.items) (sym is) wider.low;
+    widenings = subst (λ n. AreBelow n flow.widenings.items) (sym is) low;
   }

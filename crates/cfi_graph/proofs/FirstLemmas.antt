@@ -1,5 +1,5 @@
 -- The first item of a list that gives a number.
-use Rattle.std.proofs.Common.{◌≡◌, ◌⊎◌, ◌∙◌, ℕ, zero, suc, ◌+◌, ◌<◌, List, [], ◌∷◌, length, take, get_or, Option, Some, None, inl, inr, refl, sym, ap, arith}
+use Rattle.std.proofs.Common.{◌≡◌, ◌⊎◌, ◌∙◌, ℕ, zero, suc, ◌+◌, ◌<◌, List, [], ◌∷◌, ◌++◌, length, take, get_or, Option, Some, None, inl, inr, refl, sym, ap, arith}
 use Rattle.std.specs.Prelude.{slice_get}
 use Rattle.std.specs.Option.{option_or}
 use Rattle.std.proofs.lemmas.Option.{none-some, same_Some}
@@ -106,3 +106,9 @@ module _ {X : Type 0} (gives : X → Option ℕ) where
   first_more xs k d within =
       let next : k + 1 ≡ suc k = omega arith in
       ap (λ n. first_given gives (take n xs)) next ∙ first_next xs k d within
+
+  -- one item behind all
+  pub first_push : (xs : List X) (x : X) → first_given gives (xs ++ x ∷ []) ≡ option_or (first_given gives xs) (gives x)
+  first_push [] x = or_none (gives x)
+  first_push (y ∷ ys) x =
+      ap (option_or (gives y)) (first_push ys x) ∙ sym (or_or (gives y) (first_given gives ys) (gives x))

@@ -20,7 +20,7 @@ use Rattle.cfi_flow.proofs.RowLemmas.{make_link}
 use Rattle.cfi_flow.proofs.PathLemmas.{reaches_then, one_arrow}
 use Rattle.cfi_graph.proofs.BoundLemmas.{contains_at, inside, branch_names}
 use Rattle.cfi_graph.proofs.ImportLemmas.{imported_at, imported_word}
-use Rattle.cfi_graph.proofs.NodeLemmas.{StandsAt, LiesThere, lies_there, shaped_at, node_low, same_numbers, same_modules, same_functions}
+use Rattle.cfi_graph.proofs.NodeLemmas.{StandsAt, lies_there, shaped_at, node_low, same_numbers, same_modules, same_functions}
 use Rattle.cfi_graph.proofs.WiderLemmas.{AreWider, reaches_high}
 use Rattle.cfi_graph.proofs.ReadLemmas.{IsArrow, TellsFlow, unit_cases}
 

@@ -23,3 +23,7 @@ pub mod EndLemmas
 pub mod HandMadeLemmas
 pub mod CallRows
 pub mod ToldLemmas
+mod OneMoreLemmas
+mod SiteLemmas
+mod OnceLemmas
+mod NewEdgeLemmas

@@ -87,7 +87,7 @@ module _ (ms : List Placed) (apart : AreApart ms) where
   pub shaped_at : (number : ℕ) (m : Placed) → slice_get ms number ≡ Some m → IsShaped m
   shaped_at number m is = All-contains IsShaped ms m apart.shaped (contains_at ms number m is)
 
-  before_at : (i j : ℕ) (m n : Placed) → slice_get ms i ≡ Some m → slice_get ms j ≡ Some n → i < j → IsBefore m n
+  pub before_at : (i j : ℕ) (m n : Placed) → slice_get ms i ≡ Some m → slice_get ms j ≡ Some n → i < j → IsBefore m n
   before_at i j m n m_is n_is less =
       let one : get_or ms i m ≡ m = get_or_from_slice_get ms i m m m_is in
       let other : get_or ms j m ≡ n = get_or_from_slice_get ms j n m n_is in

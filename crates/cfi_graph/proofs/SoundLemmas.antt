@@ -102,7 +102,7 @@ module _ (ms : List Placed) (imports : ByName) (classes : List (List ℕ)) (name
   entry_check number m at slot (kinds.Switch entries) node address told = told
   entry_check number m at slot (kinds.Import name cell) node address told = told
 
-  entry_told : (node address : ℕ) → IsTold ms imports classes (facts.Entry (make_link node address))
+  pub entry_told : (node address : ℕ) → IsTold ms imports classes (facts.Entry (make_link node address))
       → IsEntry ms classes node address
   entry_told node address told =
       elim told.tells [

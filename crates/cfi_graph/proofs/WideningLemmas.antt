@@ -76,7 +76,8 @@ module _ (ms : List Placed) (classes : List (List ℕ)) (are : AreClasses (table
       let low = ends_low l.from l.to (Contains-get_or links k d within) in
       (omega (arith, low.0, nodes), omega (arith, low.1, nodes))
 
-  links_low : AreBelow (node_count ms) (map type_link links)
+  -- the ends of the links are nodes of the flow
+  pub links_low : AreBelow (node_count ms) (map type_link links)
   links_low = λ k d within.
       let l = get_or (map type_link links) k d in
       let is = is_type_link links l.from l.to (Contains-get_or (map type_link links) k d within) in
@@ -137,7 +138,6 @@ module _ (ms : List Placed) (classes : List (List ℕ)) (are : AreClasses (table
     high = λ a b has.
         let is = is_type_link links a b has in
         (omega (arith, is.begins), omega (arith, is.ends));
-    low = links_low;
     fits = λ i j m n m_is n_is a b a_in b_in callable.
         (down i j m n m_is n_is a b a_in b_in callable, up i j m n m_is n_is a b a_in b_in);
   }

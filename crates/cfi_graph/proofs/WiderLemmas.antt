@@ -3,17 +3,15 @@ use Rattle.std.proofs.Common.{◌≡◌, ◌↔◌, ◌∙◌, ℕ, zero, suc, �
 use Rattle.std.specs.Prelude.{slice_get}
 use Rattle.cfi_word.specs.declared.limits.TheConstants.{MAX_CODE_WORDS}
 use Rattle.cfi_flow.specs.declared.links.Link.{Link}
-use Rattle.cfi_flow.specs.Flow.{Links, IsPath, Reaches, AreBelow}
+use Rattle.cfi_flow.specs.Flow.{Links, IsPath, Reaches}
 use Rattle.cfi_type_table.specs.Node.{Node, node_of}
 use Rattle.cfi_fits.specs.Fits.{IsCallable, Fits}
 use Rattle.cfi_aux.specs.declared.placed.Placed.{Placed}
 use Rattle.cfi_graph.specs.Facts.{type_node}
-use Rattle.cfi_graph.specs.Reading.{node_count}
 
 -- links from types' nodes to wider ones: they lead from the node of a function's type to exactly those that it fits
 pub record AreWider (ms : List Placed) (classes : List (List ℕ)) (links : List Link) : Type 0 where
   pub high : (a b : ℕ) → Links links a b → (MAX_CODE_WORDS ≤ a) × (MAX_CODE_WORDS ≤ b)
-  pub low : AreBelow (node_count ms) links
   pub fits : (i j : ℕ) (m n : Placed) → slice_get ms i ≡ Some m → slice_get ms j ≡ Some n → (a b : ℕ)
       → a < length m.types → b < length n.types → IsCallable (node_of n.types b).kind
       → Reaches links (type_node classes j b) (type_node classes i a) ↔ Fits m.types a n.types b

@@ -5,5 +5,6 @@ pub mod Direct
 pub mod Facts
 pub mod Reading
 pub mod Edges
+pub mod NewEdges
 pub mod HandMade
 pub mod inner

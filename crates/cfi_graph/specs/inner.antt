@@ -2,3 +2,4 @@
 pub mod Flows
 pub mod Told
 pub mod Imports
+pub mod NewEdges

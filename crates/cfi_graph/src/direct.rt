@@ -19,7 +19,7 @@ use cfi_word::limits::MAX_CODE_WORDS;
 use std::alloc::{AllocError, Global};
 
 // The types of the modules.
-fn book_of<'a>(alloc: Global, modules: &'a [Placed]) -> Result<TypeBook<'a>, AllocError>
+pub(crate) fn book_of<'a>(alloc: Global, modules: &'a [Placed]) -> Result<TypeBook<'a>, AllocError>
     requires { HaveGraph modules.now }
     ensures { IfOk result (λ book. book ≡ tables_of modules.now) }
 {
@@ -31,7 +31,7 @@ fn book_of<'a>(alloc: Global, modules: &'a [Placed]) -> Result<TypeBook<'a>, All
 }
 
 // The links between the nodes of types, from those between their classes.
-fn type_links(alloc: Global, links: &[Link]) -> Result<Vec<Link>, AllocError>
+pub(crate) fn type_links(alloc: Global, links: &[Link]) -> Result<Vec<Link>, AllocError>
     requires { AreBelow (2 ^ 32 - MAX_CODE_WORDS) links.now }
     ensures { IfOk result (λ widenings. widenings.items ≡ map type_link links.now) }
 {
@@ -45,7 +45,7 @@ fn type_links(alloc: Global, links: &[Link]) -> Result<Vec<Link>, AllocError>
 }
 
 // How many nodes the flow of the modules has.
-fn node_count(modules: &[Placed]) -> u32
+pub(crate) fn node_count(modules: &[Placed]) -> u32
     requires { node_count modules.now < 2 ^ 32 }
     ensures { result ≡ node_count modules.now }
 {

@@ -171,7 +171,7 @@ fn add_functions(
 }
 
 // Adds what a module tells.
-fn add_module(
+pub(crate) fn add_module(
     alloc: Global,
     facts: &mut Vec<Fact>,
     imports: &Imports,

@@ -6,7 +6,7 @@ ghost use Rattle.std.specs.Option.{option_or};
 ghost use Rattle.std.specs.Str.{bytes_eq};
 ghost use Rattle.cfi_graph.specs.Facts.{AreImports};
 ghost use Rattle.cfi_graph.specs.Shaped.{IsShaped};
-ghost use Rattle.cfi_graph.specs.inner.Imports.{imports_in, entry_by, entry_in};
+ghost use Rattle.cfi_graph.specs.inner.Imports.{imports_in, entry_by, entry_in, entry_among};
 
 use cfi_aux::{Placed, PlacedFunction};
 use std::alloc::{AllocError, Global};
@@ -60,7 +60,7 @@ impl<'a> Imports<'a> {
     }
 
     // Adds the global functions of a module.
-    fn add_module(&mut self, placed: &'a Placed) -> Result<(), AllocError>
+    pub(crate) fn add_module(&mut self, placed: &'a Placed) -> Result<(), AllocError>
         requires { IsShaped placed.now }
         ensures { OnOk result ((name : List ℕ) → imports_in self.new name ≡
             option_or (imports_in self.old name) (entry_in placed.now name)) }
@@ -86,7 +86,9 @@ pub(crate) fn imports_of<'a>(
     modules: &'a [Placed],
 ) -> Result<Imports<'a>, AllocError>
     requires { All IsShaped modules.now }
-    ensures { IfOk result (λ imports. AreImports modules.now (imports_in imports)) }
+    ensures named { IfOk result (λ imports. AreImports modules.now (imports_in imports)) }
+    ensures among { IfOk result (λ imports. (name : List ℕ) →
+        imports_in imports name ≡ entry_among modules.now name) }
 {
     let mut imports = Imports::new(alloc);
     for placed in modules {

@@ -51,8 +51,7 @@ returns-clause-sound c =
       typed = subst (λ ts. AreClasses ts classes) c.in_ok-book.ensures c.in_ok-classes.ensures;
       wide = subst (λ ts. AreWidenings ts classes wider) c.in_ok-book.ensures c.in_ok-wider.ensures;
       facts = subst (λ fs. AreFacts ms imports classes fs) (sym c.as_slice-2.ensures.value) c.in_ok-facts.ensures.facts;
-      named = c.in_ok-imports.ensures;
-      few = subst (λ fs. length fs ≤ sum_by told_most ms) (sym c.as_slice-2.ensures.value) c.in_ok-facts.ensures.few;
+      named = c.in_ok-imports.ensures.named;
       linked = c.in_ok-links.ensures ∙ ap (λ ls. map type_link ls) c.as_slice.ensures.value;
       nodes = c.node_count-nodes.ensures;
     } in
@@ -73,8 +72,7 @@ returns-clause-goes c =
       typed = subst (λ ts. AreClasses ts classes) c.in_ok-book.ensures c.in_ok-classes.ensures;
       wide = subst (λ ts. AreWidenings ts classes wider) c.in_ok-book.ensures c.in_ok-wider.ensures;
       facts = subst (λ fs. AreFacts ms imports classes fs) (sym c.as_slice-2.ensures.value) c.in_ok-facts.ensures.facts;
-      named = c.in_ok-imports.ensures;
-      few = subst (λ fs. length fs ≤ sum_by told_most ms) (sym c.as_slice-2.ensures.value) c.in_ok-facts.ensures.few;
+      named = c.in_ok-imports.ensures.named;
       linked = c.in_ok-links.ensures ∙ ap (λ ls. map type_link ls) c.as_slice.ensures.value;
       nodes = c.node_count-nodes.ensures;
     } in
@@ -95,10 +93,12 @@ returns-clause-few c =
       typed = subst (λ ts. AreClasses ts classes) c.in_ok-book.ensures c.in_ok-classes.ensures;
       wide = subst (λ ts. AreWidenings ts classes wider) c.in_ok-book.ensures c.in_ok-wider.ensures;
       facts = subst (λ fs. AreFacts ms imports classes fs) (sym c.as_slice-2.ensures.value) c.in_ok-facts.ensures.facts;
-      named = c.in_ok-imports.ensures;
-      few = subst (λ fs. length fs ≤ sum_by told_most ms) (sym c.as_slice-2.ensures.value) c.in_ok-facts.ensures.few;
+      named = c.in_ok-imports.ensures.named;
       linked = c.in_ok-links.ensures ∙ ap (λ ls. map type_link ls) c.as_slice.ensures.value;
       nodes = c.node_count-nodes.ensures;
     } in
     if_ok c.flow_by.result (IsFlowOf list links count) (λ flow. link_count flow ≤ links_most ms)
-    (λ flow is. flow_few ms imports classes wider list links count made flow is) c.flow_by.ensures
+    (λ flow is.
+    flow_few ms imports classes wider list links count made flow is
+    (subst (λ fs. length fs ≤ sum_by told_most ms) (sym c.as_slice-2.ensures.value) c.in_ok-facts.ensures.few))
+    c.flow_by.ensures
