@@ -1,7 +1,10 @@
+mod BookLemmas
 mod CodeLemmas
 mod EdgeLemmas
 mod GroupLemmas
+mod GrowLemmas
 mod IdleLemmas
+mod KeptOnceLemmas
 mod MemberLemmas
 mod OneLemmas
 mod OrderLemmas

@@ -69,7 +69,7 @@ module _ (few many : (slot address : ℕ) → Type 0) (spans : Spans few many) w
         record { more = way.0; chain = way.1 },
   )
 
-  same_used : (slot : ℕ) → IsUsed few slot ↔ IsUsed many slot
+  pub same_used : (slot : ℕ) → IsUsed few slot ↔ IsUsed many slot
   same_used slot = (
     λ edge. (edge.0, spans.sound slot edge.0 edge.1),
     λ edge.
@@ -77,7 +77,7 @@ module _ (few many : (slot address : ℕ) → Type 0) (spans : Spans few many) w
         first_of_chain few chain.more slot edge.0 chain.chain,
   )
 
-  same_reached : (address : ℕ) → IsReached few address ↔ IsReached many address
+  pub same_reached : (address : ℕ) → IsReached few address ↔ IsReached many address
   same_reached address = (
     λ edge. (edge.0, spans.sound edge.0 address edge.1),
     λ edge.

@@ -1,3 +1,4 @@
+pub mod Book
 pub mod Code
 pub mod Groups
 pub mod Image

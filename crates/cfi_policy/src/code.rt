@@ -7,7 +7,7 @@ use cfi_word::Layout;
 use std::alloc::{AllocError, Global};
 
 // Puts the words into the code, from this place on.
-fn put(code: &mut [u32], place: usize, words: &[u32])
+pub(crate) fn put(code: &mut [u32], place: usize, words: &[u32])
     requires { place + length words.now ≤ length code.old }
     ensures placed { (k : ℕ) → k < length words.now
         → slice_index code.new (place + k) ≡ slice_index words.now k }

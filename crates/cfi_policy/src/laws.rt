@@ -13,6 +13,10 @@ ghost use Rattle.cfi_word.specs.declared.lists.Edge.{Edge};
 ghost use Rattle.cfi_word.specs.Chain.{Chain};
 ghost use Rattle.cfi_class.specs.Labels.{HasEdge, AreLabels};
 ghost use Rattle.cfi_policy.specs.Spans.{Spans};
+ghost use Rattle.cfi_policy.specs.Book.{labels_of, KeepsNumbers};
+ghost use Rattle.cfi_word.specs.declared.lists.Image.{Image};
+
+use cfi_class::kept_labels_are_one;
 
 /// Few edges that span many have the same chains, and their labels are those of the many.
 pub fn few_span_many()
@@ -52,3 +56,11 @@ pub fn groups_are_one()
         HaveGraph ms → (slot address : ℕ) → DirectEdge ms slot address →
         (group : Group) × Contains groups group × Contains group.targets address }
 {}
+
+/// Which class numbers of modules keep those of an image is determined.
+pub fn kept_images_are_one()
+    ensures { (ms : List Placed) (old one other : Image) → KeepsNumbers ms old one →
+        KeepsNumbers ms old other → labels_of one ≡ labels_of other }
+{
+    kept_labels_are_one();
+}
