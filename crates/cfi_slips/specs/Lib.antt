@@ -1,0 +1,4 @@
+pub mod Lines
+pub mod Stubs
+pub mod Rule
+pub mod inner
