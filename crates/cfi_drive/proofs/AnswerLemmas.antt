@@ -4,10 +4,11 @@ use Rattle.std.proofs.lemmas.List.Elements.{All-drop, All-nil}
 use Rattle.cfi_aux.specs.declared.modules.Module.{Module}
 use Rattle.cfi_loader.specs.Ledger.{Ledger, IsLedger}
 use Rattle.cfi_loader.specs.Passes.{reply_with}
-use Rattle.cfi_loader.specs.Results.{IsAddressOf, asked_by}
+use Rattle.cfi_ledger.specs.Opens.{IsAddressOf}
+use Rattle.cfi_ledger.specs.Journal.{asked_by}
 use Rattle.cfi_loader.specs.Told.{HasTold}
-use Rattle.cfi_loader.proofs.AdmitLemmas.{later_fills}
-use Rattle.cfi_loader.proofs.PolicyLemmas.{policies_below}
+use Rattle.cfi_ledger.proofs.DueLemmas.{later_fills}
+use Rattle.cfi_ledger.proofs.PolicyLemmas.{policies_below}
 use Rattle.cfi_model.specs.declared.act.Wait.TheVariants as waits
 use Rattle.cfi_model.specs.Data.{LiesInData}
 use Rattle.cfi_model.specs.Log.{last_policy, opens}

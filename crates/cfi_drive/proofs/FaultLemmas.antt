@@ -2,10 +2,11 @@
 use Rattle.std.proofs.Common.{◌≡◌, ◌≤◌, ◌<◌, ℕ, Some, None, All, List, [], ◌∷◌, ◌++◌, sym, ap, subst, ◌∙◌, arith}
 use Rattle.cfi_aux.specs.declared.modules.Module.{Module}
 use Rattle.cfi_loader.specs.Ledger.{Ledger, IsLedger}
-use Rattle.cfi_loader.specs.Results.{HasRefused, IsLoadFault, asked_by}
+use Rattle.cfi_loader.specs.Results.{HasRefused, IsLoadFault}
+use Rattle.cfi_ledger.specs.Journal.{asked_by}
 use Rattle.cfi_loader.specs.declared.fault.LoadFault.{LoadFault}
 use Rattle.cfi_loader.specs.declared.fault.LoadFault.TheVariants.{EpochsSpent, Memory, ModulesFull, Place, Verify, VersionsSpent}
-use Rattle.cfi_loader.proofs.PolicyLemmas.{policies_below}
+use Rattle.cfi_ledger.proofs.PolicyLemmas.{policies_below}
 use Rattle.cfi_model.specs.declared.act.Wait.TheVariants as waits
 use Rattle.cfi_model.specs.Log.{opens}
 use Rattle.cfi_model.specs.Raw.{Raw}

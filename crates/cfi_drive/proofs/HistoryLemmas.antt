@@ -1,9 +1,10 @@
 -- The history of a ledger's tables is that of its course.
 use Rattle.std.proofs.Common.{◌≡◌, ℕ, ◌+◌, ◌-◌, List, [], length, slice_index_or, refl, sym, ap, subst, ◌∙◌, arith}
 use Rattle.cfi_aux.specs.declared.modules.Module.{Module}
-use Rattle.cfi_loader.specs.Ledger.{Ledger, IsEntryOf, IsLedger}
-use Rattle.cfi_loader.proofs.EntryLemmas.{loaded_all}
-use Rattle.cfi_loader.proofs.PolicyLemmas.{policies_below}
+use Rattle.cfi_loader.specs.Ledger.{Ledger, IsLedger}
+use Rattle.cfi_ledger.specs.Policies.{IsEntryOf}
+use Rattle.cfi_ledger.proofs.EntryLemmas.{loaded_all}
+use Rattle.cfi_ledger.proofs.PolicyLemmas.{policies_below}
 use Rattle.cfi_model.specs.declared.history.Entry.{Entry as TableEntry}
 use Rattle.cfi_model.specs.History.{History, IsEpoch}
 use Rattle.cfi_model.specs.Words.{no_entry}
@@ -38,8 +39,8 @@ module _ (k : Key) (plan : Plan) (modules : List Module) (l : Ledger) (is : IsLe
 
   policies : HasPolicies l.course.plan.code_words loaded h
   policies = record {
-    modules = λ epoch known. (entry_there epoch known).modules_loaded;
-    images = λ epoch known. (entry_there epoch known).image_is;
+    modules = λ epoch known. (entry_there epoch known).is.modules;
+    images = λ epoch known. (entry_there epoch known).is.image;
   }
 
   -- the last entry has the code of all
@@ -52,7 +53,7 @@ module _ (k : Key) (plan : Plan) (modules : List Module) (l : Ledger) (is : IsLe
       ∙ loaded_all l.course.end.policy loaded (policies_below l.course.plan l.course.end is.policies) in
       subst
       (λ (ls : List LoadedModule). IsCodeOf (placed_modules ls) l.course.plan.code_words
-      (entry_of (length l.keeping.entries - 1)).image.code) all last.image_is.1.code
+      (entry_of (length l.keeping.entries - 1)).image.code) all last.is.image.1.code
 
   -- the code in force is that of the last entry's image
   code_many : length (code_by k l) ≡ k.code_words

@@ -17,7 +17,7 @@ use Rattle.cfi_plan.specs.declared.journal.Who.TheVariants.{Script, Guest}
 use Rattle.cfi_plan.specs.declared.plan.Plan.{Plan}
 use Rattle.cfi_loader.specs.Ledger.{Ledger, IsLedger}
 use Rattle.cfi_loader.specs.Marks.{is_made, made_marks, mark_by, mark_of}
-use Rattle.cfi_loader.specs.Plans.{CanStart}
+use Rattle.cfi_ledger.specs.Plans.{CanStart}
 use Rattle.cfi_model.specs.declared.history.Entry.{Entry as TableEntry}
 use Rattle.cfi_tables.specs.Key.{Key}
 use Rattle.cfi_valid.specs.Journal.{JournalState, IsJournal, EntriesLead, LineLeads, MayAsk}

@@ -10,7 +10,7 @@ use Rattle.cfi_runner.specs.Run.{words_found}
 use Rattle.cfi_series.specs.Fills.{fills_of}
 use Rattle.cfi_valid.specs.Growth.{IsLater}
 use Rattle.cfi_valid.specs.Journal.{JournalState}
-use Rattle.cfi_loader.proofs.SuffixLemmas.{came_between}
+use Rattle.cfi_ledger.proofs.SuffixLemmas.{came_between}
 use Rattle.cfi_valid.specs.Loaded.{LoadedModule, fills_between, placed_modules}
 use Rattle.cfi_valid.specs.Replay.{given_by}
 use Rattle.cfi_drive.specs.Path.{AreDue, IsDueWith}

@@ -87,7 +87,6 @@ fn take_back<N: LoaderName>(
 {
     let (guest, pass) = runner.into_parts();
     let number = pass.guest();
-    let _ = loader.journal();
     let entry = loader.plan().guests.as_slice()[number as usize].as_str();
     let part = part_of(alloc, number, entry, &guest)?;
     loader.release(tables, pass);

@@ -46,7 +46,6 @@ fn tell<N: LoaderName>(desk: &mut Loader<N>, tables: &Tables<N>, pass: &mut Pass
     ensures told { IsPassTold N.key N.plan N.modules desk.old pass.old pass.new }
     ensures kept { desk.new ≡ heard_from pass.old desk.old }
 {
-    let _ = desk.journal();
     desk.note(tables, pass);
 }
 

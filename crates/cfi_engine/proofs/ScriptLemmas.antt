@@ -17,10 +17,11 @@ use Rattle.cfi_plan.specs.declared.journal.JournalLine.{JournalLine}
 use Rattle.cfi_plan.specs.declared.journal.JournalLine.TheVariants as lines
 use Rattle.cfi_plan.specs.declared.journal.Who.{Who}
 use Rattle.cfi_plan.specs.declared.journal.Who.TheVariants.{Script}
-use Rattle.cfi_loader.specs.Calls.{calls_after}
+use Rattle.cfi_ledger.specs.Calls.{calls_after}
 use Rattle.cfi_loader.specs.Ledger.{Ledger, IsLedger}
 use Rattle.cfi_valid.specs.NumberedLine.{numbered_line}
-use Rattle.cfi_loader.specs.Results.{asked_by, fault_line, loaded_line, refused_refresh, HasLoaded, IsLoadFault, RefusesBy}
+use Rattle.cfi_ledger.specs.Journal.{asked_by}
+use Rattle.cfi_loader.specs.Results.{fault_line, loaded_line, refused_refresh, HasLoaded, IsLoadFault, RefusesBy}
 use Rattle.cfi_loader.specs.Told.{HasTold}
 use Rattle.cfi_loader.specs.declared.fault.LoadFault.{LoadFault}
 use Rattle.cfi_loader.specs.declared.fault.LoadFault.TheVariants.{ModulesFull, Place, Verify, EpochsSpent, VersionsSpent, Memory}

@@ -9,8 +9,9 @@ use Rattle.cfi_aux.specs.declared.modules.Module.{Module}
 use Rattle.cfi_aux.specs.declared.placed.Placed.{Placed}
 use Rattle.cfi_drive.specs.Runner.{IsOpening}
 use Rattle.cfi_graph.proofs.BoundLemmas.{contains_at}
-use Rattle.cfi_loader.specs.Ledger.{Ledger, IsLedger, IsEntryOf}
-use Rattle.cfi_loader.proofs.AdmitLemmas.{starts_first}
+use Rattle.cfi_loader.specs.Ledger.{Ledger, IsLedger}
+use Rattle.cfi_ledger.specs.Policies.{IsEntryOf}
+use Rattle.cfi_ledger.proofs.DueLemmas.{starts_first}
 use Rattle.cfi_model.specs.Closed.{IsStartIn}
 use Rattle.cfi_model.specs.Data.{LiesInData}
 use Rattle.cfi_model.specs.Raw.{raw_opened}
@@ -118,14 +119,14 @@ module _ (k : Key) (plan : Plan) (modules : List Module) (l : Ledger) (is : IsLe
   first_loaded : AreLoaded words first
   first_loaded =
       subst (λ (policy : ℕ). AreLoaded words (placed_modules (loaded_by policy loaded))) policy_is
-      last_is.modules_loaded
+      last_is.is.modules
 
   first_image : IsLoadedImage words first (placed_modules (live_at 0 loaded)) image
   first_image =
       subst
       (λ (policy : ℕ).
       IsLoadedImage words (placed_modules (loaded_by policy loaded)) (placed_modules (live_at policy loaded)) image)
-      policy_is last_is.image_is
+      policy_is last_is.is.image
 
   -- ---- an entry is a start of it
 

@@ -40,7 +40,6 @@ fn open_guest<N: LoaderName>(
     ensures admitted { OnOk result (HasAdmitted loader.old loader.new) }
     ensures same { OnErr result (loader.new ≡ loader.old) }
 {
-    let _ = loader.journal();
     let entry = entry_of(loader.plan(), number);
     let address = loader.entry(entry).unwrap();
     let guest = Guest::open(alloc, number as u32, address, loader.fills())?;

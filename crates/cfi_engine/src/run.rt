@@ -2,7 +2,7 @@
 
 ghost use Rattle.std.specs.Prelude.{◌≡◌, IfOk, IfErr, None, All, length};
 ghost use Rattle.cfi_drive.specs.Runner.{Ran};
-ghost use Rattle.cfi_loader.specs.Plans.{CanStart};
+ghost use Rattle.cfi_ledger.specs.Plans.{CanStart};
 ghost use Rattle.cfi_loader.specs.Starting.{IsStarted};
 ghost use Rattle.cfi_engine.specs.Fault.{IsRunFault};
 ghost use Rattle.cfi_engine.specs.Guests.{HasCode};
@@ -13,7 +13,7 @@ use crate::script::{count_calls, make_calls, make_rest};
 use cfi_aux::Module;
 use cfi_drive::{Concluded, Runner, conclude};
 use cfi_io::Gate;
-use cfi_loader::{Loader, LoaderName, OpenFault, Start};
+use cfi_loader::{Loader, LoaderName, Start, StartFault};
 use cfi_plan::Plan;
 use cfi_tables::{TableName, Tables};
 use cfi_values::Items;
@@ -79,7 +79,6 @@ fn run_named<N: LoaderName + Send + Sync, G: Gate, R: Threads + Wait + Sync>(
 {
     let (mut loader, tables) = Loader::<N>::open(start);
     let mut runners = open_guests(alloc, &mut loader, &tables)?;
-    let _ = loader.journal();
     let calls = count_calls(loader.plan().script.as_slice());
     let fuel = loader.plan().fuel;
     let loader = Mutex::new(loader);
@@ -115,8 +114,8 @@ pub fn run_plan<G: Gate, R: Threads + Wait + Sync>(
 {
     let start = match Start::new(alloc, plan, modules) {
         Ok(start) => start,
-        Err(OpenFault::Memory) => return Err(RunFault::Memory),
-        Err(fault) => return Err(RunFault::Open(fault)),
+        Err(StartFault::Open(fault)) => return Err(RunFault::Open(fault)),
+        Err(StartFault::Memory) => return Err(RunFault::Memory),
     };
     Ok(run_named::<Brand, G, R>(rt, alloc, start, gate)?)
 }

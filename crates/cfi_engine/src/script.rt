@@ -34,10 +34,10 @@ pub(crate) fn count_calls(script: &[ScriptLine]) -> u32
 
 // Makes the load that is due.
 fn make_load<N: LoaderName>(loader: &mut Loader<N>, tables: &Tables<N>, number: u32)
-    requires { slice_get loader.old.left 0 ≡ Some (Load number) }
+    requires due { slice_get loader.old.left 0 ≡ Some (Load number) }
+    requires known { number < length N.plan.modules }
     ensures { Makes N.key (Load number) loader.old loader.new }
 {
-    let _ = loader.journal();
     drop(loader.load(tables, number, Who::Script));
 }
 

@@ -24,19 +24,24 @@ use Rattle.cfi_valid.specs.NumberedLine.{numbered_line}
 use Rattle.cfi_valid.specs.Loaded.{placed_modules}
 use Rattle.cfi_valid.specs.Script.{Load}
 use Rattle.cfi_word.specs.declared.limits.TheConstants.{MAX_EPOCH}
-use Rattle.cfi_loader.specs.declared.books.Books.{Books}
+use Rattle.cfi_ledger.specs.declared.books.Books.{Books}
 use Rattle.cfi_loader.specs.declared.fault.LoadFault.TheVariants as loads
 use Rattle.cfi_loader.specs.declared.loaded.Loaded.{Loaded}
-use Rattle.cfi_loader.specs.Results.{asked_by, fault_line, IsAddressOf, SaysOf, RefusesBy}
+use Rattle.cfi_ledger.specs.Journal.{asked_by}
+use Rattle.cfi_loader.specs.Results.{fault_line, SaysOf, RefusesBy}
+use Rattle.cfi_ledger.specs.Opens.{IsAddressOf}
 use Rattle.cfi_loader.specs.Told.{MayAskFor}
-use Rattle.cfi_loader.specs.inner.Books.{course_in, end_of_books, ledger_of, loaded_in, BooksAgree, IsAfter}
-use Rattle.cfi_loader.specs.inner.Journal.{HasLine}
-use Rattle.cfi_loader.specs.inner.Loads.{IsAbsent, IsFirstGlobal, IsListed, IsSpent, IsUnprepared, LoadsTo, Refuses, load_fault_of}
+use Rattle.cfi_ledger.specs.Books.{course_in, end_of_books, loaded_in}
+use Rattle.cfi_loader.specs.inner.Books.{ledger_of, BooksAgree, IsAfter}
+use Rattle.cfi_ledger.specs.Journal.{HasLine}
+use Rattle.cfi_ledger.specs.Loads.{IsAbsent, IsListed, IsSpent, IsUnprepared}
+use Rattle.cfi_ledger.specs.Opens.{IsFirstGlobal}
+use Rattle.cfi_loader.specs.inner.Loads.{LoadsTo, Refuses, load_fault_of}
 use Rattle.cfi_loader.proofs.BooksLemmas.{after_same}
 use Rattle.cfi_loader.proofs.LineLemmas.{line_again}
 use Rattle.cfi_loader.proofs.LoadLemmas.{places}
 use Rattle.cfi_loader.proofs.ReserveLemmas.{reserved_kept}
-use Rattle.cfi_loader.proofs.RosterLemmas.{listed_address, listed_loaded}
+use Rattle.cfi_ledger.proofs.RosterLemmas.{listed_address, listed_loaded}
 use Rattle.cfi_loader.proofs.UpdateLemmas.{may_ask, after_load_refused}
 
 -- ---- faults

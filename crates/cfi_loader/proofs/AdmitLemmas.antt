@@ -1,28 +1,19 @@
--- Passes that are out, and the data that a guest lacks.
-use Rattle.std.proofs.Common.{◌≡◌, ℕ, zero, suc, ◌+◌, ◌-◌, ◌<◌, ◌≤◌, Bool, true, false, cond, List, [], ◌∷◌, length, get_or, take, drop, min, All, Result, Ok, Err, sym, ap, subst, ◌∙◌, ⊎_elim, arith}
+-- Passes that are out.
+use Rattle.std.proofs.Common.{◌≡◌, ℕ, zero, suc, ◌+◌, ◌-◌, ◌<◌, ◌≤◌, Bool, true, false, cond, List, [], ◌∷◌, length, get_or, Result, Ok, Err, sym, ap, subst, ◌∙◌, ⊎_elim, arith}
 use Rattle.std.specs.Prelude.{count_by, slice_set, IfOk, IfErr, OnErr}
 use Rattle.std.proofs.lemmas.Bool.{cases_lt, false≢true}
-use Rattle.std.proofs.Math.Seq.{drop-length}
-use Rattle.std.proofs.lemmas.List.{drop-map, drop_all, length-drop, take_all, get_or-set_other, get_or-set_same, get_or_past, length-set}
-use Rattle.std.proofs.lemmas.List.Elements.{All-head, All-tail}
+use Rattle.std.proofs.lemmas.List.{get_or-set_other, get_or-set_same, get_or_past, length-set}
 use Rattle.std.proofs.lemmas.List.Sums.{sum_by-cons}
 use Rattle.cfi_aux.specs.declared.modules.Module.{Module}
-use Rattle.cfi_plan.specs.Draft.{starts}
 use Rattle.cfi_plan.specs.declared.plan.Plan.{Plan}
-use Rattle.cfi_series.specs.Fills.{fill_of, fills_of}
 use Rattle.cfi_tables.specs.Key.{Key}
 use Rattle.cfi_tables.specs.declared.view.Quiets.{Quiets}
 use Rattle.cfi_tables.specs.Keeping.{Keeping, AreAllOut, IsFree, heard_as, heard_of, is_out, let_out}
 use Rattle.cfi_tables.specs.declared.fault.AdmitFault.{AdmitFault}
 use Rattle.cfi_tables.specs.declared.view.PassView.{PassView}
-use Rattle.cfi_valid.specs.Journal.{JournalState}
-use Rattle.cfi_valid.specs.Loaded.{LoadedModule, placed_modules, loaded_by, fills_between}
 use Rattle.cfi_word.specs.declared.limits.TheConstants.{GUESTS}
-use Rattle.cfi_loader.specs.declared.books.Books.{Books}
-use Rattle.cfi_loader.specs.Ledger.{HavePolicies}
+use Rattle.cfi_ledger.specs.declared.books.Books.{Books}
 use Rattle.cfi_loader.specs.inner.Books.{BooksAgree, IsLoader}
-use Rattle.cfi_loader.proofs.PolicyLemmas.{policies_below}
-use Rattle.cfi_loader.proofs.SuffixLemmas.{Rise, AllUpTo, first_loaded, later_loaded}
 
 -- ---- passes
 
@@ -49,37 +40,6 @@ free_below out guest n free few = omega (arith, first_out out guest free.least, 
 
 pub not_all_out : (out : List Bool) (n : ℕ) → count_by is_one out < n → n ≤ GUESTS → AreAllOut out → ⊥
 not_all_out out n few most all = omega (arith, first_out out GUESTS all, few, most)
-
--- ---- modules by their policies
-
-module _ (plan : Plan) (s : JournalState) (have : HavePolicies plan s) where
-  rises : Rise 0 (starts plan.modules) s.loaded
-  rises = λ at one is. have.each at one is ∙ omega arith
-
-  up_to : (loaded : List LoadedModule) → All (λ (l : LoadedModule). l.policy ≤ s.policy) loaded
-      → AllUpTo s.policy loaded
-  up_to [] all = tt
-  up_to (l ∷ loaded) all = (
-    All-head (λ (x : LoadedModule). x.policy ≤ s.policy) l loaded all,
-    up_to loaded (All-tail (λ (x : LoadedModule). x.policy ≤ s.policy) l loaded all),
-  )
-
-  -- the start modules are the first ones
-  pub starts_first : loaded_by 0 s.loaded ≡ take (starts plan.modules) s.loaded
-  starts_first =
-      first_loaded 0 0 (starts plan.modules) s.loaded rises
-      ∙ ap (λ (n : ℕ). take n s.loaded) (omega arith)
-
-  -- the data that came after a policy is the last
-  pub later_fills : (above : ℕ) → fills_between above s.policy s.loaded
-      ≡ drop (starts plan.modules + above) (fills_of (placed_modules s.loaded))
-  later_fills above =
-      ap (λ (ls : List LoadedModule). fills_of (placed_modules ls))
-      (later_loaded above s.policy 0 (starts plan.modules) s.loaded rises
-      (up_to s.loaded (policies_below plan s have))
-      ∙ ap (λ (n : ℕ). drop n s.loaded) (omega arith))
-      ∙ ap fills_of (sym (drop-map (λ (l : LoadedModule). l.placed) (starts plan.modules + above) s.loaded))
-      ∙ sym (drop-map fill_of (starts plan.modules + above) (placed_modules s.loaded))
 
 -- ---- a pass goes out, or comes back
 
@@ -188,16 +148,3 @@ pub never_refused : (result : Result PassView AdmitFault) (out : List Bool) (n :
     → IfErr result (λ fault. AreAllOut out) → count_by is_one out < n → n ≤ GUESTS → IfErr result (λ fault. ⊥)
 never_refused (Ok pass) out n all few most = tt
 never_refused (Err fault) out n all few most = not_all_out out n few most all
-
--- ---- the rest of a list
-
-pub drop_min : {X : Type 0} (xs : List X) (first less : ℕ) → less ≡ min first (length xs)
-    → take (length xs - less) (drop less xs) ≡ drop first xs
-drop_min xs first less is =
-    take_all (length xs - less) (drop less xs) (omega (arith, length-drop less xs))
-    ∙ ⊎_elim
-    (λ (within : first < length xs). ap (λ (n : ℕ). drop n xs) (grind (arith, is, within)))
-    (λ (past : length xs ≤ first).
-    ap (λ (n : ℕ). drop n xs) (grind (arith, is, past))
-    ∙ drop-length xs ∙ sym (drop_all first xs past))
-    (cases_lt first (length xs))

@@ -17,16 +17,18 @@ use Rattle.cfi_tables.proofs.KeeperLemmas.{grown_are}
 use Rattle.cfi_valid.specs.Journal.{EntryLeads, MayAsk}
 use Rattle.cfi_valid.specs.Script.{call_of}
 use Rattle.cfi_word.specs.declared.limits.TheConstants.{MAX_EPOCH}
-use Rattle.cfi_loader.specs.declared.books.Books.{Books}
-use Rattle.cfi_loader.specs.Ledger.{HavePolicies, TellsOf, IsEntryOf}
+use Rattle.cfi_ledger.specs.declared.books.Books.{Books}
+use Rattle.cfi_ledger.specs.Policies.{HavePolicies, IsEntryOf}
+use Rattle.cfi_loader.specs.Ledger.{TellsOf}
 use Rattle.cfi_loader.specs.Marks.{mark_of, is_made, spent_in}
-use Rattle.cfi_loader.specs.Results.{asked_by}
+use Rattle.cfi_ledger.specs.Journal.{asked_by}
 use Rattle.cfi_loader.specs.Told.{GoesOnBy, MayAskFor, HasTold, KeepsAfter}
-use Rattle.cfi_loader.specs.inner.Books.{course_in, end_of_books, ledger_of, IsRosterOf, BooksAgree, IsAfter}
-use Rattle.cfi_loader.specs.inner.Journal.{Minutes, HasLine}
-use Rattle.cfi_loader.proofs.EntryLemmas.{entry_again, entry_stays}
+use Rattle.cfi_ledger.specs.Books.{course_in, end_of_books, IsRosterOf}
+use Rattle.cfi_loader.specs.inner.Books.{ledger_of, BooksAgree, IsAfter}
+use Rattle.cfi_ledger.specs.Journal.{Minutes, HasLine}
+use Rattle.cfi_ledger.proofs.EntryLemmas.{entry_again, entry_stays}
 use Rattle.cfi_loader.proofs.LedgerLemmas.{goes_later, ledger_more}
-use Rattle.cfi_loader.proofs.PolicyLemmas.{policies_same}
+use Rattle.cfi_ledger.proofs.PolicyLemmas.{policies_same}
 use Rattle.cfi_loader.proofs.TellLemmas.{tells_same, tells_refused, tells_grown, last_more}
 
 module _ (k : Key) (b : Books) (j : Minutes) (keeping : Keeping) (kept : BooksAgree k b keeping) (who : Who)

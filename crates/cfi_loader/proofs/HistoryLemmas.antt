@@ -12,7 +12,8 @@ use Rattle.cfi_tables.specs.Views.{idle_tables}
 use Rattle.cfi_tables.proofs.TablesLemmas.{force_newest}
 use Rattle.cfi_valid.specs.FromLaw.{HasPolicies}
 use Rattle.cfi_valid.specs.Growth.{Continues}
-use Rattle.cfi_loader.specs.Ledger.{Ledger, IsLedger, IsEntryOf}
+use Rattle.cfi_loader.specs.Ledger.{Ledger, IsLedger}
+use Rattle.cfi_ledger.specs.Policies.{IsEntryOf}
 use Rattle.cfi_loader.specs.Told.{HasTold}
 
 module _ (k : Key) (plan : Plan) (modules : List Module) (l : Ledger) (is : IsLedger k plan modules l) where
@@ -26,8 +27,8 @@ module _ (k : Key) (plan : Plan) (modules : List Module) (l : Ledger) (is : IsLe
 
   pub have_policies : HasPolicies l.course.plan.code_words l.course.end.loaded (history_of t)
   have_policies = record {
-    modules = λ epoch known. (entry_there epoch known).modules_loaded;
-    images = λ epoch known. (entry_there epoch known).image_is;
+    modules = λ epoch known. (entry_there epoch known).is.modules;
+    images = λ epoch known. (entry_there epoch known).is.image;
   }
 
 pub goes_on : (k : Key) (entry : Entry) (old new : Ledger) → HasTold k entry old new → Continues old.course new.course

@@ -15,18 +15,22 @@ use Rattle.cfi_valid.specs.Loaded.{planned_name}
 use Rattle.cfi_valid.specs.Script.{Load}
 use Rattle.cfi_word.specs.declared.limits.TheConstants.{MAX_EPOCH}
 use Rattle.cfi_word.specs.declared.lists.Image.{Image}
-use Rattle.cfi_loader.specs.declared.books.Books.{Books}
+use Rattle.cfi_ledger.specs.declared.books.Books.{Books}
 use Rattle.cfi_loader.specs.declared.loaded.Loaded.{Loaded}
 use Rattle.cfi_loader.specs.Marks.{mark_by}
-use Rattle.cfi_loader.specs.Results.{asked_by, SaysOf, RefusesBy}
+use Rattle.cfi_ledger.specs.Journal.{asked_by}
+use Rattle.cfi_loader.specs.Results.{SaysOf, RefusesBy}
 use Rattle.cfi_loader.specs.Told.{MayAskFor}
-use Rattle.cfi_loader.specs.inner.Books.{course_in, ledger_of, BooksAgree, IsAfter}
-use Rattle.cfi_loader.specs.inner.Journal.{Minutes, HasLine}
-use Rattle.cfi_loader.specs.inner.Loads.{HasPrepared, IsAbsent, IsFirstGlobal, IsListed, LoadsTo, Refuses, load_fault_by, update_line}
-use Rattle.cfi_loader.specs.inner.Roster.{Roster, IsImageOfRoster, line_by, without_last}
+use Rattle.cfi_ledger.specs.Books.{course_in}
+use Rattle.cfi_loader.specs.inner.Books.{ledger_of, BooksAgree, IsAfter}
+use Rattle.cfi_ledger.specs.Journal.{Minutes, HasLine}
+use Rattle.cfi_ledger.specs.Loads.{HasPrepared, IsAbsent, IsListed}
+use Rattle.cfi_ledger.specs.Opens.{IsFirstGlobal}
+use Rattle.cfi_loader.specs.inner.Loads.{LoadsTo, Refuses, load_fault_by, update_line}
+use Rattle.cfi_ledger.specs.Roster.{Roster, IsImageOfRoster, line_by, without_last}
 use Rattle.cfi_loader.proofs.LineLemmas.{line_new, line_refused}
 use Rattle.cfi_loader.proofs.PrepareLemmas.{clean, taken_back, load_made}
-use Rattle.cfi_loader.proofs.RosterLemmas.{listed_address}
+use Rattle.cfi_ledger.proofs.RosterLemmas.{listed_address}
 use Rattle.cfi_loader.proofs.UpdateLemmas.{IsRight, after_load_refused}
 
 module _ (k : Key) (b : Books) (keeping : Keeping) (kept : BooksAgree k b keeping) (who : Who) (number : ℕ)

@@ -13,13 +13,16 @@ use Rattle.cfi_valid.specs.Journal.{IsJournal}
 use Rattle.cfi_valid.specs.Script.{Call, call_of, made_by_script, script_calls}
 use Rattle.cfi_valid.proofs.GrowthLemmas.{along_later}
 use Rattle.cfi_valid.proofs.JournalLemmas.{along_more}
-use Rattle.cfi_loader.specs.Calls.{calls_after}
-use Rattle.cfi_loader.specs.Ledger.{Ledger, IsLedger, HavePolicies, HaveEntries, TellsOf}
-use Rattle.cfi_loader.specs.Plans.{CanStart, AreTablesOf}
-use Rattle.cfi_loader.specs.Results.{asked_by}
+use Rattle.cfi_ledger.specs.Calls.{calls_after}
+use Rattle.cfi_loader.specs.Ledger.{Ledger, IsLedger, TellsOf}
+use Rattle.cfi_ledger.specs.Policies.{HavePolicies}
+use Rattle.cfi_ledger.specs.Entries.{HaveEntries}
+use Rattle.cfi_ledger.specs.Plans.{CanStart}
+use Rattle.cfi_loader.specs.Plans.{AreTablesOf}
+use Rattle.cfi_ledger.specs.Journal.{asked_by}
 use Rattle.cfi_loader.specs.Told.{GoesOnBy, MayAskFor, HasTold}
 use Rattle.cfi_loader.proofs.JournalLemmas.{IsNext, script_more}
-use Rattle.cfi_loader.proofs.PolicyLemmas.{entries_stay}
+use Rattle.cfi_ledger.proofs.PolicyLemmas.{entries_stay}
 
 module _ (entry : Entry) (old new : Course) (goes : GoesOnBy entry old new) where
   -- the state is a later one

@@ -1,13 +1,10 @@
 -- The line of an answer.
-use Rattle.std.proofs.Common.{◌≡◌, ℕ, Bool, true, false, Option, Some, None, refl, sym, ap, ◌∙◌}
-use Rattle.std.specs.Prelude.{if◌then◌else◌, option_map}
-use Rattle.cfi_plan.specs.declared.journal.JournalLine.{JournalLine}
+use Rattle.std.proofs.Common.{◌≡◌, ℕ, Bool, true, false, Some, refl, ap, ◌∙◌}
+use Rattle.std.specs.Prelude.{if◌then◌else◌}
 use Rattle.cfi_plan.specs.declared.journal.JournalLine.TheVariants.{LoadOk, LoadAgain}
-use Rattle.cfi_series.specs.declared.numbers.FaultNumbers.{FaultNumbers}
 use Rattle.cfi_tables.specs.declared.fault.UpdateFault.{UpdateFault}
 use Rattle.cfi_tables.specs.declared.fault.UpdateFault.TheVariants.{EpochsSpent, VersionsSpent}
 use Rattle.cfi_loader.specs.declared.loaded.Loaded.{Loaded}
-use Rattle.cfi_valid.specs.NumberedLine.{numbered_line}
 use Rattle.cfi_loader.specs.Results.{loaded_line, fault_line}
 use Rattle.cfi_loader.specs.inner.Loads.{load_fault_by, update_line}
 
@@ -30,16 +27,3 @@ pub line_refused : (number : ℕ) (fault : UpdateFault)
     → fault_line number (load_fault_by fault) ≡ Some (update_line number fault)
 line_refused number EpochsSpent = refl
 line_refused number (VersionsSpent guest quiet) = refl
-
--- a line came of numbers, and no line of none
-pub from_numbers : (number : ℕ) (o : Option FaultNumbers) (line : JournalLine)
-    → option_map (numbered_line number) o ≡ Some line
-    → (told : FaultNumbers) × (o ≡ Some told) × (line ≡ numbered_line number told)
-from_numbers number (Some told) line is =
-    let same : numbered_line number told ≡ line = cc in
-    (told, refl, sym same)
-from_numbers number None line is = absurd (cc)
-
-pub from_none : (number : ℕ) (o : Option FaultNumbers) → option_map (numbered_line number) o ≡ None → o ≡ None
-from_none number (Some told) is = absurd (cc)
-from_none number None is = refl

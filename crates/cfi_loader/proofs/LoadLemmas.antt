@@ -36,19 +36,21 @@ use Rattle.cfi_valid.specs.declared.limits.TheConstants.{MAX_LOADED}
 use Rattle.cfi_valid.proofs.SeriesLemmas.{journal_series}
 use Rattle.cfi_word.specs.declared.limits.TheConstants.{MAX_EPOCH}
 use Rattle.cfi_word.specs.declared.lists.Image.{Image}
-use Rattle.cfi_loader.specs.declared.books.Books.{Books}
-use Rattle.cfi_loader.specs.Ledger.{HavePolicies, TellsOf, IsEntryOf}
+use Rattle.cfi_ledger.specs.declared.books.Books.{Books}
+use Rattle.cfi_ledger.specs.Policies.{HavePolicies, IsEntryOf}
+use Rattle.cfi_loader.specs.Ledger.{TellsOf}
 use Rattle.cfi_loader.specs.Marks.{mark_of}
-use Rattle.cfi_loader.specs.Results.{asked_by}
+use Rattle.cfi_ledger.specs.Journal.{asked_by}
 use Rattle.cfi_loader.specs.Told.{GoesOnBy, MayAskFor, HasTold}
-use Rattle.cfi_loader.specs.inner.Books.{course_in, end_of_books, ledger_of, loaded_in, BooksAgree, IsAfter}
-use Rattle.cfi_loader.specs.inner.Journal.{Minutes, HasLine}
-use Rattle.cfi_loader.specs.inner.Roster.{Roster, line_by, origin_of}
+use Rattle.cfi_ledger.specs.Books.{course_in, end_of_books, loaded_in}
+use Rattle.cfi_loader.specs.inner.Books.{ledger_of, BooksAgree, IsAfter}
+use Rattle.cfi_ledger.specs.Journal.{Minutes, HasLine}
+use Rattle.cfi_ledger.specs.Roster.{Roster, line_by, origin_of}
 use Rattle.cfi_loader.proofs.BooksLemmas.{last_entry, one_left}
-use Rattle.cfi_loader.proofs.EntryLemmas.{among_self, entry_of_all, loaded_all}
-use Rattle.cfi_loader.proofs.FindingLemmas.{findings_more}
+use Rattle.cfi_ledger.proofs.EntryLemmas.{among_self, entry_of_all, loaded_all}
+use Rattle.cfi_ledger.proofs.FindingLemmas.{findings_more}
 use Rattle.cfi_loader.proofs.LedgerLemmas.{goes_later, ledger_more}
-use Rattle.cfi_loader.proofs.PolicyLemmas.{policies_below, policies_more}
+use Rattle.cfi_ledger.proofs.PolicyLemmas.{policies_below, policies_more}
 use Rattle.cfi_valid.proofs.KeptLemmas.{places_are, loaded_more}
 use Rattle.cfi_loader.proofs.TellLemmas.{tells_grown, last_more}
 
@@ -75,7 +77,7 @@ module _ (k : Key) (b : Books) (keeping : Keeping) (kept : BooksAgree k b keepin
       ap (λ (n : ℕ). loaded_by n (loaded_in b)) (sym kept.ledger.told.policy)
       ∙ loaded_all b.policy (loaded_in b) (policies_below b.plan (end_of_books b) kept.ledger.policies) in
       subst (λ (ps : List Placed). IsCodeOf ps b.plan.code_words last.image.code)
-      (ap placed_modules all ∙ places) (last_entry k b keeping kept).image_is.1.code
+      (ap placed_modules all ∙ places) (last_entry k b keeping kept).is.image.1.code
 
   -- a module that joins them, and the image of all
   module _ (unplaced : Module) (one : Placed) (image : Image) (is_sound : IsSoundModule unplaced)

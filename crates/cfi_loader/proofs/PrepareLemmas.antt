@@ -1,14 +1,11 @@
 -- A load that was prepared.
-use Rattle.std.proofs.Common.{◌≡◌, ℕ, ◌+◌, ◌-◌, ◌<◌, ◌++◌, List, [], ◌∷◌, length, take, inr, refl, sym, ap, subst, ◌∙◌, arith, length-append}
-use Rattle.std.proofs.Math.Seq.{take-length}
-use Rattle.std.proofs.lemmas.List.{take-append-le}
+use Rattle.std.proofs.Common.{◌≡◌, ℕ, ◌+◌, ◌<◌, ◌++◌, List, [], ◌∷◌, inr, refl, sym, subst, ◌∙◌}
 use Rattle.std.proofs.lemmas.Option.{slice_get_within, get_or_from_slice_get}
 use Rattle.cfi_aux.specs.Sound.{IsSoundModule}
 use Rattle.cfi_aux.specs.declared.placed.Placed.{Placed}
 use Rattle.cfi_graph.specs.Direct.{DirectEdge}
 use Rattle.cfi_model.specs.Tables.{IsUpdate}
 use Rattle.cfi_plan.specs.declared.journal.JournalLine.TheVariants.{LoadOk}
-use Rattle.cfi_plan.specs.declared.journal.ModuleLine.{ModuleLine}
 use Rattle.cfi_plan.specs.declared.journal.Who.{Who}
 use Rattle.cfi_policy.specs.Image.{IsImage}
 use Rattle.cfi_series.specs.Order.{Joins}
@@ -21,24 +18,18 @@ use Rattle.cfi_valid.specs.Loaded.{planned_name}
 use Rattle.cfi_valid.specs.Script.{Load}
 use Rattle.cfi_word.specs.declared.limits.TheConstants.{MAX_EPOCH}
 use Rattle.cfi_word.specs.declared.lists.Image.{Image}
-use Rattle.cfi_loader.specs.declared.books.Books.{Books}
+use Rattle.cfi_ledger.specs.declared.books.Books.{Books}
 use Rattle.cfi_loader.specs.Marks.{mark_by}
-use Rattle.cfi_loader.specs.Results.{asked_by}
+use Rattle.cfi_ledger.specs.Journal.{asked_by}
 use Rattle.cfi_loader.specs.Told.{MayAskFor}
-use Rattle.cfi_loader.specs.inner.Books.{end_of_books, ledger_of, BooksAgree, IsAfter}
-use Rattle.cfi_loader.specs.inner.Journal.{Minutes, HasLine}
-use Rattle.cfi_loader.specs.inner.Loads.{HasPrepared, IsAbsent}
-use Rattle.cfi_loader.specs.inner.Roster.{Roster, IsImageOfRoster, line_by, without_last}
+use Rattle.cfi_ledger.specs.Books.{end_of_books}
+use Rattle.cfi_loader.specs.inner.Books.{ledger_of, BooksAgree, IsAfter}
+use Rattle.cfi_ledger.specs.Journal.{Minutes, HasLine}
+use Rattle.cfi_ledger.specs.Loads.{HasPrepared, IsAbsent}
+use Rattle.cfi_ledger.specs.Roster.{Roster, IsImageOfRoster, without_last}
+use Rattle.cfi_ledger.proofs.JoinedLemmas.{joined_back}
 use Rattle.cfi_loader.proofs.UpdateLemmas.{may_ask}
 use Rattle.cfi_loader.proofs.LoadLemmas.{places, load_follows, after_load}
-
--- a list without the item at its end
-init_of : {X : Type 0} (xs : List X) (x : X) → take (length (xs ++ x ∷ []) - 1) (xs ++ x ∷ []) ≡ xs
-init_of xs x =
-    let end : length (xs ++ x ∷ []) - 1 ≡ length xs = omega (arith, length-append xs (x ∷ [])) in
-    ap (λ (n : ℕ). take n (xs ++ x ∷ [])) end
-    ∙ take-append-le (length xs) xs (x ∷ []) (omega arith)
-    ∙ take-length xs
 
 module _ (k : Key) (b : Books) (keeping : Keeping) (kept : BooksAgree k b keeping) (number : ℕ) (roster : Roster)
     (prepared : HasPrepared b number roster) (absent : IsAbsent b number) where
@@ -72,18 +63,8 @@ module _ (k : Key) (b : Books) (keeping : Keeping) (kept : BooksAgree k b keepin
   -- without its last module it is what it was
   pub taken_back : without_last roster ≡ b.roster
   taken_back =
-      let line = line_by number (planned_name b.plan.modules number) (b.policy + 1) one in
-      ap without_last prepared.joined.is
-      ∙ ap (λ (ls : List ModuleLine). record {
-        code_words = b.roster.code_words;
-        lines = ls;
-        placed = take (length (b.roster.placed ++ one ∷ []) - 1) (b.roster.placed ++ one ∷ []);
-      }) (init_of b.roster.lines line)
-      ∙ ap (λ (ps : List Placed). record {
-        code_words = b.roster.code_words;
-        lines = b.roster.lines;
-        placed = ps;
-      }) (init_of b.roster.placed one)
+      joined_back number (planned_name b.plan.modules number) (b.policy + 1) prepared.unplaced b.roster roster
+      prepared.joined
 
   module _ (image : Image) (of : IsImageOfRoster roster image) where
     labels : IsImage (DirectEdge (b.roster.placed ++ one ∷ [])) (b.roster.placed ++ one ∷ []) b.plan.code_words image

@@ -12,11 +12,12 @@ use Rattle.cfi_tables.specs.Key.{Key}
 use Rattle.cfi_valid.specs.Guests.{EntersIn, GuestBegins}
 use Rattle.cfi_valid.specs.Loaded.{LoadedModule, placed_modules, loaded_by, fills_between}
 use Rattle.cfi_word.specs.declared.limits.TheConstants.{MAX_POLICY}
-use Rattle.cfi_loader.specs.declared.books.Books.{Books}
-use Rattle.cfi_loader.specs.inner.Books.{end_of_books, loaded_in, BooksAgree}
-use Rattle.cfi_loader.proofs.AdmitLemmas.{starts_first, later_fills}
+use Rattle.cfi_ledger.specs.declared.books.Books.{Books}
+use Rattle.cfi_ledger.specs.Books.{end_of_books, loaded_in}
+use Rattle.cfi_loader.specs.inner.Books.{BooksAgree}
+use Rattle.cfi_ledger.proofs.DueLemmas.{starts_first, later_fills}
 use Rattle.cfi_loader.proofs.LoadLemmas.{places, series}
-use Rattle.cfi_loader.proofs.OpeningLemmas.{begins_from, begins_to}
+use Rattle.cfi_ledger.proofs.OpeningLemmas.{begins_from, begins_to}
 
 module _ (k : Key) (b : Books) (keeping : Keeping) (kept : BooksAgree k b keeping) where
   -- the start modules are the first ones

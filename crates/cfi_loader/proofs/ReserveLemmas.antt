@@ -7,14 +7,16 @@ use Rattle.cfi_plan.specs.declared.plan.Plan.{Plan}
 use Rattle.cfi_tables.specs.Keeping.{Keeping}
 use Rattle.cfi_tables.specs.Key.{Key}
 use Rattle.cfi_valid.specs.Script.{Call}
-use Rattle.cfi_loader.specs.declared.books.Books.{Books}
+use Rattle.cfi_ledger.specs.declared.books.Books.{Books}
 use Rattle.cfi_loader.specs.declared.fault.LoadFault.{LoadFault}
 use Rattle.cfi_loader.specs.declared.loaded.Loaded.{Loaded}
 use Rattle.cfi_loader.specs.Ledger.{Ledger, IsLedger}
-use Rattle.cfi_loader.specs.Results.{asked_by, loaded_line, IsLoadFault}
+use Rattle.cfi_ledger.specs.Journal.{asked_by}
+use Rattle.cfi_loader.specs.Results.{loaded_line, IsLoadFault}
 use Rattle.cfi_loader.specs.Told.{HasTold}
-use Rattle.cfi_loader.specs.inner.Books.{course_in, end_of_books, ledger_of, BooksAgree, IsAfter}
-use Rattle.cfi_loader.specs.inner.Journal.{Minutes}
+use Rattle.cfi_ledger.specs.Books.{course_in, end_of_books}
+use Rattle.cfi_loader.specs.inner.Books.{ledger_of, BooksAgree, IsAfter}
+use Rattle.cfi_ledger.specs.Journal.{Minutes}
 use Rattle.cfi_loader.specs.inner.Loads.{LoadsTo, Refuses}
 
 -- a ledger that says otherwise whether memory was missing

@@ -16,11 +16,12 @@ use Rattle.cfi_tables.specs.Views.{idle_tables}
 use Rattle.cfi_valid.specs.Course.{Course}
 use Rattle.cfi_valid.specs.Growth.{IsLater}
 use Rattle.cfi_valid.specs.Journal.{JournalState}
-use Rattle.cfi_loader.specs.Ledger.{IsEntryOf, TellsOf}
+use Rattle.cfi_ledger.specs.Policies.{IsEntryOf}
+use Rattle.cfi_loader.specs.Ledger.{TellsOf}
 use Rattle.cfi_loader.specs.Epochs.{HavePoliciesOf, policy_put}
 use Rattle.cfi_loader.specs.Marks.{mark_of, is_made, made_marks, Spent, spent_of, spent_in, AreMade, AreRefused}
 use Rattle.cfi_loader.specs.Told.{GoesOnBy}
-use Rattle.cfi_loader.proofs.EntryLemmas.{entries_stay}
+use Rattle.cfi_ledger.proofs.EntryLemmas.{entries_stay}
 use Rattle.cfi_loader.proofs.EpochLemmas.{epochs_more, epochs_same}
 use Rattle.cfi_loader.proofs.JournalLemmas.{marks_more, marks_same, spent_more, spent_same}
 

@@ -15,13 +15,15 @@ use Rattle.cfi_valid.specs.Journal.{MayAsk, IsTooOld, IsOutOfEpochs, IsClean, is
 use Rattle.cfi_valid.specs.Script.{Call, Load, Refresh}
 use Rattle.cfi_word.specs.declared.limits.TheConstants.{MAX_EPOCH}
 use Rattle.cfi_word.specs.declared.lists.Image.{Image}
-use Rattle.cfi_loader.specs.declared.books.Books.{Books}
+use Rattle.cfi_ledger.specs.declared.books.Books.{Books}
 use Rattle.cfi_loader.specs.Ledger.{Ledger}
 use Rattle.cfi_loader.specs.Marks.{mark_by}
-use Rattle.cfi_loader.specs.Results.{asked_by, refused_refresh}
+use Rattle.cfi_ledger.specs.Journal.{asked_by}
+use Rattle.cfi_loader.specs.Results.{refused_refresh}
 use Rattle.cfi_loader.specs.Told.{MayAskFor}
-use Rattle.cfi_loader.specs.inner.Books.{end_of_books, ledger_of, BooksAgree, IsAfter}
-use Rattle.cfi_loader.specs.inner.Journal.{Minutes, HasLine}
+use Rattle.cfi_ledger.specs.Books.{end_of_books}
+use Rattle.cfi_loader.specs.inner.Books.{ledger_of, BooksAgree, IsAfter}
+use Rattle.cfi_ledger.specs.Journal.{Minutes, HasLine}
 use Rattle.cfi_loader.specs.inner.Loads.{update_line}
 use Rattle.cfi_loader.proofs.BooksLemmas.{after_same, after_refused, after_refreshed}
 

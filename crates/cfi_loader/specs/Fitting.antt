@@ -1,7 +1,7 @@
 -- Loads that fit, and what may come of one.
 use Rattle.std.specs.Prelude.{◌⊎◌, ℕ, ◌+◌, ◌-◌, ◌≤◌, ⊤}
 use Rattle.cfi_plan.specs.declared.journal.JournalLine.{JournalLine}
-use Rattle.cfi_plan.specs.declared.journal.JournalLine.TheVariants.{LoadOk, LoadAgain, LoadVersions, LoadEpochs, RefreshVersions}
+use Rattle.cfi_plan.specs.declared.journal.JournalLine.TheVariants.{LoadOk, LoadAgain, LoadFull, LoadPlace, LoadVerify, LoadVersions, LoadEpochs, RefreshOk, RefreshVersions, RefreshEpochs}
 use Rattle.cfi_valid.specs.Course.{Course}
 use Rattle.cfi_valid.specs.Joining.{HasNoFault}
 use Rattle.cfi_valid.specs.Loaded.{IsLoaded}
@@ -11,19 +11,31 @@ abbrev pub LoadFits : Course → (number : ℕ) → Type 0
 LoadFits c number =
     IsLoaded c.end.loaded number ⊎ HasNoFault c.plan.code_words c.modules c.end.loaded number
 
--- the line tells that the module is loaded, or that no version or no epoch is left
+-- the line tells that the module is loaded, or that no version or no epoch is left: a case a line
 abbrev pub ComesThrough : JournalLine → Type 0
 ComesThrough (LoadOk number epoch policy) = ⊤
 ComesThrough (LoadAgain number policy) = ⊤
+ComesThrough (LoadFull number) = ⊥
+ComesThrough (LoadPlace number fault) = ⊥
+ComesThrough (LoadVerify number fault place) = ⊥
 ComesThrough (LoadVersions number guest quiet) = ⊤
 ComesThrough (LoadEpochs number) = ⊤
-ComesThrough line = ⊥
+ComesThrough (RefreshOk epoch) = ⊥
+ComesThrough (RefreshVersions guest quiet) = ⊥
+ComesThrough RefreshEpochs = ⊥
 
--- the line does not tell that no version is left
+-- the line does not tell that no version is left: a case a line
 abbrev pub HasVersion : JournalLine → Type 0
+HasVersion (LoadOk number epoch policy) = ⊤
+HasVersion (LoadAgain number policy) = ⊤
+HasVersion (LoadFull number) = ⊤
+HasVersion (LoadPlace number fault) = ⊤
+HasVersion (LoadVerify number fault place) = ⊤
 HasVersion (LoadVersions number guest quiet) = ⊥
+HasVersion (LoadEpochs number) = ⊤
+HasVersion (RefreshOk epoch) = ⊤
 HasVersion (RefreshVersions guest quiet) = ⊥
-HasVersion line = ⊤
+HasVersion RefreshEpochs = ⊤
 
 -- the updates that were made, and one more, are at most two fewer than there are versions
 abbrev pub HasFewUpdates : Course → Type 0

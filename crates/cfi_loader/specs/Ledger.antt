@@ -1,24 +1,20 @@
 -- What a loader keeps, as clauses see it, and how its parts agree.
-use Rattle.std.specs.Prelude.{◌≡◌, ℕ, ◌+◌, ◌-◌, ◌≤◌, ◌<◌, Bool, true, List, ◌++◌, length, slice_get, Some, All}
+use Rattle.std.specs.Prelude.{◌≡◌, ℕ, ◌+◌, ◌<◌, Bool, true, List, ◌++◌, length, All}
 use Rattle.cfi_aux.specs.declared.modules.Module.{Module}
 use Rattle.cfi_model.specs.Tables.{IsTables}
-use Rattle.cfi_model.specs.declared.history.Entry.{Entry as TableEntry}
-use Rattle.cfi_plan.specs.Draft.{starts}
 use Rattle.cfi_plan.specs.declared.plan.Plan.{Plan}
-use Rattle.cfi_series.specs.Loaded.{AreLoaded, IsLoadedImage}
 use Rattle.cfi_tables.specs.Faults.{epoch_after}
 use Rattle.cfi_tables.specs.Keeping.{Keeping, is_out, last_of}
 use Rattle.cfi_tables.specs.Key.{Key}
 use Rattle.cfi_tables.specs.Views.{idle_tables}
 use Rattle.cfi_valid.specs.Course.{Course, IsCourse}
-use Rattle.cfi_valid.specs.Guests.{HasEntry}
-use Rattle.cfi_valid.specs.Journal.{JournalState}
-use Rattle.cfi_valid.specs.Loaded.{LoadedModule, placed_modules, loaded_by, live_at}
 use Rattle.cfi_valid.specs.Script.{Call, script_calls, made_by_script}
-use Rattle.cfi_valid.specs.declared.limits.TheConstants.{MAX_LOADED}
 use Rattle.cfi_loader.specs.Epochs.{HavePoliciesOf}
 use Rattle.cfi_loader.specs.Marks.{AreMade, AreRefused}
-use Rattle.cfi_loader.specs.Plans.{CanStart, AreTablesOf}
+use Rattle.cfi_ledger.specs.Plans.{CanStart}
+use Rattle.cfi_loader.specs.Plans.{AreTablesOf}
+use Rattle.cfi_ledger.specs.Entries.{HaveEntries}
+use Rattle.cfi_ledger.specs.Policies.{HavePolicies, IsEntryOf}
 
 -- the run so far, with its journal and the state to which that leads; what the keeper of the tables keeps; the calls of
 -- the script that are left; and whether memory was missing
@@ -27,21 +23,6 @@ pub record Ledger : Type 0 where
   pub keeping : Keeping
   pub left : List Call
   pub starved : Bool
-
--- an entry of the tables' history: its policy is one that was in force, and its image is that of the modules which
--- this policy finds loaded, with the labels of those that are live
-pub record IsEntryOf (c : Course) (e : TableEntry) : Type 0 where
-  pub most : e.policy ≤ c.end.policy
-  pub modules_loaded : AreLoaded c.plan.code_words (placed_modules (loaded_by e.policy c.end.loaded))
-  pub image_is : IsLoadedImage c.plan.code_words (placed_modules (loaded_by e.policy c.end.loaded))
-      (placed_modules (live_at e.policy c.end.loaded)) e.image
-
--- each module after those of the start came with a policy of its own, in their order
-pub record HavePolicies (plan : Plan) (s : JournalState) : Type 0 where
-  pub count : length s.loaded ≡ starts plan.modules + s.policy
-  pub each : (at : ℕ) (one : LoadedModule) → slice_get s.loaded at ≡ Some one
-      → one.policy ≡ at + 1 - starts plan.modules
-  pub most : length s.loaded ≤ MAX_LOADED
 
 -- what the keeper keeps is what the journal tells: the epoch and the policy in force, an entry for each update that was
 -- made, with its mark, its policy and its image, and the updates that were not admitted
@@ -54,11 +35,6 @@ pub record TellsOf (k : Key) (c : Course) (keeping : Keeping) : Type 0 where
   pub epochs : HavePoliciesOf c.journal keeping.entries
   pub refusals : AreRefused c.journal keeping.refusals
   pub guests : (guest : ℕ) → is_out keeping.out guest ≡ true → guest < length c.plan.guests
-
--- each guest of the plan has an address to begin at
-abbrev pub HaveEntries : Plan → List LoadedModule → Type 0
-HaveEntries plan loaded =
-    (guest : ℕ) (entry : List ℕ) → slice_get plan.guests guest ≡ Some entry → HasEntry plan loaded entry
 
 -- the ledger of a plan and its modules, at these tables: the journal is legal, line by line; the keeper keeps what it
 -- tells; and the lines of the script are those of its calls before the first that is left

@@ -1,6 +1,5 @@
 pub mod Marks
 pub mod Epochs
-pub mod Calls
 pub mod Plans
 pub mod Ledger
 pub mod Told

@@ -5,7 +5,7 @@ use Rattle.cfi_model.specs.declared.history.Entry.{Entry as TableEntry}
 use Rattle.cfi_model.specs.declared.history.Refusal.{Refusal}
 use Rattle.cfi_plan.specs.declared.journal.Entry.{Entry}
 use Rattle.cfi_plan.specs.declared.journal.JournalLine.{JournalLine}
-use Rattle.cfi_plan.specs.declared.journal.JournalLine.TheVariants.{LoadOk, LoadVersions, RefreshOk, RefreshVersions}
+use Rattle.cfi_plan.specs.declared.journal.JournalLine.TheVariants.{LoadOk, LoadAgain, LoadFull, LoadPlace, LoadVerify, LoadVersions, LoadEpochs, RefreshOk, RefreshVersions, RefreshEpochs}
 use Rattle.cfi_plan.specs.declared.journal.Who.{Who}
 use Rattle.cfi_plan.specs.declared.journal.Who.TheVariants.{Script, Guest}
 use Rattle.cfi_word.specs.declared.limits.TheConstants.{GUESTS}
@@ -29,11 +29,18 @@ IsAsker (Guest guest) = guest < GUESTS
 
 -- ---- updates
 
--- the line tells of an update that was made
+-- the line tells of an update that was made: a case a line
 abbrev pub is_made : JournalLine → Bool
 is_made (LoadOk number epoch policy) = true
+is_made (LoadAgain number policy) = false
+is_made (LoadFull number) = false
+is_made (LoadPlace number fault) = false
+is_made (LoadVerify number fault place) = false
+is_made (LoadVersions number guest quiet) = false
+is_made (LoadEpochs number) = false
 is_made (RefreshOk epoch) = true
-is_made line = false
+is_made (RefreshVersions guest quiet) = false
+is_made RefreshEpochs = false
 
 -- the marks of the updates that a journal tells of
 abbrev pub made_marks : (journal : List Entry) → List ℕ
@@ -54,11 +61,18 @@ pub record Spent : Type 0 where
 abbrev pub spent_of : Refusal → Spent
 spent_of refusal = record { guest = refusal.guest; quiet = refusal.quiet; mark = refusal.mark }
 
--- what a line tells of one
+-- what a line tells of one: a case a line
 abbrev pub spent_by : (mark : ℕ) → JournalLine → Option Spent
+spent_by mark (LoadOk number epoch policy) = None
+spent_by mark (LoadAgain number policy) = None
+spent_by mark (LoadFull number) = None
+spent_by mark (LoadPlace number fault) = None
+spent_by mark (LoadVerify number fault place) = None
 spent_by mark (LoadVersions number guest quiet) = Some (record { guest = guest; quiet = quiet; mark = mark })
+spent_by mark (LoadEpochs number) = None
+spent_by mark (RefreshOk epoch) = None
 spent_by mark (RefreshVersions guest quiet) = Some (record { guest = guest; quiet = quiet; mark = mark })
-spent_by mark line = None
+spent_by mark RefreshEpochs = None
 
 abbrev pub spent_in : Entry → Option Spent
 spent_in entry = spent_by (mark_of entry) entry.what

@@ -1,14 +1,11 @@
 -- Passes of guests, and what the answer to an open brings.
-use Rattle.std.specs.Prelude.{ℕ, Bool, count_by, Option, Some, None}
-use Rattle.cfi_model.specs.Service.{Reply, reply_of}
+use Rattle.std.specs.Prelude.{ℕ, Bool, List, count_by, Option}
+use Rattle.cfi_model.specs.Service.{Reply}
 use Rattle.cfi_tables.specs.Keeping.{Keeping, heard_of}
 use Rattle.cfi_tables.specs.declared.view.PassView.{PassView}
 use Rattle.cfi_unit.specs.declared.log.Log.{Log}
-use Rattle.cfi_valid.specs.Loaded.{fills_between}
-use Rattle.cfi_valid.specs.Replay.{given_by}
-use Rattle.cfi_word.specs.declared.services.TheConstants.{NO_FUNCTION}
-use Rattle.std.specs.Prelude.{List, []}
 use Rattle.cfi_loader.specs.Ledger.{Ledger}
+use Rattle.cfi_ledger.specs.Opens.{open_reply}
 
 -- how many passes are out
 abbrev pub out_of : Ledger → ℕ
@@ -22,9 +19,6 @@ with_keeping keeping l = record l { keeping = keeping }
 abbrev pub heard_from : PassView → Ledger → Ledger
 heard_from p l = with_keeping (heard_of p.guest p.quiet l.keeping) l
 
--- the answer to an open of a module that is loaded, by the address of its first Global function: with one, the data
--- that the guest lacks
+-- the answer to an open of a module that is loaded, by the address of its first Global function
 abbrev pub reply_with : Ledger → (log : List Log) → (address : Option ℕ) → Reply
-reply_with l log (Some address) =
-    reply_of address 0 l.course.end.policy (fills_between (given_by log) l.course.end.policy l.course.end.loaded)
-reply_with l log None = reply_of 0 NO_FUNCTION l.course.end.policy []
+reply_with l log address = open_reply l.course.end log address

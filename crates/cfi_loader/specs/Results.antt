@@ -1,7 +1,6 @@
 -- What each call answers, by the line that it adds to the journal.
-use Rattle.std.specs.Prelude.{◌≡◌, ℕ, if◌then◌else◌, List, slice_get, Option, Some, None, option_map, ⊤}
+use Rattle.std.specs.Prelude.{◌≡◌, ℕ, if◌then◌else◌, slice_get, Option, Some, None, option_map, ⊤}
 use Rattle.cfi_aux.specs.declared.modules.Module.{Module}
-use Rattle.cfi_plan.specs.declared.journal.Entry.{Entry}
 use Rattle.cfi_plan.specs.declared.journal.JournalLine.{JournalLine}
 use Rattle.cfi_plan.specs.declared.journal.JournalLine.TheVariants as lines
 use Rattle.cfi_plan.specs.declared.journal.Who.{Who}
@@ -14,24 +13,16 @@ use Rattle.cfi_tables.specs.declared.fault.UpdateFault.{UpdateFault}
 use Rattle.cfi_tables.specs.declared.fault.UpdateFault.TheVariants as updates
 use Rattle.cfi_valid.specs.Course.{Course}
 use Rattle.cfi_valid.specs.NumberedLine.{numbered_line}
-use Rattle.cfi_valid.specs.Loaded.{LoadedModule, placed_modules}
-use Rattle.cfi_valid.specs.Log.{HasFunctionAt, HasNoFunction}
+use Rattle.cfi_valid.specs.Loaded.{placed_modules}
 use Rattle.cfi_loader.specs.declared.fault.LoadFault.{LoadFault}
 use Rattle.cfi_loader.specs.declared.fault.LoadFault.TheVariants.{ModulesFull, Place, Verify, EpochsSpent, VersionsSpent, Memory}
 use Rattle.cfi_loader.specs.declared.loaded.Loaded.{Loaded}
 use Rattle.cfi_loader.specs.Ledger.{Ledger}
 use Rattle.cfi_loader.specs.Told.{HasTold, HasStarved}
-
--- the entry of a line, by whoever asked
-abbrev pub asked_by : Who → JournalLine → Entry
-asked_by who what = record { who = who; what = what }
+use Rattle.cfi_ledger.specs.Journal.{asked_by}
+use Rattle.cfi_ledger.specs.Opens.{IsAddressOf}
 
 -- ---- a load that came through
-
--- the address is that of the module's first Global function; it has none
-abbrev pub IsAddressOf : List LoadedModule → (number : ℕ) → Option ℕ → Type 0
-IsAddressOf loaded number (Some address) = HasFunctionAt loaded number address
-IsAddressOf loaded number None = HasNoFunction loaded number
 
 abbrev pub loaded_line : (number : ℕ) → Loaded → JournalLine
 loaded_line number answer =

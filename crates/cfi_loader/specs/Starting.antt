@@ -1,15 +1,11 @@
 -- What starting a plan makes, and why it cannot be started.
-use Rattle.std.specs.Prelude.{◌≡◌, false, List, [], ⊤}
+use Rattle.std.specs.Prelude.{◌≡◌, false, List, []}
 use Rattle.cfi_aux.specs.declared.modules.Module.{Module}
 use Rattle.cfi_plan.specs.declared.plan.Plan.{Plan}
-use Rattle.cfi_series.specs.declared.fault.JoinFault.TheVariants as joins
 use Rattle.cfi_tables.specs.Key.{Named}
 use Rattle.cfi_tables.specs.Keeping.{opened_keeping}
 use Rattle.cfi_valid.specs.Journal.{IsOpeningState}
-use Rattle.cfi_valid.specs.Opening.{IsFirstUnjoined, IsFirstLost}
 use Rattle.cfi_valid.specs.Script.{script_calls}
-use Rattle.cfi_loader.specs.declared.fault.OpenFault.{OpenFault}
-use Rattle.cfi_loader.specs.declared.fault.OpenFault.TheVariants.{Place, Verify, NoEntry, Memory}
 use Rattle.cfi_loader.specs.Ledger.{Ledger}
 
 -- which table was made, and the ledger of the loader that is to be opened
@@ -26,9 +22,3 @@ pub record IsStarted (plan : Plan) (modules : List Module) (s : Started) : Type 
   pub keeping_is : s.ledger.keeping ≡ opened_keeping s.named.key
   pub left_is : s.ledger.left ≡ script_calls plan.script
   pub not_starved : s.ledger.starved ≡ false
-
-abbrev pub IsOpenFault : Plan → List Module → OpenFault → Type 0
-IsOpenFault plan modules (Place number fault) = IsFirstUnjoined plan modules number (joins.Place fault)
-IsOpenFault plan modules (Verify number fault) = IsFirstUnjoined plan modules number (joins.Verify fault)
-IsOpenFault plan modules (NoEntry guest) = IsFirstLost plan modules guest
-IsOpenFault plan modules Memory = ⊤

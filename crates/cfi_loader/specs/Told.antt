@@ -12,7 +12,7 @@ use Rattle.cfi_valid.specs.Course.{Course}
 use Rattle.cfi_valid.specs.Journal.{EntryLeads}
 use Rattle.cfi_valid.specs.Script.{Call}
 use Rattle.cfi_word.specs.declared.lists.Image.{Image}
-use Rattle.cfi_loader.specs.Calls.{calls_after}
+use Rattle.cfi_ledger.specs.Calls.{calls_after}
 use Rattle.cfi_loader.specs.Ledger.{Ledger}
 use Rattle.cfi_loader.specs.Marks.{mark_of}
 

@@ -1,41 +1,21 @@
 //! The answer to an open of a module that is loaded.
 
-ghost use Rattle.std.specs.Prelude.{◌≡◌, ◌≤◌, ◌<◌, Some, drop};
+ghost use Rattle.std.specs.Prelude.{◌≡◌, ◌≤◌, ◌<◌, Some};
 ghost use Rattle.cfi_model.specs.Log.{last_policy, opens};
 ghost use Rattle.cfi_model.specs.Run.{serve_of};
 ghost use Rattle.cfi_model.specs.Service.{argument};
 ghost use Rattle.cfi_model.specs.declared.act.Wait.TheVariants as waits;
-ghost use Rattle.cfi_valid.specs.Replay.{given_by};
 ghost use Rattle.cfi_word.specs.declared.limits.TheConstants.{MAX_OPENS};
 ghost use Rattle.cfi_word.specs.declared.services.TheConstants.{OPEN};
 ghost use Rattle.cfi_loader.specs.Passes.{reply_with};
-ghost use Rattle.cfi_loader.specs.Results.{IsAddressOf};
+ghost use Rattle.cfi_ledger.specs.Opens.{IsAddressOf};
 
 use crate::loaded::Loaded;
 use crate::loader::{Loader, LoaderName};
-use cfi_unit::{Answer, Fill, Log};
+use cfi_ledger::{fills_from, given_by};
+use cfi_unit::Answer;
 use cfi_word::services::NO_FUNCTION;
 use rv_guest::Guest;
-
-// The policy up to which a guest has been given data.
-fn given_by(log: &[Log]) -> u32
-    ensures { result ≡ given_by log.now }
-{
-    let mut given = 0;
-    for entry in log {
-        if let Log::Open { policy, .. } = entry {
-            given = *policy;
-        }
-    }
-    given
-}
-
-// The fills from one on.
-fn fills_from(fills: &[Fill], first: usize) -> &[Fill]
-    ensures { result.now ≡ drop first fills.now }
-{
-    &fills[first.min(fills.len())..]
-}
 
 impl<N: LoaderName> Loader<N> {
     /// Answers an open, and copies the data due: that of all loaded modules which the guest lacks, in load order; for a

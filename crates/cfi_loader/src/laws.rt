@@ -22,8 +22,8 @@ ghost use Rattle.cfi_valid.specs.Growth.{Continues};
 ghost use Rattle.cfi_valid.specs.Script.{Load, call_of};
 ghost use Rattle.cfi_loader.specs.Fitting.{LoadFits, ComesThrough, HasFewUpdates, HasVersion};
 ghost use Rattle.cfi_loader.specs.Ledger.{Ledger, IsLedger};
-ghost use Rattle.cfi_loader.specs.Plans.{CanStart};
-ghost use Rattle.cfi_loader.specs.Results.{asked_by};
+ghost use Rattle.cfi_ledger.specs.Plans.{CanStart};
+ghost use Rattle.cfi_ledger.specs.Journal.{asked_by};
 ghost use Rattle.cfi_loader.specs.Told.{HasTold};
 
 /// A load that fits is made, or no version or no epoch is left; and while few updates were made versions are left.

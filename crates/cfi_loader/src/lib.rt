@@ -10,15 +10,8 @@
 //! Only tested: nothing. Open: that memory suffices; what a load costs.
 #![tactic(auto)]
 
-mod books;
-mod copies;
-mod due;
-mod entrant;
-mod entries;
 mod fault;
-mod finding;
 mod give;
-mod journal;
 pub mod laws;
 mod load;
 mod loaded;
@@ -27,14 +20,13 @@ mod mark;
 mod passes;
 mod reading;
 mod refresh;
-mod roster;
 mod start;
 mod telling;
 
+pub use cfi_ledger::{Due, OpenFault, StartFault};
 pub use cfi_plan::{Entry, JournalLine, ModuleLine, Who};
 pub use cfi_tables::{AdmitFault, Seen, UpdateFault};
-pub use due::Due;
-pub use fault::{LoadFault, OpenFault};
+pub use fault::LoadFault;
 pub use loaded::Loaded;
 pub use loader::{Loader, LoaderName};
 pub use start::Start;

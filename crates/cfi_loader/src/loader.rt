@@ -2,8 +2,8 @@
 
 ghost use Rattle.std.specs.Prelude.{◌≡◌};
 
-use crate::books::Books;
 use crate::start::Start;
+use cfi_ledger::Books;
 use cfi_tables::{Keeper, TableName, Tables};
 use std::marker::{Brand, Model};
 

@@ -1,8 +1,7 @@
 //! The marks by which the keeper's history tells who asked for an update.
 
 ghost use Rattle.std.specs.Prelude.{◌≡◌, ◌<◌};
-ghost use Rattle.cfi_word.specs.declared.limits.TheConstants.{GUESTS, MAX_MODULES};
-ghost use Rattle.cfi_plan.specs.declared.journal.Who.{Who as Asker};
+ghost use Rattle.cfi_word.specs.declared.limits.TheConstants.{MAX_MODULES};
 ghost use Rattle.cfi_valid.specs.Script.{Load};
 ghost use Rattle.cfi_loader.specs.Marks.{IsAsker, mark_by};
 

@@ -1,10 +1,10 @@
 //! Passes of guests.
 
 ghost use Rattle.std.specs.Prelude.{◌≡◌, ℕ, ◌+◌, ◌<◌, IfOk, IfErr, count_by, length};
-ghost use Rattle.cfi_tables.specs.Faults.{epoch_after};
 ghost use Rattle.cfi_tables.specs.Keeping.{IsFree, let_in, let_out};
 ghost use Rattle.cfi_tables.specs.Rule.{AgreesWith};
 ghost use Rattle.cfi_tables.specs.Views.{admitted, noted};
+ghost use Rattle.cfi_loader.specs.Ledger.{IsLedger};
 ghost use Rattle.cfi_loader.specs.Passes.{heard_from, out_of, with_keeping};
 
 use crate::loader::{Loader, LoaderName};
@@ -28,10 +28,13 @@ impl<N: LoaderName> Loader<N> {
 
     /// Tells a pass all that the keeper has seen. Its accesses stay. No update finds less of its guest than this has
     /// published by now.
+    ///
+    /// `law`: what the loader keeps at every moment.
     pub fn note(&mut self, tables: &Tables<N>, pass: &mut Pass<N>)
         ensures pass { pass.new ≡ noted N.key self.old.keeping pass.old }
         ensures agrees { AgreesWith N.key self.old.keeping.entries self.old.keeping.refusals pass.old.sight }
         ensures kept { self.new ≡ heard_from pass.old self.old }
+        ensures law { IsLedger N.key N.plan N.modules self.old }
     {
         self.keeper.note(tables, pass);
     }

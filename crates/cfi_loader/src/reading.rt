@@ -5,14 +5,12 @@ ghost use Rattle.cfi_series.specs.Fills.{fills_of};
 ghost use Rattle.cfi_valid.specs.Guests.{GuestBegins};
 ghost use Rattle.cfi_valid.specs.Loaded.{placed_modules, module_line_of};
 ghost use Rattle.cfi_valid.specs.Script.{made_by_script, script_calls};
-ghost use Rattle.cfi_loader.specs.Calls.{call_due};
+ghost use Rattle.cfi_ledger.specs.Calls.{call_due};
 ghost use Rattle.cfi_loader.specs.Ledger.{IsLedger};
 
-use crate::books::Books;
-use crate::due::Due;
-use crate::entries::entry_at;
 use crate::loader::{Loader, LoaderName};
 use cfi_aux::Module;
+use cfi_ledger::{Books, Due, entry_at};
 use cfi_plan::{Entry, ModuleLine, Plan};
 use cfi_series::loaded_have_entries;
 use cfi_tables::Seen;
@@ -42,8 +40,11 @@ impl<N: LoaderName> Loader<N> {
     }
 
     /// The plan.
+    ///
+    /// `law`: what the loader keeps at every moment.
     pub fn plan(&self) -> &Plan
-        ensures { result.now ≡ N.plan }
+        ensures value { result.now ≡ N.plan }
+        ensures law { IsLedger N.key N.plan N.modules self.now }
     {
         &self.books.plan
     }
@@ -70,9 +71,12 @@ impl<N: LoaderName> Loader<N> {
     }
 
     /// The script's next call; a line `refresh N` is N calls. None exactly where every line was made.
+    ///
+    /// `law`: what the loader keeps at every moment.
     pub fn due(&self) -> Option<Due>
         ensures next { option_map call_due result ≡ slice_get self.now.left 0 }
         ensures none { IfNone result (made_by_script self.now.course.journal ≡ script_calls N.plan.script) }
+        ensures law { IsLedger N.key N.plan N.modules self.now }
     {
         self.books.journal.due()
     }

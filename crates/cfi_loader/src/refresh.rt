@@ -5,14 +5,14 @@ ghost use Rattle.cfi_plan.specs.declared.journal.JournalLine.TheVariants.{Refres
 ghost use Rattle.cfi_plan.specs.declared.journal.Who.TheVariants.{Script};
 ghost use Rattle.cfi_tables.specs.Faults.{AllAdmit};
 ghost use Rattle.cfi_valid.specs.Script.{Refresh};
-ghost use Rattle.cfi_loader.specs.Results.{asked_by, refused_refresh};
+ghost use Rattle.cfi_ledger.specs.Journal.{asked_by};
+ghost use Rattle.cfi_loader.specs.Results.{refused_refresh};
 ghost use Rattle.cfi_loader.specs.Told.{HasTold, MayAskFor};
 ghost use Rattle.cfi_loader.specs.inner.Books.{IsAfter, BooksAgree, ledger_of};
-ghost use Rattle.cfi_loader.specs.inner.Journal.{HasLine, HasRoomFor};
 
-use crate::books::Books;
 use crate::loader::{Loader, LoaderName};
 use crate::mark::REFRESH_MARK;
+use cfi_ledger::Books;
 use cfi_plan::{JournalLine, Who};
 use cfi_tables::{Keeper, TableName, Tables, UpdateFault};
 

@@ -1,37 +1,12 @@
 //! Faults of joining and of updates, as a load answers and tells them.
 
-ghost use Rattle.std.specs.Prelude.{◌≡◌, option_map};
-ghost use Rattle.cfi_series.specs.Numbers.{numbers_of};
-ghost use Rattle.cfi_valid.specs.NumberedLine.{numbered_line};
+ghost use Rattle.std.specs.Prelude.{◌≡◌};
 ghost use Rattle.cfi_loader.specs.inner.Loads.{load_fault_of, load_fault_by, update_line};
 
 use crate::fault::LoadFault;
 use cfi_plan::JournalLine;
-use cfi_series::{FaultNumbers, JoinFault};
+use cfi_series::JoinFault;
 use cfi_tables::UpdateFault;
-
-/// The line that tells of a fault of joining; None for want of memory.
-pub(crate) fn join_line(number: u32, fault: &JoinFault) -> Option<JournalLine>
-    ensures { result ≡ option_map (numbered_line number) (numbers_of fault.now) }
-{
-    match fault.numbers() {
-        Some(FaultNumbers::Place { number: kind }) => Some(JournalLine::LoadPlace {
-            module: number,
-            number: kind,
-        }),
-        Some(
-            FaultNumbers::Verify {
-                number: kind,
-                place,
-            },
-        ) => Some(JournalLine::LoadVerify {
-            module: number,
-            number: kind,
-            place,
-        }),
-        None => None,
-    }
-}
 
 /// The fault of joining as one of loading.
 pub(crate) fn load_fault_of(fault: JoinFault) -> LoadFault

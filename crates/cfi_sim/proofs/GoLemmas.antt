@@ -3,6 +3,8 @@ use Rattle.std.proofs.Common.{◌≡◌, ℕ, ◌+◌, ◌||◌, ◌⊎◌, inl,
 use Rattle.std.specs.List.{All}
 use Rattle.cfi_aux.specs.declared.modules.Module.{Module}
 use Rattle.cfi_aux.specs.Sound.{IsSoundModule}
+use Rattle.cfi_ledger.specs.Policies.{HavePolicies}
+use Rattle.cfi_ledger.proofs.PolicyLemmas.{journal_policies}
 use Rattle.cfi_model.specs.Raw.{Raw}
 use Rattle.cfi_model.specs.Service.{argument}
 use Rattle.cfi_model.specs.Words.{policy_in_force}
@@ -66,6 +68,15 @@ spends_nothing w guest (Some r) = by_still (is_some r.base.stop || is_asking (po
     by_still true = tt
     by_still false =
         let after = seat_after w.tables w.fuel (seat_of w guest r) in by_asking after (is_asking after.point)
+
+-- each module came with its policy
+pub have_policies : (x : Whole) → IsUnderWay x → HavePolicies x.plan x.stage.state
+have_policies x under =
+    journal_policies x.plan x.modules x.stage.journal x.stage.state under.plan.modules.most_starts (record {
+      opening = under.going.opening;
+      opens = under.going.opens;
+      leads = under.going.holds.stands.leads;
+    })
 
 module _ (old : Whole) (under : IsUnderWay old) (guest : ℕ) (mid : World) (turned : Turned)
     (turns : Turns old.stage.world (events.Guest guest) mid turned) where

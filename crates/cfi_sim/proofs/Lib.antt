@@ -11,7 +11,6 @@ pub mod LoadLemmas
 pub mod UpdateLemmas
 pub mod OnceLemmas
 pub mod RepeatLemmas
-pub mod StartedLemmas
 pub mod OpeningLemmas
 pub mod FollowLemmas
 pub mod PartsLemmas

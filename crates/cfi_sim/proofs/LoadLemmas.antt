@@ -1,13 +1,13 @@
 -- Loads, as a simulation under way makes them.
-use Rattle.std.proofs.Common.{◌≡◌, ℕ, ◌<◌, ◌≤◌, Bool, true, false, List, length, get_or, slice_get, Some, None, refl, sym, ◌∙◌, ap, subst, arith, inl, inr}
+use Rattle.std.proofs.Common.{◌≡◌, ℕ, ◌<◌, ◌≤◌, Bool, true, false, List, length, get_or, Some, None, refl, sym, ◌∙◌, ap, subst, arith, inl, inr}
+use Rattle.std.specs.Prelude.{option_map}
 use Rattle.cfi_aux.specs.declared.modules.Module.{Module}
 use Rattle.cfi_aux.specs.declared.placed.Placed.{Placed}
-use Rattle.cfi_graph.proofs.BoundLemmas.{contains_at, at_contains}
 use Rattle.cfi_plan.specs.declared.journal.JournalLine.{JournalLine}
 use Rattle.cfi_plan.specs.declared.journal.JournalLine.TheVariants as lines
 use Rattle.cfi_series.proofs.OrderLemmas.{joins_or_refused}
 use Rattle.cfi_series.proofs.SeriesLemmas.{item_at}
-use Rattle.std.proofs.lemmas.Option.{slice_get-get_or, slice_get_within}
+use Rattle.std.proofs.lemmas.Option.{slice_get-get_or}
 use Rattle.cfi_series.specs.declared.fault.JoinFault.{JoinFault}
 use Rattle.cfi_series.specs.declared.fault.JoinFault.TheVariants.{Memory}
 use Rattle.cfi_series.specs.declared.numbers.FaultNumbers.{FaultNumbers}
@@ -16,34 +16,28 @@ use Rattle.cfi_series.specs.Numbers.{numbers_of}
 use Rattle.cfi_series.specs.Order.{IsJoinFault}
 use Rattle.cfi_series.specs.Series.{Series}
 use Rattle.cfi_sim.specs.declared.aim.Aim.TheVariants.{Loading}
-use Rattle.cfi_sim.specs.declared.spot.Spot.{Spot}
 use Rattle.cfi_sim.specs.Events.{TellsLoad, IsLoadEvent}
 use Rattle.cfi_sim.specs.Reach.{OfLoad}
 use Rattle.cfi_sim.specs.Schedule.{PassesNoLimit}
 use Rattle.cfi_sim.specs.Stage.{Stage, with_journal_line}
-use Rattle.cfi_sim.specs.inner.Loaded.{loaded_of, module_at, origin_of, SpotHas, NoSpotHas}
+use Rattle.cfi_ledger.specs.Loads.{IsListed, IsUnlisted}
+use Rattle.cfi_ledger.specs.Roster.{Roster, loaded_of, origin_of, series_of}
+use Rattle.cfi_ledger.proofs.NumberedLemmas.{from_numbers}
+use Rattle.cfi_ledger.proofs.RosterLemmas.{listed_loaded, unlisted_absent}
 use Rattle.cfi_sim.specs.inner.Making.{HasMadeWithin, MakesBy, CanBegin, BeginsBy, IsImageWith, with_told}
 use Rattle.cfi_sim.specs.declared.standing.Standing.TheInside.{Inside}
-use Rattle.cfi_sim.specs.inner.Standing.{Whole, SeriesFits, IsUnderWay, whole_inside}
+use Rattle.cfi_sim.specs.inner.Standing.{Whole, RosterFits, IsUnderWay, whole_inside}
 use Rattle.cfi_sim.proofs.BeginLemmas.{under_after, updates_few, done_so}
 use Rattle.cfi_sim.proofs.journal.BegunLemmas.{load_may}
 use Rattle.cfi_sim.proofs.GoLemmas.{all_sound}
-use Rattle.cfi_valid.proofs.KeptLemmas.{kept_at, loaded_at, many_are, places_are}
+use Rattle.cfi_valid.proofs.KeptLemmas.{many_are, places_are}
 use Rattle.cfi_valid.specs.Joining.{IsUnloaded}
 use Rattle.cfi_valid.specs.Journal.{IsClean, LineLeads}
-use Rattle.cfi_valid.specs.Loaded.{LoadedModule, placed_modules, IsLoaded}
+use Rattle.cfi_valid.specs.Loaded.{placed_modules, IsLoaded}
 use Rattle.cfi_valid.specs.NumberedLine.{numbered_line}
 use Rattle.cfi_valid.specs.declared.limits.TheConstants.{MAX_LOADED}
 use Rattle.cfi_word.specs.declared.lists.Image.{Image}
 use Rattle.cfi_world.proofs.StoringLemmas.{idle_is}
-
--- the module at a spot is loaded
-pub spot_loaded : (spots : List Spot) (placed : List Placed) → length spots ≡ length placed → (number at : ℕ)
-    → SpotHas spots number at → (one : Placed) → slice_get placed at ≡ Some one
-    → IsLoaded (loaded_of spots placed) number
-spot_loaded spots placed same number at has one there =
-    let l : LoadedModule = module_at has.0 one in
-    (l, contains_at (loaded_of spots placed) at l (loaded_at origin_of spots placed at has.0 one has.1 there), has.2)
 
 module _ (x : Whole) (under : IsUnderWay x) (within : PassesNoLimit x.stage) (number : ℕ) where
   -- a line that is told at once
@@ -148,18 +142,17 @@ module _ (x : Whole) (under : IsUnderWay x) (within : PassesNoLimit x.stage) (nu
 -- ---- as it is kept
 
 -- the series is that of the loaded modules
-pub series_is : (a : Inside) → SeriesFits a
-    → a.series ≡ record {
+pub series_is : (a : Inside) → RosterFits a
+    → series_of a.roster ≡ record {
       code_words = a.plan.now.code_words;
-      placed = placed_modules (loaded_of a.spots.items a.series.placed);
+      placed = placed_modules (loaded_of a.roster.lines a.roster.placed);
     }
 series_is a kept =
-    let words = kept.size in
-    let placed = places_are origin_of a.spots.items a.series.placed kept.count in
-    ap (λ (n : ℕ). record { code_words = n; placed = a.series.placed }) words
+    let placed = places_are origin_of a.roster.lines a.roster.placed kept.many in
+    ap (λ (n : ℕ). record { code_words = n; placed = a.roster.placed }) kept.size
     ∙ ap (λ (ps : List Placed). record { code_words = a.plan.now.code_words; placed = ps }) (sym placed)
 
-module _ (a : Inside) (kept : SeriesFits a) (x : Whole) (is : whole_inside a ≡ x) (under : IsUnderWay x)
+module _ (a : Inside) (kept : RosterFits a) (x : Whole) (is : whole_inside a ≡ x) (under : IsUnderWay x)
     (within : PassesNoLimit x.stage) (number : ℕ) (known : number < length x.plan.modules) where
   abbrev here : Whole
   here = whole_inside a
@@ -180,52 +173,38 @@ module _ (a : Inside) (kept : SeriesFits a) (x : Whole) (is : whole_inside a ≡
   back y has = subst (λ (w : Whole). HasMadeWithin (IsLoadEvent w.plan w.modules number) w y) is has
 
   -- it is loaded
-  pub again_load : (spots : List Spot) → spots ≡ a.spots.items → (at : ℕ) → SpotHas spots number at → (y : Whole)
+  pub again_load : (at : ℕ) → IsListed a.roster number at → (y : Whole)
       → y ≡ with_told (lines.LoadAgain number a.policy) here → HasMadeWithin (IsLoadEvent x.plan x.modules number) x y
-  again_load spots same at has y y_is =
-      let own = subst (λ (ss : List Spot). SpotHas ss number at) same has in
-      let in_spots = slice_get_within a.spots.items at own.0 own.1 in
-      let one = item_at a.series.placed at (omega (arith, in_spots, kept.count)) in
+  again_load at listed y y_is =
+      let one = item_at a.roster.placed at listed.within in
       back y (told_load here under_here within_here number (lines.LoadAgain number a.policy) refl (
-        record {
-          loaded = spot_loaded a.spots.items a.series.placed kept.count number at own one.0 one.1;
-          force = refl;
-        },
+        record { loaded = listed_loaded a.roster kept.many number at listed one.0; force = refl },
         refl,
       ) y y_is)
 
-  absent_here : (spots : List Spot) → spots ≡ a.spots.items → NoSpotHas spots number
-      → IsLoaded here.stage.state.loaded number → ⊥
-  absent_here spots same none has =
-      let own = subst (λ (ss : List Spot). NoSpotHas ss number) same none in
-      let there = at_contains here.stage.state.loaded has.0 has.1 in
-      let spot = kept_at origin_of a.spots.items a.series.placed has.1.0 has.0 there in
-      own has.1.0 spot.0 spot.1 (spot.2 ∙ has.2)
-
-  pub absent_load : (spots : List Spot) → spots ≡ a.spots.items → NoSpotHas spots number
-      → IsLoaded x.stage.state.loaded number → ⊥
-  absent_load spots same none =
-      subst (λ (w : Whole). IsLoaded w.stage.state.loaded number → ⊥) is (absent_here spots same none)
+  pub absent_load : IsUnlisted a.roster number → IsLoaded x.stage.state.loaded number → ⊥
+  absent_load none =
+      subst (λ (w : Whole). IsLoaded w.stage.state.loaded number → ⊥) is
+      (unlisted_absent a.roster kept.many number none)
 
   -- no further one may be
-  pub full_load : (spots : List Spot) → spots ≡ a.spots.items → NoSpotHas spots number
-      → MAX_LOADED ≤ length a.spots.items → (y : Whole) → y ≡ with_told (lines.LoadFull number) here
-      → HasMadeWithin (IsLoadEvent x.plan x.modules number) x y
-  full_load spots same none full y y_is =
-      let many = many_are origin_of a.spots.items a.series.placed kept.count in
+  pub full_load : IsUnlisted a.roster number → MAX_LOADED ≤ length a.roster.lines → (y : Whole)
+      → y ≡ with_told (lines.LoadFull number) here → HasMadeWithin (IsLoadEvent x.plan x.modules number) x y
+  full_load none full y y_is =
+      let many = many_are origin_of a.roster.lines a.roster.placed kept.many in
       back y (told_load here under_here within_here number (lines.LoadFull number) refl (
         record {
           known = known_here;
-          absent = absent_here spots same none;
-          full = omega (arith, many, kept.count, full);
+          absent = unlisted_absent a.roster kept.many number none;
+          full = omega (arith, many, kept.many, full);
         },
         refl,
       ) y y_is)
 
-  pub room_load : length a.spots.items < MAX_LOADED → length x.stage.state.loaded < MAX_LOADED
+  pub room_load : length a.roster.lines < MAX_LOADED → length x.stage.state.loaded < MAX_LOADED
   room_load few =
-      let many = many_are origin_of a.spots.items a.series.placed kept.count in
-      subst (λ (w : Whole). length w.stage.state.loaded < MAX_LOADED) is (omega (arith, many, kept.count, few))
+      let many = many_are origin_of a.roster.lines a.roster.placed kept.many in
+      subst (λ (w : Whole). length w.stage.state.loaded < MAX_LOADED) is (omega (arith, many, kept.many, few))
 
   -- one that is not loaded
   module _ (absent : IsLoaded x.stage.state.loaded number → ⊥) (room : length x.stage.state.loaded < MAX_LOADED)
@@ -238,7 +217,7 @@ module _ (a : Inside) (kept : SeriesFits a) (x : Whole) (is : whole_inside a ≡
       room = subst (λ (w : Whole). length w.stage.state.loaded < MAX_LOADED) (sym is) room;
     }
 
-    module _ (image : Image) (with : IsImageWith a.series m image) where
+    module _ (image : Image) (with : IsImageWith (series_of a.roster) m image) where
       with_here : IsImageWith (record {
         code_words = here.plan.code_words;
         placed = placed_modules here.stage.state.loaded;
@@ -248,24 +227,25 @@ module _ (a : Inside) (kept : SeriesFits a) (x : Whole) (is : whole_inside a ≡
       pub may_load : CanBegin a.world (Some image)
       may_load = load_room here under_here within_here number unloaded image with_here
 
-      pub begun_load : (s : Series) → s ≡ a.series → (y : Whole) (happened : Bool)
-          → BeginsBy (Loading number) (lines.LoadEpochs number) (Some image) (whole_inside (record a { series = s })) y
+      pub begun_load : (r : Roster) → r ≡ a.roster → (y : Whole) (happened : Bool)
+          → BeginsBy (Loading number) (lines.LoadEpochs number) (Some image) (whole_inside (record a { roster = r })) y
           happened
           → MakesBy (IsLoadEvent x.plan x.modules number) x y happened
-      begun_load s same y happened begins =
+      begun_load r same y happened begins =
           subst (λ (w : Whole). MakesBy (IsLoadEvent w.plan w.modules number) w y happened) is
           (load_by here under_here within_here number unloaded image with_here y happened
           (subst
-          (λ (t : Series). BeginsBy (Loading number) (lines.LoadEpochs number) (Some image)
-          (whole_inside (record a { series = t })) y happened) same begins))
+          (λ (t : Roster). BeginsBy (Loading number) (lines.LoadEpochs number) (Some image)
+          (whole_inside (record a { roster = t })) y happened) same begins))
 
-    pub refused_load : (fault : JoinFault) (told : FaultNumbers)
-        → IsJoinFault a.series.code_words a.series.placed m fault → numbers_of fault ≡ Some told
-        → (s : Series) → s ≡ a.series
-        → (y : Whole) → y ≡ with_told (numbered_line number told) (whole_inside (record a { series = s }))
+    pub refused_load : (fault : JoinFault) → IsJoinFault a.roster.code_words a.roster.placed m fault
+        → (line : JournalLine) → Some line ≡ option_map (numbered_line number) (numbers_of fault) → (r : Roster)
+        → r ≡ a.roster → (y : Whole) → y ≡ with_told line (whole_inside (record a { roster = r }))
         → HasMadeWithin (IsLoadEvent x.plan x.modules number) x y
-    refused_load fault told why is_told s same y y_is =
-        back y (fault_load here under_here within_here number unloaded fault told
-        (subst (λ (t : Series). IsJoinFault t.code_words t.placed m fault) (series_is a kept) why) is_told y
+    refused_load fault why line line_is r same y y_is =
+        let told = from_numbers number (numbers_of fault) line (sym line_is) in
+        back y (fault_load here under_here within_here number unloaded fault told.0
+        (subst (λ (t : Series). IsJoinFault t.code_words t.placed m fault) (series_is a kept) why) told.1 y
         (y_is
-        ∙ ap (λ (t : Series). with_told (numbered_line number told) (whole_inside (record a { series = t }))) same))
+        ∙ ap (λ (t : Roster). with_told line (whole_inside (record a { roster = t }))) same
+        ∙ ap (λ (l : JournalLine). with_told l here) told.2))

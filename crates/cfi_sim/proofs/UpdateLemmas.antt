@@ -1,34 +1,35 @@
 -- Accesses of the updater, as a simulation under way makes them.
-use Rattle.std.proofs.Common.{◌≡◌, ℕ, ◌+◌, ◌<◌, ◌++◌, false, List, [], ◌∷◌, get_or, Some, None, sym, ◌∙◌, ap, subst, arith}
-use Rattle.std.proofs.lemmas.Option.{slice_get-get_or, slice_get_within}
+use Rattle.std.proofs.Common.{◌≡◌, ℕ, ◌+◌, ◌<◌, ◌++◌, false, List, [], ◌∷◌, length, get_or, Option, Some, None, refl, sym, ◌∙◌, ap, subst, arith}
+use Rattle.std.specs.Option.{option_map_or}
+use Rattle.std.proofs.lemmas.Option.{slice_get-get_or, slice_get_read, slice_get_within}
 use Rattle.cfi_aux.specs.declared.modules.Module.{Module}
 use Rattle.cfi_model.specs.declared.phase.Phase.{Phase}
 use Rattle.cfi_model.specs.declared.phase.Phase.TheVariants as phases
 use Rattle.cfi_model.specs.Phases.{phase_of}
 use Rattle.cfi_model.specs.World.{World}
 use Rattle.cfi_plan.specs.declared.journal.JournalLine.TheVariants as lines
+use Rattle.cfi_plan.specs.declared.plan.PlanModule.{PlanModule}
 use Rattle.cfi_series.proofs.OrderLemmas.{joins_or_refused}
 use Rattle.cfi_series.specs.declared.fault.JoinFault.{JoinFault}
 use Rattle.cfi_series.specs.declared.fault.JoinFault.TheVariants.{Memory}
 use Rattle.cfi_series.specs.Order.{Joins, IsJoinFault}
-use Rattle.cfi_series.specs.Series.{Series, HasJoined}
+use Rattle.cfi_series.specs.Series.{Series}
 use Rattle.cfi_sim.specs.declared.aim.Aim.TheVariants.{Loading}
 use Rattle.cfi_sim.specs.declared.limits.TheConstants.{MAX_EVENTS}
-use Rattle.cfi_sim.specs.declared.spot.Spot.{Spot}
 use Rattle.cfi_sim.specs.declared.standing.Standing.TheInside.{Inside}
 use Rattle.cfi_sim.specs.Events.{IsNoted, IsUpdateEvent}
 use Rattle.cfi_sim.specs.Reach.{OfUpdate}
 use Rattle.cfi_sim.specs.Stage.{Stage, IsMade, after_event, loaded_as}
 use Rattle.cfi_sim.specs.Stands.{LoadFits}
-use Rattle.cfi_sim.specs.inner.Loaded.{loaded_of, origin_of}
+use Rattle.cfi_ledger.specs.Roster.{Roster, HasJoined, loaded_of}
+use Rattle.cfi_ledger.proofs.JoinedLemmas.{joined_lines, joined_loaded, joined_many}
 use Rattle.cfi_sim.specs.inner.Making.{FitsAim, HasCome, HasMadeWithin, NotesBy, with_dropped, with_told}
-use Rattle.cfi_sim.specs.inner.Standing.{Whole, SeriesFits, IsUnderWay, whole_inside}
+use Rattle.cfi_sim.specs.inner.Standing.{Whole, RosterFits, IsUnderWay, whole_inside}
 use Rattle.cfi_sim.proofs.BeginLemmas.{under_after, updates_few, done_so}
 use Rattle.cfi_sim.proofs.journal.NotedLemmas.{not_spent, busy, update_counts}
 use Rattle.cfi_sim.proofs.LoadLemmas.{series_is}
-use Rattle.cfi_valid.proofs.KeptLemmas.{loaded_more}
 use Rattle.cfi_valid.specs.Journal.{JournalState, IsClean}
-use Rattle.cfi_valid.specs.Loaded.{LoadedModule, placed_modules}
+use Rattle.cfi_valid.specs.Loaded.{LoadedModule, placed_modules, planned_name}
 use Rattle.cfi_world.specs.declared.event.Event.TheVariants as events
 use Rattle.cfi_world.specs.declared.event.Turned.{Turned}
 use Rattle.cfi_world.specs.declared.event.Turned.TheVariants.{VersionsSpent}
@@ -37,7 +38,7 @@ use Rattle.cfi_world.specs.Updates.{is_idle}
 
 -- ---- a module enters
 
-module _ (a : Inside) (kept : SeriesFits a) (x : Whole) (is : whole_inside a ≡ x) (number : ℕ)
+module _ (a : Inside) (kept : RosterFits a) (x : Whole) (is : whole_inside a ≡ x) (number : ℕ)
     (fits : LoadFits x.plan x.modules x.stage.state number) (m : Module) (m_is : m ≡ get_or a.modules.now number m)
   where
     abbrev here : Whole
@@ -54,8 +55,20 @@ module _ (a : Inside) (kept : SeriesFits a) (x : Whole) (is : whole_inside a ≡
         let both : Some m ≡ Some one = ap (λ (k : Module). Some k) m_is ∙ sym found ∙ there in
         cc
 
+    -- the plan has its name
+    pub its_name : length x.modules ≡ length x.plan.modules → (one : PlanModule)
+        → one ≡ get_or a.plan.now.modules number one → (name : List ℕ) → name ≡ one.name
+        → name ≡ planned_name a.plan.now.modules number
+    its_name named one one_is name name_is =
+        let within = slice_get_within a.modules.now number clean_here.absent.unplaced clean_here.absent.is in
+        let named_here : length a.modules.now ≡ length a.plan.now.modules =
+        subst (λ (w : Whole). length w.modules ≡ length w.plan.modules) (sym is) named in
+        let there = slice_get_read a.plan.now.modules (length a.plan.now.modules) number one refl
+        (omega (arith, within, named_here)) one_is in
+        name_is ∙ sym (ap (λ (o : Option PlanModule). option_map_or (λ (p : PlanModule). p.name) o []) there)
+
     -- no fault stands against it
-    pub not_refused : (fault : JoinFault) → IsJoinFault a.series.code_words a.series.placed m fault → fault ≡ Memory
+    pub not_refused : (fault : JoinFault) → IsJoinFault a.roster.code_words a.roster.placed m fault → fault ≡ Memory
     not_refused fault why =
         joins_or_refused here.plan.code_words (placed_modules here.stage.state.loaded) clean_here.absent.unplaced
         clean_here.placed fault clean_here.joins
@@ -64,27 +77,30 @@ module _ (a : Inside) (kept : SeriesFits a) (x : Whole) (is : whole_inside a ≡
         (subst (λ (s : Series). IsJoinFault s.code_words s.placed m fault) (series_is a kept) why))
 
     -- it is loaded
-    module _ (aim : x.stage.aim ≡ Some (Loading number)) (s : Series) (joined : HasJoined a.series s m)
-        (spots : List Spot)
-        (spots_are : spots ≡ a.spots.items ++ record { number = number; policy = a.policy + 1 } ∷ []) where
-      abbrev spot : Spot
-      spot = record { number = number; policy = a.policy + 1 }
-
+    module _ (aim : x.stage.aim ≡ Some (Loading number)) (name : List ℕ) (r : Roster)
+        (joined : HasJoined number name (a.policy + 1) m a.roster r) where
       abbrev clean_now : IsClean here.plan here.modules here.stage.state number
       clean_now = record {
         absent = clean_here.absent;
-        placed = joined.0;
-        joins = subst (λ (k : Module). Joins here.plan.code_words (placed_modules here.stage.state.loaded) k joined.0)
+        placed = joined.one;
+        joins = subst (λ (k : Module). Joins here.plan.code_words (placed_modules here.stage.state.loaded) k joined.one)
             same_module
-            (subst (λ (t : Series). Joins t.code_words t.placed m joined.0) (series_is a kept) joined.1);
+            (subst (λ (t : Series). Joins t.code_words t.placed m joined.one) (series_is a kept) joined.joins);
       }
 
-      loaded_now : loaded_of spots s.placed
-          ≡ here.stage.state.loaded ++ record { number = number; placed = joined.0; policy = a.policy + 1 } ∷ []
-      loaded_now =
-          ap (λ (ss : List Spot). loaded_of ss s.placed) spots_are
-          ∙ ap (λ (t : Series). loaded_of (a.spots.items ++ spot ∷ []) t.placed) joined.2
-          ∙ loaded_more origin_of a.spots.items a.series.placed spot joined.0 kept.count
+      loaded_now : loaded_of r.lines r.placed
+          ≡ here.stage.state.loaded ++ record { number = number; placed = joined.one; policy = a.policy + 1 } ∷ []
+      loaded_now = joined_loaded number name (a.policy + 1) m a.roster r joined kept.many
+
+      -- the roster fits still
+      pub entered_fits : name ≡ planned_name a.plan.now.modules number → RosterFits (record a { roster = r })
+      entered_fits name_is = record {
+        layout = kept.layout;
+        many = joined_many number name (a.policy + 1) m a.roster r joined kept.many;
+        size = ap (λ (t : Roster). t.code_words) joined.is ∙ kept.size;
+        lines = joined_lines number name (a.policy + 1) m a.roster r joined kept.many a.plan.now.modules kept.lines
+            name_is;
+      }
 
       abbrev state_of : List LoadedModule → JournalState
       state_of loaded = record { epoch = a.epoch + 1; policy = a.policy + 1; loaded = loaded }
@@ -94,9 +110,9 @@ module _ (a : Inside) (kept : SeriesFits a) (x : Whole) (is : whole_inside a ≡
           with_told (lines.LoadOk number (a.epoch + 1) (a.policy + 1))
           (record here { stage = record here.stage { state = state_of loaded; aim = None } })
 
-      pub has_entered : (y : Whole) → y ≡ entered (loaded_of spots s.placed) → HasCome x y
+      pub has_entered : (y : Whole) → y ≡ entered (loaded_of r.lines r.placed) → HasCome x y
       has_entered y y_is =
-          let stage_is : y.stage ≡ loaded_as number joined.0 here.stage =
+          let stage_is : y.stage ≡ loaded_as number joined.one here.stage =
           ap (λ (w : Whole). w.stage) y_is ∙ ap (λ (ls : List LoadedModule). (entered ls).stage) loaded_now in
           let aim_here : here.stage.aim ≡ Some (Loading number) =
           subst (λ (w : Whole). w.stage.aim ≡ Some (Loading number)) (sym is) aim in
@@ -117,6 +133,7 @@ fits_aim x under w events = record {
   fits = under.going.holds.stands.aim;
   few = under.going.holds.agrees.tables.few;
   taken = under.taken;
+  named = under.named;
 }
 
 -- ---- it is made

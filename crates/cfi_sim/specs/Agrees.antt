@@ -14,7 +14,7 @@ use Rattle.cfi_model.specs.Words.{Tables, entry_at, newest}
 use Rattle.cfi_model.specs.World.{World, quiet_of, point_of}
 use Rattle.cfi_plan.specs.declared.plan.Plan.{Plan}
 use Rattle.cfi_policy.specs.Image.{IsImage}
-use Rattle.cfi_series.specs.Loaded.{AreLoaded, IsLoadedImage}
+use Rattle.cfi_ledger.specs.Policies.{IsPolicyOf}
 use Rattle.cfi_series.specs.Series.{IsSeries}
 use Rattle.cfi_sim.specs.declared.limits.TheConstants.{MAX_UPDATES}
 use Rattle.cfi_sim.specs.Reach.{WorldTells}
@@ -22,17 +22,10 @@ use Rattle.cfi_sim.specs.declared.aim.Aim.{Aim}
 use Rattle.cfi_sim.specs.declared.aim.Aim.TheVariants.{Loading, Refreshing}
 use Rattle.cfi_sim.specs.Stage.{Stage}
 use Rattle.cfi_valid.specs.Journal.{JournalState, IsClean}
-use Rattle.cfi_valid.specs.Loaded.{LoadedModule, placed_modules, loaded_by, live_at}
+use Rattle.cfi_valid.specs.Loaded.{LoadedModule, placed_modules}
 use Rattle.cfi_world.specs.Worlds.{IsWorld}
 
 -- ---- the tables
-
--- a policy and an image that are or were in force: the image has the code of the modules that the policy finds loaded,
--- and the labels of those that are live under it
-pub record IsPolicyOf (code_words : ℕ) (loaded : List LoadedModule) (e : Entry) : Type 0 where
-  pub modules : AreLoaded code_words (placed_modules (loaded_by e.policy loaded))
-  pub image : IsLoadedImage code_words (placed_modules (loaded_by e.policy loaded))
-      (placed_modules (live_at e.policy loaded)) e.image
 
 -- the entry of a load: the next policy, and an image of all modules with the one that comes
 pub record IsLoadEntry (plan : Plan) (modules : List Module) (state : JournalState) (number : ℕ) (e : Entry)

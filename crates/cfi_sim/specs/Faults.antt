@@ -3,22 +3,13 @@
 use Rattle.std.specs.Prelude.{◌≡◌, ℕ, List, ◌∷◌, ◌++◌, ⊤}
 use Rattle.cfi_aux.specs.declared.modules.Module.{Module}
 use Rattle.cfi_plan.specs.declared.plan.Plan.{Plan}
-use Rattle.cfi_series.specs.declared.fault.JoinFault.TheVariants as joins
-use Rattle.cfi_sim.specs.declared.fault.OpenFault.{OpenFault}
-use Rattle.cfi_sim.specs.declared.fault.OpenFault.TheVariants.{Place, Verify, NoEntry}
+use Rattle.cfi_ledger.specs.Opening.{IsOpenFault}
 use Rattle.cfi_sim.specs.declared.fault.SimFault.{SimFault}
 use Rattle.cfi_sim.specs.declared.fault.SimFault.TheVariants.{Open, BadEvent, Memory}
 use Rattle.cfi_sim.specs.Schedule.{LineMakes, LinesMake}
 use Rattle.cfi_sim.specs.Stage.{Stage}
 use Rattle.cfi_sim.specs.Valid.{IsStart}
 use Rattle.cfi_text.specs.Lines.{numbered_lines}
-use Rattle.cfi_valid.specs.Opening.{IsFirstUnjoined, IsFirstLost}
-
--- a start module does not join those before it, or all do, and a guest has nowhere to begin
-abbrev pub IsOpenFault : Plan → List Module → OpenFault → Type 0
-IsOpenFault plan modules (Place number fault) = IsFirstUnjoined plan modules number (joins.Place fault)
-IsOpenFault plan modules (Verify number fault) = IsFirstUnjoined plan modules number (joins.Verify fault)
-IsOpenFault plan modules (NoEntry guest) = IsFirstLost plan modules guest
 
 -- the lines before the one of this number lead from a stage to another, and it leads on from there to none
 pub record IsBadLine (plan : Plan) (modules : List Module) (schedule : List ℕ) (start : Stage) (number : ℕ)

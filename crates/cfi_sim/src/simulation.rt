@@ -21,12 +21,7 @@ use cfi_values::Items;
 use std::alloc::Global;
 
 // Makes what a line says, or tells that it is a bad one.
-fn follow_line(
-    alloc: Global,
-    standing: &mut Standing<'_>,
-    number: u32,
-    text: &[u8],
-) -> Result<(), SimFault>
+fn follow_line(standing: &mut Standing<'_>, number: u32, text: &[u8]) -> Result<(), SimFault>
     requires under_way { IsUnderWay standing.old }
     requires within { PassesNoLimit standing.old.stage }
     ensures ok { OnOk result
@@ -37,7 +32,7 @@ fn follow_line(
     let Some(line) = standing.read(text) else {
         return Err(SimFault::BadEvent(number));
     };
-    let made = standing.make_line(alloc, line)?;
+    let made = standing.make_line(line)?;
     if !made {
         return Err(SimFault::BadEvent(number));
     }
@@ -45,7 +40,7 @@ fn follow_line(
 }
 
 // Makes the lines of a schedule, one after the other, as far as they lead.
-fn follow(alloc: Global, standing: &mut Standing<'_>, schedule: &[u8]) -> Result<(), SimFault>
+fn follow(standing: &mut Standing<'_>, schedule: &[u8]) -> Result<(), SimFault>
     requires under_way { IsUnderWay standing.old }
     requires within { PassesNoLimit standing.old.stage }
     requires short { length schedule.now < 2 ^ 32 }
@@ -53,7 +48,7 @@ fn follow(alloc: Global, standing: &mut Standing<'_>, schedule: &[u8]) -> Result
     ensures fault { IfErr result (IsScheduleFault standing.old schedule.now) }
 {
     for (number, text) in Lines::new(schedule) {
-        match follow_line(alloc, standing, number, text) {
+        match follow_line(standing, number, text) {
             Ok(()) => {}
             Err(fault) => return Err(fault),
         }
@@ -83,7 +78,7 @@ pub fn simulate(
         Ok(standing) => standing,
         Err(fault) => return Err(fault),
     };
-    match follow(alloc, &mut standing, schedule) {
+    match follow(&mut standing, schedule) {
         Ok(()) => {}
         Err(fault) => return Err(fault),
     }

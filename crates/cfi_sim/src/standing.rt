@@ -1,13 +1,15 @@
 //! A simulation under way.
 
-ghost use Rattle.std.specs.Prelude.{◌≡◌, length};
+ghost use Rattle.std.specs.Prelude.{◌≡◌, length, map};
+ghost use Rattle.cfi_ledger.specs.Roster.{loaded_of};
 ghost use Rattle.cfi_sim.specs.inner.Standing.{whole_at};
+ghost use Rattle.cfi_valid.specs.Loaded.{module_line_of};
 
 use crate::aim::Aim;
-use crate::spot::Spot;
 use cfi_aux::Module;
+use cfi_ledger::Roster;
 use cfi_plan::{Entry, Plan};
-use cfi_series::Series;
+use cfi_word::Layout;
 use cfi_world::World;
 use std::alloc::Global;
 use std::marker::Model;
@@ -25,53 +27,56 @@ mod updates;
 pub struct Standing<'a> {
     plan: &'a Plan,
     modules: &'a [Module],
+    layout: Layout,
     world: World,
-    series: Series,
-    spots: Vec<Spot>,
+    roster: Roster,
     journal: Vec<Entry>,
     epoch: u32,
     policy: u32,
     aim: Option<Aim>,
     events: u32,
+    alloc: Global,
 }
 
 impl<'a> Model for Standing<'a> {
-    ghost use Rattle.cfi_sim.specs.inner.Standing.{Whole, whole_inside, SeriesFits};
+    ghost use Rattle.cfi_sim.specs.inner.Standing.{Whole, whole_inside, RosterFits};
 
     ghost Value = { Whole };
 
     ghost view = { whole_inside };
 
-    ghost invariant = { SeriesFits };
+    ghost invariant = { RosterFits };
 }
 
 impl<'a> Standing<'a> {
     /// A simulation whose schedule has made nothing yet. It takes no memory.
-    ///
-    /// A spot is that of the module at its place.
     pub(crate) fn new(
         alloc: Global,
         plan: &'a Plan,
         modules: &'a [Module],
+        layout: Layout,
         world: World,
-        series: Series,
-        spots: Vec<Spot>,
+        roster: Roster,
     ) -> Standing<'a>
-        requires count { length spots.items ≡ length series.placed }
-        requires size { series.code_words ≡ plan.now.code_words }
-        ensures { result ≡ whole_at plan.now modules.now world series.placed spots.items }
+        requires layout { layout ≡ plan.now.code_words }
+        requires many { length roster.lines ≡ length roster.placed }
+        requires size { roster.code_words ≡ plan.now.code_words }
+        requires lines { roster.lines ≡
+            map (module_line_of plan.now.modules) (loaded_of roster.lines roster.placed) }
+        ensures { result ≡ whole_at plan.now modules.now world roster }
     {
         Standing {
             plan,
             modules,
+            layout,
             world,
-            series,
-            spots,
+            roster,
             journal: Vec::new(alloc),
             epoch: plan.first,
             policy: 0,
             aim: None,
             events: 0,
+            alloc,
         }
     }
 }

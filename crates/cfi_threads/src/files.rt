@@ -3,7 +3,7 @@
 ghost use Rattle.std.specs.Prelude.{◌≡◌, true, All, IfSome};
 ghost use Rattle.cfi_aux.specs.Sound.{IsSoundModule};
 ghost use Rattle.cfi_engine.specs.Guests.{HasCode};
-ghost use Rattle.cfi_loader.specs.Plans.{CanStart};
+ghost use Rattle.cfi_ledger.specs.Plans.{CanStart};
 ghost use Rattle.cfi_plan.specs.Plan.{IsPlan};
 ghost use Rattle.cfi_series.specs.Series.{CanBeTaken};
 

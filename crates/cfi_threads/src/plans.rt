@@ -2,7 +2,7 @@
 
 ghost use Rattle.std.specs.Prelude.{◌≡◌, None};
 ghost use Rattle.cfi_engine.specs.Guests.{HasCode};
-ghost use Rattle.cfi_loader.specs.Plans.{CanStart};
+ghost use Rattle.cfi_ledger.specs.Plans.{CanStart};
 ghost use Rattle.cfi_loader.specs.Starting.{IsStarted};
 
 use crate::files::planned;

@@ -12,8 +12,8 @@ use Rattle.cfi_commands.specs.Modules.{AreModuleFiles, IsModulesFault}
 use Rattle.cfi_commands.specs.Reading.{IsFileFault}
 use Rattle.cfi_commands.proofs.FileLemmas.{some_stands, some_within}
 use Rattle.cfi_outside.specs.Plans.{files_of}
-use Rattle.cfi_sim.specs.declared.fault.OpenFault.{OpenFault}
-use Rattle.cfi_sim.specs.declared.fault.OpenFault.TheVariants as opens
+use Rattle.cfi_ledger.specs.declared.fault.OpenFault.{OpenFault}
+use Rattle.cfi_ledger.specs.declared.fault.OpenFault.TheVariants as opens
 use Rattle.cfi_top.specs.declared.answer.Answer.{Answer}
 use Rattle.cfi_top.specs.declared.answer.Answer.TheVariants as answers
 use Rattle.cfi_top.specs.Opening.{RefusesModules, RefusesOpening}

@@ -16,35 +16,30 @@ use Rattle.cfi_plan.specs.Reading.{plan_in}
 use Rattle.cfi_commands.specs.declared.refusal.Refusal.{Refusal}
 use Rattle.cfi_commands.specs.declared.refusal.Refusal.TheVariants as refusals
 use Rattle.cfi_drive.specs.Concluded.{Conclusion, HasReadableNames, IsConcluded}
-use Rattle.cfi_loader.specs.Starting.{IsOpenFault}
+use Rattle.cfi_ledger.specs.Opening.{IsOpenFault}
 use Rattle.cfi_outside.specs.declared.command.Command.TheVariants as commands
 use Rattle.cfi_outside.specs.Plans.{begins_as_plan, files_of}
 use Rattle.cfi_report.specs.Report.{IsReport, report_text}
 use Rattle.cfi_text.specs.Names.{is_name}
-use Rattle.cfi_sim.specs.declared.fault.OpenFault.{OpenFault}
-use Rattle.cfi_sim.specs.declared.fault.OpenFault.TheVariants as opens
+use Rattle.cfi_ledger.specs.declared.fault.OpenFault.{OpenFault}
+use Rattle.cfi_ledger.specs.declared.fault.OpenFault.TheVariants as opens
 use Rattle.cfi_top.specs.declared.answer.Answer.{Answer}
 use Rattle.cfi_top.specs.declared.answer.Answer.TheVariants as answers
 use Rattle.cfi_top.specs.inner.Running.{IsPlanRun, IsBareRun}
 use Rattle.cfi_top.specs.Outcome.{IsWorked}
 use Rattle.cfi_top.specs.Refused.{IsOpenAmong, bare_refused, plan_refused}
-use Rattle.cfi_top.specs.Running.{in_loader, RefusesStart, RefusesRunOf, RefusesPlanFile}
+use Rattle.cfi_top.specs.Running.{RefusesStart, RefusesRunOf, RefusesPlanFile}
 use Rattle.cfi_top.proofs.OpeningLemmas.{IsRefused, never_plan}
 use Rattle.cfi_top.proofs.PlansLemmas.{plan_fault}
 
 -- the fault of opening is of one of the plan's modules
 pub open_among : (plan : Plan) (modules : List Module) (lines : List PlanModule) (fault : OpenFault)
-    → lines ≡ plan.modules → IsOpenFault plan modules (in_loader fault) → IsOpenAmong (length lines) fault
+    → lines ≡ plan.modules → IsOpenFault plan modules fault → IsOpenAmong (length lines) fault
 open_among plan modules lines (opens.Place number fault) same first =
     slice_get_within lines number first.line (ap (λ (ls : List PlanModule). slice_get ls number) same ∙ first.line_is)
 open_among plan modules lines (opens.Verify number fault) same first =
     slice_get_within lines number first.line (ap (λ (ls : List PlanModule). slice_get ls number) same ∙ first.line_is)
 open_among plan modules lines (opens.NoEntry guest) same first = tt
-
--- the fault that the loader tells, in the other words
-pub in_words : (plan : Plan) (modules : List Module) (fault : OpenFault) (told : _) → in_loader fault ≡ told
-    → IsOpenFault plan modules told → IsOpenFault plan modules (in_loader fault)
-in_words plan modules fault told same first = subst (IsOpenFault plan modules) (sym same) first
 
 -- ---- names
 
@@ -149,7 +144,7 @@ one_module input (suc number) line is = absurd (cc)
 
 module _ (input bytes : List ℕ) (made : Module) (is : IsBareFile bytes made) where
   -- its module is refused
-  pub bare_refuses : (fault : OpenFault) → IsOpenFault bare_plan (made ∷ []) (in_loader fault)
+  pub bare_refuses : (fault : OpenFault) → IsOpenFault bare_plan (made ∷ []) fault
       → IsBareRun input bytes (bare_refused input fault)
   bare_refuses (opens.Place number fault) first =
       (made, is, record { number = number; named = one_module input number first.line first.line_is; stands = first })

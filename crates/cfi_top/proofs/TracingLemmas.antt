@@ -17,7 +17,7 @@ use Rattle.cfi_outside.specs.Outside.{IsLater, IsStarved, IsDelivered, KeepsLast
 use Rattle.cfi_outside.specs.Plans.{files_of, named_files_and}
 use Rattle.cfi_outside.specs.Reading.{AreRead}
 use Rattle.cfi_outside.proofs.OutsideLemmas.{delivered_since}
-use Rattle.cfi_sim.specs.declared.fault.OpenFault.{OpenFault}
+use Rattle.cfi_ledger.specs.declared.fault.OpenFault.{OpenFault}
 use Rattle.cfi_sim.specs.declared.fault.SimFault.{SimFault}
 use Rattle.cfi_sim.specs.declared.fault.SimFault.TheVariants.{Open, BadEvent, Memory}
 use Rattle.cfi_sim.specs.Faults.{IsSimFault}

@@ -7,8 +7,8 @@ use Rattle.cfi_plan.specs.Reading.{plan_in}
 use Rattle.cfi_commands.specs.declared.refusal.Refusal.{Refusal}
 use Rattle.cfi_commands.specs.declared.refusal.Refusal.TheVariants.{Place, Verify, Entry}
 use Rattle.cfi_commands.specs.Modules.{AreModuleFiles, IsFirstBadFile}
-use Rattle.cfi_sim.specs.declared.fault.OpenFault.{OpenFault}
-use Rattle.cfi_sim.specs.declared.fault.OpenFault.TheVariants as opens
+use Rattle.cfi_ledger.specs.declared.fault.OpenFault.{OpenFault}
+use Rattle.cfi_ledger.specs.declared.fault.OpenFault.TheVariants as opens
 
 -- the bytes are no plan, for this fault, and the file is the plan's
 pub record IsNoPlan (plan bytes : List ℕ) (name : List ℕ) (fault : PlanFault) : Type 0 where

@@ -5,8 +5,8 @@ use Rattle.cfi_plan.specs.declared.plan.PlanModule.{PlanModule}
 use Rattle.cfi_commands.specs.declared.fault.CommandFault.{CommandFault}
 use Rattle.cfi_commands.specs.declared.fault.CommandFault.TheVariants.{File, Together, Memory}
 use Rattle.cfi_commands.specs.declared.refusal.Refusal.TheVariants as refusals
-use Rattle.cfi_sim.specs.declared.fault.OpenFault.{OpenFault}
-use Rattle.cfi_sim.specs.declared.fault.OpenFault.TheVariants as opens
+use Rattle.cfi_ledger.specs.declared.fault.OpenFault.{OpenFault}
+use Rattle.cfi_ledger.specs.declared.fault.OpenFault.TheVariants as opens
 use Rattle.cfi_top.specs.declared.answer.Answer.{Answer}
 use Rattle.cfi_top.specs.declared.answer.Answer.TheVariants.{Refused}
 

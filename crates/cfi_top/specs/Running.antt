@@ -10,15 +10,11 @@ use Rattle.cfi_commands.specs.declared.refusal.Refusal.{Refusal}
 use Rattle.cfi_commands.specs.declared.refusal.Refusal.TheVariants.{Bare, Plan}
 use Rattle.cfi_commands.specs.Modules.{AreModuleFiles}
 use Rattle.cfi_drive.specs.Concluded.{Conclusion, IsConcluded}
-use Rattle.cfi_loader.specs.declared.fault.OpenFault.{OpenFault as LoaderFault}
-use Rattle.cfi_loader.specs.declared.fault.OpenFault.TheVariants as loaders
-use Rattle.cfi_loader.specs.Starting.{IsOpenFault}
+use Rattle.cfi_ledger.specs.Opening.{IsOpenFault}
 use Rattle.cfi_outside.specs.declared.command.Command.{Command}
 use Rattle.cfi_outside.specs.declared.command.Command.TheVariants as commands
 use Rattle.cfi_outside.specs.Plans.{begins_as_plan, files_of}
 use Rattle.cfi_report.specs.Report.{IsReport}
-use Rattle.cfi_sim.specs.declared.fault.OpenFault.{OpenFault}
-use Rattle.cfi_sim.specs.declared.fault.OpenFault.TheVariants as opens
 use Rattle.cfi_top.specs.Opening.{IsNoPlan, RefusesModules, RefusesOpening}
 
 -- the commands that run guests
@@ -55,17 +51,11 @@ pub record IsRunOfFile (bytes : List ℕ) (files : List (List ℕ)) (run : Concl
 
 -- ---- why there is none
 
--- the loader's name of a fault
-abbrev pub in_loader : OpenFault → LoaderFault
-in_loader (opens.Place number fault) = loaders.Place number fault
-in_loader (opens.Verify number fault) = loaders.Verify number fault
-in_loader (opens.NoEntry guest) = loaders.NoEntry guest
-
 -- the plan, whose modules' files have these names, cannot be opened with these modules
 abbrev pub RefusesStart : (input : List ℕ) → (names : List (List ℕ)) → ModulePlan → List Module → (name : List ℕ)
     → Refusal → Type 0
 RefusesStart input names plan modules name refusal =
-    RefusesOpening (λ fault. IsOpenFault plan modules (in_loader fault)) input names name refusal
+    RefusesOpening (IsOpenFault plan modules) input names name refusal
 
 -- the same, or one of the files is no module
 abbrev pub RefusesRunOf : (input : List ℕ) → ModulePlan → (files : List (List ℕ)) → (name : List ℕ) → Refusal → Type 0

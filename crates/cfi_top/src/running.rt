@@ -1,8 +1,7 @@
 //! Running a plan, or a bare file.
 
-ghost use Rattle.std.specs.Prelude.{◌≡◌, ◌≢◌, ◌≤◌, ◌∷◌, [], true, false, length, All, IfOk};
+ghost use Rattle.std.specs.Prelude.{◌≡◌, ◌≤◌, ◌∷◌, [], true, false, length, All, IfOk};
 ghost use Rattle.cfi_drive.specs.Concluded.{IsConcluded};
-ghost use Rattle.cfi_loader.specs.declared.fault.OpenFault.TheVariants.{Memory};
 ghost use Rattle.cfi_commands.specs.Modules.{IsShortFile};
 ghost use Rattle.cfi_outside.specs.declared.command.Command.TheVariants as commands;
 ghost use Rattle.cfi_outside.specs.Plans.{begins_as_plan, named_files, run_files};
@@ -11,7 +10,6 @@ ghost use Rattle.cfi_plan.specs.Plan.{IsPlan};
 ghost use Rattle.cfi_report.specs.Report.{report_text};
 ghost use Rattle.cfi_top.specs.declared.answer.Answer.TheVariants as answers;
 ghost use Rattle.cfi_top.specs.Outcome.{IsWorked};
-ghost use Rattle.cfi_top.specs.Running.{in_loader};
 ghost use Rattle.cfi_top.specs.inner.Running.{IsPlanRun, IsBareRun};
 ghost use Rattle.cfi_word.specs.declared.limits.TheConstants.{MAX_FILE_BYTES};
 
@@ -21,11 +19,9 @@ use cfi_bare::{BareFault, read_bare};
 use cfi_commands::{Refusal, read_modules};
 use cfi_engine::{Concluded, RunFault, run_plan};
 use cfi_io::Gate;
-use cfi_loader::OpenFault as LoaderFault;
 use cfi_outside::begins_as_plan;
 use cfi_plan::{Plan, bare_plan, read_plan};
 use cfi_report::write_report;
-use cfi_sim::OpenFault;
 use cfi_values::{Bytes, Items, Text};
 use std::alloc::{AllocError, Global};
 use std::sync::Wait;
@@ -38,19 +34,6 @@ fn ran(alloc: Global, run: Concluded) -> Result<Answer, AllocError>
 {
     let text = write_report(alloc, run.report())?;
     Ok(Answer::Ran(run, Bytes::from_vec(text)))
-}
-
-// The fault of opening that is no want of memory.
-fn fault_of(fault: LoaderFault) -> OpenFault
-    requires { fault ≢ Memory }
-    ensures { in_loader result ≡ fault }
-{
-    match fault {
-        LoaderFault::Place(number, fault) => OpenFault::Place(number, fault),
-        LoaderFault::Verify(number, fault) => OpenFault::Verify(number, fault),
-        LoaderFault::NoEntry(guest) => OpenFault::NoEntry(guest),
-        LoaderFault::Memory => unreachable!(),
-    }
 }
 
 /// Runs a plan that is read, with the modules of these files.
@@ -74,7 +57,7 @@ pub fn run_found<G: Gate, R: Threads + Wait + Sync>(
     match run_plan(rt, alloc, found, modules, gate) {
         Ok(run) => ran(alloc, run),
         Err(RunFault::Open(fault)) => {
-            opening_refused(alloc, input, found.modules.as_slice(), fault_of(fault))
+            opening_refused(alloc, input, found.modules.as_slice(), fault)
         }
         Err(RunFault::Memory) => Err(AllocError),
     }
@@ -123,7 +106,7 @@ fn run_bare<G: Gate, R: Threads + Wait + Sync>(
     modules.push(made)?;
     match run_plan(rt, alloc, &plan, Items::from_vec(modules), gate) {
         Ok(run) => ran(alloc, run),
-        Err(RunFault::Open(fault)) => Ok(bare_refused(input, fault_of(fault))),
+        Err(RunFault::Open(fault)) => Ok(bare_refused(input, fault)),
         Err(RunFault::Memory) => Err(AllocError),
     }
 }

@@ -1,31 +1,18 @@
 -- What a loader has beside the keeper of the tables, and how both agree.
-use Rattle.std.specs.Prelude.{◌≡◌, List, length, map}
+use Rattle.std.specs.Prelude.{◌≡◌, List}
 use Rattle.cfi_aux.specs.declared.modules.Module.{Module}
 use Rattle.cfi_plan.specs.Draft.{starts}
 use Rattle.cfi_plan.specs.declared.journal.Entry.{Entry}
 use Rattle.cfi_plan.specs.declared.plan.Plan.{Plan}
 use Rattle.cfi_tables.specs.Keeping.{Keeping, last_of}
 use Rattle.cfi_tables.specs.Key.{Key}
-use Rattle.cfi_valid.specs.Course.{Course}
-use Rattle.cfi_valid.specs.Journal.{JournalState}
-use Rattle.cfi_valid.specs.Loaded.{LoadedModule, module_line_of}
-use Rattle.cfi_loader.specs.declared.books.Books.{Books}
+use Rattle.cfi_ledger.specs.declared.books.Books.{Books}
 use Rattle.cfi_loader.specs.Ledger.{Ledger, IsLedger}
 use Rattle.cfi_loader.specs.Told.{HasTold}
-use Rattle.cfi_loader.specs.inner.Findings.{AreFindings}
-use Rattle.cfi_loader.specs.inner.Roster.{loaded_of}
+use Rattle.cfi_ledger.specs.Findings.{AreFindings}
+use Rattle.cfi_ledger.specs.Books.{course_in, IsRosterOf}
 
--- the loaded modules
-abbrev pub loaded_in : Books → List LoadedModule
-loaded_in b = loaded_of b.roster.lines b.roster.placed
-
--- the state to which the journal leads, and the course
-abbrev pub end_of_books : Books → JournalState
-end_of_books b = record { epoch = b.epoch; policy = b.policy; loaded = loaded_in b }
-
-abbrev pub course_in : Books → Course
-course_in b = record { plan = b.plan; modules = b.modules; journal = b.journal.lines; end = end_of_books b }
-
+-- what a loader keeps, as clauses see it
 abbrev pub ledger_of : Books → Keeping → Ledger
 ledger_of b keeping = record {
   course = course_in b;
@@ -33,12 +20,6 @@ ledger_of b keeping = record {
   left = b.journal.left;
   starved = b.starved;
 }
-
--- the roster has the lines of the loaded modules
-pub record IsRosterOf (b : Books) : Type 0 where
-  pub code_words_are : b.roster.code_words ≡ b.plan.code_words
-  pub many : length b.roster.lines ≡ length b.roster.placed
-  pub lines_are : b.roster.lines ≡ map (module_line_of b.plan.modules) (loaded_in b)
 
 -- all of it agrees
 pub record BooksAgree (k : Key) (b : Books) (keeping : Keeping) : Type 0 where

@@ -1,41 +1,55 @@
--- The data that an open brings lies inside private data, and the answer may come.
-use Rattle.std.proofs.Common.{◌≡◌, ◌≢◌, ℕ, List, length, slice_get, Some, refl, sym, ◌∙◌, ap, subst, arith}
-use Rattle.std.specs.List.{All}
+-- The answer to an open is the reply to what it finds.
+use Rattle.std.proofs.Common.{◌≡◌, ◌≢◌, ℕ, ◌+◌, List, length, slice_get, drop, Some, All, refl, sym, ◌∙◌, ap, arith}
+use Rattle.std.proofs.lemmas.List.Elements.{All-drop, All-nil}
 use Rattle.cfi_aux.specs.declared.placed.Placed.{Placed}
-use Rattle.cfi_model.specs.Data.{LiesInData}
+use Rattle.cfi_ledger.specs.Policies.{HavePolicies}
+use Rattle.cfi_ledger.proofs.DueLemmas.{later_fills}
 use Rattle.cfi_series.specs.Fills.{fills_of}
-use Rattle.cfi_series.specs.Series.{IsSeries}
-use Rattle.cfi_series.proofs.PrefixLemmas.{data_lies}
+use Rattle.cfi_model.specs.Data.{LiesInData}
 use Rattle.cfi_model.specs.Raw.{Raw}
 use Rattle.cfi_model.specs.World.{World}
+use Rattle.cfi_plan.specs.Draft.{starts}
+use Rattle.cfi_plan.specs.declared.plan.Plan.{Plan}
 use Rattle.cfi_sim.specs.Events.{IsFound, address_in, cause_in, fills_in, reply_by}
 use Rattle.cfi_sim.specs.inner.Standing.{Whole, AnswersOpen}
 use Rattle.cfi_unit.specs.declared.fill.Answer.{Answer}
+use Rattle.cfi_unit.specs.declared.fill.Fill.{Fill}
 use Rattle.cfi_valid.specs.Replay.{given_by}
 use Rattle.cfi_world.specs.Turns.{reply_in, answer_turn, turn_of}
 use Rattle.cfi_world.specs.declared.event.Event.TheVariants as events
 use Rattle.cfi_sim.specs.declared.found.Found.{Found}
 use Rattle.cfi_sim.specs.declared.found.Found.TheVariants.{Unknown, Functionless, Opened, Unloaded}
-use Rattle.cfi_sim.specs.declared.spot.Spot.{Spot}
-use Rattle.cfi_sim.specs.inner.Loaded.{loaded_of, origin_of}
-use Rattle.cfi_sim.proofs.journal.BegunLemmas.{some_fills}
-use Rattle.cfi_valid.proofs.KeptLemmas.{places_are}
-use Rattle.cfi_valid.specs.Loaded.{fills_between}
+use Rattle.cfi_sim.specs.inner.Loaded.{due_in}
+use Rattle.cfi_valid.specs.Journal.{JournalState}
+use Rattle.cfi_valid.specs.Loaded.{placed_modules}
 use Rattle.cfi_word.specs.declared.services.TheConstants.{TOO_MANY}
-
-pub between_lies : (code_words above upto : ℕ) (spots : List Spot) (placed : List Placed)
-    → length spots ≡ length placed → IsSeries code_words placed
-    → All LiesInData (fills_between above upto (loaded_of spots placed))
-between_lies code_words above upto spots placed same series =
-    some_fills _ (loaded_of spots placed)
-    (subst (λ (ps : List Placed). All LiesInData (fills_of ps)) (sym (places_are origin_of spots placed same))
-    (data_lies code_words placed series))
 
 pub cause_few : (found : Found) → cause_in found ≢ TOO_MANY
 cause_few Unknown = λ e. omega (arith, e)
 cause_few Functionless = λ e. omega (arith, e)
 cause_few (Opened address) = λ e. omega (arith, e)
 cause_few Unloaded = λ e. omega (arith, e)
+
+-- the fills that are due are those of the modules that came with later policies
+pub due_is : (plan : Plan) (s : JournalState) → HavePolicies plan s → (placed : List Placed)
+    → placed_modules s.loaded ≡ placed → (from : ℕ) → from + s.policy ≡ length s.loaded → (given : ℕ) (found : Found)
+    → due_in (fills_of placed) (from + given) found ≡ fills_in s given found
+due_is plan s have placed same from from_is given Unknown = refl
+due_is plan s have placed same from from_is given Functionless = refl
+due_is plan s have placed same from from_is given (Opened address) =
+    let start : starts plan.modules ≡ from = omega (arith, have.count, from_is) in
+    ap (λ (ps : List Placed). drop (from + given) (fills_of ps)) (sym same)
+    ∙ ap (λ (n : ℕ). drop (n + given) (fills_of (placed_modules s.loaded))) (sym start)
+    ∙ sym (later_fills plan s have given)
+due_is plan s have placed same from from_is given Unloaded = refl
+
+-- and lie in private data
+pub due_lies : (fills : List Fill) → All LiesInData fills → (given : ℕ) (found : Found)
+    → All LiesInData (due_in fills given found)
+due_lies fills all given Unknown = All-nil LiesInData
+due_lies fills all given Functionless = All-nil LiesInData
+due_lies fills all given (Opened address) = All-drop LiesInData given fills all
+due_lies fills all given Unloaded = All-nil LiesInData
 
 -- an answer that is the reply to what its open finds
 pub answers_open : (x : Whole) (guest number : ℕ) (r : Raw) → slice_get x.stage.world.guests guest ≡ Some r

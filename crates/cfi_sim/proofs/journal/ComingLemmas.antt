@@ -3,7 +3,8 @@ use Rattle.std.proofs.lemmas.Bool.{eq-eqb, ne_eqb, le-leb}
 use Rattle.std.specs.List.{AllByRecursion}
 use Rattle.std.proofs.lemmas.List.Elements.{Contains-get_or}
 use Rattle.std.proofs.Common.{◌≡◌, ◌≢◌, ℕ, ◌+◌, ◌≤◌, ◌==◌, ◌++◌, cond, Bool, List, [], ◌∷◌, drop, length-drop, Option, Some, None, refl, sym, ◌∙◌, ap, subst, arith}
-use Rattle.cfi_sim.specs.Agrees.{IsPolicyOf, coming_by, coming}
+use Rattle.cfi_ledger.specs.Policies.{IsPolicyOf}
+use Rattle.cfi_sim.specs.Agrees.{coming_by, coming}
 use Rattle.cfi_model.specs.Tables.{IsTables}
 use Rattle.cfi_world.specs.Updates.{next_store}
 use Rattle.cfi_series.specs.Loaded.{AreLoaded, AreAmong, IsLoadedImage}

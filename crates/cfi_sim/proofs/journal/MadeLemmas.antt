@@ -5,7 +5,8 @@ use Rattle.std.proofs.lemmas.Bool.{cases_lt}
 use Rattle.std.specs.List.{AllByRecursion, slice_get}
 use Rattle.std.proofs.Common.{◌≡◌, ◌≢◌, ℕ, ◌+◌, ◌≤◌, ◌++◌, List, [], ◌∷◌, length, length-append, Some, None, refl, sym, ◌∙◌, ap, subst, arith, inl, inr}
 use Rattle.cfi_series.specs.Series.{IsSeries}
-use Rattle.cfi_sim.specs.Agrees.{NumbersAreApart, IsPolicyOf, IsEntryFor, coming, HasComingEntry, TablesAgree}
+use Rattle.cfi_ledger.specs.Policies.{IsPolicyOf}
+use Rattle.cfi_sim.specs.Agrees.{NumbersAreApart, IsEntryFor, coming, HasComingEntry, TablesAgree}
 use Rattle.cfi_valid.proofs.GrowthLemmas.{loaded_stays}
 use Rattle.cfi_model.specs.Tables.{IsTables}
 use Rattle.cfi_series.specs.Loaded.{AreLoaded, IsLoadedImage}

@@ -26,7 +26,8 @@ use Rattle.cfi_series.proofs.ImageLemmas.{closed, entry_start}
 use Rattle.cfi_series.proofs.PrefixLemmas.{data_lies}
 use Rattle.cfi_series.proofs.SeriesLemmas.{item_at}
 use Rattle.cfi_sim.specs.declared.limits.TheConstants.{MAX_UPDATES}
-use Rattle.cfi_sim.specs.Agrees.{NumbersAreApart, IsPolicyOf, IsOfPlan, HasFound, HasComingEntry, coming, TablesAgree, GuestsAgree, WorldAgrees}
+use Rattle.cfi_ledger.specs.Policies.{IsPolicyOf}
+use Rattle.cfi_sim.specs.Agrees.{NumbersAreApart, IsOfPlan, HasFound, HasComingEntry, coming, TablesAgree, GuestsAgree, WorldAgrees}
 use Rattle.cfi_sim.specs.declared.aim.Aim.{Aim}
 use Rattle.cfi_sim.specs.Stage.{Stage}
 use Rattle.cfi_sim.specs.Valid.{IsStart}

@@ -1,6 +1,7 @@
 -- What the steps of an update before its EPOCH store leave of the agreement of the tables with the journal.
 use Rattle.std.proofs.Common.{◌≡◌, ◌≢◌, ℕ, ◌<◌, ◌≤◌, ◌==◌, ◌++◌, List, [], ◌∷◌, length, Option, Some, None, refl, sym, ◌∙◌, ap, subst, arith}
-use Rattle.cfi_sim.specs.Agrees.{IsPolicyOf, IsEntryFor, coming_by, coming, HasComingEntry, TablesAgree}
+use Rattle.cfi_ledger.specs.Policies.{IsPolicyOf}
+use Rattle.cfi_sim.specs.Agrees.{IsEntryFor, coming_by, coming, HasComingEntry, TablesAgree}
 use Rattle.cfi_sim.proofs.journal.ComingLemmas.{none_comes, storing_comes, asked_comes}
 use Rattle.cfi_model.specs.Tables.{IsTables, IsRefresh}
 use Rattle.cfi_word.specs.Rank.{stores_of}

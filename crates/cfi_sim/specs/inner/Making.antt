@@ -97,6 +97,7 @@ pub record FitsAim (x : Whole) : Type 0 where
   pub fits : AimFits x.plan x.modules x.stage.state x.stage.aim
   pub few : x.stage.state.policy ≤ length x.stage.state.loaded
   pub taken : All CanBeTaken x.modules
+  pub named : length x.modules ≡ length x.plan.modules
 
 -- an access in a phase has made it, or has not
 abbrev pub NotesBy : Phase → (old new : Whole) → Type 0

@@ -1,7 +1,6 @@
 -- A simulation under way, as it is kept.
-use Rattle.std.specs.Prelude.{◌≡◌, ℕ, Bool, true, false, List, [], length, slice_get, Some, None, All}
+use Rattle.std.specs.Prelude.{◌≡◌, ℕ, Bool, true, false, List, [], length, map, slice_get, Some, None, All}
 use Rattle.cfi_aux.specs.declared.modules.Module.{Module}
-use Rattle.cfi_aux.specs.declared.placed.Placed.{Placed}
 use Rattle.cfi_model.specs.Raw.{Raw}
 use Rattle.cfi_model.specs.World.{World}
 use Rattle.cfi_plan.specs.declared.plan.Plan.{Plan}
@@ -10,9 +9,9 @@ use Rattle.cfi_series.specs.Series.{CanBeTaken}
 use Rattle.cfi_sim.specs.Events.{IsAnswered, IsGuestEvent, IsReleaseEvent}
 use Rattle.cfi_sim.specs.Stage.{Stage}
 use Rattle.cfi_sim.specs.Stands.{IsGoing}
-use Rattle.cfi_sim.specs.declared.spot.Spot.{Spot}
+use Rattle.cfi_ledger.specs.Roster.{Roster, loaded_of}
 use Rattle.cfi_sim.specs.declared.standing.Standing.TheInside.{Inside}
-use Rattle.cfi_sim.specs.inner.Loaded.{loaded_of}
+use Rattle.cfi_valid.specs.Loaded.{module_line_of}
 use Rattle.cfi_world.specs.Turns.{turn_of}
 use Rattle.cfi_world.specs.declared.event.Event.TheVariants as events
 use Rattle.cfi_world.specs.declared.event.Turned.TheVariants.{Nothing}
@@ -30,30 +29,32 @@ whole_inside a = record {
   stage = record {
     world = a.world;
     journal = a.journal.items;
-    state = record { epoch = a.epoch; policy = a.policy; loaded = loaded_of a.spots.items a.series.placed };
+    state = record { epoch = a.epoch; policy = a.policy; loaded = loaded_of a.roster.lines a.roster.placed };
     aim = a.aim;
     events = a.events;
   };
 }
 
 -- before the first line
-abbrev pub whole_at : Plan → List Module → World → List Placed → List Spot → Whole
-whole_at plan modules world placed spots = record {
+abbrev pub whole_at : Plan → List Module → World → Roster → Whole
+whole_at plan modules world roster = record {
   plan = plan;
   modules = modules;
   stage = record {
     world = world;
     journal = [];
-    state = record { epoch = plan.first; policy = 0; loaded = loaded_of spots placed };
+    state = record { epoch = plan.first; policy = 0; loaded = loaded_of roster.lines roster.placed };
     aim = None;
     events = 0;
   };
 }
 
--- the series has a place for each spot, and the plan's code words
-pub record SeriesFits (a : Inside) : Type 0 where
-  pub count : length a.spots.items ≡ length a.series.placed
-  pub size : a.series.code_words ≡ a.plan.now.code_words
+-- the roster has the plan's code words, and a line for each of its modules
+pub record RosterFits (a : Inside) : Type 0 where
+  pub layout : a.layout ≡ a.plan.now.code_words
+  pub many : length a.roster.lines ≡ length a.roster.placed
+  pub size : a.roster.code_words ≡ a.plan.now.code_words
+  pub lines : a.roster.lines ≡ map (module_line_of a.plan.now.modules) (loaded_of a.roster.lines a.roster.placed)
 
 -- the journal is legal so far, and the world agrees with it
 pub record IsUnderWay (x : Whole) : Type 0 where

@@ -12,13 +12,14 @@ ghost use Rattle.cfi_word.specs.declared.limits.TheConstants.{MAX_EPOCH};
 use crate::aim::Aim;
 use crate::limits::MAX_EVENTS;
 use crate::opens::is_idle;
-use crate::spot::Spot;
 use crate::standing::Standing;
+use cfi_ledger::{Entrant, Roster};
 use cfi_model::Phase;
 use cfi_plan::JournalLine;
 use cfi_series::JoinFault;
 use cfi_world::{Event, Turned};
 use std::alloc::AllocError;
+use std::mem;
 
 // The line that tells why an update was not made.
 fn versions_line(aim: Aim, guest: u32, quiet: u32) -> JournalLine
@@ -53,19 +54,24 @@ impl<'a> Standing<'a> {
         requires fits { LoadFits self.old.plan self.old.modules self.old.stage.state number }
         requires few { self.old.stage.state.policy ≤ length self.old.stage.state.loaded }
         requires taken { All CanBeTaken self.old.modules }
+        requires named { length self.old.modules ≡ length self.old.plan.modules }
         ensures { OnOk result (HasCome self.old self.new) }
     {
-        let modules = self.modules;
-        self.spots.reserve(1)?;
-        match self.series.add(&modules[number as usize]) {
-            Ok(()) => {}
+        let (plan, modules) = (self.plan, self.modules);
+        let epoch = self.epoch + 1;
+        let policy = self.policy + 1;
+        let entrant = Entrant {
+            number,
+            name: plan.modules.as_slice()[number as usize].name.as_str(),
+            policy,
+        };
+        let own = mem::replace(&mut self.roster, Roster::new(self.alloc, &self.layout));
+        self.roster = match own.add(&entrant, &modules[number as usize]) {
+            Ok(roster) => roster,
             Err(JoinFault::Memory) => return Err(AllocError),
             Err(JoinFault::Place(_)) => unreachable!(),
             Err(JoinFault::Verify(_)) => unreachable!(),
-        }
-        let epoch = self.epoch + 1;
-        let policy = self.policy + 1;
-        self.spots.push_reserved(Spot { number, policy });
+        };
         self.epoch = epoch;
         self.policy = policy;
         self.aim = None;

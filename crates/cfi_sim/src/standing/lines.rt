@@ -15,26 +15,26 @@ use crate::line::{Line, read_line};
 use crate::opens::is_idle;
 use crate::standing::Standing;
 use cfi_text::statement;
-use std::alloc::{AllocError, Global};
+use std::alloc::AllocError;
 
 impl<'a> Standing<'a> {
     // So many events of a guest. False where it has fewer, or a limit would be passed.
-    fn go_on(&mut self, alloc: Global, guest: u32, count: u32) -> Result<bool, AllocError>
+    fn go_on(&mut self, guest: u32, count: u32) -> bool
         requires under_way { IsUnderWay self.old }
         requires within { PassesNoLimit self.old.stage }
-        ensures { IfOk result
-            (MakesBy (Repeats (IsGuestEvent self.old.plan guest) count) self.old self.new) }
+        ensures { MakesBy (Repeats (IsGuestEvent self.old.plan guest) count) self.old self.new
+            result }
     {
         for _turn in 0..count {
             if self.events >= MAX_EVENTS {
-                return Ok(false);
+                return false;
             }
-            let went = self.go(alloc, guest)?;
+            let went = self.go(guest);
             if !went {
-                return Ok(false);
+                return false;
             }
         }
-        Ok(true)
+        true
     }
 
     // So many accesses of the updater. False where there are fewer, or a limit would be passed.
@@ -93,7 +93,7 @@ impl<'a> Standing<'a> {
     }
 
     /// Makes what a line says. False where that makes nothing, or a limit would be passed.
-    pub(crate) fn make_line(&mut self, alloc: Global, line: Line) -> Result<bool, AllocError>
+    pub(crate) fn make_line(&mut self, line: Line) -> Result<bool, AllocError>
         requires under_way { IsUnderWay self.old }
         requires within { PassesNoLimit self.old.stage }
         requires known { IsKnown self.old.plan line }
@@ -102,8 +102,8 @@ impl<'a> Standing<'a> {
     {
         match line {
             Line::Blank => Ok(true),
-            Line::Guest { guest, count } => self.go_on(alloc, guest, count),
-            Line::Load(number) => self.load(alloc, number),
+            Line::Guest { guest, count } => Ok(self.go_on(guest, count)),
+            Line::Load(number) => self.load(number),
             Line::Refresh => self.refresh(),
             Line::Update(count) => self.advance_by(count),
             Line::UpdateAll => self.finish(),

@@ -1,74 +1,58 @@
 // Loads.
 
 ghost use Rattle.std.specs.Prelude.{◌≡◌, ◌<◌, IfOk, IfErr, length};
+ghost use Rattle.cfi_ledger.specs.Roster.{series_of};
 ghost use Rattle.cfi_series.specs.Order.{IsJoinFault};
 ghost use Rattle.cfi_series.specs.Series.{CanBeTaken};
 ghost use Rattle.cfi_sim.specs.Events.{IsLoadEvent};
 ghost use Rattle.cfi_sim.specs.Schedule.{PassesNoLimit};
 ghost use Rattle.cfi_sim.specs.inner.Making.{IsImageWith, MakesBy};
 ghost use Rattle.cfi_sim.specs.inner.Standing.{IsUnderWay};
-ghost use Rattle.cfi_valid.specs.NumberedLine.{numbered_line};
 ghost use Rattle.cfi_valid.specs.Loaded.{IsLoaded};
 ghost use Rattle.cfi_valid.specs.declared.limits.TheConstants.{MAX_LOADED};
 
 use crate::aim::Aim;
-use crate::opens::place_of;
 use crate::standing::Standing;
 use cfi_aux::Module;
+use cfi_ledger::{Entrant, Roster, join_line};
 use cfi_plan::JournalLine;
-use cfi_series::{FaultNumbers, JoinFault, Series};
+use cfi_series::JoinFault;
 use cfi_valid::MAX_LOADED;
 use cfi_word::{Image, Layout};
 use std::alloc::{AllocError, Global};
 use std::mem;
 
-// The line that tells these numbers of a fault.
-fn numbered_line(loading: u32, fault: FaultNumbers) -> JournalLine
-    ensures { result ≡ numbered_line loading fault }
-{
-    match fault {
-        FaultNumbers::Place { number } => JournalLine::LoadPlace {
-            module: loading,
-            number,
-        },
-        FaultNumbers::Verify { number, place } => JournalLine::LoadVerify {
-            module: loading,
-            number,
-            place,
-        },
-    }
-}
-
-// The image of the modules of a series and one more; or why that does not join them. The series stays as it was.
+// The image of the loaded modules and one more; or why that does not join them. The loaded modules stay.
 fn image_with(
     alloc: Global,
     layout: &Layout,
-    series: &mut Series,
+    roster: &mut Roster,
+    entrant: &Entrant<'_>,
     unplaced: &Module,
 ) -> Result<Image, JoinFault>
     requires { CanBeTaken unplaced.now }
-    ensures ok { IfOk result (IsImageWith series.old unplaced.now) }
+    ensures ok { IfOk result (IsImageWith (series_of roster.old) unplaced.now) }
     ensures fault { IfErr result
-        (IsJoinFault series.old.code_words series.old.placed unplaced.now) }
-    ensures same { series.new ≡ series.old }
+        (IsJoinFault roster.old.code_words roster.old.placed unplaced.now) }
+    ensures same { roster.new ≡ roster.old }
 {
-    let own = mem::replace(series, Series::new(alloc, layout));
-    match own.prepare(unplaced) {
-        Ok(prepared) => {
-            let (without, image) = prepared.withdraw();
-            *series = without;
+    let own = mem::replace(roster, Roster::new(alloc, layout));
+    match own.prepare(entrant, unplaced) {
+        Ok(candidate) => {
+            let (without, image) = candidate.withdraw();
+            *roster = without;
             Ok(image)
         }
-        Err(refused) => {
-            *series = refused.series;
-            Err(refused.fault)
+        Err(unjoined) => {
+            *roster = unjoined.roster;
+            Err(unjoined.fault)
         }
     }
 }
 
 impl<'a> Standing<'a> {
     // Loads a module that is not loaded, where there is room for it.
-    fn join(&mut self, alloc: Global, number: u32) -> Result<bool, AllocError>
+    fn join(&mut self, number: u32) -> Result<bool, AllocError>
         requires under_way { IsUnderWay self.old }
         requires within { PassesNoLimit self.old.stage }
         requires known { number < length self.old.plan.modules }
@@ -77,19 +61,30 @@ impl<'a> Standing<'a> {
         ensures { IfOk result
             (MakesBy (IsLoadEvent self.old.plan self.old.modules number) self.old self.new) }
     {
-        let layout = Layout::new(self.plan.code_words).unwrap();
-        let modules = self.modules;
-        match image_with(alloc, &layout, &mut self.series, &modules[number as usize]) {
+        let (plan, modules) = (self.plan, self.modules);
+        let entrant = Entrant {
+            number,
+            name: plan.modules.as_slice()[number as usize].name.as_str(),
+            policy: self.policy + 1,
+        };
+        let unplaced = &modules[number as usize];
+        match image_with(
+            self.alloc,
+            &self.layout,
+            &mut self.roster,
+            &entrant,
+            unplaced,
+        ) {
             Ok(image) => {
                 let spent = JournalLine::LoadEpochs { module: number };
                 let begun = self.begin(Aim::Loading(number), spent, Some(image))?;
                 Ok(begun)
             }
             Err(fault) => {
-                let Some(numbers) = fault.numbers() else {
+                let Some(line) = join_line(number, &fault) else {
                     return Err(AllocError);
                 };
-                self.tell(numbered_line(number, numbers))?;
+                self.tell(line)?;
                 Ok(true)
             }
         }
@@ -99,14 +94,14 @@ impl<'a> Standing<'a> {
     /// a limit would be passed.
     ///
     /// A load that is refused before its update is told at once, by the modules that are loaded, and is no event.
-    pub(super) fn load(&mut self, alloc: Global, number: u32) -> Result<bool, AllocError>
+    pub(super) fn load(&mut self, number: u32) -> Result<bool, AllocError>
         requires under_way { IsUnderWay self.old }
         requires within { PassesNoLimit self.old.stage }
         requires known { number < length self.old.plan.modules }
         ensures { IfOk result
             (MakesBy (IsLoadEvent self.old.plan self.old.modules number) self.old self.new) }
     {
-        if let Some(_) = place_of(&self.spots, number) {
+        if let Some(_) = self.roster.find(number) {
             let policy = self.policy;
             self.tell(JournalLine::LoadAgain {
                 module: number,
@@ -114,10 +109,10 @@ impl<'a> Standing<'a> {
             })?;
             return Ok(true);
         }
-        if self.spots.len() >= MAX_LOADED as usize {
+        if self.roster.lines().len() >= MAX_LOADED as usize {
             self.tell(JournalLine::LoadFull { module: number })?;
             return Ok(true);
         }
-        self.join(alloc, number)
+        self.join(number)
     }
 }

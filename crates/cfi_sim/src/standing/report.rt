@@ -6,7 +6,7 @@ ghost use Rattle.cfi_sim.specs.inner.Standing.{IsUnderWay};
 
 use crate::report::SimReport;
 use crate::standing::Standing;
-use crate::told::{lines_of, parts_of};
+use crate::told::parts_of;
 use cfi_report::Report;
 use cfi_values::Items;
 use std::alloc::{AllocError, Global};
@@ -19,9 +19,9 @@ impl<'a> Standing<'a> {
         ensures { IfOk result (IsToldSim self.entry.plan self.entry.stage) }
     {
         let guests = parts_of(alloc, self.plan, self.world.guests())?;
-        let modules = lines_of(alloc, self.plan, &self.spots, self.series.modules())?;
         let phase = self.world.phase();
         let Standing {
+            roster,
             journal,
             epoch,
             policy,
@@ -30,7 +30,7 @@ impl<'a> Standing<'a> {
         let report = Report {
             epoch,
             policy,
-            modules: Items::from_vec(modules),
+            modules: Items::from_vec(roster.into_lines()),
             journal: Items::from_vec(journal),
             guests: Items::from_vec(guests),
         };

@@ -61,7 +61,7 @@ impl<'a> Standing<'a> {
             (TellsBy guest self.old out.old.items self.new out.new.items) }
     {
         let old = seen_in(alloc, &self.world, guest)?;
-        let went = self.go(alloc, guest)?;
+        let went = self.go(guest);
         if went {
             put_event(out, &self.world, guest, old)?;
         }
@@ -110,6 +110,6 @@ impl<'a> Standing<'a> {
         if let Line::Guest { guest, count } = line {
             return self.tell_events(alloc, guest, count, out);
         }
-        self.make_line(alloc, line)
+        self.make_line(line)
     }
 }

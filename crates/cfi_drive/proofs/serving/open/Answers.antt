@@ -25,7 +25,7 @@ returns-then-argument-len-clause-ended g c =
     let plan = g.N.LoaderName.plan in
     let modules = g.N.LoaderName.modules in
     let few = c.if-opens-ge-MAX_OPENS.false in
-    let same = ap (λ (p : Plan). length p.modules) c.plan.ensures in
+    let same = ap (λ (p : Plan). length p.modules) c.plan.ensures.value in
     subst (λ (r : Raw). IsServed k plan modules c.args.pass.now r) (sym c.refuse-then-argument-len.ensures)
     (served_unplanned k plan modules c.args.pass.now c.args.guest.now OPEN c.requires.runner c.requires.asked
     c.last_policy-policy.result refl (omega (arith, few, c.opens.ensures.count))

@@ -18,7 +18,7 @@ use Rattle.cfi_engine.proofs.guests.open_guest.Goals as goal
 pub open-requires : goal.open-requires
 open-requires g c =
     subst (All LiesInData) (sym c.fills.ensures)
-    (fills_lie g.N.TableName.key g.N.LoaderName.plan g.N.LoaderName.modules c.args.loader.now c.journal.ensures.law)
+    (fills_lie g.N.TableName.key g.N.LoaderName.plan g.N.LoaderName.modules c.args.loader.now c.plan.ensures.law)
 
 pub admit-requires : goal.admit-requires
 admit-requires g c =
@@ -34,7 +34,7 @@ new-requires g c =
     let address = c.unwrap-address.result in
     let pass = c.unwrap-pass.result in
     let entry_is : slice_get plan.guests c.args.number ≡ Some entry =
-    ap (λ (p : Plan). slice_get p.guests c.args.number) (sym c.plan.ensures) ∙ c.entry_of-entry.ensures in
+    ap (λ (p : Plan). slice_get p.guests c.args.number) (sym c.plan.ensures.value) ∙ c.entry_of-entry.ensures in
     let begins : GuestBegins plan l.course.end.loaded entry address = search rules in
     let free = IfOk-at_ok (λ (p : PassView). IsFree l.keeping.out p.guest) c.unwrap-pass.ensures c.admit.ensures.free in
     let pass_is = IfOk-at_ok (λ (p : PassView). p ≡ admitted k l.keeping p.guest) c.unwrap-pass.ensures
@@ -42,7 +42,7 @@ new-requires g c =
     let number_is = next_free l.keeping.out c.args.number pass.guest c.requires.opened.out c.requires.opened.free
     free in
     subst (IsOpening k plan g.N.LoaderName.modules pass) (sym c.in_ok-guest.ensures)
-    (opening k plan g.N.LoaderName.modules l c.journal.ensures.law c.requires.opened.opens c.args.number entry address
+    (opening k plan g.N.LoaderName.modules l c.plan.ensures.law c.requires.opened.opens c.args.number entry address
     c.fills.result.now pass c.requires.code entry_is begins c.fills.ensures pass_is number_is)
 
 pub returns-clause-ok : goal.returns-clause-ok
@@ -68,5 +68,5 @@ returns-clause-opened g c =
     let number_is = next_free l.keeping.out c.args.number pass.guest c.requires.opened.out c.requires.opened.free
     free in
     subst (IsOpenedTo plan g.N.LoaderName.modules (c.args.number + 1)) (sym out)
-    (next_opened g.N.TableName.key plan g.N.LoaderName.modules c.args.number pass.guest l c.journal.ensures.law
+    (next_opened g.N.TableName.key plan g.N.LoaderName.modules c.args.number pass.guest l c.plan.ensures.law
     c.requires.opened c.requires.number number_is)

@@ -15,5 +15,5 @@ open_guests-requires-clause-opened g c =
 pub count_calls-calls-requires : goal.count_calls-calls-requires
 count_calls-calls-requires g c =
     subst (λ (lines : List ScriptLine). length (script_calls lines) < 2 ^ 32)
-    (sym (c.as_slice.ensures ∙ ap (λ (p : Plan). p.script) c.plan.ensures))
-    (script_fits g.N.TableName.key g.N.LoaderName.plan g.N.LoaderName.modules _ c.journal.ensures.law)
+    (sym (c.as_slice.ensures ∙ ap (λ (p : Plan). p.script) c.plan.ensures.value))
+    (script_fits g.N.TableName.key g.N.LoaderName.plan g.N.LoaderName.modules _ c.plan.ensures.law)

@@ -1,4 +1,4 @@
-use Rattle.cfi_loader.proofs.PlanLemmas.{plan_starts, bare_starts}
+use Rattle.cfi_ledger.proofs.PlanLemmas.{plan_starts, bare_starts}
 use Rattle.cfi_loader.proofs.laws.plans_can_start.Goals as goal
 
 pub returns-clause-plan : goal.returns-clause-plan

@@ -1,7 +1,7 @@
 use Rattle.std.proofs.Common.{true, refl, ap, subst, get_or}
 use Rattle.cfi_series.specs.Examples.{sized}
-use Rattle.cfi_loader.specs.declared.books.Books.{Books}
-use Rattle.cfi_loader.specs.inner.Loads.{IsFirstGlobal}
+use Rattle.cfi_ledger.specs.declared.books.Books.{Books}
+use Rattle.cfi_ledger.specs.Opens.{IsFirstGlobal}
 use Rattle.cfi_loader.proofs.AddLemmas.{again_answers}
 use Rattle.cfi_loader.proofs.load.again.Goals as goal
 

@@ -5,12 +5,13 @@ use Rattle.cfi_tables.specs.Faults.{FaultIs}
 use Rattle.cfi_tables.specs.Keeping.{entry_by, grown_by, last_of}
 use Rattle.cfi_valid.specs.Script.{Load}
 use Rattle.cfi_word.specs.declared.lists.Image.{Image}
-use Rattle.cfi_loader.specs.declared.books.Books.{Books}
+use Rattle.cfi_ledger.specs.declared.books.Books.{Books}
 use Rattle.cfi_loader.specs.declared.fault.LoadFault.{LoadFault}
 use Rattle.cfi_loader.specs.Told.{MayAskFor}
 use Rattle.cfi_loader.specs.inner.Books.{BooksAgree, ledger_of}
-use Rattle.cfi_loader.specs.inner.Findings.{AreFindings, DoesJoin}
-use Rattle.cfi_loader.specs.inner.Loads.{IsAbsent, IsUnprepared, Refuses}
+use Rattle.cfi_ledger.specs.Findings.{AreFindings, DoesJoin}
+use Rattle.cfi_ledger.specs.Loads.{IsAbsent, IsUnprepared}
+use Rattle.cfi_loader.specs.inner.Loads.{Refuses}
 use Rattle.cfi_loader.proofs.JoiningLemmas.{made_answers, turned_down, unmade_refuses}
 use Rattle.cfi_loader.proofs.FindingLemmas.{found_kept, refuses_noted, refuses_then}
 use Rattle.cfi_loader.proofs.PrepareLemmas.{load_update}

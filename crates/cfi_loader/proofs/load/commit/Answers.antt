@@ -1,7 +1,7 @@
 use Rattle.std.proofs.Common.{◌-◌, List, length, get_or, ap, subst, ◌∙◌}
 use Rattle.cfi_aux.specs.declared.placed.Placed.{Placed}
-use Rattle.cfi_loader.specs.declared.books.Books.{Books}
-use Rattle.cfi_loader.specs.inner.Loads.{IsFirstGlobal}
+use Rattle.cfi_ledger.specs.declared.books.Books.{Books}
+use Rattle.cfi_ledger.specs.Opens.{IsFirstGlobal}
 use Rattle.cfi_loader.proofs.load.commit.Goals as goal
 
 pub returns-clause-address : goal.returns-clause-address

@@ -2,14 +2,14 @@ use Rattle.std.proofs.Common.{length, ap, sym, subst, arith}
 use Rattle.std.proofs.lemmas.Bool.{leb-true, leb-false}
 use Rattle.cfi_valid.specs.Script.{Load}
 use Rattle.cfi_valid.specs.declared.limits.TheConstants.{MAX_LOADED}
-use Rattle.cfi_loader.specs.declared.books.Books.{Books}
+use Rattle.cfi_ledger.specs.declared.books.Books.{Books}
 use Rattle.cfi_loader.specs.declared.fault.LoadFault.TheVariants.{ModulesFull}
 use Rattle.cfi_loader.specs.Ledger.{Ledger}
 use Rattle.cfi_loader.specs.Told.{MayAskFor}
-use Rattle.cfi_loader.specs.inner.Roster.{origin_of}
+use Rattle.cfi_ledger.specs.Roster.{origin_of}
 use Rattle.cfi_loader.proofs.AddLemmas.{full_refuses}
 use Rattle.cfi_loader.proofs.ReserveLemmas.{reserved, ledger_same, loads_from, refuses_from}
-use Rattle.cfi_loader.proofs.RosterLemmas.{unlisted_absent}
+use Rattle.cfi_ledger.proofs.RosterLemmas.{unlisted_absent}
 use Rattle.cfi_valid.proofs.KeptLemmas.{many_are}
 use Rattle.cfi_loader.proofs.load.load.Goals as goal
 

@@ -1,13 +1,13 @@
 use Rattle.std.proofs.Common.{sym, subst, ◌∙◌}
 use Rattle.cfi_plan.specs.declared.journal.JournalLine.{JournalLine}
 use Rattle.cfi_series.specs.Numbers.{numbers_of}
-use Rattle.cfi_loader.specs.declared.books.Books.{Books}
+use Rattle.cfi_ledger.specs.declared.books.Books.{Books}
 use Rattle.cfi_loader.specs.declared.fault.LoadFault.{LoadFault}
-use Rattle.cfi_loader.specs.Results.{asked_by}
-use Rattle.cfi_loader.specs.inner.Journal.{HasLine}
+use Rattle.cfi_ledger.specs.Journal.{asked_by}
+use Rattle.cfi_ledger.specs.Journal.{HasLine}
 use Rattle.cfi_loader.specs.inner.Loads.{Refuses, load_fault_of}
 use Rattle.cfi_loader.proofs.AddLemmas.{told_refuses, starved_refuses}
-use Rattle.cfi_loader.proofs.LineLemmas.{from_numbers, from_none}
+use Rattle.cfi_ledger.proofs.NumberedLemmas.{from_numbers, from_none}
 use Rattle.cfi_loader.proofs.load.refuse.Goals as goal
 use Rattle.cfi_loader.proofs.load.refuse.Goals.{in-Some, in-None}
 

@@ -5,10 +5,11 @@ use Rattle.cfi_plan.specs.declared.journal.JournalLine.TheVariants.{RefreshOk}
 use Rattle.cfi_plan.specs.declared.journal.Who.{Who}
 use Rattle.cfi_plan.specs.declared.journal.Who.TheVariants.{Script}
 use Rattle.cfi_valid.specs.Script.{Refresh}
-use Rattle.cfi_loader.specs.declared.books.Books.{Books}
-use Rattle.cfi_loader.specs.Results.{asked_by, refused_refresh}
+use Rattle.cfi_ledger.specs.declared.books.Books.{Books}
+use Rattle.cfi_ledger.specs.Journal.{asked_by}
+use Rattle.cfi_loader.specs.Results.{refused_refresh}
 use Rattle.cfi_loader.specs.inner.Books.{IsAfter}
-use Rattle.cfi_loader.specs.inner.Journal.{HasLine, HasRoomFor}
+use Rattle.cfi_ledger.specs.Journal.{HasLine, HasRoomFor}
 use Rattle.cfi_loader.proofs.UpdateLemmas.{epoch_left, refresh_made, after_refresh_refused, not_spent, right_fault}
 use Rattle.cfi_loader.proofs.refresh.refresh.Goals as goal
 

@@ -1,4 +1,4 @@
-use Rattle.std.proofs.Common.{◌≡◌, [], ◌∷◌, List, subst, sym, ◌∙◌, rules}
+use Rattle.std.proofs.Common.{◌≡◌, [], ◌∷◌, List, subst, sym, ap, ◌∙◌, rules}
 use Rattle.cfi_aux.specs.declared.modules.Module.{Module}
 use Rattle.cfi_engine.specs.Fault.{IsRunFault}
 use Rattle.cfi_engine.specs.Guests.{HasCode}
@@ -6,9 +6,9 @@ use Rattle.cfi_engine.specs.declared.fault.RunFault.TheVariants.{Open}
 use Rattle.cfi_engine.proofs.CodeLemmas.{bare_code}
 use Rattle.cfi_plan.specs.Bare.{bare_plan}
 use Rattle.cfi_plan.specs.declared.plan.Plan.{Plan}
-use Rattle.cfi_top.specs.Running.{in_loader}
+use Rattle.cfi_top.specs.Refused.{bare_refused}
 use Rattle.cfi_top.specs.inner.Running.{IsBareRun}
-use Rattle.cfi_top.proofs.RunLemmas.{bare_ran, bare_refuses, in_words}
+use Rattle.cfi_top.proofs.RunLemmas.{bare_ran, bare_refuses}
 use Rattle.cfi_top.proofs.running.run_bare.Goals as goal
 
 -- its module has one function
@@ -40,7 +40,6 @@ returns-in-Err-Open g c =
     let told = subst (IsRunFault plan modules) c.in-Err-Open.field-0-is c.in-Err-Open.ensures.fault in
     let of_bare = subst (λ (p : Plan). IsRunFault p modules (Open c.in-Err-Open.fault)) c.in_ok-plan.ensures told in
     let of_made = subst (λ (ms : List Module). IsRunFault bare_plan ms (Open c.in-Err-Open.fault)) same of_bare in
-    let worded : in_loader c.fault_of.result ≡ c.in-Err-Open.fault = c.fault_of.ensures ∙ c.in-Err-Open.fault-is in
-    let stands = in_words bare_plan (made ∷ []) c.fault_of.result c.in-Err-Open.fault worded of_made.0 in
-    subst (IsBareRun c.args.input c.args.bytes.now) (sym c.bare_refused.ensures)
-    (bare_refuses c.args.input c.args.bytes.now made c.in-Ok.ensures.ok c.fault_of.result stands)
+    let refused = c.bare_refused.ensures ∙ ap (λ fault. bare_refused c.args.input fault) c.in-Err-Open.fault-is in
+    subst (IsBareRun c.args.input c.args.bytes.now) (sym refused)
+    (bare_refuses c.args.input c.args.bytes.now made c.in-Ok.ensures.ok c.in-Err-Open.fault of_made)

@@ -3,13 +3,13 @@ use Rattle.std.proofs.lemmas.Result.{IfOk-weaker}
 use Rattle.cfi_commands.proofs.ModulesLemmas.{same_count}
 use Rattle.cfi_engine.specs.Fault.{IsRunFault}
 use Rattle.cfi_engine.proofs.CodeLemmas.{plan_code}
-use Rattle.cfi_loader.proofs.PlanLemmas.{plan_starts}
-use Rattle.cfi_loader.specs.Starting.{IsOpenFault}
+use Rattle.cfi_ledger.proofs.PlanLemmas.{plan_starts}
+use Rattle.cfi_ledger.specs.Opening.{IsOpenFault}
 use Rattle.cfi_outside.specs.Plans.{files_of}
 use Rattle.cfi_top.specs.Refused.{IsModuleRefused, IsOpeningRefused}
-use Rattle.cfi_top.specs.Running.{in_loader, RefusesStart}
+use Rattle.cfi_top.specs.Running.{RefusesStart}
 use Rattle.cfi_top.proofs.OpeningLemmas.{file_refused, opening_refused}
-use Rattle.cfi_top.proofs.RunLemmas.{open_among, in_words, refused_run}
+use Rattle.cfi_top.proofs.RunLemmas.{open_among, refused_run}
 use Rattle.cfi_top.proofs.running.run_found.Goals as goal
 
 -- a file is no module
@@ -41,8 +41,7 @@ opening_refused-requires g c =
     let found = c.args.found.now in
     let modules = c.in-Ok.modules in
     let told = subst (IsRunFault found modules) c.in-Err-Open.field-0-is c.in-Err-Open.ensures.fault in
-    open_among found modules c.as_slice-in-Err-Open.result.now c.fault_of.result c.as_slice-in-Err-Open.ensures
-    (in_words found modules c.fault_of.result c.in-Err-Open.fault c.fault_of.ensures told.0)
+    open_among found modules c.as_slice-in-Err-Open.result.now c.in-Err-Open.fault c.as_slice-in-Err-Open.ensures told
 
 -- the plan cannot be opened
 pub returns-in-Err-Open : goal.returns-in-Err-Open
@@ -51,12 +50,11 @@ returns-in-Err-Open g c =
     let found = c.args.found.now in
     let files = c.args.files in
     let modules = c.in-Ok.modules in
-    let fault = c.fault_of.result in
-    let told = subst (IsRunFault found modules) c.in-Err-Open.field-0-is c.in-Err-Open.ensures.fault in
-    let stands = in_words found modules fault c.in-Err-Open.fault c.fault_of.ensures told.0 in
+    let fault = c.in-Err-Open.fault in
+    let stands = subst (IsRunFault found modules) c.in-Err-Open.field-0-is c.in-Err-Open.ensures.fault in
     IfOk-weaker c.opening_refused.result _ _
     (λ answer said. refused_run input found files answer
     (opening_refused input found files (RefusesStart input (files_of found) found) modules c.in-Ok.ensures.ok
-    (λ f. IsOpenFault found modules (in_loader f)) (λ name refusal refuses. refuses) fault answer stands
+    (IsOpenFault found modules) (λ name refusal refuses. refuses) fault answer stands
     (subst (λ ms. IsOpeningRefused input ms fault answer) c.as_slice-in-Err-Open.ensures said)))
     c.opening_refused.ensures

@@ -2,7 +2,7 @@ use Rattle.std.proofs.Common.{◌++◌, List, ap, sym, ◌∙◌}
 use Rattle.cfi_plan.specs.declared.plan.Plan.{Plan}
 use Rattle.cfi_valid.specs.Script.{Call, script_calls}
 use Rattle.cfi_loader.specs.Ledger.{Ledger}
-use Rattle.cfi_loader.proofs.CallLemmas.{none_due}
+use Rattle.cfi_ledger.proofs.CallLemmas.{none_due}
 use Rattle.cfi_valid.specs.Script.{made_by_script}
 use Rattle.cfi_loader.proofs.loader.Loader.due.Goals as goal
 

@@ -3,7 +3,7 @@ use Rattle.std.specs.Prelude.{IfSome}
 use Rattle.cfi_plan.specs.declared.plan.Plan.{Plan}
 use Rattle.cfi_valid.specs.Guests.{GuestBegins}
 use Rattle.cfi_loader.specs.Ledger.{Ledger}
-use Rattle.cfi_loader.specs.inner.Books.{loaded_in}
+use Rattle.cfi_ledger.specs.Books.{loaded_in}
 use Rattle.cfi_loader.proofs.ReadLemmas.{entry_some, entry_only}
 use Rattle.cfi_loader.proofs.loader.Loader.entry.Goals as goal
 

@@ -1,26 +1,54 @@
-use Rattle.std.proofs.Common.{◌≡◌, ℕ, List, Some, slice_get, sym, subst, refl, ap, ◌∙◌}
+use Rattle.std.proofs.Common.{◌≡◌, ◌≢◌, ℕ, ◌+◌, ◌-◌, List, Some, All, slice_get, length, sym, subst, refl, ap, ◌∙◌, arith}
 use Rattle.std.proofs.lemmas.Option.{slice_get-get_or, slice_get_within}
+use Rattle.cfi_ledger.specs.Roster.{origin_of}
+use Rattle.cfi_ledger.specs.Policies.{HavePolicies}
+use Rattle.cfi_model.specs.Data.{LiesInData}
 use Rattle.cfi_model.specs.Raw.{Raw}
+use Rattle.cfi_model.specs.Words.{policy_in_force}
+use Rattle.cfi_series.specs.Fills.{fills_of}
+use Rattle.cfi_series.specs.Series.{IsSeries}
+use Rattle.cfi_series.proofs.PrefixLemmas.{data_lies}
+use Rattle.cfi_plan.specs.declared.journal.ModuleLine.{ModuleLine}
 use Rattle.cfi_sim.specs.Agrees.{NumbersAreApart}
-use Rattle.cfi_sim.specs.Events.{IsFound, fills_in}
-use Rattle.cfi_unit.specs.declared.log.Log.{Log}
-use Rattle.cfi_valid.specs.Replay.{given_by}
-use Rattle.cfi_sim.specs.declared.spot.Spot.{Spot}
-use Rattle.cfi_sim.specs.inner.Loaded.{loaded_of}
+use Rattle.cfi_sim.specs.inner.Loaded.{due_in}
 use Rattle.cfi_sim.specs.inner.Standing.{Whole, AnswersOpen, whole_inside}
-use Rattle.cfi_sim.proofs.guests.DueLemmas.{answers_open}
+use Rattle.cfi_unit.specs.declared.fill.Fill.{Fill}
+use Rattle.cfi_unit.specs.declared.log.Log.{Log}
+use Rattle.cfi_valid.proofs.KeptLemmas.{many_are, places_are}
+use Rattle.cfi_valid.specs.Loaded.{placed_modules}
+use Rattle.cfi_valid.specs.Replay.{given_by}
+use Rattle.cfi_word.specs.declared.services.TheConstants.{TOO_MANY}
+use Rattle.cfi_sim.proofs.guests.DueLemmas.{answers_open, cause_few, due_is, due_lies}
 use Rattle.cfi_sim.proofs.standing.Standing.answer.Goals as goal
 
 pub find-found-requires-clause-apart : goal.find-found-requires-clause-apart
 find-found-requires-clause-apart c =
-    subst (λ (ss : List Spot). NumbersAreApart (loaded_of ss c.self.inside.series.placed)) (sym c.deref.ensures.value)
-    (subst (λ (x : Whole). NumbersAreApart x.stage.state.loaded) (sym c.self.view_is) c.requires.apart)
+    subst (λ (x : Whole). NumbersAreApart x.stage.state.loaded) (sym c.self.view_is) c.requires.apart
 
 pub bounds-guests-guest : goal.bounds-guests-guest
 bounds-guests-guest c = let (r, there) = c.requires.there in
     slice_get_within c.guests.result.now c.args.guest r
     (ap (λ (gs : List Raw). slice_get gs c.args.guest)
     (c.guests.ensures ∙ ap (λ (x : Whole). x.stage.world.guests) c.self.view_is) ∙ there)
+
+-- the answer has the policy in force, and its data lies in private data
+pub turn-requires : goal.turn-requires
+turn-requires c =
+    let a = c.self.inside in
+    let size = a.plan.now.code_words in
+    let found = c.find-found.result in
+    let given : ℕ = length c.lines.result.now - a.policy + c.given_by-given.result in
+    let series = subst (IsSeries size) (places_are origin_of a.roster.lines a.roster.placed c.self.invariant.many)
+    (subst (λ (y : Whole). IsSeries y.plan.code_words (placed_modules y.stage.state.loaded)) (sym c.self.view_is)
+    c.requires.series) in
+    record {
+      policy = sym (subst (λ (y : Whole). policy_in_force y.stage.world.tables ≡ y.stage.state.policy)
+          (sym c.self.view_is) c.requires.policy);
+      few = subst (λ (n : ℕ). n ≢ TOO_MANY) (sym c.cause.ensures) (cause_few found);
+      inside = subst (λ (fs : List Fill). All LiesInData fs)
+          (sym (c.fills-2.ensures ∙ ap (λ (fs : List Fill). due_in fs given found) c.fills.ensures))
+          (due_lies (fills_of a.roster.placed) (data_lies size a.roster.placed series) given found);
+    }
 
 -- the answer is the reply to what the open finds
 pub returns : goal.returns
@@ -42,17 +70,25 @@ returns c =
     ∙ ap (λ (g : Raw). Some g) (sym c.index-guests-guest.is) in
     let given : c.given_by-given.result ≡ given_by r.base.log =
     c.given_by-given.ensures ∙ ap (λ (log : List Log). given_by log) c.log.ensures.entries in
+    let have : HavePolicies inside.plan.now x.stage.state =
+    subst (λ (y : Whole). HavePolicies y.plan y.stage.state) (sym c.self.view_is) c.requires.policies in
+    let from : ℕ = length c.lines.result.now - inside.policy in
+    let many = many_are origin_of inside.roster.lines inside.roster.placed c.self.invariant.many in
+    let lines = ap (λ (ls : List ModuleLine). length ls) c.lines.ensures.value in
+    let from_is : from + inside.policy ≡ length x.stage.state.loaded =
+    omega (arith, many, c.self.invariant.many, lines, have.count) in
     subst (λ (y : Whole). AnswersOpen y (record x { stage = record x.stage { world = new } }) c.args.guest c.args.number
     ) c.self.view_is
-    (answers_open x c.args.guest c.args.number r seat found
-    (subst (λ (ss : List Spot). IsFound inside.plan.now inside.world (loaded_of ss inside.series.placed) c.args.number
-    found) c.deref.ensures.value c.find-found.ensures)
+    (answers_open x c.args.guest c.args.number r seat found c.find-found.ensures
     (record {
       address = c.address.result;
       cause = c.cause.result;
       policy = inside.policy;
-      fills = c.deref-2.result;
+      fills = c.fills-2.result;
     }) c.address.ensures c.cause.ensures refl
-    (c.deref-2.ensures.value ∙ c.in_ok-fills.ensures.fills
-    ∙ ap (λ (y : Whole). fills_in y.stage.state c.given_by-given.result found) (sym c.self.view_is)
-    ∙ ap (λ (n : ℕ). fills_in x.stage.state n found) given) new c.turn.ensures.world)
+    (c.fills-2.ensures
+    ∙ ap (λ (fills : List Fill). due_in fills (from + c.given_by-given.result) found) c.fills.ensures
+    ∙ ap (λ (n : ℕ). due_in (fills_of inside.roster.placed) (from + n) found) given
+    ∙ due_is inside.plan.now x.stage.state have inside.roster.placed
+    (places_are origin_of inside.roster.lines inside.roster.placed c.self.invariant.many) from from_is
+    (given_by r.base.log) found) new c.turn.ensures.world)

@@ -9,8 +9,8 @@ pub loop-turn-init : goal.loop-turn-init
 loop-turn-init c =
     none_made (IsGuestEvent c.args.self.now.plan c.args.guest) c.args.self.now c.requires.under_way c.requires.within
 
-pub go-requires-clause-under_way : goal.go-requires-clause-under_way
-go-requires-clause-under_way c = c.loop-turn.invariant.done.under_way
+pub go-went-requires-clause-under_way : goal.go-went-requires-clause-under_way
+go-went-requires-clause-under_way c = c.loop-turn.invariant.done.under_way
 
 -- there were too many events
 pub returns-then-self-ge-MAX_EVENTS : goal.returns-then-self-ge-MAX_EVENTS
@@ -24,16 +24,16 @@ pub returns-then-not-went : goal.returns-then-not-went
 returns-then-not-went c =
     guests_stuck c.args.self.now c.loop-turn.self c.args.guest c.loop-turn._turn c.args.count c.requires.under_way
     c.loop-turn.invariant c.loop-turn-test.true
-    (inl (goes_none c.loop-turn.self c.go.new.self c.args.guest c.in_ok-went.went c.if-not-went.true
-    c.in_ok-went.ensures))
+    (inl (goes_none c.loop-turn.self c.go-went.new.self c.args.guest c.go-went.result c.if-not-went.true
+    c.go-went.ensures))
 
 pub loop-turn-preserved : goal.loop-turn-preserved
 loop-turn-preserved c =
     one_made (λ plan modules. IsGuestEvent plan c.args.guest) c.loop-turn._turn c.args.self.now c.loop-turn.self
-    c.go.new.self c.loop-turn.invariant
-    (goes_made c.loop-turn.self c.go.new.self c.args.guest
-    (subst (λ (w : Whole). w.stage.events < MAX_EVENTS) c.self.view_is c.if-self-ge-MAX_EVENTS.false) c.in_ok-went.went
-    c.if-not-went.false c.in_ok-went.ensures)
+    c.go-went.new.self c.loop-turn.invariant
+    (goes_made c.loop-turn.self c.go-went.new.self c.args.guest
+    (subst (λ (w : Whole). w.stage.events < MAX_EVENTS) c.self.view_is c.if-self-ge-MAX_EVENTS.false) c.go-went.result
+    c.if-not-went.false c.go-went.ensures)
 
 pub returns : goal.returns
 returns c =

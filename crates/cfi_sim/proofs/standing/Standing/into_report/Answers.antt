@@ -1,12 +1,8 @@
-use Rattle.std.proofs.Common.{◌≡◌, List, length, map, ap, sym, subst, ◌∙◌}
-use Rattle.cfi_aux.specs.declared.placed.Placed.{Placed}
+use Rattle.std.proofs.Common.{List, length, sym, subst, ◌∙◌}
 use Rattle.cfi_model.specs.Raw.{Raw}
 use Rattle.cfi_report.specs.declared.report.GuestPart.{GuestPart}
-use Rattle.cfi_sim.specs.declared.spot.Spot.{Spot}
-use Rattle.cfi_sim.specs.inner.Loaded.{loaded_of}
 use Rattle.cfi_sim.specs.inner.Parts.{ArePartsOf}
 use Rattle.cfi_sim.proofs.PartsLemmas.{told_end}
-use Rattle.cfi_valid.specs.Loaded.{module_line_of}
 use Rattle.cfi_sim.proofs.standing.Standing.into_report.Goals as goal
 
 -- what there is at the end
@@ -14,14 +10,9 @@ pub returns : goal.returns
 returns c =
     let a = c.self.inside in
     let plan = a.plan.now in
-    let lines : c.from_vec.result ≡ map (module_line_of plan.modules) (loaded_of a.spots.items a.series.placed) =
-    c.from_vec.ensures ∙ c.in_ok-modules.ensures
-    ∙ ap (λ (ss : List Spot). map (module_line_of plan.modules) (loaded_of ss c.modules.result.now))
-    c.deref.ensures.value
-    ∙ ap (λ (ms : List Placed). map (module_line_of plan.modules) (loaded_of a.spots.items ms))
-    c.modules.ensures.value in
-    told_end a c.args.self c.self.view_is c.phase-phase.result c.phase-phase.ensures c.from_vec.result lines
-    c.from_vec-2.result c.from_vec-2.ensures c.from_vec-3.result
+    told_end a c.args.self c.self.view_is c.phase-phase.result c.phase-phase.ensures c.from_vec.result
+    (c.from_vec.ensures ∙ c.into_lines.ensures ∙ c.self.invariant.lines) c.from_vec-2.result c.from_vec-2.ensures
+    c.from_vec-3.result
     (subst (λ (ps : List GuestPart). ArePartsOf plan a.world.guests (length plan.guests) ps) (sym c.from_vec-3.ensures)
     (subst (λ (gs : List Raw). ArePartsOf plan gs (length plan.guests) c.in_ok-guests.guests.items) c.guests.ensures
     c.in_ok-guests.ensures))

@@ -1,7 +1,4 @@
-use Rattle.std.proofs.Common.{sym, ap, ◌∙◌}
-use Rattle.cfi_plan.specs.declared.journal.JournalLine.{JournalLine}
-use Rattle.cfi_sim.specs.inner.Making.{with_told}
-use Rattle.cfi_sim.specs.inner.Standing.{whole_inside}
+use Rattle.std.proofs.Common.{sym, ◌∙◌}
 use Rattle.cfi_sim.proofs.LoadLemmas.{may_load, begun_load, refused_load}
 use Rattle.cfi_sim.proofs.standing.Standing.join.Goals as goal
 
@@ -15,7 +12,7 @@ pub returns-in_ok-begun-in-Ok : goal.returns-in_ok-begun-in-Ok
 returns-in_ok-begun-in-Ok c =
     begun_load c.self.inside c.self.invariant c.args.self.now c.self.view_is c.requires.under_way c.requires.within
     c.args.number c.requires.known c.requires.absent c.requires.room c.index-modules-number.result
-    c.index-modules-number.is c.in-Ok.image c.in-Ok.ensures.ok c.image_with.new.series c.in-Ok.ensures.same
+    c.index-modules-number.is c.in-Ok.image c.in-Ok.ensures.ok c.image_with.new.roster c.in-Ok.ensures.same
     c.begin.new.self c.in_ok-begun-in-Ok.begun c.in_ok-begun-in-Ok.ensures
 
 -- it is told why the module is not loaded
@@ -23,10 +20,5 @@ pub returns-in_ok-tell-in-Err : goal.returns-in_ok-tell-in-Err
 returns-in_ok-tell-in-Err c =
     refused_load c.self.inside c.self.invariant c.args.self.now c.self.view_is c.requires.under_way c.requires.within
     c.args.number c.requires.known c.requires.absent c.requires.room c.index-modules-number.result
-    c.index-modules-number.is c.in-Err.fault c.in-Some.numbers c.in-Err.ensures.fault (sym c.in-Some.ensures)
-    c.image_with.new.series
-    c.in-Err.ensures.same c.tell.new.self
-    (c.in_ok-tell-in-Err.ensures
-    ∙ ap (λ (line : JournalLine).
-    with_told line (whole_inside (record c.self.inside { series = c.image_with.new.series })))
-    c.numbered_line.ensures)
+    c.index-modules-number.is c.in-Err.fault c.in-Err.ensures.fault c.in-Some.line
+    (sym c.in-Some.is ∙ c.join_line.ensures) c.image_with.new.roster c.in-Err.ensures.same c.tell.new.self c.in_ok-tell-in-Err.ensures

@@ -1,5 +1,6 @@
-use Rattle.std.proofs.Common.{sym, ap, ◌∙◌, arith}
+use Rattle.std.proofs.Common.{List, length, sym, ap, ◌∙◌, arith}
 use Rattle.cfi_plan.specs.declared.journal.JournalLine.TheVariants.{LoadAgain, LoadFull}
+use Rattle.cfi_plan.specs.declared.journal.ModuleLine.{ModuleLine}
 use Rattle.cfi_sim.specs.inner.Making.{with_told}
 use Rattle.cfi_sim.proofs.LoadLemmas.{again_load, absent_load, full_load, room_load}
 use Rattle.cfi_sim.proofs.standing.Standing.load.Goals as goal
@@ -8,24 +9,25 @@ use Rattle.cfi_sim.proofs.standing.Standing.load.Goals as goal
 pub returns-in-Some : goal.returns-in-Some
 returns-in-Some c =
     again_load c.self.inside c.self.invariant c.args.self.now c.self.view_is c.requires.under_way c.requires.within
-    c.args.number c.requires.known c.deref.result.now c.deref.ensures.value c.in-Some.field-0 c.in-Some.ensures.some
-    c.tell.new.self
+    c.args.number c.requires.known c.in-Some.field-0 c.in-Some.ensures.some c.tell.new.self
     (c.in_ok-tell.ensures ∙ ap (with_told (LoadAgain c.args.number c.self.inside.policy)) (sym c.self.view_is))
 
 -- no further one may be
-pub returns-then-len : goal.returns-then-len
-returns-then-len c =
+pub returns-then-lines : goal.returns-then-lines
+returns-then-lines c =
     full_load c.self.inside c.self.invariant c.args.self.now c.self.view_is c.requires.under_way c.requires.within
-    c.args.number c.requires.known c.deref.result.now c.deref.ensures.value c.in_default.ensures.none
-    (omega (arith, c.if-len.true, c.len.ensures)) c.tell-then-len.new.self
+    c.args.number c.requires.known c.in_default.ensures.none
+    (omega (arith, c.if-lines.true, ap (λ (ls : List ModuleLine). length ls) c.lines.ensures.value))
+    c.tell-then-lines.new.self
     (c.in_ok-tell-2.ensures ∙ ap (with_told (LoadFull c.args.number)) (sym c.self.view_is))
 
 pub join-requires-clause-absent : goal.join-requires-clause-absent
 join-requires-clause-absent c =
     absent_load c.self.inside c.self.invariant c.args.self.now c.self.view_is c.requires.under_way c.requires.within
-    c.args.number c.requires.known c.deref.result.now c.deref.ensures.value c.in_default.ensures.none
+    c.args.number c.requires.known c.in_default.ensures.none
 
 pub join-requires-clause-room : goal.join-requires-clause-room
 join-requires-clause-room c =
     room_load c.self.inside c.self.invariant c.args.self.now c.self.view_is c.requires.under_way c.requires.within
-    c.args.number c.requires.known (omega (arith, c.if-len.false, c.len.ensures))
+    c.args.number c.requires.known
+    (omega (arith, c.if-lines.false, ap (λ (ls : List ModuleLine). length ls) c.lines.ensures.value))

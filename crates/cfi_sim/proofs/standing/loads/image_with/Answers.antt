@@ -1,22 +1,34 @@
-use Rattle.std.proofs.Common.{sym, ap, subst}
-use Rattle.cfi_series.specs.Prepared.{IsImageOfSeries, IsOrderedImage}
-use Rattle.cfi_series.specs.Series.{Series}
+use Rattle.std.proofs.Common.{sym, ap, subst, ◌∙◌}
+use Rattle.cfi_ledger.specs.Roster.{IsImageOfRoster, Roster, series_of}
+use Rattle.cfi_ledger.proofs.JoinedLemmas.{joined_back}
+use Rattle.cfi_series.specs.Prepared.{IsOrderedImage}
 use Rattle.cfi_sim.specs.inner.Making.{IsImageWith}
 use Rattle.cfi_word.specs.declared.lists.Image.{Image}
 use Rattle.cfi_sim.proofs.standing.loads.image_with.Goals as goal
 
--- the image of the series with the module that joined it
+-- the image of the modules with the one that joins them
 pub returns-in-Ok-clause-ok : goal.returns-in-Ok-clause-ok
 returns-in-Ok-clause-ok c =
     let own = c.replace-own.result in
     let m = c.args.unplaced.now in
-    let image = c.in-Ok.prepared.image in
+    let image = c.in-Ok.candidate.image in
     let joined = c.in-Ok.ensures.ok in
-    let of : IsImageWith own m image = record {
-      placed = joined.0;
-      joins = joined.1;
-      is = subst (λ (s : Series). IsImageOfSeries s image) joined.2 c.withdraw-without.ensures.image;
-      ordered = subst (λ (s : Series). IsOrderedImage s.placed image) joined.2 c.withdraw-without.ensures.ordered;
+    let of : IsImageWith (series_of own) m image = record {
+      placed = joined.one;
+      joins = joined.joins;
+      is = subst (λ (r : Roster). IsImageOfRoster r image) joined.is c.withdraw-without.ensures.image;
+      ordered = subst (λ (r : Roster). IsOrderedImage r.placed image) joined.is c.withdraw-without.ensures.ordered;
     } in
-    subst (λ (s : Series). IsImageWith s m c.withdraw-without.result.1) c.replace-own.ensures.value
-    (subst (λ (i : Image). IsImageWith own m i) (sym (ap (λ pair. pair.1) c.withdraw-without.ensures.value)) of)
+    subst (λ (r : Roster). IsImageWith (series_of r) m c.withdraw-without.result.1) c.replace-own.ensures.value
+    (subst (λ (i : Image). IsImageWith (series_of own) m i) (sym (ap (λ pair. pair.1) c.withdraw-without.ensures.value))
+    of)
+
+-- the modules stay
+pub returns-in-Ok-clause-same : goal.returns-in-Ok-clause-same
+returns-in-Ok-clause-same c =
+    let own = c.replace-own.result in
+    let entrant = c.args.entrant.now in
+    ap (λ pair. pair.0) c.withdraw-without.ensures.value
+    ∙ joined_back entrant.number entrant.name.now entrant.policy c.args.unplaced.now own c.in-Ok.candidate.roster
+    c.in-Ok.ensures.ok
+    ∙ c.replace-own.ensures.value

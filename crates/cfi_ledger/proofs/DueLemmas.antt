@@ -1,0 +1,58 @@
+-- The data that a guest lacks.
+use Rattle.std.proofs.Common.{◌≡◌, ℕ, ◌+◌, ◌-◌, ◌<◌, ◌≤◌, List, [], ◌∷◌, length, take, drop, min, All, sym, ap, ◌∙◌, ⊎_elim, arith}
+use Rattle.std.proofs.lemmas.Bool.{cases_lt}
+use Rattle.std.proofs.Math.Seq.{drop-length}
+use Rattle.std.proofs.lemmas.List.{drop-map, drop_all, length-drop, take_all}
+use Rattle.std.proofs.lemmas.List.Elements.{All-head, All-tail}
+use Rattle.cfi_plan.specs.Draft.{starts}
+use Rattle.cfi_plan.specs.declared.plan.Plan.{Plan}
+use Rattle.cfi_series.specs.Fills.{fill_of, fills_of}
+use Rattle.cfi_valid.specs.Journal.{JournalState}
+use Rattle.cfi_valid.specs.Loaded.{LoadedModule, placed_modules, loaded_by, fills_between}
+use Rattle.cfi_ledger.specs.Policies.{HavePolicies}
+use Rattle.cfi_ledger.proofs.PolicyLemmas.{policies_below}
+use Rattle.cfi_ledger.proofs.SuffixLemmas.{Rise, AllUpTo, first_loaded, later_loaded}
+
+-- ---- modules by their policies
+
+module _ (plan : Plan) (s : JournalState) (have : HavePolicies plan s) where
+  rises : Rise 0 (starts plan.modules) s.loaded
+  rises = λ at one is. have.each at one is ∙ omega arith
+
+  up_to : (loaded : List LoadedModule) → All (λ (l : LoadedModule). l.policy ≤ s.policy) loaded
+      → AllUpTo s.policy loaded
+  up_to [] all = tt
+  up_to (l ∷ loaded) all = (
+    All-head (λ (x : LoadedModule). x.policy ≤ s.policy) l loaded all,
+    up_to loaded (All-tail (λ (x : LoadedModule). x.policy ≤ s.policy) l loaded all),
+  )
+
+  -- the start modules are the first ones
+  pub starts_first : loaded_by 0 s.loaded ≡ take (starts plan.modules) s.loaded
+  starts_first =
+      first_loaded 0 0 (starts plan.modules) s.loaded rises
+      ∙ ap (λ (n : ℕ). take n s.loaded) (omega arith)
+
+  -- the data that came after a policy is the last
+  pub later_fills : (above : ℕ) → fills_between above s.policy s.loaded
+      ≡ drop (starts plan.modules + above) (fills_of (placed_modules s.loaded))
+  later_fills above =
+      ap (λ (ls : List LoadedModule). fills_of (placed_modules ls))
+      (later_loaded above s.policy 0 (starts plan.modules) s.loaded rises
+      (up_to s.loaded (policies_below plan s have))
+      ∙ ap (λ (n : ℕ). drop n s.loaded) (omega arith))
+      ∙ ap fills_of (sym (drop-map (λ (l : LoadedModule). l.placed) (starts plan.modules + above) s.loaded))
+      ∙ sym (drop-map fill_of (starts plan.modules + above) (placed_modules s.loaded))
+
+-- ---- the rest of a list
+
+pub drop_min : {X : Type 0} (xs : List X) (first less : ℕ) → less ≡ min first (length xs)
+    → take (length xs - less) (drop less xs) ≡ drop first xs
+drop_min xs first less is =
+    take_all (length xs - less) (drop less xs) (omega (arith, length-drop less xs))
+    ∙ ⊎_elim
+    (λ (within : first < length xs). ap (λ (n : ℕ). drop n xs) (grind (arith, is, within)))
+    (λ (past : length xs ≤ first).
+    ap (λ (n : ℕ). drop n xs) (grind (arith, is, past))
+    ∙ drop-length xs ∙ sym (drop_all first xs past))
+    (cases_lt first (length xs))

@@ -1,0 +1,99 @@
+-- A roster whose series has a module more, and a line for it.
+use Rattle.std.proofs.Common.{◌≡◌, ℕ, ◌-◌, List, [], ◌∷◌, ◌++◌, length, map, take, sym, ap, subst, ◌∙◌, arith, length-append}
+use Rattle.std.proofs.Math.Seq.{take-length}
+use Rattle.std.proofs.lemmas.List.{map-append, take-append-le}
+use Rattle.cfi_aux.specs.declared.modules.Module.{Module}
+use Rattle.cfi_plan.specs.declared.journal.ModuleLine.{ModuleLine}
+use Rattle.cfi_series.specs.Series.{Series, HasJoined as SeriesHasJoined}
+use Rattle.cfi_aux.specs.declared.placed.Placed.{Placed}
+use Rattle.cfi_plan.specs.declared.plan.PlanModule.{PlanModule}
+use Rattle.cfi_valid.specs.Loaded.{LoadedModule, module_line_of, planned_name}
+use Rattle.cfi_valid.proofs.KeptLemmas.{loaded_more}
+use Rattle.cfi_ledger.specs.Roster.{HasJoined, Roster, line_by, loaded_of, origin_of, without_last}
+
+module _ (number policy : ℕ) (name : List ℕ) (m : Module) (s new : Series) (lines : List ModuleLine) where
+  abbrev before : Roster
+  before = record { code_words = s.code_words; lines = lines; placed = s.placed }
+
+  abbrev after : ModuleLine → Roster
+  after line = record { code_words = new.code_words; lines = lines ++ line ∷ []; placed = new.placed }
+
+  pub roster_joined : (old : Roster) → before ≡ old → (joined : SeriesHasJoined s new m) → (line : ModuleLine)
+      → line ≡ line_by number name policy joined.0 → HasJoined number name policy m old (after line)
+  roster_joined old same joined line line_is =
+      subst (λ (o : Roster). HasJoined number name policy m o (after line)) same (record {
+        one = joined.0;
+        joins = joined.1;
+        is = ap (λ (n : Series). record {
+          code_words = n.code_words;
+          lines = lines ++ line ∷ [];
+          placed = n.placed;
+        }) joined.2
+            ∙ ap (λ (l : ModuleLine). record {
+              code_words = s.code_words;
+              lines = lines ++ l ∷ [];
+              placed = s.placed ++ joined.0 ∷ [];
+            }) line_is;
+      })
+
+-- a list without the item at its end
+init_of : {X : Type 0} (xs : List X) (x : X) → take (length (xs ++ x ∷ []) - 1) (xs ++ x ∷ []) ≡ xs
+init_of xs x =
+    let end : length (xs ++ x ∷ []) - 1 ≡ length xs = omega (arith, length-append xs (x ∷ [])) in
+    ap (λ (n : ℕ). take n (xs ++ x ∷ [])) end
+    ∙ take-append-le (length xs) xs (x ∷ []) (omega arith)
+    ∙ take-length xs
+
+module _ (number : ℕ) (name : List ℕ) (policy : ℕ) (m : Module) (old new : Roster)
+    (joined : HasJoined number name policy m old new) where
+  abbrev its_line : ModuleLine
+  its_line = line_by number name policy joined.one
+
+  abbrev its_module : LoadedModule
+  its_module = record { number = number; placed = joined.one; policy = policy }
+
+  -- without the module it is what it was
+  pub joined_back : without_last new ≡ old
+  joined_back =
+      ap without_last joined.is
+      ∙ ap (λ (ls : List ModuleLine). record {
+        code_words = old.code_words;
+        lines = ls;
+        placed = take (length (old.placed ++ joined.one ∷ []) - 1) (old.placed ++ joined.one ∷ []);
+      }) (init_of old.lines its_line)
+      ∙ ap (λ (ps : List Placed). record {
+        code_words = old.code_words;
+        lines = old.lines;
+        placed = ps;
+      }) (init_of old.placed joined.one)
+
+  module _ (many : length old.lines ≡ length old.placed) where
+    -- with it, it is loaded
+    pub joined_loaded : loaded_of new.lines new.placed ≡ loaded_of old.lines old.placed ++ its_module ∷ []
+    joined_loaded =
+        ap (λ (r : Roster). loaded_of r.lines r.placed) joined.is
+        ∙ loaded_more origin_of old.lines old.placed its_line joined.one many
+
+    pub joined_many : length new.lines ≡ length new.placed
+    joined_many =
+        omega (
+          arith,
+          many,
+          ap (λ (r : Roster). length r.lines) joined.is,
+          ap (λ (r : Roster). length r.placed) joined.is,
+          length-append old.lines (its_line ∷ []),
+          length-append old.placed (joined.one ∷ []),
+        )
+
+    -- and the lines are those of the modules
+    pub joined_lines : (named : List PlanModule)
+        → old.lines ≡ map (module_line_of named) (loaded_of old.lines old.placed) → name ≡ planned_name named number
+        → new.lines ≡ map (module_line_of named) (loaded_of new.lines new.placed)
+    joined_lines named are name_is =
+        let line_is : its_line ≡ module_line_of named its_module =
+        ap (λ (xs : List ℕ). line_by number xs policy joined.one) name_is in
+        ap (λ (r : Roster). r.lines) joined.is
+        ∙ ap (λ (ls : List ModuleLine). ls ++ its_line ∷ []) are
+        ∙ ap (λ (x : ModuleLine). map (module_line_of named) (loaded_of old.lines old.placed) ++ x ∷ []) line_is
+        ∙ sym (map-append (module_line_of named) (loaded_of old.lines old.placed) (its_module ∷ []))
+        ∙ ap (map (module_line_of named)) (sym joined_loaded)

@@ -1,0 +1,13 @@
+pub mod CallLemmas
+pub mod EntryLemmas
+pub mod PolicyLemmas
+pub mod FindingLemmas
+pub mod RosterLemmas
+pub mod StartLemmas
+pub mod SuffixLemmas
+pub mod DueLemmas
+pub mod JoinedLemmas
+pub mod EnterLemmas
+pub mod OpeningLemmas
+pub mod PlanLemmas
+pub mod NumberedLemmas

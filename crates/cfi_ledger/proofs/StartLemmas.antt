@@ -1,0 +1,126 @@
+-- The start modules, one after the other.
+use Rattle.std.proofs.Common.{◌≡◌, ℕ, ◌+◌, ◌<◌, ◌++◌, Bool, true, false, List, [], ◌∷◌, length, map, get_or, Some, refl, sym, ap, subst, ◌∙◌, arith, length-append}
+use Rattle.std.specs.Option.{option_map_or}
+use Rattle.std.specs.List.{slice_get}
+use Rattle.std.proofs.lemmas.List.{map-append, length-map}
+use Rattle.std.proofs.lemmas.List.Sums.{sum_by-cons}
+use Rattle.std.proofs.lemmas.Option.{slice_get-get_or}
+use Rattle.cfi_aux.specs.declared.modules.Module.{Module}
+use Rattle.cfi_aux.specs.declared.placed.Placed.{Placed}
+use Rattle.cfi_plan.specs.Draft.{starts, one_if}
+use Rattle.cfi_plan.specs.declared.journal.ModuleLine.{ModuleLine}
+use Rattle.cfi_plan.specs.declared.plan.Plan.{Plan}
+use Rattle.cfi_plan.specs.declared.plan.PlanModule.{PlanModule}
+use Rattle.cfi_series.specs.Order.{Joins, IsJoinFault}
+use Rattle.cfi_series.specs.declared.fault.JoinFault.{JoinFault}
+use Rattle.cfi_series.specs.declared.fault.JoinFault.TheVariants as joins
+use Rattle.cfi_valid.specs.Journal.{IsOpeningState, starts_from}
+use Rattle.cfi_valid.specs.Loaded.{LoadedModule, module_line_of, planned_name}
+use Rattle.cfi_valid.proofs.StartLemmas.{StartsAreLoaded, one_of, starts_cons, starts_same, starts_more, starts_all, unjoined}
+use Rattle.cfi_ledger.specs.Opening.{IsStartFault}
+use Rattle.cfi_ledger.specs.Roster.{Roster, HasJoined, line_by, loaded_of, origin_of}
+use Rattle.cfi_ledger.specs.Starts.{AreStarted, loaded_in, opened_state, start_fault_of}
+use Rattle.cfi_valid.proofs.KeptLemmas.{loaded_more, places_are}
+
+-- ---- the numbers of start modules
+
+-- as many as there are start modules
+length_one : (start : Bool) (number : ℕ) → length (one_of start number) ≡ one_if start
+length_one true number = refl
+length_one false number = refl
+
+pub starts_count : (number : ℕ) (ms : List PlanModule) → length (starts_from number ms) ≡ starts ms
+starts_count number [] = refl
+starts_count number (m ∷ ms) =
+    ap (λ (xs : List ℕ). length xs) (starts_cons m.start number (starts_from (number + 1) ms))
+    ∙ omega (
+      arith,
+      length-append (one_of m.start number) (starts_from (number + 1) ms),
+      length_one m.start number,
+      starts_count (number + 1) ms,
+      sum_by-cons (λ (x : PlanModule). one_if x.start) m ms,
+    )
+
+-- ---- the modules so far
+
+starts_are : (plan : Plan) (modules : List Module) (number : ℕ) (r : Roster) → AreStarted plan modules number r
+    → StartsAreLoaded plan modules number (loaded_in r) r.placed
+starts_are plan modules number r so_far =
+    record { starts = so_far.starts; policies = so_far.policies; order = so_far.order }
+
+module _ (plan : Plan) (modules : List Module) where
+  module _ (number : ℕ) (one : PlanModule) (within : number < length plan.modules)
+      (is : one ≡ get_or plan.modules number one) (r : Roster) (so_far : AreStarted plan modules number r) where
+    these : StartsAreLoaded plan modules number (loaded_in r) r.placed
+    these = starts_are plan modules number r so_far
+
+    -- a module that does not belong to the start
+    pub started_same : one.start ≡ false → AreStarted plan modules (number + 1) r
+    started_same late =
+        let same = starts_same plan modules number one within is (loaded_in r) r.placed these late in
+        record {
+          code_words_are = so_far.code_words_are;
+          many = so_far.many;
+          starts = same.starts;
+          policies = same.policies;
+          lines_are = so_far.lines_are;
+          order = same.order;
+        }
+
+    module _ (start : one.start ≡ true) (unplaced : Module) (is_there : slice_get modules number ≡ Some unplaced) where
+      -- a start module that joins
+      pub started_more : (new : Roster) → HasJoined number one.name 0 unplaced r new
+          → AreStarted plan modules (number + 1) new
+      started_more new joined =
+          let p : Placed = joined.one in
+          let line : ModuleLine = line_by number one.name 0 p in
+          let l : LoadedModule = record { number = number; placed = p; policy = 0 } in
+          let there : loaded_of (r.lines ++ line ∷ []) (r.placed ++ p ∷ []) ≡ loaded_in r ++ l ∷ [] =
+          loaded_more origin_of r.lines r.placed line p so_far.many in
+          let joins : Joins plan.code_words r.placed unplaced p =
+          subst (λ (n : ℕ). Joins n r.placed unplaced p) so_far.code_words_are joined.joins in
+          let name : one.name ≡ planned_name plan.modules number =
+          sym (ap (λ o. option_map_or (λ (x : PlanModule). x.name) o [])
+          (slice_get-get_or plan.modules number one within ∙ ap (λ (x : PlanModule). Some x) (sym is))) in
+          let line_is : line ≡ module_line_of plan.modules l = ap (λ (xs : List ℕ). line_by number xs 0 p) name in
+          let all : Roster = record r { lines = r.lines ++ line ∷ []; placed = r.placed ++ p ∷ [] } in
+          let more = starts_more plan modules number one within is (loaded_in r) r.placed these start unplaced is_there
+          p joins l refl refl (loaded_in all) there in
+          let started : AreStarted plan modules (number + 1) all = record {
+            code_words_are = so_far.code_words_are;
+            many = omega (arith, length-append r.lines (line ∷ []), length-append r.placed (p ∷ []), so_far.many);
+            starts = more.starts;
+            policies = more.policies;
+            lines_are =
+                ap (λ (ls : List ModuleLine). ls ++ line ∷ []) so_far.lines_are
+                ∙ ap (λ (x : ModuleLine). map (module_line_of plan.modules) (loaded_in r) ++ x ∷ []) line_is
+                ∙ sym (ap (map (module_line_of plan.modules)) there
+                ∙ map-append (module_line_of plan.modules) (loaded_in r) (l ∷ []));
+            order = more.order;
+          } in
+          subst (AreStarted plan modules (number + 1)) (sym joined.is) started
+
+      -- one that does not
+      pub started_fault : (fault : JoinFault) → IsJoinFault r.code_words r.placed unplaced fault
+          → IsStartFault plan modules (start_fault_of number fault)
+      started_fault (joins.Place fault) why =
+          unjoined plan modules number one within is (loaded_in r) r.placed these start unplaced is_there
+          r.code_words so_far.code_words_are (joins.Place fault) why
+      started_fault (joins.Verify fault) why =
+          unjoined plan modules number one within is (loaded_in r) r.placed these start unplaced is_there
+          r.code_words so_far.code_words_are (joins.Verify fault) why
+      started_fault joins.Memory why = tt
+
+  -- all of them are the opening's
+  pub started_all : (r : Roster) → AreStarted plan modules (length plan.modules) r
+      → IsOpeningState plan modules (opened_state plan r)
+  started_all r all =
+      starts_all plan modules (loaded_in r) r.placed (places_are origin_of r.lines r.placed all.many)
+      (starts_are plan modules (length plan.modules) r all)
+
+  pub started_count : (r : Roster) → AreStarted plan modules (length plan.modules) r
+      → length (loaded_in r) ≡ starts plan.modules
+  started_count r all =
+      sym (length-map (loaded_in r) (λ (l : LoadedModule). l.number))
+      ∙ ap (λ (xs : List ℕ). length xs) (started_all r all).starts
+      ∙ starts_count 0 plan.modules

@@ -1,0 +1,31 @@
+use Rattle.std.proofs.Common.{◌≡◌, List, [], ◌∷◌, ◌++◌, length, get_or, ap, sym, subst, ◌∙◌, arith}
+use Rattle.std.proofs.lemmas.List.{get_or_push}
+use Rattle.cfi_aux.specs.declared.placed.Placed.{Placed}
+use Rattle.cfi_plan.specs.declared.journal.ModuleLine.{ModuleLine}
+use Rattle.cfi_series.specs.Series.{Series}
+use Rattle.cfi_ledger.specs.Roster.{HasJoined, line_by}
+use Rattle.cfi_ledger.proofs.JoinedLemmas.{roster_joined}
+use Rattle.cfi_ledger.proofs.roster.Roster.prepare.Goals as goal
+
+-- the candidate has the module as it joined the series
+pub returns-in-Ok-taken-clause-ok : goal.returns-in-Ok-taken-clause-ok
+returns-in-Ok-taken-clause-ok c =
+    let s = c.self.inside.series in
+    let new = c.in-Ok.prepared.series in
+    let entrant = c.args.entrant.now in
+    let joined = c.in-Ok.ensures.ok in
+    let one = joined.0 in
+    let m = c.index-modules-len.result in
+    let line = c.in-Ok-taken.line in
+    let placed_are : c.modules.result.now ≡ s.placed ++ one ∷ [] =
+    c.modules.ensures ∙ ap (λ (n : Series). n.placed) joined.2 in
+    let count : c.len.result ≡ length s.placed =
+    omega (arith, c.len.ensures, c.self.inside.lines.ok, c.self.invariant.0) in
+    let at : m ≡ one = c.index-modules-len.is ∙ ap (λ (ms : List Placed). get_or ms c.len.result m) placed_are
+    ∙ get_or_push s.placed one m c.len.result (sym count) in
+    let line_is = c.in-Ok-taken.ensures.line ∙ ap (line_by entrant.number entrant.name.now entrant.policy) at in
+    subst (λ (ls : List ModuleLine). HasJoined entrant.number entrant.name.now entrant.policy c.args.unplaced.now
+    c.args.self (record { code_words = new.code_words; lines = ls ++ line ∷ []; placed = new.placed }))
+    (sym c.taken.ensures.lines)
+    (roster_joined entrant.number entrant.policy entrant.name.now c.args.unplaced.now s new c.self.inside.lines.items
+    c.args.self c.self.view_is joined line line_is)

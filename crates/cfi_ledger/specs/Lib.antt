@@ -1,0 +1,12 @@
+pub mod Plans
+pub mod Calls
+pub mod Journal
+pub mod Roster
+pub mod Findings
+pub mod Entries
+pub mod Starts
+pub mod Books
+pub mod Loads
+pub mod Opening
+pub mod Opens
+pub mod Policies

@@ -1,0 +1,60 @@
+-- What opening a plan makes, and why it cannot be opened.
+use Rattle.std.specs.Prelude.{◌≡◌, false, List, [], length, None, replicate, ⊤}
+use Rattle.cfi_aux.specs.declared.modules.Module.{Module}
+use Rattle.cfi_plan.specs.declared.plan.Plan.{Plan}
+use Rattle.cfi_series.specs.declared.fault.JoinFault.TheVariants as joins
+use Rattle.cfi_valid.specs.Opening.{IsFirstUnjoined, IsFirstLost}
+use Rattle.cfi_valid.specs.Script.{script_calls}
+use Rattle.cfi_word.specs.declared.lists.Image.{Image}
+use Rattle.cfi_ledger.specs.declared.books.Books.{Books}
+use Rattle.cfi_ledger.specs.declared.fault.OpenFault.{OpenFault}
+use Rattle.cfi_ledger.specs.declared.fault.OpenFault.TheVariants.{Place, Verify, NoEntry}
+use Rattle.cfi_ledger.specs.declared.fault.StartFault.{StartFault}
+use Rattle.cfi_ledger.specs.declared.fault.StartFault.TheVariants.{Open, Memory}
+use Rattle.cfi_ledger.specs.Entries.{AllEnter}
+use Rattle.cfi_ledger.specs.Journal.{Minutes}
+use Rattle.cfi_ledger.specs.Roster.{Roster, IsImageOfRoster}
+use Rattle.cfi_ledger.specs.Starts.{AreStarted}
+
+-- ---- faults
+
+-- a start module does not join those before it, or all do, and a guest has nowhere to begin
+abbrev pub IsOpenFault : Plan → List Module → OpenFault → Type 0
+IsOpenFault plan modules (Place number fault) = IsFirstUnjoined plan modules number (joins.Place fault)
+IsOpenFault plan modules (Verify number fault) = IsFirstUnjoined plan modules number (joins.Verify fault)
+IsOpenFault plan modules (NoEntry guest) = IsFirstLost plan modules guest
+
+abbrev pub IsStartFault : Plan → List Module → StartFault → Type 0
+IsStartFault plan modules (Open fault) = IsOpenFault plan modules fault
+IsStartFault plan modules Memory = ⊤
+
+-- ---- books
+
+-- what there is at the start; its memory, and what was found, are those of another
+abbrev pub books_at : Plan → List Module → Roster → Image → Minutes → Books → Books
+books_at plan modules roster image journal b = record b {
+  plan = plan;
+  modules = modules;
+  layout = plan.code_words;
+  roster = roster;
+  image = image;
+  epoch = plan.first;
+  policy = 0;
+  starts = length roster.lines;
+  journal = journal;
+  starved = false;
+}
+
+pub record AreOpeningBooks (plan : Plan) (modules : List Module) (roster : Roster) (b : Books) : Type 0 where
+  pub is : b ≡ books_at plan modules roster b.image b.journal b
+  pub image_is : IsImageOfRoster roster b.image
+  pub lines_are : b.journal.lines ≡ []
+  pub left_are : b.journal.left ≡ script_calls plan.script
+  pub none_found : b.found.items ≡ replicate (length modules) None
+
+-- they are those of the start modules, and each guest has somewhere to begin
+pub record AreOpened (plan : Plan) (modules : List Module) (b : Books) : Type 0 where
+  pub roster : Roster
+  pub started : AreStarted plan modules (length plan.modules) roster
+  pub enter : AllEnter plan roster.placed
+  pub books : AreOpeningBooks plan modules roster b

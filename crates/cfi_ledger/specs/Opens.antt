@@ -1,0 +1,27 @@
+-- What the answer to an open of a loaded module says.
+use Rattle.std.specs.Prelude.{ℕ, List, [], Option, Some, None}
+use Rattle.cfi_aux.specs.declared.placed.Placed.{Placed}
+use Rattle.cfi_model.specs.Service.{Reply, reply_of}
+use Rattle.cfi_series.specs.Entry.{IsGlobal, IsFirstOf, HasNoneOf}
+use Rattle.cfi_unit.specs.declared.log.Log.{Log}
+use Rattle.cfi_valid.specs.Journal.{JournalState}
+use Rattle.cfi_valid.specs.Loaded.{LoadedModule, fills_between}
+use Rattle.cfi_valid.specs.Log.{HasFunctionAt, HasNoFunction}
+use Rattle.cfi_valid.specs.Replay.{given_by}
+use Rattle.cfi_word.specs.declared.services.TheConstants.{NO_FUNCTION}
+
+-- what a placed module's first Global function is: its address, or that it has none
+abbrev pub IsFirstGlobal : Placed → Option ℕ → Type 0
+IsFirstGlobal placed (Some address) = IsFirstOf IsGlobal placed address
+IsFirstGlobal placed None = HasNoneOf IsGlobal placed
+
+-- the address is that of the first Global function of the loaded module of this number; it has none
+abbrev pub IsAddressOf : List LoadedModule → (number : ℕ) → Option ℕ → Type 0
+IsAddressOf loaded number (Some address) = HasFunctionAt loaded number address
+IsAddressOf loaded number None = HasNoFunction loaded number
+
+-- the answer by that address: with one, the data that the guest lacks; without, none
+abbrev pub open_reply : JournalState → (log : List Log) → (address : Option ℕ) → Reply
+open_reply s log (Some address) =
+    reply_of address 0 s.policy (fills_between (given_by log) s.policy s.loaded)
+open_reply s log None = reply_of 0 NO_FUNCTION s.policy []

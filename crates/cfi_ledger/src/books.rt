@@ -1,0 +1,245 @@
+//! What a loader has beside the keeper of the tables.
+
+ghost use Rattle.std.specs.Prelude.{◌≡◌, ◌+◌, ◌<◌, true, if◌then◌else◌, IfOk, IfErr, IfSome, OnOk, OnErr, Some, length, nat_le, slice_get, slice_index_or, slice_set};
+ghost use Rattle.cfi_plan.specs.declared.journal.JournalLine.TheVariants.{LoadOk};
+ghost use Rattle.cfi_plan.specs.declared.journal.Who.TheVariants.{Script};
+ghost use Rattle.cfi_aux.specs.declared.placed.Placed.{Placed as PlacedModule};
+ghost use Rattle.cfi_valid.specs.declared.limits.TheConstants.{MAX_LOADED};
+ghost use Rattle.cfi_ledger.specs.Plans.{CanStart};
+ghost use Rattle.cfi_ledger.specs.Journal.{asked_by};
+ghost use Rattle.cfi_ledger.specs.Findings.{AreFindings, DoesJoin};
+ghost use Rattle.cfi_ledger.specs.Journal.{HasLine, HasRoomFor};
+ghost use Rattle.cfi_ledger.specs.Loads.{HasPrepared, IsKnown, IsUnprepared};
+ghost use Rattle.cfi_ledger.specs.Opens.{IsFirstGlobal};
+ghost use Rattle.cfi_ledger.specs.Roster.{IsImageOfRoster};
+
+use crate::entrant::Entrant;
+use crate::finding::{Finding, Known, Outcome, fault_by, outcome_of};
+use crate::journal::Journal;
+use crate::roster::{Candidate, Roster};
+use cfi_aux::Module;
+use cfi_plan::{JournalLine, Plan, Who};
+use cfi_series::{JoinFault, first_global, loaded_have_entries};
+use cfi_valid::MAX_LOADED;
+use cfi_values::Items;
+use cfi_word::limits::MAX_EPOCH;
+use cfi_word::{Image, Layout};
+use std::alloc::Global;
+use std::mem;
+
+/// The plan and its modules, those that are loaded, what is in force, and the journal.
+#[derive(Drop)]
+pub struct Books {
+    pub plan: Plan,
+    pub modules: Items<Module>,
+    pub layout: Layout,
+    pub roster: Roster,
+    // The image, the epoch and the policy in force.
+    pub image: Image,
+    pub epoch: u32,
+    pub policy: u32,
+    // How many modules were there from the start.
+    pub starts: usize,
+    // What was found of each module of the plan when it was tried, so that it is not tried twice behind the same ones.
+    pub found: Vec<Option<Finding>>,
+    pub journal: Journal,
+    // Whether memory was missing for a load.
+    pub starved: bool,
+    pub alloc: Global,
+}
+
+impl Books {
+    /// Adds a line to the journal, for which there is room. It takes no memory.
+    pub fn tell(&mut self, who: Who, what: JournalLine)
+        requires room { HasRoomFor who self.old.journal }
+        ensures line { HasLine (asked_by who what) self.old.journal self.new.journal }
+        ensures same { self.new ≡ record self.old { journal = self.new.journal } }
+    {
+        self.journal.tell(who, what);
+    }
+
+    /// Whether no further module may be loaded.
+    pub fn is_full(&self) -> bool
+        ensures { result ≡ nat_le MAX_LOADED (length self.now.roster.lines) }
+    {
+        self.roster.lines().len() >= MAX_LOADED as usize
+    }
+
+    /// The address of the first Global function of the module at a place in load order.
+    pub fn address_at(&self, at: usize) -> Option<u32>
+        requires { at < length self.now.roster.placed }
+        ensures { (d : PlacedModule) → IsFirstGlobal (slice_index_or self.now.roster.placed at d) result }
+    {
+        loaded_have_entries();
+        first_global(&self.roster.modules()[at])
+    }
+
+    // Takes room for a line beside those of the script. Whether there is memory for it.
+    fn reserve_one(&mut self) -> bool
+        ensures lines { self.new.journal.lines ≡ self.old.journal.lines }
+        ensures left { self.new.journal.left ≡ self.old.journal.left }
+        ensures room { result ≡ true → 0 < self.new.journal.spare }
+        ensures same { self.new ≡ record self.old {
+          journal = self.new.journal;
+          starved = if result then self.old.starved else true;
+        } }
+    {
+        if self.journal.reserve().is_ok() {
+            return true;
+        }
+        self.starved = true;
+        false
+    }
+
+    /// Takes room for the line of whoever asks; that of the script has room. Whether there is memory for it.
+    pub fn reserve(&mut self, who: Who) -> bool
+        requires { who ≡ Script → 0 < length self.old.journal.left }
+        ensures lines { self.new.journal.lines ≡ self.old.journal.lines }
+        ensures left { self.new.journal.left ≡ self.old.journal.left }
+        ensures room { result ≡ true → HasRoomFor who self.new.journal }
+        ensures same { self.new ≡ record self.old {
+          journal = self.new.journal;
+          starved = if result then self.old.starved else true;
+        } }
+    {
+        match who {
+            Who::Script => true,
+            Who::Guest(_) => self.reserve_one(),
+        }
+    }
+
+    /// Places and verifies a module of the plan behind those that are loaded, and takes all memory of its load.
+    ///
+    /// Where it joins, the loaded modules are lent to it until it is committed or turned down.
+    pub fn prepare(&mut self, number: u32) -> Result<Candidate, JoinFault>
+        requires can { CanStart self.old.plan self.old.modules }
+        requires known { number < length self.old.plan.modules }
+        requires few { self.old.policy < MAX_LOADED }
+        ensures ok { IfOk result (λ candidate. HasPrepared self.old number candidate.roster) }
+        ensures image { IfOk result (λ candidate. IsImageOfRoster candidate.roster candidate.image) }
+        ensures lent { OnOk result (self.new ≡ record self.old { roster = self.new.roster }) }
+        ensures fault { IfErr result (IsUnprepared self.old number) }
+        ensures same { OnErr result (self.new ≡ self.old) }
+    {
+        let roster = mem::replace(&mut self.roster, Roster::new(self.alloc, &self.layout));
+        let entrant = Entrant {
+            number,
+            name: self.plan.modules.as_slice()[number as usize].name.as_str(),
+            policy: self.policy + 1,
+        };
+        match roster.prepare(&entrant, &self.modules.as_slice()[number as usize]) {
+            Ok(candidate) => Ok(candidate),
+            Err(unjoined) => {
+                self.roster = unjoined.roster;
+                Err(unjoined.fault)
+            }
+        }
+    }
+
+    // What was found of a module behind all that are loaded.
+    fn outcome(&self, number: u32) -> Option<Outcome>
+        requires { number < length self.now.found.items }
+        ensures { IfSome result (λ outcome. slice_get self.now.found.items number
+            ≡ Some (Some (record { behind = length self.now.roster.placed; outcome = outcome }))) }
+    {
+        let loaded = self.roster.lines().len();
+        match self.found[number as usize] {
+            Some(finding) => {
+                if finding.behind == loaded {
+                    Some(finding.outcome)
+                } else {
+                    None
+                }
+            }
+            None => None,
+        }
+    }
+
+    /// What is known of a module of the plan without trying it.
+    ///
+    /// The name of a fault takes memory, and want of that is a fault.
+    pub fn known(&self, number: u32) -> Known
+        requires known { number < length self.now.modules }
+        requires found { AreFindings self.now.modules self.now.roster self.now.found.items }
+        ensures { IsKnown self.now number result }
+    {
+        let Some(outcome) = self.outcome(number) else {
+            return Known::Nothing;
+        };
+        let unplaced = &self.modules.as_slice()[number as usize];
+        let Ok(fault) = fault_by(self.alloc, unplaced, outcome) else {
+            return Known::Unjoined(JoinFault::Memory);
+        };
+        if let Some(fault) = fault {
+            return Known::Unjoined(fault);
+        }
+        if self.epoch == MAX_EPOCH {
+            return Known::Spent;
+        }
+        Known::Nothing
+    }
+
+    // Notes what was found of a module behind all that are loaded.
+    fn note(&mut self, number: u32, outcome: Outcome)
+        requires { number < length self.old.found.items }
+        ensures found { self.new.found.items ≡ slice_set self.old.found.items number
+            (Some (record { behind = length self.old.roster.placed; outcome = outcome })) }
+        ensures same { self.new ≡ record self.old { found = self.new.found } }
+    {
+        let behind = self.roster.lines().len();
+        self.found[number as usize] = Some(Finding { behind, outcome });
+    }
+
+    /// Keeps why a module does not join. It takes no memory.
+    pub fn keep(&mut self, number: u32, fault: &JoinFault)
+        requires found { AreFindings self.old.modules self.old.roster self.old.found.items }
+        requires unprepared { IsUnprepared self.old number fault.now }
+        ensures found { AreFindings self.old.modules self.old.roster self.new.found.items }
+        ensures same { self.new ≡ record self.old { found = self.new.found } }
+    {
+        let unplaced = &self.modules.as_slice()[number as usize];
+        if let Some(outcome) = outcome_of(unplaced, fault) {
+            self.note(number, outcome);
+        }
+    }
+
+    /// Keeps that a module joins. It takes no memory.
+    pub fn keep_joining(&mut self, number: u32)
+        requires found { AreFindings self.old.modules self.old.roster self.old.found.items }
+        requires joins { DoesJoin self.old.modules self.old.roster number }
+        ensures found { AreFindings self.old.modules self.old.roster self.new.found.items }
+        ensures same { self.new ≡ record self.old { found = self.new.found } }
+    {
+        self.note(number, Outcome::Joins);
+    }
+
+    /// Puts a module in force, with its line.
+    pub fn commit(&mut self, candidate: Candidate, who: Who, number: u32, epoch: u32)
+        requires room { HasRoomFor who self.old.journal }
+        requires few { self.old.policy < MAX_LOADED }
+        ensures line { HasLine (asked_by who (LoadOk number epoch (self.old.policy + 1)))
+            self.old.journal self.new.journal }
+        ensures same { self.new ≡ record self.old {
+          journal = self.new.journal;
+          roster = candidate.roster;
+          image = candidate.image;
+          epoch = epoch;
+          policy = self.old.policy + 1;
+        } }
+    {
+        let (roster, image) = candidate.commit();
+        self.roster = roster;
+        self.image = image;
+        self.epoch = epoch;
+        self.policy += 1;
+        let policy = self.policy;
+        self.tell(
+            who,
+            JournalLine::LoadOk {
+                module: number,
+                epoch,
+                policy,
+            },
+        );
+    }
+}

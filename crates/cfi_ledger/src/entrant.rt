@@ -1,0 +1,68 @@
+//! A module that is to join those that are loaded.
+
+ghost use Rattle.std.specs.Prelude.{◌≡◌, ◌<◌, IfOk, OnOk, vec_len, vec_capacity};
+ghost use Rattle.cfi_series.specs.Fills.{fill_of};
+ghost use Rattle.cfi_ledger.specs.Roster.{line_by};
+
+use cfi_aux::Placed;
+use cfi_plan::ModuleLine;
+use cfi_unit::Fill;
+use cfi_values::{Bytes, Text};
+use std::alloc::{AllocError, Global};
+
+/// A module that is to join: its number, its name and the policy that comes with it.
+#[derive(Drop)]
+pub struct Entrant<'a> {
+    pub number: u32,
+    pub name: &'a str,
+    pub policy: u32,
+}
+
+// What a report says of a module.
+fn line_of(alloc: Global, entrant: &Entrant<'_>, placed: &Placed) -> Result<ModuleLine, AllocError>
+    ensures { IfOk result (λ line. line
+        ≡ line_by entrant.now.number entrant.now.name.now entrant.now.policy placed.now) }
+{
+    Ok(ModuleLine {
+        number: entrant.number,
+        name: Text::from_string(String::from_str(alloc, entrant.name)?),
+        base: placed.base,
+        slot: placed.slot_base,
+        data_base: placed.data_base,
+        policy: entrant.policy,
+    })
+}
+
+// The data of a module, at its place.
+fn fill_of(alloc: Global, placed: &Placed) -> Result<Fill, AllocError>
+    ensures { IfOk result (λ fill. fill ≡ fill_of placed.now) }
+{
+    let bytes = Vec::from_slice(alloc, placed.static_data.as_slice())?;
+    Ok(Fill {
+        at: placed.data_base,
+        bytes: Bytes::from_vec(bytes),
+    })
+}
+
+/// The line and the data of a module, with room for both.
+pub(crate) fn taken(
+    alloc: Global,
+    entrant: &Entrant<'_>,
+    placed: &Placed,
+    lines: &mut Vec<ModuleLine>,
+    fills: &mut Vec<Fill>,
+) -> Result<(ModuleLine, Fill), AllocError>
+    ensures line { IfOk result (λ pair. pair.0
+        ≡ line_by entrant.now.number entrant.now.name.now entrant.now.policy placed.now) }
+    ensures fill { IfOk result (λ pair. pair.1 ≡ fill_of placed.now) }
+    ensures lines { lines.new.items ≡ lines.old.items }
+    ensures fills { fills.new.items ≡ fills.old.items }
+    ensures line_fits { OnOk result (vec_len lines.new < vec_capacity lines.new) }
+    ensures fill_fits { OnOk result (vec_len fills.new < vec_capacity fills.new) }
+{
+    lines.reserve(1)?;
+    fills.reserve(1)?;
+    let line = line_of(alloc, entrant, placed)?;
+    let fill = fill_of(alloc, placed)?;
+    Ok((line, fill))
+}

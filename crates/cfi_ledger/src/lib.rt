@@ -1,0 +1,34 @@
+//! The books of a run: what a plan's loads and opens come to, whatever keeps the tables.
+//!
+//! Stands on `cfi_series`, which places and verifies modules, on `cfi_valid`, in whose words it speaks, and on what
+//! these stand on; `cfi_loader` and `cfi_sim` stand on it. Proved: the start modules and the first fault of opening a
+//! plan are exactly those of its opening; a module joins those that are loaded with the line that a report says of it
+//! and with its data, and may be taken back; what is known of a module without trying it was found of it behind the
+//! same ones; the journal has room for each line that the script can still add; a guest of an entry begins where the
+//! start modules say. Only tested: nothing. Open: that memory suffices.
+#![tactic(auto)]
+
+mod books;
+mod copies;
+mod due;
+mod entrant;
+mod entries;
+mod fault;
+mod finding;
+mod journal;
+mod opening;
+mod opens;
+mod roster;
+mod telling;
+
+pub use books::Books;
+pub use due::Due;
+pub use entrant::Entrant;
+pub use entries::{entry_at, first_lost};
+pub use fault::{OpenFault, StartFault};
+pub use finding::{Finding, Known, Outcome};
+pub use journal::Journal;
+pub use opening::start_modules;
+pub use opens::{fills_from, given_by};
+pub use roster::{Candidate, Roster, Unjoined};
+pub use telling::join_line;

@@ -1,6 +1,0 @@
-use Rattle.cfi_loader.specs.inner.Starts.{AreStarted}
-use Rattle.cfi_loader.proofs.start.start_modules.Given as goal
-
--- the modules so far are started
-abbrev pub invariant-loop-number : goal.invariant-loop-number
-invariant-loop-number l = AreStarted l.plan l.modules l.number l.roster
