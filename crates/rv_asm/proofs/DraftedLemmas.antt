@@ -1,5 +1,6 @@
 -- What the lines so far have made, as a draft, and the fault of the line after them by it.
-use Rattle.std.proofs.Common.{◌≡◌, ◌+◌, Bool, true, false, ◌||◌, List, [], ◌∷◌, ◌++◌, length, map, drop, if◌then◌else◌, Option, Some, None, unwrap_or, refl, sym, ap, ◌∙◌}
+use Rattle.std.proofs.Common.{◌≡◌, ◌+◌, Bool, true, false, ◌||◌, List, [], ◌∷◌, ◌++◌, length, drop, if◌then◌else◌, Option, Some, None, unwrap_or, refl, sym, ap, ◌∙◌, ⊎_elim}
+use Rattle.std.proofs.lemmas.Bool.{cases_Bool}
 use Rattle.std.specs.List.{filter_map, cons_option, flat_map, last_or}
 use Rattle.std.proofs.Math.Seq.{drop-append-add}
 use Rattle.cfi_aux.specs.declared.records.Kind.{Kind}
@@ -17,7 +18,9 @@ use Rattle.rv_asm.specs.Symbols.{names_in}
 use Rattle.rv_asm.specs.Made.{text_at, text_of, data_at, data_of, relocs_at, relocs_by, nodes_in, nodes_of, opened_at, open_after, functions_at, functions_of, kind_set, kind_after, branches_in, branches_at, branches_of, object_by}
 use Rattle.rv_asm.specs.Fault.{is_kind, is_jump, says, jump_comes, line_fault, fault_at}
 use Rattle.rv_asm.proofs.PlacedLemmas.{at_line, placed-push, made-push, last-said}
-use Rattle.rv_asm.proofs.SurveyedLemmas.{row_at}
+use Rattle.rv_asm.specs.inner.Survey.{is_idle}
+use Rattle.rv_asm.proofs.SurveyedLemmas.{rows_in}
+use Rattle.rv_asm.proofs.IdleLemmas.{rows-idle, rows-said, comes-idle, made-idle}
 use Rattle.rv_asm.proofs.CappedFaultLemmas.{flat_map-same}
 use Rattle.rv_asm.proofs.DraftLemmas.{draft_by, draft-eq, kind_held, kinds_held, grown, found_with, totals_by}
 use Rattle.rv_asm.proofs.StepLemmas.{line-same}
@@ -56,6 +59,14 @@ draft-push file before line =
     (made-push (kept_at file) before line)
     (last-said (λ (l : Line). kind_held file.records file l.statement) before line None)
     (open-push file.kinds before line)
+
+-- a line that says nothing makes nothing
+pub draft-idle : (file : File) (before : List Line) (line : Line) → is_idle line ≡ true →
+    draft_after file (before ++ line ∷ []) ≡ draft_after file before
+draft-idle file before line idle =
+    let spot = spot_after before in
+    draft-push file before line
+    ∙ made-idle file spot.area spot.text_end spot.data_end spot.pairs (draft_after file before) line idle
 
 -- with records, each indirect jump takes the kind that is set
 held-set : (file : File) (o : Option Statement) → kind_held true file o ≡ kind_set file o
@@ -103,17 +114,23 @@ module _ (names : List Entry) (kinds : List NodeKind) where
 comes_on : (v w : Bool) (rest more : Bool) → rest ≡ more → (if v || w then w else rest) ≡ (if v || w then w else more)
 comes_on v w rest more same = ap (λ (r : Bool). if v || w then w else r) same
 
-jump-same : (before lines : List Line) → jump_follows (map row_at (placed_behind before lines)) ≡ jump_comes lines
+jump-same : (before lines : List Line) → jump_follows (rows_in (placed_behind before lines)) ≡ jump_comes lines
 jump-same before [] = refl
 jump-same before (line ∷ lines) =
-    comes_on (says is_kind line.statement) (says is_jump line.statement)
-    (jump_follows (map row_at (placed_behind (before ++ line ∷ []) lines))) (jump_comes lines)
-    (jump-same (before ++ line ∷ []) lines)
+    let rest = rows_in (placed_behind (before ++ line ∷ []) lines) in
+    let more = jump-same (before ++ line ∷ []) lines in
+    ⊎_elim
+    (λ (idle : is_idle line ≡ true).
+    ap jump_follows (rows-idle before lines line idle) ∙ more ∙ sym (comes-idle line lines idle))
+    (λ (said : is_idle line ≡ false).
+    ap jump_follows (rows-said before lines line said)
+    ∙ comes_on (says is_kind line.statement) (says is_jump line.statement) (jump_follows rest) (jump_comes lines) more)
+    (cases_Bool (is_idle line))
 
 -- the fault of a line, by the draft of those before it
 pub fault-same : (file : File) (before rest : List Line) (line : Line) →
     line_fault file (found_by (spot_after before) (draft_after file before)
-    (map row_at (placed_behind (before ++ line ∷ []) rest)))
+    (rows_in (placed_behind (before ++ line ∷ []) rest)))
     (totals_by (draft_after file before) (length (names_in (before ++ line ∷ []))))
     (length before + 1) line.label line.statement
     ≡ fault_at file (before ++ line ∷ rest) (at_line before line)
@@ -121,7 +138,7 @@ fault-same file before rest line =
     let lines = before ++ line ∷ rest in
     let draft = draft_after file before in
     let totals = totals_by draft (length (names_in (before ++ line ∷ []))) in
-    let jump : jump_follows (map row_at (placed_behind (before ++ line ∷ []) rest))
+    let jump : jump_follows (rows_in (placed_behind (before ++ line ∷ []) rest))
     ≡ jump_comes (drop (length before + 1) lines) =
     jump-same (before ++ line ∷ []) rest ∙ ap jump_comes (sym (drop-append-add before (line ∷ rest) 1)) in
     ap (λ (j : Bool). line_fault file (found_with (spot_after before) draft j) totals (length before + 1) line.label

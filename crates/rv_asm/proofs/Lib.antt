@@ -12,5 +12,6 @@ pub mod CappedFaultLemmas
 pub mod LimitLemmas
 pub mod DraftLemmas
 pub mod StepLemmas
+pub mod IdleLemmas
 pub mod DraftedLemmas
 pub mod PassLemmas

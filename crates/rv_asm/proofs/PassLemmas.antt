@@ -1,6 +1,7 @@
 -- The two passes give the object that the lines make, or the fault of the first faulty one.
-use Rattle.std.proofs.Common.{◌≡◌, ℕ, suc, subst, ◌+◌, ◌-◌, ◌^◌, ◌≤◌, Bool, List, [], ◌∷◌, ◌++◌, length, map, if◌then◌else◌, Option, Some, None, is_some, Result, Ok, Err, refl, sym, ap, ◌∙◌, append-nil, append_assoc, length-append, arith}
+use Rattle.std.proofs.Common.{◌≡◌, ℕ, subst, ◌+◌, ◌-◌, ◌^◌, ◌≤◌, Bool, true, false, List, [], ◌∷◌, ◌++◌, length, map, if◌then◌else◌, Option, Some, None, is_some, Result, Ok, Err, refl, sym, ap, ◌∙◌, append-nil, append_assoc, length-append, ⊎_elim, arith}
 use Rattle.std.specs.List.{filter_map, cons_option, flat_map, sum_by}
+use Rattle.std.proofs.lemmas.Bool.{cases_Bool}
 use Rattle.std.proofs.lemmas.List.{length-map}
 use Rattle.std.proofs.lemmas.List.Sums.{sum_by-append}
 use Rattle.cfi_text.specs.Lines.{lines_of}
@@ -27,13 +28,15 @@ use Rattle.rv_asm.specs.Symbols.{line_says, says_at, said_in, table_of, names_in
 use Rattle.rv_asm.specs.Made.{open_after, object_by}
 use Rattle.rv_asm.specs.Fault.{fault_at, end_faults}
 use Rattle.rv_asm.proofs.PlacedLemmas.{at_line, placed_behind-append, capped, capped-same, pairs-le}
-use Rattle.rv_asm.proofs.SurveyedLemmas.{capped_says, capped_in, records_in, row_at, survey_after, surveyed-from}
+use Rattle.rv_asm.proofs.SurveyedLemmas.{capped_says, capped_in, records_in, row_at, rows_in, survey_after, surveyed-from}
 use Rattle.rv_asm.proofs.CappedLemmas.{cap, said-from, table-cap, order-cap}
 use Rattle.rv_asm.proofs.CappedFaultLemmas.{fault-cap}
 use Rattle.rv_asm.proofs.LimitLemmas.{AreWithin, within-push}
 use Rattle.rv_asm.proofs.DraftLemmas.{grown}
 use Rattle.rv_asm.proofs.StepLemmas.{or_fault, row-step}
-use Rattle.rv_asm.proofs.DraftedLemmas.{draft_after, draft-push, object-same, fault-same}
+use Rattle.rv_asm.specs.inner.Survey.{is_idle}
+use Rattle.rv_asm.proofs.IdleLemmas.{rows-idle, rows-said, HasFewNames, few-push, fault-idle}
+use Rattle.rv_asm.proofs.DraftedLemmas.{draft_after, draft-push, draft-idle, object-same, fault-same}
 
 end_on : (file : File) (number : ℕ) (draft : Draft) (object : Object) (o : Option Function) →
     object_of file draft ≡ object →
@@ -142,7 +145,7 @@ module _ (names : List Entry) (kinds : List NodeKind) (records : Bool) where
 
   abbrev Passes : (lines before rest : List Line) → Type 0
   Passes lines before rest =
-      (with_rows counted (draft_after counted before) (map row_at (placed_behind before rest))
+      (with_rows counted (draft_after counted before) (rows_in (placed_behind before rest))
       >>= end_of_lines counted (length lines))
       ≡ unless (filter_map (fault_at exact lines) (placed_behind before rest)
       ++ end_faults (length lines + 1) (open_after kinds lines)) (object_by exact lines)
@@ -150,12 +153,12 @@ module _ (names : List Entry) (kinds : List NodeKind) (records : Bool) where
   -- one line
   line-passes : (before rest : List Line) (line : Line) → AreWithin before →
       length (before ++ line ∷ []) ≤ 2 ^ 32 - 1 →
-      with_row counted (draft_after counted before) (map row_at (placed_behind (before ++ line ∷ []) rest))
+      with_row counted (draft_after counted before) (rows_in (placed_behind (before ++ line ∷ []) rest))
       (row_at (at_line before line)) line.statement
       ≡ or_fault (fault_at exact (before ++ line ∷ rest) (at_line before line))
       (grown counted (spot_after before) (draft_after counted before) line.statement)
   line-passes before rest line are few =
-      let others = map row_at (placed_behind (before ++ line ∷ []) rest) in
+      let others = rows_in (placed_behind (before ++ line ∷ []) rest) in
       let draft = draft_after counted before in
       ap (λ (row : Row). with_row counted draft others row line.statement) (row-same before line are few)
       ∙ row-step counted draft others (plain_row (at_line before line)) line.statement
@@ -163,9 +166,9 @@ module _ (names : List Entry) (kinds : List NodeKind) (records : Bool) where
       (fault-same counted before rest line
       ∙ fault-cap names kinds records (before ++ line ∷ rest) (at_line before line) are.text)
 
-  passes-from : (before rest : List Line) → AreWithin before → length (before ++ rest) ≤ 2 ^ 32 - 1 →
-      (AreWithin (before ++ rest) → map cap names ≡ names) → Passes (before ++ rest) before rest
-  passes-from before [] are few known =
+  passes-end : (before : List Line) → AreWithin before → (AreWithin (before ++ []) → map cap names ≡ names) →
+      Passes (before ++ []) before []
+  passes-end before are known =
       let lines = before ++ [] in
       let all : AreWithin lines = subst AreWithin (sym (append-nil before)) are in
       ap (λ (l : List Line). end_of_lines counted (length lines) (draft_after counted l)) (sym (append-nil before))
@@ -173,44 +176,87 @@ module _ (names : List Entry) (kinds : List NodeKind) (records : Bool) where
       (draft_after (named kinds records table) lines)) (known all)
       ∙ end_on exact (length lines + 1) (draft_after exact lines) (object_by exact lines) (open_after kinds lines)
       (object-same names kinds records lines)
-  passes-from before (line ∷ rest) are few known =
-      let lines = before ++ line ∷ rest in
-      let next = before ++ line ∷ [] in
-      let others = map row_at (placed_behind next rest) in
-      let draft = draft_after counted before in
-      let go = λ (d : Draft). with_rows counted d others >>= end_of_lines counted (length lines) in
-      let again = append_assoc before (line ∷ []) rest in
-      let ends = end_faults (length lines + 1) (open_after kinds lines) in
-      let faults = filter_map (fault_at exact lines) (placed_behind next rest) in
-      let short : length next ≤ 2 ^ 32 - 1 =
-      few-lines next rest (subst (λ (l : List Line). length l ≤ 2 ^ 32 - 1) (sym again) few) in
-      bind_bind (with_row counted draft others (row_at (at_line before line)) line.statement)
-      (λ (d : Draft). with_rows counted d others) (end_of_lines counted (length lines))
-      ∙ ap (λ (r : Result Draft AsmFault). r >>= go) (line-passes before rest line are short)
-      ∙ more_on (fault_at exact lines (at_line before line)) (grown counted (spot_after before) draft line.statement)
-      (draft_after counted next) (object_by exact lines) (faults ++ ends) go (sym (draft-push counted before line))
-      (λ none. subst (λ (l : List Line). Passes l next rest) again (passes-from next rest
-      (within-push exact lines before line are none)
-      (subst (λ (l : List Line). length l ≤ 2 ^ 32 - 1) (sym again) few)
-      (λ all. known (subst AreWithin again all))))
-      ∙ ap (λ (fs : List AsmFault). unless fs (object_by exact lines))
-      (cons_option-append (fault_at exact lines (at_line before line)) faults ends)
 
-rows-length : (before lines : List Line) → length (map row_at (placed_behind before lines)) ≡ length lines
-rows-length before [] = refl
-rows-length before (line ∷ lines) = ap suc (rows-length (before ++ line ∷ []) lines)
+  -- the lines from one on, by those behind it
+  module _ (before rest : List Line) (line : Line) where
+    abbrev lines : List Line
+    lines = before ++ line ∷ rest
+
+    abbrev next : List Line
+    next = before ++ line ∷ []
+
+    abbrev go : Draft → Result Object AsmFault
+    go draft =
+        with_rows counted draft (rows_in (placed_behind next rest)) >>= end_of_lines counted (length lines)
+
+    abbrev faults : List AsmFault
+    faults =
+        filter_map (fault_at exact lines) (placed_behind next rest)
+        ++ end_faults (length lines + 1) (open_after kinds lines)
+
+    appended : unless (cons_option (fault_at exact lines (at_line before line)) faults) (object_by exact lines)
+        ≡ unless (filter_map (fault_at exact lines) (placed_behind before (line ∷ rest))
+        ++ end_faults (length lines + 1) (open_after kinds lines)) (object_by exact lines)
+    appended =
+        ap (λ (fs : List AsmFault). unless fs (object_by exact lines))
+        (cons_option-append (fault_at exact lines (at_line before line))
+        (filter_map (fault_at exact lines) (placed_behind next rest))
+        (end_faults (length lines + 1) (open_after kinds lines)))
+
+    passes-said : is_idle line ≡ false → AreWithin before → length next ≤ 2 ^ 32 - 1 →
+        (fault_at exact lines (at_line before line) ≡ None → Passes lines next rest) →
+        Passes lines before (line ∷ rest)
+    passes-said said are short onward =
+        let others = rows_in (placed_behind next rest) in
+        let draft = draft_after counted before in
+        ap (λ (rows : List Row). with_rows counted draft rows >>= end_of_lines counted (length lines))
+        (rows-said before rest line said)
+        ∙ bind_bind (with_row counted draft others (row_at (at_line before line)) line.statement)
+        (λ (d : Draft). with_rows counted d others) (end_of_lines counted (length lines))
+        ∙ ap (λ (r : Result Draft AsmFault). r >>= go) (line-passes before rest line are short)
+        ∙ more_on (fault_at exact lines (at_line before line)) (grown counted (spot_after before) draft line.statement)
+        (draft_after counted next) (object_by exact lines) faults go (sym (draft-push counted before line)) onward
+        ∙ appended
+
+    passes-idle : is_idle line ≡ true → fault_at exact lines (at_line before line) ≡ None → Passes lines next rest →
+        Passes lines before (line ∷ rest)
+    passes-idle idle none onward =
+        ap (λ (rows : List Row). with_rows counted (draft_after counted before) rows
+        >>= end_of_lines counted (length lines)) (rows-idle before rest line idle)
+        ∙ ap go (sym (draft-idle counted before line idle))
+        ∙ onward
+        ∙ ap (λ (o : Option AsmFault). unless (cons_option o faults) (object_by exact lines)) (sym none)
+        ∙ appended
+
+  passes-from : (before rest : List Line) → AreWithin before → HasFewNames before →
+      length (before ++ rest) ≤ 2 ^ 32 - 1 → (AreWithin (before ++ rest) → map cap names ≡ names) →
+      Passes (before ++ rest) before rest
+  passes-from before [] are fits few known = passes-end before are known
+  passes-from before (line ∷ rest) are fits few known =
+      let all = before ++ line ∷ rest in
+      let after_it = before ++ line ∷ [] in
+      let again = append_assoc before (line ∷ []) rest in
+      let still = subst (λ (l : List Line). length l ≤ 2 ^ 32 - 1) (sym again) few in
+      let onward = λ (none : fault_at exact all (at_line before line) ≡ None).
+      subst (λ (l : List Line). Passes l after_it rest) again (passes-from after_it rest
+      (within-push exact all before line are none) (few-push exact all before line none) still
+      (λ within. known (subst AreWithin again within))) in
+      ⊎_elim
+      (λ (idle : is_idle line ≡ true).
+      let none = fault-idle exact all before line idle fits in
+      passes-idle before rest line idle none (onward none))
+      (λ (said : is_idle line ≡ false). passes-said before rest line said are (few-lines after_it rest still) onward)
+      (cases_Bool (is_idle line))
 
 lines-passed : (lines : List Line) → length lines ≤ 2 ^ 32 - 1 →
     passed_by (survey_after lines) ≡ object_or_fault (file_in lines) lines
 lines-passed lines few =
     let file = λ (table : List Entry). named (kinds_in lines) (records_in lines) table in
-    let rows = map row_at (placed lines) in
-    ap (λ (n : ℕ). with_rows (file (counted_in lines)) empty rows >>= end_of_lines (file (counted_in lines)) n)
-    (rows-length [] lines)
-    ∙ ap (λ (table : List Entry). with_rows (file table) empty rows >>= end_of_lines (file table) (length lines))
+    let rows = rows_in (placed lines) in
+    ap (λ (table : List Entry). with_rows (file table) empty rows >>= end_of_lines (file table) (length lines))
     (ap in_order (names-counted lines few) ∙ order-cap (names_in lines))
     ∙ passes-from (in_order (names_in lines)) (kinds_in lines) (records_in lines) [] lines
-    (record { text = omega arith; bytes = omega arith }) few (λ are. names-within lines are few)
+    (record { text = omega arith; bytes = omega arith }) refl few (λ are. names-within lines are few)
 
 pub passed_in-text : (text : List ℕ) → length (lines_in text) ≤ 2 ^ 32 - 1 → passed_in text ≡ object_in text
 passed_in-text text few = ap passed_by (surveyed-from [] (lines_of text)) ∙ lines-passed (lines_in text) few

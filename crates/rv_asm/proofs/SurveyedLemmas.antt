@@ -1,7 +1,6 @@
 -- A survey of lines says where each of them stands, and their names.
-use Rattle.std.proofs.Common.{◌≡◌, ℕ, ◌+◌, Bool, true, false, ◌||◌, List, [], ◌∷◌, ◌++◌, length, map, Option, Some, None, refl, sym, ap, ◌∙◌, append-nil, append_assoc, length-append, arith}
+use Rattle.std.proofs.Common.{◌≡◌, ℕ, ◌+◌, Bool, true, false, ◌||◌, List, [], ◌∷◌, ◌++◌, length, map, if◌then◌else◌, Option, Some, None, refl, sym, ap, ◌∙◌, append-nil, append_assoc, length-append, arith}
 use Rattle.std.specs.List.{flat_map, cons_option, list_any, enumerate_from}
-use Rattle.std.proofs.lemmas.List.{map-append}
 use Rattle.std.proofs.lemmas.List.Elements.{filter_map-append}
 use Rattle.std.proofs.lemmas.List.Folds.{list_any-append}
 use Rattle.rv_line.specs.declared.line.Line.{Line}
@@ -15,10 +14,10 @@ use Rattle.rv_asm.specs.declared.row.Row.{Row}
 use Rattle.rv_asm.specs.declared.spot.Spot.{Spot}
 use Rattle.rv_asm.specs.Reference.{reference_of}
 use Rattle.rv_asm.specs.Spot.{pair_label}
-use Rattle.rv_asm.specs.inner.Survey.{with_reference, with_statement, with_said, with_label, names_of, with_kind, Survey, row_of, with_line, with_lines}
+use Rattle.rv_asm.specs.inner.Survey.{with_reference, with_statement, with_said, with_label, names_of, with_kind, is_idle, Survey, row_of, rows_with, with_line, with_lines}
 use Rattle.rv_asm.specs.Placed.{Placed, placed, spot_after}
 use Rattle.rv_asm.specs.Symbols.{definition_at, defining, label_says, reference_says, statement_says, said_says, line_says, table_of, node_kind, kinds_in}
-use Rattle.rv_asm.proofs.PlacedLemmas.{capped, at_line, placed-push, made-push, spot-push}
+use Rattle.rv_asm.proofs.PlacedLemmas.{capped, at_line, made-push, spot-push}
 use Rattle.rv_asm.proofs.TableLemmas.{name-push, definition-push, export-push, names-all}
 
 -- what a line says of names goes into the table
@@ -109,11 +108,24 @@ row_at at = record {
   names = length (table_of (capped_in (at.before ++ at.line ∷ [])));
 }
 
+-- and it has one if it says something
+abbrev row_in : Placed → List Row
+row_in at = if is_idle at.line then [] else row_at at ∷ []
+
+abbrev pub rows_in : List Placed → List Row
+rows_in lines = flat_map row_in lines
+
+pushed_on : (idle : Bool) (rows : List Row) (row : Row) →
+    (if idle then rows else rows ++ row ∷ []) ≡ rows ++ (if idle then [] else row ∷ [])
+pushed_on true rows row = sym (append-nil rows)
+pushed_on false rows row = refl
+
 rows-push : (before : List Line) (line : Line) →
-    map row_at (placed before) ++ row_at (at_line before line) ∷ [] ≡ map row_at (placed (before ++ line ∷ []))
+    rows_with (rows_in (placed before)) line (row_at (at_line before line))
+    ≡ rows_in (placed (before ++ line ∷ []))
 rows-push before line =
-    sym (map-append row_at (placed before) (at_line before line ∷ []))
-    ∙ ap (map row_at) (sym (placed-push before line))
+    pushed_on (is_idle line) (rows_in (placed before)) (row_at (at_line before line))
+    ∙ sym (made-push row_in before line)
 
 -- the survey of lines
 abbrev pub survey_after : (before : List Line) → Survey
@@ -122,14 +134,15 @@ survey_after before = record {
   names = table_of (capped_in before);
   kinds = kinds_in before;
   records = records_in before;
-  rows = map row_at (placed before);
+  lines = length before;
+  rows = rows_in (placed before);
 }
 
-survey-eq : {s t : Spot} {n m : List Entry} {k l : List NodeKind} {r q : Bool} {x y : List Row} →
-    s ≡ t → n ≡ m → k ≡ l → r ≡ q → x ≡ y →
-    ◌≡◌ {A = Survey} (record { spot = s; names = n; kinds = k; records = r; rows = x })
-    (record { spot = t; names = m; kinds = l; records = q; rows = y })
-survey-eq spot names kinds records rows = rw (spot, names, kinds, records, rows) refl
+survey-eq : {s t : Spot} {n m : List Entry} {k l : List NodeKind} {r q : Bool} {a b : ℕ} {x y : List Row} →
+    s ≡ t → n ≡ m → k ≡ l → r ≡ q → a ≡ b → x ≡ y →
+    ◌≡◌ {A = Survey} (record { spot = s; names = n; kinds = k; records = r; lines = a; rows = x })
+    (record { spot = t; names = m; kinds = l; records = q; lines = b; rows = y })
+survey-eq spot names kinds records lines rows = rw (spot, names, kinds, records, lines, rows) refl
 
 row-eq : (before : List Line) (line : Line) → row_of (survey_after before) (length before + 1) line
     ≡ row_at (at_line before line)
@@ -142,15 +155,18 @@ row-eq before line =
       names = length t;
     }) (names-push before line)
 
+count-push : (before : List Line) (line : Line) → length before + 1 ≡ length (before ++ line ∷ [])
+count-push before line = let more = length-append before (line ∷ []) in omega arith
+
 survey-push : (before : List Line) (line : Line) →
     with_line (survey_after before) (length before + 1) line ≡ survey_after (before ++ line ∷ [])
 survey-push before line =
     survey-eq (sym (spot-push before line)) (names-push before line) (kinds-push before line)
-    (records-push before line)
-    (ap (λ (row : Row). map row_at (placed before) ++ row ∷ []) (row-eq before line) ∙ rows-push before line)
+    (records-push before line) (count-push before line)
+    (ap (rows_with (rows_in (placed before)) line) (row-eq before line) ∙ rows-push before line)
 
 number-push : (before : List Line) (line : Line) → length before + 1 + 1 ≡ length (before ++ line ∷ []) + 1
-number-push before line = let more = length-append before (line ∷ []) in omega arith
+number-push before line = ap (λ (n : ℕ). n + 1) (count-push before line)
 
 pub surveyed-from : (before : List Line) (texts : List (List ℕ)) →
     with_lines (survey_after before) (enumerate_from (length before + 1) texts)

@@ -72,13 +72,13 @@ fn draft_of(alloc: Global, file: &File, rows: &[Row]) -> Result<Draft, AsmFault>
 }
 
 // What the second pass gives.
-fn drafted(alloc: Global, file: File, rows: &[Row]) -> Result<Object, AsmFault>
-    requires { length rows.now + 1 < 2 ^ 32 }
-    ensures { IsDue result (drafted_by file rows.now) }
+fn drafted(alloc: Global, file: File, lines: u32, rows: &[Row]) -> Result<Object, AsmFault>
+    requires { lines + 1 < 2 ^ 32 }
+    ensures { IsDue result (drafted_by file lines rows.now) }
 {
     let draft = draft_of(alloc, &file, rows)?;
     if draft.is_open() {
-        return Err(AsmFault::Syntax(rows.len() as u32 + 1));
+        return Err(AsmFault::Syntax(lines + 1));
     }
     Ok(draft.into_object(alloc, file)?)
 }
@@ -88,8 +88,10 @@ fn passed(alloc: Global, text: &[u8]) -> Result<Object, AsmFault>
     requires { length text.now + 1 < 2 ^ 32 }
     ensures { IsDue result (passed_in text.now) }
 {
-    let (file, rows) = survey_of(alloc, text)?.into_file(alloc)?;
-    drafted(alloc, file, rows.as_slice())
+    let survey = survey_of(alloc, text)?;
+    let lines = survey.lines();
+    let (file, rows) = survey.into_file(alloc)?;
+    drafted(alloc, file, lines, rows.as_slice())
 }
 
 /// The object that a source makes, or its first faulty line.

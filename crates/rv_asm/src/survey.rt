@@ -1,4 +1,4 @@
-//! The first reading of a source: where its lines stand, and its names.
+//! The first reading of a source: where its lines stand, how many there are, and its names.
 
 ghost use Rattle.std.specs.Prelude.{◌≡◌, ◌+◌, ◌<◌, ◌≤◌, ◌^◌, length, Some, IfOk, OnOk};
 ghost use Rattle.cfi_text.specs.Lines.{numbered_lines};
@@ -8,7 +8,7 @@ ghost use Rattle.rv_asm.specs.Reference.{reference_of};
 ghost use Rattle.rv_asm.specs.Spot.{pair_label};
 ghost use Rattle.rv_asm.specs.inner.Count.{said_of, count_of};
 ghost use Rattle.rv_asm.specs.Symbols.{definition_at};
-ghost use Rattle.rv_asm.specs.inner.Survey.{with_reference, with_statement, names_of, nothing, with_kept, with_line, with_lines, with_noted};
+ghost use Rattle.rv_asm.specs.inner.Survey.{with_reference, with_statement, is_idle, names_of, nothing, with_kept, with_line, with_lines, with_noted};
 
 use crate::file::File;
 use crate::reference::reference_of;
@@ -29,6 +29,8 @@ pub struct Survey {
     names: Names,
     kinds: Vec<NodeKind>,
     records: bool,
+    lines: u32,
+    // Those of lines that say something: a source may be blank lines for the most part.
     rows: Vec<Row>,
 }
 
@@ -137,6 +139,16 @@ fn add_line(
     }
 }
 
+// Whether a line says nothing, so that it needs no row.
+fn is_idle(line: &Line) -> bool
+    ensures { result ≡ is_idle line.now }
+{
+    match &line.statement {
+        Some(Statement::Blank) => line.label.is_none(),
+        _ => false,
+    }
+}
+
 impl Survey {
     /// Before the first line.
     pub fn new(alloc: Global) -> Survey
@@ -147,6 +159,7 @@ impl Survey {
             names: Names::new(alloc),
             kinds: Vec::new(alloc),
             records: false,
+            lines: 0,
             rows: Vec::new(alloc),
         }
     }
@@ -170,6 +183,10 @@ impl Survey {
     {
         let spot = self.spot;
         self.spot = spot.after(line.statement.as_ref());
+        self.lines = number;
+        if is_idle(&line) {
+            return Ok(());
+        }
         self.rows.push(Row {
             number,
             label: line.label,
@@ -189,7 +206,14 @@ impl Survey {
         self.keep(number, line)
     }
 
-    /// What all lines know of the whole, and the lines.
+    /// How many lines there were.
+    pub fn lines(&self) -> u32
+        ensures { result ≡ self.now.lines }
+    {
+        self.lines
+    }
+
+    /// What all lines know of the whole, and the lines that say something.
     pub fn into_file(self, alloc: Global) -> Result<(File, Vec<Row>), AllocError>
         ensures file { IfOk result (λ parts. parts.0 ≡ file_of self) }
         ensures rows { IfOk result (λ parts. parts.1.items ≡ self.rows) }
@@ -207,7 +231,7 @@ impl Survey {
 pub fn survey_of(alloc: Global, text: &[u8]) -> Result<Survey, AllocError>
     requires { length text.now + 1 < 2 ^ 32 }
     ensures same { IfOk result (λ survey. survey ≡ with_lines nothing (numbered_lines text.now)) }
-    ensures few { IfOk result (λ survey. length survey.rows ≤ length text.now) }
+    ensures few { IfOk result (λ survey. survey.lines ≤ length text.now) }
 {
     read_all(alloc, text)
 }

@@ -28,7 +28,7 @@ use Rattle.rv_asm.specs.inner.Fault.{is_astray}
 use Rattle.rv_asm.specs.inner.Passes.{with_said, with_rows, end_of_lines, passed_by}
 use Rattle.cfi_values.specs.Then.{◌>>=◌}
 use Rattle.rv_asm.specs.inner.Spot.{plus, after}
-use Rattle.rv_asm.specs.inner.Survey.{Survey, nothing, with_kind, with_line, with_lines}
+use Rattle.rv_asm.specs.inner.Survey.{Survey, nothing, with_kind, is_blank, with_line, with_lines}
 use Rattle.rv_asm.specs.inner.Survey.{with_statement as surveyed}
 use Rattle.rv_asm.specs.Words.{word_bytes}
 use Rattle.rv_asm.proofs.PassLemmas.{passed_in-text}
@@ -52,6 +52,7 @@ record IsCode (statement : Statement) : Type 0 where
       is_astray no_file draft rest (spot_at end) statement ≡ false
   pub known : is_unknown [] statement ≡ false
   pub once : (number : ℕ) → begins_again [] number None statement ≡ false
+  pub speaks : is_blank statement ≡ false
   pub relocs : (end : ℕ) → relocs_of [] (spot_at end) statement ≡ []
   pub code : (draft : Draft) (end : ℕ) →
       with_statement no_file (spot_at end) draft statement ≡ with_code no_file (spot_at end) draft statement
@@ -64,6 +65,7 @@ IsCode-number word = record {
   straight = λ draft rest end. refl;
   known = refl;
   once = λ number. refl;
+  speaks = refl;
   relocs = λ end. refl;
   code = λ draft end. refl;
 }
@@ -76,6 +78,7 @@ IsCode-fence word true is = rw is (record {
   straight = λ draft rest end. refl;
   known = refl;
   once = λ number. refl;
+  speaks = refl;
   relocs = λ end. refl;
   code = λ draft end. refl;
 })
@@ -90,6 +93,7 @@ IsCode-insn insn = record {
   straight = λ draft rest end. refl;
   known = refl;
   once = λ number. refl;
+  speaks = refl;
   relocs = λ end. refl;
   code = λ draft end. refl;
 }
@@ -122,31 +126,43 @@ rows_from number end [] = []
 rows_from number end (word ∷ words) =
     row_at number end (word_statement word) ∷ rows_from (number + 1) (end + 4) words
 
-abbrev survey_at : (end : ℕ) → List Row → Survey
-survey_at end rows = record { spot = spot_at end; names = []; kinds = []; records = false; rows = rows }
+abbrev survey_at : (end lines : ℕ) → List Row → Survey
+survey_at end lines rows = record {
+  spot = spot_at end;
+  names = [];
+  kinds = [];
+  records = false;
+  lines = lines;
+  rows = rows;
+}
 
 with_line-word : (end number : ℕ) (rows : List Row) (statement : Statement) → IsCode statement → end + 4 < 2 ^ 32 →
-    with_line (survey_at end rows) number (plain_line statement)
-    ≡ survey_at (end + 4) (rows ++ row_at number end statement ∷ [])
+    with_line (survey_at end number rows) (number + 1) (plain_line statement)
+    ≡ survey_at (end + 4) (number + 1) (rows ++ row_at (number + 1) end statement ∷ [])
 with_line-word end number rows statement is small =
     let next : plus end 4 ≡ end + 4 = omega (arith, small) in
-    rw (is.next end, is.names number end, is.kinds, next) refl
+    rw (is.next end, is.names (number + 1) end, is.kinds, is.speaks, next) refl
 
 said_lines-words : (end number : ℕ) (rows : List Row) (words : List ℕ) → end + 4 * length words < 2 ^ 32 →
-    said_lines (survey_at end rows) number (map word_line words)
-    ≡ survey_at (end + 4 * length words) (rows ++ rows_from number end words)
+    said_lines (survey_at end number rows) (number + 1) (map word_line words)
+    ≡ survey_at (end + 4 * length words) (number + length words) (rows ++ rows_from (number + 1) end words)
 said_lines-words end number rows [] small =
     let same : end ≡ end + 0 = omega arith in
-    ap (λ e. survey_at e rows) same ∙ ap (survey_at (end + 0)) (sym (append-nil rows))
+    let count : number ≡ number + 0 = omega arith in
+    ap (λ e. survey_at e number rows) same ∙ ap (λ n. survey_at (end + 0) n rows) count
+    ∙ ap (survey_at (end + 0) (number + 0)) (sym (append-nil rows))
 said_lines-words end number rows (word ∷ words) small =
-    let row = row_at number end (word_statement word) in
+    let row = row_at (number + 1) end (word_statement word) in
+    let all = rows ++ rows_from (number + 1) end (word ∷ words) in
     let after_it : end + 4 + 4 * length words ≡ end + 4 * suc (length words) = omega arith in
-    ap (λ s. said_lines s (number + 1) (map word_line words)) (with_line-word end number rows (word_statement word)
+    let count : number + 1 + length words ≡ number + suc (length words) = omega arith in
+    ap (λ s. said_lines s (number + 1 + 1) (map word_line words)) (with_line-word end number rows (word_statement word)
     (IsCode-word word) (omega (arith, small)))
     ∙ said_lines-words (end + 4) (number + 1) (rows ++ row ∷ []) words (omega (arith, small))
-    ∙ ap (survey_at (end + 4 + 4 * length words))
-    (append_assoc rows (row ∷ []) (rows_from (number + 1) (end + 4) words))
-    ∙ ap (λ e. survey_at e (rows ++ rows_from number end (word ∷ words))) after_it
+    ∙ ap (survey_at (end + 4 + 4 * length words) (number + 1 + length words))
+    (append_assoc rows (row ∷ []) (rows_from (number + 1 + 1) (end + 4) words))
+    ∙ ap (λ e. survey_at e (number + 1 + length words) all) after_it
+    ∙ ap (λ n. survey_at (end + 4 * suc (length words)) n all) count
 
 -- the drafts of words
 abbrev draft_at : List ℕ → Draft
@@ -203,9 +219,10 @@ object_in-listing words text small few is =
     let said = ap length (said-listing words small text is) in
     let lines = length-map words word_line in
     let short : length (map line_in (lines_of text)) ≤ 2 ^ 32 - 1 = omega (arith, said, lines, few) in
-    let survey : with_lines nothing (numbered_lines text) ≡ survey_at (0 + 4 * length words) (first_row ∷ rows) =
+    let survey : with_lines nothing (numbered_lines text)
+    ≡ survey_at (0 + 4 * length words) (1 + length words) (first_row ∷ rows) =
     with_lines-said nothing 1 (lines_of text) ∙ ap (said_lines nothing 1) (said-listing words small text is)
-    ∙ said_lines-words 0 2 (first_row ∷ []) words (omega (arith, few)) in
+    ∙ said_lines-words 0 1 (first_row ∷ []) words (omega (arith, few)) in
     sym (passed_in-text text short) ∙ ap passed_by survey
-    ∙ ap (λ r. r >>= end_of_lines no_file (length (first_row ∷ rows)))
+    ∙ ap (λ r. r >>= end_of_lines no_file (1 + length words))
     (with_rows-words 2 0 [] words small (omega (arith, few)))

@@ -10,7 +10,14 @@ use Rattle.rv_asm.specs.inner.Survey.{Survey}
 
 -- a survey
 abbrev pub survey_of : Surveyed → Survey
-survey_of a = record { spot = a.spot; names = a.names; kinds = a.kinds.items; records = a.records; rows = a.rows.items }
+survey_of a = record {
+  spot = a.spot;
+  names = a.names;
+  kinds = a.kinds.items;
+  records = a.records;
+  lines = a.lines;
+  rows = a.rows.items;
+}
 
 -- a draft
 abbrev pub draft_of : Drafted → Draft

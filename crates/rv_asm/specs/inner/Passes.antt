@@ -1,6 +1,6 @@
 -- What the two passes over the lines of a source come to: the first one surveys them, the second one drafts, line by
 -- line, or has the least fault of the first faulty line.
-use Rattle.std.specs.Prelude.{ℕ, ◌+◌, nat_lt, List, [], ◌∷◌, ◌++◌, length, map, if◌then◌else◌, Option, Some, None, is_some, Result, Ok, Err}
+use Rattle.std.specs.Prelude.{ℕ, ◌+◌, nat_lt, List, [], ◌∷◌, ◌++◌, map, if◌then◌else◌, Option, Some, None, is_some, Result, Ok, Err}
 use Rattle.cfi_text.specs.Lines.{numbered_lines}
 use Rattle.cfi_type_table.specs.Spelling.{spelling as types_spelling}
 use Rattle.cfi_aux.specs.Records.{spelling as records_spelling}
@@ -68,15 +68,15 @@ end_of_lines file lines draft =
     if is_some draft.function then Err (Syntax (lines + 1)) else Ok (object_of file draft)
 
 -- what the second pass comes to
-abbrev pub drafted_by : File → (rows : List Row) → Result Object AsmFault
-drafted_by file rows = with_rows file empty rows >>= end_of_lines file (length rows)
+abbrev pub drafted_by : File → (lines : ℕ) → (rows : List Row) → Result Object AsmFault
+drafted_by file lines rows = with_rows file empty rows >>= end_of_lines file lines
 
 -- what all lines know of the whole source
 abbrev pub file_of : Survey → File
 file_of survey = record { names = in_order survey.names; kinds = survey.kinds; records = survey.records }
 
 abbrev pub passed_by : Survey → Result Object AsmFault
-passed_by survey = drafted_by (file_of survey) survey.rows
+passed_by survey = drafted_by (file_of survey) survey.lines survey.rows
 
 -- what the passes over a text come to
 abbrev pub passed_in : (text : List ℕ) → Result Object AsmFault

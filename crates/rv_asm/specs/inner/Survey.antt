@@ -1,6 +1,8 @@
--- What a first reading of a source gives: where each line stands, the names in the order in which they first occur with
--- their definitions, the kinds of its type nodes, and whether it has records.
-use Rattle.std.specs.Prelude.{ℕ, Bool, false, ◌||◌, List, [], ◌∷◌, ◌++◌, length, Option, Some, None}
+-- What a first reading of a source gives: where each line that says something stands, how many lines there are, the
+-- names in the order in which they first occur with their definitions, the kinds of its type nodes, and whether it has
+-- records.
+use Rattle.std.specs.Prelude.{ℕ, Bool, true, false, ◌||◌, ◌&&◌, List, [], ◌∷◌, ◌++◌, length, if◌then◌else◌, Option, Some, None, is_none}
+use Rattle.cfi_values.specs.Some.{holds}
 use Rattle.rv_line.specs.declared.statement.NodeKind.{NodeKind}
 use Rattle.rv_line.specs.declared.statement.Statement.{Statement}
 use Rattle.rv_line.specs.declared.statement.Statement.TheVariants as statements
@@ -47,16 +49,25 @@ abbrev pub with_kind : (kinds : List NodeKind) → Option Statement → List Nod
 with_kind kinds (Some (statements.Node kind fields)) = kinds ++ kind ∷ []
 with_kind kinds other = kinds
 
--- what the lines so far have said
+-- a line that says nothing has no row: no label, and nothing where a statement stands
+abbrev pub is_blank : Statement → Bool
+is_blank statements.Blank = true
+is_blank other = false
+
+abbrev pub is_idle : Line → Bool
+is_idle line = holds is_blank line.statement && is_none line.label
+
+-- what the lines so far have said; the lines count up to the last one
 pub record Survey : Type 0 where
   pub spot : Spot
   pub names : List Entry
   pub kinds : List NodeKind
   pub records : Bool
+  pub lines : ℕ
   pub rows : List Row
 
 abbrev pub nothing : Survey
-nothing = record { spot = start; names = []; kinds = []; records = false; rows = [] }
+nothing = record { spot = start; names = []; kinds = []; records = false; lines = 0; rows = [] }
 
 -- a line with where it stands, and how many names there are by then
 abbrev pub row_of : Survey → (number : ℕ) → Line → Row
@@ -67,6 +78,10 @@ row_of survey number line = record {
   spot = survey.spot;
   names = length (names_of survey.names number survey.spot line);
 }
+
+-- the rows with that of a line, if it says something
+abbrev pub rows_with : (rows : List Row) → Line → Row → List Row
+rows_with rows line row = if is_idle line then rows else rows ++ row ∷ []
 
 -- what the lines have said, with what a line says of the whole
 abbrev pub with_noted : Survey → (number : ℕ) → Line → Survey
@@ -80,13 +95,14 @@ with_noted survey number line = record survey {
 abbrev pub with_kept : Survey → (number : ℕ) → Line → Survey
 with_kept survey number line = record survey {
   spot = after_line survey.spot line.statement;
-  rows = survey.rows ++ record {
+  lines = number;
+  rows = rows_with survey.rows line (record {
     number = number;
     label = line.label;
     statement = line.statement;
     spot = survey.spot;
     names = length survey.names;
-  } ∷ [];
+  });
 }
 
 abbrev pub with_line : Survey → (number : ℕ) → Line → Survey
@@ -95,7 +111,8 @@ with_line survey number line = record {
   names = names_of survey.names number survey.spot line;
   kinds = with_kind survey.kinds line.statement;
   records = survey.records || line.records;
-  rows = survey.rows ++ row_of survey number line ∷ [];
+  lines = number;
+  rows = rows_with survey.rows line (row_of survey number line);
 }
 
 abbrev pub with_lines : Survey → (lines : List (ℕ × List ℕ)) → Survey
