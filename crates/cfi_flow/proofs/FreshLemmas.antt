@@ -1,6 +1,5 @@
 -- Fresh edges: node by node, and of a flow whose branches and addresses are told once.
 use Rattle.std.proofs.Common.{◌≡◌, ℕ, ◌+◌, ◌<◌, ◌⊎◌, List, map, get_or, sym, subst, inl, inr, arith}
-use Rattle.std.specs.List.{Contains}
 use Rattle.std.proofs.lemmas.Bool.{cases_lt}
 use Rattle.std.proofs.lemmas.List.Elements.{All-contains, Contains-get_or}
 use Rattle.cfi_word.specs.declared.lists.Edge.{Edge}
@@ -11,9 +10,9 @@ use Rattle.cfi_flow.specs.declared.links.Flow.{Flow}
 use Rattle.cfi_flow.specs.declared.links.Link.{Link}
 use Rattle.cfi_flow.specs.Flow.{Links, PointsAt, ReturnsAt, Goes, BeginBelow, AreBelow, IsSound}
 use Rattle.cfi_flow.specs.Fans.{link_edge, IsListed}
-use Rattle.cfi_flow.specs.Fresh.{AreAmong, IsPartOf, IsToldOnce, IsFresh}
+use Rattle.cfi_flow.specs.Fresh.{AreAmong, IsPartOf, IsToldOnce, AreOthers, IsFresh}
 use Rattle.cfi_flow.specs.inner.FlowRows.{AreFlowRows, IsPointerFan, IsReturnFan}
-use Rattle.cfi_flow.specs.inner.Others.{AreOthers, JoinsFresh, AddsOthers, IsFreshAt, AddsFresh}
+use Rattle.cfi_flow.specs.inner.Others.{JoinsFresh, AddsOthers, IsFreshAt, AddsFresh}
 use Rattle.cfi_flow.proofs.EdgeLemmas.{link_listed, listed_link}
 use Rattle.cfi_flow.proofs.FanLemmas.{pointer_sound, pointer_whole, return_sound, return_whole, below_nodes}
 

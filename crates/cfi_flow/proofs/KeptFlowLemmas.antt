@@ -5,12 +5,10 @@ use Rattle.cfi_word.specs.declared.lists.Edge.{Edge}
 use Rattle.cfi_word.specs.Chain.{Chain}
 use Rattle.cfi_word.specs.Edge.{edge_of}
 use Rattle.cfi_flow.specs.declared.links.Link.{Link}
-use Rattle.cfi_flow.specs.declared.links.Flow.{Flow}
-use Rattle.cfi_flow.specs.Flow.{Links, Goes}
+use Rattle.cfi_flow.specs.Flow.{Links}
 use Rattle.cfi_flow.specs.Fans.{link_edge, IsListed}
-use Rattle.cfi_flow.specs.Kept.{HasLinks, SpansFlow}
+use Rattle.cfi_flow.specs.Kept.{Kept, GoesAlong, SpansFlow}
 use Rattle.cfi_flow.specs.inner.Tagged.{AreTagged}
-use Rattle.cfi_flow.specs.inner.Ways.{ComesBack}
 use Rattle.cfi_flow.specs.inner.KeptWays.{Ways, edges_of, AreKeptWays, AreLongerWays, AddsLongerWays, kept_of, ComesBackBy, IsOfSome, IsKeptFlow}
 use Rattle.cfi_flow.proofs.EdgeLemmas.{link_listed, listed_link, chain_in}
 use Rattle.cfi_flow.proofs.KeptWayLemmas.{ends_by_tags}
@@ -27,81 +25,46 @@ ways_whole_by ways kept s t b =
     s t b
 
 module _ (nodes : ℕ) (pointing returning : Ways) (listed : List Link) (edges : List Edge)
-    (is : IsKeptFlow nodes pointing returning listed edges) (flow : Flow)
-    (has : HasLinks flow (kept_of nodes pointing returning listed edges)) where
-  comes_pointing : (s t : ℕ) → ComesBack flow.widenings.items flow.entries.items flow.pointers.items s t
-      → ComesBackBy pointing s t
-  comes_pointing s t b =
-      subst (λ ls. ComesBack ls pointing.forth.seeds pointing.back.seeds s t) has.widenings
-      (subst (λ ls. ComesBack flow.widenings.items ls pointing.back.seeds s t) has.entries
-      (subst (λ ls. ComesBack flow.widenings.items flow.entries.items ls s t) has.pointers b))
+    (is : IsKeptFlow nodes pointing returning listed edges) where
+  abbrev kept : Kept
+  kept = kept_of nodes pointing returning listed edges
 
-  pointing_comes : (s t : ℕ) → ComesBackBy pointing s t
-      → ComesBack flow.widenings.items flow.entries.items flow.pointers.items s t
-  pointing_comes s t b =
-      subst (λ ls. ComesBack ls flow.entries.items flow.pointers.items s t) (sym has.widenings)
-      (subst (λ ls. ComesBack pointing.forth.arrows ls flow.pointers.items s t) (sym has.entries)
-      (subst (λ ls. ComesBack pointing.forth.arrows pointing.forth.seeds ls s t) (sym has.pointers) b))
-
-  comes_returning : (s t : ℕ) → ComesBack flow.arrows.items flow.sites.items flow.returns.items s t
-      → ComesBackBy returning s t
-  comes_returning s t b =
-      subst (λ ls. ComesBack ls returning.forth.seeds returning.back.seeds s t) has.arrows
-      (subst (λ ls. ComesBack flow.arrows.items ls returning.back.seeds s t) has.sites
-      (subst (λ ls. ComesBack flow.arrows.items flow.sites.items ls s t) has.returns b))
-
-  returning_comes : (s t : ℕ) → ComesBackBy returning s t
-      → ComesBack flow.arrows.items flow.sites.items flow.returns.items s t
-  returning_comes s t b =
-      subst (λ ls. ComesBack ls flow.sites.items flow.returns.items s t) (sym has.arrows)
-      (subst (λ ls. ComesBack returning.forth.arrows ls flow.returns.items s t) (sym has.sites)
-      (subst (λ ls. ComesBack returning.forth.arrows returning.forth.seeds ls s t) (sym has.returns) b))
-
-  goes_sound : (s t : ℕ) → IsListed edges s t → Goes flow s t
+  goes_sound : (s t : ℕ) → IsListed edges s t → GoesAlong kept s t
   goes_sound s t h = elim (is.sound s t h) [
-    | inl a ↦ inl (subst (λ ls. Links ls s t) (sym has.listed) a)
+    | inl a ↦ inl a
     | inr a ↦ elim a [
-      | inl b ↦
-          let p = pointing_comes s t b in
-          inr (p.node, inl (record { entry = p.site; pointing = p.returning; wider = p.reached; pointer = p.back }))
-      | inr b ↦
-          let r = returning_comes s t b in
-          inr (r.node, inr (record { site = r.site; returning = r.returning; reached = r.reached; back = r.back }))
+      | inl p ↦ inr (p.node, inl (record { entry = p.site; pointing = p.returning; wider = p.reached; pointer = p.back }))
+      | inr r ↦ inr (r.node, inr (record { site = r.site; returning = r.returning; reached = r.reached; back = r.back }))
     ]
   ]
 
-  goes_whole : (s t : ℕ) → Goes flow s t → Chain (IsListed edges) s t
+  goes_whole : (s t : ℕ) → GoesAlong kept s t → Chain (IsListed edges) s t
   goes_whole s t g = elim g [
-    | inl a ↦ record { more = 0; chain = is.lists s t (subst (λ ls. Links ls s t) has.listed a) }
+    | inl a ↦ record { more = 0; chain = is.lists s t a }
     | inr a ↦ elim a.1 [
       | inl p ↦
           chain_in (edges_of pointing) edges (λ e h. is.ties_points e.branch e.target h) s t
-          (ways_whole_by pointing is.points s t (comes_pointing s t (record {
+          (ways_whole_by pointing is.points s t (record {
             node = a.0;
             site = p.entry;
             returning = p.pointing;
             reached = p.wider;
             back = p.pointer;
-          })))
+          }))
       | inr r ↦
           chain_in (edges_of returning) edges (λ e h. is.ties_returns e.branch e.target h) s t
-          (ways_whole_by returning is.returns s t (comes_returning s t (record {
+          (ways_whole_by returning is.returns s t (record {
             node = a.0;
             site = r.site;
             returning = r.returning;
             reached = r.reached;
             back = r.back;
-          })))
+          }))
     ]
   ]
 
-pub kept_spans : (nodes : ℕ) (pointing returning : Ways) (listed : List Link) (edges : List Edge)
-    → IsKeptFlow nodes pointing returning listed edges
-    → SpansFlow (kept_of nodes pointing returning listed edges)
-kept_spans nodes pointing returning listed edges is = record {
-  sound = λ flow has. goes_sound nodes pointing returning listed edges is flow has;
-  whole = λ flow has. goes_whole nodes pointing returning listed edges is flow has;
-}
+  pub kept_spans : SpansFlow (kept_of nodes pointing returning listed edges)
+  kept_spans = record { sound = goes_sound; whole = goes_whole }
 
 -- ---- more links
 

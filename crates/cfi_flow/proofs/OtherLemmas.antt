@@ -1,6 +1,8 @@
 -- What is in none of some known ones, number by number and edge by edge.
-use Rattle.std.proofs.Common.{◌≡◌, ◌∙◌, ◌↔◌, ◌⊎◌, ℕ, ◌<◌, ◌==◌, Bool, true, false, List, [], ◌∷◌, ◌++◌, length, refl, sym, ap, subst, inl, inr, arith, IsTrue}
-use Rattle.std.specs.Prelude.{Result, Ok, Err, slice_index_or}
+use Rattle.std.proofs.Common.{◌≡◌, ◌∙◌, ◌↔◌, ◌⊎◌, ℕ, ◌==◌, List, [], ◌∷◌, ◌++◌, length, map, refl, sym, ap, subst, inl, inr, arith, IsTrue}
+use Rattle.std.specs.Prelude.{Result, Ok, Err, IfOk, slice_index_or}
+use Rattle.std.specs.declared.alloc.AllocError.{AllocError}
+use Rattle.std.specs.Global.{Vec}
 use Rattle.std.specs.List.{Contains}
 use Rattle.std.specs.List.Sorted.{IsBinarySearchResult, IsSearchInRange}
 use Rattle.std.specs.Result.{is_ok}
@@ -15,10 +17,12 @@ use Rattle.std.proofs.lemmas.List.Elements.{Contains-append_left, Contains-appen
 use Rattle.cfi_word.specs.declared.lists.Edge.{Edge}
 use Rattle.cfi_word.specs.Edge.{edge_of}
 use Rattle.cfi_flow.specs.declared.fan.Fan.{Fan}
-use Rattle.cfi_flow.specs.Fans.{Joins, pairs_of, IsListed}
-use Rattle.cfi_flow.specs.inner.Others.{edge_cmp, CanBeSearched, AreOthers, AddsEdges, JoinsFresh, AddsOthers}
-use Rattle.cfi_flow.proofs.Members.{no_member, member_map, member_flat, from_flat}
-use Rattle.cfi_flow.proofs.EdgeLemmas.{from_edge}
+use Rattle.cfi_flow.specs.declared.links.Link.{Link}
+use Rattle.cfi_flow.specs.Fans.{link_edge, pairs_of, IsListed}
+use Rattle.cfi_flow.specs.Fresh.{AreOthers}
+use Rattle.cfi_flow.specs.inner.Others.{edge_cmp, CanBeSearched, AddsOthers}
+use Rattle.cfi_flow.proofs.Members.{no_member, member_map, from_map, member_flat, from_flat}
+use Rattle.cfi_flow.proofs.EdgeLemmas.{listed_link, from_edge}
 use Rattle.cfi_flow.proofs.OrderLemmas.{make_edge}
 
 -- ---- a search among edges
@@ -141,6 +145,30 @@ pub others_are : {X : Type 0} (all all' known known' others : List X) → all �
     → AreOthers all known others → AreOthers all' known' others
 others_are all all' known known' others e f are =
     subst (λ xs. AreOthers xs known' others) e (subst (λ ks. AreOthers all ks others) f are)
+
+-- the same of the edges of links
+pub edge_others : (all known others : List Link) → AreOthers all known others
+    → AreOthers (map link_edge all) (map link_edge known) (map link_edge others)
+edge_others all known others are = record {
+  sound = λ e m.
+      let found = from_map link_edge others e m in
+      let both = are.sound found.0 found.1 in (
+        subst (λ x. Contains (map link_edge all) x) found.2 (member_map link_edge all found.0 both.0),
+        λ h. both.1 (listed_link known found.0.from found.0.to
+            (subst (λ x. Contains (map link_edge known) x) (sym found.2) h)),
+      );
+  whole = λ e m new.
+      let found = from_map link_edge all e m in
+      subst (λ x. Contains (map link_edge others) x) found.2
+      (member_map link_edge others found.0 (are.whole found.0 found.1
+      (λ h. new (subst (λ x. Contains (map link_edge known) x) found.2 (member_map link_edge known found.0 h)))));
+}
+
+-- the same of what making edges returned
+pub others_when : (all known others list : List Edge) (r : Result (Vec Edge) AllocError) → list ≡ others
+    → AreOthers all known others → IfOk r (λ edges. edges.items ≡ list) → IfOk r (λ edges. AreOthers all known edges.items)
+others_when all known others list (Ok v) same are is = subst (λ os. AreOthers all known os) (sym (is ∙ same)) are
+others_when all known others list (Err e) same are is = is
 
 -- ---- pairs
 

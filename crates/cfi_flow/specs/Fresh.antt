@@ -1,5 +1,6 @@
 -- The edges of a flow that are none of another, which is part of it.
 use Rattle.std.specs.Prelude.{◌≡◌, ℕ, List}
+use Rattle.std.specs.List.{Contains}
 use Rattle.cfi_word.specs.declared.lists.Edge.{Edge}
 use Rattle.cfi_flow.specs.declared.links.Link.{Link}
 use Rattle.cfi_flow.specs.declared.links.Flow.{Flow}
@@ -37,6 +38,11 @@ pub record IsToldOnce (flow : Flow) : Type 0 where
       → Links flow.listed.items slot address → ⊥
   pub returns_or_lists : (node slot address : ℕ) → Links flow.returns.items node slot
       → Links flow.listed.items slot address → ⊥
+
+-- those of the list that are none of the known ones
+pub record AreOthers {X : Type 0} (all known others : List X) : Type 0 where
+  pub sound : (x : X) → Contains others x → Contains all x × (Contains known x → ⊥)
+  pub whole : (x : X) → Contains all x → (Contains known x → ⊥) → Contains others x
 
 -- the branch may go to the address by the flow, and not by the known one
 pub record IsFresh (known flow : Flow) (slot address : ℕ) : Type 0 where

@@ -1,10 +1,10 @@
 -- A flow that is kept while links are added, and few edges of it.
-use Rattle.std.specs.Prelude.{◌≡◌, ℕ, ◌++◌, List, []}
+use Rattle.std.specs.Prelude.{◌≡◌, ◌⊎◌, ℕ, ◌++◌, List, []}
 use Rattle.cfi_word.specs.declared.lists.Edge.{Edge}
 use Rattle.cfi_word.specs.Chain.{Chain}
 use Rattle.cfi_flow.specs.declared.links.Link.{Link}
 use Rattle.cfi_flow.specs.declared.links.Flow.{Flow}
-use Rattle.cfi_flow.specs.Flow.{Goes}
+use Rattle.cfi_flow.specs.Flow.{Links, Reaches}
 use Rattle.cfi_flow.specs.Fans.{IsListed}
 
 -- the links of a flow so far, and few edges of it
@@ -33,16 +33,6 @@ no_flow = record {
   edges = [];
 }
 
--- these are the links of the flow
-pub record HasLinks (flow : Flow) (kept : Kept) : Type 0 where
-  pub arrows : flow.arrows.items ≡ kept.arrows
-  pub sites : flow.sites.items ≡ kept.sites
-  pub returns : flow.returns.items ≡ kept.returns
-  pub pointers : flow.pointers.items ≡ kept.pointers
-  pub entries : flow.entries.items ≡ kept.entries
-  pub widenings : flow.widenings.items ≡ kept.widenings
-  pub listed : flow.listed.items ≡ kept.listed
-
 -- the new one has the nodes of the flow, and its links behind those of the old one; edges are added behind the old ones
 pub record IsExtended (old : Kept) (flow : Flow) (new : Kept) : Type 0 where
   pub nodes : new.nodes ≡ flow.nodes
@@ -56,9 +46,26 @@ pub record IsExtended (old : Kept) (flow : Flow) (new : Kept) : Type 0 where
   pub added : List Edge
   pub edges : new.edges ≡ old.edges ++ added
 
--- the edges are some of each flow that has these links, and their chains join what any of its edges joins
+-- pointers to what the node stands for may lead to the address, and the branch points to that or to something wider
+pub record PointsAlong (kept : Kept) (node slot address : ℕ) : Type 0 where
+  pub entry : Links kept.entries node address
+  pub pointing : ℕ
+  pub wider : Reaches kept.widenings node pointing
+  pub pointer : Links kept.pointers pointing slot
+
+-- what enters the node comes back to the address, and gets to where the branch returns
+pub record ReturnsAlong (kept : Kept) (node slot address : ℕ) : Type 0 where
+  pub site : Links kept.sites node address
+  pub returning : ℕ
+  pub reached : Reaches kept.arrows node returning
+  pub back : Links kept.returns returning slot
+
+-- the branch may go to the address along the links: it is listed, or goes there by way of a node
+abbrev pub GoesAlong : Kept → (slot address : ℕ) → Type 0
+GoesAlong kept slot address = Links kept.listed slot address
+    ⊎ ((node : ℕ) × (PointsAlong kept node slot address ⊎ ReturnsAlong kept node slot address))
+
+-- the edges are some of those along the links, and their chains join what any of these joins
 pub record SpansFlow (kept : Kept) : Type 0 where
-  pub sound : (flow : Flow) → HasLinks flow kept → (slot address : ℕ) → IsListed kept.edges slot address
-      → Goes flow slot address
-  pub whole : (flow : Flow) → HasLinks flow kept → (slot address : ℕ) → Goes flow slot address
-      → Chain (IsListed kept.edges) slot address
+  pub sound : (slot address : ℕ) → IsListed kept.edges slot address → GoesAlong kept slot address
+  pub whole : (slot address : ℕ) → GoesAlong kept slot address → Chain (IsListed kept.edges) slot address

@@ -4,8 +4,8 @@ ghost use Rattle.std.specs.Prelude.{◌≡◌, ◌↔◌, ℕ, IsTrue, IfOk, OnO
 ghost use Rattle.std.specs.List.{Contains};
 ghost use Rattle.std.specs.List.Sorted.{IsNonDecreasing};
 ghost use Rattle.cfi_flow.specs.Flow.{IsSound};
-ghost use Rattle.cfi_flow.specs.Fresh.{IsPartOf, IsToldOnce, AreFreshEdges};
-ghost use Rattle.cfi_flow.specs.inner.Others.{CanBeSearched, AreOthers, AddsOthers, AddsFresh};
+ghost use Rattle.cfi_flow.specs.Fresh.{IsPartOf, IsToldOnce, AreOthers, AreFreshEdges};
+ghost use Rattle.cfi_flow.specs.inner.Others.{CanBeSearched, AddsOthers, AddsFresh};
 ghost use Rattle.cfi_flow.specs.Fans.{link_edge};
 ghost use Rattle.cfi_word.specs.declared.lists.Edge.{Edge as FlowEdge};
 
@@ -66,10 +66,9 @@ fn is_known_edge(known: &[Edge], edge: &Edge) -> bool
     known.binary_search(edge).is_ok()
 }
 
-// The edges of those links that are none of the known ones.
-fn other_edges(alloc: Global, links: &[Link], known: &[Link]) -> Result<Vec<Edge>, AllocError>
-    ensures { IfOk result (λ others. AreOthers
-        (map link_edge links.now) (map link_edge known.now) others.items) }
+/// Those of the links that are none of the known ones, in their order.
+pub fn other_links(alloc: Global, links: &[Link], known: &[Link]) -> Result<Vec<Link>, AllocError>
+    ensures { IfOk result (λ others. AreOthers links.now known.now others.items) }
 {
     let known = sorted_edges(alloc, known)?;
     let mut others = Vec::new(alloc);
@@ -79,10 +78,19 @@ fn other_edges(alloc: Global, links: &[Link], known: &[Link]) -> Result<Vec<Edge
             target: link.to,
         };
         if !is_known_edge(known.as_slice(), &edge) {
-            others.push(edge)?;
+            others.push(*link)?;
         }
     }
     Ok(others)
+}
+
+// The edges of those links that are none of the known ones.
+fn other_edges(alloc: Global, links: &[Link], known: &[Link]) -> Result<Vec<Edge>, AllocError>
+    ensures { IfOk result (λ others. AreOthers
+        (map link_edge links.now) (map link_edge known.now) others.items) }
+{
+    let others = other_links(alloc, links, known)?;
+    edges_of(alloc, others.as_slice())
 }
 
 // Adds the edges of a fan that are none of a known one.

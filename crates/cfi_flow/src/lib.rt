@@ -23,7 +23,7 @@ mod tagged;
 mod ways;
 
 pub use edges::{all_edges, few_edges};
-pub use fresh::fresh_edges;
+pub use fresh::{fresh_edges, other_links};
 pub use kept::KeptFlow;
 pub use links::{Flow, Link};
 pub use rows::{Rows, rows_of};

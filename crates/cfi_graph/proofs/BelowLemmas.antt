@@ -1,10 +1,11 @@
--- A flow that says what modules tell names its own nodes.
+-- Links that say what modules tell name nodes.
 use Rattle.std.proofs.Common.{◌≡◌, ℕ, ◌<◌, ◌≤◌, Bool, true, false, ℤ, List, length, get_or, Some, sym, subst, inl, inr, arith}
 use Rattle.std.specs.Prelude.{slice_get, All}
 use Rattle.std.proofs.lemmas.List.Elements.{All-contains, Contains-get_or}
 use Rattle.cfi_flow.specs.declared.links.Link.{Link}
 use Rattle.cfi_flow.specs.declared.links.Flow.{Flow}
 use Rattle.cfi_flow.specs.Flow.{BeginBelow, AreBelow, IsSound}
+use Rattle.cfi_flow.specs.Kept.{Kept}
 use Rattle.cfi_types.specs.Classes.{AreClasses}
 use Rattle.cfi_aux.specs.declared.placed.Placed.{Placed}
 use Rattle.cfi_aux.specs.declared.placed.PlacedFunction.{PlacedFunction}
@@ -19,9 +20,19 @@ use Rattle.cfi_graph.specs.Reading.{tables_of, node_count}
 use Rattle.cfi_graph.proofs.BoundLemmas.{inside, branch_names}
 use Rattle.cfi_graph.proofs.ImportLemmas.{imported_at, imported_word}
 use Rattle.cfi_graph.proofs.NodeLemmas.{StandsAt, lies_there, shaped_at, node_low}
-use Rattle.cfi_graph.proofs.ReadLemmas.{IsArrow, TellsFlow, Tell, unit_cases}
+use Rattle.cfi_graph.specs.Links.{Tell, IsArrow, TellsLinks}
+use Rattle.cfi_graph.proofs.ReadLemmas.{links_of, unit_cases}
 use Rattle.cfi_flow.proofs.RowLemmas.{make_link}
 use Rattle.cfi_graph.proofs.ClassLemmas.{type_low}
+
+-- the links begin, and arrows and widenings also end, at one of so many nodes
+pub record NamesNodes (count : ℕ) (links : Kept) : Type 0 where
+  pub arrows : AreBelow count links.arrows
+  pub sites : BeginBelow count links.sites
+  pub returns : BeginBelow count links.returns
+  pub pointers : BeginBelow count links.pointers
+  pub entries : BeginBelow count links.entries
+  pub widenings : AreBelow count links.widenings
 
 module _ (ms : List Placed) (imports : ByName) (classes : List (List ℕ)) (named : AreImports ms imports) (apart : AreApart ms)
     (are : AreClasses (tables_of ms) classes) where
@@ -151,35 +162,41 @@ module _ (ms : List Placed) (imports : ByName) (classes : List (List ℕ)) (name
       holds l ((tell l.from l.to).0 (Contains-get_or links k d within))
 
   -- an arrow's ends are nodes of the flow
-  arrow_low : (flow : Flow) → AreBelow (node_count ms) flow.widenings.items → (a b : ℕ) → IsArrow ms imports classes flow a b
-      → (a < node_count ms) × (b < node_count ms)
-  arrow_low flow low a b arrow =
+  arrow_low : (widenings : List Link) → AreBelow (node_count ms) widenings → (a b : ℕ)
+      → IsArrow ms imports classes widenings a b → (a < node_count ms) × (b < node_count ms)
+  arrow_low widenings low a b arrow =
       elim arrow [
         | inl told ↦ told_low (facts.Arrow (make_link a b)) told
         | inr link ↦
-            let both = All-contains (λ l. (l.from < node_count ms) × (l.to < node_count ms)) flow.widenings.items
+            let both = All-contains (λ l. (l.from < node_count ms) × (l.to < node_count ms)) widenings
             (make_link b a) low link in
             (both.1, both.0)
       ]
 
-  pub below_nodes : (flow : Flow) → AreBelow (node_count ms) flow.widenings.items → TellsFlow ms imports classes flow
-      → flow.nodes ≡ node_count ms → IsSound flow
-  below_nodes flow low tells is = record {
-    arrows = subst (λ n. AreBelow n flow.arrows.items) (sym is) (λ k d within.
-        let l = get_or flow.arrows.items k d in
-        arrow_low flow low l.from l.to
-        ((tells.arrows l.from l.to).0 (Contains-get_or flow.arrows.items k d within)));
-    sites = subst (λ n. BeginBelow n flow.sites.items) (sym is)
-        (all_by (λ l. facts.Site l) flow.sites.items tells.sites (λ l. l.from < node_count ms)
-        (λ l told. told_low (facts.Site l) told));
-    returns = subst (λ n. BeginBelow n flow.returns.items) (sym is)
-        (all_by (λ l. facts.Return l) flow.returns.items tells.returns (λ l. l.from < node_count ms)
-        (λ l told. told_low (facts.Return l) told));
-    pointers = subst (λ n. BeginBelow n flow.pointers.items) (sym is)
-        (all_by (λ l. facts.Pointer l) flow.pointers.items tells.pointers (λ l. l.from < node_count ms)
-        (λ l told. told_low (facts.Pointer l) told));
-    entries = subst (λ n. BeginBelow n flow.entries.items) (sym is)
-        (all_by (λ l. facts.Entry l) flow.entries.items tells.entries (λ l. l.from < node_count ms)
-        (λ l told. told_low (facts.Entry l) told));
-    widenings = subst (λ n. AreBelow n flow.widenings.items) (sym is) low;
+  pub below_nodes : (links : Kept) → AreBelow (node_count ms) links.widenings → TellsLinks ms imports classes links
+      → NamesNodes (node_count ms) links
+  below_nodes links low tells = record {
+    arrows = λ k d within.
+        let l = get_or links.arrows k d in
+        arrow_low links.widenings low l.from l.to ((tells.arrows l.from l.to).0 (Contains-get_or links.arrows k d within));
+    sites = all_by (λ l. facts.Site l) links.sites tells.sites (λ l. l.from < node_count ms)
+        (λ l told. told_low (facts.Site l) told);
+    returns = all_by (λ l. facts.Return l) links.returns tells.returns (λ l. l.from < node_count ms)
+        (λ l told. told_low (facts.Return l) told);
+    pointers = all_by (λ l. facts.Pointer l) links.pointers tells.pointers (λ l. l.from < node_count ms)
+        (λ l told. told_low (facts.Pointer l) told);
+    entries = all_by (λ l. facts.Entry l) links.entries tells.entries (λ l. l.from < node_count ms)
+        (λ l told. told_low (facts.Entry l) told);
+    widenings = low;
   }
+
+-- a flow that names its own nodes is sound
+pub sound_by : (flow : Flow) (count : ℕ) → NamesNodes count (links_of flow) → flow.nodes ≡ count → IsSound flow
+sound_by flow count names is = record {
+  arrows = subst (λ n. AreBelow n flow.arrows.items) (sym is) names.arrows;
+  sites = subst (λ n. BeginBelow n flow.sites.items) (sym is) names.sites;
+  returns = subst (λ n. BeginBelow n flow.returns.items) (sym is) names.returns;
+  pointers = subst (λ n. BeginBelow n flow.pointers.items) (sym is) names.pointers;
+  entries = subst (λ n. BeginBelow n flow.entries.items) (sym is) names.entries;
+  widenings = subst (λ n. AreBelow n flow.widenings.items) (sym is) names.widenings;
+}

@@ -51,7 +51,7 @@ module _ (imports : ByName) (classes : List (List ℕ)) (number : ℕ) (m : Plac
 -- ---- checks
 
 -- two kinds of one slot are one
-kind_one : (m : Placed) (slot : ℕ) (one other : Kind) → HasKind m slot one → HasKind m slot other → one ≡ other
+pub kind_one : (m : Placed) (slot : ℕ) (one other : Kind) → HasKind m slot one → HasKind m slot other → one ≡ other
 kind_one m slot one other (i, at_i, is_i) (j, at_j, is_j) =
     let same : i ≡ j = omega (arith, at_i, at_j) in
     same_Some one other (sym is_i ∙ ap (λ k. slice_get m.branches k) same ∙ is_j)

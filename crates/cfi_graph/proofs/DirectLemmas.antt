@@ -2,8 +2,8 @@
 use Rattle.std.proofs.Common.{◌≡◌, ◌∙◌, ℕ, zero, suc, ◌+◌, ◌<◌, Bool, true, false, ℤ, List, length, Some, refl, ap, subst, inl, inr, arith}
 use Rattle.std.specs.Prelude.{slice_get}
 use Rattle.std.specs.List.{Contains}
-use Rattle.cfi_flow.specs.declared.links.Flow.{Flow}
-use Rattle.cfi_flow.specs.Flow.{Links, IsPath, Reaches, Goes}
+use Rattle.cfi_flow.specs.Flow.{Links, IsPath, Reaches}
+use Rattle.cfi_flow.specs.Kept.{Kept, GoesAlong}
 use Rattle.cfi_unit.specs.declared.unit.Unit.{Unit as CodeUnit}
 use Rattle.cfi_unit.specs.declared.unit.Unit.TheVariants as units
 use Rattle.cfi_unit.specs.Unit.{size_of}
@@ -23,7 +23,7 @@ use Rattle.cfi_flow.proofs.RowLemmas.{make_link}
 use Rattle.cfi_graph.proofs.BoundLemmas.{at_contains, inside, branch_names}
 use Rattle.cfi_graph.proofs.NodeLemmas.{StandsAt, shaped_at, node_low}
 use Rattle.cfi_graph.proofs.WiderLemmas.{AreWider, fits_callable}
-use Rattle.cfi_graph.proofs.ReadLemmas.{TellsFlow}
+use Rattle.cfi_graph.specs.Links.{TellsLinks}
 
 -- the number of a function's module
 number_of : (ms : List Placed) (n : Placed) (g : PlacedFunction) (is : IsFunction ms n g)
@@ -39,8 +39,8 @@ may_open : (m : Placed) (node : ℕ) (n : Placed) (g : PlacedFunction) → MayPo
 may_open m node n g may = record { taken = may.taken; callable = fits_callable m.types node n.types g.ty may.fits }
 
 module _ (ms : List Placed) (imports : ByName) (classes : List (List ℕ)) (named : AreImports ms imports)
-    (apart : AreApart ms) (flow : Flow)
-    (wider : AreWider ms classes flow.widenings.items) (tells : TellsFlow ms imports classes flow) where
+    (apart : AreApart ms) (flow : Kept)
+    (wider : AreWider ms classes flow.widenings) (tells : TellsLinks ms imports classes flow) where
   by_unit : (number : ℕ) (m : Placed) → slice_get ms number ≡ Some m → (at : ℕ) (unit : CodeUnit) → Stands m at unit
       → (fact : Fact) → IsUnitFact imports classes number m at unit fact → IsTold ms imports classes fact
   by_unit number m is at unit stands fact told = record {
@@ -50,15 +50,15 @@ module _ (ms : List Placed) (imports : ByName) (classes : List (List ℕ)) (name
     tells = inl (record { at = at; unit = unit; stands = stands; tells = told });
   }
 
-  step : (a b c : ℕ) → Links flow.arrows.items a b → Reaches flow.arrows.items b c → Reaches flow.arrows.items a c
+  step : (a b c : ℕ) → Links flow.arrows a b → Reaches flow.arrows b c → Reaches flow.arrows a c
   step a b c arrow (steps, path) = (suc steps, (b, arrow, path))
 
-  told_arrow : (a b : ℕ) → IsTold ms imports classes (facts.Arrow (make_link a b)) → Links flow.arrows.items a b
+  told_arrow : (a b : ℕ) → IsTold ms imports classes (facts.Arrow (make_link a b)) → Links flow.arrows a b
   told_arrow a b told = (tells.arrows a b).1 (inl told)
 
   -- the node of an open function's type leads to the function
   type_arrow : (number : ℕ) (n : Placed) (g : PlacedFunction) → StandsAt ms number n g → IsOpen n g
-      → Links flow.arrows.items (type_node classes number g.ty) (function_node n g)
+      → Links flow.arrows (type_node classes number g.ty) (function_node n g)
   type_arrow number n g at opened =
       told_arrow (type_node classes number g.ty) (function_node n g) (record {
         number = number;
@@ -68,16 +68,16 @@ module _ (ms : List Placed) (imports : ByName) (classes : List (List ℕ)) (name
       })
 
   -- what is reached from a type's node is reached from a wider one's
-  narrow_path : (steps a b to : ℕ) → IsPath flow.widenings.items steps a b → Reaches flow.arrows.items a to
-      → Reaches flow.arrows.items b to
-  narrow_path zero a b to same rest = subst (λ k. Reaches flow.arrows.items k to) same rest
+  narrow_path : (steps a b to : ℕ) → IsPath flow.widenings steps a b → Reaches flow.arrows a to
+      → Reaches flow.arrows b to
+  narrow_path zero a b to same rest = subst (λ k. Reaches flow.arrows k to) same rest
   narrow_path (suc steps) a b to (next, link, path) rest =
       narrow_path steps next b to path (step next a to ((tells.arrows next a).1 (inr link)) rest)
 
   -- the node of a pointer's type is reached from that of a function to which it may lead
   wider_node : (i j : ℕ) (m n : Placed) (node : ℕ) (g : PlacedFunction) → slice_get ms i ≡ Some m
       → node < length m.types → StandsAt ms j n g → MayPoint m node n g
-      → Reaches flow.widenings.items (type_node classes j g.ty) (type_node classes i node)
+      → Reaches flow.widenings (type_node classes j g.ty) (type_node classes i node)
   wider_node i j m n node g is within at may =
       let typed = (inside n (shaped_at ms apart j n at.is) g at.has).typed in
       (wider.fits i j m n is at.is node g.ty within typed (may_open m node n g may).callable).1 may.fits
@@ -85,7 +85,7 @@ module _ (ms : List Placed) (imports : ByName) (classes : List (List ℕ)) (name
   -- the node of a pointer's type leads to what such a function leads to
   pointer_reaches : (i j : ℕ) (m n : Placed) (node : ℕ) (g : PlacedFunction) → slice_get ms i ≡ Some m
       → node < length m.types → StandsAt ms j n g → MayPoint m node n g → (to : ℕ)
-      → Reaches flow.arrows.items (function_node n g) to → Reaches flow.arrows.items (type_node classes i node) to
+      → Reaches flow.arrows (function_node n g) to → Reaches flow.arrows (type_node classes i node) to
   pointer_reaches i j m n node g is within at may to rest =
       let up = wider_node i j m n node g is within at may in
       narrow_path up.0 (type_node classes j g.ty) (type_node classes i node) to up.1
@@ -101,8 +101,8 @@ module _ (ms : List Placed) (imports : ByName) (classes : List (List ℕ)) (name
   pointer_step : (i : ℕ) (m : Placed) (f : PlacedFunction) → StandsAt ms i m f → (j : ℕ) (n : Placed)
       (g : PlacedFunction) → StandsAt ms j n g → (at : ℕ) → LiesIn f at → (linked : Bool) (rs1 : ℕ) (imm : ℤ) (slot : ℕ)
       → Stands m at (units.Check linked rs1 imm slot) → (type : ℕ) → HasKind m slot (kinds.Tail type)
-      → MayPoint m type n g → (to : ℕ) → Reaches flow.arrows.items (function_node n g) to
-      → Reaches flow.arrows.items (function_node m f) to
+      → MayPoint m type n g → (to : ℕ) → Reaches flow.arrows (function_node n g) to
+      → Reaches flow.arrows (function_node m f) to
   pointer_step i m f m_at j n g n_at at lies linked rs1 imm slot stands type has may to rest =
       let within = branch_names m (shaped_at ms apart i m m_at.is) slot (kinds.Tail type) has in
       let node = type_node classes i type in
@@ -117,7 +117,7 @@ module _ (ms : List Placed) (imports : ByName) (classes : List (List ℕ)) (name
       → (at : ℕ) → LiesIn f at → (linked : Bool) (rs1 : ℕ) (imm : ℤ) (slot : ℕ)
       → Stands m at (units.Check linked rs1 imm slot) → (name : List ℕ) (cell : ℕ)
       → HasKind m slot (kinds.Import name cell) → IsImported ms name n g → (to : ℕ)
-      → Reaches flow.arrows.items (function_node n g) to → Reaches flow.arrows.items (function_node m f) to
+      → Reaches flow.arrows (function_node n g) to → Reaches flow.arrows (function_node m f) to
   import_step i m f m_at n g at lies linked rs1 imm slot stands name cell has is to rest =
       let target : IsImportTarget ms name (entry_of n g) = record { owner = n; function = g; is = is; entry = refl } in
       let there : imports name ≡ Some (entry_of n g) = (named name (entry_of n g)).1 target in
@@ -131,7 +131,7 @@ module _ (ms : List Placed) (imports : ByName) (classes : List (List ℕ)) (name
   kind_step : (i : ℕ) (m : Placed) (f : PlacedFunction) → StandsAt ms i m f → (j : ℕ) (n : Placed) (g : PlacedFunction)
       → StandsAt ms j n g → (at : ℕ) → LiesIn f at → (linked : Bool) (rs1 : ℕ) (imm : ℤ) (slot : ℕ)
       → Stands m at (units.Check linked rs1 imm slot) → (kind : Kind) → HasKind m slot kind → MayTail ms m kind n g
-      → (to : ℕ) → Reaches flow.arrows.items (function_node n g) to → Reaches flow.arrows.items (function_node m f) to
+      → (to : ℕ) → Reaches flow.arrows (function_node n g) to → Reaches flow.arrows (function_node m f) to
   kind_step i m f m_at j n g n_at at lies linked rs1 imm slot stands (kinds.Tail type) has may to rest =
       pointer_step i m f m_at j n g n_at at lies linked rs1 imm slot stands type has may to rest
   kind_step i m f m_at j n g n_at at lies linked rs1 imm slot stands (kinds.Import name cell) has may to rest =
@@ -142,7 +142,7 @@ module _ (ms : List Placed) (imports : ByName) (classes : List (List ℕ)) (name
 
   tail_step : (i : ℕ) (m : Placed) (f : PlacedFunction) → StandsAt ms i m f → (j : ℕ) (n : Placed) (g : PlacedFunction)
       → StandsAt ms j n g → (at : ℕ) → LiesIn f at → (unit : CodeUnit) → Stands m at unit → IsTailCall ms m at unit n g
-      → (to : ℕ) → Reaches flow.arrows.items (function_node n g) to → Reaches flow.arrows.items (function_node m f) to
+      → (to : ℕ) → Reaches flow.arrows (function_node n g) to → Reaches flow.arrows (function_node m f) to
   tail_step i m f m_at j n g n_at at lies (units.Jump false off) stands call to rest =
       step (function_node m f) (function_node n g) to
       (told_arrow (function_node m f) (function_node n g) (by_unit i m m_at.is at (units.Jump false off) stands
@@ -159,7 +159,7 @@ module _ (ms : List Placed) (imports : ByName) (classes : List (List ℕ)) (name
 
   -- along tail calls one function's node leads to the other's
   tail_path : (steps i : ℕ) (m : Placed) (f : PlacedFunction) → StandsAt ms i m f → (n : Placed) (g : PlacedFunction)
-      → IsReached ms steps m f n g → Reaches flow.arrows.items (function_node m f) (function_node n g)
+      → IsReached ms steps m f n g → Reaches flow.arrows (function_node m f) (function_node n g)
   tail_path zero i m f at n g (modules, functions) =
       (0, ap (λ x. function_node x f) modules ∙ ap (λ h. function_node n h) functions)
   tail_path (suc steps) i m f at n g (o, h, is, call, rest) =
@@ -171,11 +171,11 @@ module _ (ms : List Placed) (imports : ByName) (classes : List (List ℕ)) (name
 
   -- a node that the call enters, to whose address it comes back
   abbrev IsSiteOf : (node to address : ℕ) → Type 0
-  IsSiteOf node to address = Links flow.sites.items node address × Reaches flow.arrows.items node to
+  IsSiteOf node to address = Links flow.sites node address × Reaches flow.arrows node to
 
   call_site : (i : ℕ) (m : Placed) → slice_get ms i ≡ Some m → (j : ℕ) (n : Placed) (g : PlacedFunction)
       → StandsAt ms j n g → (at : ℕ) (unit : CodeUnit) → Stands m at unit → IsCall m at unit n g → (address : ℕ)
-      → address ≡ code_address m (at + size_of unit) → (to : ℕ) → Reaches flow.arrows.items (function_node n g) to
+      → address ≡ code_address m (at + size_of unit) → (to : ℕ) → Reaches flow.arrows (function_node n g) to
       → (node : ℕ) × IsSiteOf node to address
   call_site i m is j n g n_at at (units.Jump true off) stands call address after to rest = (
     function_node n g,
@@ -206,7 +206,7 @@ module _ (ms : List Placed) (imports : ByName) (classes : List (List ℕ)) (name
 
   pointee_goes : (i : ℕ) (m : Placed) → slice_get ms i ≡ Some m → (type slot address : ℕ) → type < length m.types
       → IsTold ms imports classes (facts.Pointer (make_link (type_node classes i type) slot)) → IsPointee ms m type address
-      → Goes flow slot address
+      → GoesAlong flow slot address
   pointee_goes i m is type slot address within told p =
       let n_at = number_of ms p.owner p.function p.is in
       let pointing = type_node classes i type in
@@ -229,7 +229,7 @@ module _ (ms : List Placed) (imports : ByName) (classes : List (List ℕ)) (name
 
   return_goes : (i : ℕ) (m : Placed) → slice_get ms i ≡ Some m → (at : ℕ) (linked : Bool) (rs1 : ℕ) (imm : ℤ) (slot : ℕ)
       → Stands m at (units.Check linked rs1 imm slot) → HasKind m slot kinds.Return → (address : ℕ)
-      → IsReturnTarget ms m at address → Goes flow slot address
+      → IsReturnTarget ms m at address → GoesAlong flow slot address
   return_goes i m is at linked rs1 imm slot stands has address r =
       let entered = number_of ms r.owner r.entered r.is in
       let to = function_node m r.returning in
@@ -250,7 +250,7 @@ module _ (ms : List Placed) (imports : ByName) (classes : List (List ℕ)) (name
 
   kind_goes : (i : ℕ) (m : Placed) → slice_get ms i ≡ Some m → (at : ℕ) (linked : Bool) (rs1 : ℕ) (imm : ℤ) (slot : ℕ)
       → Stands m at (units.Check linked rs1 imm slot) → (kind : Kind) → HasKind m slot kind → (address : ℕ)
-      → GoesTo ms m at kind address → Goes flow slot address
+      → GoesTo ms m at kind address → GoesAlong flow slot address
   kind_goes i m is at linked rs1 imm slot stands (kinds.Call type) has address goes =
       pointee_goes i m is type slot address
       (branch_names m (shaped_at ms apart i m is) slot (kinds.Call type) has)
@@ -271,7 +271,7 @@ module _ (ms : List Placed) (imports : ByName) (classes : List (List ℕ)) (name
       (facts.Listed (make_link slot address)) (kinds.Switch entries, has, (refl, goes))))
 
   -- where there is a direct edge control goes
-  pub direct_goes : (slot address : ℕ) → DirectEdge ms slot address → Goes flow slot address
+  pub direct_goes : (slot address : ℕ) → DirectEdge ms slot address → GoesAlong flow slot address
   direct_goes slot address e =
       kind_goes e.placed.0 e.owner (at_contains ms e.owner e.placed) e.at e.link e.rs1 e.imm slot e.stands e.kind e.has
       address e.goes

@@ -12,13 +12,14 @@ use Rattle.cfi_graph.specs.declared.fact.Fact.{Fact}
 use Rattle.cfi_graph.specs.Facts.{ByName, AreImports, AreFacts}
 use Rattle.cfi_graph.specs.Reading.{tables_of, node_count, HaveGraph}
 use Rattle.cfi_graph.specs.Edges.{told_most, links_most}
-use Rattle.cfi_graph.specs.inner.Flows.{type_link, IsFlowOf, GoesAs}
+use Rattle.cfi_graph.specs.Links.{type_link}
+use Rattle.cfi_graph.specs.inner.Flows.{IsFlowOf, GoesAs}
 use Rattle.cfi_graph.proofs.WiderLemmas.{AreWider}
-use Rattle.cfi_graph.proofs.WideningLemmas.{links_low, are_wider}
-use Rattle.cfi_graph.proofs.ReadLemmas.{TellsFlow, tells_flow}
+use Rattle.cfi_graph.proofs.WideningLemmas.{widenings_exact, links_low, are_wider}
+use Rattle.cfi_graph.proofs.ReadLemmas.{links_of, TellsFlow, goes_along, along_goes, tells_flow}
 use Rattle.cfi_graph.proofs.SoundLemmas.{goes_direct}
 use Rattle.cfi_graph.proofs.DirectLemmas.{direct_goes}
-use Rattle.cfi_graph.proofs.BelowLemmas.{below_nodes}
+use Rattle.cfi_graph.proofs.BelowLemmas.{below_nodes, sound_by}
 use Rattle.cfi_graph.proofs.ToldLemmas.{as_many_links}
 
 -- what the flow of modules is made of
@@ -38,24 +39,30 @@ module _ (ms : List Placed) (imports : ByName) (classes : List (List ℕ)) (wide
   pub flow_wider : AreWider ms classes flow.widenings.items
   flow_wider =
       subst (λ ls. AreWider ms classes ls) (sym (is.widenings ∙ made.linked))
-      (are_wider ms classes made.typed wider made.wide)
+      (are_wider ms classes made.typed wider (widenings_exact (tables_of ms) classes wider made.wide))
 
   flow_low : AreBelow (node_count ms) flow.widenings.items
   flow_low =
       subst (λ ls. AreBelow (node_count ms) ls) (sym (is.widenings ∙ made.linked))
-      (links_low ms classes made.typed wider made.wide)
+      (links_low ms classes made.typed wider (widenings_exact (tables_of ms) classes wider made.wide))
 
   pub flow_tells : TellsFlow ms imports classes flow
   flow_tells = tells_flow ms imports classes list made.facts links count flow is
 
   pub flow_sound : IsSound flow
   flow_sound =
-      below_nodes ms imports classes made.named made.graph.apart made.typed flow flow_low flow_tells (is.nodes ∙ made.nodes)
+      sound_by flow (node_count ms)
+      (below_nodes ms imports classes made.named made.graph.apart made.typed (links_of flow) flow_low flow_tells)
+      (is.nodes ∙ made.nodes)
 
   pub flow_goes : GoesAs ms flow
   flow_goes = λ slot address. (
-    goes_direct ms imports classes made.named made.graph.apart flow flow_wider flow_tells slot address,
-    direct_goes ms imports classes made.named made.graph.apart flow flow_wider flow_tells slot address,
+    λ goes.
+        goes_direct ms imports classes made.named made.graph.apart (links_of flow) flow_wider flow_tells slot address
+        (goes_along flow slot address goes),
+    λ edge.
+        along_goes flow slot address
+        (direct_goes ms imports classes made.named made.graph.apart (links_of flow) flow_wider flow_tells slot address edge),
   )
 
   pub flow_few : length list ≤ sum_by told_most ms → link_count flow ≤ links_most ms

@@ -3,8 +3,8 @@ use Rattle.std.proofs.Common.{◌≡◌, ◌⊎◌, ◌∙◌, ℕ, zero, suc, �
 use Rattle.std.specs.Prelude.{slice_get}
 use Rattle.std.specs.List.{Contains}
 use Rattle.cfi_flow.specs.declared.links.Link.{Link}
-use Rattle.cfi_flow.specs.declared.links.Flow.{Flow}
 use Rattle.cfi_flow.specs.Flow.{Links, IsPath, Reaches}
+use Rattle.cfi_flow.specs.Kept.{Kept}
 use Rattle.cfi_unit.specs.declared.unit.Unit.TheVariants as units
 use Rattle.cfi_aux.specs.declared.placed.Placed.{Placed}
 use Rattle.cfi_aux.specs.declared.placed.PlacedFunction.{PlacedFunction}
@@ -22,7 +22,8 @@ use Rattle.cfi_graph.proofs.BoundLemmas.{contains_at, inside, branch_names}
 use Rattle.cfi_graph.proofs.ImportLemmas.{imported_at, imported_word}
 use Rattle.cfi_graph.proofs.NodeLemmas.{StandsAt, lies_there, shaped_at, node_low, same_numbers, same_modules, same_functions}
 use Rattle.cfi_graph.proofs.WiderLemmas.{AreWider, reaches_high}
-use Rattle.cfi_graph.proofs.ReadLemmas.{IsArrow, TellsFlow, unit_cases}
+use Rattle.cfi_graph.specs.Links.{IsArrow, TellsLinks}
+use Rattle.cfi_graph.proofs.ReadLemmas.{unit_cases}
 
 -- the node stands for a function from which f of m is reached
 pub record IsEntered (ms : List Placed) (classes : List (List ℕ)) (links : List Link) (m : Placed) (f : PlacedFunction)
@@ -43,8 +44,8 @@ leads_entry address off word n g leads is =
     subst (λ w. Leads address off (4 * w)) is leads
 
 module _ (ms : List Placed) (imports : ByName) (classes : List (List ℕ)) (named : AreImports ms imports)
-    (apart : AreApart ms) (flow : Flow)
-    (wider : AreWider ms classes flow.widenings.items) where
+    (apart : AreApart ms) (flow : Kept)
+    (wider : AreWider ms classes flow.widenings) where
   pub is_function : (number : ℕ) (m : Placed) (f : PlacedFunction) → StandsAt ms number m f → IsFunction ms m f
   is_function number m f at = record { placed = contains_at ms number m at.is; function = at.has }
 
@@ -57,16 +58,16 @@ module _ (ms : List Placed) (imports : ByName) (classes : List (List ℕ)) (name
 
   -- no function's node is reached from a type's
   pub never_reached : (number other node : ℕ) (m : Placed) (f : PlacedFunction) → StandsAt ms number m f
-      → Reaches flow.widenings.items (type_node classes other node) (function_node m f) → ⊥
+      → Reaches flow.widenings (type_node classes other node) (function_node m f) → ⊥
   never_reached number other node m f at reach =
       let low = (node_low ms apart number m f at).1 in
-      let high = reaches_high ms classes flow.widenings.items wider other node (function_node m f) reach in
+      let high = reaches_high ms classes flow.widenings wider other node (function_node m f) reach in
       omega (arith, low, high)
 
   -- a pointer whose type's node is reached from that of an open function's type may lead there
   pub may_point : (i j : ℕ) (m n : Placed) (node : ℕ) (g : PlacedFunction) → slice_get ms i ≡ Some m
       → node < length m.types → StandsAt ms j n g → IsOpen n g
-      → Reaches flow.widenings.items (type_node classes j g.ty) (type_node classes i node) → MayPoint m node n g
+      → Reaches flow.widenings (type_node classes j g.ty) (type_node classes i node) → MayPoint m node n g
   may_point i j m n node g is within at opened reach =
       let typed = (inside n (shaped_at ms apart j n at.is) g at.has).typed in record {
         taken = opened.taken;
@@ -76,9 +77,9 @@ module _ (ms : List Placed) (imports : ByName) (classes : List (List ℕ)) (name
   module _ (m : Placed) (f : PlacedFunction) where
     -- a tail call more
     one_more : (number : ℕ) (o : Placed) → slice_get ms number ≡ Some o → (at node next : ℕ) → LiesInNode o at node
-        → (e : IsEntered ms classes flow.widenings.items m f next)
+        → (e : IsEntered ms classes flow.widenings m f next)
         → ((h : PlacedFunction) → Contains o.functions h → LiesIn h at → TailCalls ms o h e.owner e.entered)
-        → IsEntered ms classes flow.widenings.items m f node
+        → IsEntered ms classes flow.widenings m f node
     one_more number o is at node next lies e calls =
         let there = lies_there o at node lies in
         record {
@@ -99,7 +100,7 @@ module _ (ms : List Placed) (imports : ByName) (classes : List (List ℕ)) (name
 
     jump_step : (number : ℕ) (o : Placed) → slice_get ms number ≡ Some o → (at : ℕ) (off : ℤ)
         → Stands o at (units.Jump false off) → (node next : ℕ) → LiesInNode o at node
-        → LeadsToWord (o.base + at) off next → IsEntered ms classes flow.widenings.items m f next → IsEntered ms classes flow.widenings.items m f node
+        → LeadsToWord (o.base + at) off next → IsEntered ms classes flow.widenings m f next → IsEntered ms classes flow.widenings m f node
     jump_step number o is at off stands node next lies leads e =
         elim e.enters [
           | inl same ↦
@@ -112,14 +113,14 @@ module _ (ms : List Placed) (imports : ByName) (classes : List (List ℕ)) (name
               })
           | inr opened ↦
               let low = leads.within in
-              let high = reaches_high ms classes flow.widenings.items wider e.number e.entered.ty next opened.1 in
+              let high = reaches_high ms classes flow.widenings wider e.number e.entered.ty next opened.1 in
               absurd (omega (arith, low, high))
         ]
 
     tail_step : (number : ℕ) (o : Placed) → slice_get ms number ≡ Some o → (at : ℕ) (linked : Bool) (rs1 : ℕ) (imm : ℤ)
         (slot : ℕ) → Stands o at (units.Check linked rs1 imm slot) → (type : ℕ) → HasKind o slot (kinds.Tail type)
         → (node next : ℕ) → LiesInNode o at node → next ≡ type_node classes number type
-        → IsEntered ms classes flow.widenings.items m f next → IsEntered ms classes flow.widenings.items m f node
+        → IsEntered ms classes flow.widenings m f next → IsEntered ms classes flow.widenings m f node
     tail_step number o is at linked rs1 imm slot stands type has node next lies to e =
         elim e.enters [
           | inl same ↦
@@ -135,7 +136,7 @@ module _ (ms : List Placed) (imports : ByName) (classes : List (List ℕ)) (name
                   has,
                   may_point number e.number o e.owner type e.entered is
                       (branch_names o (shaped_at ms apart number o is) slot (kinds.Tail type) has) e.at opened.0
-                      (subst (λ k. Reaches flow.widenings.items (type_node classes e.number e.entered.ty) k) to opened.1),
+                      (subst (λ k. Reaches flow.widenings (type_node classes e.number e.entered.ty) k) to opened.1),
                 );
               })
         ]
@@ -144,7 +145,7 @@ module _ (ms : List Placed) (imports : ByName) (classes : List (List ℕ)) (name
         (imm : ℤ) (slot : ℕ) → Stands o at (units.Check linked rs1 imm slot) → (name : List ℕ) (cell : ℕ)
         → HasKind o slot (kinds.Import name cell) → (node next address : ℕ) → LiesInNode o at node
         → imports name ≡ Some address → next ≡ word_of address
-        → IsEntered ms classes flow.widenings.items m f next → IsEntered ms classes flow.widenings.items m f node
+        → IsEntered ms classes flow.widenings m f next → IsEntered ms classes flow.widenings m f node
     import_step number o is at linked rs1 imm slot stands name cell has node next address lies there word e =
         let to = (named name address).0 there in
         let n_at = imported_at ms name to.owner to.function to.is in
@@ -169,13 +170,13 @@ module _ (ms : List Placed) (imports : ByName) (classes : List (List ℕ)) (name
               })
           | inr opened ↦
               let low = (node_low ms apart to.is.number to.owner to.function n_at).1 in
-              let high = reaches_high ms classes flow.widenings.items wider e.number e.entered.ty next opened.1 in
+              let high = reaches_high ms classes flow.widenings wider e.number e.entered.ty next opened.1 in
               absurd (omega (arith, low, high, here))
         ]
 
     open_step : (number : ℕ) (o : Placed) (h : PlacedFunction) → StandsAt ms number o h → IsOpen o h
         → (node next : ℕ) → node ≡ type_node classes number h.ty → next ≡ function_node o h
-        → IsEntered ms classes flow.widenings.items m f next → IsEntered ms classes flow.widenings.items m f node
+        → IsEntered ms classes flow.widenings m f next → IsEntered ms classes flow.widenings m f node
     open_step number o h at opened node next from to e =
         elim e.enters [
           | inl same ↦
@@ -199,11 +200,11 @@ module _ (ms : List Placed) (imports : ByName) (classes : List (List ℕ)) (name
               }
           | inr type ↦
               absurd (never_reached number e.number e.entered.ty o h at
-              (subst (λ k. Reaches flow.widenings.items (type_node classes e.number e.entered.ty) k) to type.1))
+              (subst (λ k. Reaches flow.widenings (type_node classes e.number e.entered.ty) k) to type.1))
         ]
 
-    wider_step : (node next : ℕ) → Links flow.widenings.items next node
-        → IsEntered ms classes flow.widenings.items m f next → IsEntered ms classes flow.widenings.items m f node
+    wider_step : (node next : ℕ) → Links flow.widenings next node
+        → IsEntered ms classes flow.widenings m f next → IsEntered ms classes flow.widenings m f node
     wider_step node next link e =
         elim e.enters [
           | inl same ↦
@@ -219,16 +220,16 @@ module _ (ms : List Placed) (imports : ByName) (classes : List (List ℕ)) (name
             reached = e.reached;
             enters = inr (
               opened.0,
-              reaches_then flow.widenings.items opened.1.0 (type_node classes e.number e.entered.ty) next node opened.1.1
-                  (one_arrow flow.widenings.items next node link),
+              reaches_then flow.widenings opened.1.0 (type_node classes e.number e.entered.ty) next node opened.1.1
+                  (one_arrow flow.widenings next node link),
             );
           }
         ]
 
     jump_arrow : (number : ℕ) (o : Placed) → slice_get ms number ≡ Some o → (at : ℕ) (linked : Bool) (off : ℤ)
         → Stands o at (units.Jump linked off) → (node next : ℕ)
-        → IsJumpFact o at linked off (facts.Arrow (make_link node next)) → IsEntered ms classes flow.widenings.items m f next
-        → IsEntered ms classes flow.widenings.items m f node
+        → IsJumpFact o at linked off (facts.Arrow (make_link node next)) → IsEntered ms classes flow.widenings m f next
+        → IsEntered ms classes flow.widenings m f node
     jump_arrow number o is at true off stands node next told e = absurd told
     jump_arrow number o is at false off stands node next told e =
         jump_step number o is at off stands node next told.0 told.1 e
@@ -237,7 +238,7 @@ module _ (ms : List Placed) (imports : ByName) (classes : List (List ℕ)) (name
         → (at : ℕ) (linked : Bool) (rs1 : ℕ) (imm : ℤ) (slot : ℕ) → Stands o at (units.Check linked rs1 imm slot)
         → (kind : Kind) → HasKind o slot kind
         → (node next : ℕ) → IsBranchFact imports classes number o at slot kind (facts.Arrow (make_link node next))
-        → IsEntered ms classes flow.widenings.items m f next → IsEntered ms classes flow.widenings.items m f node
+        → IsEntered ms classes flow.widenings m f next → IsEntered ms classes flow.widenings m f node
     check_arrow number o is at linked rs1 imm slot stands (kinds.Tail type) has node next told e =
         tail_step number o is at linked rs1 imm slot stands type has node next told.0 told.1 e
     check_arrow number o is at linked rs1 imm slot stands (kinds.Call type) has node next told e = absurd told
@@ -246,8 +247,8 @@ module _ (ms : List Placed) (imports : ByName) (classes : List (List ℕ)) (name
     check_arrow number o is at linked rs1 imm slot stands (kinds.Import name cell) has node next (lies, (address, there, word)) e =
         import_step number o is at linked rs1 imm slot stands name cell has node next address lies there word e
 
-    told_step : (node next : ℕ) → IsTold ms imports classes (facts.Arrow (make_link node next)) → IsEntered ms classes flow.widenings.items m f next
-        → IsEntered ms classes flow.widenings.items m f node
+    told_step : (node next : ℕ) → IsTold ms imports classes (facts.Arrow (make_link node next)) → IsEntered ms classes flow.widenings m f next
+        → IsEntered ms classes flow.widenings m f node
     told_step node next told e =
         elim told.tells [
           | inl unit ↦ elim (unit_cases imports classes told.number told.owner (facts.Arrow (make_link node next)) unit) [
@@ -265,15 +266,15 @@ module _ (ms : List Placed) (imports : ByName) (classes : List (List ℕ)) (name
               open_step told.number told.owner function.function at tells.0 node next tells.1 tells.2 e
         ]
 
-    arrow_step : (node next : ℕ) → IsArrow ms imports classes flow node next
-        → IsEntered ms classes flow.widenings.items m f next → IsEntered ms classes flow.widenings.items m f node
+    arrow_step : (node next : ℕ) → IsArrow ms imports classes flow.widenings node next
+        → IsEntered ms classes flow.widenings m f next → IsEntered ms classes flow.widenings m f node
     arrow_step node next arrow e =
         elim arrow [ inl told ↦ told_step node next told e | inr link ↦ wider_step node next link e ]
 
     -- the nodes from which a function's node is reached
-    pub entered_by : TellsFlow ms imports classes flow → (number : ℕ) → StandsAt ms number m f
-        → (steps node : ℕ) → IsPath flow.arrows.items steps node (function_node m f)
-        → IsEntered ms classes flow.widenings.items m f node
+    pub entered_by : TellsLinks ms imports classes flow → (number : ℕ) → StandsAt ms number m f
+        → (steps node : ℕ) → IsPath flow.arrows steps node (function_node m f)
+        → IsEntered ms classes flow.widenings m f node
     entered_by tells number at zero node path = record {
       number = number;
       owner = m;

@@ -27,3 +27,8 @@ mod OneMoreLemmas
 mod SiteLemmas
 mod OnceLemmas
 mod NewEdgeLemmas
+mod TellOnLemmas
+mod MoreLemmas
+mod MetLemmas
+mod GrowWiderLemmas
+mod KeptGraphLemmas

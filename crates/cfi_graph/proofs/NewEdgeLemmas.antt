@@ -1,5 +1,5 @@
 -- The flow of modules with one more, and of the modules alone as part of it.
-use Rattle.std.proofs.Common.{◌≡◌, ◌↔◌, ◌∙◌, ◌⊎◌, ℕ, List, [], ◌∷◌, ◌++◌, length, Some, sym, ap, subst, inl, inr, arith}
+use Rattle.std.proofs.Common.{◌≡◌, ◌↔◌, ◌∙◌, ◌⊎◌, ℕ, List, [], ◌∷◌, ◌++◌, length, Some, refl, sym, ap, subst, inl, inr, arith}
 use Rattle.std.specs.Option.{option_or}
 use Rattle.std.proofs.lemmas.Option.{slice_get_within}
 use Rattle.cfi_word.specs.declared.lists.Edge.{Edge}
@@ -8,15 +8,11 @@ use Rattle.cfi_flow.specs.declared.links.Flow.{Flow}
 use Rattle.cfi_flow.specs.Flow.{Links}
 use Rattle.cfi_flow.specs.Fresh.{AreAmong, IsPartOf, AreFreshEdges}
 use Rattle.cfi_flow.proofs.RowLemmas.{make_link}
-use Rattle.cfi_unit.specs.declared.unit.Unit.{Unit as CodeUnit}
-use Rattle.cfi_unit.specs.declared.unit.Unit.TheVariants as units
 use Rattle.cfi_aux.specs.declared.placed.Placed.{Placed}
-use Rattle.cfi_aux.specs.declared.records.Kind.{Kind}
-use Rattle.cfi_aux.specs.declared.records.Kind.TheVariants as kinds
 use Rattle.cfi_graph.specs.declared.fact.Fact.{Fact}
 use Rattle.cfi_graph.specs.declared.fact.Fact.TheVariants as facts
 use Rattle.cfi_graph.specs.Direct.{IsImportTarget}
-use Rattle.cfi_graph.specs.Facts.{ByName, AreImports, IsBranchFact, IsUnitFact, ModuleTells, IsTold, AreFacts}
+use Rattle.cfi_graph.specs.Facts.{ByName, AreImports, ModuleTells, IsTold, AreFacts}
 use Rattle.cfi_graph.specs.Reading.{CanAllBeRead}
 use Rattle.cfi_graph.specs.NewEdges.{AreNewEdges}
 use Rattle.cfi_graph.specs.inner.Flows.{IsFlowOf}
@@ -28,12 +24,14 @@ use Rattle.cfi_graph.proofs.ImportLemmas.{are_imports}
 use Rattle.cfi_graph.proofs.FlowLemmas.{IsMade, flow_wider, flow_tells, flow_sound, flow_goes}
 use Rattle.cfi_graph.proofs.OneMoreLemmas.{at_first, at_last, at_cases, graph_first}
 use Rattle.cfi_graph.proofs.OnceLemmas.{told_once}
-use Rattle.cfi_graph.proofs.ReadLemmas.{Tell, TellsFlow, tells_flow}
+use Rattle.cfi_graph.specs.Links.{Tell}
+use Rattle.cfi_graph.proofs.ReadLemmas.{links_of, TellsFlow, goes_along, along_goes, tells_flow}
 use Rattle.cfi_graph.proofs.SoundLemmas.{goes_direct}
+use Rattle.cfi_graph.proofs.TellOnLemmas.{all_lead_on, module_on}
 use Rattle.cfi_graph.proofs.WiderLemmas.{AreWider}
 
 -- the first function of a name stays it
-imported_on : (ms : List Placed) (m : Placed) (name : List ℕ) (address : ℕ) → IsImportTarget ms name address
+pub imported_on : (ms : List Placed) (m : Placed) (name : List ℕ) (address : ℕ) → IsImportTarget ms name address
     → IsImportTarget (ms ++ m ∷ []) name address
 imported_on ms m name address t =
     let own = t.is in
@@ -60,67 +58,13 @@ imported_on ms m name address t =
 
 module _ (old new : ByName) (more : (name : List ℕ) (address : ℕ) → old name ≡ Some address → new name ≡ Some address)
     (classes : List (List ℕ)) where
-  -- what a check tells by some imports it tells by more
-  branch_on : (number : ℕ) (m : Placed) (at slot : ℕ) (kind : Kind) (fact : Fact)
-      → IsBranchFact old classes number m at slot kind fact → IsBranchFact new classes number m at slot kind fact
-  branch_on number m at slot (kinds.Call node) (facts.Pointer l) told = told
-  branch_on number m at slot (kinds.Call node) (facts.Site l) told = told
-  branch_on number m at slot (kinds.Call node) (facts.Arrow l) told = told
-  branch_on number m at slot (kinds.Call node) (facts.Return l) told = told
-  branch_on number m at slot (kinds.Call node) (facts.Entry l) told = told
-  branch_on number m at slot (kinds.Call node) (facts.Listed l) told = told
-  branch_on number m at slot (kinds.Tail node) (facts.Pointer l) told = told
-  branch_on number m at slot (kinds.Tail node) (facts.Site l) told = told
-  branch_on number m at slot (kinds.Tail node) (facts.Arrow l) told = told
-  branch_on number m at slot (kinds.Tail node) (facts.Return l) told = told
-  branch_on number m at slot (kinds.Tail node) (facts.Entry l) told = told
-  branch_on number m at slot (kinds.Tail node) (facts.Listed l) told = told
-  branch_on number m at slot kinds.Return (facts.Pointer l) told = told
-  branch_on number m at slot kinds.Return (facts.Site l) told = told
-  branch_on number m at slot kinds.Return (facts.Arrow l) told = told
-  branch_on number m at slot kinds.Return (facts.Return l) told = told
-  branch_on number m at slot kinds.Return (facts.Entry l) told = told
-  branch_on number m at slot kinds.Return (facts.Listed l) told = told
-  branch_on number m at slot (kinds.Switch entries) (facts.Pointer l) told = told
-  branch_on number m at slot (kinds.Switch entries) (facts.Site l) told = told
-  branch_on number m at slot (kinds.Switch entries) (facts.Arrow l) told = told
-  branch_on number m at slot (kinds.Switch entries) (facts.Return l) told = told
-  branch_on number m at slot (kinds.Switch entries) (facts.Entry l) told = told
-  branch_on number m at slot (kinds.Switch entries) (facts.Listed l) told = told
-  branch_on number m at slot (kinds.Import name cell) (facts.Listed l) told = (told.0, more name l.to told.1)
-  branch_on number m at slot (kinds.Import name cell) (facts.Arrow l) (lies, (address, there, word)) =
-      (lies, (address, more name address there, word))
-  branch_on number m at slot (kinds.Import name cell) (facts.Pointer l) told = told
-  branch_on number m at slot (kinds.Import name cell) (facts.Site l) told = told
-  branch_on number m at slot (kinds.Import name cell) (facts.Return l) told = told
-  branch_on number m at slot (kinds.Import name cell) (facts.Entry l) told = told
-
-  unit_on : (number : ℕ) (m : Placed) (at : ℕ) (unit : CodeUnit) (fact : Fact) → IsUnitFact old classes number m at unit fact
-      → IsUnitFact new classes number m at unit fact
-  unit_on number m at (units.Jump linked off) fact told = told
-  unit_on number m at (units.Check linked rs1 imm slot) fact (kind, has, told) =
-      (kind, has, branch_on number m at slot kind fact told)
-  unit_on number m at (units.Plain insn) fact told = told
-  unit_on number m at (units.Load kind rd rs1 imm) fact told = told
-  unit_on number m at (units.Store kind rs1 rs2 imm) fact told = told
-  unit_on number m at (units.Branch cond rs1 rs2 off) fact told = told
-  unit_on number m at units.Service fact told = told
-
-  module_on : (number : ℕ) (m : Placed) (fact : Fact) → ModuleTells old classes number m fact
-      → ModuleTells new classes number m fact
-  module_on number m fact told =
-      elim told [
-        | inl u ↦ inl (record { at = u.at; unit = u.unit; stands = u.stands; tells = unit_on number m u.at u.unit fact u.tells })
-        | inr f ↦ inr f
-      ]
-
   -- what modules tell they tell with one more behind them
   told_on : (ms : List Placed) (m : Placed) (fact : Fact) → IsTold ms old classes fact → IsTold (ms ++ m ∷ []) new classes fact
   told_on ms m fact told = record {
     number = told.number;
     owner = told.owner;
     is = at_first ms m told.number told.owner told.is;
-    tells = module_on told.number told.owner fact told.tells;
+    tells = module_on old new classes classes told.number (λ node. refl) (all_lead_on old new more) told.owner fact told.tells;
   }
 
 -- what the modules tell, and what the last one does
@@ -222,8 +166,12 @@ module _ (ms : List Placed) (m : Placed) (imports all_imports : ByName) (classes
         once = told_once (ms ++ m ∷ []) all_imports classes made.graph.apart made.named flow all_wider all_tells;
         goes = flow_goes (ms ++ m ∷ []) all_imports classes wider all_list all_links count made flow is;
         goes_old = λ slot address. (
-          goes_direct ms imports classes named apart known known_wider known_tells slot address,
-          direct_goes ms imports classes named apart known known_wider known_tells slot address,
+          λ goes.
+              goes_direct ms imports classes named apart (links_of known) known_wider known_tells slot address
+              (goes_along known slot address goes),
+          λ edge.
+              along_goes known slot address
+              (direct_goes ms imports classes named apart (links_of known) known_wider known_tells slot address edge),
         );
       }
 

@@ -16,7 +16,7 @@ use Rattle.cfi_graph.specs.Shaped.{AreApart}
 use Rattle.cfi_graph.specs.Calls.{HasKind}
 use Rattle.cfi_graph.specs.Facts.{ByName, AreImports, type_node, IsJumpFact, IsBranchFact, IsFunctionFact, IsTold}
 use Rattle.cfi_graph.proofs.NodeLemmas.{before_at, same_numbers, same_functions}
-use Rattle.cfi_graph.proofs.ReadLemmas.{TellsFlow, unit_cases}
+use Rattle.cfi_graph.proofs.ReadLemmas.{links_of, TellsFlow, unit_cases}
 use Rattle.cfi_graph.proofs.SiteLemmas.{kind_one, one_site}
 use Rattle.cfi_graph.proofs.SoundLemmas.{IsEntry, entry_told}
 use Rattle.cfi_graph.proofs.WiderLemmas.{AreWider}
@@ -199,8 +199,8 @@ module _ (ms : List Placed) (imports : ByName) (classes : List (List ℕ)) (apar
   told_once named flow wider tells = record {
     entries = λ one other to a b.
         one_entry one other to
-        (entry_told ms imports classes named apart flow wider tells one to ((tells.entries one to).0 a))
-        (entry_told ms imports classes named apart flow wider tells other to ((tells.entries other to).0 b));
+        (entry_told ms imports classes named apart (links_of flow) wider tells one to ((tells.entries one to).0 a))
+        (entry_told ms imports classes named apart (links_of flow) wider tells other to ((tells.entries other to).0 b));
     sites = λ one other to a b.
         one_site ms imports classes apart one other to ((tells.sites one to).0 a) ((tells.sites other to).0 b);
     points_or_returns = λ node other slot a b.

@@ -1,8 +1,8 @@
 -- Modules with one more behind them.
-use Rattle.std.proofs.Common.{◌≡◌, ℕ, zero, suc, ◌+◌, ◌<◌, ◌⊎◌, List, [], ◌∷◌, ◌++◌, length, get_or, Some, refl, sym, ap, subst, inl, inr, arith, length-append}
+use Rattle.std.proofs.Common.{◌≡◌, ◌∙◌, ℕ, zero, suc, ◌+◌, ◌<◌, ◌⊎◌, List, [], ◌∷◌, ◌++◌, length, take, drop, get_or, Some, refl, sym, ap, subst, inl, inr, arith, length-append}
 use Rattle.std.specs.Prelude.{slice_get, All}
 use Rattle.std.specs.List.{AllPairs, flat_map}
-use Rattle.std.proofs.lemmas.List.{map_push, get_or_append_left}
+use Rattle.std.proofs.lemmas.List.{append-nil, append_assoc, map_push, get_or_append_left, take_more, take-append-drop}
 use Rattle.std.proofs.lemmas.List.Concat.{flat_map-append}
 use Rattle.std.proofs.lemmas.Option.{none-some, same_Some}
 use Rattle.cfi_type_table.specs.Node.{Node}
@@ -74,3 +74,18 @@ graph_first ms m graph =
       few = omega (arith, few, more);
       nodes = omega (arith, nodes, count);
     }
+
+-- a graph can be made of each front of them
+graph_front : (ms more : List Placed) → HaveGraph (ms ++ more) → HaveGraph ms
+graph_front ms [] graph = subst HaveGraph (append-nil ms) graph
+graph_front ms (m ∷ more) graph =
+    graph_first ms m (graph_front (ms ++ m ∷ []) more (subst HaveGraph (sym (append_assoc ms (m ∷ []) more)) graph))
+
+pub graph_take : (ms : List Placed) (count : ℕ) → HaveGraph ms → HaveGraph (take count ms)
+graph_take ms count graph =
+    graph_front (take count ms) (drop count ms) (subst HaveGraph (sym (take-append-drop count ms)) graph)
+
+-- the next one behind the first ones
+pub next_taken : {X : Type 0} (xs : List X) (k : ℕ) (x : X) → k < length xs → x ≡ get_or xs k x
+    → take k xs ++ x ∷ [] ≡ take (k + 1) xs
+next_taken xs k x within is = ap (λ y. take k xs ++ y ∷ []) is ∙ sym (take_more xs k x within)

@@ -5,7 +5,8 @@ use Rattle.std.proofs.lemmas.List.Elements.{Contains-append_left, Contains-appen
 use Rattle.std.proofs.lemmas.Option.{none-some, same_Some}
 use Rattle.cfi_flow.specs.declared.links.Link.{Link}
 use Rattle.cfi_flow.specs.declared.links.Flow.{Flow}
-use Rattle.cfi_flow.specs.Flow.{flipped, Links}
+use Rattle.cfi_flow.specs.Flow.{flipped, Links, Goes}
+use Rattle.cfi_flow.specs.Kept.{Kept, GoesAlong}
 use Rattle.cfi_flow.proofs.Members.{member_first, member_later, no_member, member_cases}
 use Rattle.cfi_unit.specs.declared.unit.Unit.{Unit as CodeUnit}
 use Rattle.cfi_unit.specs.declared.unit.Unit.TheVariants as units
@@ -16,6 +17,7 @@ use Rattle.cfi_graph.specs.declared.fact.Fact.TheVariants as facts
 use Rattle.cfi_graph.specs.Code.{Stands}
 use Rattle.cfi_graph.specs.Calls.{HasKind}
 use Rattle.cfi_graph.specs.Facts.{ByName, IsJumpFact, IsBranchFact, IsUnitFact, UnitTells, IsTold, AreFacts}
+use Rattle.cfi_graph.specs.Links.{Tell, TellsLinks}
 use Rattle.cfi_graph.specs.inner.Flows.{arrow_in, site_in, return_in, pointer_in, entry_in, listed_in, IsFlowOf}
 use Rattle.cfi_flow.proofs.RowLemmas.{make_link}
 use Rattle.cfi_flow.proofs.PathLemmas.{flip, unflip}
@@ -57,7 +59,7 @@ from_picked h (z ∷ zs) y has =
 
 -- ---- facts by their links
 
-arrow_only : (fact : Fact) (l : Link) → arrow_in fact ≡ Some l → facts.Arrow l ≡ fact
+pub arrow_only : (fact : Fact) (l : Link) → arrow_in fact ≡ Some l → facts.Arrow l ≡ fact
 arrow_only (facts.Arrow k) l is = ap facts.Arrow (sym (same_Some k l is))
 arrow_only (facts.Site k) l is = absurd (none-some l is)
 arrow_only (facts.Return k) l is = absurd (none-some l is)
@@ -65,7 +67,7 @@ arrow_only (facts.Pointer k) l is = absurd (none-some l is)
 arrow_only (facts.Entry k) l is = absurd (none-some l is)
 arrow_only (facts.Listed k) l is = absurd (none-some l is)
 
-site_only : (fact : Fact) (l : Link) → site_in fact ≡ Some l → facts.Site l ≡ fact
+pub site_only : (fact : Fact) (l : Link) → site_in fact ≡ Some l → facts.Site l ≡ fact
 site_only (facts.Site k) l is = ap facts.Site (sym (same_Some k l is))
 site_only (facts.Arrow k) l is = absurd (none-some l is)
 site_only (facts.Return k) l is = absurd (none-some l is)
@@ -73,7 +75,7 @@ site_only (facts.Pointer k) l is = absurd (none-some l is)
 site_only (facts.Entry k) l is = absurd (none-some l is)
 site_only (facts.Listed k) l is = absurd (none-some l is)
 
-return_only : (fact : Fact) (l : Link) → return_in fact ≡ Some l → facts.Return l ≡ fact
+pub return_only : (fact : Fact) (l : Link) → return_in fact ≡ Some l → facts.Return l ≡ fact
 return_only (facts.Return k) l is = ap facts.Return (sym (same_Some k l is))
 return_only (facts.Arrow k) l is = absurd (none-some l is)
 return_only (facts.Site k) l is = absurd (none-some l is)
@@ -81,7 +83,7 @@ return_only (facts.Pointer k) l is = absurd (none-some l is)
 return_only (facts.Entry k) l is = absurd (none-some l is)
 return_only (facts.Listed k) l is = absurd (none-some l is)
 
-pointer_only : (fact : Fact) (l : Link) → pointer_in fact ≡ Some l → facts.Pointer l ≡ fact
+pub pointer_only : (fact : Fact) (l : Link) → pointer_in fact ≡ Some l → facts.Pointer l ≡ fact
 pointer_only (facts.Pointer k) l is = ap facts.Pointer (sym (same_Some k l is))
 pointer_only (facts.Arrow k) l is = absurd (none-some l is)
 pointer_only (facts.Site k) l is = absurd (none-some l is)
@@ -89,7 +91,7 @@ pointer_only (facts.Return k) l is = absurd (none-some l is)
 pointer_only (facts.Entry k) l is = absurd (none-some l is)
 pointer_only (facts.Listed k) l is = absurd (none-some l is)
 
-entry_only : (fact : Fact) (l : Link) → entry_in fact ≡ Some l → facts.Entry l ≡ fact
+pub entry_only : (fact : Fact) (l : Link) → entry_in fact ≡ Some l → facts.Entry l ≡ fact
 entry_only (facts.Entry k) l is = ap facts.Entry (sym (same_Some k l is))
 entry_only (facts.Arrow k) l is = absurd (none-some l is)
 entry_only (facts.Site k) l is = absurd (none-some l is)
@@ -97,7 +99,7 @@ entry_only (facts.Return k) l is = absurd (none-some l is)
 entry_only (facts.Pointer k) l is = absurd (none-some l is)
 entry_only (facts.Listed k) l is = absurd (none-some l is)
 
-listed_only : (fact : Fact) (l : Link) → listed_in fact ≡ Some l → facts.Listed l ≡ fact
+pub listed_only : (fact : Fact) (l : Link) → listed_in fact ≡ Some l → facts.Listed l ≡ fact
 listed_only (facts.Listed k) l is = ap facts.Listed (sym (same_Some k l is))
 listed_only (facts.Arrow k) l is = absurd (none-some l is)
 listed_only (facts.Site k) l is = absurd (none-some l is)
@@ -107,36 +109,65 @@ listed_only (facts.Entry k) l is = absurd (none-some l is)
 
 -- ---- links
 
--- the links of the list are those that the modules tell so
-abbrev pub Tell : (ms : List Placed) → ByName → (classes : List (List ℕ)) → (Link → Fact) → List Link → Type 0
-Tell ms imports classes make links = (a b : ℕ) → Links links a b ↔ IsTold ms imports classes (make (make_link a b))
+-- the links that are picked of facts
+pub by_pick : (make : Link → Fact) (pick : Fact → Option Link) → ((l : Link) → pick (make l) ≡ Some l)
+    → ((fact : Fact) (l : Link) → pick fact ≡ Some l → make l ≡ fact) → (list : List Fact) (a b : ℕ)
+    → Links (filter_map pick list) a b ↔ Contains list (make (make_link a b))
+by_pick make pick gives only list a b = (
+  λ has.
+      let found = from_picked pick list (make_link a b) has in
+      subst (λ fact. Contains list fact) (sym (only found.0 (make_link a b) found.2)) found.1,
+  λ has. member_picked pick list (make (make_link a b)) (make_link a b) has (gives (make_link a b)),
+)
 
--- an arrow is told, or leads from a wider type's node to a narrower one's
-abbrev pub IsArrow : (ms : List Placed) → ByName → (classes : List (List ℕ)) → Flow → (a b : ℕ) → Type 0
-IsArrow ms imports classes flow a b = IsTold ms imports classes (facts.Arrow (make_link a b)) ⊎ Links flow.widenings.items b a
+-- the links of a flow
+abbrev pub links_of : Flow → Kept
+links_of flow = record {
+  nodes = flow.nodes;
+  arrows = flow.arrows.items;
+  sites = flow.sites.items;
+  returns = flow.returns.items;
+  pointers = flow.pointers.items;
+  entries = flow.entries.items;
+  widenings = flow.widenings.items;
+  listed = flow.listed.items;
+  edges = [];
+}
 
 -- a flow that says what the modules tell
-pub record TellsFlow (ms : List Placed) (imports : ByName) (classes : List (List ℕ)) (flow : Flow) : Type 0 where
-  pub arrows : (a b : ℕ) → Links flow.arrows.items a b ↔ IsArrow ms imports classes flow a b
-  pub sites : Tell ms imports classes (λ l. facts.Site l) flow.sites.items
-  pub returns : Tell ms imports classes (λ l. facts.Return l) flow.returns.items
-  pub pointers : Tell ms imports classes (λ l. facts.Pointer l) flow.pointers.items
-  pub entries : Tell ms imports classes (λ l. facts.Entry l) flow.entries.items
-  pub listed : Tell ms imports classes (λ l. facts.Listed l) flow.listed.items
+abbrev pub TellsFlow : (ms : List Placed) (imports : ByName) (classes : List (List ℕ)) (flow : Flow) → Type 0
+TellsFlow ms imports classes flow = TellsLinks ms imports classes (links_of flow)
+
+-- control goes along a flow as along its links
+pub goes_along : (flow : Flow) (slot address : ℕ) → Goes flow slot address → GoesAlong (links_of flow) slot address
+goes_along flow slot address goes =
+    elim goes [
+      | inl listed ↦ inl listed
+      | inr by ↦ elim by.1 [
+        | inl p ↦ inr (by.0, inl (record { entry = p.entry; pointing = p.pointing; wider = p.wider; pointer = p.pointer }))
+        | inr r ↦ inr (by.0, inr (record { site = r.site; returning = r.returning; reached = r.reached; back = r.back }))
+      ]
+    ]
+
+pub along_goes : (flow : Flow) (slot address : ℕ) → GoesAlong (links_of flow) slot address → Goes flow slot address
+along_goes flow slot address goes =
+    elim goes [
+      | inl listed ↦ inl listed
+      | inr by ↦ elim by.1 [
+        | inl p ↦ inr (by.0, inl (record { entry = p.entry; pointing = p.pointing; wider = p.wider; pointer = p.pointer }))
+        | inr r ↦ inr (by.0, inr (record { site = r.site; returning = r.returning; reached = r.reached; back = r.back }))
+      ]
+    ]
 
 module _ (ms : List Placed) (imports : ByName) (classes : List (List ℕ)) (list : List Fact) (are : AreFacts ms imports classes list) where
   told_by : (make : Link → Fact) (pick : Fact → Option Link) (links : List Link)
       → links ≡ filter_map pick list → ((l : Link) → pick (make l) ≡ Some l)
       → ((fact : Fact) (l : Link) → pick fact ≡ Some l → make l ≡ fact) → Tell ms imports classes make links
   told_by make pick links is gives only a b = (
-    λ has.
-        let link = make_link a b in
-        let found = from_picked pick list link (subst (λ ls. Contains ls link) is has) in
-        subst (IsTold ms imports classes) (sym (only found.0 link found.2)) (are.sound found.0 found.1),
+    λ has. are.sound (make (make_link a b)) ((by_pick make pick gives only list a b).0 (subst (λ ls. Links ls a b) is has)),
     λ told.
-        let link = make_link a b in
-        subst (λ ls. Contains ls link) (sym is)
-        (member_picked pick list (make link) link (are.whole (make link) told) (gives link)),
+        subst (λ ls. Links ls a b) (sym is)
+        ((by_pick make pick gives only list a b).1 (are.whole (make (make_link a b)) told)),
   )
 
   told_arrow : Tell ms imports classes (λ l. facts.Arrow l) (filter_map arrow_in list)

@@ -2,8 +2,8 @@
 use Rattle.std.proofs.Common.{◌≡◌, ◌∙◌, ℕ, Bool, true, false, ℤ, List, Some, sym, subst, inl, inr, arith}
 use Rattle.std.specs.Prelude.{slice_get}
 use Rattle.std.specs.List.{Contains}
-use Rattle.cfi_flow.specs.declared.links.Flow.{Flow}
-use Rattle.cfi_flow.specs.Flow.{Reaches, ReturnsAt}
+use Rattle.cfi_flow.specs.Flow.{Reaches}
+use Rattle.cfi_flow.specs.Kept.{Kept, ReturnsAlong}
 use Rattle.cfi_unit.specs.declared.unit.Unit.TheVariants as units
 use Rattle.cfi_aux.specs.declared.placed.Placed.{Placed}
 use Rattle.cfi_aux.specs.declared.placed.PlacedFunction.{PlacedFunction}
@@ -19,16 +19,17 @@ use Rattle.cfi_flow.proofs.RowLemmas.{make_link}
 use Rattle.cfi_graph.proofs.BoundLemmas.{contains_at, branch_names}
 use Rattle.cfi_graph.proofs.NodeLemmas.{lies_there, shaped_at}
 use Rattle.cfi_graph.proofs.WiderLemmas.{AreWider, reaches_high}
-use Rattle.cfi_graph.proofs.ReadLemmas.{TellsFlow, unit_cases}
+use Rattle.cfi_graph.specs.Links.{TellsLinks}
+use Rattle.cfi_graph.proofs.ReadLemmas.{unit_cases}
 use Rattle.cfi_graph.proofs.GoesLemmas.{IsEntered, leads_entry, is_function, apart_nodes, may_point, entered_by}
 
 module _ (ms : List Placed) (imports : ByName) (classes : List (List ℕ)) (named : AreImports ms imports)
-    (apart : AreApart ms) (flow : Flow)
-    (wider : AreWider ms classes flow.widenings.items) (tells : TellsFlow ms imports classes flow) where
+    (apart : AreApart ms) (flow : Kept)
+    (wider : AreWider ms classes flow.widenings) (tells : TellsLinks ms imports classes flow) where
   module _ (m : Placed) (f : PlacedFunction) where
     site_jump : (caller : Placed) → Contains ms caller → (at : ℕ) (linked : Bool) (off : ℤ)
         → Stands caller at (units.Jump linked off) → (node address : ℕ)
-        → IsJumpFact caller at linked off (facts.Site (make_link node address)) → (e : IsEntered ms classes flow.widenings.items m f node)
+        → IsJumpFact caller at linked off (facts.Site (make_link node address)) → (e : IsEntered ms classes flow.widenings m f node)
         → ReturnsTo ms e.owner e.entered address
     site_jump caller placed at false off stands node address told e = absurd told
     site_jump caller placed at true off stands node address told e =
@@ -45,7 +46,7 @@ module _ (ms : List Placed) (imports : ByName) (classes : List (List ℕ)) (name
           }
           | inr opened ↦
               let low = leads.within in
-              let high = reaches_high ms classes flow.widenings.items wider e.number e.entered.ty node opened.1 in
+              let high = reaches_high ms classes flow.widenings wider e.number e.entered.ty node opened.1 in
               absurd (omega (arith, low, high))
         ]
 
@@ -53,7 +54,7 @@ module _ (ms : List Placed) (imports : ByName) (classes : List (List ℕ)) (name
         → (at : ℕ) (linked : Bool) (rs1 : ℕ) (imm : ℤ) (own : ℕ)
         → Stands caller at (units.Check linked rs1 imm own) → (kind : Kind) → HasKind caller own kind
         → (node address : ℕ) → IsBranchFact imports classes number caller at own kind (facts.Site (make_link node address))
-        → (e : IsEntered ms classes flow.widenings.items m f node) → ReturnsTo ms e.owner e.entered address
+        → (e : IsEntered ms classes flow.widenings m f node) → ReturnsTo ms e.owner e.entered address
     site_check number caller is at linked rs1 imm own stands (kinds.Call type) has node address told e =
         elim e.enters [
           | inl same ↦
@@ -69,7 +70,7 @@ module _ (ms : List Placed) (imports : ByName) (classes : List (List ℕ)) (name
               has,
               may_point ms imports classes named apart flow wider number e.number caller e.owner type e.entered is
                   (branch_names caller (shaped_at ms apart number caller is) own (kinds.Call type) has) e.at opened.0
-                  (subst (λ k. Reaches flow.widenings.items (type_node classes e.number e.entered.ty) k) told.0 opened.1),
+                  (subst (λ k. Reaches flow.widenings (type_node classes e.number e.entered.ty) k) told.0 opened.1),
             );
             after = told.1;
           }
@@ -82,7 +83,7 @@ module _ (ms : List Placed) (imports : ByName) (classes : List (List ℕ)) (name
         absurd told
 
     site_returns : (node address : ℕ) → IsTold ms imports classes (facts.Site (make_link node address))
-        → (e : IsEntered ms classes flow.widenings.items m f node) → ReturnsTo ms e.owner e.entered address
+        → (e : IsEntered ms classes flow.widenings m f node) → ReturnsTo ms e.owner e.entered address
     site_returns node address told e =
         elim told.tells [
           | inl unit ↦ elim (unit_cases imports classes told.number told.owner (facts.Site (make_link node address)) unit) [
@@ -98,13 +99,13 @@ module _ (ms : List Placed) (imports : ByName) (classes : List (List ℕ)) (name
 
   return_edge : (number : ℕ) (m : Placed) → slice_get ms number ≡ Some m
       → (at : ℕ) (linked : Bool) (rs1 : ℕ) (imm : ℤ) (own : ℕ) → Stands m at (units.Check linked rs1 imm own)
-      → (kind : Kind) → HasKind m own kind → (node slot address : ℕ) → (r : ReturnsAt flow node slot address)
+      → (kind : Kind) → HasKind m own kind → (node slot address : ℕ) → (r : ReturnsAlong flow node slot address)
       → IsBranchFact imports classes number m at own kind (facts.Return (make_link r.returning slot))
       → DirectEdge ms slot address
   return_edge number m is at linked rs1 imm own stands kinds.Return has node slot address r told =
       let there = lies_there m at r.returning told.0 in
       let f = there.function in
-      let path = subst (λ to. Reaches flow.arrows.items node to) there.is r.reached in
+      let path = subst (λ to. Reaches flow.arrows node to) there.is r.reached in
       let e = entered_by ms imports classes named apart flow wider m f tells number (record { is = is; has = there.has }) path.0 node
       path.1 in
       record {
@@ -144,7 +145,7 @@ module _ (ms : List Placed) (imports : ByName) (classes : List (List ℕ)) (name
   no_return_jump m at false off node slot told = told
 
   -- a return goes along direct edges
-  pub returned_edge : (node slot address : ℕ) → ReturnsAt flow node slot address → DirectEdge ms slot address
+  pub returned_edge : (node slot address : ℕ) → ReturnsAlong flow node slot address → DirectEdge ms slot address
   returned_edge node slot address r =
       let told = (tells.returns r.returning slot).0 r.back in
       elim told.tells [

@@ -2,8 +2,8 @@
 use Rattle.std.proofs.Common.{◌≡◌, ℕ, ◌<◌, Bool, true, false, ℤ, List, length, Some, sym, subst, inl, inr}
 use Rattle.std.specs.Prelude.{slice_get}
 use Rattle.std.specs.List.{Contains}
-use Rattle.cfi_flow.specs.declared.links.Flow.{Flow}
-use Rattle.cfi_flow.specs.Flow.{Reaches, Goes}
+use Rattle.cfi_flow.specs.Flow.{Reaches}
+use Rattle.cfi_flow.specs.Kept.{Kept, GoesAlong}
 use Rattle.cfi_unit.specs.declared.unit.Unit.TheVariants as units
 use Rattle.cfi_aux.specs.declared.placed.Placed.{Placed}
 use Rattle.cfi_aux.specs.declared.placed.PlacedFunction.{PlacedFunction}
@@ -19,7 +19,8 @@ use Rattle.cfi_flow.proofs.RowLemmas.{make_link}
 use Rattle.cfi_graph.proofs.BoundLemmas.{contains_at, branch_names}
 use Rattle.cfi_graph.proofs.NodeLemmas.{StandsAt, shaped_at}
 use Rattle.cfi_graph.proofs.WiderLemmas.{AreWider}
-use Rattle.cfi_graph.proofs.ReadLemmas.{TellsFlow, unit_cases}
+use Rattle.cfi_graph.specs.Links.{TellsLinks}
+use Rattle.cfi_graph.proofs.ReadLemmas.{unit_cases}
 use Rattle.cfi_graph.proofs.ReturnLemmas.{returned_edge}
 use Rattle.cfi_graph.proofs.GoesLemmas.{is_function, may_point}
 
@@ -34,8 +35,8 @@ pub record IsEntry (ms : List Placed) (classes : List (List ℕ)) (node address 
   pub entry : address ≡ entry_of owner function
 
 module _ (ms : List Placed) (imports : ByName) (classes : List (List ℕ)) (named : AreImports ms imports)
-    (apart : AreApart ms) (flow : Flow)
-    (wider : AreWider ms classes flow.widenings.items) (tells : TellsFlow ms imports classes flow) where
+    (apart : AreApart ms) (flow : Kept)
+    (wider : AreWider ms classes flow.widenings) (tells : TellsLinks ms imports classes flow) where
   -- ---- listed addresses
 
   listed_check : (m : Placed) → Contains ms m → (number at : ℕ) (linked : Bool) (rs1 : ℕ) (imm : ℤ) (own : ℕ)
@@ -126,14 +127,14 @@ module _ (ms : List Placed) (imports : ByName) (classes : List (List ℕ)) (name
 
   pointee : (number : ℕ) (m : Placed) → slice_get ms number ≡ Some m → (type : ℕ) → type < length m.types
       → (pointing node address : ℕ) → pointing ≡ type_node classes number type
-      → Reaches flow.widenings.items node pointing → IsEntry ms classes node address → IsPointee ms m type address
+      → Reaches flow.widenings node pointing → IsEntry ms classes node address → IsPointee ms m type address
   pointee number m is type within pointing node address from reach e = record {
     owner = e.owner;
     function = e.function;
     is = is_function ms imports classes named apart flow wider e.number e.owner e.function e.at;
     may = may_point ms imports classes named apart flow wider number e.number m e.owner type e.function is within e.at e.opened
-        (subst (λ k. Reaches flow.widenings.items (type_node classes e.number e.function.ty) k) from
-        (subst (λ k. Reaches flow.widenings.items k pointing) e.is reach));
+        (subst (λ k. Reaches flow.widenings (type_node classes e.number e.function.ty) k) from
+        (subst (λ k. Reaches flow.widenings k pointing) e.is reach));
     entry = e.entry;
   }
 
@@ -142,7 +143,7 @@ module _ (ms : List Placed) (imports : ByName) (classes : List (List ℕ)) (name
       → (kind : Kind) → HasKind m own kind
       → (pointing node slot address : ℕ)
       → IsBranchFact imports classes number m at own kind (facts.Pointer (make_link pointing slot))
-      → Reaches flow.widenings.items node pointing → IsEntry ms classes node address → DirectEdge ms slot address
+      → Reaches flow.widenings node pointing → IsEntry ms classes node address → DirectEdge ms slot address
   pointer_check number m is at linked rs1 imm own stands (kinds.Call type) has pointing node slot address told reach e = record {
     owner = m;
     placed = contains_at ms number m is;
@@ -181,7 +182,7 @@ module _ (ms : List Placed) (imports : ByName) (classes : List (List ℕ)) (name
   pointer_jump m at false off node slot told = told
 
   pointer_edge : (pointing node slot address : ℕ) → IsTold ms imports classes (facts.Pointer (make_link pointing slot))
-      → Reaches flow.widenings.items node pointing → IsTold ms imports classes (facts.Entry (make_link node address))
+      → Reaches flow.widenings node pointing → IsTold ms imports classes (facts.Entry (make_link node address))
       → DirectEdge ms slot address
   pointer_edge pointing node slot address told reach entry =
       elim told.tells [
@@ -195,7 +196,7 @@ module _ (ms : List Placed) (imports : ByName) (classes : List (List ℕ)) (name
       ]
 
   -- where control goes there is a direct edge
-  pub goes_direct : (slot address : ℕ) → Goes flow slot address → DirectEdge ms slot address
+  pub goes_direct : (slot address : ℕ) → GoesAlong flow slot address → DirectEdge ms slot address
   goes_direct slot address goes =
       elim goes [
         | inl listed ↦ listed_edge slot address ((tells.listed slot address).0 listed)

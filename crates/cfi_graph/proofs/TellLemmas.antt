@@ -46,12 +46,15 @@ spot_back a (first ∷ code) (suc k) unit at is place =
     let next = place_next first code k in
     spot_back (a + size_of first) code k unit at is (omega (arith, place, next))
 
--- what the spot of a number tells
-abbrev pub SpotTells : ByName → (classes : List (List ℕ)) → (number : ℕ) → Placed → List Spot → ℕ → Fact → Type 0
-SpotTells imports classes number m spots k fact =
-    (spot : Spot) × (slice_get spots k ≡ Some spot) × IsUnitFact imports classes number m spot.at spot.unit fact
+-- what the spot of a number tells, by what units tell
+abbrev pub SpotTells : (Told : (at : ℕ) → CodeUnit → Fact → Type 0) → List Spot → ℕ → Fact → Type 0
+SpotTells Told spots k fact = (spot : Spot) × (slice_get spots k ≡ Some spot) × Told spot.at spot.unit fact
 
-module _ (imports : ByName) (classes : List (List ℕ)) (number : ℕ) (m : Placed) (code : List CodeUnit) (units : UnitCode m.words code)
+-- what some unit of the module tells
+abbrev pub SomeTells : Placed → (Told : (at : ℕ) → CodeUnit → Fact → Type 0) → Fact → Type 0
+SomeTells m Told fact = (at : ℕ) × (unit : CodeUnit) × Stands m at unit × Told at unit fact
+
+module _ (Told : (at : ℕ) → CodeUnit → Fact → Type 0) (m : Placed) (code : List CodeUnit) (units : UnitCode m.words code)
     (spots : List Spot) (are : spots ≡ spots_of 0 code) where
   -- a spot of the module stands there
   pub spot_stands : (k : ℕ) (spot : Spot) → slice_get spots k ≡ Some spot → Stands m spot.at spot.unit
@@ -63,49 +66,46 @@ module _ (imports : ByName) (classes : List (List ℕ)) (number : ℕ) (m : Plac
   pub stand_all : (k : ℕ) (d : Spot) → k < length spots → Stands m (get_or spots k d).at (get_or spots k d).unit
   stand_all k d within = spot_stands k (get_or spots k d) (slice_get-get_or spots k d within)
 
-  from_spot : (fact : Fact) → TellsBelow (length spots) (SpotTells imports classes number m spots) fact
-      → UnitTells imports classes number m fact
-  from_spot fact (k, less, (spot, is, told)) =
-      record { at = spot.at; unit = spot.unit; stands = spot_stands k spot is; tells = told }
+  from_spot : (fact : Fact) → TellsBelow (length spots) (SpotTells Told spots) fact → SomeTells m Told fact
+  from_spot fact (k, less, (spot, is, told)) = (spot.at, spot.unit, spot_stands k spot is, told)
 
-  to_spot : (fact : Fact) → UnitTells imports classes number m fact
-      → TellsBelow (length spots) (SpotTells imports classes number m spots) fact
-  to_spot fact t =
-      let stands = t.stands in
+  to_spot : (fact : Fact) → SomeTells m Told fact → TellsBelow (length spots) (SpotTells Told spots) fact
+  to_spot fact (at, unit, stands, told) =
       let same : stands.code ≡ code = UnitCode-one m.words stands.code code stands.units units in
-      let unit_is : slice_get code stands.number ≡ Some t.unit =
-      subst (λ us. slice_get us stands.number ≡ Some t.unit) same stands.is in
-      let place : t.at ≡ place_of code stands.number =
-      subst (λ us. t.at ≡ place_of us stands.number) same stands.place in
-      let own : Spot = record { at = t.at; unit = t.unit } in
+      let unit_is : slice_get code stands.number ≡ Some unit =
+      subst (λ us. slice_get us stands.number ≡ Some unit) same stands.is in
+      let place : at ≡ place_of code stands.number =
+      subst (λ us. at ≡ place_of us stands.number) same stands.place in
+      let own : Spot = record { at = at; unit = unit } in
       let is : slice_get spots stands.number ≡ Some own =
-      ap (λ ss. slice_get ss stands.number) are ∙ spot_back 0 code stands.number t.unit t.at unit_is (omega (arith, place))
+      ap (λ ss. slice_get ss stands.number) are ∙ spot_back 0 code stands.number unit at unit_is (omega (arith, place))
       in
-      (stands.number, slice_get_within spots stands.number own is, (own, is, t.tells))
+      (stands.number, slice_get_within spots stands.number own is, (own, is, told))
 
-  pub units_tell : (old new : List Fact) → Adds old new (TellsBelow (length spots) (SpotTells imports classes number m spots))
-      → Adds old new (UnitTells imports classes number m)
-  units_tell old new a =
-      adds_as old new (TellsBelow (length spots) (SpotTells imports classes number m spots)) (UnitTells imports classes number m) a
-      from_spot to_spot
+  -- all spots tell what some unit tells
+  pub spots_tell : (old new : List Fact) → Adds old new (TellsBelow (length spots) (SpotTells Told spots))
+      → Adds old new (SomeTells m Told)
+  spots_tell old new a =
+      adds_as old new (TellsBelow (length spots) (SpotTells Told spots)) (SomeTells m Told) a from_spot to_spot
+
+pub units_tell : (imports : ByName) (classes : List (List ℕ)) (number : ℕ) (m : Placed) (old new : List Fact)
+    → Adds old new (SomeTells m (IsUnitFact imports classes number m)) → Adds old new (UnitTells imports classes number m)
+units_tell imports classes number m old new a =
+    adds_as old new (SomeTells m (IsUnitFact imports classes number m)) (UnitTells imports classes number m) a
+    (λ fact told. record { at = told.0; unit = told.1; stands = told.2; tells = told.3 })
+    (λ fact t. (t.at, t.unit, t.stands, t.tells))
 
 -- what the unit of a spot tells is what the spot of the number tells
-pub spot_tells : (imports : ByName) (classes : List (List ℕ)) (number : ℕ) (m : Placed) (spots : List Spot) (k : ℕ) (spot : Spot)
-    → slice_get spots k ≡ Some spot → (old new : List Fact)
-    → Adds old new (IsUnitFact imports classes number m spot.at spot.unit) → Adds old new (SpotTells imports classes number m spots k)
-spot_tells imports classes number m spots k spot is old new a =
-    adds_as old new (IsUnitFact imports classes number m spot.at spot.unit) (SpotTells imports classes number m spots k) a
-    (λ fact told. (spot, is, told))
-    (λ fact told.
-    let same : told.0 ≡ spot = same_Some told.0 spot (sym told.1 ∙ is) in
-    subst (λ s. IsUnitFact imports classes number m s.at s.unit fact) same told.2)
-
-pub spot_tells_at : (imports : ByName) (classes : List (List ℕ)) (number : ℕ) (m : Placed) (spots : List Spot) (k : ℕ) (d : Spot)
+pub spot_tells_at : (Told : (at : ℕ) → CodeUnit → Fact → Type 0) (spots : List Spot) (k : ℕ) (d : Spot)
     → k < length spots → (old new : List Fact)
-    → Adds old new (IsUnitFact imports classes number m (get_or spots k d).at (get_or spots k d).unit)
-    → Adds old new (SpotTells imports classes number m spots k)
-spot_tells_at imports classes number m spots k d within old new a =
-    spot_tells imports classes number m spots k (get_or spots k d) (slice_get-get_or spots k d within) old new a
+    → Adds old new (Told (get_or spots k d).at (get_or spots k d).unit) → Adds old new (SpotTells Told spots k)
+spot_tells_at Told spots k d within old new a =
+    let here = get_or spots k d in
+    let is = slice_get-get_or spots k d within in
+    adds_as old new (Told here.at here.unit) (SpotTells Told spots k) a (λ fact told. (here, is, told))
+    (λ fact told.
+    let same : told.0 ≡ here = same_Some told.0 here (sym told.1 ∙ is) in
+    subst (λ s. Told s.at s.unit fact) same told.2)
 
 -- ---- functions
 

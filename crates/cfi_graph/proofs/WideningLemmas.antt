@@ -1,5 +1,5 @@
 -- The links between the classes of types, as links between the nodes of types.
-use Rattle.std.proofs.Common.{◌≡◌, ℕ, zero, suc, ◌+◌, ◌-◌, ◌<◌, ◌^◌, List, length, map, get_or, Some, refl, sym, ap, subst, inl, inr, arith}
+use Rattle.std.proofs.Common.{◌≡◌, ◌↔◌, ℕ, zero, suc, ◌+◌, ◌-◌, ◌<◌, ◌^◌, List, length, map, get_or, Some, refl, sym, ap, subst, inl, inr, arith}
 use Rattle.std.specs.Prelude.{slice_get}
 use Rattle.std.proofs.lemmas.List.Elements.{Contains-get_or}
 use Rattle.cfi_word.specs.declared.limits.TheConstants.{MAX_CODE_WORDS}
@@ -7,14 +7,15 @@ use Rattle.cfi_flow.specs.declared.links.Link.{Link}
 use Rattle.cfi_flow.specs.Flow.{Links, IsPath, Reaches, AreBelow}
 use Rattle.cfi_flow.proofs.Members.{member_map, from_map}
 use Rattle.cfi_flow.proofs.RowLemmas.{make_link}
-use Rattle.cfi_type_table.specs.Node.{node_of}
+use Rattle.cfi_type_table.specs.Node.{Node, node_of}
 use Rattle.cfi_types.specs.Classes.{table_of, class_of, IsNodePlace, AreClasses}
 use Rattle.cfi_fits.specs.Fits.{IsCallable, Fits}
 use Rattle.cfi_fits.specs.Widenings.{AreWidenings}
 use Rattle.cfi_aux.specs.declared.placed.Placed.{Placed}
 use Rattle.cfi_graph.specs.Facts.{type_node}
 use Rattle.cfi_graph.specs.Reading.{tables_of, type_count, node_count}
-use Rattle.cfi_graph.specs.inner.Flows.{type_link}
+use Rattle.cfi_graph.specs.KeptGraph.{LeadToWider}
+use Rattle.cfi_graph.specs.Links.{type_link}
 use Rattle.cfi_graph.proofs.NodeLemmas.{table_is, place_is}
 use Rattle.cfi_graph.proofs.ClassLemmas.{class_low}
 use Rattle.cfi_graph.proofs.WiderLemmas.{AreWider}
@@ -59,12 +60,24 @@ type_path links (suc steps) from to (next, link, rest) = (
   type_path links steps next to rest,
 )
 
+-- links between classes that lead from each to exactly those of the types that it fits
+pub record AreExact (tables : List (List Node)) (classes : List (List ℕ)) (links : List Link) : Type 0 where
+  pub lead : LeadToWider tables classes links
+  pub exact : (t a u b : ℕ) → IsNodePlace tables t a → IsNodePlace tables u b
+      → IsCallable (node_of (table_of tables t) a).kind
+      → Fits (table_of tables t) a (table_of tables u) b ↔ Reaches links (class_of classes u b) (class_of classes t a)
+
+pub widenings_exact : (tables : List (List Node)) (classes : List (List ℕ)) (links : List Link)
+    → AreWidenings tables classes links → AreExact tables classes links
+widenings_exact tables classes links wide =
+    record { lead = record { sound = wide.sound; whole = wide.whole }; exact = wide.exact }
+
 module _ (ms : List Placed) (classes : List (List ℕ)) (are : AreClasses (tables_of ms) classes) (links : List Link)
-    (wide : AreWidenings (tables_of ms) classes links) where
+    (wide : AreExact (tables_of ms) classes links) where
   -- the ends of a link are classes that there are
   ends_low : (from to : ℕ) → Links links from to → (from < type_count ms) × (to < type_count ms)
   ends_low from to has =
-      let all = wide.sound from to has in
+      let all = wide.lead.sound from to has in
       let is = all.4 in
       let high = class_low (tables_of ms) classes are all.0 all.1 is.here in
       let low = class_low (tables_of ms) classes are all.2 all.3 is.there in
@@ -92,7 +105,7 @@ module _ (ms : List Placed) (classes : List (List ℕ)) (are : AreClasses (table
   reached_callable zero t a u b here there callable same =
       subst IsCallable ((are.equal u b t a there here).0 same 1).0 callable
   reached_callable (suc steps) t a u b here there callable (next, link, rest) =
-      let all = wide.sound (class_of classes u b) next link in
+      let all = wide.lead.sound (class_of classes u b) next link in
       let is = all.4 in
       reached_callable steps t a all.0 all.1 here is.here (inr is.fits.variadic)
       (subst (λ k. IsPath links steps k (class_of classes t a)) (sym is.wider) rest)
@@ -120,7 +133,7 @@ module _ (ms : List Placed) (classes : List (List ℕ)) (are : AreClasses (table
         let there = place_is ms j n n_is b b_in in
         elim fits [
           | inl same ↦ (zero, sym ((are.equal i a j b here there).1 same.1))
-          | inr variadic ↦ wide.whole i a j b here there variadic
+          | inr variadic ↦ wide.lead.whole i a j b here there variadic
         ]
 
     up : Fits m.types a n.types b

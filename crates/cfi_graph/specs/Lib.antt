@@ -3,8 +3,11 @@ pub mod Shaped
 pub mod Calls
 pub mod Direct
 pub mod Facts
+pub mod Links
 pub mod Reading
 pub mod Edges
 pub mod NewEdges
+pub mod More
+pub mod KeptGraph
 pub mod HandMade
 pub mod inner

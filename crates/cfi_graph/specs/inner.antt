@@ -3,3 +3,5 @@ pub mod Flows
 pub mod Told
 pub mod Imports
 pub mod NewEdges
+pub mod More
+pub mod KeptGraph

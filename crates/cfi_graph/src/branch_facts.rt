@@ -112,7 +112,7 @@ fn add_entries(
 }
 
 // Adds what an import of a name tells.
-fn add_import(
+pub(crate) fn add_import(
     facts: &mut Vec<Fact>,
     imports: &Imports,
     placed: &Placed,

@@ -4,7 +4,8 @@ ghost use Rattle.std.specs.Prelude.{◌≡◌, ◌*◌, ◌-◌, ◌<◌, ◌≤
 ghost use Rattle.cfi_word.specs.declared.limits.TheConstants.{MAX_CODE_WORDS};
 ghost use Rattle.cfi_flow.specs.Flow.{AreBelow, IsSound, link_count};
 ghost use Rattle.cfi_graph.specs.Reading.{tables_of, node_count, HaveGraph};
-ghost use Rattle.cfi_graph.specs.inner.Flows.{type_link, GoesAs};
+ghost use Rattle.cfi_graph.specs.Links.{type_link};
+ghost use Rattle.cfi_graph.specs.inner.Flows.{GoesAs};
 ghost use Rattle.cfi_graph.specs.Edges.{AreDirectEdges, SpanDirectEdges, links_most};
 
 use crate::fact::flow_by;

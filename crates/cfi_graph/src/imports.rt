@@ -80,6 +80,17 @@ impl<'a> Imports<'a> {
     }
 }
 
+// Where the imports of a module's own functions lead.
+pub(crate) fn exports_of<'a>(alloc: Global, placed: &'a Placed) -> Result<Imports<'a>, AllocError>
+    requires { IsShaped placed.now }
+    ensures { IfOk result (λ own. (name : List ℕ) →
+        imports_in own name ≡ entry_in placed.now name) }
+{
+    let mut own = Imports::new(alloc);
+    own.add_module(placed)?;
+    Ok(own)
+}
+
 // Where the imports of the modules lead. Each function is looked at once.
 pub(crate) fn imports_of<'a>(
     alloc: Global,

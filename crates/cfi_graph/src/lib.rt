@@ -4,9 +4,10 @@
 //! calls it.
 //! Proved: the direct edges of modules are exactly those of `specs/Direct.antt`, in order, each once; a few of them, in
 //! number bound by what the modules hold, have chains that join what any joins; those that one module more brings are
-//! told without the others; the units of a module's code are read
-//! with the words at which they stand; shaped modules, each of which follows the one before, are apart; the policy
-//! allows each direct edge; a name means one address to the modules that import it; a graph can be made of some module.
+//! told without the others; links that are kept are those of all modules when one is added, for which its code alone is
+//! read, and that of modules whose imports it meets; the units of a module's code are read with the words at which they
+//! stand; shaped modules, each of which follows the one before, are apart; the policy allows each direct edge; a name
+//! means one address to the modules that import it; a graph can be made of some module.
 //! Only tested, in `cfi_calls`: the edges of modules that are written by hand. Open: nothing.
 #![tactic(auto)]
 
@@ -15,13 +16,16 @@ mod direct;
 mod fact;
 mod facts;
 mod imports;
+mod kept_graph;
 mod laws;
+mod more;
 mod new_edges;
 mod place;
 mod shape;
 mod spot;
 
 pub use direct::{edges, spanning};
+pub use kept_graph::KeptGraph;
 pub use laws::{a_name_means_one_address, direct_is_allowed, some_module_has_graph};
 pub use new_edges::fresh;
 pub use shape::shaped_are_apart;

@@ -22,7 +22,7 @@ use cfi_word::Edge;
 use std::alloc::{AllocError, Global};
 
 // The types of the modules and of one more.
-fn book_with<'a>(
+pub(crate) fn book_with<'a>(
     alloc: Global,
     old: &'a [Placed],
     new: &'a Placed,
@@ -36,7 +36,7 @@ fn book_with<'a>(
 }
 
 // How many nodes their flow has.
-fn node_count_with(old: &[Placed], new: &Placed) -> u32
+pub(crate) fn node_count_with(old: &[Placed], new: &Placed) -> u32
     requires { node_count (old.now ++ new.now ∷ []) < 2 ^ 32 }
     ensures { result ≡ node_count (old.now ++ new.now ∷ []) }
 {

@@ -1,6 +1,6 @@
 //! Type tables whose types are compared.
 
-ghost use Rattle.std.specs.Prelude.{◌≡◌, ◌<◌, ◌^◌, [], ◌∷◌, ◌++◌, length, OnOk, OnErr, IfOk};
+ghost use Rattle.std.specs.Prelude.{◌≡◌, ◌<◌, ◌^◌, [], ◌∷◌, ◌++◌, length, take, OnOk, OnErr, IfOk};
 ghost use Rattle.std.specs.List.{flat_map, AllByRecursion};
 ghost use Rattle.cfi_type_table.specs.Spelling.{AreTypes};
 ghost use Rattle.cfi_types.specs.Classes.{AreClasses, table_of};
@@ -92,6 +92,23 @@ impl<'a> TypeBook<'a> {
     {
         classes_of(*self.tables.allocator(), self.tables.as_slice())
     }
+
+    /// The numbers of the tables' nodes and of those of one more table behind them.
+    ///
+    /// `kept` is `classes` of this book: its numbers stay. The number of all nodes is below 2^32. The table is compared
+    /// only with tables that may have a type of it.
+    pub fn classes_with(&self, table: &'a TypeTable, kept: &Classes) -> Result<Classes, AllocError>
+        requires types { AreTypes table.now }
+        requires fits { length (flat_map (λ xs. xs) (self.now ++ table.now ∷ [])) < 2 ^ 32 }
+        requires kept { AreClasses self.now kept.now }
+        ensures classes { IfOk result (AreClasses (self.now ++ table.now ∷ [])) }
+        ensures stay { IfOk result (λ all. take (length kept.now) all ≡ kept.now) }
+    {
+        let alloc = *self.tables.allocator();
+        let row = row_behind(alloc, self.tables.as_slice(), kept, &Lent::new(table))?;
+        kept.with_row(alloc, row)
+    }
+
     /// Adds a table at the end, and its nodes' numbers to those of the tables before it.
     ///
     /// `kept` is `classes` of this book, and is that of the longer one then. The number of all nodes is below 2^32. The

@@ -1,6 +1,6 @@
 //! The classes of the types of several tables.
 
-ghost use Rattle.std.specs.Prelude.{◌≡◌, ◌<◌, [], length, map, slice_index_or, IfOk};
+ghost use Rattle.std.specs.Prelude.{◌≡◌, ◌<◌, [], ◌∷◌, ◌++◌, length, map, slice_index_or, IfOk};
 ghost use Rattle.std.specs.List.{flat_map};
 ghost use Rattle.cfi_types.specs.Classes.{class_of};
 
@@ -39,6 +39,18 @@ impl Classes {
         ensures { result.now ≡ slice_index_or self.now table [] }
     {
         self.rows[table].as_slice()
+    }
+
+    // A copy with one more table's numbers.
+    pub(crate) fn with_row(&self, alloc: Global, row: Vec<u32>) -> Result<Classes, AllocError>
+        ensures { IfOk result (λ all. all ≡ self.now ++ row.items ∷ []) }
+    {
+        let mut rows = Vec::with_capacity(alloc, self.rows.len() + 1)?;
+        for old in &self.rows {
+            rows.push(Vec::from_slice(alloc, old.as_slice())?)?;
+        }
+        rows.push(row)?;
+        Ok(Classes { rows })
     }
 }
 

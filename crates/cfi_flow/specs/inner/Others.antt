@@ -1,6 +1,5 @@
 -- What of a list is in none of another, and what of a flow is fresh node by node.
-use Rattle.std.specs.Prelude.{◌≡◌, ◌⊎◌, ℕ, ◌<◌, List}
-use Rattle.std.specs.List.{Contains}
+use Rattle.std.specs.Prelude.{◌⊎◌, ℕ, ◌<◌, List}
 use Rattle.std.specs.List.Sorted.{IsNonDecreasingBy}
 use Rattle.std.specs.declared.cmp.Ordering.{Ordering}
 use Rattle.std.specs.Ordering.{nat_cmp, ordering_then, ordering_index}
@@ -17,11 +16,6 @@ edge_cmp one other = ordering_then (nat_cmp one.branch other.branch) (nat_cmp on
 -- edges in which any edge can be searched
 abbrev pub CanBeSearched : List Edge → Type 0
 CanBeSearched edges = (edge : Edge) → IsNonDecreasingBy (λ e. ordering_index (edge_cmp e edge)) edges
-
--- those of the list that are none of the known ones
-pub record AreOthers {X : Type 0} (all known others : List X) : Type 0 where
-  pub sound : (x : X) → Contains others x → Contains all x × (Contains known x → ⊥)
-  pub whole : (x : X) → Contains all x → (Contains known x → ⊥) → Contains others x
 
 -- a list has the edges of another, and those that are told
 pub record AddsEdges (old : List Edge) (Told : (slot address : ℕ) → Type 0) (new : List Edge) : Type 0 where

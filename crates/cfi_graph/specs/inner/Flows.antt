@@ -1,7 +1,6 @@
 -- The flow of placed modules: its links are what the modules tell.
-use Rattle.std.specs.Prelude.{◌≡◌, ◌↔◌, ℕ, ◌+◌, ◌++◌, List, Option, Some, None, map}
+use Rattle.std.specs.Prelude.{◌≡◌, ◌↔◌, ℕ, ◌++◌, List, Option, Some, None, map}
 use Rattle.std.specs.List.{filter_map}
-use Rattle.cfi_word.specs.declared.limits.TheConstants.{MAX_CODE_WORDS}
 use Rattle.cfi_flow.specs.declared.links.Link.{Link}
 use Rattle.cfi_flow.specs.declared.links.Flow.{Flow}
 use Rattle.cfi_flow.specs.Flow.{flipped, Goes}
@@ -34,10 +33,6 @@ entry_in fact = None
 abbrev pub listed_in : Fact → Option Link
 listed_in (facts.Listed link) = Some link
 listed_in fact = None
-
--- the link between the nodes of two types, from one between their classes
-abbrev pub type_link : Link → Link
-type_link link = record { from = MAX_CODE_WORDS + link.from; to = MAX_CODE_WORDS + link.to }
 
 -- the flow of these facts, over so many nodes, and of links from types' nodes to wider ones: what enters a wider one
 -- gets to a narrower one

@@ -1,4 +1,4 @@
-use Rattle.std.proofs.Common.{◌≡◌, ◌∙◌, ◌++◌, sym, ap, subst}
+use Rattle.std.proofs.Common.{◌∙◌, ◌++◌, sym, ap, subst}
 use Rattle.cfi_flow.specs.Fans.{pairs_of}
 use Rattle.cfi_flow.specs.inner.Others.{AddsOthers}
 use Rattle.cfi_flow.proofs.OtherLemmas.{others_are, pairs_is, adds_others}

@@ -1,4 +1,4 @@
-use Rattle.std.proofs.Common.{◌≡◌, subst, sym, IsTrue}
+use Rattle.std.proofs.Common.{subst, sym, IsTrue}
 use Rattle.cfi_flow.proofs.OtherLemmas.{edge_found}
 use Rattle.cfi_flow.proofs.fresh.is_known_edge.Goals as goal
 

@@ -2,7 +2,7 @@ use Rattle.std.proofs.Common.{◌≡◌, ◌∙◌, ◌+◌, ◌++◌, ◌∷◌
 use Rattle.std.specs.List.{Contains}
 use Rattle.std.proofs.lemmas.Bool.{false≢true}
 use Rattle.std.proofs.lemmas.List.{take_more, take_all}
-use Rattle.cfi_flow.specs.inner.Others.{AreOthers}
+use Rattle.cfi_flow.specs.Fresh.{AreOthers}
 use Rattle.cfi_flow.proofs.OtherLemmas.{known_more, other_more, others_by}
 use Rattle.cfi_flow.proofs.fresh.others.Goals as goal
 use Rattle.cfi_flow.proofs.fresh.others.Goals.{then-not-is_known+in_ok-push, else-not-is_known}

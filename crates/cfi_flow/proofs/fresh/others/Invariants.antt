@@ -1,5 +1,5 @@
 use Rattle.std.proofs.Common.{take}
-use Rattle.cfi_flow.specs.inner.Others.{AreOthers}
+use Rattle.cfi_flow.specs.Fresh.{AreOthers}
 use Rattle.cfi_flow.proofs.fresh.others.Given as goal
 
 abbrev pub invariant-loop-number : goal.invariant-loop-number

@@ -6,12 +6,14 @@ use Rattle.cfi_flow.specs.Flow.{AreBelow, IsSound, link_count}
 use Rattle.cfi_types.specs.Classes.{AreClasses}
 use Rattle.cfi_fits.specs.Widenings.{AreWidenings}
 use Rattle.cfi_graph.specs.Facts.{AreFacts}
+use Rattle.cfi_graph.specs.Reading.{tables_of}
 use Rattle.cfi_graph.specs.Edges.{told_most, links_most}
-use Rattle.cfi_graph.specs.inner.Flows.{type_link, IsFlowOf, GoesAs}
+use Rattle.cfi_graph.specs.Links.{type_link}
+use Rattle.cfi_graph.specs.inner.Flows.{IsFlowOf, GoesAs}
 use Rattle.cfi_graph.specs.inner.Imports.{imports_in}
 use Rattle.cfi_values.proofs.ThenLemmas.{if_ok}
 use Rattle.cfi_graph.proofs.ClassLemmas.{all_read}
-use Rattle.cfi_graph.proofs.WideningLemmas.{class_links_low}
+use Rattle.cfi_graph.proofs.WideningLemmas.{widenings_exact, class_links_low}
 use Rattle.cfi_graph.proofs.FlowLemmas.{IsMade, flow_sound, flow_goes, flow_few}
 use Rattle.cfi_graph.proofs.direct.flow_of.Goals as goal
 
@@ -30,7 +32,8 @@ type_links-requires c =
     let wider = c.in_ok-wider.wider.items in
     subst (λ ls. AreBelow (2 ^ 32 - MAX_CODE_WORDS) ls) (sym c.as_slice.ensures.value)
     (class_links_low ms classes (subst (λ ts. AreClasses ts classes) c.in_ok-book.ensures c.in_ok-classes.ensures) wider
-    (subst (λ ts. AreWidenings ts classes wider) c.in_ok-book.ensures c.in_ok-wider.ensures) c.requires.nodes)
+    (widenings_exact (tables_of ms) classes wider
+    (subst (λ ts. AreWidenings ts classes wider) c.in_ok-book.ensures c.in_ok-wider.ensures)) c.requires.nodes)
 
 pub facts_of-requires-clause-read : goal.facts_of-requires-clause-read
 facts_of-requires-clause-read c =

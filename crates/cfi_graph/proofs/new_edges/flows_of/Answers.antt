@@ -6,10 +6,11 @@ use Rattle.cfi_types.specs.Classes.{AreClasses}
 use Rattle.cfi_fits.specs.Widenings.{AreWidenings}
 use Rattle.cfi_graph.specs.Shaped.{IsShaped}
 use Rattle.cfi_graph.specs.Facts.{AreFacts}
-use Rattle.cfi_graph.specs.inner.Flows.{type_link}
+use Rattle.cfi_graph.specs.Reading.{tables_of}
+use Rattle.cfi_graph.specs.Links.{type_link}
 use Rattle.cfi_graph.specs.inner.Imports.{imports_in}
 use Rattle.cfi_graph.proofs.ClassLemmas.{all_read}
-use Rattle.cfi_graph.proofs.WideningLemmas.{class_links_low}
+use Rattle.cfi_graph.proofs.WideningLemmas.{widenings_exact, class_links_low}
 use Rattle.cfi_graph.proofs.FlowLemmas.{IsMade}
 use Rattle.cfi_graph.proofs.NewEdgeLemmas.{read_first, imports_more, have_flows}
 use Rattle.cfi_graph.proofs.OneMoreLemmas.{length_more, graph_first}
@@ -39,7 +40,8 @@ type_links-requires c =
     let wider = c.in_ok-wider.wider.items in
     subst (λ ls. AreBelow (2 ^ 32 - MAX_CODE_WORDS) ls) (sym c.as_slice.ensures.value)
     (class_links_low ms classes c.requires.classes wider
-    (subst (λ ts. AreWidenings ts classes wider) c.in_ok-book.ensures c.in_ok-wider.ensures) c.requires.graph.nodes)
+    (widenings_exact (tables_of ms) classes wider
+    (subst (λ ts. AreWidenings ts classes wider) c.in_ok-book.ensures c.in_ok-wider.ensures)) c.requires.graph.nodes)
 
 pub add_module-requires : goal.add_module-requires
 add_module-requires c =
@@ -60,7 +62,8 @@ type_links-requires-2 c =
     let wider = c.in_ok-wider.wider.items in
     subst (λ ls. AreBelow (2 ^ 32 - MAX_CODE_WORDS) ls) (sym c.as_slice-3.ensures.value)
     (class_links_low ms classes c.requires.classes wider
-    (subst (λ ts. AreWidenings ts classes wider) c.in_ok-book.ensures c.in_ok-wider.ensures) c.requires.graph.nodes)
+    (widenings_exact (tables_of ms) classes wider
+    (subst (λ ts. AreWidenings ts classes wider) c.in_ok-book.ensures c.in_ok-wider.ensures)) c.requires.graph.nodes)
 
 pub returns : goal.returns
 returns c =
