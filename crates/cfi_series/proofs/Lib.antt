@@ -6,6 +6,8 @@ pub mod ExampleLemmas
 pub mod LengthLemmas
 pub mod PlacedLemmas
 pub mod NamesLemmas
+pub mod IndexLemmas
+pub mod AskedLemmas
 pub mod RoomLemmas
 pub mod SeriesLemmas
 pub mod OrderLemmas

@@ -1,16 +1,15 @@
 -- One module more in a series, and that a module joins in one way or is refused.
 use Rattle.std.proofs.Common.{◌≡◌, ◌≢◌, ℕ, ◌<◌, ◌≤◌, ◌++◌, List, [], ◌∷◌, length, take, get_or, Some, Err, refl, ap, sym, subst, ◌∙◌, ⊎_elim, arith, length-append}
-use Rattle.std.specs.List.{slice_get, flat_map}
+use Rattle.std.specs.List.{slice_get}
 use Rattle.std.proofs.Math.Seq.{take-length, get_or-append_seam}
 use Rattle.std.proofs.Math.ListN.{get_or-append}
 use Rattle.std.proofs.lemmas.Bool.{cases_lt}
-use Rattle.std.proofs.lemmas.List.{take-append-le, flat_map_more}
+use Rattle.std.proofs.lemmas.List.{take-append-le}
 use Rattle.std.proofs.lemmas.List.Elements.{All-nil, All-cons, All-append}
 use Rattle.std.proofs.lemmas.Option.{slice_get-get_or, slice_get_within, get_or_from_slice_get}
 use Rattle.cfi_aux.specs.declared.modules.Module.{Module}
 use Rattle.cfi_aux.specs.declared.placed.Placed.{Placed}
 use Rattle.cfi_aux.specs.Sound.{IsSoundModule}
-use Rattle.cfi_place.specs.Names.{Names, first_in}
 use Rattle.cfi_place.specs.declared.fault.PlaceFault.{PlaceFault}
 use Rattle.cfi_verify.specs.declared.fault.VerifyFault.{VerifyFault}
 use Rattle.cfi_verify.specs.Faults.{FaultStands, IsFirstFault}
@@ -71,13 +70,6 @@ series_more code_words placed m p series sound joins = record {
       (All-cons IsSoundModule m [] sound (All-nil IsSoundModule));
   order = order_more code_words series.modules placed m p series.order joins;
 }
-
-pub names_more : (placed : List Placed) (p : Placed) (names : Names)
-    → ((name : List ℕ) → names name ≡ first_in (flat_map (λ (m : Placed). m.exports) placed ++ p.exports) name)
-    → (name : List ℕ) → names name ≡ names_of (placed ++ p ∷ []) name
-names_more placed p names are name =
-    are name ∙ ap (λ (pairs : List (List ℕ × ℕ)). first_in pairs name)
-    (flat_map_more (λ (m : Placed). m.exports) [] placed p)
 
 -- ---- one answer
 

@@ -3,6 +3,7 @@ pub mod Growth
 pub mod Entry
 pub mod Fills
 pub mod Room
+pub mod inner
 pub mod Order
 pub mod Series
 pub mod Prepared

@@ -6,10 +6,10 @@ use Rattle.cfi_aux.specs.declared.modules.Module.{Module}
 use Rattle.cfi_aux.specs.declared.placed.Placed.{Placed}
 use Rattle.cfi_aux.specs.Sound.{IsSoundModule}
 use Rattle.cfi_word.specs.declared.map.TheConstants.{DATA_END}
-use Rattle.cfi_place.specs.declared.symbols.Symbols.{Symbols}
-use Rattle.cfi_place.specs.Names.{find_in}
+use Rattle.cfi_series.specs.declared.index.Index.{Index}
+use Rattle.cfi_series.specs.inner.Index.{IsIndexOf}
 use Rattle.cfi_series.specs.declared.series.Series.TheInside.{Inside}
-use Rattle.cfi_series.specs.Order.{names_of, Joins, AreInOrder}
+use Rattle.cfi_series.specs.Order.{Joins, AreInOrder}
 
 pub record Series : Type 0 where
   pub code_words : ℕ
@@ -42,12 +42,12 @@ pub record CanBeTaken (m : Module) : Type 0 where
   pub relocs : length m.object.relocs ≤ 2 ^ 32
   pub functions : length m.records.functions < 2 ^ 32
 
--- the symbols are the names that modules export; nothing is claimed where there are none
-abbrev pub HasNames : List Placed → Option Symbols → Type 0
+-- an index has the names that modules export; nothing is claimed where there is none
+abbrev pub HasNames : List Placed → Option Index → Type 0
 HasNames placed None = ⊤
-HasNames placed (Some symbols) = (name : List ℕ) → find_in symbols name ≡ names_of placed name
+HasNames placed (Some index) = IsIndexOf placed index
 
 -- what a series keeps
 pub record IsKept (a : Inside) : Type 0 where
   pub series : IsSeries a.code_words a.placed.items
-  pub names : HasNames a.placed.items a.symbols
+  pub names : HasNames a.placed.items a.index

@@ -1,17 +1,19 @@
 //! Modules placed one after the other, each at the next free place and verified against those before it.
 //!
-//! Stands on `cfi_place`, `cfi_verify`, `cfi_graph`, `cfi_policy`, `cfi_model` and what these stand on. Proved: a series
-//! takes a module exactly where it places and verifies behind those that it has, and else says the module's first fault
-//! and stays as it was; modules that were loaded at the next free places, each verified against some of those before it,
-//! are shaped, each image of them is closed, and the images of a growing list of them are a history; the modules of a
-//! series have a graph and an image, which is made with its classes in order; a load has two steps, of which the second
-//! takes no memory; the Global function of a name is found; why a module does not join is one fault, told by its numbers;
-//! some places and entries, by hand. Only tested: that ample memory is enough. Open: when memory runs out.
+//! Stands on `cfi_place`, `cfi_verify`, `cfi_graph`, `cfi_policy`, `cfi_model` and what these stand on. Proved: a
+//! series takes a module exactly where it places and verifies behind those that it has, and else says the module's
+//! first fault and stays as it was, and tells the same without taking it; modules that were loaded at the next free
+//! places, each verified against some of those before it, are shaped, each image of them is closed, and the images of a
+//! growing list of them are a history; the modules of a series have a graph and an image, which is made with its
+//! classes in order; a load has two steps, of which the second takes no memory; the Global function of a name is found;
+//! why a module does not join is one fault, told by its numbers; some places and entries, by hand. Only tested: that
+//! ample memory is enough. Open: when memory runs out.
 #![tactic(auto)]
 
 mod entry;
 mod examples;
 mod fault;
+mod index;
 mod joining;
 mod laws;
 mod names;

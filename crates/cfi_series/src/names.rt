@@ -1,48 +1,77 @@
-//! The names that placed modules export.
+//! The names that a module asks for.
 
-ghost use Rattle.std.specs.Prelude.{◌≡◌, ℕ, List, ◌++◌, Some, IfOk, OnOk};
-ghost use Rattle.cfi_place.specs.Names.{find_in, first_in};
-ghost use Rattle.cfi_series.specs.Series.{HasNames};
+ghost use Rattle.std.specs.Prelude.{◌≡◌, ℕ, ◌||◌, Bool, List, if◌then◌else◌, None, bytes_eq, IfOk, OnOk};
+ghost use Rattle.cfi_place.specs.declared.room.Room.{Room};
+ghost use Rattle.cfi_place.specs.Names.{Names, find_in};
+ghost use Rattle.cfi_place.specs.Value.{values_by};
+ghost use Rattle.cfi_place.specs.inner.Wanted.{is_undefined};
+ghost use Rattle.cfi_series.specs.inner.Index.{address_in, asked_in, IsIndexOf};
+ghost use Rattle.cfi_series.specs.Order.{names_of};
 
+use crate::index::Index;
 use cfi_aux::Placed;
 use cfi_place::Symbols;
-use elf_read::Name;
+use elf_read::{Place, Symbol};
 use std::alloc::{AllocError, Global};
 
-/// Adds names with their addresses, in their order; a name that is there keeps its own.
-pub fn add_names(symbols: &mut Symbols, exports: &[(Name, u32)]) -> Result<(), AllocError>
-    ensures { (before : List (List ℕ × ℕ)) →
-        ((name : List ℕ) → find_in symbols.old name ≡ first_in before name) →
-        OnOk result ((name : List ℕ) → find_in symbols.new name ≡ first_in (before ++ exports.now) name) }
+fn is_undefined(symbol: &Symbol) -> bool
+    ensures { result ≡ is_undefined symbol.now }
 {
-    for (name, address) in exports {
-        symbols.add(name.as_str(), *address)?;
+    match symbol.place {
+        Place::Undefined => true,
+        Place::Absolute | Place::Text | Place::Data => false,
     }
-    Ok(())
 }
 
-// The names that the modules export.
-fn symbols_of(alloc: Global, placed: &[Placed]) -> Result<Symbols, AllocError>
-    ensures { IfOk result (λ symbols. HasNames placed.now (Some symbols)) }
-{
-    let mut symbols = Symbols::new(alloc);
-    for one in placed {
-        add_names(&mut symbols, one.exports.as_slice())?;
-    }
-    Ok(symbols)
-}
-
-/// The names that the modules export: those that are kept, or else made anew.
-pub fn names_of(
-    alloc: Global,
-    kept: Option<Symbols>,
+// Adds the name of a symbol with the address that the modules give it.
+fn add_asked(
+    names: &mut Symbols,
+    index: &Index,
     placed: &[Placed],
-) -> Result<Symbols, AllocError>
-    requires { HasNames placed.now kept }
-    ensures { IfOk result (λ symbols. HasNames placed.now (Some symbols)) }
+    name: &str,
+) -> Result<(), AllocError>
+    ensures { OnOk result ((asked : List ℕ → Bool) →
+        ((other : List ℕ) → find_in names.old other
+        ≡ (if asked other then address_in placed.now index.now other else None)) →
+        (other : List ℕ) → find_in names.new other
+        ≡ (if asked other || bytes_eq name.now other then address_in placed.now index.now other else None)) }
 {
-    match kept {
-        Some(symbols) => Ok(symbols),
-        None => symbols_of(alloc, placed),
+    match index.find(placed, name) {
+        Some(address) => names.add(name, address),
+        None => Ok(()),
     }
+}
+
+// The names that symbols leave undefined, as far as the modules export them.
+fn asked_names(
+    alloc: Global,
+    index: &Index,
+    placed: &[Placed],
+    symbols: &[Symbol],
+) -> Result<Symbols, AllocError>
+    ensures { IfOk result (λ names. (name : List ℕ) →
+        find_in names name ≡ asked_in (address_in placed.now index.now) symbols.now name) }
+{
+    let mut names = Symbols::new(alloc);
+    for symbol in symbols {
+        if is_undefined(symbol) {
+            add_asked(&mut names, index, placed, symbol.name.as_str())?;
+        }
+    }
+    Ok(names)
+}
+
+/// The names that symbols leave undefined: the symbols have the values that they have by all that the modules export.
+pub fn names_for(
+    alloc: Global,
+    index: &Index,
+    placed: &[Placed],
+    symbols: &[Symbol],
+) -> Result<Symbols, AllocError>
+    requires { IsIndexOf placed.now index.now }
+    ensures { IfOk result (λ names. (room : Room) (own : Names) →
+        values_by room own (find_in names) symbols.now
+        ≡ values_by room own (names_of placed.now) symbols.now) }
+{
+    asked_names(alloc, index, placed, symbols)
 }

@@ -1,23 +1,23 @@
 //! Series of placed modules.
 
-ghost use Rattle.std.specs.Prelude.{◌≡◌, ◌<◌, [], ◌⊎◌, length, OnOk, OnErr, IfOk, IfErr, Ok, Err};
+ghost use Rattle.std.specs.Prelude.{◌≡◌, ◌<◌, [], ◌⊎◌, length, OnOk, OnErr, IfOk, IfErr, Err};
 ghost use Rattle.cfi_aux.specs.declared.placed.Placed.{Placed as PlacedModule};
 ghost use Rattle.cfi_graph.specs.Reading.{HaveGraph};
 ghost use Rattle.cfi_policy.specs.Image.{HaveImage};
 ghost use Rattle.cfi_series.specs.declared.fault.JoinFault.TheVariants.{Memory};
+ghost use Rattle.cfi_series.specs.inner.Index.{IsIndexOf};
 ghost use Rattle.cfi_series.specs.Loaded.{AreLoaded, HaveClosedImages};
 ghost use Rattle.cfi_series.specs.Order.{IsJoinFault};
 ghost use Rattle.cfi_series.specs.Prepared.{IsImageOfSeries, IsOrderedImage, without_last};
 ghost use Rattle.cfi_series.specs.Series.{with_module, JoinsTo, HasJoined, CanBeTaken, IsSeries};
 
 use crate::fault::JoinFault;
+use crate::index::{Index, index_of};
 use crate::joining::join;
 use crate::laws::{
     loaded_have_closed_images, loaded_have_image, series_are_loaded, series_have_graph,
 };
-use crate::names::{add_names, names_of};
 use cfi_aux::{Module, Placed};
-use cfi_place::Symbols;
 use cfi_policy::image_of;
 use cfi_word::{Image, Layout};
 use std::alloc::{AllocError, Global};
@@ -29,8 +29,8 @@ use std::marker::Model;
 pub struct Series {
     code_words: u32,
     placed: Vec<Placed>,
-    // The names that they export; none after memory ran out for them.
-    symbols: Option<Symbols>,
+    // Where the names are that they export; none before the first joins, and after memory ran out for it.
+    index: Option<Index>,
     alloc: Global,
 }
 
@@ -53,7 +53,7 @@ impl Series {
         Series {
             code_words: layout.code_words(),
             placed: Vec::new(alloc),
-            symbols: Some(Symbols::new(alloc)),
+            index: None,
             alloc,
         }
     }
@@ -70,22 +70,44 @@ impl Series {
         ensures only { (placed : PlacedModule) → JoinsTo self.old unplaced.now placed →
             (self.new ≡ with_module self.old placed) ⊎ (result ≡ Err Memory) }
     {
-        let mut symbols = names_of(self.alloc, self.symbols.take(), &self.placed)?;
-        match join(
-            self.alloc,
-            self.code_words,
-            &self.placed,
-            &symbols,
-            unplaced,
-        ) {
-            Ok(placed) => {
-                add_names(&mut symbols, placed.exports.as_slice())?;
-                self.placed.push(placed)?;
-                self.symbols = Some(symbols);
-                Ok(())
-            }
+        let (placed, index) = self.place_next(unplaced)?;
+        self.placed.push(placed)?;
+        self.index = index.with_last(&self.placed).ok();
+        Ok(())
+    }
+
+    /// Whether a module joins behind those that are there; the series stays as it was.
+    ///
+    /// No image is made. It is refused as by `add`, which takes it where this answers `Ok`, if there is memory.
+    pub fn joins(&mut self, unplaced: &Module) -> Result<(), JoinFault>
+        requires { CanBeTaken unplaced.now }
+        ensures ok { OnOk result ((placed : PlacedModule) × JoinsTo self.old unplaced.now placed) }
+        ensures fault { IfErr result (IsJoinFault self.old.code_words self.old.placed unplaced.now) }
+        ensures same { self.new ≡ self.old }
+        ensures only { (placed : PlacedModule) → JoinsTo self.old unplaced.now placed →
+            IfErr result (λ fault. fault ≡ Memory) }
+    {
+        let (_, index) = self.place_next(unplaced)?;
+        self.index = Some(index);
+        Ok(())
+    }
+
+    // Places a module behind those that are there and verifies it. It comes with the index of those, which the
+    // series then keeps no longer.
+    fn place_next(&mut self, unplaced: &Module) -> Result<(Placed, Index), JoinFault>
+        requires { CanBeTaken unplaced.now }
+        ensures joins { IfOk result (λ parts. JoinsTo self.old unplaced.now parts.0) }
+        ensures index { IfOk result (λ parts. IsIndexOf self.old.placed parts.1) }
+        ensures fault { IfErr result (IsJoinFault self.old.code_words self.old.placed unplaced.now) }
+        ensures same { self.new ≡ self.old }
+        ensures only { (placed : PlacedModule) → JoinsTo self.old unplaced.now placed →
+            IfErr result (λ fault. fault ≡ Memory) }
+    {
+        let index = index_of(self.alloc, self.index.take(), &self.placed)?;
+        match join(self.alloc, self.code_words, &self.placed, &index, unplaced) {
+            Ok(placed) => Ok((placed, index)),
             Err(fault) => {
-                self.symbols = Some(symbols);
+                self.index = Some(index);
                 Err(fault)
             }
         }
@@ -106,7 +128,7 @@ impl Series {
         ensures { result ≡ without_last self }
     {
         self.placed.pop();
-        self.symbols = None;
+        self.index = None;
         self
     }
 

@@ -1,9 +1,8 @@
-use Rattle.std.proofs.Common.{[], List, Some, refl, sym, subst, rules}
+use Rattle.std.proofs.Common.{[], refl, sym, subst, rules}
 use Rattle.std.proofs.lemmas.List.Elements.{All-nil}
 use Rattle.std.proofs.lemmas.Option.{none-some}
 use Rattle.cfi_aux.specs.Sound.{IsSoundModule}
-use Rattle.cfi_aux.specs.declared.placed.Placed.{Placed}
-use Rattle.cfi_series.specs.Series.{IsSeries, HasNames}
+use Rattle.cfi_series.specs.Series.{IsSeries}
 use Rattle.cfi_series.proofs.series.Series.new.Goals as goal
 
 -- no modules are in order
@@ -18,5 +17,5 @@ invariant_of-result c =
     } in
     record {
       series = subst (IsSeries c.code_words.result) items none;
-      names = subst (λ (xs : List Placed). HasNames xs (Some c.new-2.result)) items c.new-2.ensures;
+      names = tt;
     }
