@@ -1,14 +1,17 @@
 -- The data that a guest lacks.
-use Rattle.std.proofs.Common.{◌≡◌, ℕ, ◌+◌, ◌-◌, ◌<◌, ◌≤◌, List, [], ◌∷◌, length, take, drop, min, All, sym, ap, ◌∙◌, ⊎_elim, arith}
+use Rattle.std.proofs.Common.{◌≡◌, ℕ, ◌+◌, ◌-◌, ◌<◌, ◌≤◌, List, [], ◌∷◌, length, take, drop, min, All, Option, Some, None, refl, sym, ap, ◌∙◌, ⊎_elim, arith}
 use Rattle.std.proofs.lemmas.Bool.{cases_lt}
 use Rattle.std.proofs.Math.Seq.{drop-length}
 use Rattle.std.proofs.lemmas.List.{drop-map, drop_all, length-drop, take_all}
-use Rattle.std.proofs.lemmas.List.Elements.{All-head, All-tail}
+use Rattle.std.proofs.lemmas.List.Elements.{All-head, All-nil, All-tail}
+use Rattle.cfi_model.specs.Data.{LiesInData}
 use Rattle.cfi_plan.specs.Draft.{starts}
 use Rattle.cfi_plan.specs.declared.plan.Plan.{Plan}
 use Rattle.cfi_series.specs.Fills.{fill_of, fills_of}
+use Rattle.cfi_unit.specs.declared.fill.Fill.{Fill}
 use Rattle.cfi_valid.specs.Journal.{JournalState}
 use Rattle.cfi_valid.specs.Loaded.{LoadedModule, placed_modules, loaded_by, fills_between}
+use Rattle.cfi_ledger.specs.Opens.{given_reply}
 use Rattle.cfi_ledger.specs.Policies.{HavePolicies}
 use Rattle.cfi_ledger.proofs.PolicyLemmas.{policies_below}
 use Rattle.cfi_ledger.proofs.SuffixLemmas.{Rise, AllUpTo, first_loaded, later_loaded}
@@ -43,6 +46,18 @@ module _ (plan : Plan) (s : JournalState) (have : HavePolicies plan s) where
       ∙ ap (λ (n : ℕ). drop n s.loaded) (omega arith))
       ∙ ap fills_of (sym (drop-map (λ (l : LoadedModule). l.placed) (starts plan.modules + above) s.loaded))
       ∙ sym (drop-map fill_of (starts plan.modules + above) (placed_modules s.loaded))
+
+-- ---- a reply
+
+pub given_policy : (address : Option ℕ) (policy : ℕ) (fills : List Fill)
+    → (given_reply address policy fills).policy ≡ policy
+given_policy (Some address) policy fills = refl
+given_policy None policy fills = refl
+
+pub given_inside : (address : Option ℕ) (policy : ℕ) (fills : List Fill) → All LiesInData fills
+    → All LiesInData (given_reply address policy fills).fills
+given_inside (Some address) policy fills all = all
+given_inside None policy fills all = All-nil LiesInData
 
 -- ---- the rest of a list
 

@@ -4,12 +4,22 @@ use Rattle.std.proofs.Math.Seq.{take-length}
 use Rattle.std.proofs.lemmas.List.{map-append, take-append-le}
 use Rattle.cfi_aux.specs.declared.modules.Module.{Module}
 use Rattle.cfi_plan.specs.declared.journal.ModuleLine.{ModuleLine}
+use Rattle.cfi_series.specs.Prepared.{without_last}
 use Rattle.cfi_series.specs.Series.{Series, HasJoined as SeriesHasJoined}
 use Rattle.cfi_aux.specs.declared.placed.Placed.{Placed}
 use Rattle.cfi_plan.specs.declared.plan.PlanModule.{PlanModule}
 use Rattle.cfi_valid.specs.Loaded.{LoadedModule, module_line_of, planned_name}
 use Rattle.cfi_valid.proofs.KeptLemmas.{loaded_more}
-use Rattle.cfi_ledger.specs.Roster.{HasJoined, Roster, line_by, loaded_of, origin_of, without_last}
+use Rattle.cfi_ledger.specs.declared.entrant.Entrant.{Entrant}
+use Rattle.cfi_ledger.specs.Roster.{HasJoined, Roster, line_by, loaded_of, origin_of}
+
+-- a list without the item at its end
+init_of : {X : Type 0} (xs : List X) (x : X) → take (length (xs ++ x ∷ []) - 1) (xs ++ x ∷ []) ≡ xs
+init_of xs x =
+    let end : length (xs ++ x ∷ []) - 1 ≡ length xs = omega (arith, length-append xs (x ∷ [])) in
+    ap (λ (n : ℕ). take n (xs ++ x ∷ [])) end
+    ∙ take-append-le (length xs) xs (x ∷ []) (omega arith)
+    ∙ take-length xs
 
 module _ (number policy : ℕ) (name : List ℕ) (m : Module) (s new : Series) (lines : List ModuleLine) where
   abbrev before : Roster
@@ -36,13 +46,27 @@ module _ (number policy : ℕ) (name : List ℕ) (m : Module) (s new : Series) (
             }) line_is;
       })
 
--- a list without the item at its end
-init_of : {X : Type 0} (xs : List X) (x : X) → take (length (xs ++ x ∷ []) - 1) (xs ++ x ∷ []) ≡ xs
-init_of xs x =
-    let end : length (xs ++ x ∷ []) - 1 ≡ length xs = omega (arith, length-append xs (x ∷ [])) in
-    ap (λ (n : ℕ). take n (xs ++ x ∷ [])) end
-    ∙ take-append-le (length xs) xs (x ∷ []) (omega arith)
-    ∙ take-length xs
+  abbrev back : List ModuleLine → Roster
+  back rest = record { code_words = new.code_words; lines = rest; placed = (without_last new).placed }
+
+  -- without the module it is what it was
+  pub roster_back : (old : Roster) → before ≡ old → SeriesHasJoined s new m → (rest : List ModuleLine) → rest ≡ lines
+      → back rest ≡ old
+  roster_back old same joined rest rest_is =
+      ap back rest_is
+      ∙ ap (λ (n : Series). record { code_words = n.code_words; lines = lines; placed = (without_last n).placed }) joined.2
+      ∙ ap (λ (ps : List Placed). record { code_words = s.code_words; lines = lines; placed = ps })
+      (init_of s.placed joined.0)
+      ∙ same
+
+-- a module that is to join has its number, its name and its policy
+pub entrant_joined : (e : Entrant) (number : ℕ) (name : List ℕ) (policy : ℕ) → e.number ≡ number → e.name.now ≡ name
+    → e.policy ≡ policy → (m : Module) (old new : Roster) → HasJoined e.number e.name.now e.policy m old new
+    → HasJoined number name policy m old new
+entrant_joined e number name policy number_is name_is policy_is m old new joined =
+    subst (λ (n : ℕ). HasJoined number name n m old new) policy_is
+    (subst (λ (xs : List ℕ). HasJoined number xs e.policy m old new) name_is
+    (subst (λ (n : ℕ). HasJoined n e.name.now e.policy m old new) number_is joined))
 
 module _ (number : ℕ) (name : List ℕ) (policy : ℕ) (m : Module) (old new : Roster)
     (joined : HasJoined number name policy m old new) where
@@ -51,21 +75,6 @@ module _ (number : ℕ) (name : List ℕ) (policy : ℕ) (m : Module) (old new :
 
   abbrev its_module : LoadedModule
   its_module = record { number = number; placed = joined.one; policy = policy }
-
-  -- without the module it is what it was
-  pub joined_back : without_last new ≡ old
-  joined_back =
-      ap without_last joined.is
-      ∙ ap (λ (ls : List ModuleLine). record {
-        code_words = old.code_words;
-        lines = ls;
-        placed = take (length (old.placed ++ joined.one ∷ []) - 1) (old.placed ++ joined.one ∷ []);
-      }) (init_of old.lines its_line)
-      ∙ ap (λ (ps : List Placed). record {
-        code_words = old.code_words;
-        lines = old.lines;
-        placed = ps;
-      }) (init_of old.placed joined.one)
 
   module _ (many : length old.lines ≡ length old.placed) where
     -- with it, it is loaded

@@ -20,8 +20,8 @@ use Rattle.cfi_ledger.specs.Entries.{HaveEntries}
 use Rattle.cfi_ledger.specs.Plans.{CanStart}
 use Rattle.cfi_valid.specs.Opening.{IsFirstLost}
 use Rattle.cfi_ledger.specs.Entries.{AllEnter, IsFirstOut}
-use Rattle.cfi_ledger.specs.Roster.{Roster, IsImageOfRoster, origin_of}
-use Rattle.cfi_ledger.specs.Starts.{AreStarted, loaded_in, opened_state}
+use Rattle.cfi_ledger.specs.Roster.{Roster, IsImageOfRoster, loaded_in_roster, origin_of}
+use Rattle.cfi_ledger.specs.Starts.{AreStarted, opened_state}
 use Rattle.cfi_ledger.proofs.EntryLemmas.{among_self, loaded_all}
 use Rattle.cfi_valid.proofs.KeptLemmas.{places_are}
 use Rattle.cfi_ledger.proofs.PolicyLemmas.{opening_policies}
@@ -44,12 +44,12 @@ module _ (plan : Plan) (loaded : List LoadedModule) (ms : List Placed)
 
 module _ (plan : Plan) (modules : List Module) (can : CanStart plan modules) (r : Roster)
     (all : AreStarted plan modules (length plan.modules) r) where
-  pub places : placed_modules (loaded_in r) ≡ r.placed
+  pub places : placed_modules (loaded_in_roster r) ≡ r.placed
   places = places_are origin_of r.lines r.placed all.many
 
-  pub start_places : placed_modules (loaded_by 0 (loaded_in r)) ≡ r.placed
+  pub start_places : placed_modules (loaded_by 0 (loaded_in_roster r)) ≡ r.placed
   start_places =
-      ap placed_modules (loaded_all 0 (loaded_in r) (λ at d within. omega (arith, all.policies at d within)))
+      ap placed_modules (loaded_all 0 (loaded_in_roster r) (λ at d within. omega (arith, all.policies at d within)))
       ∙ places
 
   pub first_lost : (guest : ℕ) → IsFirstOut plan r.placed guest → IsFirstLost plan modules guest
@@ -58,16 +58,16 @@ module _ (plan : Plan) (modules : List Module) (can : CanStart plan modules) (r 
     opens = started_all plan modules r all;
     entry = out.entry;
     is = out.is;
-    lost = λ found. out.lost (found.0, begins_to plan (loaded_in r) r.placed start_places out.entry found.0 found.1);
+    lost = λ found. out.lost (found.0, begins_to plan (loaded_in_roster r) r.placed start_places out.entry found.0 found.1);
     before = λ k other less is.
         let found = out.before k other less is in
-        (found.0, begins_from plan (loaded_in r) r.placed start_places other found.0 found.1);
+        (found.0, begins_from plan (loaded_in_roster r) r.placed start_places other found.0 found.1);
   }
 
-  pub entries : AllEnter plan r.placed → HaveEntries plan (loaded_in r)
+  pub entries : AllEnter plan r.placed → HaveEntries plan (loaded_in_roster r)
   entries enter = λ guest entry is.
       let found = enter guest entry is in
-      (found.0, begins_from plan (loaded_in r) r.placed start_places entry found.0 found.1)
+      (found.0, begins_from plan (loaded_in_roster r) r.placed start_places entry found.0 found.1)
 
   pub journal_none : IsJournal plan modules [] (opened_state plan r)
   journal_none = record {
@@ -80,7 +80,7 @@ module _ (plan : Plan) (modules : List Module) (can : CanStart plan modules) (r 
   start_loaded =
       let sound : All IsSoundModule modules = λ at d within. (can.taken at d within).sound in
       subst (AreLoaded plan.code_words) places
-      (are_loaded plan.code_words (placed_modules (loaded_in r))
+      (are_loaded plan.code_words (placed_modules (loaded_in_roster r))
       (journal_series plan modules [] (opened_state plan r) can.code_words sound journal_none))
 
   pub policies : HavePolicies plan (opened_state plan r)

@@ -18,8 +18,8 @@ use Rattle.cfi_valid.specs.Journal.{IsOpeningState, starts_from}
 use Rattle.cfi_valid.specs.Loaded.{LoadedModule, module_line_of, planned_name}
 use Rattle.cfi_valid.proofs.StartLemmas.{StartsAreLoaded, one_of, starts_cons, starts_same, starts_more, starts_all, unjoined}
 use Rattle.cfi_ledger.specs.Opening.{IsStartFault}
-use Rattle.cfi_ledger.specs.Roster.{Roster, HasJoined, line_by, loaded_of, origin_of}
-use Rattle.cfi_ledger.specs.Starts.{AreStarted, loaded_in, opened_state, start_fault_of}
+use Rattle.cfi_ledger.specs.Roster.{Roster, HasJoined, line_by, loaded_in_roster, loaded_of, origin_of}
+use Rattle.cfi_ledger.specs.Starts.{AreStarted, opened_state, start_fault_of}
 use Rattle.cfi_valid.proofs.KeptLemmas.{loaded_more, places_are}
 
 -- ---- the numbers of start modules
@@ -44,20 +44,20 @@ starts_count number (m ∷ ms) =
 -- ---- the modules so far
 
 starts_are : (plan : Plan) (modules : List Module) (number : ℕ) (r : Roster) → AreStarted plan modules number r
-    → StartsAreLoaded plan modules number (loaded_in r) r.placed
+    → StartsAreLoaded plan modules number (loaded_in_roster r) r.placed
 starts_are plan modules number r so_far =
     record { starts = so_far.starts; policies = so_far.policies; order = so_far.order }
 
 module _ (plan : Plan) (modules : List Module) where
   module _ (number : ℕ) (one : PlanModule) (within : number < length plan.modules)
       (is : one ≡ get_or plan.modules number one) (r : Roster) (so_far : AreStarted plan modules number r) where
-    these : StartsAreLoaded plan modules number (loaded_in r) r.placed
+    these : StartsAreLoaded plan modules number (loaded_in_roster r) r.placed
     these = starts_are plan modules number r so_far
 
     -- a module that does not belong to the start
     pub started_same : one.start ≡ false → AreStarted plan modules (number + 1) r
     started_same late =
-        let same = starts_same plan modules number one within is (loaded_in r) r.placed these late in
+        let same = starts_same plan modules number one within is (loaded_in_roster r) r.placed these late in
         record {
           code_words_are = so_far.code_words_are;
           many = so_far.many;
@@ -75,7 +75,7 @@ module _ (plan : Plan) (modules : List Module) where
           let p : Placed = joined.one in
           let line : ModuleLine = line_by number one.name 0 p in
           let l : LoadedModule = record { number = number; placed = p; policy = 0 } in
-          let there : loaded_of (r.lines ++ line ∷ []) (r.placed ++ p ∷ []) ≡ loaded_in r ++ l ∷ [] =
+          let there : loaded_of (r.lines ++ line ∷ []) (r.placed ++ p ∷ []) ≡ loaded_in_roster r ++ l ∷ [] =
           loaded_more origin_of r.lines r.placed line p so_far.many in
           let joins : Joins plan.code_words r.placed unplaced p =
           subst (λ (n : ℕ). Joins n r.placed unplaced p) so_far.code_words_are joined.joins in
@@ -84,8 +84,8 @@ module _ (plan : Plan) (modules : List Module) where
           (slice_get-get_or plan.modules number one within ∙ ap (λ (x : PlanModule). Some x) (sym is))) in
           let line_is : line ≡ module_line_of plan.modules l = ap (λ (xs : List ℕ). line_by number xs 0 p) name in
           let all : Roster = record r { lines = r.lines ++ line ∷ []; placed = r.placed ++ p ∷ [] } in
-          let more = starts_more plan modules number one within is (loaded_in r) r.placed these start unplaced is_there
-          p joins l refl refl (loaded_in all) there in
+          let more = starts_more plan modules number one within is (loaded_in_roster r) r.placed these start unplaced is_there
+          p joins l refl refl (loaded_in_roster all) there in
           let started : AreStarted plan modules (number + 1) all = record {
             code_words_are = so_far.code_words_are;
             many = omega (arith, length-append r.lines (line ∷ []), length-append r.placed (p ∷ []), so_far.many);
@@ -93,9 +93,9 @@ module _ (plan : Plan) (modules : List Module) where
             policies = more.policies;
             lines_are =
                 ap (λ (ls : List ModuleLine). ls ++ line ∷ []) so_far.lines_are
-                ∙ ap (λ (x : ModuleLine). map (module_line_of plan.modules) (loaded_in r) ++ x ∷ []) line_is
+                ∙ ap (λ (x : ModuleLine). map (module_line_of plan.modules) (loaded_in_roster r) ++ x ∷ []) line_is
                 ∙ sym (ap (map (module_line_of plan.modules)) there
-                ∙ map-append (module_line_of plan.modules) (loaded_in r) (l ∷ []));
+                ∙ map-append (module_line_of plan.modules) (loaded_in_roster r) (l ∷ []));
             order = more.order;
           } in
           subst (AreStarted plan modules (number + 1)) (sym joined.is) started
@@ -104,10 +104,10 @@ module _ (plan : Plan) (modules : List Module) where
       pub started_fault : (fault : JoinFault) → IsJoinFault r.code_words r.placed unplaced fault
           → IsStartFault plan modules (start_fault_of number fault)
       started_fault (joins.Place fault) why =
-          unjoined plan modules number one within is (loaded_in r) r.placed these start unplaced is_there
+          unjoined plan modules number one within is (loaded_in_roster r) r.placed these start unplaced is_there
           r.code_words so_far.code_words_are (joins.Place fault) why
       started_fault (joins.Verify fault) why =
-          unjoined plan modules number one within is (loaded_in r) r.placed these start unplaced is_there
+          unjoined plan modules number one within is (loaded_in_roster r) r.placed these start unplaced is_there
           r.code_words so_far.code_words_are (joins.Verify fault) why
       started_fault joins.Memory why = tt
 
@@ -115,12 +115,12 @@ module _ (plan : Plan) (modules : List Module) where
   pub started_all : (r : Roster) → AreStarted plan modules (length plan.modules) r
       → IsOpeningState plan modules (opened_state plan r)
   started_all r all =
-      starts_all plan modules (loaded_in r) r.placed (places_are origin_of r.lines r.placed all.many)
+      starts_all plan modules (loaded_in_roster r) r.placed (places_are origin_of r.lines r.placed all.many)
       (starts_are plan modules (length plan.modules) r all)
 
   pub started_count : (r : Roster) → AreStarted plan modules (length plan.modules) r
-      → length (loaded_in r) ≡ starts plan.modules
+      → length (loaded_in_roster r) ≡ starts plan.modules
   started_count r all =
-      sym (length-map (loaded_in r) (λ (l : LoadedModule). l.number))
+      sym (length-map (loaded_in_roster r) (λ (l : LoadedModule). l.number))
       ∙ ap (λ (xs : List ℕ). length xs) (started_all r all).starts
       ∙ starts_count 0 plan.modules

@@ -4,11 +4,11 @@ use Rattle.cfi_valid.specs.Course.{Course}
 use Rattle.cfi_valid.specs.Journal.{JournalState}
 use Rattle.cfi_valid.specs.Loaded.{LoadedModule, module_line_of}
 use Rattle.cfi_ledger.specs.declared.books.Books.{Books}
-use Rattle.cfi_ledger.specs.Roster.{loaded_of}
+use Rattle.cfi_ledger.specs.Roster.{loaded_in_roster}
 
 -- the loaded modules
 abbrev pub loaded_in : Books → List LoadedModule
-loaded_in b = loaded_of b.roster.lines b.roster.placed
+loaded_in b = loaded_in_roster b.roster
 
 -- the state to which the journal leads, and the course
 abbrev pub end_of_books : Books → JournalState

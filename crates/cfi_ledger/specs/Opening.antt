@@ -2,6 +2,7 @@
 use Rattle.std.specs.Prelude.{◌≡◌, false, List, [], length, None, replicate, ⊤}
 use Rattle.cfi_aux.specs.declared.modules.Module.{Module}
 use Rattle.cfi_plan.specs.declared.plan.Plan.{Plan}
+use Rattle.cfi_series.specs.Prepared.{IsOrderedImage}
 use Rattle.cfi_series.specs.declared.fault.JoinFault.TheVariants as joins
 use Rattle.cfi_valid.specs.Opening.{IsFirstUnjoined, IsFirstLost}
 use Rattle.cfi_valid.specs.Script.{script_calls}
@@ -27,6 +28,15 @@ IsOpenFault plan modules (NoEntry guest) = IsFirstLost plan modules guest
 abbrev pub IsStartFault : Plan → List Module → StartFault → Type 0
 IsStartFault plan modules (Open fault) = IsOpenFault plan modules fault
 IsStartFault plan modules Memory = ⊤
+
+-- ---- the start
+
+-- the start modules and their image, where each guest has somewhere to begin
+pub record HasOpened (plan : Plan) (modules : List Module) (roster : Roster) (image : Image) : Type 0 where
+  pub started : AreStarted plan modules (length plan.modules) roster
+  pub enter : AllEnter plan roster.placed
+  pub image_is : IsImageOfRoster roster image
+  pub ordered : IsOrderedImage roster.placed image
 
 -- ---- books
 

@@ -3,6 +3,7 @@ use Rattle.std.specs.Prelude.{ℕ, List, [], Option, Some, None}
 use Rattle.cfi_aux.specs.declared.placed.Placed.{Placed}
 use Rattle.cfi_model.specs.Service.{Reply, reply_of}
 use Rattle.cfi_series.specs.Entry.{IsGlobal, IsFirstOf, HasNoneOf}
+use Rattle.cfi_unit.specs.declared.fill.Fill.{Fill}
 use Rattle.cfi_unit.specs.declared.log.Log.{Log}
 use Rattle.cfi_valid.specs.Journal.{JournalState}
 use Rattle.cfi_valid.specs.Loaded.{LoadedModule, fills_between}
@@ -20,8 +21,11 @@ abbrev pub IsAddressOf : List LoadedModule → (number : ℕ) → Option ℕ →
 IsAddressOf loaded number (Some address) = HasFunctionAt loaded number address
 IsAddressOf loaded number None = HasNoFunction loaded number
 
--- the answer by that address: with one, the data that the guest lacks; without, none
+-- the reply by that address under a policy: with one, this data; without, none
+abbrev pub given_reply : (address : Option ℕ) → (policy : ℕ) → List Fill → Reply
+given_reply (Some address) policy fills = reply_of address 0 policy fills
+given_reply None policy fills = reply_of 0 NO_FUNCTION policy []
+
+-- its data is that which the guest lacks
 abbrev pub open_reply : JournalState → (log : List Log) → (address : Option ℕ) → Reply
-open_reply s log (Some address) =
-    reply_of address 0 s.policy (fills_between (given_by log) s.policy s.loaded)
-open_reply s log None = reply_of 0 NO_FUNCTION s.policy []
+open_reply s log address = given_reply address s.policy (fills_between (given_by log) s.policy s.loaded)

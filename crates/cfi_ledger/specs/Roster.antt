@@ -1,17 +1,17 @@
 -- The loaded modules as they are kept: a line of a report for each, its data, and where it stands.
-use Rattle.std.specs.Prelude.{◌≡◌, ℕ, ◌-◌, ◌+◌, ◌<◌, List, [], ◌∷◌, ◌++◌, length, take, vec_len, vec_capacity}
+use Rattle.std.specs.Prelude.{◌≡◌, ℕ, ◌+◌, ◌<◌, List, [], ◌∷◌, ◌++◌, length, vec_len, vec_capacity}
 use Rattle.cfi_aux.specs.declared.modules.Module.{Module}
 use Rattle.cfi_aux.specs.declared.placed.Placed.{Placed}
 use Rattle.cfi_plan.specs.declared.journal.ModuleLine.{ModuleLine}
 use Rattle.cfi_series.specs.Fills.{fills_of}
 use Rattle.cfi_series.specs.Order.{Joins}
-use Rattle.cfi_series.specs.Prepared.{IsImageOfSeries}
+use Rattle.cfi_series.specs.Prepared.{IsImageOfSeries, without_last}
 use Rattle.cfi_series.specs.Series.{Series}
 use Rattle.cfi_valid.specs.Kept.{Origin, loaded_from}
 use Rattle.cfi_valid.specs.Loaded.{LoadedModule}
 use Rattle.cfi_word.specs.declared.lists.Image.{Image}
 use Rattle.cfi_ledger.specs.declared.roster.Roster.TheInside.{Inside}
-use Rattle.cfi_ledger.specs.declared.roster.Candidate.TheInside.{Inside as CandidateInside}
+use Rattle.cfi_ledger.specs.declared.candidate.Candidate.TheInside.{Inside as CandidateInside}
 
 -- the lines of a report, and what placing made of the modules
 pub record Roster : Type 0 where
@@ -49,6 +49,9 @@ origin_of line = record { number = line.number; policy = line.policy }
 abbrev pub loaded_of : List ModuleLine → List Placed → List LoadedModule
 loaded_of lines placed = loaded_from origin_of lines placed
 
+abbrev pub loaded_in_roster : Roster → List LoadedModule
+loaded_in_roster r = loaded_of r.lines r.placed
+
 -- a roster has a module more, which joins those before it
 pub record HasJoined (number : ℕ) (name : List ℕ) (policy : ℕ) (unplaced : Module) (old new : Roster) : Type 0 where
   pub one : Placed
@@ -60,12 +63,19 @@ pub record HasJoined (number : ℕ) (name : List ℕ) (policy : ℕ) (unplaced :
 
 -- ---- a module more, which may be taken back
 
+-- the modules before it, all with it, and the image of all
 pub record Candidate : Type 0 where
+  pub before : Roster
   pub roster : Roster
   pub image : Image
 
 abbrev pub candidate_of : CandidateInside → Candidate
 candidate_of a = record {
+  before = record {
+    code_words = a.prepared.series.code_words;
+    lines = a.lines.items;
+    placed = (without_last a.prepared.series).placed;
+  };
   roster = record {
     code_words = a.prepared.series.code_words;
     lines = a.lines.items ++ a.line ∷ [];
@@ -84,10 +94,3 @@ pub record IsCandidate (a : CandidateInside) : Type 0 where
 -- the image is that of all modules of a roster, under their own policy
 abbrev pub IsImageOfRoster : Roster → Image → Type 0
 IsImageOfRoster roster image = IsImageOfSeries (series_of roster) image
-
--- a roster without its last module
-abbrev pub without_last : Roster → Roster
-without_last roster = record roster {
-  lines = take (length roster.lines - 1) roster.lines;
-  placed = take (length roster.placed - 1) roster.placed;
-}

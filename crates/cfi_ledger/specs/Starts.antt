@@ -10,23 +10,20 @@ use Rattle.cfi_valid.specs.Loaded.{LoadedModule, module_line_of}
 use Rattle.cfi_ledger.specs.declared.fault.OpenFault.TheVariants.{Place, Verify}
 use Rattle.cfi_ledger.specs.declared.fault.StartFault.{StartFault}
 use Rattle.cfi_ledger.specs.declared.fault.StartFault.TheVariants.{Open, Memory}
-use Rattle.cfi_ledger.specs.Roster.{Roster, loaded_of}
-
-abbrev pub loaded_in : Roster → List LoadedModule
-loaded_in r = loaded_of r.lines r.placed
+use Rattle.cfi_ledger.specs.Roster.{Roster, loaded_in_roster}
 
 -- of the first so many modules of the plan, those of the start
 pub record AreStarted (plan : Plan) (modules : List Module) (number : ℕ) (r : Roster) : Type 0 where
   pub code_words_are : r.code_words ≡ plan.code_words
   pub many : length r.lines ≡ length r.placed
-  pub starts : map (λ (l : LoadedModule). l.number) (loaded_in r) ≡ starts_from 0 (take number plan.modules)
-  pub policies : All (λ (l : LoadedModule). l.policy ≡ 0) (loaded_in r)
-  pub lines_are : r.lines ≡ map (module_line_of plan.modules) (loaded_in r)
+  pub starts : map (λ (l : LoadedModule). l.number) (loaded_in_roster r) ≡ starts_from 0 (take number plan.modules)
+  pub policies : All (λ (l : LoadedModule). l.policy ≡ 0) (loaded_in_roster r)
+  pub lines_are : r.lines ≡ map (module_line_of plan.modules) (loaded_in_roster r)
   pub order : AreInOrder plan.code_words (modules_at modules (starts_from 0 (take number plan.modules))) r.placed
 
 -- the state of the opening
 abbrev pub opened_state : Plan → Roster → JournalState
-opened_state plan r = record { epoch = plan.first; policy = 0; loaded = loaded_in r }
+opened_state plan r = record { epoch = plan.first; policy = 0; loaded = loaded_in_roster r }
 
 -- the fault of the module of a number
 abbrev pub start_fault_of : (number : ℕ) → JoinFault → StartFault

@@ -1,4 +1,5 @@
-//! What a loader has beside the keeper of the tables.
+//! The books of a run: the lines of its journal, and its loads: what is known of a module before it is tried, what was
+//! found of it, and the module in force.
 
 ghost use Rattle.std.specs.Prelude.{◌≡◌, ◌+◌, ◌<◌, true, if◌then◌else◌, IfOk, IfErr, IfSome, OnOk, OnErr, Some, length, nat_le, slice_get, slice_index_or, slice_set};
 ghost use Rattle.cfi_plan.specs.declared.journal.JournalLine.TheVariants.{LoadOk};
@@ -13,14 +14,14 @@ ghost use Rattle.cfi_ledger.specs.Loads.{HasPrepared, IsKnown, IsUnprepared};
 ghost use Rattle.cfi_ledger.specs.Opens.{IsFirstGlobal};
 ghost use Rattle.cfi_ledger.specs.Roster.{IsImageOfRoster};
 
+use crate::candidate::Candidate;
 use crate::entrant::Entrant;
 use crate::finding::{Finding, Known, Outcome, fault_by, outcome_of};
 use crate::journal::Journal;
-use crate::roster::{Candidate, Roster};
+use crate::roster::Roster;
 use cfi_aux::Module;
 use cfi_plan::{JournalLine, Plan, Who};
 use cfi_series::{JoinFault, first_global, loaded_have_entries};
-use cfi_valid::MAX_LOADED;
 use cfi_values::Items;
 use cfi_word::limits::MAX_EPOCH;
 use cfi_word::{Image, Layout};
@@ -30,21 +31,29 @@ use std::mem;
 /// The plan and its modules, those that are loaded, what is in force, and the journal.
 #[derive(Drop)]
 pub struct Books {
+    /// The plan.
     pub plan: Plan,
+    /// Its modules, one a line.
     pub modules: Items<Module>,
+    /// The code words of the plan.
     pub layout: Layout,
+    /// The loaded modules.
     pub roster: Roster,
-    // The image, the epoch and the policy in force.
+    /// The image in force.
     pub image: Image,
+    /// The epoch in force.
     pub epoch: u32,
+    /// The policy in force.
     pub policy: u32,
-    // How many modules were there from the start.
+    /// How many modules were there from the start.
     pub starts: usize,
-    // What was found of each module of the plan when it was tried, so that it is not tried twice behind the same ones.
+    /// What was found of each module of the plan when it was tried, so that it is not tried twice behind the same ones.
     pub found: Vec<Option<Finding>>,
+    /// The journal.
     pub journal: Journal,
-    // Whether memory was missing for a load.
+    /// Whether memory was missing for a load.
     pub starved: bool,
+    /// Where their memory comes from.
     pub alloc: Global,
 }
 
@@ -62,7 +71,7 @@ impl Books {
     pub fn is_full(&self) -> bool
         ensures { result ≡ nat_le MAX_LOADED (length self.now.roster.lines) }
     {
-        self.roster.lines().len() >= MAX_LOADED as usize
+        self.roster.is_full()
     }
 
     /// The address of the first Global function of the module at a place in load order.
@@ -116,17 +125,14 @@ impl Books {
         requires known { number < length self.old.plan.modules }
         requires few { self.old.policy < MAX_LOADED }
         ensures ok { IfOk result (λ candidate. HasPrepared self.old number candidate.roster) }
+        ensures before { IfOk result (λ candidate. candidate.before ≡ self.old.roster) }
         ensures image { IfOk result (λ candidate. IsImageOfRoster candidate.roster candidate.image) }
         ensures lent { OnOk result (self.new ≡ record self.old { roster = self.new.roster }) }
         ensures fault { IfErr result (IsUnprepared self.old number) }
         ensures same { OnErr result (self.new ≡ self.old) }
     {
         let roster = mem::replace(&mut self.roster, Roster::new(self.alloc, &self.layout));
-        let entrant = Entrant {
-            number,
-            name: self.plan.modules.as_slice()[number as usize].name.as_str(),
-            policy: self.policy + 1,
-        };
+        let entrant = Entrant::of(&self.plan, number, self.policy + 1);
         match roster.prepare(&entrant, &self.modules.as_slice()[number as usize]) {
             Ok(candidate) => Ok(candidate),
             Err(unjoined) => {
@@ -134,6 +140,17 @@ impl Books {
                 Err(unjoined.fault)
             }
         }
+    }
+
+    /// Whether a module of the plan joins those that are loaded. No image is made.
+    pub fn joins(&mut self, number: u32) -> Result<(), JoinFault>
+        requires can { CanStart self.old.plan self.old.modules }
+        requires known { number < length self.old.plan.modules }
+        ensures ok { OnOk result (DoesJoin self.old.modules self.old.roster number) }
+        ensures fault { IfErr result (IsUnprepared self.old number) }
+        ensures same { self.new ≡ self.old }
+    {
+        self.roster.joins(&self.modules.as_slice()[number as usize])
     }
 
     // What was found of a module behind all that are loaded.

@@ -1,11 +1,12 @@
 //! A module that is to join those that are loaded.
 
-ghost use Rattle.std.specs.Prelude.{◌≡◌, ◌<◌, IfOk, OnOk, vec_len, vec_capacity};
+ghost use Rattle.std.specs.Prelude.{◌≡◌, ◌<◌, IfOk, OnOk, length, vec_len, vec_capacity};
 ghost use Rattle.cfi_series.specs.Fills.{fill_of};
 ghost use Rattle.cfi_ledger.specs.Roster.{line_by};
+ghost use Rattle.cfi_valid.specs.Loaded.{planned_name};
 
 use cfi_aux::Placed;
-use cfi_plan::ModuleLine;
+use cfi_plan::{ModuleLine, Plan};
 use cfi_unit::Fill;
 use cfi_values::{Bytes, Text};
 use std::alloc::{AllocError, Global};
@@ -13,9 +14,28 @@ use std::alloc::{AllocError, Global};
 /// A module that is to join: its number, its name and the policy that comes with it.
 #[derive(Drop)]
 pub struct Entrant<'a> {
+    /// Its number in the plan, from 0.
     pub number: u32,
+    /// Its name in the plan.
     pub name: &'a str,
+    /// The policy that comes with it.
     pub policy: u32,
+}
+
+impl<'a> Entrant<'a> {
+    /// The module of the plan of this number.
+    pub fn of(plan: &'a Plan, number: u32, policy: u32) -> Entrant<'a>
+        requires { number < length plan.now.modules }
+        ensures number { result.number ≡ number }
+        ensures name { result.name.now ≡ planned_name plan.now.modules number }
+        ensures policy { result.policy ≡ policy }
+    {
+        Entrant {
+            number,
+            name: plan.modules.as_slice()[number as usize].name.as_str(),
+            policy,
+        }
+    }
 }
 
 // What a report says of a module.

@@ -41,7 +41,7 @@ pub fn entry_at(plan: &Plan, starts: &[Placed], entry: &str) -> Option<u32>
 }
 
 /// The first guest that has nowhere to begin.
-pub fn first_lost(plan: &Plan, starts: &[Placed]) -> Option<u32>
+pub(crate) fn first_lost(plan: &Plan, starts: &[Placed]) -> Option<u32>
     requires addresses { All HasAddresses starts.now }
     requires few { length plan.now.guests ≤ GUESTS }
     ensures some { IfSome result (IsFirstOut plan.now starts.now) }

@@ -69,6 +69,18 @@ impl Journal {
         })
     }
 
+    /// An empty journal without a script. It takes no memory.
+    pub fn unscripted(alloc: Global) -> Journal
+        ensures lines { result.lines ≡ [] }
+        ensures left { result.left ≡ [] }
+    {
+        Journal {
+            lines: Vec::new(alloc),
+            calls: Vec::new(alloc),
+            made: 0,
+        }
+    }
+
     /// The lines, in order.
     pub fn lines(&self) -> &[Entry]
         ensures { result.now ≡ self.now.lines }
@@ -106,5 +118,23 @@ impl Journal {
             Who::Script => self.made += 1,
             Who::Guest(_) => {}
         }
+    }
+
+    /// Adds a line for which no call of the script was made, whoever asked. Without memory it adds none.
+    pub fn append(&mut self, entry: Entry) -> Result<(), AllocError>
+        ensures ok { OnOk result (self.new.lines ≡ self.old.lines ++ entry ∷ []) }
+        ensures same { OnErr result (self.new.lines ≡ self.old.lines) }
+        ensures left { self.new.left ≡ self.old.left }
+    {
+        self.reserve()?;
+        self.lines.push_reserved(entry);
+        Ok(())
+    }
+
+    /// The lines, in order.
+    pub fn into_lines(self) -> Vec<Entry>
+        ensures { result.items ≡ self.lines }
+    {
+        self.lines
     }
 }

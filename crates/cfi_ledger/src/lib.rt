@@ -9,6 +9,7 @@
 #![tactic(auto)]
 
 mod books;
+mod candidate;
 mod copies;
 mod due;
 mod entrant;
@@ -22,13 +23,14 @@ mod roster;
 mod telling;
 
 pub use books::Books;
+pub use candidate::Candidate;
 pub use due::Due;
 pub use entrant::Entrant;
-pub use entries::{entry_at, first_lost};
+pub use entries::entry_at;
 pub use fault::{OpenFault, StartFault};
 pub use finding::{Finding, Known, Outcome};
 pub use journal::Journal;
-pub use opening::start_modules;
-pub use opens::{fills_from, given_by};
-pub use roster::{Candidate, Roster, Unjoined};
+pub use opening::open_modules;
+pub use opens::{given_by, open_answer};
+pub use roster::{Roster, Unjoined};
 pub use telling::join_line;

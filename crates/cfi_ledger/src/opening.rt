@@ -1,8 +1,9 @@
 //! The opening of a plan: its start modules, and where its guests begin.
 
 ghost use Rattle.std.specs.Prelude.{◌≡◌, ◌<◌, ◌^◌, IfOk, IfErr, length};
-ghost use Rattle.cfi_ledger.specs.Opening.{AreOpened, AreOpeningBooks, IsStartFault};
+ghost use Rattle.cfi_ledger.specs.Opening.{AreOpened, AreOpeningBooks, HasOpened, IsStartFault};
 ghost use Rattle.cfi_ledger.specs.Plans.{CanStart};
+ghost use Rattle.cfi_ledger.specs.Roster.{IsImageOfRoster};
 ghost use Rattle.cfi_ledger.specs.Starts.{AreStarted, start_fault_of};
 ghost use Rattle.cfi_ledger.specs.declared.fault.StartFault.TheVariants.{Memory};
 
@@ -18,7 +19,7 @@ use cfi_aux::Module;
 use cfi_plan::Plan;
 use cfi_series::{JoinFault, loaded_have_entries};
 use cfi_values::Items;
-use cfi_word::Layout;
+use cfi_word::{Image, Layout};
 use std::alloc::Global;
 
 // The fault of the module of a number.
@@ -33,10 +34,8 @@ fn start_fault_of(number: usize, fault: JoinFault) -> StartFault
     }
 }
 
-/// The start modules of a plan, in plan order, each placed and verified behind those before it.
-///
-/// `modules` are those of the plan, one a line.
-pub fn start_modules(
+// The start modules of a plan, in plan order, each placed and verified behind those before it.
+fn start_modules(
     alloc: Global,
     layout: &Layout,
     plan: &Plan,
@@ -64,6 +63,31 @@ pub fn start_modules(
     Ok(roster)
 }
 
+/// The start modules of a plan, placed and verified in plan order, each against those before it, and the image of all,
+/// where each guest has somewhere to begin.
+///
+/// `modules` are those of the plan, one a line. Faults of modules come before guests that have no entry; for a bare
+/// file's plan the entry is the module's one function.
+pub fn open_modules(
+    alloc: Global,
+    layout: &Layout,
+    plan: &Plan,
+    modules: &[Module],
+) -> Result<(Roster, Image), StartFault>
+    requires can { CanStart plan.now modules.now }
+    requires layout { layout.now ≡ plan.now.code_words }
+    ensures ok { IfOk result (λ pair. HasOpened plan.now modules.now pair.0 pair.1) }
+    ensures fault { IfErr result (IsStartFault plan.now modules.now) }
+{
+    let roster = start_modules(alloc, layout, plan, modules)?;
+    loaded_have_entries();
+    if let Some(guest) = first_lost(plan, roster.modules()) {
+        return Err(StartFault::Open(OpenFault::NoEntry(guest)));
+    }
+    let image = roster.image()?;
+    Ok((roster, image))
+}
+
 // The books of an opening.
 fn first_books(
     alloc: Global,
@@ -71,12 +95,13 @@ fn first_books(
     plan: &Plan,
     modules: Items<Module>,
     roster: Roster,
+    image: Image,
 ) -> Result<Books, StartFault>
-    requires { layout ≡ plan.now.code_words }
+    requires layout { layout ≡ plan.now.code_words }
+    requires image { IsImageOfRoster roster image }
     ensures books { IfOk result (λ books. AreOpeningBooks plan.now modules roster books) }
     ensures fault { IfErr result (λ fault. fault ≡ Memory) }
 {
-    let image = roster.image()?;
     let starts = roster.lines().len();
     let journal = Journal::new(alloc, plan.script.as_slice())?;
     let found = nothing_found(alloc, modules.len())?;
@@ -97,22 +122,16 @@ fn first_books(
 }
 
 impl Books {
-    /// Places and verifies the start modules in plan order, each against those before it, and finds where the guests
-    /// begin.
+    /// The books of a plan before its first call, as `open_modules` opens it.
     ///
-    /// `modules` are those of the plan, one a line. Faults of modules come before guests that have no entry; for a
-    /// bare file's plan the entry is the module's one function.
+    /// `modules` are those of the plan, one a line.
     pub fn open(alloc: Global, plan: &Plan, modules: Items<Module>) -> Result<Books, StartFault>
         requires { CanStart plan.now modules }
         ensures ok { IfOk result (AreOpened plan.now modules) }
         ensures fault { IfErr result (IsStartFault plan.now modules) }
     {
         let layout = Layout::new(plan.code_words).unwrap();
-        let roster = start_modules(alloc, &layout, plan, modules.as_slice())?;
-        loaded_have_entries();
-        if let Some(guest) = first_lost(plan, roster.modules()) {
-            return Err(StartFault::Open(OpenFault::NoEntry(guest)));
-        }
-        first_books(alloc, layout, plan, modules, roster)
+        let (roster, image) = open_modules(alloc, &layout, plan, modules.as_slice())?;
+        first_books(alloc, layout, plan, modules, roster, image)
     }
 }

@@ -1,19 +1,23 @@
 //! The loaded modules, with what a report says of each and the data that came with it.
 
-ghost use Rattle.std.specs.Prelude.{◌≡◌, ◌<◌, [], IfOk, IfErr, IfSome, IfNone, length};
+ghost use Rattle.std.specs.Prelude.{◌≡◌, ◌<◌, [], IfOk, IfErr, IfSome, IfNone, OnOk, length, nat_le};
+ghost use Rattle.cfi_aux.specs.declared.placed.Placed.{Placed as PlacedModule};
 ghost use Rattle.cfi_series.specs.Fills.{fills_of};
 ghost use Rattle.cfi_series.specs.Loaded.{AreLoaded};
-ghost use Rattle.cfi_series.specs.Order.{IsJoinFault};
+ghost use Rattle.cfi_series.specs.Order.{IsJoinFault, Joins};
 ghost use Rattle.cfi_series.specs.Prepared.{IsOrderedImage};
 ghost use Rattle.cfi_series.specs.Series.{CanBeTaken, IsSeries};
 ghost use Rattle.cfi_ledger.specs.Loads.{IsListed, IsUnlisted};
-ghost use Rattle.cfi_ledger.specs.Roster.{HasJoined, IsImageOfRoster, without_last};
+ghost use Rattle.cfi_ledger.specs.Roster.{HasJoined, IsImageOfRoster};
+ghost use Rattle.cfi_valid.specs.declared.limits.TheConstants.{MAX_LOADED};
 
+use crate::candidate::Candidate;
 use crate::entrant::{Entrant, taken};
 use cfi_aux::{Module, Placed};
 use cfi_plan::ModuleLine;
-use cfi_series::{JoinFault, Prepared, Series};
+use cfi_series::{JoinFault, Series};
 use cfi_unit::Fill;
+use cfi_valid::MAX_LOADED;
 use cfi_word::{Image, Layout};
 use std::alloc::{AllocError, Global};
 use std::marker::Model;
@@ -21,10 +25,10 @@ use std::marker::Model;
 /// The loaded modules, in load order.
 #[derive(Drop)]
 pub struct Roster {
-    series: Series,
-    lines: Vec<ModuleLine>,
-    fills: Vec<Fill>,
-    alloc: Global,
+    pub(crate) series: Series,
+    pub(crate) lines: Vec<ModuleLine>,
+    pub(crate) fills: Vec<Fill>,
+    pub(crate) alloc: Global,
 }
 
 impl Model for Roster {
@@ -37,31 +41,12 @@ impl Model for Roster {
     ghost invariant = { IsRoster };
 }
 
-/// The loaded modules with one more, which may still be taken back, and the image of all.
-#[derive(Drop)]
-pub struct Candidate {
-    prepared: Prepared,
-    lines: Vec<ModuleLine>,
-    fills: Vec<Fill>,
-    line: ModuleLine,
-    fill: Fill,
-    alloc: Global,
-}
-
-impl Model for Candidate {
-    ghost use Rattle.cfi_ledger.specs.Roster.{Candidate, candidate_of, IsCandidate};
-
-    ghost Value = { Candidate };
-
-    ghost view = { candidate_of };
-
-    ghost invariant = { IsCandidate };
-}
-
 /// The loaded modules as they were, and why one does not join them.
 #[derive(Drop)]
 pub struct Unjoined {
+    /// The loaded modules.
     pub roster: Roster,
+    /// Why it does not join them.
     pub fault: JoinFault,
 }
 
@@ -104,6 +89,17 @@ impl Roster {
         })
     }
 
+    /// Whether a module joins the others, as `Series::joins` tells. No image is made.
+    pub fn joins(&mut self, unplaced: &Module) -> Result<(), JoinFault>
+        requires { CanBeTaken unplaced.now }
+        ensures ok { OnOk result
+            ((one : PlacedModule) × Joins self.old.code_words self.old.placed unplaced.now one) }
+        ensures fault { IfErr result (IsJoinFault self.old.code_words self.old.placed unplaced.now) }
+        ensures same { self.new ≡ self.old }
+    {
+        self.series.joins(unplaced)
+    }
+
     /// Places and verifies a module behind the others, and makes the image of all: the first step of a load.
     ///
     /// All memory that the load takes is taken here.
@@ -111,6 +107,7 @@ impl Roster {
         requires { CanBeTaken unplaced.now }
         ensures ok { IfOk result (λ candidate. HasJoined entrant.now.number entrant.now.name.now
             entrant.now.policy unplaced.now self candidate.roster) }
+        ensures before { IfOk result (λ candidate. candidate.before ≡ self) }
         ensures image { IfOk result (λ candidate. IsImageOfRoster candidate.roster candidate.image) }
         ensures fault { IfErr result (λ unjoined.
             IsJoinFault self.code_words self.placed unplaced.now unjoined.fault) }
@@ -170,6 +167,13 @@ impl Roster {
         &self.lines
     }
 
+    /// Whether no further module may be loaded.
+    pub fn is_full(&self) -> bool
+        ensures { result ≡ nat_le MAX_LOADED (length self.now.lines) }
+    {
+        self.lines.len() >= MAX_LOADED as usize
+    }
+
     /// The data of each.
     pub fn fills(&self) -> &[Fill]
         ensures { result.now ≡ fills_of self.now.placed }
@@ -212,82 +216,5 @@ impl Roster {
             }
         }
         None
-    }
-}
-
-impl Candidate {
-    /// The image of all.
-    pub fn image(&self) -> &Image
-        ensures { result.now ≡ self.now.image }
-    {
-        self.prepared.image()
-    }
-
-    /// The second step of a load. It takes no memory.
-    pub fn commit(self) -> (Roster, Image)
-        ensures { result ≡ (self.roster, self.image) }
-    {
-        let Candidate {
-            prepared,
-            mut lines,
-            mut fills,
-            line,
-            fill,
-            alloc,
-        } = self;
-        lines.push_reserved(line);
-        fills.push_reserved(fill);
-        let (series, image) = prepared.commit();
-        let roster = Roster {
-            series,
-            lines,
-            fills,
-            alloc,
-        };
-        (roster, image)
-    }
-
-    /// The loaded modules without it, and the image of all with it: a load that is made later. It takes no memory.
-    pub fn withdraw(self) -> (Roster, Image)
-        ensures value { result ≡ (without_last self.roster, self.image) }
-        ensures image { IsImageOfRoster self.roster self.image }
-        ensures ordered { IsOrderedImage self.roster.placed self.image }
-    {
-        let Candidate {
-            prepared,
-            lines,
-            fills,
-            line: _,
-            fill: _,
-            alloc,
-        } = self;
-        let (series, image) = prepared.withdraw();
-        let roster = Roster {
-            series,
-            lines,
-            fills,
-            alloc,
-        };
-        (roster, image)
-    }
-
-    /// The loaded modules without it: a load that is not made. It takes no memory.
-    pub fn discard(self) -> Roster
-        ensures { result ≡ without_last self.roster }
-    {
-        let Candidate {
-            prepared,
-            lines,
-            fills,
-            line: _,
-            fill: _,
-            alloc,
-        } = self;
-        Roster {
-            series: prepared.discard(),
-            lines,
-            fills,
-            alloc,
-        }
     }
 }

@@ -6,8 +6,9 @@ use Rattle.cfi_aux.specs.declared.modules.Module.{Module}
 use Rattle.cfi_aux.specs.declared.placed.Placed.{Placed}
 use Rattle.cfi_graph.specs.Direct.{DirectEdge}
 use Rattle.cfi_ledger.specs.Plans.{CanStart}
-use Rattle.cfi_ledger.specs.Roster.{Roster, IsImageOfRoster}
-use Rattle.cfi_ledger.specs.Starts.{AreStarted, loaded_in, opened_state}
+use Rattle.cfi_ledger.specs.Opening.{HasOpened}
+use Rattle.cfi_ledger.specs.Roster.{Roster, loaded_in_roster}
+use Rattle.cfi_ledger.specs.Starts.{AreStarted, opened_state}
 use Rattle.cfi_ledger.proofs.OpeningLemmas.{begins_from, labels, places, start_places}
 use Rattle.cfi_ledger.proofs.PlanLemmas.{plan_starts}
 use Rattle.cfi_ledger.proofs.StartLemmas.{started_all}
@@ -78,15 +79,17 @@ module _ (plan : Plan) (starts : List Placed) (fills : List Fill) (entries : Lis
 -- ---- the stage before the first line
 
 module _ (plan : Plan) (modules : List Module) (is : IsPlan plan) (named : length modules ≡ length plan.modules)
-    (taken : All CanBeTaken modules) (r : Roster) (all : AreStarted plan modules (length plan.modules) r) where
+    (taken : All CanBeTaken modules) (r : Roster) (image : Image) (has : HasOpened plan modules r image) where
   abbrev starts_can : CanStart plan modules
   starts_can = plan_starts plan modules is named taken
 
   abbrev loaded : List LoadedModule
-  loaded = loaded_in r
+  loaded = loaded_in_roster r
 
-  module _ (image : Image) (of : IsImageOfRoster r image) (ordered : IsOrderedImage r.placed image) (fills : List Fill)
-      (fills_are : fills ≡ fills_of r.placed) (guests : List Raw)
+  abbrev all : AreStarted plan modules (length plan.modules) r
+  all = has.started
+
+  module _ (fills : List Fill) (fills_are : fills ≡ fills_of r.placed) (guests : List Raw)
       (stand : AreGuestsIn plan r.placed fills (length plan.guests) guests) where
     abbrev world_at : World
     world_at = opened_world plan.code_words plan.versions plan.first image guests MAX_UPDATES plan.fuel
@@ -107,7 +110,7 @@ module _ (plan : Plan) (modules : List Module) (is : IsPlan plan) (named : lengt
     image_is : (let ms = placed_modules loaded in IsImage (DirectEdge ms) ms plan.code_words image)
     image_is =
         subst (λ (ms : List Placed). IsImage (DirectEdge ms) ms plan.code_words image)
-        (sym (places plan modules starts_can r all)) (labels plan modules starts_can r all image of)
+        (sym (places plan modules starts_can r all)) (labels plan modules starts_can r all image has.image_is)
 
     abbrev starts_here : IsStart plan modules stage_at
     starts_here = record {
@@ -115,7 +118,7 @@ module _ (plan : Plan) (modules : List Module) (is : IsPlan plan) (named : lengt
       image = image;
       of_starts = image_is;
       ordered = subst (λ (ms : List Placed). IsOrderedImage ms image)
-          (sym (places plan modules starts_can r all)) ordered;
+          (sym (places plan modules starts_can r all)) has.ordered;
       guests = guests;
       count = stand.count;
       each = λ number r' here.

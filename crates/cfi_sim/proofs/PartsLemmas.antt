@@ -15,7 +15,7 @@ use Rattle.cfi_valid.specs.Loaded.{module_line_of}
 pub told_end : (a : Inside) (x : Whole) → whole_inside a ≡ x → (phase : Phase) → phase ≡ phase_of a.world.tables
     → (lines : List ModuleLine)
     → lines ≡ map (module_line_of a.plan.now.modules) (loaded_of a.roster.lines a.roster.placed)
-    → (journal : List Entry) → journal ≡ a.journal.items → (parts : List GuestPart)
+    → (journal : List Entry) → journal ≡ a.journal.lines → (parts : List GuestPart)
     → ArePartsOf a.plan.now a.world.guests (length a.plan.now.guests) parts
     → IsToldSim x.plan x.stage (record {
       phase = phase;

@@ -1,14 +1,12 @@
 -- Accesses of the updater, as a simulation under way makes them.
-use Rattle.std.proofs.Common.{◌≡◌, ℕ, ◌+◌, ◌<◌, ◌++◌, false, List, [], ◌∷◌, length, get_or, Option, Some, None, refl, sym, ◌∙◌, ap, subst, arith}
-use Rattle.std.specs.Option.{option_map_or}
-use Rattle.std.proofs.lemmas.Option.{slice_get-get_or, slice_get_read, slice_get_within}
+use Rattle.std.proofs.Common.{◌≡◌, ℕ, ◌+◌, ◌<◌, ◌++◌, false, List, [], ◌∷◌, length, get_or, Some, None, refl, sym, ◌∙◌, ap, subst, arith}
+use Rattle.std.proofs.lemmas.Option.{slice_get-get_or, slice_get_within}
 use Rattle.cfi_aux.specs.declared.modules.Module.{Module}
 use Rattle.cfi_model.specs.declared.phase.Phase.{Phase}
 use Rattle.cfi_model.specs.declared.phase.Phase.TheVariants as phases
 use Rattle.cfi_model.specs.Phases.{phase_of}
 use Rattle.cfi_model.specs.World.{World}
 use Rattle.cfi_plan.specs.declared.journal.JournalLine.TheVariants as lines
-use Rattle.cfi_plan.specs.declared.plan.PlanModule.{PlanModule}
 use Rattle.cfi_series.proofs.OrderLemmas.{joins_or_refused}
 use Rattle.cfi_series.specs.declared.fault.JoinFault.{JoinFault}
 use Rattle.cfi_series.specs.declared.fault.JoinFault.TheVariants.{Memory}
@@ -38,6 +36,22 @@ use Rattle.cfi_world.specs.Updates.{is_idle}
 
 -- ---- a module enters
 
+-- the module whose load is under way is there
+pub entrant_there : (a : Inside) (x : Whole) → whole_inside a ≡ x → (number : ℕ)
+    → LoadFits x.plan x.modules x.stage.state number → number < length a.modules.now
+entrant_there a x is number fits =
+    subst (λ (w : Whole). number < length w.modules) (sym is)
+    (slice_get_within x.modules number fits.clean.absent.unplaced fits.clean.absent.is)
+
+-- and has a line of the plan
+pub entrant_named : (a : Inside) (x : Whole) → whole_inside a ≡ x → (number : ℕ)
+    → LoadFits x.plan x.modules x.stage.state number → length x.modules ≡ length x.plan.modules
+    → number < length a.plan.now.modules
+entrant_named a x is number fits named =
+    let within = entrant_there a x is number fits in
+    let same = subst (λ (w : Whole). length w.modules ≡ length w.plan.modules) (sym is) named in
+    omega (arith, within, same)
+
 module _ (a : Inside) (kept : RosterFits a) (x : Whole) (is : whole_inside a ≡ x) (number : ℕ)
     (fits : LoadFits x.plan x.modules x.stage.state number) (m : Module) (m_is : m ≡ get_or a.modules.now number m)
   where
@@ -55,18 +69,6 @@ module _ (a : Inside) (kept : RosterFits a) (x : Whole) (is : whole_inside a ≡
         let both : Some m ≡ Some one = ap (λ (k : Module). Some k) m_is ∙ sym found ∙ there in
         cc
 
-    -- the plan has its name
-    pub its_name : length x.modules ≡ length x.plan.modules → (one : PlanModule)
-        → one ≡ get_or a.plan.now.modules number one → (name : List ℕ) → name ≡ one.name
-        → name ≡ planned_name a.plan.now.modules number
-    its_name named one one_is name name_is =
-        let within = slice_get_within a.modules.now number clean_here.absent.unplaced clean_here.absent.is in
-        let named_here : length a.modules.now ≡ length a.plan.now.modules =
-        subst (λ (w : Whole). length w.modules ≡ length w.plan.modules) (sym is) named in
-        let there = slice_get_read a.plan.now.modules (length a.plan.now.modules) number one refl
-        (omega (arith, within, named_here)) one_is in
-        name_is ∙ sym (ap (λ (o : Option PlanModule). option_map_or (λ (p : PlanModule). p.name) o []) there)
-
     -- no fault stands against it
     pub not_refused : (fault : JoinFault) → IsJoinFault a.roster.code_words a.roster.placed m fault → fault ≡ Memory
     not_refused fault why =
@@ -77,8 +79,11 @@ module _ (a : Inside) (kept : RosterFits a) (x : Whole) (is : whole_inside a ≡
         (subst (λ (s : Series). IsJoinFault s.code_words s.placed m fault) (series_is a kept) why))
 
     -- it is loaded
-    module _ (aim : x.stage.aim ≡ Some (Loading number)) (name : List ℕ) (r : Roster)
-        (joined : HasJoined number name (a.policy + 1) m a.roster r) where
+    module _ (aim : x.stage.aim ≡ Some (Loading number)) (r : Roster)
+        (joined : HasJoined number (planned_name a.plan.now.modules number) (a.policy + 1) m a.roster r) where
+      abbrev name : List ℕ
+      name = planned_name a.plan.now.modules number
+
       abbrev clean_now : IsClean here.plan here.modules here.stage.state number
       clean_now = record {
         absent = clean_here.absent;
@@ -93,13 +98,13 @@ module _ (a : Inside) (kept : RosterFits a) (x : Whole) (is : whole_inside a ≡
       loaded_now = joined_loaded number name (a.policy + 1) m a.roster r joined kept.many
 
       -- the roster fits still
-      pub entered_fits : name ≡ planned_name a.plan.now.modules number → RosterFits (record a { roster = r })
-      entered_fits name_is = record {
+      pub entered_fits : RosterFits (record a { roster = r })
+      entered_fits = record {
         layout = kept.layout;
         many = joined_many number name (a.policy + 1) m a.roster r joined kept.many;
         size = ap (λ (t : Roster). t.code_words) joined.is ∙ kept.size;
         lines = joined_lines number name (a.policy + 1) m a.roster r joined kept.many a.plan.now.modules kept.lines
-            name_is;
+            refl;
       }
 
       abbrev state_of : List LoadedModule → JournalState

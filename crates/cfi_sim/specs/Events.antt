@@ -5,6 +5,7 @@ use Rattle.cfi_sim.specs.Stage.{Stage, with_journal_line, dropped, IsMade, after
 use Rattle.std.specs.Prelude.{◌≡◌, ◌≢◌, ◌⊎◌, ℕ, ◌≤◌, ◌<◌, List, [], ◌∷◌, ◌++◌, length, slice_get, Option, Some, None}
 use Rattle.cfi_aux.specs.declared.modules.Module.{Module}
 use Rattle.cfi_graph.specs.Direct.{DirectEdge}
+use Rattle.cfi_ledger.specs.Opens.{given_reply}
 use Rattle.cfi_model.specs.declared.phase.Phase.{Phase}
 use Rattle.cfi_model.specs.declared.phase.Phase.TheVariants as phases
 use Rattle.cfi_model.specs.Phases.{phase_of}
@@ -27,7 +28,7 @@ use Rattle.cfi_valid.specs.Log.{HasFunctionAt, HasNoFunction}
 use Rattle.cfi_valid.specs.Replay.{given_by}
 use Rattle.cfi_unit.specs.declared.fill.Fill.{Fill}
 use Rattle.cfi_word.specs.declared.lists.Image.{Image}
-use Rattle.cfi_word.specs.declared.services.TheConstants.{NO_MODULE, NO_FUNCTION}
+use Rattle.cfi_word.specs.declared.services.TheConstants.{NO_MODULE}
 use Rattle.cfi_world.specs.declared.event.Event.TheVariants as events
 use Rattle.cfi_world.specs.declared.event.Turned.{Turned}
 use Rattle.cfi_world.specs.declared.event.Turned.TheVariants.{Did, Asks, VersionsSpent, EpochsSpent}
@@ -53,29 +54,17 @@ IsFound plan world loaded number Unloaded =
     (number < length plan.modules) × ¬ HasNoFunction loaded number
     × ((address : ℕ) → ¬ IsOpen loaded world number address)
 
--- the address and the cause of the answer
-abbrev pub address_in : Found → ℕ
-address_in Unknown = 0
-address_in Functionless = 0
-address_in (Opened address) = address
-address_in Unloaded = 0
+-- the reply to what an open finds, under a policy, with this data; where the module is open, it is that of a run
+abbrev pub found_reply : Found → (policy : ℕ) → List Fill → Reply
+found_reply Unknown policy fills = reply_of 0 NO_MODULE policy []
+found_reply Functionless policy fills = given_reply None policy fills
+found_reply (Opened address) policy fills = given_reply (Some address) policy fills
+found_reply Unloaded policy fills = reply_of 0 NOT_LOADED policy []
 
-abbrev pub cause_in : Found → ℕ
-cause_in Unknown = NO_MODULE
-cause_in Functionless = NO_FUNCTION
-cause_in (Opened address) = 0
-cause_in Unloaded = NOT_LOADED
-
--- a success brings the data that came with policies above the one up to which the guest has data
-abbrev pub fills_in : JournalState → (given : ℕ) → Found → List Fill
-fills_in state given Unknown = []
-fills_in state given Functionless = []
-fills_in state given (Opened address) = fills_between given state.policy state.loaded
-fills_in state given Unloaded = []
-
+-- the data is that which came with policies above the one up to which the guest has data
 abbrev pub reply_by : JournalState → State → Found → Reply
 reply_by state s found =
-    reply_of (address_in found) (cause_in found) state.policy (fills_in state (given_by s.log) found)
+    found_reply found state.policy (fills_between (given_by s.log) state.policy state.loaded)
 
 -- an open that is to be answered is so in the event in which its guest parks
 pub record IsAnswered (plan : Plan) (state : JournalState) (old new : World) (guest number : ℕ) : Type 0 where

@@ -1,5 +1,5 @@
--- Traces: what is told of a schedule, line by line, and of each event of its guests. A line that has a word is told first,
--- with its number; of the updater's events, loads and releases nothing else is told.
+-- Traces: what is told of a schedule, line by line, and of each event of its guests. A line that has a word is told
+-- first, with its number; of the updater's events, loads and releases nothing else is told.
 use Rattle.std.specs.Prelude.{◌≡◌, ℕ, zero, suc, List, [], ◌∷◌, ◌++◌, slice_get, option_map, codes, Option, Some}
 use Rattle.cfi_aux.specs.declared.modules.Module.{Module}
 use Rattle.cfi_model.specs.Raw.{Raw}

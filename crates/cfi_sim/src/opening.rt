@@ -13,7 +13,7 @@ use crate::fault::SimFault;
 use crate::limits::MAX_UPDATES;
 use crate::standing::Standing;
 use cfi_aux::{Module, Placed};
-use cfi_ledger::{OpenFault, StartFault, entry_at, first_lost, start_modules};
+use cfi_ledger::{StartFault, entry_at, open_modules};
 use cfi_plan::Plan;
 use cfi_series::{loaded_have_entries, series_are_closed_below};
 use cfi_unit::Fill;
@@ -60,18 +60,14 @@ pub(crate) fn open<'a>(
     ensures fault { IfErr result (IsOpeningFault plan.now modules.now) }
 {
     let layout = Layout::new(plan.code_words).unwrap();
-    let roster = match start_modules(alloc, &layout, plan, modules) {
-        Ok(roster) => roster,
+    let (roster, image) = match open_modules(alloc, &layout, plan, modules) {
+        Ok((roster, image)) => (roster, image),
         Err(StartFault::Open(fault)) => return Err(SimFault::Open(fault)),
         Err(StartFault::Memory) => return Err(SimFault::Memory),
     };
     loaded_have_entries();
     series_are_closed_below();
-    if let Some(guest) = first_lost(plan, roster.modules()) {
-        return Err(SimFault::Open(OpenFault::NoEntry(guest)));
-    }
     let guests = open_guests(alloc, plan, roster.modules(), roster.fills())?;
-    let image = roster.image()?;
     let world = World::open(
         alloc,
         layout,

@@ -1,22 +1,24 @@
 //! What opens find, and their answers.
 
-ghost use Rattle.std.specs.Prelude.{◌≡◌, length};
+ghost use Rattle.std.specs.Prelude.{◌≡◌, [], drop, length};
 ghost use Rattle.cfi_ledger.specs.Roster.{loaded_of};
+ghost use Rattle.cfi_model.specs.Service.{reply_of};
 ghost use Rattle.cfi_series.specs.Entry.{HasAddresses};
 ghost use Rattle.cfi_sim.specs.Agrees.{NumbersAreApart};
-ghost use Rattle.cfi_sim.specs.Events.{IsFound, address_in, cause_in};
-ghost use Rattle.cfi_sim.specs.inner.Loaded.{FindsIn, due_in};
+ghost use Rattle.cfi_sim.specs.Events.{IsFound, found_reply};
+ghost use Rattle.cfi_sim.specs.inner.Loaded.{FindsIn};
+ghost use Rattle.cfi_world.specs.Turns.{reply_in};
 ghost use Rattle.cfi_world.specs.Updates.{is_idle};
 
 use crate::found::Found;
 use crate::limits::NOT_LOADED;
 use cfi_aux::Placed;
-use cfi_ledger::{Roster, fills_from};
-use cfi_model::Phase;
+use cfi_ledger::{Roster, open_answer};
+use cfi_model::{Answer, Phase};
 use cfi_plan::Plan;
 use cfi_series::{first_global, loaded_have_entries};
 use cfi_unit::Fill;
-use cfi_word::services::{NO_FUNCTION, NO_MODULE};
+use cfi_word::services::NO_MODULE;
 use cfi_world::World;
 
 /// Whether no update is under way.
@@ -59,36 +61,28 @@ pub fn find(plan: &Plan, world: &World, roster: &Roster, number: u32) -> Found
     }
 }
 
+// An answer that opens nothing, for this cause.
+fn refusal<'a>(policy: u32, cause: u32) -> Answer<'a>
+    ensures { reply_in result ≡ reply_of 0 cause policy [] }
+{
+    Answer {
+        address: 0,
+        cause,
+        policy,
+        fills: &[],
+    }
+}
+
 impl Found {
-    /// The address that an open is answered.
-    pub fn address(self) -> u32
-        ensures { result ≡ address_in self }
+    /// The answer to an open that finds this, with the fills from one on.
+    pub fn answer<'a>(self, policy: u32, fills: &'a [Fill], first: usize) -> Answer<'a>
+        ensures { reply_in result ≡ found_reply self policy (drop first fills.now) }
     {
         match self {
-            Found::Opened(address) => address,
-            Found::Unknown | Found::Functionless | Found::Unloaded => 0,
-        }
-    }
-
-    /// The cause that an open is answered.
-    pub fn cause(self) -> u32
-        ensures { result ≡ cause_in self }
-    {
-        match self {
-            Found::Unknown => NO_MODULE,
-            Found::Functionless => NO_FUNCTION,
-            Found::Opened(_) => 0,
-            Found::Unloaded => NOT_LOADED,
-        }
-    }
-
-    /// The data that an open is answered, where its guest has so many of these fills.
-    pub fn fills(self, fills: &[Fill], given: usize) -> &[Fill]
-        ensures { result.now ≡ due_in fills.now given self }
-    {
-        match self {
-            Found::Opened(_) => fills_from(fills, given),
-            Found::Unknown | Found::Functionless | Found::Unloaded => &[],
+            Found::Unknown => refusal(policy, NO_MODULE),
+            Found::Functionless => open_answer(None, policy, fills, first),
+            Found::Opened(address) => open_answer(Some(address), policy, fills, first),
+            Found::Unloaded => refusal(policy, NOT_LOADED),
         }
     }
 }

@@ -7,8 +7,8 @@ ghost use Rattle.cfi_valid.specs.Loaded.{module_line_of};
 
 use crate::aim::Aim;
 use cfi_aux::Module;
-use cfi_ledger::Roster;
-use cfi_plan::{Entry, Plan};
+use cfi_ledger::{Journal, Roster};
+use cfi_plan::Plan;
 use cfi_word::Layout;
 use cfi_world::World;
 use std::alloc::Global;
@@ -30,7 +30,7 @@ pub struct Standing<'a> {
     layout: Layout,
     world: World,
     roster: Roster,
-    journal: Vec<Entry>,
+    journal: Journal,
     epoch: u32,
     policy: u32,
     aim: Option<Aim>,
@@ -71,7 +71,7 @@ impl<'a> Standing<'a> {
             layout,
             world,
             roster,
-            journal: Vec::new(alloc),
+            journal: Journal::unscripted(alloc),
             epoch: plan.first,
             policy: 0,
             aim: None,

@@ -15,11 +15,10 @@ use Rattle.cfi_model.specs.Raw.{Raw}
 use Rattle.cfi_model.specs.Words.{Tables, policy_in_force}
 use Rattle.cfi_valid.specs.Growth.{IsLater}
 use Rattle.cfi_sim.specs.declared.found.Found.{Found}
-use Rattle.cfi_sim.specs.declared.found.Found.TheVariants.{Unknown, Functionless, Opened, Unloaded}
-use Rattle.cfi_sim.specs.Events.{reply_by}
+use Rattle.cfi_sim.specs.Events.{found_reply, reply_by}
 use Rattle.cfi_word.specs.Word.{policy_in}
 use Rattle.cfi_unit.specs.declared.log.Log.{Log}
-use Rattle.cfi_model.specs.Service.{reply_of, argument}
+use Rattle.cfi_model.specs.Service.{argument}
 use Rattle.cfi_world.proofs.OthersLemmas.{others_stay, only_updates}
 use Rattle.cfi_aux.specs.declared.modules.Module.{Module}
 use Rattle.cfi_model.specs.declared.act.Wait.{Wait}
@@ -56,12 +55,9 @@ shown_argument h code retries s r (inr inside) = ap (λ (b : State). argument b)
 -- an answer looks at the log alone
 pub reply_same : (state : JournalState) (a b : State) (found : Found) → a.log ≡ b.log
     → reply_by state a found ≡ reply_by state b found
-reply_same state a b Unknown same = refl
-reply_same state a b Functionless same = refl
-reply_same state a b (Opened address) same =
+reply_same state a b found same =
     ap
-    (λ (log : List Log). reply_of address 0 state.policy (fills_between (given_by log) state.policy state.loaded)) same
-reply_same state a b Unloaded same = refl
+    (λ (log : List Log). found_reply found state.policy (fills_between (given_by log) state.policy state.loaded)) same
 
 -- a guest that waits has not stopped
 pub waits_on : (stop : Option Stop) (wait : Option Wait) (w : Wait) → (stop ≢ None → wait ≡ None) → wait ≡ Some w

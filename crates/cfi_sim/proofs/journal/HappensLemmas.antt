@@ -1,7 +1,6 @@
 -- Every event of a schedule leaves the world in agreement with the journal, and the journal legal.
-use Rattle.std.proofs.lemmas.List.Elements.{All-nil}
 use Rattle.std.specs.Prelude.{⊤}
-use Rattle.std.proofs.Common.{◌≡◌, ◌≢◌, ℕ, ◌≤◌, ◌&&◌, ◌||◌, cond, Bool, true, false, List, slice_get, slice_set, is_some, Option, Some, None, refl, sym, ◌∙◌, ap, subst, arith, inl, inr}
+use Rattle.std.proofs.Common.{◌≡◌, ℕ, ◌≤◌, ◌&&◌, ◌||◌, cond, Bool, true, false, List, slice_get, slice_set, is_some, Option, Some, None, refl, sym, ◌∙◌, ap, subst, arith, inl, inr}
 use Rattle.std.specs.List.{All}
 use Rattle.cfi_series.proofs.PrefixLemmas.{data_lies}
 use Rattle.cfi_model.proofs.TableLemmas.{force_policy}
@@ -9,16 +8,15 @@ use Rattle.cfi_world.specs.declared.event.Event.TheVariants as events
 use Rattle.cfi_world.specs.declared.event.Turned.TheVariants.{Did, Asks, VersionsSpent, EpochsSpent, Nothing}
 use Rattle.cfi_model.specs.Words.{Tables, epoch_in_force, policy_in_force}
 use Rattle.cfi_sim.specs.declared.found.Found.{Found}
-use Rattle.cfi_sim.specs.declared.found.Found.TheVariants.{Unknown, Functionless, Opened, Unloaded}
 use Rattle.cfi_sim.specs.Events.{reply_by, GuestTurns, IsGuestEvent, IsReleaseEvent}
 use Rattle.cfi_world.specs.Updates.{is_idle}
 use Rattle.cfi_model.specs.Raw.{Raw}
 use Rattle.cfi_sim.specs.declared.aim.Aim.TheVariants.{Loading, Refreshing}
 use Rattle.cfi_sim.specs.Stage.{Stage, after_event}
 use Rattle.cfi_model.specs.Service.{Reply}
+use Rattle.cfi_sim.proofs.guests.DueLemmas.{found_may}
 use Rattle.cfi_sim.proofs.journal.BegunLemmas.{some_fills, comes, begin_agrees, refresh_may, load_may}
 use Rattle.cfi_model.specs.Run.{serve_of}
-use Rattle.cfi_model.specs.Data.{LiesInData}
 use Rattle.cfi_sim.specs.Stands.{Holds}
 use Rattle.cfi_sim.specs.Agrees.{TablesAgree, GuestsAgree, WorldAgrees}
 use Rattle.cfi_sim.proofs.journal.SeatsLemmas.{turn_agrees, answer_agrees, release_agrees}
@@ -26,7 +24,6 @@ use Rattle.cfi_aux.specs.declared.modules.Module.{Module}
 use Rattle.cfi_sim.proofs.journal.AdvanceLemmas.{update_agrees}
 use Rattle.cfi_world.specs.declared.event.Turned.{Turned}
 use Rattle.cfi_world.proofs.OthersLemmas.{only_updates}
-use Rattle.cfi_word.specs.declared.services.TheConstants.{TOO_MANY}
 use Rattle.cfi_model.specs.declared.quiet.Quiet.TheVariants.{Unregistered}
 use Rattle.cfi_sim.specs.declared.limits.TheConstants.{MAX_UPDATES}
 use Rattle.cfi_world.specs.Turns.{Turn, did, nothing, seated, guest_turn, answered, answer_turn, is_registered, release_turn, turn_of}
@@ -71,37 +68,16 @@ module _ (plan : Plan) (modules : List Module) (sound : All IsSoundModule module
         let epoch = epoch_is plan modules old holds.agrees in
         omega (arith, epoch, holds.agrees.tables.epoch)
 
-    -- what a guest is answered fits the world
-    reply_inside : (s : Raw) (found : Found) → All LiesInData (reply_by old.state s.base found).fills
-    reply_inside s Unknown = All-nil LiesInData
-    reply_inside s Functionless = All-nil LiesInData
-    reply_inside s (Opened address) =
-        some_fills _ old.state.loaded
-        (data_lies plan.code_words (placed_modules old.state.loaded) holds.agrees.tables.series)
-    reply_inside s Unloaded = All-nil LiesInData
-
-    reply_few : (s : Raw) (found : Found) → (reply_by old.state s.base found).cause ≢ TOO_MANY
-    reply_few s Unknown = λ e. omega (arith, e)
-    reply_few s Functionless = λ e. omega (arith, e)
-    reply_few s (Opened address) = λ e. omega (arith, e)
-    reply_few s Unloaded = λ e. omega (arith, e)
-
-    reply_policy : (s : Raw) (found : Found) → (reply_by old.state s.base found).policy ≡ old.state.policy
-    reply_policy s Unknown = refl
-    reply_policy s Functionless = refl
-    reply_policy s (Opened address) = refl
-    reply_policy s Unloaded = refl
-
     pub policy_is : policy_in_force t ≡ old.state.policy
     policy_is = force_policy t is.tables ∙ sym holds.agrees.tables.policy
 
+    -- what a guest is answered fits the world
     pub reply_may : (mid : World) → mid.tables ≡ t → (s : Raw) (found : Found)
         → MayAnswer mid (reply_by old.state s.base found)
-    reply_may mid same s found = record {
-      policy = reply_policy s found ∙ sym policy_is ∙ ap (λ (u : Tables). policy_in_force u) (sym same);
-      few = reply_few s found;
-      inside = reply_inside s found;
-    }
+    reply_may mid same s found =
+        found_may mid found old.state.policy _ (sym policy_is ∙ ap (λ (u : Tables). policy_in_force u) (sym same))
+        (some_fills _ old.state.loaded
+        (data_lies plan.code_words (placed_modules old.state.loaded) holds.agrees.tables.series))
 
     -- the event of an answer
     abbrev pub answer_event : (guest : ℕ) → Reply → Event

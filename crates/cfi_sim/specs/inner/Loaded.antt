@@ -1,12 +1,10 @@
--- What an open finds of a module that is loaded, and the data that its answer brings.
-use Rattle.std.specs.Prelude.{ℕ, List, [], drop}
+-- What an open finds of a module that is loaded.
 use Rattle.cfi_aux.specs.declared.placed.Placed.{Placed}
 use Rattle.cfi_model.specs.World.{World}
 use Rattle.cfi_series.specs.Entry.{IsGlobal, IsFirstOf, HasNoneOf}
 use Rattle.cfi_sim.specs.Events.{IsIdle}
 use Rattle.cfi_sim.specs.declared.found.Found.{Found}
 use Rattle.cfi_sim.specs.declared.found.Found.TheVariants.{Unknown, Functionless, Opened, Unloaded}
-use Rattle.cfi_unit.specs.declared.fill.Fill.{Fill}
 
 -- what it finds
 abbrev pub FindsIn : World → Placed → Found → Type 0
@@ -14,10 +12,3 @@ FindsIn world one Unknown = ⊥
 FindsIn world one Functionless = HasNoneOf IsGlobal one
 FindsIn world one (Opened address) = IsFirstOf IsGlobal one address × IsIdle world
 FindsIn world one Unloaded = ¬ HasNoneOf IsGlobal one × ¬ IsIdle world
-
--- the data that its guest lacks, which has so many of these fills
-abbrev pub due_in : List Fill → (given : ℕ) → Found → List Fill
-due_in fills given Unknown = []
-due_in fills given Functionless = []
-due_in fills given (Opened address) = drop given fills
-due_in fills given Unloaded = []

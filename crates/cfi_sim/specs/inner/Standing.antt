@@ -28,7 +28,7 @@ whole_inside a = record {
   modules = a.modules.now;
   stage = record {
     world = a.world;
-    journal = a.journal.items;
+    journal = a.journal.lines;
     state = record { epoch = a.epoch; policy = a.policy; loaded = loaded_of a.roster.lines a.roster.placed };
     aim = a.aim;
     events = a.events;

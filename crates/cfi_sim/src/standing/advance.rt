@@ -60,11 +60,7 @@ impl<'a> Standing<'a> {
         let (plan, modules) = (self.plan, self.modules);
         let epoch = self.epoch + 1;
         let policy = self.policy + 1;
-        let entrant = Entrant {
-            number,
-            name: plan.modules.as_slice()[number as usize].name.as_str(),
-            policy,
-        };
+        let entrant = Entrant::of(plan, number, policy);
         let own = mem::replace(&mut self.roster, Roster::new(self.alloc, &self.layout));
         self.roster = match own.add(&entrant, &modules[number as usize]) {
             Ok(roster) => roster,

@@ -12,7 +12,6 @@ ghost use Rattle.cfi_valid.specs.Loaded.{placed_modules};
 use crate::opens::find;
 use crate::standing::Standing;
 use cfi_ledger::given_by;
-use cfi_model::Answer;
 use cfi_world::{Event, Turned};
 
 impl<'a> Standing<'a> {
@@ -30,12 +29,7 @@ impl<'a> Standing<'a> {
         let found = find(self.plan, &self.world, &self.roster, number);
         let starts = self.roster.lines().len() - self.policy as usize;
         let given = given_by(self.world.guests()[guest as usize].log()) as usize;
-        let answer = Answer {
-            address: found.address(),
-            cause: found.cause(),
-            policy: self.policy,
-            fills: found.fills(self.roster.fills(), starts + given),
-        };
+        let answer = found.answer(self.policy, self.roster.fills(), starts + given);
         let _ = self.world.turn(Event::Answer(guest, answer));
     }
 

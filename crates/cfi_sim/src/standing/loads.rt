@@ -17,7 +17,6 @@ use cfi_aux::Module;
 use cfi_ledger::{Entrant, Roster, join_line};
 use cfi_plan::JournalLine;
 use cfi_series::JoinFault;
-use cfi_valid::MAX_LOADED;
 use cfi_word::{Image, Layout};
 use std::alloc::{AllocError, Global};
 use std::mem;
@@ -62,11 +61,7 @@ impl<'a> Standing<'a> {
             (MakesBy (IsLoadEvent self.old.plan self.old.modules number) self.old self.new) }
     {
         let (plan, modules) = (self.plan, self.modules);
-        let entrant = Entrant {
-            number,
-            name: plan.modules.as_slice()[number as usize].name.as_str(),
-            policy: self.policy + 1,
-        };
+        let entrant = Entrant::of(plan, number, self.policy + 1);
         let unplaced = &modules[number as usize];
         match image_with(
             self.alloc,
@@ -109,7 +104,7 @@ impl<'a> Standing<'a> {
             })?;
             return Ok(true);
         }
-        if self.roster.lines().len() >= MAX_LOADED as usize {
+        if self.roster.is_full() {
             self.tell(JournalLine::LoadFull { module: number })?;
             return Ok(true);
         }

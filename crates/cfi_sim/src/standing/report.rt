@@ -31,7 +31,7 @@ impl<'a> Standing<'a> {
             epoch,
             policy,
             modules: Items::from_vec(roster.into_lines()),
-            journal: Items::from_vec(journal),
+            journal: Items::from_vec(journal.into_lines()),
             guests: Items::from_vec(guests),
         };
         Ok(SimReport { phase, report })

@@ -21,7 +21,7 @@ impl<'a> Standing<'a> {
         ensures { OnOk result (self.new ≡ with_told what self.old) }
     {
         let who = Who::Script;
-        self.journal.push(Entry { who, what })?;
+        self.journal.append(Entry { who, what })?;
         Ok(())
     }
 

@@ -4,7 +4,7 @@ use Rattle.cfi_aux.specs.declared.placed.Placed.{Placed}
 use Rattle.cfi_plan.specs.declared.journal.ModuleLine.{ModuleLine}
 use Rattle.cfi_series.specs.Series.{Series}
 use Rattle.cfi_ledger.specs.Roster.{HasJoined, line_by}
-use Rattle.cfi_ledger.proofs.JoinedLemmas.{roster_joined}
+use Rattle.cfi_ledger.proofs.JoinedLemmas.{roster_back, roster_joined}
 use Rattle.cfi_ledger.proofs.roster.Roster.prepare.Goals as goal
 
 -- the candidate has the module as it joined the series
@@ -29,3 +29,11 @@ returns-in-Ok-taken-clause-ok c =
     (sym c.taken.ensures.lines)
     (roster_joined entrant.number entrant.policy entrant.name.now c.args.unplaced.now s new c.self.inside.lines.items
     c.args.self c.self.view_is joined line line_is)
+
+-- and the others are as they were
+pub returns-in-Ok-taken-clause-before : goal.returns-in-Ok-taken-clause-before
+returns-in-Ok-taken-clause-before c =
+    let entrant = c.args.entrant.now in
+    roster_back entrant.number entrant.policy entrant.name.now c.args.unplaced.now c.self.inside.series
+    c.in-Ok.prepared.series c.self.inside.lines.items c.args.self c.self.view_is c.in-Ok.ensures.ok
+    c.taken.new.lines.items c.taken.ensures.lines

@@ -1,4 +1,5 @@
-use Rattle.std.proofs.Common.{◌≡◌, ◌≢◌, ℕ, ◌+◌, ◌-◌, List, Some, All, slice_get, length, sym, subst, refl, ap, ◌∙◌, arith}
+use Rattle.std.proofs.Common.{◌≡◌, ℕ, ◌+◌, ◌-◌, List, Some, All, slice_get, length, drop, sym, subst, ap, ◌∙◌, arith}
+use Rattle.std.proofs.lemmas.List.Elements.{All-drop}
 use Rattle.std.proofs.lemmas.Option.{slice_get-get_or, slice_get_within}
 use Rattle.cfi_ledger.specs.Roster.{origin_of}
 use Rattle.cfi_ledger.specs.Policies.{HavePolicies}
@@ -10,15 +11,15 @@ use Rattle.cfi_series.specs.Series.{IsSeries}
 use Rattle.cfi_series.proofs.PrefixLemmas.{data_lies}
 use Rattle.cfi_plan.specs.declared.journal.ModuleLine.{ModuleLine}
 use Rattle.cfi_sim.specs.Agrees.{NumbersAreApart}
-use Rattle.cfi_sim.specs.inner.Loaded.{due_in}
+use Rattle.cfi_sim.specs.Events.{found_reply}
 use Rattle.cfi_sim.specs.inner.Standing.{Whole, AnswersOpen, whole_inside}
 use Rattle.cfi_unit.specs.declared.fill.Fill.{Fill}
 use Rattle.cfi_unit.specs.declared.log.Log.{Log}
 use Rattle.cfi_valid.proofs.KeptLemmas.{many_are, places_are}
 use Rattle.cfi_valid.specs.Loaded.{placed_modules}
 use Rattle.cfi_valid.specs.Replay.{given_by}
-use Rattle.cfi_word.specs.declared.services.TheConstants.{TOO_MANY}
-use Rattle.cfi_sim.proofs.guests.DueLemmas.{answers_open, cause_few, due_is, due_lies}
+use Rattle.cfi_world.specs.Premises.{MayAnswer}
+use Rattle.cfi_sim.proofs.guests.DueLemmas.{answers_open, due_is, found_may}
 use Rattle.cfi_sim.proofs.standing.Standing.answer.Goals as goal
 
 pub find-found-requires-clause-apart : goal.find-found-requires-clause-apart
@@ -36,19 +37,17 @@ pub turn-requires : goal.turn-requires
 turn-requires c =
     let a = c.self.inside in
     let size = a.plan.now.code_words in
-    let found = c.find-found.result in
     let given : ℕ = length c.lines.result.now - a.policy + c.given_by-given.result in
     let series = subst (IsSeries size) (places_are origin_of a.roster.lines a.roster.placed c.self.invariant.many)
     (subst (λ (y : Whole). IsSeries y.plan.code_words (placed_modules y.stage.state.loaded)) (sym c.self.view_is)
     c.requires.series) in
-    record {
-      policy = sym (subst (λ (y : Whole). policy_in_force y.stage.world.tables ≡ y.stage.state.policy)
-          (sym c.self.view_is) c.requires.policy);
-      few = subst (λ (n : ℕ). n ≢ TOO_MANY) (sym c.cause.ensures) (cause_few found);
-      inside = subst (λ (fs : List Fill). All LiesInData fs)
-          (sym (c.fills-2.ensures ∙ ap (λ (fs : List Fill). due_in fs given found) c.fills.ensures))
-          (due_lies (fills_of a.roster.placed) (data_lies size a.roster.placed series) given found);
-    }
+    let force : a.policy ≡ policy_in_force a.world.tables =
+    sym (subst (λ (y : Whole). policy_in_force y.stage.world.tables ≡ y.stage.state.policy) (sym c.self.view_is)
+    c.requires.policy) in
+    let lies = All-drop LiesInData given (fills_of a.roster.placed) (data_lies size a.roster.placed series) in
+    subst (MayAnswer a.world) (sym c.answer-answer.ensures)
+    (found_may a.world c.find-found.result a.policy (drop given c.fills.result.now) force
+    (subst (λ (fs : List Fill). All LiesInData (drop given fs)) (sym c.fills.ensures) lies))
 
 -- the answer is the reply to what the open finds
 pub returns : goal.returns
@@ -79,16 +78,12 @@ returns c =
     omega (arith, many, c.self.invariant.many, lines, have.count) in
     subst (λ (y : Whole). AnswersOpen y (record x { stage = record x.stage { world = new } }) c.args.guest c.args.number
     ) c.self.view_is
-    (answers_open x c.args.guest c.args.number r seat found c.find-found.ensures
-    (record {
-      address = c.address.result;
-      cause = c.cause.result;
-      policy = inside.policy;
-      fills = c.fills-2.result;
-    }) c.address.ensures c.cause.ensures refl
-    (c.fills-2.ensures
-    ∙ ap (λ (fills : List Fill). due_in fills (from + c.given_by-given.result) found) c.fills.ensures
-    ∙ ap (λ (n : ℕ). due_in (fills_of inside.roster.placed) (from + n) found) given
-    ∙ due_is inside.plan.now x.stage.state have inside.roster.placed
+    (answers_open x c.args.guest c.args.number r seat found c.find-found.ensures c.answer-answer.result
+    (c.answer-answer.ensures
+    ∙ ap (λ (fills : List Fill). found_reply found inside.policy (drop (from + c.given_by-given.result) fills))
+    c.fills.ensures
+    ∙ ap (λ (n : ℕ). found_reply found inside.policy (drop (from + n) (fills_of inside.roster.placed))) given
+    ∙ ap (found_reply found inside.policy)
+    (due_is inside.plan.now x.stage.state have inside.roster.placed
     (places_are origin_of inside.roster.lines inside.roster.placed c.self.invariant.many) from from_is
-    (given_by r.base.log) found) new c.turn.ensures.world)
+    (given_by r.base.log))) new c.turn.ensures.world)

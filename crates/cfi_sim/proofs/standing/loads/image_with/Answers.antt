@@ -1,6 +1,5 @@
 use Rattle.std.proofs.Common.{sym, ap, subst, ◌∙◌}
 use Rattle.cfi_ledger.specs.Roster.{IsImageOfRoster, Roster, series_of}
-use Rattle.cfi_ledger.proofs.JoinedLemmas.{joined_back}
 use Rattle.cfi_series.specs.Prepared.{IsOrderedImage}
 use Rattle.cfi_sim.specs.inner.Making.{IsImageWith}
 use Rattle.cfi_word.specs.declared.lists.Image.{Image}
@@ -26,9 +25,4 @@ returns-in-Ok-clause-ok c =
 -- the modules stay
 pub returns-in-Ok-clause-same : goal.returns-in-Ok-clause-same
 returns-in-Ok-clause-same c =
-    let own = c.replace-own.result in
-    let entrant = c.args.entrant.now in
-    ap (λ pair. pair.0) c.withdraw-without.ensures.value
-    ∙ joined_back entrant.number entrant.name.now entrant.policy c.args.unplaced.now own c.in-Ok.candidate.roster
-    c.in-Ok.ensures.ok
-    ∙ c.replace-own.ensures.value
+    ap (λ pair. pair.0) c.withdraw-without.ensures.value ∙ c.in-Ok.ensures.before ∙ c.replace-own.ensures.value

@@ -3,7 +3,7 @@ use Rattle.cfi_aux.specs.declared.placed.Placed.{Placed}
 use Rattle.cfi_series.specs.Fills.{fills_of}
 use Rattle.cfi_series.specs.Series.{Series}
 use Rattle.cfi_ledger.proofs.RosterLemmas.{init_listed, init_fills}
-use Rattle.cfi_ledger.proofs.roster.Candidate.discard.Goals as goal
+use Rattle.cfi_ledger.proofs.candidate.Candidate.discard.Goals as goal
 
 pub invariant_of-result : goal.invariant_of-result
 invariant_of-result c =

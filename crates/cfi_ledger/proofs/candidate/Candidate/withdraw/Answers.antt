@@ -4,7 +4,7 @@ use Rattle.cfi_ledger.specs.Roster.{Candidate}
 use Rattle.cfi_ledger.proofs.RosterLemmas.{init_listed, init_fills}
 use Rattle.cfi_series.specs.Fills.{fills_of}
 use Rattle.cfi_series.specs.Prepared.{IsOrderedImage}
-use Rattle.cfi_ledger.proofs.roster.Candidate.withdraw.Goals as goal
+use Rattle.cfi_ledger.proofs.candidate.Candidate.withdraw.Goals as goal
 
 pub invariant_of-roster : goal.invariant_of-roster
 invariant_of-roster c =
