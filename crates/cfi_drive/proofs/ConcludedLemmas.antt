@@ -13,6 +13,7 @@ use Rattle.cfi_plan.specs.declared.plan.Plan.{Plan}
 use Rattle.cfi_report.specs.declared.report.GuestPart.{GuestPart}
 use Rattle.cfi_report.specs.declared.report.Report.{Report}
 use Rattle.cfi_report.specs.Report.{IsReport}
+use Rattle.cfi_slips.specs.Lines.{lines_of}
 use Rattle.cfi_tables.specs.Key.{Key}
 use Rattle.cfi_text.specs.Names.{is_name}
 use Rattle.cfi_valid.specs.Course.{Course, IsCourse}
@@ -20,6 +21,7 @@ use Rattle.cfi_valid.specs.Loaded.{module_line_of}
 use Rattle.cfi_valid.specs.Script.{made_by_script, script_calls}
 use Rattle.cfi_valid.specs.Valid.{IsEnded, IsValidReport, course_of}
 use Rattle.cfi_valid.proofs.PartsLemmas.{valid_by}
+use Rattle.cfi_drive.specs.Answered.{AreAnswered}
 use Rattle.cfi_drive.specs.Concluded.{HasReadableNames, IsConcluded, conclusion_of}
 use Rattle.cfi_drive.specs.Ending.{code_by, history_by, tables_by}
 use Rattle.cfi_drive.specs.inner.Ending.{ArePartsAt, HasNumbers}
@@ -108,5 +110,8 @@ module _ (k : Key) (plan : Plan) (modules : List Module) (l : Ledger) (is : IsLe
     of = subst (λ (c : Course). IsHistoryOf c (tables_by k l) (history_by k l) (code_by k l)) same
         (history_is k plan modules l is);
     runs = ran;
+    opens = λ number part there.
+        subst (λ (lines : List Entry). AreAnswered part.log (lines_of number lines)) (sym journal)
+        (parts.opens number part there);
     readable = read;
   }

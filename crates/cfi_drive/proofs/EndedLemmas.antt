@@ -10,14 +10,20 @@ use Rattle.cfi_model.specs.TableMoments.{AreTimed}
 use Rattle.cfi_part.specs.Part.{IsEndOf, IsWithin, part_of}
 use Rattle.cfi_part.specs.Ran.{AreBrought, HasRun}
 use Rattle.cfi_part.proofs.MadeLemmas.{part_made}
+use Rattle.cfi_plan.specs.declared.journal.Entry.{Entry}
+use Rattle.cfi_plan.specs.declared.journal.JournalLine.{JournalLine}
 use Rattle.cfi_plan.specs.declared.plan.Plan.{Plan}
 use Rattle.cfi_report.specs.declared.report.GuestPart.{GuestPart}
 use Rattle.cfi_runner.proofs.SeenLemmas.{sees_same}
+use Rattle.cfi_slips.specs.Lines.{lines_of}
+use Rattle.cfi_slips.specs.declared.view.SlipView.{SlipView}
 use Rattle.cfi_tables.specs.Key.{Key}
 use Rattle.cfi_tables.specs.Rule.{AgreesWith}
 use Rattle.cfi_tables.specs.Views.{noted}
 use Rattle.cfi_tables.specs.declared.view.PassView.{PassView}
+use Rattle.cfi_unit.specs.declared.log.Log.{Log}
 use Rattle.cfi_valid.specs.Journal.{JournalState}
+use Rattle.cfi_drive.specs.Answered.{AreAnswered, IsSlipOf}
 use Rattle.cfi_drive.specs.Ending.{IsPartAt, code_by, history_by, part_by, tables_by}
 use Rattle.cfi_drive.specs.Path.{AreDue}
 use Rattle.cfi_drive.specs.Runner.{IsRunner, IsRunnerBy}
@@ -97,8 +103,8 @@ module _ (k : Key) (plan : Plan) (modules : List Module) (l : Ledger) (is : IsLe
     whole =
         says ∙ ap (λ (z : (ℕ × List ℕ) × Raw). part_of z.0.0 z.0.1 z.1) (λ i. ((same i, name_is i), guest_is i))
 
-    pub said_back : part ≡ part_by plan (record { guest = r; pass = p })
-    said_back =
+    pub said_back : (slip : SlipView) → part ≡ part_by plan (record { guest = r; pass = p; slip = slip })
+    said_back slip =
         whole
         ∙ ap (λ (e : List ℕ). part_of p.guest e r) (sym (get_or_from_slice_get plan.guests p.guest item [] named))
 
@@ -108,3 +114,22 @@ module _ (k : Key) (plan : Plan) (modules : List Module) (l : Ledger) (is : IsLe
         (runner_part k plan modules l is p r was
         (subst (λ (v : PassView). AgreesWith k l.keeping.entries l.keeping.refusals v.sight) pass_is agrees) stopped
         item named)
+
+-- ---- as its slip is taken back
+
+-- it has said what the journal tells in the guest's name
+pub told_back : (p : PassView) (r : Raw) (slip s : SlipView) (journal : List Entry) (number : ℕ) (name : List ℕ)
+    (g : Raw) (part : GuestPart) → IsSlipOf p r slip → s ≡ slip → g ≡ r → part ≡ part_of number name g
+    → s.lines ≡ lines_of s.guest journal → AreAnswered part.log (lines_of p.guest journal)
+told_back p r slip s journal number name g part is slip_is guest_is says told =
+    subst (λ (z : List Log × List JournalLine). AreAnswered z.0 z.1)
+    (λ i. (
+      sym (ap (λ (x : GuestPart). x.log) says ∙ ap (λ (x : Raw). x.base.log) guest_is) i,
+      (ap (λ (x : SlipView). x.lines) (sym slip_is) ∙ told
+          ∙ ap (λ (n : ℕ). lines_of n journal) (ap (λ (x : SlipView). x.guest) slip_is ∙ is.guest)) i,
+    )) is.answered
+
+pub slip_seat : (p q : PassView) (r : Raw) (slip s : SlipView) → IsSlipOf p r slip → s ≡ slip → q ≡ p
+    → s.guest ≡ q.guest
+slip_seat p q r slip s is slip_is pass_is =
+    ap (λ (x : SlipView). x.guest) slip_is ∙ is.guest ∙ ap (λ (x : PassView). x.guest) (sym pass_is)

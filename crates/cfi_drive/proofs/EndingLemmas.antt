@@ -10,9 +10,11 @@ use Rattle.cfi_model.specs.declared.history.Entry.{Entry as TableEntry}
 use Rattle.cfi_part.specs.Part.{HasFields}
 use Rattle.cfi_plan.specs.declared.plan.Plan.{Plan}
 use Rattle.cfi_report.specs.declared.report.GuestPart.{GuestPart}
+use Rattle.cfi_slips.specs.Lines.{lines_of}
 use Rattle.cfi_tables.specs.Key.{Key}
 use Rattle.cfi_tables.specs.Keeping.{let_in}
 use Rattle.cfi_valid.specs.Course.{Course}
+use Rattle.cfi_drive.specs.Answered.{AreAnswered}
 use Rattle.cfi_drive.specs.Concluded.{IsEndedRun}
 use Rattle.cfi_drive.specs.Ending.{IsPartAt, part_by}
 use Rattle.cfi_drive.specs.Runner.{Ran}
@@ -51,31 +53,47 @@ part_same k old new same number part at =
 
 -- ---- a part more
 
-module _ (k : Key) (l : Ledger) (parts : List GuestPart) (part : GuestPart) (are : ArePartsAt k l parts)
-    (one : IsPartAt k l (length parts) part) (fields : HasFields part) where
-  each_more : (number : ℕ) (x : GuestPart) → slice_get (parts ++ part ∷ []) number ≡ Some x → IsPartAt k l number x
-  each_more number x there =
-      let found = get_or_from_slice_get (parts ++ part ∷ []) number x part there in
-      elim (cases_lt number (length parts)) [
-        | inl less ↦
-            are.each number x
-            (slice_get-get_or parts number part less
-            ∙ ap (λ (y : GuestPart). Some y) (sym (get_or_append_left parts (part ∷ []) part number less) ∙ found))
-        | inr past ↦
-            let within = slice_get_within (parts ++ part ∷ []) number x there in
-            let last : number ≡ length parts = omega (arith, within, past, length-append parts (part ∷ [])) in
-            let same : x ≡ part =
-            sym found
-            ∙ ap (λ (n : ℕ). get_or (parts ++ part ∷ []) n part) last
-            ∙ get_or-append_seam parts part [] part in
-            subst (λ (z : ℕ × GuestPart). IsPartAt k l z.0 z.1) (λ i. (sym last i, sym same i)) one
-      ]
+-- what holds of each part holds of each with one more
+module _ (P : (number : ℕ) → GuestPart → Type 0) (parts : List GuestPart) (part : GuestPart)
+    (each : (number : ℕ) (x : GuestPart) → slice_get parts number ≡ Some x → P number x) (one : P (length parts) part)
+  where
+    each_more : (number : ℕ) (x : GuestPart) → slice_get (parts ++ part ∷ []) number ≡ Some x → P number x
+    each_more number x there =
+        let found = get_or_from_slice_get (parts ++ part ∷ []) number x part there in
+        elim (cases_lt number (length parts)) [
+          | inl less ↦
+              each number x
+              (slice_get-get_or parts number part less
+              ∙ ap (λ (y : GuestPart). Some y) (sym (get_or_append_left parts (part ∷ []) part number less) ∙ found))
+          | inr past ↦
+              let within = slice_get_within (parts ++ part ∷ []) number x there in
+              let last : number ≡ length parts = omega (arith, within, past, length-append parts (part ∷ [])) in
+              let same : x ≡ part =
+              sym found
+              ∙ ap (λ (n : ℕ). get_or (parts ++ part ∷ []) n part) last
+              ∙ get_or-append_seam parts part [] part in
+              subst (λ (z : ℕ × GuestPart). P z.0 z.1) (λ i. (sym last i, sym same i)) one
+        ]
 
-  pub parts_more : ArePartsAt k l (parts ++ part ∷ [])
-  parts_more = record { each = each_more; fields = parts_push parts part are.fields fields }
+-- the part logs the opens of the lines in a guest's name
+abbrev TellsOpens : Ledger → (number : ℕ) → GuestPart → Type 0
+TellsOpens l number part = AreAnswered part.log (lines_of number l.course.journal)
+
+pub parts_more : (k : Key) (l : Ledger) (parts : List GuestPart) (part : GuestPart) → ArePartsAt k l parts
+    → IsPartAt k l (length parts) part → TellsOpens l (length parts) part → HasFields part
+    → ArePartsAt k l (parts ++ part ∷ [])
+parts_more k l parts part are one opens fields = record {
+  each = each_more (IsPartAt k l) parts part are.each one;
+  opens = each_more (TellsOpens l) parts part are.opens opens;
+  fields = parts_push parts part are.fields fields;
+}
 
 pub no_parts : (k : Key) (l : Ledger) → ArePartsAt k l []
-no_parts k l = record { each = λ number part there. absurd (nothing number part there); fields = tt }
+no_parts k l = record {
+  each = λ number part there. absurd (nothing number part there);
+  opens = λ number part there. absurd (nothing number part there);
+  fields = tt;
+}
   where
     nothing : (number : ℕ) (part : GuestPart) → slice_get [] number ≡ Some part → ⊥
     nothing number part there = absurd (cc)
@@ -87,7 +105,8 @@ module _ (k : Key) (plan : Plan) (first now after : Ledger) (runners : List Ran)
     (within : length taken < length runners) (is : ran ≡ get_or runners (length taken) ran)
     (parts more : List GuestPart) (part : GuestPart) (say : parts ≡ map (part_by plan) taken)
     (are : ArePartsAt k first parts) (same : HasLetIn first now) (says : part ≡ part_by plan ran)
-    (at : IsPartAt k now ran.pass.guest part) (fields : HasFields part) (pushed : more ≡ parts ++ part ∷ [])
+    (at : IsPartAt k now ran.pass.guest part) (opens : TellsOpens now ran.pass.guest part) (fields : HasFields part)
+    (pushed : more ≡ parts ++ part ∷ [])
     (out : after ≡ with_keeping (let_in ran.pass.guest now.keeping) now) where
   many : length taken ≡ length parts
   many = sym (ap (λ (xs : List GuestPart). length xs) say ∙ length-map taken (part_by plan))
@@ -106,7 +125,9 @@ module _ (k : Key) (plan : Plan) (first now after : Ledger) (runners : List Ran)
   more_parts =
       subst (ArePartsAt k first) (sym pushed)
       (parts_more k first parts part are
-      (subst (λ (n : ℕ). IsPartAt k first n part) number (part_same k first now same ran.pass.guest part at)) fields)
+      (subst (λ (n : ℕ). IsPartAt k first n part) number (part_same k first now same ran.pass.guest part at))
+      (subst (λ (z : ℕ × Course). AreAnswered part.log (lines_of z.0 z.1.journal)) (λ i. (number i, same.course i)) opens)
+      fields)
 
   -- so far all are taken back
   pub taken_more : AreTaken k plan first after (taken ++ ran ∷ []) more

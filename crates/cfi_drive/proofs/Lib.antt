@@ -26,3 +26,4 @@ pub mod ConcludedLemmas
 pub mod OpensLemmas
 pub mod KeepsLemmas
 pub mod ServiceLemmas
+pub mod AnsweredLemmas

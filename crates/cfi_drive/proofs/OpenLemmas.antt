@@ -4,6 +4,7 @@ use Rattle.cfi_aux.specs.declared.modules.Module.{Module}
 use Rattle.cfi_loader.specs.Ledger.{Ledger, IsLedger}
 use Rattle.cfi_loader.specs.Passes.{heard_from, reply_with}
 use Rattle.cfi_loader.specs.Results.{HasLoaded, IsLoadFault, loaded_line}
+use Rattle.cfi_loader.specs.Told.{MayAskFor}
 use Rattle.cfi_loader.specs.declared.fault.LoadFault.{LoadFault}
 use Rattle.cfi_loader.specs.declared.loaded.Loaded.{Loaded}
 use Rattle.std.proofs.lemmas.List.Elements.{All-nil}
@@ -20,6 +21,7 @@ use Rattle.cfi_tables.specs.Key.{Key}
 use Rattle.cfi_tables.specs.Views.{noted}
 use Rattle.cfi_tables.specs.declared.view.PassView.{PassView}
 use Rattle.cfi_valid.specs.Log.{IsLogged}
+use Rattle.cfi_valid.specs.Script.{Load}
 use Rattle.cfi_word.specs.declared.limits.TheConstants.{MAX_OPENS}
 use Rattle.cfi_word.specs.declared.services.TheConstants.{OPEN}
 use Rattle.cfi_drive.specs.Runner.{HasAsked, IsRunner, IsRunnerBy, IsServed}
@@ -110,15 +112,26 @@ module _ (k : Key) (plan : Plan) (modules : List Module) (p n : PassView) (r : R
     most = omega (arith, force, policy_fits k plan modules l told.ledger);
   }
 
--- what the loader answers is of the ledger as its note left it
-pub loaded_as : (k : Key) (desk l first : Ledger) (p : PassView) (r : Raw) (loaded : Loaded) → desk ≡ first
-    → HasLoaded k (Guest p.guest) (argument r.base) loaded desk l
+-- what the loader answers is of the ledger as its note left it, and in the name of the pass's guest
+pub loaded_as : (k : Key) (desk l first : Ledger) (guest : ℕ) (p : PassView) (r : Raw) (loaded : Loaded)
+    → desk ≡ first → guest ≡ p.guest → HasLoaded k (Guest guest) (argument r.base) loaded desk l
     → HasLoaded k (Guest p.guest) (argument r.base) loaded first l
-loaded_as k desk l first p r loaded desk_is has =
-    subst (λ (d : Ledger). HasLoaded k (Guest p.guest) (argument r.base) loaded d l) desk_is has
+loaded_as k desk l first guest p r loaded desk_is same has =
+    subst (λ (z : ℕ × Ledger). HasLoaded k (Guest z.0) (argument r.base) loaded z.1 l)
+    (λ i. (same i, desk_is i)) has
 
-pub refused_as : (k : Key) (desk l first : Ledger) (p : PassView) (r : Raw) (fault : LoadFault) → desk ≡ first
-    → IsLoadFault k (Guest p.guest) (argument r.base) fault desk l
+pub refused_as : (k : Key) (desk l first : Ledger) (guest : ℕ) (p : PassView) (r : Raw) (fault : LoadFault)
+    → desk ≡ first → guest ≡ p.guest → IsLoadFault k (Guest guest) (argument r.base) fault desk l
     → IsLoadFault k (Guest p.guest) (argument r.base) fault first l
-refused_as k desk l first p r fault desk_is has =
-    subst (λ (d : Ledger). IsLoadFault k (Guest p.guest) (argument r.base) fault d l) desk_is has
+refused_as k desk l first guest p r fault desk_is same has =
+    subst (λ (z : ℕ × Ledger). IsLoadFault k (Guest z.0) (argument r.base) fault z.1 l)
+    (λ i. (same i, desk_is i)) has
+
+-- the guest may ask
+pub may_load : (k : Key) (plan : Plan) (modules : List Module) (n : PassView) (r : Raw) (desk first : Ledger)
+    → IsToldOf k plan modules n r first → desk ≡ first → (guest : ℕ) → guest ≡ n.guest
+    → MayAskFor desk (Guest guest) (Load (argument r.base))
+may_load k plan modules n r desk first of desk_is guest same =
+    let planned : n.guest < length first.course.plan.guests =
+    subst (λ (a : Plan). n.guest < length a.guests) (sym of.at.settled.ledger.plan_is) of.planned in
+    subst (λ (z : ℕ × Ledger). z.0 < length z.1.course.plan.guests) (λ i. (sym same i, sym desk_is i)) planned

@@ -8,10 +8,13 @@ use Rattle.cfi_model.specs.Closed.{IsStartIn}
 use Rattle.cfi_model.specs.History.{IsStart}
 use Rattle.cfi_model.specs.Raw.{Raw}
 use Rattle.cfi_model.specs.Words.{no_entry}
+use Rattle.cfi_plan.specs.declared.journal.JournalLine.{JournalLine}
 use Rattle.cfi_plan.specs.declared.plan.Plan.{Plan}
 use Rattle.cfi_runner.specs.Run.{CanRunOn}
 use Rattle.cfi_runner.specs.Seen.{IsSight, history_seen, policy_seen}
 use Rattle.cfi_runner.proofs.OpenedLemmas.{all_sight, all_start, opened_can}
+use Rattle.cfi_slips.specs.Stubs.{slip_by}
+use Rattle.cfi_slips.specs.declared.view.SlipView.{SlipView}
 use Rattle.cfi_tables.specs.Key.{Key}
 use Rattle.cfi_tables.specs.Keeping.{last_of}
 use Rattle.cfi_tables.specs.Views.{admitted}
@@ -24,6 +27,7 @@ use Rattle.cfi_valid.specs.Course.{Course}
 use Rattle.cfi_valid.specs.Loaded.{start_fills}
 use Rattle.cfi_valid.specs.Log.{IsLogged}
 use Rattle.cfi_part.specs.Ran.{IsOpenedAs}
+use Rattle.cfi_drive.specs.Answered.{AreAnswered, IsSlipOf}
 use Rattle.cfi_drive.specs.Runner.{IsOpening, IsRunner, IsRunnerBy}
 
 none_logged : (c : Course) (guest : ℕ) → IsLogged c guest []
@@ -121,3 +125,14 @@ opening_runs k plan modules p r opening =
       is = runner_opened k plan modules p.guest r l opening.is opening.guest opening.starts;
       outside = λ going idle. refl;
     })
+
+-- nothing is logged then, and nothing told
+pub opening_slip : (k : Key) (plan : Plan) (modules : List Module) (p : PassView) (r : Raw)
+    → IsOpening k plan modules p r → (slip : SlipView) → slip ≡ slip_by p.guest [] → IsSlipOf p r slip
+opening_slip k plan modules p r opening slip is =
+    let log : r.base.log ≡ [] = ap (λ (x : Raw). x.base.log) opening.guest.is in
+    let lines : slip.lines ≡ [] = ap (λ (s : SlipView). s.lines) is in
+    record {
+      guest = ap (λ (s : SlipView). s.guest) is;
+      answered = subst (λ (z : List Log × List JournalLine). AreAnswered z.0 z.1) (λ i. (sym log i, sym lines i)) tt;
+    }

@@ -28,7 +28,7 @@ use Rattle.cfi_drive.proofs.OpenLemmas.{asked_runner, asked_waits}
 use Rattle.cfi_drive.proofs.SeesLemmas.{asked_on, on_parked, on_same, runner_on}
 use Rattle.cfi_drive.proofs.ServeLemmas.{runner_served}
 
-unlogged : (service : Service) (policy : ℕ) (s : State) → served_log service (reply_of 0 TOO_MANY policy []) s ≡ s.log
+pub unlogged : (service : Service) (policy : ℕ) (s : State) → served_log service (reply_of 0 TOO_MANY policy []) s ≡ s.log
 unlogged Ends policy s = refl
 unlogged Puts policy s = refl
 unlogged Quiets policy s = refl

@@ -10,8 +10,10 @@ use Rattle.cfi_plan.specs.declared.plan.PlanModule.{PlanModule}
 use Rattle.cfi_report.specs.Report.{IsReport}
 use Rattle.cfi_report.specs.declared.report.GuestPart.{GuestPart}
 use Rattle.cfi_report.specs.declared.report.Report.{Report}
+use Rattle.cfi_slips.specs.Lines.{lines_of}
 use Rattle.cfi_text.specs.Names.{is_name}
 use Rattle.cfi_valid.specs.Valid.{IsValidReport, course_of}
+use Rattle.cfi_drive.specs.Answered.{AreAnswered}
 use Rattle.cfi_drive.specs.Runner.{Ran}
 
 -- a run that was concluded: its plan, the modules of that, and its report
@@ -29,8 +31,9 @@ pub record HasReadableNames (plan : Plan) : Type 0 where
   pub guests : All (λ entry. is_name entry ≡ true) plan.guests
 
 -- The report is valid. The tables had one entry an epoch, with the policies that the report's journal puts in force. Each
--- guest has run over their one history, under the policies of its epochs, and its part tells of that. The report can be
--- read from its text, where the plan's names are names.
+-- guest has run over their one history, under the policies of its epochs, and its part tells of that. The journal's lines
+-- in each guest's name are those of its logged opens. The report can be read from its text, where the plan's names are
+-- names.
 pub record IsConcluded (c : Conclusion) : Type 0 where
   pub valid : IsValidReport c.plan c.modules c.report
   pub tables : Tables
@@ -40,6 +43,8 @@ pub record IsConcluded (c : Conclusion) : Type 0 where
   pub of : IsHistoryOf (course_of c.plan c.modules c.report valid.end) tables history code
   pub runs : (number : ℕ) (part : GuestPart) → slice_get c.report.guests number ≡ Some part
       → IsRunOf (course_of c.plan c.modules c.report valid.end) tables history code number part
+  pub opens : (number : ℕ) (part : GuestPart) → slice_get c.report.guests number ≡ Some part
+      → AreAnswered part.log (lines_of number c.report.journal)
   pub readable : HasReadableNames c.plan → IsReport c.report
 
 -- the runner of this number is that of the guest of this number, which has stopped

@@ -1,5 +1,6 @@
 pub mod Settled
 pub mod Path
+pub mod Answered
 pub mod Runner
 pub mod Serving
 pub mod Opens

@@ -1,4 +1,4 @@
--- What the type of a runner keeps: five facts of a guest and its pass.
+-- What the type of a runner keeps: facts of a guest and its pass, and what the guest's slip says.
 use Rattle.std.specs.Prelude.{◌≡◌, ℕ, ◌≤◌, false, List, [], ◌∷◌, ◌++◌, None}
 use mathlib.Core.List.{IsPrefix}
 use Rattle.cfi_aux.specs.declared.modules.Module.{Module}
@@ -12,19 +12,22 @@ use Rattle.cfi_plan.specs.declared.plan.Plan.{Plan}
 use Rattle.cfi_runner.specs.Run.{CanRunOn, HasRunOn}
 use Rattle.cfi_runner.specs.Seen.{IsSight, SeesMore, policy_seen}
 use Rattle.cfi_runner.specs.declared.pause.Pause.TheVariants as pauses
+use Rattle.cfi_slips.specs.declared.view.SlipView.{SlipView}
 use Rattle.cfi_tables.specs.Keeping.{last_of}
 use Rattle.cfi_tables.specs.Key.{Key}
 use Rattle.cfi_tables.specs.Views.{admitted}
 use Rattle.cfi_tables.specs.declared.view.PassView.{PassView}
 use Rattle.cfi_part.specs.Part.{IsEndOf, IsWithin}
 use Rattle.cfi_part.specs.Ran.{IsOpenedAs}
+use Rattle.cfi_drive.specs.Answered.{IsSlipOf}
 use Rattle.cfi_drive.specs.Path.{IsPath}
 use Rattle.cfi_drive.specs.Settled.{IsSettled, FitsSettled}
 
--- a guest with the pass that loads for it
+-- a guest with the pass that loads for it, and its slip
 pub record Ran : Type 0 where
   pub guest : Raw
   pub pass : PassView
+  pub slip : SlipView
 
 -- the five facts, by the ledger of which the guest was last told: the guest is where the raw machine is after what its
 -- pass has loaded and what its opens were answered; its log fits what its pass has settled; it has logged no policy
@@ -47,6 +50,11 @@ pub record IsRunner (k : Key) (plan : Plan) (modules : List Module) (p : PassVie
   pub ledger : Ledger
   pub is : IsRunnerBy k plan modules p r ledger
   pub outside : r.base.stop ≡ None → r.waits ≡ None → p.parked ≡ false
+
+-- and the guest's slip says the lines of its opens
+pub record IsRan (k : Key) (plan : Plan) (modules : List Module) (ran : Ran) : Type 0 where
+  pub is : IsRunner k plan modules ran.pass ran.guest
+  pub slip : IsSlipOf ran.pass ran.guest ran.slip
 
 -- what is kept of a guest whose service has ended straight before, and which is parked yet
 pub record HasEnded (k : Key) (plan : Plan) (modules : List Module) (p : PassView) (r : Raw) (l : Ledger)

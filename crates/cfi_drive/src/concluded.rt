@@ -2,6 +2,8 @@
 
 ghost use Rattle.std.specs.Prelude.{◌≡◌, ◌≢◌, ℕ, length, map, slice_get, Some, None, false, IfOk, OnOk};
 ghost use Rattle.std.specs.List.{AllByRecursion};
+ghost use Rattle.cfi_slips.specs.Lines.{lines_of};
+ghost use Rattle.cfi_drive.specs.Answered.{AreAnswered};
 ghost use Rattle.cfi_drive.specs.Concluded.{IsConcluded, IsEndedRun};
 ghost use Rattle.cfi_drive.specs.Ending.{IsPartAt, part_by};
 ghost use Rattle.cfi_drive.specs.inner.Ending.{AreTaken, HasNumbers};
@@ -26,8 +28,8 @@ use std::marker::Model;
 
 /// What a run has come to, with its plan and its modules. Only `conclude` makes it.
 ///
-/// Its type keeps that the report is valid for the plan and the modules, and how each guest has run over the history of
-/// the run.
+/// Its type keeps that the report is valid for the plan and the modules, how each guest has run over the history of the
+/// run, and that the journal's lines in each guest's name are those of its logged opens.
 #[derive(Drop)]
 pub struct Concluded {
     plan: Plan,
@@ -71,7 +73,7 @@ impl Concluded {
     }
 }
 
-// Takes a guest's pass back, and tells what the guest has come to.
+// Takes a guest's pass and slip back, and tells what the guest has come to.
 fn take_back<N: LoaderName>(
     alloc: Global,
     loader: &mut Loader<N>,
@@ -81,19 +83,21 @@ fn take_back<N: LoaderName>(
     requires { runner.guest.base.stop ≢ None }
     ensures says { IfOk result (λ part. part ≡ part_by N.plan runner) }
     ensures part { IfOk result (IsPartAt N.key loader.old runner.pass.guest) }
+    ensures opens { IfOk result (λ part.
+        AreAnswered part.log (lines_of runner.pass.guest loader.old.course.journal)) }
     ensures fields { IfOk result HasFields }
     ensures out { OnOk result
         (loader.new ≡ with_keeping (let_in runner.pass.guest loader.old.keeping) loader.old) }
 {
-    let (guest, pass) = runner.into_parts();
+    let (guest, pass, slip) = runner.into_parts();
     let number = pass.guest();
     let entry = loader.plan().guests.as_slice()[number as usize].as_str();
     let part = part_of(alloc, number, entry, &guest)?;
-    loader.release(tables, pass);
+    loader.release(tables, pass, slip);
     Ok(part)
 }
 
-// Takes all passes back, and tells what the guests have come to, by their numbers.
+// Takes all passes and slips back, and tells what the guests have come to, by their numbers.
 fn take_all<N: LoaderName>(
     alloc: Global,
     loader: &mut Loader<N>,
@@ -138,7 +142,7 @@ fn report_of(
     }
 }
 
-/// Takes the passes back and makes the report of a run: its force, modules and journal are the loader's, its guest parts
+/// Takes the passes and slips back and makes the report of a run: its force, modules and journal are the loader's, its guest parts
 /// those of the runners' guests.
 ///
 /// The script was made and found memory, and there is a runner for each guest of the plan, in order, whose guest has

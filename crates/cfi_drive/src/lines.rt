@@ -1,90 +1,32 @@
 //! The lines of a report's modules and of its journal, in memory of their own.
 
-ghost use Rattle.std.specs.Prelude.{◌≡◌, IfOk};
+ghost use Rattle.std.specs.Prelude.{◌≡◌, [], ◌∷◌, ◌++◌, IfOk, OnOk};
 ghost use Rattle.std.specs.List.{AllByRecursion};
-ghost use Rattle.cfi_drive.specs.inner.Lines.{HasEntryFields, HasModuleFields, HasWhat, HasWho};
+ghost use Rattle.cfi_drive.specs.inner.Lines.{HasEntryFields, HasModuleFields};
 
-use cfi_plan::{Entry, JournalLine, ModuleLine, Who};
+use cfi_plan::{Entry, ModuleLine};
 use cfi_values::Text;
 use std::alloc::{AllocError, Global};
 
-// Who asked, by a number of 32 bits.
-fn who_of(who: Who) -> Who
-    ensures same { result ≡ who }
-    ensures fields { HasWho result }
+// Adds a line, whose numbers have 32 bits each.
+#[tactic(auto, using(crate::proofs::LineLemmas::entries_push))]
+fn add_entry(journal: &mut Vec<Entry>, entry: Entry) -> Result<(), AllocError>
+    requires fields { AllByRecursion HasEntryFields journal.old.items }
+    ensures same { OnOk result (journal.new.items ≡ journal.old.items ++ entry ∷ []) }
+    ensures fields { OnOk result (AllByRecursion HasEntryFields journal.new.items) }
 {
-    match who {
-        Who::Script => Who::Script,
-        Who::Guest(number) => Who::Guest(number),
-    }
-}
-
-// What came of a call, in numbers of 32 bits.
-fn what_of(what: JournalLine) -> JournalLine
-    ensures same { result ≡ what }
-    ensures fields { HasWhat result }
-{
-    match what {
-        JournalLine::LoadOk {
-            module,
-            epoch,
-            policy,
-        } => JournalLine::LoadOk {
-            module,
-            epoch,
-            policy,
-        },
-        JournalLine::LoadAgain { module, policy } => JournalLine::LoadAgain { module, policy },
-        JournalLine::LoadFull { module } => JournalLine::LoadFull { module },
-        JournalLine::LoadPlace { module, number } => JournalLine::LoadPlace { module, number },
-        JournalLine::LoadVerify {
-            module,
-            number,
-            place,
-        } => JournalLine::LoadVerify {
-            module,
-            number,
-            place,
-        },
-        JournalLine::LoadVersions {
-            module,
-            guest,
-            quiet,
-        } => JournalLine::LoadVersions {
-            module,
-            guest,
-            quiet,
-        },
-        JournalLine::LoadEpochs { module } => JournalLine::LoadEpochs { module },
-        JournalLine::RefreshOk { epoch } => JournalLine::RefreshOk { epoch },
-        JournalLine::RefreshVersions { guest, quiet } => JournalLine::RefreshVersions {
-            guest,
-            quiet,
-        },
-        JournalLine::RefreshEpochs => JournalLine::RefreshEpochs,
-    }
-}
-
-// A line of the journal.
-fn entry_of(entry: Entry) -> Entry
-    ensures same { result ≡ entry }
-    ensures fields { HasEntryFields result }
-{
-    Entry {
-        who: who_of(entry.who),
-        what: what_of(entry.what),
-    }
+    journal.push(entry)?;
+    Ok(())
 }
 
 /// The journal, line by line.
-#[tactic(auto, using(crate::proofs::LineLemmas::entries_push))]
 pub(crate) fn journal_of(alloc: Global, journal: &[Entry]) -> Result<Vec<Entry>, AllocError>
     ensures same { IfOk result (λ copy. copy.items ≡ journal.now) }
     ensures fields { IfOk result (λ copy. AllByRecursion HasEntryFields copy.items) }
 {
     let mut copy = Vec::with_capacity(alloc, journal.len())?;
     for entry in journal {
-        copy.push(entry_of(*entry))?;
+        add_entry(&mut copy, *entry)?;
     }
     Ok(copy)
 }

@@ -1,14 +1,15 @@
 //! A guest with the pass that loads for it, and how it is run to its end.
 
-ghost use Rattle.std.specs.Prelude.{◌≡◌, ◌≢◌, Some, None, OnOk, OnErr};
+ghost use Rattle.std.specs.Prelude.{◌≡◌, ◌≢◌, Some, None, OnOk, OnErr, []};
 ghost use Rattle.cfi_model.specs.declared.act.Wait.TheVariants as waits;
 ghost use Rattle.cfi_word.specs.declared.services.TheConstants.{OPEN};
-ghost use Rattle.cfi_drive.specs.Runner.{IsOpening, IsRunner};
+ghost use Rattle.cfi_slips.specs.Stubs.{slip_by};
+ghost use Rattle.cfi_drive.specs.Runner.{IsOpening, IsRan, IsRunner};
 ghost use Rattle.cfi_drive.specs.Serving.{KeepsPass};
 
 use crate::serving::serve;
 use cfi_io::Gate;
-use cfi_loader::{Loader, LoaderName};
+use cfi_loader::{Loader, LoaderName, Slip};
 use cfi_runner::{Pause, run_until};
 use cfi_tables::{Pass, Tables};
 use rv_guest::Guest;
@@ -19,40 +20,45 @@ use std::sync::{Mutex, Wait};
 // How many words keep two cache lines between guests.
 const APART: usize = 16;
 
-/// A guest of a plan, with its pass.
+/// A guest of a plan, with its pass and its slip.
 ///
 /// Its type keeps that the guest is where the raw machine is after what the pass has loaded and what its opens were
-/// answered, that its log fits what the pass has settled, that its steps are within the plan's fuel, and that it is not
-/// parked and can run on where it has not stopped and waits for nothing.
+/// answered, that its log fits what the pass has settled, that its steps are within the plan's fuel, that it is not
+/// parked and can run on where it has not stopped and waits for nothing, and that the slip says, in order, the lines of
+/// the opens in its log.
 #[derive(Drop)]
 pub struct Runner<N: LoaderName> {
     guest: Guest,
     pass: Pass<N>,
+    slip: Slip<N>,
     // Runners lie side by side, each with a thread of its own: what one stores in a step shares no cache line with the
     // next one, and so takes none away from it.
     apart: [u64; APART],
 }
 
 impl<N: LoaderName> Model for Runner<N> {
-    ghost use Rattle.cfi_drive.specs.Runner.{IsRunner, Ran};
+    ghost use Rattle.cfi_drive.specs.Runner.{IsRan, Ran};
 
     ghost Value = { Ran };
 
-    ghost view = { λ a. record { guest = a.guest; pass = a.pass } };
+    ghost view = { λ a. record { guest = a.guest; pass = a.pass; slip = a.slip } };
 
-    ghost invariant = { λ a. IsRunner N.key N.plan N.modules a.pass a.guest };
+    ghost invariant = { λ a.
+        IsRan N.key N.plan N.modules (record { guest = a.guest; pass = a.pass; slip = a.slip }) };
 }
 
 impl<N: LoaderName> Runner<N> {
     /// The runner of a guest as `Guest::open` leaves it for the plan's guest of the pass's number, at a start of the image
-    /// in force, with a pass as `Loader::admit` gives it.
-    pub fn new(guest: Guest, pass: Pass<N>) -> Runner<N>
-        requires { IsOpening N.key N.plan N.modules pass guest }
-        ensures { result ≡ record { guest = guest; pass = pass } }
+    /// in force, with a pass and a slip as `Loader::admit` gives them where nothing was told in the guest's name.
+    pub fn new(guest: Guest, pass: Pass<N>, slip: Slip<N>) -> Runner<N>
+        requires opening { IsOpening N.key N.plan N.modules pass guest }
+        requires slip { slip ≡ slip_by pass.guest [] }
+        ensures { result ≡ record { guest = guest; pass = pass; slip = slip } }
     {
         Runner {
             guest,
             pass,
+            slip,
             apart: [0; APART],
         }
     }
@@ -67,16 +73,22 @@ impl<N: LoaderName> Runner<N> {
         &self.guest
     }
 
-    /// The guest and its pass.
+    /// The guest, its pass and its slip.
     ///
     /// `law`: what the runner has kept.
-    pub(crate) fn into_parts(self) -> (Guest, Pass<N>)
+    pub(crate) fn into_parts(self) -> (Guest, Pass<N>, Slip<N>)
         ensures guest { result.0 ≡ self.guest }
         ensures pass { result.1 ≡ self.pass }
-        ensures law { IsRunner N.key N.plan N.modules self.pass self.guest }
+        ensures slip { result.2 ≡ self.slip }
+        ensures law { IsRan N.key N.plan N.modules self }
     {
-        let Runner { guest, pass, .. } = self;
-        (guest, pass)
+        let Runner {
+            guest,
+            pass,
+            slip,
+            ..
+        } = self;
+        (guest, pass, slip)
     }
 }
 
@@ -103,6 +115,7 @@ impl<N: LoaderName> Runner<N> {
                 &mut self.guest,
                 tables,
                 &mut self.pass,
+                &mut self.slip,
                 loader,
                 gate,
                 number,

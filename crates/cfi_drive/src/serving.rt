@@ -1,7 +1,7 @@
 //! The services of a guest.
 
 ghost use Rattle.std.specs.Prelude.{◌≡◌, ◌≢◌, ◌<◌, length, Some, IfOk, IfErr, OnOk, OnErr, [], true, ◌==◌};
-ghost use Rattle.cfi_loader.specs.Results.{HasLoaded, IsLoadFault};
+ghost use Rattle.cfi_loader.specs.Results.{HasLoaded, IsLoadFault, told_lines};
 ghost use Rattle.cfi_loader.specs.Told.{MayAskFor};
 ghost use Rattle.cfi_plan.specs.declared.journal.Who.TheVariants.{Guest as AskerGuest};
 ghost use Rattle.cfi_valid.specs.Script.{Load};
@@ -13,13 +13,15 @@ ghost use Rattle.rv_guest.specs.Guest.{MayAnswer};
 ghost use Rattle.cfi_word.specs.declared.limits.TheConstants.{MAX_OPENS};
 ghost use Rattle.cfi_word.specs.declared.services.TheConstants.{EXIT, OPEN};
 ghost use Rattle.cfi_loader.specs.Passes.{heard_from};
+ghost use Rattle.cfi_slips.specs.Stubs.{with_lines};
+ghost use Rattle.cfi_drive.specs.Answered.{IsSlipOf};
 ghost use Rattle.cfi_drive.specs.Runner.{HasAsked, IsRunner, IsServed};
 ghost use Rattle.cfi_drive.specs.Opens.{HasAskedLoader, HasOpened, HasServedElse, HasServedOpen, Leaves};
 ghost use Rattle.cfi_drive.specs.Serving.{HasServed, IsPassTold, KeepsPass};
 
 use crate::causes::{cause_by, last_policy};
 use cfi_io::Gate;
-use cfi_loader::{LoadFault, Loaded, Loader, LoaderName, Who};
+use cfi_loader::{LoadFault, Loaded, Loader, LoaderName, Slip};
 use cfi_tables::{Pass, Tables};
 use cfi_unit::Answer;
 use cfi_word::limits::MAX_OPENS;
@@ -49,21 +51,22 @@ fn tell<N: LoaderName>(desk: &mut Loader<N>, tables: &Tables<N>, pass: &mut Pass
     desk.note(tables, pass);
 }
 
-// Asks the loader for the module that an open names.
+// Asks the loader for the module that an open names, in the name of the slip's guest.
 fn ask<N: LoaderName>(
     desk: &mut Loader<N>,
     guest: &Guest,
     tables: &Tables<N>,
-    pass: &Pass<N>,
+    slip: &mut Slip<N>,
 ) -> Result<Loaded, LoadFault>
     requires known { argument guest.now.base < length N.plan.modules }
-    requires asks { MayAskFor desk.old (AskerGuest pass.now.guest) (Load (argument guest.now.base)) }
-    ensures ok { IfOk result (λ loaded. HasLoaded N.key (AskerGuest pass.now.guest)
+    requires asks { MayAskFor desk.old (AskerGuest slip.old.guest) (Load (argument guest.now.base)) }
+    ensures ok { IfOk result (λ loaded. HasLoaded N.key (AskerGuest slip.old.guest)
         (argument guest.now.base) loaded desk.old desk.new) }
-    ensures fault { IfErr result (λ fault. IsLoadFault N.key (AskerGuest pass.now.guest)
+    ensures fault { IfErr result (λ fault. IsLoadFault N.key (AskerGuest slip.old.guest)
         (argument guest.now.base) fault desk.old desk.new) }
+    ensures told { slip.new ≡ with_lines (told_lines (argument guest.now.base) result) slip.old }
 {
-    desk.load(tables, guest.argument(), Who::Guest(pass.guest()))
+    desk.load_for(tables, guest.argument(), slip)
 }
 
 // Loads the module that an open names, and answers.
@@ -72,9 +75,11 @@ fn open_at<N: LoaderName>(
     guest: &mut Guest,
     tables: &Tables<N>,
     pass: &mut Pass<N>,
+    slip: &mut Slip<N>,
 ) -> Result<(), AllocError>
     requires runner { IsRunner N.key N.plan N.modules pass.old guest.old }
     requires asked { HasAsked N.key N.plan.fuel pass.old guest.old OPEN }
+    requires slip { IsSlipOf pass.old guest.old slip.old }
     requires few { opens guest.old.base.log < MAX_OPENS }
     requires known { argument guest.old.base < length N.plan.modules }
     ensures runner { OnErr result (IsRunner N.key N.plan N.modules pass.new guest.new) }
@@ -82,12 +87,13 @@ fn open_at<N: LoaderName>(
     ensures ok { OnOk result (HasServed guest.old guest.new) }
     ensures answer { OnOk result
         (HasAskedLoader N.key N.plan N.modules pass.old pass.new guest.old guest.new) }
+    ensures slip { IsSlipOf pass.new guest.new slip.new }
     ensures same { OnErr result (guest.new ≡ guest.old) }
     ensures stays { pass.new.parked ≡ pass.old.parked }
     ensures keeps { KeepsPass pass.old pass.new }
 {
     tell(desk, tables, pass);
-    match ask(desk, guest, tables, pass) {
+    match ask(desk, guest, tables, slip) {
         Ok(loaded) => {
             tell(desk, tables, pass);
             desk.give(guest, &loaded);
@@ -110,16 +116,19 @@ fn open<N: LoaderName, R: Wait>(
     guest: &mut Guest,
     tables: &Tables<N>,
     pass: &mut Pass<N>,
+    slip: &mut Slip<N>,
     loader: &Mutex<Loader<N>>,
 ) -> Result<(), AllocError>
     requires inside { pass.old.parked ≡ true }
     requires runner { IsRunner N.key N.plan N.modules pass.old guest.old }
     requires asked { HasAsked N.key N.plan.fuel pass.old guest.old OPEN }
+    requires slip { IsSlipOf pass.old guest.old slip.old }
     ensures runner { OnErr result (IsRunner N.key N.plan N.modules pass.new guest.new) }
     ensures ended { OnOk result (IsServed N.key N.plan N.modules pass.new guest.new) }
     ensures ok { OnOk result (HasServed guest.old guest.new) }
     ensures answer { OnOk result
         (HasOpened N.key N.plan N.modules pass.old pass.new guest.old guest.new) }
+    ensures slip { IsSlipOf pass.new guest.new slip.new }
     ensures same { OnErr result (guest.new ≡ guest.old) }
     ensures stays { pass.new.parked ≡ pass.old.parked }
     ensures keeps { KeepsPass pass.old pass.new }
@@ -134,7 +143,7 @@ fn open<N: LoaderName, R: Wait>(
         refuse(guest, NO_MODULE, policy);
         return Ok(());
     }
-    open_at(&mut desk, guest, tables, pass)
+    open_at(&mut desk, guest, tables, pass, slip)
 }
 
 // Ends a service that needs no loader.
@@ -172,20 +181,23 @@ fn pass_gate<N: LoaderName, G: Gate>(gate: &G, pass: &Pass<N>, number: u32)
 ///
 /// An open takes the loader's lock, but for one that is answered `TOO_MANY`. One of a module that the plan lacks is
 /// answered `NO_MODULE`; for each other the pass is told all that the keeper has seen before the load and again before
-/// the answer. `AllocError` comes in an open alone, where its load found no memory; the open then stays unanswered, and
-/// the guest parked.
+/// the answer, and the slip has the line of the answer. `AllocError` comes in an open alone, where its load found no
+/// memory; the open then stays unanswered, and the guest parked.
 pub fn serve<N: LoaderName, G: Gate, R: Wait>(
     rt: &R,
     guest: &mut Guest,
     tables: &Tables<N>,
     pass: &mut Pass<N>,
+    slip: &mut Slip<N>,
     loader: &Mutex<Loader<N>>,
     gate: &G,
     number: u32,
 ) -> Result<(), AllocError>
     requires runner { IsRunner N.key N.plan N.modules pass.old guest.old }
     requires asked { HasAsked N.key N.plan.fuel pass.old guest.old number }
+    requires slip { IsSlipOf pass.old guest.old slip.old }
     ensures runner { IsRunner N.key N.plan N.modules pass.new guest.new }
+    ensures slip { IsSlipOf pass.new guest.new slip.new }
     ensures ok { OnOk result (HasServed guest.old guest.new) }
     ensures open { OnOk result (number ≡ OPEN →
         HasServedOpen N.key N.plan N.modules pass.old pass.new guest.old guest.new) }
@@ -199,7 +211,7 @@ pub fn serve<N: LoaderName, G: Gate, R: Wait>(
     tables.park(pass);
     pass_gate(gate, pass, number);
     if number == OPEN {
-        open(rt, guest, tables, pass, loader)?;
+        open(rt, guest, tables, pass, slip, loader)?;
         tables.quiet(pass);
         return Ok(());
     }

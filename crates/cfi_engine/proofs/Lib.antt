@@ -1,5 +1,5 @@
 pub mod ScriptLemmas
 pub mod SeatLemmas
 pub mod StartLemmas
-pub mod NumberLemmas
+pub mod WaitingLemmas
 pub mod CodeLemmas

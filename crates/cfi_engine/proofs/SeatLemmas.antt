@@ -84,6 +84,7 @@ none_opened plan modules s started =
     ap (λ (keeping : Keeping). keeping.out) started.keeping_is in
     record {
       opens = started.opens;
+      untold = started.journal_is;
       seats = ap length out;
       out = λ guest none. absurd (omega arith);
       free = λ guest least.
@@ -107,6 +108,7 @@ next_opened k plan modules number guest l is opened within same =
     let out = l.keeping.out in
     subst (λ (n : ℕ). IsOpenedTo plan modules (number + 1) (with_keeping (let_out k n l.keeping) l)) (sym same) (record {
       opens = opened.opens;
+      untold = opened.untold;
       seats = seats_stay out number opened.seats few opened.out opened.free;
       out = more_out out number opened.seats few opened.out opened.free;
       free = others_free out number opened.seats few opened.out opened.free;

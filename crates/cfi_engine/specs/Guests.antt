@@ -1,6 +1,7 @@
 -- The guests of a plan, as far as they are opened.
-use Rattle.std.specs.Prelude.{◌≡◌, ℕ, ◌<◌, ◌≤◌, true, false, List, length, slice_get, Some}
+use Rattle.std.specs.Prelude.{◌≡◌, ℕ, ◌<◌, ◌≤◌, true, false, List, [], length, slice_get, slice_index_or, None, Some}
 use Rattle.cfi_aux.specs.declared.modules.Module.{Module}
+use Rattle.cfi_drive.specs.Runner.{Ran}
 use Rattle.cfi_loader.specs.Ledger.{Ledger}
 use Rattle.cfi_plan.specs.declared.plan.Plan.{Plan}
 use Rattle.cfi_plan.specs.declared.plan.PlanModule.{PlanModule}
@@ -22,9 +23,10 @@ pub record HasFirst (plan : Plan) (modules : List Module) : Type 0 where
 abbrev pub HasCode : Plan → List Module → Type 0
 HasCode plan modules = is_bare_plan plan ≡ true → HasFirst plan modules
 
--- nothing was loaded since the start, and the passes that are out are those of the guests below a number
+-- nothing was loaded or told since the start, and the passes that are out are those of the guests below a number
 pub record IsOpenedTo (plan : Plan) (modules : List Module) (number : ℕ) (l : Ledger) : Type 0 where
   pub opens : IsOpeningState plan modules l.course.end
+  pub untold : l.course.journal ≡ []
   pub seats : length l.keeping.out ≡ GUESTS
   pub out : (guest : ℕ) → guest < number → is_out l.keeping.out guest ≡ true
   pub free : (guest : ℕ) → number ≤ guest → is_out l.keeping.out guest ≡ false
@@ -40,3 +42,12 @@ abbrev pub HasAdmitted : (old new : Ledger) → Type 0
 HasAdmitted old new = new ≡ record old {
   keeping = record old.keeping { out = new.keeping.out; quiets = new.keeping.quiets };
 }
+
+-- a runner of the guest of this number that waits for nothing
+pub record IsWaiting (number : ℕ) (ran : Ran) : Type 0 where
+  pub number_is : ran.pass.guest ≡ number
+  pub idle : ran.guest.waits ≡ None
+
+-- runners of the plan's guests, in order
+abbrev pub AreWaiting : List Ran → Type 0
+AreWaiting rans = (number : ℕ) (d : Ran) → number < length rans → IsWaiting number (slice_index_or rans number d)

@@ -4,7 +4,8 @@ ghost use Rattle.std.specs.Prelude.{◌≡◌, ◌≢◌, ◌+◌, ◌<◌, ℕ,
 ghost use Rattle.cfi_drive.specs.Concluded.{IsEndedRun};
 ghost use Rattle.cfi_drive.specs.Runner.{Ran};
 ghost use Rattle.cfi_engine.specs.Guests.{AreFirstOpened, HasAdmitted, HasCode, IsOpenedTo};
-ghost use Rattle.cfi_engine.specs.inner.Guests.{IsWaiting};
+ghost use Rattle.cfi_engine.specs.Guests.{AreWaiting, IsWaiting};
+ghost use Rattle.cfi_engine.specs.inner.Guests.{AreOver, IsOver};
 
 use cfi_drive::{Runner, drive};
 use cfi_io::Gate;
@@ -25,7 +26,7 @@ fn entry_of(plan: &Plan, number: usize) -> &str
     plan.guests.as_slice()[number].as_str()
 }
 
-// Opens the guest of this number at its entry, with the data of the start modules, and admits its pass.
+// Opens the guest of this number at its entry, with the data of the start modules, and admits it: its pass and its slip.
 fn open_guest<N: LoaderName>(
     alloc: Global,
     loader: &mut Loader<N>,
@@ -43,11 +44,11 @@ fn open_guest<N: LoaderName>(
     let entry = entry_of(loader.plan(), number);
     let address = loader.entry(entry).unwrap();
     let guest = Guest::open(alloc, number as u32, address, loader.fills())?;
-    let pass = loader.admit(tables).unwrap();
-    Ok(Runner::new(guest, pass))
+    let (pass, slip) = loader.admit(tables).unwrap();
+    Ok(Runner::new(guest, pass, slip))
 }
 
-/// Opens all guests of the plan, in order: each at its entry, with the data of the start modules and a pass.
+/// Opens all guests of the plan, in order: each at its entry, with the data of the start modules, a pass and a slip.
 ///
 /// Nothing was loaded since the start, and no pass is out. Where no memory is left, some passes may have gone out; of what
 /// the loader keeps nothing else is changed, either way.
@@ -59,6 +60,7 @@ pub fn open_guests<N: LoaderName>(
     requires code { HasCode N.plan N.modules }
     requires opened { IsOpenedTo N.plan N.modules 0 loader.old }
     ensures count { IfOk result (λ runners. length runners.items ≡ length N.plan.guests) }
+    ensures waiting { IfOk result (λ runners. AreWaiting runners.items) }
     ensures idle { IfOk result (λ runners. All (λ (ran : Ran). ran.guest.waits ≡ None) runners.items) }
     ensures opened { OnOk result (IsOpenedTo N.plan N.modules (length N.plan.guests) loader.new) }
     ensures part { OnErr result (AreFirstOpened N.plan N.modules loader.new) }
@@ -74,7 +76,7 @@ pub fn open_guests<N: LoaderName>(
 
 /// Runs each guest to its end, on a thread of its own.
 ///
-/// A guest whose open found no memory has not stopped.
+/// A guest whose open found no memory has not stopped, and waits in that open.
 pub(crate) fn run_guests<N: LoaderName + Send + Sync, G: Gate, R: Threads + Wait + Sync>(
     rt: &R,
     tables: &Tables<N>,
@@ -83,37 +85,32 @@ pub(crate) fn run_guests<N: LoaderName + Send + Sync, G: Gate, R: Threads + Wait
     fuel: u32,
     runners: &mut [Runner<N>],
 )
-    requires idle { All (λ (ran : Ran). ran.guest.waits ≡ None) runners.old }
+    requires waiting { AreWaiting runners.old }
     requires fuel { fuel ≡ N.plan.fuel }
+    ensures over { AreOver runners.new }
 {
     let threads = runners.len().max(1);
     thread::for_each_mut(
         rt,
         runners,
         threads,
-        &|_, runner: &mut Runner<N>|
-            requires idle { runner.now.guest.waits ≡ None }
+        &|number, runner: &mut Runner<N>|
+            requires waiting { IsWaiting number runner.now }
             requires fuel { fuel ≡ N.plan.fuel }
+            ensures over { IsOver number runner.new }
         {
             let _ = drive(rt, runner, tables, loader, gate, fuel);
         },
     );
 }
 
-// Whether the runner's guest is that of this number, and has stopped.
-fn has_ended<N: LoaderName>(runner: &Runner<N>, number: usize) -> bool
-    ensures { result ≡ true → (runner.now.pass.guest ≡ number) × (runner.now.guest.base.stop ≢ None) }
-{
-    let guest = runner.guest();
-    guest.number() as usize == number && guest.stop().is_some()
-}
-
-/// Whether the runners are those of the plan's guests, in order, and all of these have stopped.
-pub(crate) fn have_ended<N: LoaderName>(runners: &[Runner<N>]) -> bool
+/// Whether all guests have stopped.
+pub(crate) fn have_stopped<N: LoaderName>(runners: &[Runner<N>]) -> bool
+    requires over { AreOver runners.now }
     ensures { result ≡ true → (number : ℕ) → IsEndedRun number (slice_get runners.now number) }
 {
-    for (number, runner) in runners.iter().enumerate() {
-        if !has_ended(runner, number) {
+    for runner in runners {
+        if runner.guest().stop().is_none() {
             return false;
         }
     }

@@ -1,14 +1,14 @@
 //! The run of a plan.
 
-ghost use Rattle.std.specs.Prelude.{◌≡◌, IfOk, IfErr, None, All, length};
-ghost use Rattle.cfi_drive.specs.Runner.{Ran};
+ghost use Rattle.std.specs.Prelude.{◌≡◌, IfOk, IfErr, length};
 ghost use Rattle.cfi_ledger.specs.Plans.{CanStart};
 ghost use Rattle.cfi_loader.specs.Starting.{IsStarted};
 ghost use Rattle.cfi_engine.specs.Fault.{IsRunFault};
-ghost use Rattle.cfi_engine.specs.Guests.{HasCode};
+ghost use Rattle.cfi_engine.specs.Guests.{AreWaiting, HasCode};
+ghost use Rattle.cfi_engine.specs.inner.Guests.{AreOver};
 
 use crate::fault::RunFault;
-use crate::guests::{have_ended, open_guests, run_guests};
+use crate::guests::{have_stopped, open_guests, run_guests};
 use crate::script::{count_calls, make_calls, make_rest};
 use cfi_aux::Module;
 use cfi_drive::{Concluded, Runner, conclude};
@@ -32,20 +32,23 @@ fn run_beside<N: LoaderName + Send + Sync, G: Gate, R: Threads + Wait + Sync>(
     calls: u32,
     runners: &mut [Runner<N>],
 )
-    requires idle { All (λ (ran : Ran). ran.guest.waits ≡ None) runners.old }
+    requires waiting { AreWaiting runners.old }
     requires fuel { fuel ≡ N.plan.fuel }
+    ensures over { AreOver runners.new }
 {
     join_mut(
         rt,
         &mut ||
-            requires idle { All (λ (ran : Ran). ran.guest.waits ≡ None) runners.now }
+            requires waiting { AreWaiting runners.now }
             requires fuel { fuel ≡ N.plan.fuel }
+            ensures over { AreOver runners.exit.now }
         { run_guests(rt, tables, loader, gate, fuel, runners) },
         &mut || make_calls(rt, tables, loader, gate, calls),
     );
 }
 
-// Makes what is left of the script, and concludes, unless memory was missing for a load.
+// Makes what is left of the script, and concludes, unless memory was missing for a load: then the loader is starved, or a
+// guest waits yet in the open that asked for it.
 fn finish<N: LoaderName>(
     alloc: Global,
     mut loader: Loader<N>,
@@ -53,11 +56,12 @@ fn finish<N: LoaderName>(
     runners: Vec<Runner<N>>,
 ) -> Result<Concluded, AllocError>
     requires count { length runners.items ≡ length N.plan.guests }
+    requires over { AreOver runners.items }
     ensures plan { IfOk result (λ run. run.plan ≡ N.plan) }
     ensures modules { IfOk result (λ run. run.modules ≡ N.modules) }
 {
     make_rest(&mut loader, tables);
-    if loader.starved() || !have_ended(runners.as_slice()) {
+    if loader.starved() || !have_stopped(runners.as_slice()) {
         return Err(AllocError);
     }
     conclude(alloc, loader, tables, runners)
@@ -72,6 +76,7 @@ fn run_named<N: LoaderName + Send + Sync, G: Gate, R: Threads + Wait + Sync>(
 ) -> Result<Concluded, AllocError>
     requires table { start.named.table ≡ N.table }
     requires key { start.named.key ≡ N.key }
+    requires slips { start.slips ≡ N.slips }
     requires started { IsStarted N.plan N.modules start }
     requires code { HasCode N.plan N.modules }
     ensures plan { IfOk result (λ run. run.plan ≡ N.plan) }

@@ -38,7 +38,7 @@ fn make_load<N: LoaderName>(loader: &mut Loader<N>, tables: &Tables<N>, number: 
     requires known { number < length N.plan.modules }
     ensures { Makes N.key (Load number) loader.old loader.new }
 {
-    drop(loader.load(tables, number, Who::Script));
+    drop(loader.load(tables, number));
 }
 
 // Makes the refresh that is due.

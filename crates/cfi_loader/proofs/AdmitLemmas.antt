@@ -1,19 +1,19 @@
 -- Passes that are out.
-use Rattle.std.proofs.Common.{◌≡◌, ℕ, zero, suc, ◌+◌, ◌-◌, ◌<◌, ◌≤◌, Bool, true, false, cond, List, [], ◌∷◌, length, get_or, Result, Ok, Err, sym, ap, subst, ◌∙◌, ⊎_elim, arith}
-use Rattle.std.specs.Prelude.{count_by, slice_set, IfOk, IfErr, OnErr}
+use Rattle.std.proofs.Common.{◌≡◌, ℕ, zero, suc, ◌+◌, ◌-◌, ◌<◌, ◌≤◌, Bool, true, false, cond, List, [], ◌∷◌, length, get_or, sym, ap, subst, ◌∙◌, ⊎_elim, arith}
+use Rattle.std.specs.Prelude.{count_by, slice_set}
 use Rattle.std.proofs.lemmas.Bool.{cases_lt, false≢true}
 use Rattle.std.proofs.lemmas.List.{get_or-set_other, get_or-set_same, get_or_past, length-set}
 use Rattle.std.proofs.lemmas.List.Sums.{sum_by-cons}
 use Rattle.cfi_aux.specs.declared.modules.Module.{Module}
 use Rattle.cfi_plan.specs.declared.plan.Plan.{Plan}
+use Rattle.cfi_slips.specs.Stubs.{Sheet, issued}
 use Rattle.cfi_tables.specs.Key.{Key}
 use Rattle.cfi_tables.specs.declared.view.Quiets.{Quiets}
-use Rattle.cfi_tables.specs.Keeping.{Keeping, AreAllOut, IsFree, heard_as, heard_of, is_out, let_out}
-use Rattle.cfi_tables.specs.declared.fault.AdmitFault.{AdmitFault}
-use Rattle.cfi_tables.specs.declared.view.PassView.{PassView}
+use Rattle.cfi_tables.specs.Keeping.{Keeping, AreAllOut, IsFree, heard_as, heard_of, is_out, let_in, let_out}
 use Rattle.cfi_word.specs.declared.limits.TheConstants.{GUESTS}
 use Rattle.cfi_ledger.specs.declared.books.Books.{Books}
 use Rattle.cfi_loader.specs.inner.Books.{BooksAgree, IsLoader}
+use Rattle.cfi_loader.proofs.SlipLemmas.{agree_issued}
 
 -- ---- passes
 
@@ -112,39 +112,38 @@ out_kept k b keeping guest kept known =
     (λ one there.
     out_other keeping.out guest one true (length b.plan.guests) kept.ledger.told.guests (λ _. known) there)
 
+pub in_kept : (k : Key) (b : Books) (keeping : Keeping) (guest : ℕ) → BooksAgree k b keeping
+    → BooksAgree k b (let_in guest keeping)
+in_kept k b keeping guest kept =
+    passes_kept k b keeping (slice_set keeping.out guest false) (heard_as guest 0 keeping.quiets) kept
+    (λ one there.
+    out_other keeping.out guest one false (length b.plan.guests) kept.ledger.told.guests
+    (λ same. absurd (false≢true same)) there)
+
 -- and what a note leaves
 pub heard_kept : (k : Key) (plan : Plan) (modules : List Module) (b : Books) (old new : Keeping) (guest quiet : ℕ)
-    → IsLoader k plan modules b old → new ≡ heard_of guest quiet old → IsLoader k plan modules b new
-heard_kept k plan modules b old new guest quiet is heard = record {
+    (sheet : Sheet) → IsLoader k plan modules b old sheet → new ≡ heard_of guest quiet old
+    → IsLoader k plan modules b new sheet
+heard_kept k plan modules b old new guest quiet sheet is heard = record {
   kept = subst (BooksAgree k b) (sym heard) (passes_kept k b old old.out (heard_as guest (quiet + 1) old.quiets) is.kept
       is.kept.ledger.told.guests);
   plan_is = is.plan_is;
   modules_are = is.modules_are;
+  slips = record { told = is.slips.told; out = is.slips.out ∙ sym (ap (λ (x : Keeping). x.out) heard) };
 }
 
--- what an admission leaves
-pub admission_kept : (k : Key) (plan : Plan) (modules : List Module) (b : Books) (old new : Keeping)
-    (result : Result PassView AdmitFault) → IsLoader k plan modules b old → count_by is_one old.out < length plan.guests
-    → IfOk result (λ pass. IsFree old.out pass.guest) → IfOk result (λ pass. new ≡ let_out k pass.guest old)
-    → OnErr result (new ≡ old) → IsLoader k plan modules b new
-admission_kept k plan modules b old new (Ok pass) is few free out same =
-    let known : pass.guest < length b.plan.guests =
-    subst (λ (p : Plan). pass.guest < length p.guests) (sym is.plan_is)
-    (free_below old.out pass.guest (length plan.guests) free few) in
+-- what an admission leaves, and the slip that is issued then
+pub admission_kept : (k : Key) (plan : Plan) (modules : List Module) (b : Books) (old new : Keeping) (guest : ℕ)
+    (sheet after : Sheet) → IsLoader k plan modules b old sheet → count_by is_one old.out < length plan.guests
+    → IsFree old.out guest → new ≡ let_out k guest old → after ≡ issued guest sheet
+    → IsLoader k plan modules b new after
+admission_kept k plan modules b old new guest sheet after is few free out slip =
+    let known : guest < length b.plan.guests =
+    subst (λ (p : Plan). guest < length p.guests) (sym is.plan_is)
+    (free_below old.out guest (length plan.guests) free few) in
     record {
-      kept = subst (BooksAgree k b) (sym out) (out_kept k b old pass.guest is.kept known);
+      kept = subst (BooksAgree k b) (sym out) (out_kept k b old guest is.kept known);
       plan_is = is.plan_is;
       modules_are = is.modules_are;
+      slips = agree_issued b old new guest sheet after is.slips k out slip;
     }
-admission_kept k plan modules b old new (Err fault) is few free out same =
-    subst (IsLoader k plan modules b) (sym same) is
-
-pub admitted_below : (result : Result PassView AdmitFault) (out : List Bool) (n : ℕ)
-    → IfOk result (λ pass. IsFree out pass.guest) → count_by is_one out < n → IfOk result (λ pass. pass.guest < n)
-admitted_below (Ok pass) out n free few = free_below out pass.guest n free few
-admitted_below (Err fault) out n free few = tt
-
-pub never_refused : (result : Result PassView AdmitFault) (out : List Bool) (n : ℕ)
-    → IfErr result (λ fault. AreAllOut out) → count_by is_one out < n → n ≤ GUESTS → IfErr result (λ fault. ⊥)
-never_refused (Ok pass) out n all few most = tt
-never_refused (Err fault) out n all few most = not_all_out out n few most all

@@ -6,8 +6,11 @@ use Rattle.cfi_tables.specs.Key.{Key}
 use Rattle.cfi_ledger.specs.declared.books.Books.{Books}
 use Rattle.cfi_loader.specs.declared.fault.LoadFault.{LoadFault}
 use Rattle.cfi_loader.specs.Results.{IsLoadFault}
+use Rattle.cfi_loader.specs.Told.{MayAskFor}
 use Rattle.cfi_loader.specs.inner.Books.{ledger_of, BooksAgree}
 use Rattle.cfi_ledger.specs.Findings.{AreFindings}
+use Rattle.cfi_ledger.specs.Loads.{IsAbsent}
+use Rattle.cfi_valid.specs.Script.{Load}
 use Rattle.cfi_loader.specs.inner.Loads.{Refuses}
 
 -- ---- other findings
@@ -49,3 +52,16 @@ module _ (k : Key) (b new : Books) (same : new ≡ record b { found = new.found 
           (λ (m : Books). IsLoadFault k who number fault (ledger_of first before) (ledger_of m after)) (sym same)
           is.fault_is;
     }
+
+  -- a refusal by the books as they are noted is one by the books
+  pub refuses_as_noted : (who : Who) (number : ℕ) (fault : LoadFault) (last : Books) (keeping : Keeping)
+      → BooksAgree k b keeping → MayAskFor (ledger_of b keeping) who (Load number) → IsAbsent b number
+      → AreFindings b.modules b.roster new.found.items
+      → (BooksAgree k new keeping → MayAskFor (ledger_of new keeping) who (Load number) → IsAbsent new number
+      → Refuses k who number fault new last keeping keeping) → Refuses k who number fault b last keeping keeping
+  refuses_as_noted who number fault last keeping kept asks absent are after =
+      refuses_noted who number fault keeping keeping last
+      (after (found_kept keeping kept are)
+      (subst (λ (nb : Books). MayAskFor (ledger_of nb keeping) who (Load number)) (sym same) asks)
+      (subst (λ (nb : Books). IsAbsent nb number) (sym same)
+      (record { absent = absent.absent; room = absent.room })))

@@ -27,9 +27,9 @@ use Rattle.cfi_ledger.specs.Journal.{Minutes, HasLine}
 use Rattle.cfi_ledger.specs.Loads.{HasPrepared, IsAbsent, IsListed}
 use Rattle.cfi_ledger.specs.Opens.{IsFirstGlobal}
 use Rattle.cfi_loader.specs.inner.Loads.{LoadsTo, Refuses, load_fault_by, update_line}
-use Rattle.cfi_ledger.specs.Roster.{Roster, IsImageOfRoster, line_by, without_last}
+use Rattle.cfi_ledger.specs.Roster.{Roster, IsImageOfRoster, line_by}
 use Rattle.cfi_loader.proofs.LineLemmas.{line_new, line_refused}
-use Rattle.cfi_loader.proofs.PrepareLemmas.{clean, taken_back, load_made}
+use Rattle.cfi_loader.proofs.PrepareLemmas.{clean, load_made}
 use Rattle.cfi_ledger.proofs.RosterLemmas.{listed_address}
 use Rattle.cfi_loader.proofs.UpdateLemmas.{IsRight, after_load_refused}
 
@@ -115,22 +115,21 @@ module _ (k : Key) (b : Books) (keeping : Keeping) (kept : BooksAgree k b keepin
         })
 
     -- or it was refused, and the books have a line more
-    pub turned_down : new ≡ record mid { journal = new.journal; roster = without_last roster }
-        → new ≡ record b { journal = new.journal }
-    turned_down same =
+    pub turned_down : (before : Roster) → before ≡ b.roster
+        → new ≡ record mid { journal = new.journal; roster = before } → new ≡ record b { journal = new.journal }
+    turned_down before back same =
         same
-        ∙ ap (λ (m : Books). record m { journal = new.journal; roster = without_last roster }) lent
-        ∙ ap (λ (r : Roster). record b { journal = new.journal; roster = r })
-        (taken_back k b keeping kept number roster prepared absent)
+        ∙ ap (λ (m : Books). record m { journal = new.journal; roster = before }) lent
+        ∙ ap (λ (r : Roster). record b { journal = new.journal; roster = r }) back
 
-    pub unmade_refuses : (fault : UpdateFault) → IsRight k keeping fault
+    pub unmade_refuses : (before : Roster) → before ≡ b.roster → (fault : UpdateFault) → IsRight k keeping fault
         → FaultIs k (mark_by who (Load number)) keeping after fault
         → HasLine (asked_by who (update_line number fault)) mid.journal new.journal
-        → new ≡ record mid { journal = new.journal; roster = without_last roster }
+        → new ≡ record mid { journal = new.journal; roster = before }
         → Refuses k who number (load_fault_by fault) b new keeping after
-    unmade_refuses fault right is has same =
+    unmade_refuses before back fault right is has same =
         let there : Books = record b { journal = new.journal } in
-        let new_is : new ≡ there = turned_down same in
+        let new_is : new ≡ there = turned_down before back same in
         let all = after_load_refused k b keeping kept new.journal after who number fault right is
         (lines_there (update_line number fault) has) asks (clean k b keeping kept number roster prepared absent) in
         subst (λ (nb : Books). Refuses k who number (load_fault_by fault) b nb keeping after) (sym new_is) (record {

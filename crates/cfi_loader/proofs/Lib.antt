@@ -10,6 +10,7 @@ pub mod LoadLemmas
 pub mod PrepareLemmas
 pub mod LineLemmas
 pub mod OpeningLemmas
+pub mod SlipLemmas
 pub mod AdmitLemmas
 pub mod FitLemmas
 pub mod RefusalLemmas

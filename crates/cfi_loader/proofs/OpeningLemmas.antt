@@ -3,6 +3,7 @@ use Rattle.std.proofs.Common.{◌≡◌, ℕ, ◌<◌, ◌≤◌, ◌++◌, true
 use Rattle.std.proofs.lemmas.Bool.{false≢true, cases_lt}
 use Rattle.std.proofs.lemmas.List.{get_or-replicate, get_or_past, length-replicate}
 use Rattle.std.proofs.lemmas.List.Elements.{All-nil, All-cons}
+use Rattle.atomic_table.specs.Seated.{TableId}
 use Rattle.cfi_aux.specs.declared.modules.Module.{Module}
 use Rattle.cfi_aux.specs.declared.placed.Placed.{Placed}
 use Rattle.cfi_graph.specs.Direct.{DirectEdge}
@@ -126,9 +127,9 @@ module _ (plan : Plan) (modules : List Module) (can : CanStart plan modules) (r 
       subst (λ (x : Key). BooksAgree x b (opened_keeping x)) (sym k_is)
       (subst (λ (nb : Books). BooksAgree key nb (opened_keeping key)) (sym is.is) kept)
 
-  pub first_started : (named : Named)
-      → IsStarted plan modules (record { named = named; ledger = ledger_of b (opened_keeping named.key) })
-  first_started named = record {
+  pub first_started : (named : Named) (slips : TableId)
+      → IsStarted plan modules (record { named = named; slips = slips; ledger = ledger_of b (opened_keeping named.key) })
+  first_started named slips = record {
     plan_is = ap (λ (x : Books). x.plan) is.is;
     modules_are = ap (λ (x : Books). x.modules) is.is;
     journal_is = is.lines_are;

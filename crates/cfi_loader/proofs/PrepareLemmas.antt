@@ -14,7 +14,6 @@ use Rattle.cfi_tables.specs.Keeping.{Keeping, entry_by, grown_by, last_of}
 use Rattle.cfi_tables.specs.Key.{Key}
 use Rattle.cfi_tables.specs.declared.view.Quiets.{Quiets}
 use Rattle.cfi_valid.specs.Journal.{IsClean}
-use Rattle.cfi_valid.specs.Loaded.{planned_name}
 use Rattle.cfi_valid.specs.Script.{Load}
 use Rattle.cfi_word.specs.declared.limits.TheConstants.{MAX_EPOCH}
 use Rattle.cfi_word.specs.declared.lists.Image.{Image}
@@ -26,8 +25,7 @@ use Rattle.cfi_ledger.specs.Books.{end_of_books}
 use Rattle.cfi_loader.specs.inner.Books.{ledger_of, BooksAgree, IsAfter}
 use Rattle.cfi_ledger.specs.Journal.{Minutes, HasLine}
 use Rattle.cfi_ledger.specs.Loads.{HasPrepared, IsAbsent}
-use Rattle.cfi_ledger.specs.Roster.{Roster, IsImageOfRoster, without_last}
-use Rattle.cfi_ledger.proofs.JoinedLemmas.{joined_back}
+use Rattle.cfi_ledger.specs.Roster.{Roster, IsImageOfRoster}
 use Rattle.cfi_loader.proofs.UpdateLemmas.{may_ask}
 use Rattle.cfi_loader.proofs.LoadLemmas.{places, load_follows, after_load}
 
@@ -59,12 +57,6 @@ module _ (k : Key) (b : Books) (keeping : Keeping) (kept : BooksAgree k b keepin
     joins = subst (λ (ps : List Placed). Joins b.plan.code_words ps prepared.unplaced one)
         (sym (places k b keeping kept)) joins_there;
   }
-
-  -- without its last module it is what it was
-  pub taken_back : without_last roster ≡ b.roster
-  taken_back =
-      joined_back number (planned_name b.plan.modules number) (b.policy + 1) prepared.unplaced b.roster roster
-      prepared.joined
 
   module _ (image : Image) (of : IsImageOfRoster roster image) where
     labels : IsImage (DirectEdge (b.roster.placed ++ one ∷ [])) (b.roster.placed ++ one ∷ []) b.plan.code_words image

@@ -1,5 +1,6 @@
 -- What each call answers, by the line that it adds to the journal.
-use Rattle.std.specs.Prelude.{◌≡◌, ℕ, if◌then◌else◌, slice_get, Option, Some, None, option_map, ⊤}
+use Rattle.std.specs.Prelude.{◌≡◌, ℕ, if◌then◌else◌, List, [], ◌∷◌, slice_get, Option, Some, None, option_map, Result, Ok, Err, ⊤}
+use Rattle.std.specs.List.{cons_option}
 use Rattle.cfi_aux.specs.declared.modules.Module.{Module}
 use Rattle.cfi_plan.specs.declared.journal.JournalLine.{JournalLine}
 use Rattle.cfi_plan.specs.declared.journal.JournalLine.TheVariants as lines
@@ -44,6 +45,11 @@ fault_line number (Verify fault) = option_map (numbered_line number) (verify_num
 fault_line number EpochsSpent = Some (lines.LoadEpochs number)
 fault_line number (VersionsSpent guest quiet) = Some (lines.LoadVersions number guest quiet)
 fault_line number Memory = None
+
+-- the lines that a load tells: one, and none where memory was missing
+abbrev pub told_lines : (number : ℕ) → Result Loaded LoadFault → List JournalLine
+told_lines number (Ok answer) = loaded_line number answer ∷ []
+told_lines number (Err fault) = cons_option (fault_line number fault) []
 
 -- the module of the number does not join those that are loaded, for this fault
 pub record DoesNotJoin (c : Course) (number : ℕ) (fault : JoinFault) : Type 0 where

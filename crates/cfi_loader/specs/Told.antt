@@ -2,7 +2,7 @@
 use Rattle.std.specs.Prelude.{◌≡◌, ℕ, ◌<◌, true, ◌++◌, [], ◌∷◌, length, slice_get, Some}
 use Rattle.cfi_plan.specs.declared.journal.Entry.{Entry}
 use Rattle.cfi_plan.specs.declared.journal.JournalLine.{JournalLine}
-use Rattle.cfi_plan.specs.declared.journal.JournalLine.TheVariants.{LoadOk, LoadVersions, RefreshOk, RefreshVersions}
+use Rattle.cfi_plan.specs.declared.journal.JournalLine.TheVariants as lines
 use Rattle.cfi_plan.specs.declared.journal.Who.{Who}
 use Rattle.cfi_plan.specs.declared.journal.Who.TheVariants.{Script, Guest}
 use Rattle.cfi_tables.specs.Faults.{IsRefused}
@@ -39,11 +39,16 @@ HasRefreshed mark old new =
     new ≡ grown_by (entry_by (last_of old.entries).policy (last_of old.entries).image mark) new.quiets old
 
 abbrev pub KeepsAfter : Key → (mark : ℕ) → JournalLine → (old new : Keeping) → Type 0
-KeepsAfter k mark (LoadOk number epoch policy) old new = HasGrown policy mark old new
-KeepsAfter k mark (RefreshOk epoch) old new = HasRefreshed mark old new
-KeepsAfter k mark (LoadVersions number guest quiet) old new = IsRefused k mark guest quiet old new
-KeepsAfter k mark (RefreshVersions guest quiet) old new = IsRefused k mark guest quiet old new
-KeepsAfter k mark line old new = new ≡ old
+KeepsAfter k mark (lines.LoadOk number epoch policy) old new = HasGrown policy mark old new
+KeepsAfter k mark (lines.RefreshOk epoch) old new = HasRefreshed mark old new
+KeepsAfter k mark (lines.LoadVersions number guest quiet) old new = IsRefused k mark guest quiet old new
+KeepsAfter k mark (lines.RefreshVersions guest quiet) old new = IsRefused k mark guest quiet old new
+KeepsAfter k mark (lines.LoadAgain number policy) old new = new ≡ old
+KeepsAfter k mark (lines.LoadFull number) old new = new ≡ old
+KeepsAfter k mark (lines.LoadPlace number fault) old new = new ≡ old
+KeepsAfter k mark (lines.LoadVerify number fault place) old new = new ≡ old
+KeepsAfter k mark (lines.LoadEpochs number) old new = new ≡ old
+KeepsAfter k mark lines.RefreshEpochs old new = new ≡ old
 
 -- a line more
 pub record HasTold (k : Key) (entry : Entry) (old new : Ledger) : Type 0 where

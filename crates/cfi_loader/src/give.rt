@@ -12,9 +12,7 @@ ghost use Rattle.cfi_ledger.specs.Opens.{IsAddressOf};
 
 use crate::loaded::Loaded;
 use crate::loader::{Loader, LoaderName};
-use cfi_ledger::{fills_from, given_by};
-use cfi_unit::Answer;
-use cfi_word::services::NO_FUNCTION;
+use cfi_ledger::{given_by, open_answer};
 use rv_guest::Guest;
 
 impl<N: LoaderName> Loader<N> {
@@ -31,22 +29,8 @@ impl<N: LoaderName> Loader<N> {
         ensures { guest.new ≡ serve_of guest.old
             (reply_with self.now guest.old.base.log loaded.now.address) }
     {
-        let policy = self.books.policy;
-        let Some(address) = loaded.address else {
-            guest.answer(&Answer {
-                address: 0,
-                cause: NO_FUNCTION,
-                policy,
-                fills: &[],
-            });
-            return;
-        };
         let given = self.books.starts + given_by(guest.log()) as usize;
-        guest.answer(&Answer {
-            address,
-            cause: 0,
-            policy,
-            fills: fills_from(self.books.roster.fills(), given),
-        });
+        let fills = self.books.roster.fills();
+        guest.answer(&open_answer(loaded.address, self.books.policy, fills, given));
     }
 }

@@ -3,20 +3,24 @@
 ghost use Rattle.std.specs.Prelude.{◌≡◌, ◌+◌, ◌-◌, ◌<◌, true, false, IfOk, IfErr, OnOk, length, slice_index_or};
 ghost use Rattle.cfi_aux.specs.declared.placed.Placed.{Placed};
 ghost use Rattle.cfi_plan.specs.declared.journal.JournalLine.TheVariants.{LoadOk};
+ghost use Rattle.cfi_plan.specs.declared.journal.Who.TheVariants.{Guest, Script};
+ghost use Rattle.cfi_slips.specs.Stubs.{with_lines};
 ghost use Rattle.cfi_tables.specs.Faults.{AllAdmit};
 ghost use Rattle.cfi_tables.specs.Keeping.{Keeping};
 ghost use Rattle.cfi_tables.specs.Key.{Key};
 ghost use Rattle.cfi_valid.specs.Script.{Load};
 ghost use Rattle.cfi_ledger.specs.Journal.{asked_by};
-ghost use Rattle.cfi_loader.specs.Results.{HasLoaded, IsLoadFault};
+ghost use Rattle.cfi_loader.specs.Results.{HasLoaded, IsLoadFault, told_lines};
 ghost use Rattle.cfi_loader.specs.Told.{MayAskFor};
 ghost use Rattle.cfi_loader.specs.inner.Books.{BooksAgree, ledger_of};
 ghost use Rattle.cfi_ledger.specs.Journal.{HasLine, HasRoomFor};
 ghost use Rattle.cfi_valid.specs.declared.limits.TheConstants.{MAX_LOADED};
+ghost use Rattle.cfi_ledger.specs.Findings.{AreFindings};
 ghost use Rattle.cfi_ledger.specs.Loads.{IsAbsent, IsListed, IsSpent, IsUnprepared};
 ghost use Rattle.cfi_ledger.specs.Opens.{IsFirstGlobal};
+ghost use Rattle.cfi_ledger.specs.Plans.{CanStart};
+ghost use Rattle.cfi_word.specs.declared.limits.TheConstants.{MAX_EPOCH};
 ghost use Rattle.cfi_loader.specs.inner.Loads.{IsSamePlan, LoadsTo, Refuses, load_fault_of, load_fault_by, update_line};
-ghost use Rattle.cfi_ledger.specs.Roster.{without_last};
 
 use crate::fault::LoadFault;
 use crate::loaded::Loaded;
@@ -26,7 +30,9 @@ use crate::telling::{load_fault_by, load_fault_of, update_line};
 use cfi_ledger::{Books, Candidate, Known, join_line};
 use cfi_plan::{JournalLine, Who};
 use cfi_series::JoinFault;
+use cfi_slips::Slip;
 use cfi_tables::{Keeper, TableName, Tables, UpdateFault};
+use cfi_word::limits::MAX_EPOCH;
 
 // The answer where the module stands at this place in load order.
 fn again(books: &mut Books, who: Who, number: u32, at: usize) -> Loaded
@@ -82,7 +88,7 @@ fn turn_down(
     ensures line { HasLine (asked_by who (update_line number fault)) books.old.journal books.new.journal }
     ensures same { books.new ≡ record books.old {
       journal = books.new.journal;
-      roster = without_last candidate.roster;
+      roster = candidate.before;
     } }
     ensures fault { result ≡ load_fault_by fault }
 {
@@ -134,6 +140,39 @@ fn refuse_spent(books: &mut Books, who: Who, number: u32) -> LoadFault
     LoadFault::EpochsSpent
 }
 
+// Tells why the module does not join, and keeps it.
+fn refuse_unjoined(books: &mut Books, who: Who, number: u32, fault: JoinFault) -> LoadFault
+    requires room { HasRoomFor who books.old.journal }
+    requires found { AreFindings books.old.modules books.old.roster books.old.found.items }
+    requires unprepared { IsUnprepared books.old number fault }
+    ensures after { (k : Key) (keeping : Keeping) → BooksAgree k books.old keeping →
+        MayAskFor (ledger_of books.old keeping) who (Load number) → IsAbsent books.old number →
+        Refuses k who number result books.old books.new keeping keeping }
+    ensures same { IsSamePlan books.old books.new }
+{
+    books.keep(number, &fault);
+    refuse(books, who, number, fault)
+}
+
+// Refuses a module where no epoch is left: whether it joins is found without an image, and kept.
+fn refuse_last(books: &mut Books, who: Who, number: u32) -> LoadFault
+    requires can { CanStart books.old.plan books.old.modules }
+    requires known { number < length books.old.plan.modules }
+    requires room { HasRoomFor who books.old.journal }
+    requires found { AreFindings books.old.modules books.old.roster books.old.found.items }
+    requires last { books.old.epoch ≡ MAX_EPOCH }
+    ensures after { (k : Key) (keeping : Keeping) → BooksAgree k books.old keeping →
+        MayAskFor (ledger_of books.old keeping) who (Load number) → IsAbsent books.old number →
+        Refuses k who number result books.old books.new keeping keeping }
+    ensures same { IsSamePlan books.old books.new }
+{
+    if let Err(fault) = books.joins(number) {
+        return refuse_unjoined(books, who, number, fault);
+    }
+    books.keep_joining(number);
+    refuse_spent(books, who, number)
+}
+
 // Tries to load a module that is not loaded, where there is room for its line, and keeps why it is refused.
 fn attempt<N: TableName>(
     keeper: &mut Keeper<N>,
@@ -156,10 +195,7 @@ fn attempt<N: TableName>(
 {
     let candidate = match books.prepare(number) {
         Ok(candidate) => candidate,
-        Err(fault) => {
-            books.keep(number, &fault);
-            return Err(refuse(books, who, number, fault));
-        }
+        Err(fault) => return Err(refuse_unjoined(books, who, number, fault)),
     };
     let mark = load_mark(who, number);
     match keeper.update(tables, candidate.image(), books.policy + 1, mark) {
@@ -193,6 +229,7 @@ fn add<N: TableName>(
     ensures same { IsSamePlan books.old books.new }
 {
     match books.known(number) {
+        Known::Nothing if books.epoch == MAX_EPOCH => Err(refuse_last(books, who, number)),
         Known::Nothing => attempt(keeper, books, tables, number, who),
         Known::Unjoined(fault) => Err(refuse(books, who, number, fault)),
         Known::Spent => Err(refuse_spent(books, who, number)),
@@ -238,15 +275,43 @@ impl<N: LoaderName> Loader<N> {
     ///
     /// Each answer but `Memory` adds one line to the journal. A refusal leaves the tables, the code and the modules as
     /// they were; all memory is taken before the first word is stored, and want of it marks the loader starved. The
-    /// faults come in the order of `LoadFault`. Where the script asks, its next call is this one.
-    pub fn load(&mut self, tables: &Tables<N>, number: u32, who: Who) -> Result<Loaded, LoadFault>
+    /// faults come in the order of `LoadFault`. The script asks, whose next call is this one.
+    pub fn load(&mut self, tables: &Tables<N>, number: u32) -> Result<Loaded, LoadFault>
         requires known { number < length N.plan.modules }
-        requires asks { MayAskFor self.old who (Load number) }
-        ensures ok { IfOk result (λ loaded. HasLoaded N.key who number loaded self.old self.new) }
+        requires due { MayAskFor self.old Script (Load number) }
+        ensures ok { IfOk result (λ loaded. HasLoaded N.key Script number loaded self.old self.new) }
         ensures admitted { IfOk result (λ loaded. loaded.again ≡ false
             → AllAdmit N.key self.old.keeping self.new.keeping.quiets) }
-        ensures fault { IfErr result (λ fault. IsLoadFault N.key who number fault self.old self.new) }
+        ensures fault { IfErr result (λ fault.
+            IsLoadFault N.key Script number fault self.old self.new) }
     {
+        let who = Who::Script;
         load(&mut self.keeper, &mut self.books, tables, number, who)
+    }
+
+    /// Loads the module in the name of the slip's guest, as `load` does, and tells its line on the slip. Want of memory
+    /// tells no line.
+    pub fn load_for(
+        &mut self,
+        tables: &Tables<N>,
+        number: u32,
+        slip: &mut Slip<N>,
+    ) -> Result<Loaded, LoadFault>
+        requires known { number < length N.plan.modules }
+        requires asks { MayAskFor self.old (Guest slip.old.guest) (Load number) }
+        ensures ok { IfOk result (λ loaded.
+            HasLoaded N.key (Guest slip.old.guest) number loaded self.old self.new) }
+        ensures admitted { IfOk result (λ loaded. loaded.again ≡ false
+            → AllAdmit N.key self.old.keeping self.new.keeping.quiets) }
+        ensures fault { IfErr result (λ fault.
+            IsLoadFault N.key (Guest slip.old.guest) number fault self.old self.new) }
+        ensures told { slip.new ≡ with_lines (told_lines number result) slip.old }
+    {
+        let before = self.books.journal.lines().len();
+        let who = Who::Guest(slip.guest());
+        let answer = load(&mut self.keeper, &mut self.books, tables, number, who);
+        let told = &self.books.journal.lines()[before..];
+        self.stubs.tell(slip, told);
+        answer
     }
 }

@@ -98,7 +98,7 @@ impl<N: LoaderName> Loader<N> {
         ensures plan { result.0 ≡ N.plan }
         ensures modules { result.1 ≡ N.modules }
     {
-        let Loader { keeper: _, books } = self;
+        let Loader { books, .. } = self;
         let Books { plan, modules, .. } = books;
         (plan, modules)
     }

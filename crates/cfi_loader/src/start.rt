@@ -8,6 +8,7 @@ ghost use Rattle.cfi_loader.specs.Starting.{IsStarted};
 use cfi_aux::Module;
 use cfi_ledger::{Books, StartFault};
 use cfi_plan::Plan;
+use cfi_slips::Pad;
 use cfi_tables::Blank;
 use cfi_values::Items;
 use std::alloc::Global;
@@ -17,6 +18,7 @@ use std::marker::Model;
 #[derive(Drop)]
 pub struct Start {
     pub(crate) blank: Blank,
+    pub(crate) pad: Pad,
     pub(crate) books: Books,
 }
 
@@ -44,6 +46,7 @@ impl Start {
     {
         let books = Books::open(alloc, plan, modules)?;
         let blank = Blank::new(alloc, books.layout, plan.versions, plan.first, &books.image)?;
-        Ok(Start { blank, books })
+        let pad = Pad::new(alloc)?;
+        Ok(Start { blank, pad, books })
     }
 }

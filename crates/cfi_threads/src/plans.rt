@@ -189,6 +189,7 @@ fn driven<N: LoaderName + Send + Sync, R: Threads + Wait + Sync>(
 ) -> bool
     requires table { start.named.table ≡ N.table }
     requires key { start.named.key ≡ N.key }
+    requires slips { start.slips ≡ N.slips }
     requires started { IsStarted N.plan N.modules start }
     requires code { HasCode N.plan N.modules }
 {

@@ -6,14 +6,19 @@ use Rattle.cfi_part.specs.Part.{HasFields}
 use Rattle.cfi_plan.specs.declared.plan.Plan.{Plan}
 use Rattle.cfi_report.specs.declared.report.GuestPart.{GuestPart}
 use Rattle.cfi_report.specs.declared.report.Report.{Report}
+use Rattle.cfi_slips.specs.Lines.{lines_of}
 use Rattle.cfi_tables.specs.Key.{Key}
+use Rattle.cfi_drive.specs.Answered.{AreAnswered}
 use Rattle.cfi_drive.specs.Ending.{IsPartAt, part_by}
 use Rattle.cfi_drive.specs.Runner.{Ran}
 use Rattle.cfi_drive.specs.inner.Lines.{HasEntryFields, HasModuleFields}
 
--- the part at each place is that of the guest of this number, in numbers of 32 bits
+-- the part at each place is that of the guest of this number, in numbers of 32 bits, and logs the opens of the lines in
+-- the guest's name
 pub record ArePartsAt (k : Key) (l : Ledger) (parts : List GuestPart) : Type 0 where
   pub each : (number : ℕ) (part : GuestPart) → slice_get parts number ≡ Some part → IsPartAt k l number part
+  pub opens : (number : ℕ) (part : GuestPart) → slice_get parts number ≡ Some part
+      → AreAnswered part.log (lines_of number l.course.journal)
   pub fields : AllByRecursion HasFields parts
 
 -- passes were taken back, and nothing else has changed that a part tells of

@@ -2,21 +2,13 @@
 use Rattle.std.specs.Prelude.{◌^◌, ◌<◌}
 use Rattle.std.specs.List.{AllByRecursion}
 use Rattle.cfi_plan.specs.declared.journal.Entry.{Entry}
-use Rattle.cfi_plan.specs.declared.journal.JournalLine.{JournalLine}
 use Rattle.cfi_plan.specs.declared.journal.ModuleLine.{ModuleLine}
-use Rattle.cfi_plan.specs.declared.journal.Who.{Who}
 use Rattle.cfi_report.specs.Line.{what_fields, who_field}
 use Rattle.cfi_report.specs.Report.{IsField}
 
-abbrev pub HasWho : Who → Type 0
-HasWho who = IsField (who_field who)
-
-abbrev pub HasWhat : JournalLine → Type 0
-HasWhat what = AllByRecursion IsField (what_fields what)
-
 pub record HasEntryFields (entry : Entry) : Type 0 where
-  pub who : HasWho entry.who
-  pub what : HasWhat entry.what
+  pub who : IsField (who_field entry.who)
+  pub what : AllByRecursion IsField (what_fields entry.what)
 
 pub record HasModuleFields (line : ModuleLine) : Type 0 where
   pub number : line.number < 2 ^ 32

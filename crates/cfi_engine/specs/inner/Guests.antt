@@ -1,8 +1,14 @@
--- A guest that was opened.
-use Rattle.std.specs.Prelude.{◌≡◌, ℕ, None}
+-- The guests of a run that is over.
+use Rattle.std.specs.Prelude.{◌≡◌, ◌≢◌, ◌⊎◌, ℕ, ◌<◌, List, length, slice_index_or, None, Some}
 use Rattle.cfi_drive.specs.Runner.{Ran}
+use Rattle.cfi_model.specs.declared.act.Wait.TheVariants as waits
+use Rattle.cfi_word.specs.declared.services.TheConstants.{OPEN}
 
--- a runner of the guest of this number that waits for nothing
-pub record IsWaiting (number : ℕ) (ran : Ran) : Type 0 where
+-- the guest of this number has stopped, or waits in an open that found no memory
+pub record IsOver (number : ℕ) (ran : Ran) : Type 0 where
   pub number_is : ran.pass.guest ≡ number
-  pub idle : ran.guest.waits ≡ None
+  pub ends : (ran.guest.base.stop ≢ None) ⊎ (ran.guest.waits ≡ Some (waits.Service OPEN))
+
+-- those of all runners, in order
+abbrev pub AreOver : List Ran → Type 0
+AreOver rans = (number : ℕ) (d : Ran) → number < length rans → IsOver number (slice_index_or rans number d)

@@ -1,9 +1,11 @@
 -- What a loader has beside the keeper of the tables, and how both agree.
-use Rattle.std.specs.Prelude.{◌≡◌, List}
+use Rattle.std.specs.Prelude.{◌≡◌, ℕ, List}
 use Rattle.cfi_aux.specs.declared.modules.Module.{Module}
 use Rattle.cfi_plan.specs.Draft.{starts}
 use Rattle.cfi_plan.specs.declared.journal.Entry.{Entry}
 use Rattle.cfi_plan.specs.declared.plan.Plan.{Plan}
+use Rattle.cfi_slips.specs.Lines.{lines_of}
+use Rattle.cfi_slips.specs.Stubs.{Sheet}
 use Rattle.cfi_tables.specs.Keeping.{Keeping, last_of}
 use Rattle.cfi_tables.specs.Key.{Key}
 use Rattle.cfi_ledger.specs.declared.books.Books.{Books}
@@ -35,8 +37,16 @@ pub record IsAfter (k : Key) (entry : Entry) (old new : Books) (before after : K
   pub kept : BooksAgree k new after
   pub told : HasTold k entry (ledger_of old before) (ledger_of new after)
 
--- and it is the plan's and the modules' of a name
-pub record IsLoader (k : Key) (plan : Plan) (modules : List Module) (b : Books) (keeping : Keeping) : Type 0 where
+-- what the stubs of the guests' slips say: the lines of the journal in each guest's name, and that a slip is out where
+-- its guest's pass is
+pub record StubsAgree (l : Ledger) (sheet : Sheet) : Type 0 where
+  pub told : (guest : ℕ) → lines_of guest sheet.told ≡ lines_of guest l.course.journal
+  pub out : sheet.out ≡ l.keeping.out
+
+-- all that a loader has agrees, and is the plan's and the modules' of a name
+pub record IsLoader (k : Key) (plan : Plan) (modules : List Module) (b : Books) (keeping : Keeping) (sheet : Sheet)
+    : Type 0 where
   pub kept : BooksAgree k b keeping
   pub plan_is : b.plan ≡ plan
   pub modules_are : b.modules ≡ modules
+  pub slips : StubsAgree (ledger_of b keeping) sheet

@@ -1,11 +1,13 @@
 -- What is there before the tables have a name.
+use Rattle.std.specs.Prelude.{◌≡◌, []}
 use Rattle.cfi_tables.specs.Keeping.{opened_keeping}
 use Rattle.cfi_loader.specs.declared.start.Start.TheInside.{Inside}
 use Rattle.cfi_loader.specs.Starting.{Started}
 use Rattle.cfi_loader.specs.inner.Books.{ledger_of, BooksAgree}
 
 abbrev pub started_of : Inside → Started
-started_of a = record { named = a.blank; ledger = ledger_of a.books (opened_keeping a.blank.key) }
+started_of a = record { named = a.blank; slips = a.pad; ledger = ledger_of a.books (opened_keeping a.blank.key) }
 
-abbrev pub IsReadyStart : Inside → Type 0
-IsReadyStart a = BooksAgree a.blank.key a.books (opened_keeping a.blank.key)
+pub record IsReadyStart (a : Inside) : Type 0 where
+  pub kept : BooksAgree a.blank.key a.books (opened_keeping a.blank.key)
+  pub untold : a.books.journal.lines ≡ []

@@ -32,7 +32,7 @@ loop-runner-preserved g c =
     let told = c.in_ok-take_back.ensures in
     taken_more g.N.TableName.key g.N.LoaderName.plan c.args.loader.now c.loop-runner.loader c.take_back.new.loader
     c.args.runners.items c.requires c.loop-runner.yielded c.in-Some.runner turn.0 turn.1 c.loop-runner.parts.items
-    c.push.new.self.items c.in_ok-take_back.field-0 is.say is.each is.same told.says told.part told.fields
+    c.push.new.self.items c.in_ok-take_back.field-0 is.say is.each is.same told.says told.part told.opens told.fields
     c.in_ok-push.ensures.items told.out
 
 -- all are taken back

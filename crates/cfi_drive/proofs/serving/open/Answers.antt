@@ -3,7 +3,9 @@ use Rattle.cfi_model.specs.Raw.{Raw}
 use Rattle.cfi_plan.specs.declared.plan.Plan.{Plan}
 use Rattle.cfi_word.specs.declared.services.TheConstants.{OPEN}
 use Rattle.cfi_drive.specs.Runner.{IsServed}
+use Rattle.cfi_drive.proofs.AnsweredLemmas.{slip_unlogged, slip_unplanned}
 use Rattle.cfi_drive.proofs.KeepsLemmas.{keeps_same}
+use Rattle.cfi_drive.proofs.OpenLemmas.{asked_waits}
 use Rattle.cfi_drive.proofs.OtherLemmas.{served_unlogged, served_unplanned}
 use Rattle.cfi_drive.proofs.serving.open.Goals as goal
 
@@ -37,3 +39,19 @@ returns-then-opens-ge-MAX_OPENS-clause-keeps g c = keeps_same c.args.pass.now
 
 pub returns-then-argument-len-clause-keeps : goal.returns-then-argument-len-clause-keeps
 returns-then-argument-len-clause-keeps g c = keeps_same c.args.pass.now
+
+-- neither tells a line
+pub returns-then-opens-ge-MAX_OPENS-clause-slip :
+    goal.returns-then-opens-ge-MAX_OPENS-clause-slip
+returns-then-opens-ge-MAX_OPENS-clause-slip g c =
+    slip_unlogged c.args.pass.now c.args.pass.now c.args.guest.now c.refuse.new.guest c.args.slip.now refl
+    c.requires.slip OPEN c.last_policy-policy.result
+    (asked_waits g.N.TableName.key g.N.LoaderName.plan.fuel c.args.pass.now c.args.guest.now OPEN c.requires.asked)
+    c.refuse.ensures
+
+pub returns-then-argument-len-clause-slip : goal.returns-then-argument-len-clause-slip
+returns-then-argument-len-clause-slip g c =
+    slip_unplanned c.args.pass.now c.args.pass.now c.args.guest.now c.refuse-then-argument-len.new.guest
+    c.args.slip.now refl c.requires.slip
+    (asked_waits g.N.TableName.key g.N.LoaderName.plan.fuel c.args.pass.now c.args.guest.now OPEN c.requires.asked)
+    c.last_policy-policy.result c.refuse-then-argument-len.ensures

@@ -1,8 +1,7 @@
-use Rattle.std.proofs.Common.{rules, ◌≡◌, ◌<◌, ◌+◌, ◌∙◌, ◌∷◌, [], All, None, length, ap, sym, subst, arith, length-append}
-use Rattle.std.proofs.lemmas.List.Elements.{All-push}
-use Rattle.cfi_drive.specs.Runner.{Ran}
+use Rattle.std.proofs.Common.{rules, ◌≡◌, ◌<◌, ◌+◌, ◌∙◌, ◌∷◌, [], length, ap, sym, subst, arith, length-append}
 use Rattle.cfi_loader.specs.Ledger.{Ledger}
-use Rattle.cfi_engine.specs.Guests.{AreFirstOpened}
+use Rattle.cfi_engine.specs.Guests.{AreFirstOpened, AreWaiting, IsWaiting}
+use Rattle.cfi_engine.proofs.WaitingLemmas.{waiting_push}
 use Rattle.cfi_engine.proofs.guests.open_guests.Goals as goal
 
 pub loop-number-preserved : goal.loop-number-preserved
@@ -17,9 +16,9 @@ loop-number-preserved g c =
             keeping = record l.keeping { out = new.keeping.out; quiets = new.keeping.quiets };
           }) c.loop-number.invariant.admitted;
       count = omega (arith, ap length items, length-append c.loop-number.runners.items (ran ∷ []));
-      idle = subst (All (λ (r : Ran). r.guest.waits ≡ None)) (sym items)
-          (All-push (λ (r : Ran). r.guest.waits ≡ None) c.loop-number.runners.items ran c.loop-number.invariant.idle
-          c.in_ok-open_guest.ensures.ok.idle);
+      waiting = subst AreWaiting (sym items)
+          (waiting_push c.loop-number.runners.items ran c.loop-number.invariant.waiting
+          (subst (λ number. IsWaiting number ran) (sym c.loop-number.invariant.count) c.in_ok-open_guest.ensures.ok));
     }
 
 pub returns-in_err-push-clause-part : goal.returns-in_err-push-clause-part
@@ -31,3 +30,6 @@ returns-in_err-push-clause-part g c =
       opened = c.in_ok-open_guest.ensures.opened;
     } in
     search rules
+
+pub returns-clause-idle : goal.returns-clause-idle
+returns-clause-idle g c = λ k d less. (c.loop-number.invariant.waiting k d less).idle

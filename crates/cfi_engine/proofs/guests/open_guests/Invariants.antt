@@ -1,6 +1,5 @@
-use Rattle.std.proofs.Common.{◌≡◌, All, None, length}
-use Rattle.cfi_drive.specs.Runner.{Ran}
-use Rattle.cfi_engine.specs.Guests.{HasAdmitted, IsOpenedTo}
+use Rattle.std.proofs.Common.{◌≡◌, length}
+use Rattle.cfi_engine.specs.Guests.{AreWaiting, HasAdmitted, IsOpenedTo}
 use Rattle.cfi_engine.proofs.guests.open_guests.Given as goal
 
 -- the guests below the number are opened, and have a runner each
@@ -9,5 +8,5 @@ invariant-loop-number g l = record {
   opened : IsOpenedTo g.N.LoaderName.plan g.N.LoaderName.modules l.number l.loader;
   admitted : HasAdmitted l.initial.loader l.loader;
   count : length l.runners.items ≡ l.number;
-  idle : All (λ (ran : Ran). ran.guest.waits ≡ None) l.runners.items;
+  waiting : AreWaiting l.runners.items;
 }

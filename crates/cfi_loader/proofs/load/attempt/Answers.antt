@@ -13,7 +13,7 @@ use Rattle.cfi_ledger.specs.Findings.{AreFindings, DoesJoin}
 use Rattle.cfi_ledger.specs.Loads.{IsAbsent, IsUnprepared}
 use Rattle.cfi_loader.specs.inner.Loads.{Refuses}
 use Rattle.cfi_loader.proofs.JoiningLemmas.{made_answers, turned_down, unmade_refuses}
-use Rattle.cfi_loader.proofs.FindingLemmas.{found_kept, refuses_noted, refuses_then}
+use Rattle.cfi_loader.proofs.FindingLemmas.{refuses_then}
 use Rattle.cfi_loader.proofs.PrepareLemmas.{load_update}
 use Rattle.cfi_loader.proofs.UpdateLemmas.{epoch_left, not_spent, right_fault}
 use Rattle.cfi_loader.proofs.load.attempt.Goals as goal
@@ -23,13 +23,13 @@ prepare-requires-clause-few g c =
     omega (arith, c.requires.absent.room, c.requires.kept.ledger.policies.count)
 
 -- what was found is true of the books as they were
-pub keep-requires-clause-found : goal.keep-requires-clause-found
-keep-requires-clause-found g c =
+pub refuse_unjoined-requires-clause-found : goal.refuse_unjoined-requires-clause-found
+refuse_unjoined-requires-clause-found g c =
     subst (λ (nb : Books). AreFindings nb.modules nb.roster nb.found.items) (sym c.in-Err.ensures.same)
     c.requires.kept.found_are
 
-pub keep-requires-clause-unprepared : goal.keep-requires-clause-unprepared
-keep-requires-clause-unprepared g c =
+pub refuse_unjoined-requires-clause-unprepared : goal.refuse_unjoined-requires-clause-unprepared
+refuse_unjoined-requires-clause-unprepared g c =
     subst (λ (nb : Books). IsUnprepared nb c.args.number c.in-Err.fault) (sym c.in-Err.ensures.same)
     c.in-Err.ensures.fault
 
@@ -38,25 +38,13 @@ pub returns-in-Err-clause-fault : goal.returns-in-Err-clause-fault
 returns-in-Err-clause-fault g c =
     let k = g.N.TableName.key in
     let keeping = c.args.keeper.now in
-    let mid = c.prepare.new.self in
-    let noted = c.keep.new.self in
     let same = c.in-Err.ensures.same in
-    let kept : BooksAgree k mid keeping =
-    subst (λ (nb : Books). BooksAgree k nb keeping) (sym same) c.requires.kept in
-    let asks : MayAskFor (ledger_of mid keeping) c.args.who (Load c.args.number) =
-    subst (λ (nb : Books). MayAskFor (ledger_of nb keeping) c.args.who (Load c.args.number)) (sym same)
-    c.requires.asks in
-    let absent : IsAbsent mid c.args.number =
-    subst (λ (nb : Books). IsAbsent nb c.args.number) (sym same) c.requires.absent in
-    let refused = c.refuse.ensures.after k keeping
-    (found_kept k mid noted c.keep.ensures.same keeping kept c.keep.ensures.found)
-    (subst (λ (nb : Books). MayAskFor (ledger_of nb keeping) c.args.who (Load c.args.number))
-    (sym c.keep.ensures.same) asks)
-    (subst (λ (nb : Books). IsAbsent nb c.args.number) (sym c.keep.ensures.same)
-    (record { absent = absent.absent; room = absent.room })) in
-    subst (λ (nb : Books). Refuses k c.args.who c.args.number c.refuse.result nb c.refuse.new.books keeping keeping) same
-    (refuses_noted k mid noted c.keep.ensures.same c.args.who c.args.number c.refuse.result keeping keeping
-    c.refuse.new.books refused)
+    let refused = c.refuse_unjoined in
+    subst (λ (nb : Books). Refuses k c.args.who c.args.number refused.result nb refused.new.books keeping keeping) same
+    (refused.ensures.after k keeping (subst (λ (nb : Books). BooksAgree k nb keeping) (sym same) c.requires.kept)
+    (subst (λ (nb : Books). MayAskFor (ledger_of nb keeping) c.args.who (Load c.args.number)) (sym same)
+    c.requires.asks)
+    (subst (λ (nb : Books). IsAbsent nb c.args.number) (sym same) c.requires.absent))
 
 -- the next image keeps the code
 pub update-requires : goal.update-requires
@@ -107,7 +95,7 @@ keep_joining-requires-clause-found g c =
     let p = c.in-Ok.ensures in
     let back = turned_down k c.args.books.now c.args.keeper.now c.requires.kept c.args.who c.args.number c.requires.asks
     c.requires.absent c.prepare.new.self c.turn_down-fault.new.books p.lent c.in-Ok.candidate.roster p.ok
-    c.update.new.self c.turn_down-fault.ensures.same in
+    c.update.new.self c.in-Ok.candidate.before p.before c.turn_down-fault.ensures.same in
     subst (λ (nb : Books). AreFindings nb.modules nb.roster nb.found.items) (sym back) c.requires.kept.found_are
 
 pub keep_joining-requires-clause-joins : goal.keep_joining-requires-clause-joins
@@ -116,7 +104,7 @@ keep_joining-requires-clause-joins g c =
     let p = c.in-Ok.ensures in
     let back = turned_down k c.args.books.now c.args.keeper.now c.requires.kept c.args.who c.args.number c.requires.asks
     c.requires.absent c.prepare.new.self c.turn_down-fault.new.books p.lent c.in-Ok.candidate.roster p.ok
-    c.update.new.self c.turn_down-fault.ensures.same in
+    c.update.new.self c.in-Ok.candidate.before p.before c.turn_down-fault.ensures.same in
     subst (λ (nb : Books). DoesJoin nb.modules nb.roster c.args.number) (sym back) (record {
       unplaced = p.ok.unplaced;
       is = p.ok.is;
@@ -138,16 +126,7 @@ returns-in-Err-update-clause-fault g c =
     let refused = subst (λ (f : LoadFault). Refuses k c.args.who c.args.number f b down.new.books keeping c.update.new.self)
     (sym down.ensures.fault)
     (unmade_refuses k b keeping c.requires.kept c.args.who c.args.number c.requires.asks c.requires.absent
-    c.prepare.new.self down.new.books p.lent candidate.roster p.ok c.update.new.self fault
+    c.prepare.new.self down.new.books p.lent candidate.roster p.ok c.update.new.self candidate.before p.before fault
     (λ spent. right_fault fault (u.spent spent)) is down.ensures.line down.ensures.same) in
     refuses_then k down.new.books c.keep_joining.new.self c.keep_joining.ensures.same c.args.who c.args.number down.result
     keeping c.update.new.self b refused c.keep_joining.ensures.found
-
--- what was found stands of the books as they are noted
-pub refuse-requires-clause-unprepared : goal.refuse-requires-clause-unprepared
-refuse-requires-clause-unprepared g c =
-    let fault = c.in-Err.fault in
-    let its : IsUnprepared c.prepare.new.self c.args.number fault =
-    subst (λ (nb : Books). IsUnprepared nb c.args.number fault) (sym c.in-Err.ensures.same) c.in-Err.ensures.fault in
-    subst (λ (nb : Books). IsUnprepared nb c.args.number fault) (sym c.keep.ensures.same)
-    (record { unplaced = its.unplaced; is = its.is; why = its.why })

@@ -1,6 +1,11 @@
-use Rattle.cfi_drive.proofs.OpeningLemmas.{opening_runs}
+use Rattle.cfi_drive.proofs.OpeningLemmas.{opening_runs, opening_slip}
 use Rattle.cfi_drive.proofs.runner.Runner.new.Goals as goal
 
 pub invariant_of-result : goal.invariant_of-result
 invariant_of-result g c =
-    opening_runs g.N.TableName.key g.N.LoaderName.plan g.N.LoaderName.modules c.args.pass c.args.guest c.requires
+    record {
+      is = opening_runs g.N.TableName.key g.N.LoaderName.plan g.N.LoaderName.modules c.args.pass c.args.guest
+          c.requires.opening;
+      slip = opening_slip g.N.TableName.key g.N.LoaderName.plan g.N.LoaderName.modules c.args.pass c.args.guest
+          c.requires.opening c.args.slip c.requires.slip;
+    }

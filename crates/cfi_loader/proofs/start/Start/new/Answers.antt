@@ -21,11 +21,14 @@ invariant_of-result c =
     let opened = c.in_ok-books.ensures.ok in
     let layout : b.layout ≡ plan.code_words = ap (λ (x : Books). x.layout) opened.books.is in
     let key = c.in_ok-blank.ensures ∙ ap (λ (n : ℕ). key_by n plan.versions plan.first b.image) layout in
-    first_kept plan c.args.modules c.requires opened.roster opened.started b opened.books c.in_ok-blank.blank.key key
-    opened.enter
+    record {
+      kept = first_kept plan c.args.modules c.requires opened.roster opened.started b opened.books
+          c.in_ok-blank.blank.key key opened.enter;
+      untold = opened.books.lines_are;
+    }
 
 pub returns-clause-ok : goal.returns-clause-ok
 returns-clause-ok c =
     let opened = c.in_ok-books.ensures.ok in
     first_started c.args.plan.now c.args.modules c.requires opened.roster opened.started c.in_ok-books.books
-    opened.books c.in_ok-blank.blank
+    opened.books c.in_ok-blank.blank c.in_ok-pad.pad
