@@ -3,8 +3,11 @@ use Rattle.std.proofs.Common.{ℕ, ◌≡◌, ◌+◌, ◌<◌, ◌≤◌, [], �
 use Rattle.cfi_aux.specs.declared.placed.Placed.{Placed}
 use Rattle.cfi_word.specs.Table.{slots_of}
 use Rattle.cfi_class.specs.Labels.{CanBeLabelled}
+use Rattle.cfi_graph.specs.Reading.{HaveGraph}
+use Rattle.cfi_type_table.specs.Spelling.{AreTypes}
 use Rattle.cfi_graph.specs.HandMade.{placed_of, void_and_function}
-use Rattle.cfi_graph.proofs.HandMadeLemmas.{all_none, all_more}
+use Rattle.cfi_graph.specs.Shaped.{IsBefore, IsShaped}
+use Rattle.cfi_graph.proofs.HandMadeLemmas.{all_none, all_more, pairs_none}
 use Rattle.cfi_graph.proofs.CallRows.{call_code, call_rows, call_kinds, call_modules}
 use Rattle.cfi_policy.specs.Code.{LieApart}
 
@@ -37,3 +40,12 @@ pub calls_slots : (node : ℕ) → All (λ m. m.slot_base + length m.branches �
 calls_slots node =
     all_more (λ m. m.slot_base + length m.branches ≤ slots_of 1024) (call_module_of node) [] (omega arith)
     (all_none (λ m. m.slot_base + length m.branches ≤ slots_of 1024))
+
+-- no modules have a graph
+pub none_has_graph : HaveGraph []
+none_has_graph = record {
+  apart = record { shaped = all_none IsShaped; order = pairs_none IsBefore };
+  types = all_none (λ m. AreTypes m.types);
+  few = omega arith;
+  nodes = omega arith;
+}

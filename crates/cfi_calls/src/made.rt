@@ -1,6 +1,6 @@
 //! Modules that are written by hand, by units.
 
-ghost use Rattle.std.specs.Prelude.{◌≡◌, ◌<◌, map, IfOk, IsTrue};
+ghost use Rattle.std.specs.Prelude.{◌≡◌, ◌<◌, [], ◌∷◌, map, IfOk, IsTrue};
 ghost use Rattle.std.specs.List.{flat_map, AllByRecursion};
 ghost use Rattle.cfi_unit.specs.Unit.{IsUnit, words_of};
 ghost use Rattle.cfi_aux.specs.Cells.{have_cells};
@@ -87,9 +87,9 @@ fn void_and_function(alloc: Global) -> Result<TypeTable, AllocError>
 }
 
 /// Calls of f and of g, and one through a pointer to a type; f and g, of the type of node 1, are taken and return.
-pub fn calls(alloc: Global, node: u32) -> Result<Vec<Placed>, AllocError>
+pub fn calls(alloc: Global, node: u32) -> Result<Placed, AllocError>
     requires { node < 2 }
-    ensures { IfOk result (λ modules. HaveImage modules.items 1024) }
+    ensures { IfOk result (λ m. HaveImage (m ∷ []) 1024) }
 {
     low_modules_have_image();
     let code = [
@@ -127,6 +127,5 @@ pub fn calls(alloc: Global, node: u32) -> Result<Vec<Placed>, AllocError>
     let rows = [(0, 17, 1, false), (17, 14, 1, true), (31, 14, 1, true)];
     let kinds = vec![in alloc; Kind::Call(node), Kind::Return, Kind::Return]?;
     let types = void_and_function(alloc)?;
-    let module = module_of(alloc, 16, 0, &code, &rows, kinds, types)?;
-    Ok(vec![in alloc; module]?)
+    module_of(alloc, 16, 0, &code, &rows, kinds, types)
 }

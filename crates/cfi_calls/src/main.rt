@@ -86,6 +86,12 @@ fn tell_policies(rt: &HostRuntime, alloc: Global) -> io::Result<()> {
     )?;
     tell(rt, "an image", policies::image(alloc)?)?;
     tell(rt, "policies", policies::policies(alloc)?)?;
+    tell(
+        rt,
+        "edges that a module brings",
+        policies::new_edges(alloc)?,
+    )?;
+    tell(rt, "a book of modules", policies::book(alloc)?)?;
     tell(rt, "turns of a world", worlds::turns(alloc)?)
 }
 

@@ -1,14 +1,15 @@
 //! Images of modules and the policies of their direct edges, of modules that are written by hand.
 
-ghost use Rattle.std.specs.Prelude.{◌≡◌, IfOk};
+ghost use Rattle.std.specs.Prelude.{◌≡◌, [], ◌∷◌, IfOk};
 ghost use Rattle.cfi_graph.specs.Reading.{HaveGraph};
 ghost use Rattle.cfi_policy.specs.Image.{HaveImage};
 
 use crate::made::calls;
 use cfi_aux::Placed;
-use cfi_graph::edges;
-use cfi_policy::{Group, allowed, groups, image_from, image_of};
+use cfi_graph::{edges, fresh};
+use cfi_policy::{Book, Group, allowed, groups, image_from, image_of, low_modules_have_image};
 use cfi_type_table::TypeTable;
+use cfi_types::TypeBook;
 use cfi_values::{Bytes, Items};
 use cfi_word::{Edge, Image, Layout};
 use std::alloc::{AllocError, Global};
@@ -101,23 +102,63 @@ fn is_policy(
     )
 }
 
-/// Edges, groups and policy, by hand from what the modules are; `made.rt` has them.
+// The edges of the module of calls, by hand from what it is; `made.rt` has it.
+//
+// f is at 0x84, g at 0xbc, the addresses after the calls are 0x44, 0x48 and 0x80.
+const CALL_EDGES: [(u32, u32); 6] = [
+    (0, 0x84),
+    (0, 0xbc),
+    (1, 0x44),
+    (1, 0x80),
+    (2, 0x48),
+    (2, 0x80),
+];
+
+/// Edges, groups and policy, by hand.
 pub fn policies(alloc: Global) -> Result<bool, AllocError> {
-    // f is at 0x84, g at 0xbc, the addresses after the calls are 0x44, 0x48 and 0x80.
-    let modules = calls(alloc, 1)?;
-    let pairs = [
-        (0, 0x84),
-        (0, 0xbc),
-        (1, 0x44),
-        (1, 0x80),
-        (2, 0x48),
-        (2, 0x80),
-    ];
+    let modules = [calls(alloc, 1)?];
     let rows: [(&[u32], &[u32]); 2] = [(&[0], &[0x84, 0xbc]), (&[1, 2], &[0x44, 0x48, 0x80])];
     // By a chain, and by none.
     Ok(
-        is_policy(alloc, &modules, &pairs, &rows)?
+        is_policy(alloc, &modules, &CALL_EDGES, &rows)?
             && allowed(alloc, &modules, 1, 0x48)?
             && !allowed(alloc, &modules, 1, 0x84)?,
+    )
+}
+
+// The edges that the module brings to none.
+fn brought(alloc: Global, placed: &Placed) -> Result<Vec<Edge>, AllocError>
+    requires { HaveGraph (placed.now ∷ []) }
+{
+    let mut types = TypeBook::new(alloc);
+    types.add(&placed.types)?;
+    fresh(alloc, &[], placed, &types.classes()?)
+}
+
+/// A module comes to none: all its edges are new.
+pub fn new_edges(alloc: Global) -> Result<bool, AllocError> {
+    let found = brought(alloc, &calls(alloc, 1)?)?;
+    Ok(are_edges(found.as_slice(), &CALL_EDGES))
+}
+
+// Whether these slots and these code words have the class numbers.
+fn has_classes(image: &Image, slots: &[u32], words: &[(usize, u32)]) -> bool {
+    image.bary.as_slice().starts_with(slots)
+        && words.iter().all(|(word, class)| image.tary.as_slice().get(*word) == Some(class))
+}
+
+/// A module comes to a book of none: its two classes are numbered from 1, and its words stand in their places.
+pub fn book(alloc: Global) -> Result<bool, AllocError> {
+    low_modules_have_image();
+    let layout = Layout::new(1024).unwrap();
+    let code = vec![in alloc; 0; 1024]?;
+    let empty = Book::of(alloc, &[], code.as_slice(), &layout)?;
+    let modules = [calls(alloc, 1)?];
+    let longer = empty.extended(alloc, &modules)?;
+    let words = [(33, 1), (47, 1), (17, 2), (18, 2), (32, 2), (16, 0)];
+    let image = longer.image();
+    Ok(
+        has_classes(image, &[1, 2, 2, 16383], &words)
+            && image.code.as_slice()[16..].starts_with(modules[0].words.as_slice()),
     )
 }
