@@ -68,7 +68,7 @@ module _ (m : Placed) (name : List ℕ) where
       ap (λ b. b && bytes_eq f.name name) is.global ∙ (bytes_eq-Decides f.name name).1 is.named in
       ap (λ b. if b then Some (entry_of m f) else None) both
 
-  given_named : (f : PlacedFunction) (n : ℕ) → entry_by m name f ≡ Some n
+  pub given_named : (f : PlacedFunction) (n : ℕ) → entry_by m name f ≡ Some n
       → IsGlobalNamed name f × (n ≡ entry_of m f)
   given_named f n is =
       let all = given_by f.global (bytes_eq f.name name) (entry_of m f) n is in

@@ -9,6 +9,7 @@ mod ReadLemmas
 mod NodeLemmas
 mod FirstLemmas
 mod ImportLemmas
+mod NameLemmas
 pub mod CallLemmas
 mod WiderLemmas
 mod WideningLemmas
@@ -30,5 +31,7 @@ mod NewEdgeLemmas
 mod TellOnLemmas
 mod MoreLemmas
 mod MetLemmas
+mod NamedLemmas
 mod GrowWiderLemmas
 mod KeptGraphLemmas
+mod KeptLinkLemmas

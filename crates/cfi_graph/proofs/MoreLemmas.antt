@@ -46,8 +46,8 @@ module _ (ms : List Placed) (m : Placed) (imports before own all : ByName) (clas
       owner = told.owner;
       is = at_first ms m told.number told.owner told.is;
       tells = module_on imports all classes more told.number
-          (same told.number (slice_get_within ms told.number told.owner told.is)) (all_lead_on imports all leads_on)
-          told.owner fact told.tells;
+          (same told.number (slice_get_within ms told.number told.owner told.is)) told.owner
+          (all_lead_on imports all leads_on told.owner) fact told.tells;
     }
 
     met_branch : (number : ℕ) (n : Placed) (at slot : ℕ) (kind : Kind) (fact : Fact)

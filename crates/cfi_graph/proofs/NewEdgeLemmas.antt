@@ -64,7 +64,8 @@ module _ (old new : ByName) (more : (name : List ℕ) (address : ℕ) → old na
     number = told.number;
     owner = told.owner;
     is = at_first ms m told.number told.owner told.is;
-    tells = module_on old new classes classes told.number (λ node. refl) (all_lead_on old new more) told.owner fact told.tells;
+    tells = module_on old new classes classes told.number (λ node. refl) told.owner (all_lead_on old new more told.owner) fact
+        told.tells;
   }
 
 -- what the modules tell, and what the last one does

@@ -8,6 +8,7 @@ use Rattle.cfi_aux.specs.declared.records.Kind.{Kind}
 use Rattle.cfi_aux.specs.declared.records.Kind.TheVariants as kinds
 use Rattle.cfi_graph.specs.declared.fact.Fact.{Fact}
 use Rattle.cfi_graph.specs.declared.fact.Fact.TheVariants as facts
+use Rattle.cfi_graph.specs.Calls.{HasKind}
 use Rattle.cfi_graph.specs.Facts.{ByName, type_node, IsBranchFact, IsUnitFact, IsFunctionFact, ModuleTells}
 
 -- where a name led it leads
@@ -19,12 +20,16 @@ abbrev pub KindLeadsOn : (old new : ByName) → Kind → Type 0
 KindLeadsOn old new (kinds.Import name cell) = LeadsOn old new name
 KindLeadsOn old new kind = Unit {0}
 
-pub all_lead_on : (old new : ByName) → ((name : List ℕ) → LeadsOn old new name) → (kind : Kind) → KindLeadsOn old new kind
-all_lead_on old new on (kinds.Import name cell) = on name
-all_lead_on old new on (kinds.Call node) = tt
-all_lead_on old new on (kinds.Tail node) = tt
-all_lead_on old new on kinds.Return = tt
-all_lead_on old new on (kinds.Switch entries) = tt
+-- the names that the branches of the module import do
+abbrev pub BranchesLeadOn : (old new : ByName) → Placed → Type 0
+BranchesLeadOn old new m = (slot : ℕ) (kind : Kind) → HasKind m slot kind → KindLeadsOn old new kind
+
+pub all_lead_on : (old new : ByName) → ((name : List ℕ) → LeadsOn old new name) → (m : Placed) → BranchesLeadOn old new m
+all_lead_on old new on m slot (kinds.Import name cell) has = on name
+all_lead_on old new on m slot (kinds.Call node) has = tt
+all_lead_on old new on m slot (kinds.Tail node) has = tt
+all_lead_on old new on m slot kinds.Return has = tt
+all_lead_on old new on m slot (kinds.Switch entries) has = tt
 
 -- what a check of an import tells has nothing to do with types
 pub import_on : (old new : ByName) (classes more : List (List ℕ)) (number other : ℕ) (m : Placed) (at slot : ℕ)
@@ -70,16 +75,16 @@ module _ (old new : ByName) (classes more : List (List ℕ)) (number : ℕ)
   branch_on m at slot (kinds.Import name cell) fact on told =
       import_on old new classes more number number m at slot name cell on fact told
 
-  unit_on : ((kind : Kind) → KindLeadsOn old new kind) → (m : Placed) (at : ℕ) (unit : CodeUnit) (fact : Fact)
+  unit_on : (m : Placed) → BranchesLeadOn old new m → (at : ℕ) (unit : CodeUnit) (fact : Fact)
       → IsUnitFact old classes number m at unit fact → IsUnitFact new more number m at unit fact
-  unit_on on m at (units.Jump linked off) fact told = told
-  unit_on on m at (units.Check linked rs1 imm slot) fact (kind, has, told) =
-      (kind, has, branch_on m at slot kind fact (on kind) told)
-  unit_on on m at (units.Plain insn) fact told = told
-  unit_on on m at (units.Load kind rd rs1 imm) fact told = told
-  unit_on on m at (units.Store kind rs1 rs2 imm) fact told = told
-  unit_on on m at (units.Branch cond rs1 rs2 off) fact told = told
-  unit_on on m at units.Service fact told = told
+  unit_on m on at (units.Jump linked off) fact told = told
+  unit_on m on at (units.Check linked rs1 imm slot) fact (kind, has, told) =
+      (kind, has, branch_on m at slot kind fact (on slot kind has) told)
+  unit_on m on at (units.Plain insn) fact told = told
+  unit_on m on at (units.Load kind rd rs1 imm) fact told = told
+  unit_on m on at (units.Store kind rs1 rs2 imm) fact told = told
+  unit_on m on at (units.Branch cond rs1 rs2 off) fact told = told
+  unit_on m on at units.Service fact told = told
 
   pub function_on : (m : Placed) (f : PlacedFunction) (fact : Fact) → IsFunctionFact classes number m f fact
       → IsFunctionFact more number m f fact
@@ -90,12 +95,12 @@ module _ (old new : ByName) (classes more : List (List ℕ)) (number : ℕ)
   function_on m f (facts.Pointer l) told = told
   function_on m f (facts.Listed l) told = told
 
-  pub module_on : ((kind : Kind) → KindLeadsOn old new kind) → (m : Placed) (fact : Fact)
+  pub module_on : (m : Placed) → BranchesLeadOn old new m → (fact : Fact)
       → ModuleTells old classes number m fact → ModuleTells new more number m fact
-  module_on on m fact told =
+  module_on m on fact told =
       elim told [
         | inl u ↦
-            inl (record { at = u.at; unit = u.unit; stands = u.stands; tells = unit_on on m u.at u.unit fact u.tells })
+            inl (record { at = u.at; unit = u.unit; stands = u.stands; tells = unit_on m on u.at u.unit fact u.tells })
         | inr f ↦
             inr (record { function = f.function; has = f.has; tells = function_on m f.function fact f.tells })
       ]

@@ -2,6 +2,8 @@
 pub mod Flows
 pub mod Told
 pub mod Imports
+pub mod Marks
+pub mod Names
 pub mod NewEdges
 pub mod More
 pub mod KeptGraph

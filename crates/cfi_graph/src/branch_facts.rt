@@ -124,7 +124,8 @@ pub(crate) fn add_import(
     requires within { placed.now.base + at < MAX_CODE_WORDS }
     ensures adds { OnOk result ((classes : List (List ℕ)) (number cell : ℕ) →
         Adds facts.old.items facts.new.items
-        (IsBranchFact (imports_in imports.now) classes number placed.now at slot (Import name.now cell))) }
+        (IsBranchFact (imports_in imports.now) classes number placed.now at slot
+        (Import name.now cell))) }
     ensures few { OnOk result
         (length facts.new.items ≤ length facts.old.items + 2) }
 {

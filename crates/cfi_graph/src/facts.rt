@@ -67,7 +67,8 @@ fn add_check(
     requires stands { Stands placed.now spot.now.at spot.now.unit }
     requires slot { slot_of spot.now.unit ≡ Some slot }
     ensures adds { OnOk result (Adds facts.old.items facts.new.items
-        (IsUnitFact (imports_in imports.now) classes.now number placed.now spot.now.at spot.now.unit)) }
+        (IsUnitFact (imports_in imports.now) classes.now number placed.now spot.now.at
+        spot.now.unit)) }
     ensures few { OnOk result
         (length facts.new.items ≤ length facts.old.items + 2 + listed_by placed.now (Some slot)) }
 {
@@ -89,7 +90,8 @@ fn add_unit(
     requires read { CanBeRead classes.now number placed.now }
     requires stands { Stands placed.now spot.now.at spot.now.unit }
     ensures adds { OnOk result (Adds facts.old.items facts.new.items
-        (IsUnitFact (imports_in imports.now) classes.now number placed.now spot.now.at spot.now.unit)) }
+        (IsUnitFact (imports_in imports.now) classes.now number placed.now spot.now.at
+        spot.now.unit)) }
     ensures few { OnOk result
         (length facts.new.items ≤ length facts.old.items + unit_told placed.now spot.now.unit) }
 {
@@ -114,7 +116,8 @@ fn add_units(
     ensures adds { OnOk result (Adds facts.old.items facts.new.items
         (UnitTells (imports_in imports.now) classes.now number placed.now)) }
     ensures few { OnOk result
-        (length facts.new.items ≤ length facts.old.items + length placed.now.words + sum_by entry_count placed.now.branches) }
+        (length facts.new.items ≤ length facts.old.items + length placed.now.words
+        + sum_by entry_count placed.now.branches) }
 {
     let spots = spots(alloc, placed.words.as_slice())?;
     for spot in &spots {
@@ -198,7 +201,8 @@ pub(crate) fn facts_of(
 ) -> Result<Vec<Fact>, AllocError>
     requires few { length modules.now < 2 ^ 32 }
     requires read { CanAllBeRead classes.now modules.now }
-    ensures facts { IfOk result (λ facts. AreFacts modules.now (imports_in imports.now) classes.now facts.items) }
+    ensures facts { IfOk result (λ facts.
+        AreFacts modules.now (imports_in imports.now) classes.now facts.items) }
     ensures few { IfOk result (λ facts. length facts.items ≤ sum_by told_most modules.now) }
 {
     let mut facts = Vec::new(alloc);

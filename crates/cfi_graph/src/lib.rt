@@ -4,11 +4,13 @@
 //! calls it.
 //! Proved: the direct edges of modules are exactly those of `specs/Direct.antt`, in order, each once; a few of them, in
 //! number bound by what the modules hold, have chains that join what any joins; those that one module more brings are
-//! told without the others; links that are kept are those of all modules when one is added, for which its code alone is
-//! read, and that of modules whose imports it meets; the units of a module's code are read with the words at which they
-//! stand; shaped modules, each of which follows the one before, are apart; the policy allows each direct edge; a name
-//! means one address to the modules that import it; a graph can be made of some module.
-//! Only tested, in `cfi_calls`: the edges of modules that are written by hand. Open: nothing.
+//! told without the others; links that are kept are those of all modules when one is added; the units of a module's code
+//! are read with the words at which they stand; shaped modules, each of which follows the one before, are apart; the
+//! policy allows each direct edge; a name means one address to the modules that import it; a graph can be made of some
+//! module.
+//! Only tested, in `cfi_calls`: the edges of modules that are written by hand. No clause says how much is looked at: where
+//! a module is added its code is read, and that of modules whose imports it meets; names of functions before it are looked
+//! at only where it imports some, or has some that they import. Open: nothing.
 #![tactic(auto)]
 
 mod branch_facts;
@@ -18,7 +20,9 @@ mod facts;
 mod imports;
 mod kept_graph;
 mod laws;
+mod marks;
 mod more;
+mod names;
 mod new_edges;
 mod place;
 mod shape;

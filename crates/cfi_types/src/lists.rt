@@ -48,7 +48,8 @@ impl<T: Drop> Lists<T> {
     pub(crate) fn add(&mut self, number: u32, item: T) -> Result<(), AllocError>
         requires { number < length self.old }
         ensures { OnOk result
-            (self.new ≡ slice_set self.old number (slice_index_or self.old number [] ++ item ∷ [])) }
+            (self.new
+            ≡ slice_set self.old number (slice_index_or self.old number [] ++ item ∷ [])) }
     {
         let row = &mut self.rows[number as usize];
         row.push(item)?;

@@ -1,6 +1,6 @@
 //! Which of several tables may have a type that one more table has.
 
-ghost use Rattle.std.specs.Prelude.{◌≡◌, ℕ, ◌+◌, ◌<◌, ◌≤◌, ◌^◌, length, map, IfOk, IsTrue, All};
+ghost use Rattle.std.specs.Prelude.{◌≡◌, ℕ, ◌+◌, ◌<◌, ◌≤◌, ◌^◌, length, map, slice_index, IfOk, IsTrue, All};
 ghost use Rattle.std.specs.List.{flat_map, AllByRecursion};
 ghost use Rattle.std.specs.BTreeSet.{contains};
 ghost use Rattle.std.specs.Ordering.{nat_cmp};
@@ -60,10 +60,23 @@ fn told(alloc: Global, table: &Lent) -> Result<BTreeSet<u32>, AllocError>
     Ok(told)
 }
 
+// Whether some number of a row is `next` or more.
+fn brings(row: &[u32], next: u32) -> bool
+    ensures { (a : ℕ) → a < length row.now → next ≤ slice_index row.now a → IsTrue result }
+{
+    for a in 0..row.len() {
+        if row[a] >= next {
+            return true;
+        }
+    }
+    false
+}
+
 // Whether a node of a table has a number from `next` on, and its digest is told.
 fn is_near(row: &[u32], digests: &[u32], next: u32, told: &BTreeSet<u32>) -> bool
     requires { length digests.now ≡ length row.now }
-    ensures { (a : ℕ) → IsNew (λ digest. IsTrue (contains nat_cmp told.now digest)) next row.now digests.now a
+    ensures { (a : ℕ)
+        → IsNew (λ digest. IsTrue (contains nat_cmp told.now digest)) next row.now digests.now a
         → IsTrue result }
 {
     for a in 0..row.len() {
@@ -72,6 +85,27 @@ fn is_near(row: &[u32], digests: &[u32], next: u32, told: &BTreeSet<u32>) -> boo
         }
     }
     false
+}
+
+// Whether a table that has this row has such a node. Its digests are made only where it brings a number.
+fn has_near(
+    alloc: Global,
+    table: &Lent,
+    row: &[u32],
+    next: u32,
+    told: &BTreeSet<u32>,
+) -> Result<bool, AllocError>
+    requires types { AreTypes table.now }
+    requires len { length row.now ≡ length table.now }
+    ensures { IfOk result (λ near. (a : ℕ) →
+        IsNew (λ digest. IsTrue (contains nat_cmp told.now digest)) next row.now (digests_to DEPTH table.now) a
+        → IsTrue near) }
+{
+    if !brings(row, next) {
+        return Ok(false);
+    }
+    let digests = digests(alloc, table)?;
+    Ok(is_near(row, digests.as_slice(), next, told))
 }
 
 // The next number after those of a row, where it was this before them.
@@ -118,8 +152,7 @@ pub(crate) fn near_tables<'a>(
     };
     for (number, other) in tables.iter().enumerate() {
         let row = kept.row(number);
-        let digests = digests(alloc, other)?;
-        if is_near(row, digests.as_slice(), near.next, &told) {
+        if has_near(alloc, other, row, near.next, &told)? {
             near.tables.push(other.again())?;
             near.numbers.push(number)?;
         }

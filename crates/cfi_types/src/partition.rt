@@ -277,7 +277,8 @@ impl Parts {
         ensures whole { OnOk result (IsWhole self.new) }
         ensures clear { OnOk result (AreClear MAX_FIELDS lists.new) }
         ensures kept { (nodes : List Node) → KeepTogether nodes self.old.parts.items →
-            All (TellEqual nodes) lists.old → OnOk result (KeepTogether nodes self.new.parts.items) }
+            All (TellEqual nodes) lists.old
+            → OnOk result (KeepTogether nodes self.new.parts.items) }
     {
         for place in 0..MAX_FIELDS {
             if !lists.row(place).is_empty() {

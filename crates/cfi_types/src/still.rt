@@ -31,7 +31,8 @@ fn are_alike(classes: &[u32], one: &Linked, other: &Linked) -> bool
     requires one { NamesBelow (length classes.now) one.now }
     requires other { NamesBelow (length classes.now) other.now }
     ensures same { result ≡ true → signature classes.now one.now ≡ signature classes.now other.now }
-    ensures differ { result ≡ false → signature classes.now one.now ≢ signature classes.now other.now }
+    ensures differ { result ≡ false
+        → signature classes.now one.now ≢ signature classes.now other.now }
 {
     let (numbers, named) = one.parts();
     let (other_numbers, others) = other.parts();

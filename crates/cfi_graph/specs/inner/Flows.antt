@@ -14,22 +14,27 @@ abbrev pub arrow_in : Fact → Option Link
 arrow_in (facts.Arrow link) = Some link
 arrow_in fact = None
 
+-- the link of a fact that tells a site
 abbrev pub site_in : Fact → Option Link
 site_in (facts.Site link) = Some link
 site_in fact = None
 
+-- of one that tells a return
 abbrev pub return_in : Fact → Option Link
 return_in (facts.Return link) = Some link
 return_in fact = None
 
+-- of one that tells a pointer
 abbrev pub pointer_in : Fact → Option Link
 pointer_in (facts.Pointer link) = Some link
 pointer_in fact = None
 
+-- of one that tells an entry
 abbrev pub entry_in : Fact → Option Link
 entry_in (facts.Entry link) = Some link
 entry_in fact = None
 
+-- of one that tells a listed address
 abbrev pub listed_in : Fact → Option Link
 listed_in (facts.Listed link) = Some link
 listed_in fact = None

@@ -9,6 +9,7 @@ use Rattle.cfi_types.specs.inner.Splitting.{signature}
 abbrev pub mixed : (digest word : ℕ) → ℕ
 mixed digest word = ((digest * FACTOR) % 2 ^ 32 + word) % 2 ^ 32
 
+-- the digest of a list of words
 abbrev pub digest_of : List ℕ → ℕ
 digest_of words = fold mixed 0 words
 

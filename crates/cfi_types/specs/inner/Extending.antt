@@ -35,6 +35,7 @@ pub record AreNear (tables : List (List Node)) (kept : List (List ℕ)) (told nu
 abbrev pub put_one : (back : List ℕ) → (own kept : ℕ) → List ℕ
 put_one back own kept = if own == length back then back ++ kept ∷ [] else back
 
+-- numbers put back from a table's own to those that are kept
 unfoldable pub back_from : (back own kept : List ℕ) → List ℕ
 back_from back [] kept = back
 back_from back (o ∷ own) [] = back

@@ -8,10 +8,10 @@ use Rattle.cfi_graph.proofs.AddsLemmas.{TellsBelow, adds_below_more}
 use Rattle.cfi_graph.proofs.MetLemmas.{NumberMeets, number_meets, modules_meet}
 use Rattle.cfi_graph.proofs.more.add_met_modules.Goals as goal
 
-pub add_met_units-requires : goal.add_met_units-requires
-add_met_units-requires c =
+pub add_met_units-requires-clause-shaped : goal.add_met_units-requires-clause-shaped
+add_met_units-requires-clause-shaped c =
     let m = c.placed-item.result in
-    subst IsShaped (sym c.placed-item.is) (c.requires c.loop-placed.placed-index m c.loop-placed-test.true)
+    subst IsShaped (sym c.placed-item.is) (c.requires.shaped c.loop-placed.placed-index m c.loop-placed-test.true)
 
 -- this turn's module tells its facts too
 pub loop-placed-preserved : goal.loop-placed-preserved

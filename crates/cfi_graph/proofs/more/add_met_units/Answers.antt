@@ -19,8 +19,8 @@ returns-then-not-some_meets_own c =
 pub add_met_unit-requires-clause-stands : goal.add_met_unit-requires-clause-stands
 add_met_unit-requires-clause-stands c =
     let m = c.args.placed.now in
-    let code = c.requires.0 in
-    let units = c.requires.1.units in
+    let code = c.requires.shaped.0 in
+    let units = c.requires.shaped.1.units in
     let items = c.deref-spot-items.result.now in
     let are : items ≡ spots_of 0 code = c.deref-spot-items.ensures.value
     ∙ c.in_ok-spots.ensures code (subst (λ ws. UnitCode ws code) (sym c.as_slice.ensures) units) in
@@ -41,8 +41,8 @@ loop-spot-preserved c =
 pub returns : goal.returns
 returns c =
     let m = c.args.placed.now in
-    let code = c.requires.0 in
-    let units = c.requires.1.units in
+    let code = c.requires.shaped.0 in
+    let units = c.requires.shaped.1.units in
     let items = c.deref-spot-items.result.now in
     let before = imports_in c.args.before.now in
     let own = imports_in c.args.own.now in

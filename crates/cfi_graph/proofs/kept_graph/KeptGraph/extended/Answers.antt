@@ -8,7 +8,8 @@ use Rattle.cfi_graph.specs.Links.{type_link}
 use Rattle.cfi_graph.specs.Shaped.{IsShaped}
 use Rattle.cfi_graph.specs.inner.Flows.{IsFlowOf}
 use Rattle.cfi_graph.proofs.ClassLemmas.{all_read}
-use Rattle.cfi_graph.proofs.KeptGraphLemmas.{IsRead, typed_with, is_read, others_low, graph_more, more_sound}
+use Rattle.cfi_graph.proofs.KeptGraphLemmas.{IsRead, typed_with, is_read, others_low}
+use Rattle.cfi_graph.proofs.KeptLinkLemmas.{graph_more, more_sound}
 use Rattle.cfi_graph.proofs.OneMoreLemmas.{at_last, count_more, graph_first}
 use Rattle.cfi_graph.proofs.kept_graph.KeptGraph.extended.Goals as goal
 
