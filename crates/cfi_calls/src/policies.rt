@@ -153,12 +153,12 @@ pub fn book(alloc: Global) -> Result<bool, AllocError> {
     let layout = Layout::new(1024).unwrap();
     let code = vec![in alloc; 0; 1024]?;
     let empty = Book::of(alloc, &[], code.as_slice(), &layout)?;
-    let modules = [calls(alloc, 1)?];
-    let longer = empty.extended(alloc, &modules)?;
+    let placed = calls(alloc, 1)?;
+    let longer = empty.extended(alloc, &[], &placed)?;
     let words = [(33, 1), (47, 1), (17, 2), (18, 2), (32, 2), (16, 0)];
     let image = longer.image();
     Ok(
         has_classes(image, &[1, 2, 2, 16383], &words)
-            && image.code.as_slice()[16..].starts_with(modules[0].words.as_slice()),
+            && image.code.as_slice()[16..].starts_with(placed.words.as_slice()),
     )
 }

@@ -1,7 +1,6 @@
 -- The direct edges of modules as edges that can be labelled.
 use Rattle.std.proofs.Common.{◌↔◌, ℕ, ◌+◌, ◌≤◌, List, length, get_or, arith}
 use Rattle.std.specs.Prelude.{All}
-use Rattle.std.specs.List.{Contains}
 use Rattle.std.proofs.lemmas.List.Elements.{All-contains, Contains-get_or}
 use Rattle.cfi_word.specs.declared.sizes.TheConstants.{SLOTS}
 use Rattle.cfi_word.specs.declared.lists.Edge.{Edge}
@@ -20,19 +19,14 @@ use Rattle.cfi_policy.specs.Code.{LieApart}
 use Rattle.cfi_policy.specs.Image.{IsImage, HaveImage}
 use Rattle.cfi_policy.proofs.SpansLemmas.{same_chains, spanned_labels}
 
-module _ (ms : List Placed) (edges : List Edge) (span : SpanDirectEdges ms edges) where
-  pub spans : Spans (HasEdge edges) (DirectEdge ms)
-  spans = record { sound = span.sound; whole = span.whole }
-
-  -- each edge of the list is direct
-  listed_direct : (edge : Edge) → Contains edges edge → DirectEdge ms edge.branch edge.target
-  listed_direct edge has = span.sound edge.branch edge.target has
-
+-- edges each of which is direct
+module _ (ms : List Placed) (edges : List Edge)
+    (sound : (slot address : ℕ) → HasEdge edges slot address → DirectEdge ms slot address) where
   pub within_code : HaveGraph ms → All (IsEdgeWithin SLOTS (MAX_CODE_WORDS + 1)) edges
   within_code graph = λ k d there.
       let edge = get_or edges k d in
-      let ends = has_ends ms graph.apart edge.branch edge.target
-      (listed_direct edge (Contains-get_or edges k d there)) in
+      let direct = sound edge.branch edge.target (Contains-get_or edges k d there) in
+      let ends = has_ends ms graph.apart edge.branch edge.target direct in
       let most = ends.end.within in
       record { branch = ends.low; whole = ends.end.whole; target = omega (arith, most) }
 
@@ -42,7 +36,7 @@ module _ (ms : List Placed) (edges : List Edge) (span : SpanDirectEdges ms edges
     room = omega arith;
     within = λ k d there.
         let edge = get_or edges k d in
-        let direct = listed_direct edge (Contains-get_or edges k d there) in
+        let direct = sound edge.branch edge.target (Contains-get_or edges k d there) in
         let ends = has_ends ms image.graph.apart edge.branch edge.target direct in
         let room = All-contains (λ m. m.slot_base + length m.branches ≤ slots_of code_words) ms ends.owner image.slots
         ends.placed in
@@ -63,12 +57,14 @@ apart_in ms code_words image = record {
 }
 
 module _ (ms : List Placed) (edges : List Edge) (span : SpanDirectEdges ms edges) where
+  pub spans : Spans (HasEdge edges) (DirectEdge ms)
+  spans = record { sound = span.sound; whole = span.whole }
+
   -- the image by these edges is that by all
   pub image_by : (code_words : ℕ) (image : Image) → IsImage (HasEdge edges) ms code_words image
       → IsImage (DirectEdge ms) ms code_words image
   image_by code_words image is = record {
-    labels = spanned_labels (HasEdge edges) (DirectEdge ms) (spans ms edges span) code_words image.tary image.bary
-        is.labels;
+    labels = spanned_labels (HasEdge edges) (DirectEdge ms) spans code_words image.tary image.bary is.labels;
     code = is.code;
   }
 
@@ -76,5 +72,5 @@ module _ (ms : List Placed) (edges : List Edge) (span : SpanDirectEdges ms edges
   pub joined_by : (branch target : ℕ) (Is : Type 0) → Is ↔ Chain (HasEdge edges) branch target
       → Is ↔ Allowed ms branch target
   joined_by branch target Is both =
-      let chains = same_chains (HasEdge edges) (DirectEdge ms) (spans ms edges span) branch target in
+      let chains = same_chains (HasEdge edges) (DirectEdge ms) spans branch target in
       (λ is. chains.0 (both.0 is), λ chain. both.1 (chains.1 chain))

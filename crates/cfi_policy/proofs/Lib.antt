@@ -1,8 +1,7 @@
 mod BookLemmas
 mod CodeLemmas
-mod EdgeLemmas
+pub mod EdgeLemmas
 mod GroupLemmas
-mod GrowLemmas
 mod IdleLemmas
 mod KeptOnceLemmas
 mod MemberLemmas

@@ -8,6 +8,7 @@ use Rattle.cfi_graph.specs.Direct.{DirectEdge}
 use Rattle.cfi_graph.specs.Reading.{HaveGraph}
 use Rattle.cfi_policy.specs.Code.{IsCodeOf}
 
+-- the image has the labels of the relation and the code of the modules
 pub record IsImage (joins : (slot address : ℕ) → Type 0) (modules : List Placed) (code_words : ℕ)
     (image : Image) : Type 0 where
   pub labels : AreLabels joins code_words image.tary image.bary

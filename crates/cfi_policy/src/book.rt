@@ -1,19 +1,19 @@
 //! Images of modules to which modules are added: classes keep their numbers.
 
-ghost use Rattle.std.specs.Prelude.{◌≡◌, ℕ, ◌+◌, ◌-◌, ◌<◌, ◌≤◌, length, slice_get, IfOk, Some};
-ghost use Rattle.cfi_aux.specs.declared.placed.Placed.{Placed as PlacedModule};
+ghost use Rattle.std.specs.Prelude.{◌≡◌, ◌+◌, ◌≤◌, ◌++◌, ◌∷◌, [], length, IfOk};
 ghost use Rattle.cfi_class.specs.Labels.{AreOrderedBySlot};
 ghost use Rattle.cfi_graph.specs.Direct.{DirectEdge};
-ghost use Rattle.cfi_policy.specs.Book.{labels_of, before_last, StandsFor, KeepsNumbers, PutsWords};
+ghost use Rattle.cfi_graph.specs.KeptGraph.{IsLonger};
+ghost use Rattle.cfi_policy.specs.Book.{labels_of, StandsFor, KeepsNumbers, PutsWords};
 ghost use Rattle.cfi_policy.specs.Code.{IsCodeOf};
 ghost use Rattle.cfi_policy.specs.Image.{IsImage, HaveImage};
 
 use crate::code::put;
 use cfi_aux::Placed;
 use cfi_class::Kept;
-use cfi_graph::spanning;
+use cfi_graph::KeptGraph;
 use cfi_values::Numbers;
-use cfi_word::{Image, Labels, Layout};
+use cfi_word::{Edge, Image, Labels, Layout};
 use std::alloc::{AllocError, Global};
 use std::marker::Model;
 
@@ -21,20 +21,29 @@ use std::marker::Model;
 #[derive(Drop)]
 pub struct Book {
     layout: Layout,
+    graph: KeptGraph,
     kept: Kept,
     image: Image,
 }
 
-// Clauses see the image.
+// Clauses see the links and the image.
 impl Model for Book {
-    ghost use Rattle.cfi_word.specs.declared.lists.Image.{Image as TheImage};
+    ghost use Rattle.cfi_policy.specs.Book.{KeptImage};
     ghost use Rattle.cfi_policy.specs.inner.Kept.{IsKept};
 
-    ghost Value = { TheImage };
+    ghost Value = { KeptImage };
 
-    ghost view = { λ book. book.image };
+    ghost view = { λ book. record { graph = book.graph; image = book.image } };
 
     ghost invariant = { λ book. IsKept book.layout book.kept book.image };
+}
+
+// The edges behind those of before.
+fn behind<'a>(before: &[Edge], edges: &'a [Edge]) -> &'a [Edge]
+    requires { IsLonger before.now edges.now }
+    ensures { edges.now ≡ before.now ++ result.now }
+{
+    &edges[before.len()..]
 }
 
 // A copy of the code, with the words of the module at its place.
@@ -75,50 +84,54 @@ impl Book {
         requires modules { HaveImage modules.now layout.now }
         requires code { length code.now ≡ layout.now }
         ensures stands { IfOk result (StandsFor modules.now) }
-        ensures order { IfOk result (λ image.
-            AreOrderedBySlot (DirectEdge modules.now) image.bary) }
-        ensures words { IfOk result (λ image. length image.tary ≡ layout.now) }
-        ensures code { IfOk result (λ image. image.code ≡ code.now) }
+        ensures order { IfOk result (λ book.
+            AreOrderedBySlot (DirectEdge modules.now) book.image.bary) }
+        ensures words { IfOk result (λ book. length book.image.tary ≡ layout.now) }
+        ensures code { IfOk result (λ book. book.image.code ≡ code.now) }
         ensures image { IsCodeOf modules.now layout.now code.now →
-            IfOk result (IsImage (DirectEdge modules.now) modules.now layout.now) }
+            IfOk result (λ book.
+            IsImage (DirectEdge modules.now) modules.now layout.now book.image) }
     {
-        let edges = spanning(alloc, modules)?;
-        let kept = Kept::of(alloc, edges.as_slice(), layout.slots(), layout)?;
+        let graph = KeptGraph::of(alloc, modules)?;
+        let kept = Kept::of(alloc, graph.edges(), layout.slots(), layout)?;
         let code = Numbers::from_vec(Vec::from_slice(alloc, code)?);
         let image = image_by(alloc, kept.labels(), code)?;
         Ok(Book {
             layout: *layout,
+            graph,
             kept,
             image,
         })
     }
 
-    /// The image of the modules, the last of which is new: the book stands for those before it.
+    /// The image of the modules and of one more, where the book stands for these modules alone. It stays as it is.
     ///
     /// A class of which something had a number has the least of these. The new classes, in the order of their least
     /// slots, take the least number each that nothing had and none of them has taken. The code has the new module's
-    /// words at its place. The modules are as `image_of` takes them. The book stays as it is.
-    pub fn extended(&self, alloc: Global, modules: &[Placed]) -> Result<Book, AllocError>
-        requires modules { HaveImage modules.now (length self.now.tary) }
-        requires some { 0 < length modules.now }
-        requires stands { StandsFor (before_last modules.now) self.now }
-        ensures stands { IfOk result (StandsFor modules.now) }
-        ensures kept { IfOk result (KeepsNumbers modules.now self.now) }
-        ensures words { IfOk result (λ image. length image.tary ≡ length self.now.tary) }
-        ensures code { (placed : PlacedModule) →
-            slice_get modules.now (length modules.now - 1) ≡ Some placed →
-            IfOk result (λ image. PutsWords placed self.now.code image.code) }
-        ensures image { IsCodeOf (before_last modules.now) (length self.now.tary) self.now.code →
-            IfOk result (IsImage (DirectEdge modules.now) modules.now (length self.now.tary)) }
+    /// words at its place. Together the modules are as `image_of` takes them. Their links are not worked out anew: what
+    /// is looked at is as `extended` of `KeptGraph` says.
+    pub fn extended(&self, alloc: Global, old: &[Placed], new: &Placed) -> Result<Book, AllocError>
+        requires modules { HaveImage (old.now ++ new.now ∷ []) (length self.now.image.tary) }
+        requires stands { StandsFor old.now self.now }
+        ensures stands { IfOk result (StandsFor (old.now ++ new.now ∷ [])) }
+        ensures kept { IfOk result (λ book.
+            KeepsNumbers (old.now ++ new.now ∷ []) self.now.image book.image) }
+        ensures words { IfOk result (λ book.
+            length book.image.tary ≡ length self.now.image.tary) }
+        ensures code { IfOk result (λ book.
+            PutsWords new.now self.now.image.code book.image.code) }
+        ensures image { IsCodeOf old.now (length self.now.image.tary) self.now.image.code →
+            IfOk result (λ book. IsImage (DirectEdge (old.now ++ new.now ∷ []))
+            (old.now ++ new.now ∷ []) (length self.now.image.tary) book.image) }
     {
-        let edges = spanning(alloc, modules)?;
-        let slots = self.layout.slots();
-        let kept = self.kept.joined(alloc, edges.as_slice(), slots)?;
-        let placed = &modules[modules.len() - 1];
-        let code = with_words(alloc, self.image.code.as_slice(), placed)?;
+        let graph = self.graph.extended(alloc, old, new)?;
+        let fresh = behind(self.graph.edges(), graph.edges());
+        let kept = self.kept.joined(alloc, fresh, self.layout.slots())?;
+        let code = with_words(alloc, self.image.code.as_slice(), new)?;
         let image = image_by(alloc, kept.labels(), code)?;
         Ok(Book {
             layout: self.layout,
+            graph,
             kept,
             image,
         })
@@ -126,7 +139,7 @@ impl Book {
 
     /// The image. It takes no memory.
     pub fn image(&self) -> &Image
-        ensures { result.now ≡ self.now }
+        ensures { result.now ≡ self.now.image }
     {
         &self.image
     }

@@ -32,7 +32,7 @@ pub numbers-requires-clause-within : goal.numbers-requires-clause-within
 numbers-requires-clause-within c =
     let ms = c.args.modules.now in
     let span = subst (λ es. SpanDirectEdges ms es) (sym c.as_slice.ensures.value) c.in_ok-edges.ensures.edges in
-    within_code ms c.as_slice.result.now span c.requires
+    within_code ms c.as_slice.result.now span.sound c.requires
 
 -- the groups of the classes, and that of the branches without one where there are some
 pub returns : goal.returns

@@ -14,7 +14,7 @@ image_from-requires-clause-edges c =
     let edges = c.as_slice.result.now in
     let span = subst (λ es. SpanDirectEdges ms es) (sym c.as_slice.ensures.value) c.in_ok-edges.ensures.edges in
     subst (λ n. CanBeLabelled edges n c.args.layout.now) (sym c.slots.ensures)
-    (can_be_labelled ms edges span c.args.layout.now c.requires)
+    (can_be_labelled ms edges span.sound c.args.layout.now c.requires)
 
 pub image_from-requires-clause-modules : goal.image_from-requires-clause-modules
 image_from-requires-clause-modules c = apart_in c.args.modules.now c.args.layout.now c.requires

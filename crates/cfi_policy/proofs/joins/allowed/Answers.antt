@@ -12,7 +12,7 @@ pub are_joined-requires-clause-within : goal.are_joined-requires-clause-within
 are_joined-requires-clause-within c =
     let ms = c.args.modules.now in
     let span = subst (λ es. SpanDirectEdges ms es) (sym c.as_slice.ensures.value) c.in_ok-edges.ensures.edges in
-    within_code ms c.as_slice.result.now span c.requires
+    within_code ms c.as_slice.result.now span.sound c.requires
 
 pub returns : goal.returns
 returns c =

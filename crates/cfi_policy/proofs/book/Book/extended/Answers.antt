@@ -1,78 +1,109 @@
-use Rattle.std.proofs.Common.{◌≡◌, ◌∙◌, ◌-◌, length, ap, sym, subst}
-use Rattle.std.proofs.lemmas.Option.{get_or_from_slice_get}
+use Rattle.std.proofs.Common.{◌≡◌, ◌∙◌, ◌+◌, ◌≤◌, ◌++◌, ◌∷◌, [], length, ap, sym, subst, arith}
+use Rattle.std.proofs.lemmas.List.Elements.{All-contains, Contains-push}
 use Rattle.cfi_word.specs.Table.{slots_of}
 use Rattle.cfi_class.specs.Labels.{CanBeLabelled}
-use Rattle.cfi_graph.specs.Edges.{SpanDirectEdges}
-use Rattle.cfi_policy.specs.Book.{labels_of, KeepsNumbers, PutsWords}
-use Rattle.cfi_policy.proofs.BookLemmas.{kept_from, stands_from, labels_standing, code_more}
+use Rattle.cfi_class.specs.Kept.{AreLabelsOf, AreKept}
+use Rattle.cfi_graph.specs.KeptGraph.{IsGraphOf, IsLonger, SpanEdges}
+use Rattle.cfi_policy.specs.Book.{labels_of, PutsWords}
+use Rattle.cfi_policy.proofs.BookLemmas.{spans_direct, last_direct, numbers_kept, labels_standing, code_more}
 use Rattle.cfi_policy.proofs.EdgeLemmas.{can_be_labelled}
 use Rattle.cfi_policy.proofs.book.Book.extended.Goals as goal
 
+pub extended-requires-clause-is : goal.extended-requires-clause-is
+extended-requires-clause-is c =
+    subst (IsGraphOf c.args.old.now) (sym (ap (λ b. b.graph) c.self.view_is)) c.requires.stands.graph
+
+pub behind-fresh-requires : goal.behind-fresh-requires
+behind-fresh-requires c =
+    subst (λ es. IsLonger es c.edges-2.result.now) (sym c.edges.ensures.value)
+    (subst (λ es. IsLonger c.self.inside.graph.flow.edges es) (sym c.edges-2.ensures.value) c.in_ok-graph.ensures.edges)
+
+-- the edges that the module brings can be labelled
 pub joined-requires : goal.joined-requires
 joined-requires c =
-    let ms = c.args.modules.now in
-    let edges = c.as_slice.result.now in
+    let ms = c.args.old.now ++ c.args.new.now ∷ [] in
+    let edges = c.edges-2.result.now in
+    let fresh = c.behind-fresh.result.now in
     let kept = c.self.inside.kept in
-    let code_words = length c.args.self.now.tary in
-    let span = subst (λ es. SpanDirectEdges ms es) (sym c.as_slice.ensures.value) c.in_ok-edges.ensures.edges in
-    let words : length kept.tary ≡ code_words =
-    ap (λ l. length l.tary) c.self.invariant.same ∙ ap (λ i. length i.tary) c.self.view_is in
-    let layout : c.self.inside.layout ≡ code_words =
-    sym c.self.invariant.words ∙ ap (λ i. length i.tary) c.self.view_is in
-    let slots : c.slots-slots.result ≡ slots_of code_words = c.slots-slots.ensures ∙ ap slots_of layout in
-    subst (λ n. CanBeLabelled edges n (length kept.tary)) (sym slots)
-    (subst (λ n. CanBeLabelled edges (slots_of code_words) n) (sym words)
-    (can_be_labelled ms edges span code_words c.requires.modules))
+    let code_words = length c.args.self.now.image.tary in
+    let span : SpanEdges ms edges = c.edges-2.ensures.spans ms c.requires.modules.graph c.in_ok-graph.ensures.is in
+    let same = ap (λ b. length b.image.tary) c.self.view_is in
+    let words : length kept.tary ≡ code_words = ap (λ l. length l.tary) c.self.invariant.same ∙ same in
+    let slots : c.slots.result ≡ slots_of code_words =
+    c.slots.ensures ∙ ap slots_of (sym c.self.invariant.words ∙ same) in
+    subst (λ n. CanBeLabelled fresh n (length kept.tary)) (sym slots)
+    (subst (λ n. CanBeLabelled fresh (slots_of code_words) n) (sym words)
+    (can_be_labelled ms fresh (last_direct ms c.edges.result.now fresh edges c.behind-fresh.ensures span) code_words
+    c.requires.modules))
 
-pub returns-clause-kept : goal.returns-clause-kept
-returns-clause-kept c =
-    let ms = c.args.modules.now in
-    let span = subst (λ es. SpanDirectEdges ms es) (sym c.as_slice.ensures.value) c.in_ok-edges.ensures.edges in
-    kept_from ms c.args.self.now c.in_ok-image.image c.self.inside.kept c.in_ok-kept.kept c.as_slice.result.now
-    (c.self.invariant.same ∙ ap labels_of c.self.view_is) (c.in_ok-image.ensures.labels ∙ c.labels.ensures)
-    c.requires.stands span c.in_ok-kept.ensures.labels
+pub with_words-requires : goal.with_words-requires
+with_words-requires c =
+    let ms = c.args.old.now ++ c.args.new.now ∷ [] in
+    let fits = All-contains (λ m. m.base + length m.words ≤ length c.args.self.now.image.tary) ms c.args.new.now
+    c.requires.modules.words (Contains-push c.args.old.now c.args.new.now) in
+    let same = ap (λ b. length b.image.tary) c.self.view_is in
+    let code = ap (λ xs. length xs) c.as_slice.ensures in
+    omega (arith, fits, same, code, c.self.invariant.words, c.self.invariant.code)
 
 pub returns-clause-stands : goal.returns-clause-stands
 returns-clause-stands c =
-    let ms = c.args.modules.now in
-    let span = subst (λ es. SpanDirectEdges ms es) (sym c.as_slice.ensures.value) c.in_ok-edges.ensures.edges in
-    stands_from ms c.args.self.now c.in_ok-image.image
-    (kept_from ms c.args.self.now c.in_ok-image.image c.self.inside.kept c.in_ok-kept.kept c.as_slice.result.now
-    (c.self.invariant.same ∙ ap labels_of c.self.view_is) (c.in_ok-image.ensures.labels ∙ c.labels.ensures)
-    c.requires.stands span c.in_ok-kept.ensures.labels)
+    let book = c.args.self.now in
+    let image = c.in_ok-image.image in
+    let edges = c.edges-2.result.now in
+    let numbers : AreKept edges (labels_of book.image) (labels_of image) =
+    numbers_kept c.args.old.now book image c.self.inside.kept c.in_ok-kept.kept c.edges.result.now
+    c.behind-fresh.result.now edges c.requires.stands
+    (c.edges.ensures.value ∙ ap (λ b. b.graph.flow.edges) c.self.view_is)
+    (c.self.invariant.same ∙ ap (λ b. labels_of b.image) c.self.view_is)
+    (c.in_ok-image.ensures.labels ∙ c.labels.ensures) c.behind-fresh.ensures c.in_ok-kept.ensures.labels in
+    record {
+      graph = c.in_ok-graph.ensures.is;
+      labels = subst (λ es. AreLabelsOf es (labels_of image)) c.edges-2.ensures.value numbers.labels;
+    }
+
+pub returns-clause-kept : goal.returns-clause-kept
+returns-clause-kept c =
+    let ms = c.args.old.now ++ c.args.new.now ∷ [] in
+    let book = c.args.self.now in
+    let image = c.in_ok-image.image in
+    let edges = c.edges-2.result.now in
+    let span : SpanEdges ms edges = c.edges-2.ensures.spans ms c.requires.modules.graph c.in_ok-graph.ensures.is in
+    record {
+      edges = edges;
+      span = spans_direct ms edges span;
+      kept = numbers_kept c.args.old.now book image c.self.inside.kept c.in_ok-kept.kept c.edges.result.now
+          c.behind-fresh.result.now edges c.requires.stands
+          (c.edges.ensures.value ∙ ap (λ b. b.graph.flow.edges) c.self.view_is)
+          (c.self.invariant.same ∙ ap (λ b. labels_of b.image) c.self.view_is)
+          (c.in_ok-image.ensures.labels ∙ c.labels.ensures) c.behind-fresh.ensures c.in_ok-kept.ensures.labels;
+    }
 
 pub returns-clause-code : goal.returns-clause-code
 returns-clause-code c =
-    let ms = c.args.modules.now in
-    let last = c.index-modules-modules.result in
-    λ placed at.
-    let is : last ≡ placed =
-    c.index-modules-modules.is ∙ get_or_from_slice_get ms (length ms - 1) placed last at in
-    subst (λ m. PutsWords m c.args.self.now.code c.in_ok-image.image.code) is
-    (subst (λ code. PutsWords last c.args.self.now.code code) (sym c.in_ok-image.ensures.code)
-    (subst (λ code. PutsWords last code c.in_ok-code.code) (c.as_slice-2.ensures ∙ ap (λ i. i.code) c.self.view_is)
-    c.in_ok-code.ensures))
+    let new = c.args.new.now in
+    subst (λ code. PutsWords new c.args.self.now.image.code code) (sym c.in_ok-image.ensures.code)
+    (subst (λ code. PutsWords new code c.in_ok-code.code) (c.as_slice.ensures ∙ ap (λ b. b.image.code) c.self.view_is)
+    c.in_ok-code.ensures)
 
 pub returns-clause-image : goal.returns-clause-image
 returns-clause-image c =
-    let ms = c.args.modules.now in
-    let old = c.args.self.now in
+    let ms = c.args.old.now ++ c.args.new.now ∷ [] in
+    let new = c.args.new.now in
+    let book = c.args.self.now in
     let image = c.in_ok-image.image in
-    let last = c.index-modules-modules.result in
-    let code_words = length old.tary in
-    let span = subst (λ es. SpanDirectEdges ms es) (sym c.as_slice.ensures.value) c.in_ok-edges.ensures.edges in
-    let is : labels_of image ≡ c.in_ok-kept.kept = c.in_ok-image.ensures.labels ∙ c.labels.ensures in
-    let numbers : KeepsNumbers ms old image = kept_from ms old image c.self.inside.kept c.in_ok-kept.kept
-    c.as_slice.result.now (c.self.invariant.same ∙ ap labels_of c.self.view_is) is c.requires.stands span
-    c.in_ok-kept.ensures.labels in
-    let words : length image.tary ≡ code_words =
-    ap (λ l. length l.tary) is ∙ c.in_ok-kept.ensures.size ∙ ap (λ l. length l.tary) c.self.invariant.same
-    ∙ ap (λ i. length i.tary) c.self.view_is in
-    let puts : PutsWords last old.code image.code =
-    subst (λ code. PutsWords last old.code code) (sym c.in_ok-image.ensures.code)
-    (subst (λ code. PutsWords last code c.in_ok-code.code) (c.as_slice-2.ensures ∙ ap (λ i. i.code) c.self.view_is)
+    let edges = c.edges-2.result.now in
+    let code_words = length book.image.tary in
+    let span : SpanEdges ms edges = c.edges-2.ensures.spans ms c.requires.modules.graph c.in_ok-graph.ensures.is in
+    let numbers : AreKept edges (labels_of book.image) (labels_of image) =
+    numbers_kept c.args.old.now book image c.self.inside.kept c.in_ok-kept.kept c.edges.result.now
+    c.behind-fresh.result.now edges c.requires.stands
+    (c.edges.ensures.value ∙ ap (λ b. b.graph.flow.edges) c.self.view_is)
+    (c.self.invariant.same ∙ ap (λ b. labels_of b.image) c.self.view_is)
+    (c.in_ok-image.ensures.labels ∙ c.labels.ensures) c.behind-fresh.ensures c.in_ok-kept.ensures.labels in
+    let puts : PutsWords new book.image.code image.code =
+    subst (λ code. PutsWords new book.image.code code) (sym c.in_ok-image.ensures.code)
+    (subst (λ code. PutsWords new code c.in_ok-code.code) (c.as_slice.ensures ∙ ap (λ b. b.image.code) c.self.view_is)
     c.in_ok-code.ensures) in
     λ before.
-    labels_standing ms numbers.edges image code_words numbers.span numbers.kept.labels words
-    (code_more ms code_words c.requires.some old.code image.code last c.requires.modules c.index-modules-modules.is before
-    puts)
+    labels_standing ms edges image code_words span numbers.labels numbers.size
+    (code_more c.args.old.now new code_words book.image.code image.code c.requires.modules before puts)
