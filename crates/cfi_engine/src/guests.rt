@@ -61,7 +61,8 @@ pub fn open_guests<N: LoaderName>(
     requires opened { IsOpenedTo N.plan N.modules 0 loader.old }
     ensures count { IfOk result (λ runners. length runners.items ≡ length N.plan.guests) }
     ensures waiting { IfOk result (λ runners. AreWaiting runners.items) }
-    ensures idle { IfOk result (λ runners. All (λ (ran : Ran). ran.guest.waits ≡ None) runners.items) }
+    ensures idle { IfOk result (λ runners.
+        All (λ (ran : Ran). ran.guest.waits ≡ None) runners.items) }
     ensures opened { OnOk result (IsOpenedTo N.plan N.modules (length N.plan.guests) loader.new) }
     ensures part { OnErr result (AreFirstOpened N.plan N.modules loader.new) }
     ensures admitted { HasAdmitted loader.old loader.new }

@@ -5,7 +5,7 @@ ghost use Rattle.cfi_valid.specs.Script.{Load, Refresh, calls_of, script_calls};
 ghost use Rattle.cfi_engine.specs.inner.Script.{HasMadeNext, IsScriptMade, Makes};
 
 use cfi_io::Gate;
-use cfi_loader::{Due, Loader, LoaderName, Who};
+use cfi_loader::{Due, Loader, LoaderName};
 use cfi_plan::ScriptLine;
 use cfi_tables::Tables;
 use std::sync::{Mutex, Wait};
@@ -46,7 +46,7 @@ fn make_refresh<N: LoaderName>(loader: &mut Loader<N>, tables: &Tables<N>)
     requires { slice_get loader.old.left 0 ≡ Some Refresh }
     ensures { Makes N.key Refresh loader.old loader.new }
 {
-    let _ = loader.refresh(tables, Who::Script);
+    let _ = loader.refresh(tables);
 }
 
 /// Makes the script's next call. Whether there was one, and memory was not missing.

@@ -4,17 +4,19 @@ use Rattle.std.proofs.Math.Seq.{take-length}
 use Rattle.std.proofs.lemmas.List.{map-append, take-append-le}
 use Rattle.cfi_aux.specs.declared.modules.Module.{Module}
 use Rattle.cfi_plan.specs.declared.journal.ModuleLine.{ModuleLine}
-use Rattle.cfi_series.specs.Prepared.{without_last}
-use Rattle.cfi_series.specs.Series.{Series, HasJoined as SeriesHasJoined}
+use Rattle.cfi_series.specs.Image.{IsOrderedImage}
+use Rattle.cfi_series.specs.Order.{Joins}
+use Rattle.cfi_series.specs.Series.{Series, with_module, without_last, HasJoined as SeriesHasJoined}
 use Rattle.cfi_aux.specs.declared.placed.Placed.{Placed}
 use Rattle.cfi_plan.specs.declared.plan.PlanModule.{PlanModule}
 use Rattle.cfi_valid.specs.Loaded.{LoadedModule, module_line_of, planned_name}
 use Rattle.cfi_valid.proofs.KeptLemmas.{loaded_more}
 use Rattle.cfi_ledger.specs.declared.entrant.Entrant.{Entrant}
-use Rattle.cfi_ledger.specs.Roster.{HasJoined, Roster, line_by, loaded_of, origin_of}
+use Rattle.cfi_ledger.specs.Roster.{HasJoined, IsOffer, Offer, Roster, line_by, loaded_of, origin_of, with_offer}
+use Rattle.cfi_word.specs.declared.lists.Image.{Image}
 
 -- a list without the item at its end
-init_of : {X : Type 0} (xs : List X) (x : X) → take (length (xs ++ x ∷ []) - 1) (xs ++ x ∷ []) ≡ xs
+pub init_of : {X : Type 0} (xs : List X) (x : X) → take (length (xs ++ x ∷ []) - 1) (xs ++ x ∷ []) ≡ xs
 init_of xs x =
     let end : length (xs ++ x ∷ []) - 1 ≡ length xs = omega (arith, length-append xs (x ∷ [])) in
     ap (λ (n : ℕ). take n (xs ++ x ∷ [])) end
@@ -59,6 +61,25 @@ module _ (number policy : ℕ) (name : List ℕ) (m : Module) (s new : Series) (
       (init_of s.placed joined.0)
       ∙ same
 
+  -- what it gives back is offered
+  module _ (old : Roster) (same : before ≡ old) (joined : SeriesHasJoined s new m) (offer : Offer)
+      (placed_is : offer.placed ≡ joined.0) where
+    pub roster_offered : offer.line ≡ line_by number name policy offer.placed → IsOffer number name policy m old offer
+    roster_offered line_is =
+        subst (λ (o : Roster). IsOffer number name policy m o offer) same (record {
+          joins = subst (λ (p : Placed). Joins s.code_words s.placed m p) (sym placed_is) joined.1;
+          line_is = line_is;
+        })
+
+    with_it : new ≡ with_module s offer.placed
+    with_it = joined.2 ∙ ap (with_module s) (sym placed_is)
+
+    pub offered_order : (image : Image) → IsOrderedImage new.placed image
+        → IsOrderedImage (with_offer offer old).placed image
+    offered_order image ordered =
+        subst (λ (o : Roster). IsOrderedImage (with_offer offer o).placed image) same
+        (subst (λ (t : Series). IsOrderedImage t.placed image) with_it ordered)
+
 -- a module that is to join has its number, its name and its policy
 pub entrant_joined : (e : Entrant) (number : ℕ) (name : List ℕ) (policy : ℕ) → e.number ≡ number → e.name.now ≡ name
     → e.policy ≡ policy → (m : Module) (old new : Roster) → HasJoined e.number e.name.now e.policy m old new
@@ -67,6 +88,14 @@ entrant_joined e number name policy number_is name_is policy_is m old new joined
     subst (λ (n : ℕ). HasJoined number name n m old new) policy_is
     (subst (λ (xs : List ℕ). HasJoined number xs e.policy m old new) name_is
     (subst (λ (n : ℕ). HasJoined n e.name.now e.policy m old new) number_is joined))
+
+pub entrant_offered : (e : Entrant) (number : ℕ) (name : List ℕ) (policy : ℕ) → e.number ≡ number
+    → e.name.now ≡ name → e.policy ≡ policy → (m : Module) (r : Roster) (offer : Offer)
+    → IsOffer e.number e.name.now e.policy m r offer → IsOffer number name policy m r offer
+entrant_offered e number name policy number_is name_is policy_is m r offer is =
+    subst (λ (n : ℕ). IsOffer number name n m r offer) policy_is
+    (subst (λ (xs : List ℕ). IsOffer number xs e.policy m r offer) name_is
+    (subst (λ (n : ℕ). IsOffer n e.name.now e.policy m r offer) number_is is))
 
 module _ (number : ℕ) (name : List ℕ) (policy : ℕ) (m : Module) (old new : Roster)
     (joined : HasJoined number name policy m old new) where

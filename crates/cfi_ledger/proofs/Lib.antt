@@ -3,6 +3,7 @@ pub mod EntryLemmas
 pub mod PolicyLemmas
 pub mod FindingLemmas
 pub mod RosterLemmas
+mod BookLemmas
 pub mod StartLemmas
 pub mod SuffixLemmas
 pub mod DueLemmas

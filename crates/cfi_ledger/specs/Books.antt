@@ -14,6 +14,7 @@ loaded_in b = loaded_in_roster b.roster
 abbrev pub end_of_books : Books → JournalState
 end_of_books b = record { epoch = b.epoch; policy = b.policy; loaded = loaded_in b }
 
+-- the run so far, as valid reports have it
 abbrev pub course_in : Books → Course
 course_in b = record { plan = b.plan; modules = b.modules; journal = b.journal.lines; end = end_of_books b }
 

@@ -14,9 +14,11 @@ pub record Minutes : Type 0 where
   pub left : List Call
   pub spare : ℕ
 
+-- the calls of the script that are left
 abbrev pub calls_left : Inside → List Call
 calls_left a = map call_due (drop a.made a.calls.items)
 
+-- the lines, the calls that are left, and the room beside them
 abbrev pub minutes_of : Inside → Minutes
 minutes_of a = record {
   lines = a.lines.items;
@@ -24,6 +26,7 @@ minutes_of a = record {
   spare = vec_capacity a.lines - (vec_len a.lines + (vec_len a.calls - a.made));
 }
 
+-- calls that are left are no fewer than none, and each has room for its line
 pub record HasScriptRoom (a : Inside) : Type 0 where
   pub made_most : a.made ≤ vec_len a.calls
   pub room : vec_len a.lines + (vec_len a.calls - a.made) ≤ vec_capacity a.lines

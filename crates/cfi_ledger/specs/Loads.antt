@@ -1,5 +1,5 @@
 -- What is known of a module that is to be loaded.
-use Rattle.std.specs.Prelude.{◌≡◌, ◌≢◌, ℕ, ◌+◌, ◌<◌, length, slice_get, slice_index_or, Some, All, ⊤}
+use Rattle.std.specs.Prelude.{◌≡◌, ◌≢◌, ℕ, ◌+◌, ◌<◌, ◌≤◌, length, slice_get, slice_index_or, Some, All, ⊤}
 use Rattle.cfi_aux.specs.declared.modules.Module.{Module}
 use Rattle.cfi_plan.specs.declared.journal.ModuleLine.{ModuleLine}
 use Rattle.cfi_series.specs.declared.fault.JoinFault.{JoinFault}
@@ -10,6 +10,8 @@ use Rattle.cfi_word.specs.declared.limits.TheConstants.{MAX_EPOCH}
 use Rattle.cfi_ledger.specs.declared.books.Books.{Books}
 use Rattle.cfi_ledger.specs.declared.finding.Known.{Known}
 use Rattle.cfi_ledger.specs.declared.finding.Known.TheVariants.{Nothing, Unjoined, Spent}
+use Rattle.cfi_ledger.specs.declared.prospect.Prospect.{Prospect}
+use Rattle.cfi_ledger.specs.declared.prospect.Prospect.TheVariants.{Again, Full, Open}
 use Rattle.cfi_ledger.specs.Books.{loaded_in}
 use Rattle.cfi_ledger.specs.Findings.{DoesJoin}
 use Rattle.cfi_ledger.specs.Roster.{Roster, HasJoined}
@@ -22,6 +24,12 @@ pub record IsListed (r : Roster) (number at : ℕ) : Type 0 where
 -- it stands at none
 abbrev pub IsUnlisted : Roster → (number : ℕ) → Type 0
 IsUnlisted r number = All (λ (line : ModuleLine). line.number ≢ number) r.lines
+
+-- what stands against its load before it is tried: a case an answer
+abbrev pub IsProspect : Roster → (number : ℕ) → Prospect → Type 0
+IsProspect r number (Again at) = IsListed r number at
+IsProspect r number Full = IsUnlisted r number × MAX_LOADED ≤ length r.lines
+IsProspect r number Open = IsUnlisted r number × length r.lines < MAX_LOADED
 
 -- the module of the number is not loaded, and there is room for it
 pub record IsAbsent (b : Books) (number : ℕ) : Type 0 where

@@ -2,7 +2,8 @@
 use Rattle.std.specs.Prelude.{◌≡◌, false, List, [], length, None, replicate, ⊤}
 use Rattle.cfi_aux.specs.declared.modules.Module.{Module}
 use Rattle.cfi_plan.specs.declared.plan.Plan.{Plan}
-use Rattle.cfi_series.specs.Prepared.{IsOrderedImage}
+use Rattle.cfi_policy.specs.Book.{KeptImage}
+use Rattle.cfi_series.specs.Image.{IsOrderedImage}
 use Rattle.cfi_series.specs.declared.fault.JoinFault.TheVariants as joins
 use Rattle.cfi_valid.specs.Opening.{IsFirstUnjoined, IsFirstLost}
 use Rattle.cfi_valid.specs.Script.{script_calls}
@@ -14,7 +15,7 @@ use Rattle.cfi_ledger.specs.declared.fault.StartFault.{StartFault}
 use Rattle.cfi_ledger.specs.declared.fault.StartFault.TheVariants.{Open, Memory}
 use Rattle.cfi_ledger.specs.Entries.{AllEnter}
 use Rattle.cfi_ledger.specs.Journal.{Minutes}
-use Rattle.cfi_ledger.specs.Roster.{Roster, IsImageOfRoster}
+use Rattle.cfi_ledger.specs.Roster.{Roster, IsBookOfRoster, IsImageOfRoster}
 use Rattle.cfi_ledger.specs.Starts.{AreStarted}
 
 -- ---- faults
@@ -25,11 +26,17 @@ IsOpenFault plan modules (Place number fault) = IsFirstUnjoined plan modules num
 IsOpenFault plan modules (Verify number fault) = IsFirstUnjoined plan modules number (joins.Verify fault)
 IsOpenFault plan modules (NoEntry guest) = IsFirstLost plan modules guest
 
+-- the opening cannot be made for this fault of the plan or its modules; want of memory may always be
 abbrev pub IsStartFault : Plan → List Module → StartFault → Type 0
 IsStartFault plan modules (Open fault) = IsOpenFault plan modules fault
 IsStartFault plan modules Memory = ⊤
 
 -- ---- the start
+
+-- the start modules, where each guest has somewhere to begin
+pub record IsStartRoster (plan : Plan) (modules : List Module) (roster : Roster) : Type 0 where
+  pub started : AreStarted plan modules (length plan.modules) roster
+  pub enter : AllEnter plan roster.placed
 
 -- the start modules and their image, where each guest has somewhere to begin
 pub record HasOpened (plan : Plan) (modules : List Module) (roster : Roster) (image : Image) : Type 0 where
@@ -41,13 +48,13 @@ pub record HasOpened (plan : Plan) (modules : List Module) (roster : Roster) (im
 -- ---- books
 
 -- what there is at the start; its memory, and what was found, are those of another
-abbrev pub books_at : Plan → List Module → Roster → Image → Minutes → Books → Books
-books_at plan modules roster image journal b = record b {
+abbrev pub books_at : Plan → List Module → Roster → KeptImage → Minutes → Books → Books
+books_at plan modules roster book journal b = record b {
   plan = plan;
   modules = modules;
   layout = plan.code_words;
   roster = roster;
-  image = image;
+  book = book;
   epoch = plan.first;
   policy = 0;
   starts = length roster.lines;
@@ -55,9 +62,10 @@ books_at plan modules roster image journal b = record b {
   starved = false;
 }
 
+-- the books of these start modules: with their image, no lines yet, the whole script left, and nothing found
 pub record AreOpeningBooks (plan : Plan) (modules : List Module) (roster : Roster) (b : Books) : Type 0 where
-  pub is : b ≡ books_at plan modules roster b.image b.journal b
-  pub image_is : IsImageOfRoster roster b.image
+  pub is : b ≡ books_at plan modules roster b.book b.journal b
+  pub book_is : IsBookOfRoster roster b.book
   pub lines_are : b.journal.lines ≡ []
   pub left_are : b.journal.left ≡ script_calls plan.script
   pub none_found : b.found.items ≡ replicate (length modules) None

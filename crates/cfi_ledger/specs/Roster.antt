@@ -3,15 +3,17 @@ use Rattle.std.specs.Prelude.{◌≡◌, ℕ, ◌+◌, ◌<◌, List, [], ◌∷
 use Rattle.cfi_aux.specs.declared.modules.Module.{Module}
 use Rattle.cfi_aux.specs.declared.placed.Placed.{Placed}
 use Rattle.cfi_plan.specs.declared.journal.ModuleLine.{ModuleLine}
-use Rattle.cfi_series.specs.Fills.{fills_of}
+use Rattle.cfi_series.specs.Fills.{fill_of, fills_of}
+use Rattle.cfi_policy.specs.Book.{KeptImage, StandsFor}
+use Rattle.cfi_series.specs.Image.{IsImageOfSeries}
 use Rattle.cfi_series.specs.Order.{Joins}
-use Rattle.cfi_series.specs.Prepared.{IsImageOfSeries, without_last}
-use Rattle.cfi_series.specs.Series.{Series}
+use Rattle.cfi_series.specs.Series.{Series, without_last}
 use Rattle.cfi_valid.specs.Kept.{Origin, loaded_from}
 use Rattle.cfi_valid.specs.Loaded.{LoadedModule}
 use Rattle.cfi_word.specs.declared.lists.Image.{Image}
 use Rattle.cfi_ledger.specs.declared.roster.Roster.TheInside.{Inside}
 use Rattle.cfi_ledger.specs.declared.candidate.Candidate.TheInside.{Inside as CandidateInside}
+use Rattle.cfi_ledger.specs.declared.offer.Offer.TheInside.{Inside as OfferInside}
 
 -- the lines of a report, and what placing made of the modules
 pub record Roster : Type 0 where
@@ -19,9 +21,11 @@ pub record Roster : Type 0 where
   pub lines : List ModuleLine
   pub placed : List Placed
 
+-- the modules as a series
 abbrev pub series_of : Roster → Series
 series_of roster = record { code_words = roster.code_words; placed = roster.placed }
 
+-- what is kept, as clauses see it
 abbrev pub roster_of : Inside → Roster
 roster_of a = record { code_words = a.series.code_words; lines = a.lines.items; placed = a.series.placed }
 
@@ -49,6 +53,7 @@ origin_of line = record { number = line.number; policy = line.policy }
 abbrev pub loaded_of : List ModuleLine → List Placed → List LoadedModule
 loaded_of lines placed = loaded_from origin_of lines placed
 
+-- its modules with their lines
 abbrev pub loaded_in_roster : Roster → List LoadedModule
 loaded_in_roster r = loaded_of r.lines r.placed
 
@@ -61,36 +66,71 @@ pub record HasJoined (number : ℕ) (name : List ℕ) (policy : ℕ) (unplaced :
     placed = old.placed ++ one ∷ [];
   }
 
+-- the image is that of all modules of a roster, under their own policy
+abbrev pub IsImageOfRoster : Roster → Image → Type 0
+IsImageOfRoster roster image = IsImageOfSeries (series_of roster) image
+
+-- the book is that of the modules of a series: it stands for them, and its image is theirs
+pub record IsBookOfSeries (series : Series) (book : KeptImage) : Type 0 where
+  pub stands : StandsFor series.placed book
+  pub image : IsImageOfSeries series book.image
+
+-- it is that of all modules of a roster
+abbrev pub IsBookOfRoster : Roster → KeptImage → Type 0
+IsBookOfRoster roster book = IsBookOfSeries (series_of roster) book
+
 -- ---- a module more, which may be taken back
 
--- the modules before it, all with it, and the image of all
+-- the modules before it, all with it, and the book of all
 pub record Candidate : Type 0 where
   pub before : Roster
   pub roster : Roster
-  pub image : Image
+  pub book : KeptImage
 
+-- what is kept, as clauses see it: without its last module, and with it
 abbrev pub candidate_of : CandidateInside → Candidate
 candidate_of a = record {
   before = record {
-    code_words = a.prepared.series.code_words;
+    code_words = a.prepared.code_words;
     lines = a.lines.items;
-    placed = (without_last a.prepared.series).placed;
+    placed = (without_last a.prepared).placed;
   };
   roster = record {
-    code_words = a.prepared.series.code_words;
+    code_words = a.prepared.code_words;
     lines = a.lines.items ++ a.line ∷ [];
-    placed = a.prepared.series.placed;
+    placed = a.prepared.placed;
   };
-  image = a.prepared.image;
+  book = a.book;
 }
 
 -- there is room for its line and its data
 pub record IsCandidate (a : CandidateInside) : Type 0 where
-  pub many : length a.lines.items + 1 ≡ length a.prepared.series.placed
-  pub fills : a.fills.items ++ a.fill ∷ [] ≡ fills_of a.prepared.series.placed
+  pub many : length a.lines.items + 1 ≡ length a.prepared.placed
+  pub fills : a.fills.items ++ a.fill ∷ [] ≡ fills_of a.prepared.placed
   pub line_fits : vec_len a.lines < vec_capacity a.lines
   pub fill_fits : vec_len a.fills < vec_capacity a.fills
 
--- the image is that of all modules of a roster, under their own policy
-abbrev pub IsImageOfRoster : Roster → Image → Type 0
-IsImageOfRoster roster image = IsImageOfSeries (series_of roster) image
+-- ---- a module more, which is taken later
+
+-- its line, and what placing made of it
+pub record Offer : Type 0 where
+  pub line : ModuleLine
+  pub placed : Placed
+
+-- what is kept, as clauses see it
+abbrev pub offer_of : OfferInside → Offer
+offer_of a = record { line = a.line; placed = a.placed }
+
+-- its data is there too
+abbrev pub HasItsData : OfferInside → Type 0
+HasItsData a = a.fill ≡ fill_of a.placed
+
+-- a roster with it
+abbrev pub with_offer : Offer → Roster → Roster
+with_offer offer r = record r { lines = r.lines ++ offer.line ∷ []; placed = r.placed ++ offer.placed ∷ [] }
+
+-- a module of this number, name and policy joins the roster so
+pub record IsOffer (number : ℕ) (name : List ℕ) (policy : ℕ) (unplaced : Module) (r : Roster) (offer : Offer)
+    : Type 0 where
+  pub joins : Joins r.code_words r.placed unplaced offer.placed
+  pub line_is : offer.line ≡ line_by number name policy offer.placed

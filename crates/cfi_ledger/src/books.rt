@@ -1,7 +1,7 @@
 //! The books of a run: the lines of its journal, and its loads: what is known of a module before it is tried, what was
 //! found of it, and the module in force.
 
-ghost use Rattle.std.specs.Prelude.{◌≡◌, ◌+◌, ◌<◌, true, if◌then◌else◌, IfOk, IfErr, IfSome, OnOk, OnErr, Some, length, nat_le, slice_get, slice_index_or, slice_set};
+ghost use Rattle.std.specs.Prelude.{◌≡◌, ◌+◌, ◌<◌, true, if◌then◌else◌, IfOk, IfErr, IfSome, OnOk, OnErr, Some, length, slice_get, slice_index_or, slice_set};
 ghost use Rattle.cfi_plan.specs.declared.journal.JournalLine.TheVariants.{LoadOk};
 ghost use Rattle.cfi_plan.specs.declared.journal.Who.TheVariants.{Script};
 ghost use Rattle.cfi_aux.specs.declared.placed.Placed.{Placed as PlacedModule};
@@ -12,7 +12,8 @@ ghost use Rattle.cfi_ledger.specs.Findings.{AreFindings, DoesJoin};
 ghost use Rattle.cfi_ledger.specs.Journal.{HasLine, HasRoomFor};
 ghost use Rattle.cfi_ledger.specs.Loads.{HasPrepared, IsKnown, IsUnprepared};
 ghost use Rattle.cfi_ledger.specs.Opens.{IsFirstGlobal};
-ghost use Rattle.cfi_ledger.specs.Roster.{IsImageOfRoster};
+ghost use Rattle.cfi_ledger.specs.Roster.{IsBookOfRoster};
+ghost use Rattle.cfi_policy.specs.Book.{KeepsNumbers};
 
 use crate::candidate::Candidate;
 use crate::entrant::Entrant;
@@ -21,10 +22,11 @@ use crate::journal::Journal;
 use crate::roster::Roster;
 use cfi_aux::Module;
 use cfi_plan::{JournalLine, Plan, Who};
+use cfi_policy::Book;
 use cfi_series::{JoinFault, first_global, loaded_have_entries};
 use cfi_values::Items;
+use cfi_word::Layout;
 use cfi_word::limits::MAX_EPOCH;
-use cfi_word::{Image, Layout};
 use std::alloc::Global;
 use std::mem;
 
@@ -39,8 +41,8 @@ pub struct Books {
     pub layout: Layout,
     /// The loaded modules.
     pub roster: Roster,
-    /// The image in force.
-    pub image: Image,
+    /// The image in force, with the links of the loaded modules.
+    pub book: Book,
     /// The epoch in force.
     pub epoch: u32,
     /// The policy in force.
@@ -67,17 +69,11 @@ impl Books {
         self.journal.tell(who, what);
     }
 
-    /// Whether no further module may be loaded.
-    pub fn is_full(&self) -> bool
-        ensures { result ≡ nat_le MAX_LOADED (length self.now.roster.lines) }
-    {
-        self.roster.is_full()
-    }
-
     /// The address of the first Global function of the module at a place in load order.
     pub fn address_at(&self, at: usize) -> Option<u32>
         requires { at < length self.now.roster.placed }
-        ensures { (d : PlacedModule) → IsFirstGlobal (slice_index_or self.now.roster.placed at d) result }
+        ensures { (d : PlacedModule)
+            → IsFirstGlobal (slice_index_or self.now.roster.placed at d) result }
     {
         loaded_have_entries();
         first_global(&self.roster.modules()[at])
@@ -124,16 +120,20 @@ impl Books {
         requires can { CanStart self.old.plan self.old.modules }
         requires known { number < length self.old.plan.modules }
         requires few { self.old.policy < MAX_LOADED }
+        requires book { IsBookOfRoster self.old.roster self.old.book }
         ensures ok { IfOk result (λ candidate. HasPrepared self.old number candidate.roster) }
         ensures before { IfOk result (λ candidate. candidate.before ≡ self.old.roster) }
-        ensures image { IfOk result (λ candidate. IsImageOfRoster candidate.roster candidate.image) }
+        ensures book { IfOk result (λ candidate. IsBookOfRoster candidate.roster candidate.book) }
+        ensures kept { IfOk result (λ candidate.
+            KeepsNumbers candidate.roster.placed self.old.book.image candidate.book.image) }
         ensures lent { OnOk result (self.new ≡ record self.old { roster = self.new.roster }) }
         ensures fault { IfErr result (IsUnprepared self.old number) }
         ensures same { OnErr result (self.new ≡ self.old) }
     {
         let roster = mem::replace(&mut self.roster, Roster::new(self.alloc, &self.layout));
         let entrant = Entrant::of(&self.plan, number, self.policy + 1);
-        match roster.prepare(&entrant, &self.modules.as_slice()[number as usize]) {
+        let unplaced = &self.modules.as_slice()[number as usize];
+        match roster.prepare(&entrant, unplaced, &self.book) {
             Ok(candidate) => Ok(candidate),
             Err(unjoined) => {
                 self.roster = unjoined.roster;
@@ -239,14 +239,14 @@ impl Books {
         ensures same { self.new ≡ record self.old {
           journal = self.new.journal;
           roster = candidate.roster;
-          image = candidate.image;
+          book = candidate.book;
           epoch = epoch;
           policy = self.old.policy + 1;
         } }
     {
-        let (roster, image) = candidate.commit();
+        let (roster, book) = candidate.commit();
         self.roster = roster;
-        self.image = image;
+        self.book = book;
         self.epoch = epoch;
         self.policy += 1;
         let policy = self.policy;

@@ -1,18 +1,17 @@
 //! A module more, which may still be taken back.
 
 ghost use Rattle.std.specs.Prelude.{◌≡◌};
-ghost use Rattle.cfi_series.specs.Prepared.{IsOrderedImage};
-ghost use Rattle.cfi_ledger.specs.Roster.{IsImageOfRoster};
 
 use crate::roster::Roster;
 use cfi_plan::ModuleLine;
+use cfi_policy::Book;
 use cfi_series::Prepared;
 use cfi_unit::Fill;
 use cfi_word::Image;
 use std::alloc::Global;
 use std::marker::Model;
 
-/// The loaded modules with one more, which may still be taken back, and the image of all.
+/// The loaded modules with one more, which may still be taken back, and the book of all.
 #[derive(Drop)]
 pub struct Candidate {
     pub(crate) prepared: Prepared,
@@ -20,6 +19,7 @@ pub struct Candidate {
     pub(crate) fills: Vec<Fill>,
     pub(crate) line: ModuleLine,
     pub(crate) fill: Fill,
+    pub(crate) book: Book,
     pub(crate) alloc: Global,
 }
 
@@ -36,14 +36,14 @@ impl Model for Candidate {
 impl Candidate {
     /// The image of all.
     pub fn image(&self) -> &Image
-        ensures { result.now ≡ self.now.image }
+        ensures { result.now ≡ self.now.book.image }
     {
-        self.prepared.image()
+        self.book.image()
     }
 
     /// The second step of a load. It takes no memory.
-    pub fn commit(self) -> (Roster, Image)
-        ensures { result ≡ (self.roster, self.image) }
+    pub fn commit(self) -> (Roster, Book)
+        ensures { result ≡ (self.roster, self.book) }
     {
         let Candidate {
             prepared,
@@ -51,42 +51,18 @@ impl Candidate {
             mut fills,
             line,
             fill,
+            book,
             alloc,
         } = self;
         lines.push_reserved(line);
         fills.push_reserved(fill);
-        let (series, image) = prepared.commit();
         let roster = Roster {
-            series,
+            series: prepared.commit(),
             lines,
             fills,
             alloc,
         };
-        (roster, image)
-    }
-
-    /// The loaded modules without it, and the image of all with it: a load that is made later. It takes no memory.
-    pub fn withdraw(self) -> (Roster, Image)
-        ensures value { result ≡ (self.before, self.image) }
-        ensures image { IsImageOfRoster self.roster self.image }
-        ensures ordered { IsOrderedImage self.roster.placed self.image }
-    {
-        let Candidate {
-            prepared,
-            lines,
-            fills,
-            line: _,
-            fill: _,
-            alloc,
-        } = self;
-        let (series, image) = prepared.withdraw();
-        let roster = Roster {
-            series,
-            lines,
-            fills,
-            alloc,
-        };
-        (roster, image)
+        (roster, book)
     }
 
     /// The loaded modules without it: a load that is not made. It takes no memory.
@@ -99,6 +75,7 @@ impl Candidate {
             fills,
             line: _,
             fill: _,
+            book: _,
             alloc,
         } = self;
         Roster {

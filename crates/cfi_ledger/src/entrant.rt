@@ -39,7 +39,11 @@ impl<'a> Entrant<'a> {
 }
 
 // What a report says of a module.
-fn line_of(alloc: Global, entrant: &Entrant<'_>, placed: &Placed) -> Result<ModuleLine, AllocError>
+pub(crate) fn line_of(
+    alloc: Global,
+    entrant: &Entrant<'_>,
+    placed: &Placed,
+) -> Result<ModuleLine, AllocError>
     ensures { IfOk result (λ line. line
         ≡ line_by entrant.now.number entrant.now.name.now entrant.now.policy placed.now) }
 {
@@ -54,7 +58,7 @@ fn line_of(alloc: Global, entrant: &Entrant<'_>, placed: &Placed) -> Result<Modu
 }
 
 // The data of a module, at its place.
-fn fill_of(alloc: Global, placed: &Placed) -> Result<Fill, AllocError>
+pub(crate) fn fill_of(alloc: Global, placed: &Placed) -> Result<Fill, AllocError>
     ensures { IfOk result (λ fill. fill ≡ fill_of placed.now) }
 {
     let bytes = Vec::from_slice(alloc, placed.static_data.as_slice())?;

@@ -1,9 +1,9 @@
 //! The opening of a plan: its start modules, and where its guests begin.
 
 ghost use Rattle.std.specs.Prelude.{◌≡◌, ◌<◌, ◌^◌, IfOk, IfErr, length};
-ghost use Rattle.cfi_ledger.specs.Opening.{AreOpened, AreOpeningBooks, HasOpened, IsStartFault};
+ghost use Rattle.cfi_ledger.specs.Opening.{AreOpened, AreOpeningBooks, HasOpened, IsStartRoster, IsStartFault};
 ghost use Rattle.cfi_ledger.specs.Plans.{CanStart};
-ghost use Rattle.cfi_ledger.specs.Roster.{IsImageOfRoster};
+ghost use Rattle.cfi_ledger.specs.Roster.{IsBookOfRoster};
 ghost use Rattle.cfi_ledger.specs.Starts.{AreStarted, start_fault_of};
 ghost use Rattle.cfi_ledger.specs.declared.fault.StartFault.TheVariants.{Memory};
 
@@ -17,6 +17,7 @@ use crate::journal::Journal;
 use crate::roster::Roster;
 use cfi_aux::Module;
 use cfi_plan::Plan;
+use cfi_policy::Book;
 use cfi_series::{JoinFault, loaded_have_entries};
 use cfi_values::Items;
 use cfi_word::{Image, Layout};
@@ -63,6 +64,26 @@ fn start_modules(
     Ok(roster)
 }
 
+// The start modules of a plan, where each guest has somewhere to begin.
+fn start_roster(
+    alloc: Global,
+    layout: &Layout,
+    plan: &Plan,
+    modules: &[Module],
+) -> Result<Roster, StartFault>
+    requires can { CanStart plan.now modules.now }
+    requires layout { layout.now ≡ plan.now.code_words }
+    ensures ok { IfOk result (IsStartRoster plan.now modules.now) }
+    ensures fault { IfErr result (IsStartFault plan.now modules.now) }
+{
+    let roster = start_modules(alloc, layout, plan, modules)?;
+    loaded_have_entries();
+    if let Some(guest) = first_lost(plan, roster.modules()) {
+        return Err(StartFault::Open(OpenFault::NoEntry(guest)));
+    }
+    Ok(roster)
+}
+
 /// The start modules of a plan, placed and verified in plan order, each against those before it, and the image of all,
 /// where each guest has somewhere to begin.
 ///
@@ -79,11 +100,7 @@ pub fn open_modules(
     ensures ok { IfOk result (λ pair. HasOpened plan.now modules.now pair.0 pair.1) }
     ensures fault { IfErr result (IsStartFault plan.now modules.now) }
 {
-    let roster = start_modules(alloc, layout, plan, modules)?;
-    loaded_have_entries();
-    if let Some(guest) = first_lost(plan, roster.modules()) {
-        return Err(StartFault::Open(OpenFault::NoEntry(guest)));
-    }
+    let roster = start_roster(alloc, layout, plan, modules)?;
     let image = roster.image()?;
     Ok((roster, image))
 }
@@ -95,10 +112,10 @@ fn first_books(
     plan: &Plan,
     modules: Items<Module>,
     roster: Roster,
-    image: Image,
+    book: Book,
 ) -> Result<Books, StartFault>
     requires layout { layout ≡ plan.now.code_words }
-    requires image { IsImageOfRoster roster image }
+    requires book { IsBookOfRoster roster book }
     ensures books { IfOk result (λ books. AreOpeningBooks plan.now modules roster books) }
     ensures fault { IfErr result (λ fault. fault ≡ Memory) }
 {
@@ -110,7 +127,7 @@ fn first_books(
         modules,
         layout,
         roster,
-        image,
+        book,
         epoch: plan.first,
         policy: 0,
         starts,
@@ -122,7 +139,7 @@ fn first_books(
 }
 
 impl Books {
-    /// The books of a plan before its first call, as `open_modules` opens it.
+    /// The books of a plan before its first call. It opens as by `open_modules`, with the same faults.
     ///
     /// `modules` are those of the plan, one a line.
     pub fn open(alloc: Global, plan: &Plan, modules: Items<Module>) -> Result<Books, StartFault>
@@ -131,7 +148,8 @@ impl Books {
         ensures fault { IfErr result (IsStartFault plan.now modules) }
     {
         let layout = Layout::new(plan.code_words).unwrap();
-        let (roster, image) = open_modules(alloc, &layout, plan, modules.as_slice())?;
-        first_books(alloc, layout, plan, modules, roster, image)
+        let roster = start_roster(alloc, &layout, plan, modules.as_slice())?;
+        let book = roster.book()?;
+        first_books(alloc, layout, plan, modules, roster, book)
     }
 }

@@ -1,26 +1,31 @@
 //! The loaded modules, with what a report says of each and the data that came with it.
 
-ghost use Rattle.std.specs.Prelude.{◌≡◌, ◌<◌, [], IfOk, IfErr, IfSome, IfNone, OnOk, length, nat_le};
+ghost use Rattle.std.specs.Prelude.{◌≡◌, ◌<◌, [], IfOk, IfErr, IfSome, IfNone, OnOk, OnErr, length, nat_le};
 ghost use Rattle.cfi_aux.specs.declared.placed.Placed.{Placed as PlacedModule};
 ghost use Rattle.cfi_series.specs.Fills.{fills_of};
 ghost use Rattle.cfi_series.specs.Loaded.{AreLoaded};
 ghost use Rattle.cfi_series.specs.Order.{IsJoinFault, Joins};
-ghost use Rattle.cfi_series.specs.Prepared.{IsOrderedImage};
-ghost use Rattle.cfi_series.specs.Series.{CanBeTaken, IsSeries};
+ghost use Rattle.cfi_series.specs.Image.{IsOrderedImage};
+ghost use Rattle.cfi_series.specs.Series.{CanBeTaken, CanRejoin, IsSeries};
 ghost use Rattle.cfi_ledger.specs.Loads.{IsListed, IsUnlisted};
-ghost use Rattle.cfi_ledger.specs.Roster.{HasJoined, IsImageOfRoster};
+ghost use Rattle.cfi_ledger.specs.Roster.{series_of, with_offer, HasJoined, IsBookOfRoster, IsImageOfRoster, IsOffer};
+ghost use Rattle.cfi_policy.specs.Book.{KeepsNumbers};
 ghost use Rattle.cfi_valid.specs.declared.limits.TheConstants.{MAX_LOADED};
 
+use crate::book::booked;
 use crate::candidate::Candidate;
 use crate::entrant::{Entrant, taken};
+use crate::offer::{Offer, imaged};
 use cfi_aux::{Module, Placed};
 use cfi_plan::ModuleLine;
+use cfi_policy::Book;
 use cfi_series::{JoinFault, Series};
 use cfi_unit::Fill;
 use cfi_valid::MAX_LOADED;
 use cfi_word::{Image, Layout};
 use std::alloc::{AllocError, Global};
 use std::marker::Model;
+use std::mem;
 
 /// The loaded modules, in load order.
 #[derive(Drop)]
@@ -94,21 +99,31 @@ impl Roster {
         requires { CanBeTaken unplaced.now }
         ensures ok { OnOk result
             ((one : PlacedModule) × Joins self.old.code_words self.old.placed unplaced.now one) }
-        ensures fault { IfErr result (IsJoinFault self.old.code_words self.old.placed unplaced.now) }
+        ensures fault { IfErr result
+            (IsJoinFault self.old.code_words self.old.placed unplaced.now) }
         ensures same { self.new ≡ self.old }
     {
         self.series.joins(unplaced)
     }
 
-    /// Places and verifies a module behind the others, and makes the image of all: the first step of a load.
+    /// Places and verifies a module behind the others, and makes the book of all, behind that of the others: the first
+    /// step of a load.
     ///
     /// All memory that the load takes is taken here.
-    pub fn prepare(self, entrant: &Entrant<'_>, unplaced: &Module) -> Result<Candidate, Unjoined>
-        requires { CanBeTaken unplaced.now }
+    pub fn prepare(
+        self,
+        entrant: &Entrant<'_>,
+        unplaced: &Module,
+        before: &Book,
+    ) -> Result<Candidate, Unjoined>
+        requires can { CanBeTaken unplaced.now }
+        requires book { IsBookOfRoster self before.now }
         ensures ok { IfOk result (λ candidate. HasJoined entrant.now.number entrant.now.name.now
             entrant.now.policy unplaced.now self candidate.roster) }
         ensures before { IfOk result (λ candidate. candidate.before ≡ self) }
-        ensures image { IfOk result (λ candidate. IsImageOfRoster candidate.roster candidate.image) }
+        ensures book { IfOk result (λ candidate. IsBookOfRoster candidate.roster candidate.book) }
+        ensures kept { IfOk result (λ candidate.
+            KeepsNumbers candidate.roster.placed before.now.image candidate.book.image) }
         ensures fault { IfErr result (λ unjoined.
             IsJoinFault self.code_words self.placed unplaced.now unjoined.fault) }
         ensures same { IfErr result (λ unjoined. unjoined.roster ≡ self) }
@@ -119,8 +134,8 @@ impl Roster {
             mut fills,
             alloc,
         } = self;
-        let prepared = match series.prepare(unplaced) {
-            Ok(prepared) => prepared,
+        let (prepared, book) = match booked(alloc, series, unplaced, before) {
+            Ok((prepared, book)) => (prepared, book),
             Err(refused) => {
                 let roster = Roster {
                     series: refused.series,
@@ -134,7 +149,7 @@ impl Roster {
                 });
             }
         };
-        let placed = &prepared.modules()[lines.len()];
+        let placed = &prepared.series().modules()[lines.len()];
         match taken(alloc, entrant, placed, &mut lines, &mut fills) {
             Ok((line, fill)) => Ok(Candidate {
                 prepared,
@@ -142,6 +157,7 @@ impl Roster {
                 fills,
                 line,
                 fill,
+                book,
                 alloc,
             }),
             Err(_) => {
@@ -159,6 +175,56 @@ impl Roster {
         }
     }
 
+    /// Places and verifies a module behind the others, and makes the image of all, for a load that is made later by
+    /// `take`. The others stay as they are.
+    pub fn offer(
+        &mut self,
+        entrant: &Entrant<'_>,
+        unplaced: &Module,
+    ) -> Result<(Offer, Image), JoinFault>
+        requires { CanBeTaken unplaced.now }
+        ensures ok { IfOk result (λ pair. IsOffer entrant.now.number entrant.now.name.now
+            entrant.now.policy unplaced.now self.old pair.0) }
+        ensures image { IfOk result (λ pair. IsImageOfRoster (with_offer pair.0 self.old) pair.1) }
+        ensures ordered { IfOk result (λ pair.
+            IsOrderedImage (with_offer pair.0 self.old).placed pair.1) }
+        ensures fault { IfErr result
+            (IsJoinFault self.old.code_words self.old.placed unplaced.now) }
+        ensures same { self.new ≡ self.old }
+    {
+        let empty = Series::new(self.alloc, &self.series.layout());
+        let series = mem::replace(&mut self.series, empty);
+        match imaged(series, unplaced) {
+            Ok((prepared, image)) => {
+                let (series, placed) = prepared.withdraw();
+                self.series = series;
+                let offer = Offer::of(self.alloc, entrant, placed)?;
+                Ok((offer, image))
+            }
+            Err(refused) => {
+                self.series = refused.series;
+                Err(refused.fault)
+            }
+        }
+    }
+
+    /// Adds a module as it was offered, which joins the others still. It is not placed or verified again.
+    ///
+    /// Without memory the others stay as they are.
+    pub fn take(&mut self, offer: Offer) -> Result<(), AllocError>
+        requires { CanRejoin (series_of self.old) offer.placed }
+        ensures ok { OnOk result (self.new ≡ with_offer offer self.old) }
+        ensures same { OnErr result (self.new ≡ self.old) }
+    {
+        let Offer { placed, line, fill } = offer;
+        self.lines.reserve(1)?;
+        self.fills.reserve(1)?;
+        self.series.rejoin(placed)?;
+        self.lines.push_reserved(line);
+        self.fills.push_reserved(fill);
+        Ok(())
+    }
+
     /// What a report says of each.
     pub fn lines(&self) -> &[ModuleLine]
         ensures value { result.now ≡ self.now.lines }
@@ -167,8 +233,8 @@ impl Roster {
         &self.lines
     }
 
-    /// Whether no further module may be loaded.
-    pub fn is_full(&self) -> bool
+    // Whether no further module may be loaded.
+    pub(crate) fn is_full(&self) -> bool
         ensures { result ≡ nat_le MAX_LOADED (length self.now.lines) }
     {
         self.lines.len() >= MAX_LOADED as usize

@@ -70,6 +70,7 @@ module _ (k : Key) (b : Books) (j : Minutes) (keeping : Keeping) (kept : BooksAg
               kept.ledger asks told policies_there tells;
           roster_is = roster_there;
           layout_is = kept.layout_is;
+          book_is = kept.book_is;
           image_is = kept.image_is;
           starts_are = kept.starts_are;
           found_are = kept.found_are;
@@ -106,6 +107,7 @@ module _ (k : Key) (b : Books) (j : Minutes) (keeping : Keeping) (kept : BooksAg
               kept.ledger asks told policies_there tells;
           roster_is = roster_there;
           layout_is = kept.layout_is;
+          book_is = kept.book_is;
           image_is = kept.image_is ∙ ap (λ (all : Keeping). (last_of all.entries).image) (sym new_is);
           starts_are = kept.starts_are;
           found_are = kept.found_are;
@@ -172,6 +174,7 @@ module _ (k : Key) (b : Books) (j : Minutes) (keeping : Keeping) (kept : BooksAg
             lines_are = kept.roster_is.lines_are;
           };
           layout_is = kept.layout_is;
+          book_is = kept.book_is;
           image_is = kept.image_is ∙ ap (λ (e : TableEntry). e.image) (sym (last_more keeping.entries again));
           starts_are = kept.starts_are;
           found_are = kept.found_are;

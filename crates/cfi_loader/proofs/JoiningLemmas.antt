@@ -6,8 +6,9 @@ use Rattle.cfi_plan.specs.declared.journal.JournalLine.{JournalLine}
 use Rattle.cfi_plan.specs.declared.journal.JournalLine.TheVariants.{LoadOk}
 use Rattle.cfi_plan.specs.declared.journal.ModuleLine.{ModuleLine}
 use Rattle.cfi_plan.specs.declared.journal.Who.{Who}
+use Rattle.cfi_policy.specs.Book.{KeptImage, KeepsNumbers}
 use Rattle.cfi_tables.specs.Faults.{epoch_after, FaultIs}
-use Rattle.cfi_tables.specs.Keeping.{Keeping, entry_by, grown_by}
+use Rattle.cfi_tables.specs.Keeping.{Keeping, entry_by, grown_by, last_of}
 use Rattle.cfi_tables.specs.Key.{Key}
 use Rattle.cfi_tables.specs.declared.fault.UpdateFault.{UpdateFault}
 use Rattle.cfi_tables.specs.declared.fault.UpdateFault.TheVariants.{EpochsSpent, VersionsSpent}
@@ -19,7 +20,7 @@ use Rattle.cfi_ledger.specs.declared.books.Books.{Books}
 use Rattle.cfi_loader.specs.declared.loaded.Loaded.{Loaded}
 use Rattle.cfi_loader.specs.Marks.{mark_by}
 use Rattle.cfi_ledger.specs.Journal.{asked_by}
-use Rattle.cfi_loader.specs.Results.{SaysOf, RefusesBy}
+use Rattle.cfi_loader.specs.Results.{KeepsClasses, SaysOf, RefusesBy}
 use Rattle.cfi_loader.specs.Told.{MayAskFor}
 use Rattle.cfi_ledger.specs.Books.{course_in}
 use Rattle.cfi_loader.specs.inner.Books.{ledger_of, BooksAgree, IsAfter}
@@ -27,11 +28,25 @@ use Rattle.cfi_ledger.specs.Journal.{Minutes, HasLine}
 use Rattle.cfi_ledger.specs.Loads.{HasPrepared, IsAbsent, IsListed}
 use Rattle.cfi_ledger.specs.Opens.{IsFirstGlobal}
 use Rattle.cfi_loader.specs.inner.Loads.{LoadsTo, Refuses, load_fault_by, update_line}
-use Rattle.cfi_ledger.specs.Roster.{Roster, IsImageOfRoster, line_by}
+use Rattle.cfi_ledger.specs.Roster.{Roster, IsBookOfRoster, line_by}
 use Rattle.cfi_loader.proofs.LineLemmas.{line_new, line_refused}
+use Rattle.cfi_loader.proofs.LoadLemmas.{places}
 use Rattle.cfi_loader.proofs.PrepareLemmas.{clean, load_made}
 use Rattle.cfi_ledger.proofs.RosterLemmas.{listed_address}
 use Rattle.cfi_loader.proofs.UpdateLemmas.{IsRight, after_load_refused}
+
+-- an image that keeps the class numbers of the books' keeps those of the image in force
+pub keeps_classes : (k : Key) (b new : Books) (before after : Keeping) (roster : Roster) (book : KeptImage)
+    → BooksAgree k b before → BooksAgree k new after → new.roster ≡ roster → new.book ≡ book
+    → KeepsNumbers roster.placed b.book.image book.image → KeepsClasses (ledger_of b before) (ledger_of new after)
+keeps_classes k b new before after roster book mine theirs roster_is book_is keeps =
+    let of_new : KeepsNumbers new.roster.placed b.book.image new.book.image =
+    subst (λ (r : Roster). KeepsNumbers r.placed b.book.image new.book.image) (sym roster_is)
+    (subst (λ (x : KeptImage). KeepsNumbers roster.placed b.book.image x.image) (sym book_is) keeps) in
+    subst (λ (ps : List Placed). KeepsNumbers ps (last_of before.entries).image (last_of after.entries).image)
+    (sym (places k new after theirs))
+    (subst (λ (i : Image). KeepsNumbers new.roster.placed i (last_of after.entries).image) mine.image_is
+    (subst (λ (i : Image). KeepsNumbers new.roster.placed b.book.image i) theirs.image_is of_new))
 
 module _ (k : Key) (b : Books) (keeping : Keeping) (kept : BooksAgree k b keeping) (who : Who) (number : ℕ)
     (asks : MayAskFor (ledger_of b keeping) who (Load number)) where
@@ -46,24 +61,25 @@ module _ (k : Key) (b : Books) (keeping : Keeping) (kept : BooksAgree k b keepin
         subst (λ (j : Minutes). HasLine (asked_by who line) j new.journal) (ap (λ (m : Books). m.journal) lent) has
 
     -- its update was made
-    pub made_answers : (image : Image) → IsImageOfRoster roster image → (epoch : ℕ) → epoch ≡ epoch_after k keeping
+    pub made_answers : (book : KeptImage) → IsBookOfRoster roster book → (epoch : ℕ) → epoch ≡ epoch_after k keeping
         → b.epoch < MAX_EPOCH → HasLine (asked_by who (LoadOk number epoch (mid.policy + 1))) mid.journal new.journal
         → new ≡ record mid {
           journal = new.journal;
           roster = roster;
-          image = image;
+          book = book;
           epoch = epoch;
           policy = mid.policy + 1;
         }
-        → after ≡ grown_by (entry_by (mid.policy + 1) image (mark_by who (Load number))) after.quiets keeping → (answer : Loaded)
+        → after ≡ grown_by (entry_by (mid.policy + 1) book.image (mark_by who (Load number))) after.quiets keeping
+        → (answer : Loaded)
         → answer.again ≡ false → answer.epoch ≡ epoch → answer.policy ≡ mid.policy + 1 → (p : Placed)
         → IsFirstGlobal (get_or roster.placed (length roster.placed - 1) p) answer.address
         → LoadsTo k who number answer b new keeping after
-    made_answers image of epoch epoch_is left has same grown answer again epoch_of policy_of p first =
+    made_answers book of epoch epoch_is left has same grown answer again epoch_of policy_of p first =
         let there : Books = record b {
           journal = new.journal;
           roster = roster;
-          image = image;
+          book = book;
           epoch = epoch;
           policy = b.policy + 1;
         } in
@@ -71,18 +87,21 @@ module _ (k : Key) (b : Books) (keeping : Keeping) (kept : BooksAgree k b keepin
         same ∙ ap (λ (m : Books). record m {
           journal = new.journal;
           roster = roster;
-          image = image;
+          book = book;
           epoch = epoch;
           policy = m.policy + 1;
         }) lent in
-        let grown_is : after ≡ grown_by (entry_by (b.policy + 1) image (mark_by who (Load number))) after.quiets keeping =
-        grown ∙ ap (λ (n : ℕ). grown_by (entry_by (n + 1) image (mark_by who (Load number))) after.quiets keeping) force in
+        let grown_is : after ≡
+        grown_by (entry_by (b.policy + 1) book.image (mark_by who (Load number))) after.quiets keeping =
+        grown
+        ∙ ap (λ (n : ℕ). grown_by (entry_by (n + 1) book.image (mark_by who (Load number))) after.quiets keeping)
+        force in
         let line : JournalLine = LoadOk number epoch (b.policy + 1) in
         let has_there : HasLine (asked_by who line) b.journal new.journal =
         subst (λ (n : ℕ). HasLine (asked_by who (LoadOk number epoch (n + 1))) b.journal new.journal) force
         (lines_there (LoadOk number epoch (mid.policy + 1)) has) in
-        let all = load_made k b keeping kept number roster prepared absent image of after.quiets who epoch new.journal epoch_is left
-        has_there asks in
+        let all = load_made k b keeping kept number roster prepared absent book of after.quiets who epoch
+        new.journal epoch_is left has_there asks in
         let with_after : IsAfter k (asked_by who line) b there keeping after =
         subst (IsAfter k (asked_by who line) b there keeping) (sym grown_is) all in
         let policy_is : answer.policy ≡ b.policy + 1 = policy_of ∙ ap (λ (n : ℕ). n + 1) force in

@@ -15,6 +15,7 @@ use Rattle.cfi_plan.specs.declared.journal.JournalLine.{JournalLine}
 use Rattle.cfi_plan.specs.declared.journal.JournalLine.TheVariants.{LoadOk}
 use Rattle.cfi_plan.specs.declared.journal.ModuleLine.{ModuleLine}
 use Rattle.cfi_plan.specs.declared.journal.Who.{Who}
+use Rattle.cfi_policy.specs.Book.{KeptImage}
 use Rattle.cfi_policy.specs.Code.{IsCodeOf}
 use Rattle.cfi_policy.specs.Image.{IsImage}
 use Rattle.cfi_series.specs.Loaded.{AreLoaded}
@@ -45,7 +46,7 @@ use Rattle.cfi_loader.specs.Told.{GoesOnBy, MayAskFor, HasTold}
 use Rattle.cfi_ledger.specs.Books.{course_in, end_of_books, loaded_in}
 use Rattle.cfi_loader.specs.inner.Books.{ledger_of, BooksAgree, IsAfter}
 use Rattle.cfi_ledger.specs.Journal.{Minutes, HasLine}
-use Rattle.cfi_ledger.specs.Roster.{Roster, line_by, origin_of}
+use Rattle.cfi_ledger.specs.Roster.{Roster, IsBookOfRoster, line_by, origin_of}
 use Rattle.cfi_loader.proofs.BooksLemmas.{last_entry, one_left}
 use Rattle.cfi_ledger.proofs.EntryLemmas.{among_self, entry_of_all, loaded_all}
 use Rattle.cfi_ledger.proofs.FindingLemmas.{findings_more}
@@ -116,7 +117,10 @@ module _ (k : Key) (b : Books) (keeping : Keeping) (kept : BooksAgree k b keepin
 -- ---- the line of a load
 
 module _ (k : Key) (b : Books) (j : Minutes) (keeping : Keeping) (kept : BooksAgree k b keeping) (who : Who)
-    (number : ℕ) (unplaced : Module) (one : Placed) (image : Image) (quiets : Quiets) where
+    (number : ℕ) (unplaced : Module) (one : Placed) (book : KeptImage) (quiets : Quiets) where
+  abbrev image : Image
+  image = book.image
+
   abbrev what : JournalLine
   what = LoadOk number (b.epoch + 1) (b.policy + 1)
 
@@ -133,7 +137,7 @@ module _ (k : Key) (b : Books) (j : Minutes) (keeping : Keeping) (kept : BooksAg
   loaded_books = record b {
     journal = j;
     roster = roster_there;
-    image = image;
+    book = book;
     epoch = b.epoch + 1;
     policy = b.policy + 1;
   }
@@ -145,11 +149,12 @@ module _ (k : Key) (b : Books) (j : Minutes) (keeping : Keeping) (kept : BooksAg
       → MayAsk b.plan who what → b.epoch < MAX_EPOCH → slice_get b.modules number ≡ Some unplaced
       → IsSoundModule unplaced → ¬ IsLoaded (loaded_in b) number → length (loaded_in b) < MAX_LOADED
       → Joins b.plan.code_words b.roster.placed unplaced one
-      → IsImage (DirectEdge (b.roster.placed ++ one ∷ [])) (b.roster.placed ++ one ∷ []) b.plan.code_words image
-      → IsAfter k entry b loaded_books keeping (grown_by new quiets keeping)
-  after_load has asks may left is is_sound absent room joins of =
+      → IsBookOfRoster roster_there book → IsAfter k entry b loaded_books keeping (grown_by new quiets keeping)
+  after_load has asks may left is is_sound absent room joins book_is =
       let all : List Placed = b.roster.placed ++ one ∷ [] in
       let many = kept.roster_is.many in
+      let of : IsImage (DirectEdge all) all b.plan.code_words image =
+      subst (λ (n : ℕ). IsImage (DirectEdge all) all n image) kept.roster_is.code_words_are book_is.image in
       let there = loaded_more origin_of b.roster.lines b.roster.placed line one many in
       let end : end_of_books loaded_books ≡ with_loaded number (b.epoch + 1) (b.policy + 1) one (end_of_books b) =
       ap (λ (ls : List LoadedModule). record { epoch = b.epoch + 1; policy = b.policy + 1; loaded = ls }) there in
@@ -201,6 +206,7 @@ module _ (k : Key) (b : Books) (j : Minutes) (keeping : Keeping) (kept : BooksAg
                 ∙ map-append (module_line_of b.plan.modules) (loaded_in b) (one_there ∷ []));
           };
           layout_is = kept.layout_is;
+          book_is = book_is;
           image_is = ap (λ (e : TableEntry). e.image) (sym (last_more keeping.entries new));
           starts_are = kept.starts_are;
           found_are = findings_more b.modules b.roster b.found.items kept.found_are (b.roster.lines ++ line ∷ []) one;

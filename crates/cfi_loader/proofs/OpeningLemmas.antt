@@ -12,6 +12,7 @@ use Rattle.cfi_model.specs.World.{first_entry}
 use Rattle.cfi_model.proofs.TableLemmas.{opened_are}
 use Rattle.cfi_plan.specs.declared.journal.Entry.{Entry}
 use Rattle.cfi_plan.specs.declared.plan.Plan.{Plan}
+use Rattle.cfi_policy.specs.Book.{KeptImage}
 use Rattle.cfi_policy.specs.Image.{IsImage}
 use Rattle.cfi_series.specs.Loaded.{AreLoaded}
 use Rattle.cfi_tables.specs.Key.{Key, Named, key_by}
@@ -19,7 +20,6 @@ use Rattle.cfi_tables.specs.Keeping.{is_out, opened_keeping}
 use Rattle.cfi_valid.specs.Journal.{IsOpeningState, IsJournal}
 use Rattle.cfi_valid.specs.Script.{script_calls, made_by_script}
 use Rattle.cfi_word.specs.declared.limits.TheConstants.{GUESTS}
-use Rattle.cfi_word.specs.declared.lists.Image.{Image}
 use Rattle.cfi_ledger.specs.declared.books.Books.{Books}
 use Rattle.cfi_ledger.specs.Policies.{IsEntryOf}
 use Rattle.cfi_loader.specs.Ledger.{TellsOf}
@@ -33,7 +33,7 @@ use Rattle.cfi_ledger.specs.Entries.{AllEnter}
 use Rattle.cfi_ledger.specs.Findings.{AreFindings}
 use Rattle.cfi_ledger.specs.Journal.{Minutes}
 use Rattle.cfi_ledger.specs.Opening.{books_at, AreOpeningBooks}
-use Rattle.cfi_ledger.specs.Roster.{Roster, IsImageOfRoster, origin_of}
+use Rattle.cfi_ledger.specs.Roster.{Roster, IsBookOfRoster, origin_of}
 use Rattle.cfi_ledger.specs.Starts.{AreStarted, opened_state}
 use Rattle.cfi_ledger.proofs.EntryLemmas.{entry_of_all}
 use Rattle.cfi_ledger.proofs.FindingLemmas.{findings_none}
@@ -45,22 +45,23 @@ use Rattle.cfi_ledger.proofs.OpeningLemmas.{entries, journal_none, labels, place
 -- ---- the start
 
 module _ (plan : Plan) (modules : List Module) (can : CanStart plan modules) (r : Roster)
-    (all : AreStarted plan modules (length plan.modules) r) (image : Image) (of : IsImageOfRoster r image) (j : Minutes)
+    (all : AreStarted plan modules (length plan.modules) r) (book : KeptImage) (book_is : IsBookOfRoster r book)
+    (j : Minutes)
     (no_lines : j.lines ≡ []) (left : j.left ≡ script_calls plan.script) (enter : AllEnter plan r.placed) (b : Books)
     (none_found : b.found.items ≡ replicate (length modules) None) where
   abbrev k : Key
-  k = key_by plan.code_words plan.versions plan.first image
+  k = key_by plan.code_words plan.versions plan.first book.image
 
   abbrev first : Books
-  first = books_at plan modules r image j b
+  first = books_at plan modules r book j b
 
-  is_first : IsEntryOf (course_in first) (first_entry image)
+  is_first : IsEntryOf (course_in first) (first_entry book.image)
   is_first =
-      entry_of_all (course_in first) (first_entry image) refl
+      entry_of_all (course_in first) (first_entry book.image) refl
       (policies_below plan (opened_state plan r) (policies plan modules can r all))
       (subst (AreLoaded plan.code_words) (sym (places plan modules can r all)) (start_loaded plan modules can r all))
-      (subst (λ (ps : List Placed). IsImage (DirectEdge ps) ps plan.code_words image)
-      (sym (places plan modules can r all)) (labels plan modules can r all image of))
+      (subst (λ (ps : List Placed). IsImage (DirectEdge ps) ps plan.code_words book.image)
+      (sym (places plan modules can r all)) (labels plan modules can r all book.image book_is.image))
 
   none : (guest : ℕ) → is_out (opened_keeping k).out guest ≡ false
   none guest = ⊎_elim
@@ -74,11 +75,11 @@ module _ (plan : Plan) (modules : List Module) (can : CanStart plan modules) (r 
 
   tells : TellsOf k (course_in first) (opened_keeping k)
   tells = record {
-    tables = opened_are plan.code_words plan.versions plan.first image can.code_words can.versions.0
-        can.versions.1 can.first (start_closed plan modules can r all image of);
+    tables = opened_are plan.code_words plan.versions plan.first book.image can.code_words can.versions.0
+        can.versions.1 can.first (start_closed plan modules can r all book.image book_is.image);
     epoch = refl;
     policy = refl;
-    images = All-cons (IsEntryOf (course_in first)) (first_entry image) [] is_first
+    images = All-cons (IsEntryOf (course_in first)) (first_entry book.image) [] is_first
         (All-nil (IsEntryOf (course_in first)));
     marks = subst (λ (lines : List Entry). AreMade lines (opened_keeping k).entries) (sym no_lines) refl;
     epochs = subst (λ (lines : List Entry). HavePoliciesOf lines (opened_keeping k).entries) (sym no_lines) refl;
@@ -107,6 +108,7 @@ module _ (plan : Plan) (modules : List Module) (can : CanStart plan modules) (r 
       lines_are = all.lines_are;
     };
     layout_is = refl;
+    book_is = book_is;
     image_is = refl;
     starts_are =
         all.many ∙ sym (many_are origin_of r.lines r.placed all.many) ∙ started_count plan modules r all;
@@ -117,12 +119,12 @@ module _ (plan : Plan) (modules : List Module) (can : CanStart plan modules) (r 
 
 module _ (plan : Plan) (modules : List Module) (can : CanStart plan modules) (r : Roster)
     (all : AreStarted plan modules (length plan.modules) r) (b : Books) (is : AreOpeningBooks plan modules r b) where
-  pub first_kept : (k : Key) → k ≡ key_by plan.code_words plan.versions plan.first b.image → AllEnter plan r.placed
+  pub first_kept : (k : Key) → k ≡ key_by plan.code_words plan.versions plan.first b.book.image → AllEnter plan r.placed
       → BooksAgree k b (opened_keeping k)
   first_kept k k_is enter =
-      let key : Key = key_by plan.code_words plan.versions plan.first b.image in
-      let kept : BooksAgree key (books_at plan modules r b.image b.journal b) (opened_keeping key) =
-      start_kept plan modules can r all b.image is.image_is b.journal is.lines_are is.left_are enter b
+      let key : Key = key_by plan.code_words plan.versions plan.first b.book.image in
+      let kept : BooksAgree key (books_at plan modules r b.book b.journal b) (opened_keeping key) =
+      start_kept plan modules can r all b.book is.book_is b.journal is.lines_are is.left_are enter b
       is.none_found in
       subst (λ (x : Key). BooksAgree x b (opened_keeping x)) (sym k_is)
       (subst (λ (nb : Books). BooksAgree key nb (opened_keeping key)) (sym is.is) kept)
@@ -139,5 +141,5 @@ module _ (plan : Plan) (modules : List Module) (can : CanStart plan modules) (r 
     not_starved = ap (λ (x : Books). x.starved) is.is;
   }
 
-  pub first_closed : IsClosed plan.code_words b.image
-  first_closed = start_closed plan modules can r all b.image is.image_is
+  pub first_closed : IsClosed plan.code_words b.book.image
+  first_closed = start_closed plan modules can r all b.book.image is.book_is.image

@@ -7,6 +7,7 @@ use Rattle.cfi_graph.specs.Direct.{DirectEdge}
 use Rattle.cfi_model.specs.Tables.{IsUpdate}
 use Rattle.cfi_plan.specs.declared.journal.JournalLine.TheVariants.{LoadOk}
 use Rattle.cfi_plan.specs.declared.journal.Who.{Who}
+use Rattle.cfi_policy.specs.Book.{KeptImage}
 use Rattle.cfi_policy.specs.Image.{IsImage}
 use Rattle.cfi_series.specs.Order.{Joins}
 use Rattle.cfi_tables.specs.Faults.{epoch_after}
@@ -16,7 +17,6 @@ use Rattle.cfi_tables.specs.declared.view.Quiets.{Quiets}
 use Rattle.cfi_valid.specs.Journal.{IsClean}
 use Rattle.cfi_valid.specs.Script.{Load}
 use Rattle.cfi_word.specs.declared.limits.TheConstants.{MAX_EPOCH}
-use Rattle.cfi_word.specs.declared.lists.Image.{Image}
 use Rattle.cfi_ledger.specs.declared.books.Books.{Books}
 use Rattle.cfi_loader.specs.Marks.{mark_by}
 use Rattle.cfi_ledger.specs.Journal.{asked_by}
@@ -25,7 +25,7 @@ use Rattle.cfi_ledger.specs.Books.{end_of_books}
 use Rattle.cfi_loader.specs.inner.Books.{ledger_of, BooksAgree, IsAfter}
 use Rattle.cfi_ledger.specs.Journal.{Minutes, HasLine}
 use Rattle.cfi_ledger.specs.Loads.{HasPrepared, IsAbsent}
-use Rattle.cfi_ledger.specs.Roster.{Roster, IsImageOfRoster}
+use Rattle.cfi_ledger.specs.Roster.{Roster, IsBookOfRoster, IsImageOfRoster}
 use Rattle.cfi_loader.proofs.UpdateLemmas.{may_ask}
 use Rattle.cfi_loader.proofs.LoadLemmas.{places, load_follows, after_load}
 
@@ -58,23 +58,25 @@ module _ (k : Key) (b : Books) (keeping : Keeping) (kept : BooksAgree k b keepin
         (sym (places k b keeping kept)) joins_there;
   }
 
-  module _ (image : Image) (of : IsImageOfRoster roster image) where
-    labels : IsImage (DirectEdge (b.roster.placed ++ one ∷ [])) (b.roster.placed ++ one ∷ []) b.plan.code_words image
+  module _ (book : KeptImage) (book_is : IsBookOfRoster roster book) where
+    labels : IsImage (DirectEdge (b.roster.placed ++ one ∷ [])) (b.roster.placed ++ one ∷ []) b.plan.code_words
+        book.image
     labels =
-        subst (λ (n : ℕ). IsImage (DirectEdge (b.roster.placed ++ one ∷ [])) (b.roster.placed ++ one ∷ []) n image)
+        subst (λ (n : ℕ). IsImage (DirectEdge (b.roster.placed ++ one ∷ [])) (b.roster.placed ++ one ∷ []) n book.image)
         kept.roster_is.code_words_are
-        (subst (λ (r : Roster). IsImageOfRoster r image) prepared.joined.is of)
+        (subst (λ (r : Roster). IsImageOfRoster r book.image) prepared.joined.is book_is.image)
 
     pub load_update : (mark : ℕ)
-        → IsUpdate k.code_words (last_of keeping.entries) (entry_by (b.policy + 1) image mark)
+        → IsUpdate k.code_words (last_of keeping.entries) (entry_by (b.policy + 1) book.image mark)
     load_update mark =
-        inr (load_follows k b keeping kept prepared.unplaced one image is_sound joins_there labels mark absent.room)
+        inr (load_follows k b keeping kept prepared.unplaced one book.image is_sound joins_there labels mark
+        absent.room)
 
     abbrev loaded_there_by : (epoch : ℕ) → Minutes → Books
     loaded_there_by epoch j = record b {
       journal = j;
       roster = roster;
-      image = image;
+      book = book;
       epoch = epoch;
       policy = b.policy + 1;
     }
@@ -83,20 +85,21 @@ module _ (k : Key) (b : Books) (keeping : Keeping) (kept : BooksAgree k b keepin
         → HasLine (asked_by who (LoadOk number epoch (b.policy + 1))) b.journal j
         → MayAskFor (ledger_of b keeping) who (Load number)
         → IsAfter k (asked_by who (LoadOk number epoch (b.policy + 1))) b (loaded_there_by epoch j) keeping
-        (grown_by (entry_by (b.policy + 1) image (mark_by who (Load number))) quiets keeping)
+        (grown_by (entry_by (b.policy + 1) book.image (mark_by who (Load number))) quiets keeping)
     load_made quiets who epoch j epoch_is left has asks =
         let next : b.epoch + 1 ≡ epoch = kept.ledger.told.epoch ∙ sym epoch_is in
-        let grown = grown_by (entry_by (b.policy + 1) image (mark_by who (Load number))) quiets keeping in
+        let grown = grown_by (entry_by (b.policy + 1) book.image (mark_by who (Load number))) quiets keeping in
         let has_next : HasLine (asked_by who (LoadOk number (b.epoch + 1) (b.policy + 1))) b.journal j =
         subst (λ (e : ℕ). HasLine (asked_by who (LoadOk number e (b.policy + 1))) b.journal j) (sym next) has in
         let may = may_ask (ledger_of b keeping) who (Load number) (LoadOk number (b.epoch + 1) (b.policy + 1)) asks
         refl in
-        let all = after_load k b j keeping kept who number prepared.unplaced one image quiets has_next asks may left
-        prepared.is is_sound absent.absent absent.room joins_there labels in
+        let all = after_load k b j keeping kept who number prepared.unplaced one book quiets has_next asks may left
+        prepared.is is_sound absent.absent absent.room joins_there
+        (subst (λ (r : Roster). IsBookOfRoster r book) prepared.joined.is book_is) in
         let there : IsAfter k (asked_by who (LoadOk number (b.epoch + 1) (b.policy + 1))) b
         (loaded_there_by (b.epoch + 1) j) keeping grown =
         subst (λ (r : Roster). IsAfter k (asked_by who (LoadOk number (b.epoch + 1) (b.policy + 1))) b
-        (record b { journal = j; roster = r; image = image; epoch = b.epoch + 1; policy = b.policy + 1 }) keeping
+        (record b { journal = j; roster = r; book = book; epoch = b.epoch + 1; policy = b.policy + 1 }) keeping
         grown) (sym prepared.joined.is) all in
         subst (λ (e : ℕ). IsAfter k (asked_by who (LoadOk number e (b.policy + 1))) b (loaded_there_by e j) keeping
         grown) next there

@@ -66,6 +66,7 @@ module _ (k : Key) (b : Books) (keeping : Keeping) (j : Minutes) (starved : Bool
       lines_are = kept.roster_is.lines_are;
     };
     layout_is = kept.layout_is;
+    book_is = kept.book_is;
     image_is = kept.image_is;
     starts_are = kept.starts_are;
     found_are = kept.found_are;

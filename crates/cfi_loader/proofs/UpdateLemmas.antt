@@ -104,13 +104,13 @@ module _ (k : Key) (b : Books) (keeping : Keeping) (kept : BooksAgree k b keepin
 module _ (k : Key) (b : Books) (keeping : Keeping) (kept : BooksAgree k b keeping) where
   -- the image and the policy in force follow themselves
   pub refresh_follows : (mark : ℕ)
-      → IsUpdate k.code_words (last_of keeping.entries) (entry_by b.policy b.image mark)
+      → IsUpdate k.code_words (last_of keeping.entries) (entry_by b.policy b.book.image mark)
   refresh_follows mark = inl (record { policy = kept.ledger.told.policy; image = kept.image_is })
 
   pub refresh_made : (epoch : ℕ) (new : Books) (after : Keeping) → epoch ≡ epoch_after k keeping → b.epoch < MAX_EPOCH
       → HasLine (asked_by Script (RefreshOk epoch)) b.journal new.journal
       → new ≡ record b { journal = new.journal; epoch = epoch }
-      → after ≡ grown_by (entry_by b.policy b.image (mark_by Script Refresh)) after.quiets keeping
+      → after ≡ grown_by (entry_by b.policy b.book.image (mark_by Script Refresh)) after.quiets keeping
       → MayAskFor (ledger_of b keeping) Script Refresh
       → IsAfter k (asked_by Script (RefreshOk epoch)) b new keeping after
   refresh_made epoch new after epoch_is left has same grown asks =

@@ -58,6 +58,7 @@ pub record Spent : Type 0 where
   pub quiet : ℕ
   pub mark : ℕ
 
+-- what a refused update tells of the guest at fault, and for whom it was
 abbrev pub spent_of : Refusal → Spent
 spent_of refusal = record { guest = refusal.guest; quiet = refusal.quiet; mark = refusal.mark }
 
@@ -74,6 +75,7 @@ spent_by mark (RefreshOk epoch) = None
 spent_by mark (RefreshVersions guest quiet) = Some (record { guest = guest; quiet = quiet; mark = mark })
 spent_by mark RefreshEpochs = None
 
+-- what a line of the journal tells of one
 abbrev pub spent_in : Entry → Option Spent
 spent_in entry = spent_by (mark_of entry) entry.what
 

@@ -9,6 +9,8 @@ use Rattle.cfi_series.specs.declared.fault.JoinFault.{JoinFault}
 use Rattle.cfi_series.specs.declared.fault.JoinFault.TheVariants as joins
 use Rattle.cfi_series.specs.Numbers.{place_numbers, verify_numbers}
 use Rattle.cfi_series.specs.Order.{IsJoinFault}
+use Rattle.cfi_policy.specs.Book.{KeepsNumbers}
+use Rattle.cfi_tables.specs.Keeping.{last_of}
 use Rattle.cfi_tables.specs.Key.{Key}
 use Rattle.cfi_tables.specs.declared.fault.UpdateFault.{UpdateFault}
 use Rattle.cfi_tables.specs.declared.fault.UpdateFault.TheVariants as updates
@@ -25,15 +27,23 @@ use Rattle.cfi_ledger.specs.Opens.{IsAddressOf}
 
 -- ---- a load that came through
 
+-- the line of an answer: the module was loaded already, or is now
 abbrev pub loaded_line : (number : ℕ) → Loaded → JournalLine
 loaded_line number answer =
     if answer.again then lines.LoadAgain number answer.policy else lines.LoadOk number answer.epoch answer.policy
 
+-- the answer to a load, with its line: the epoch and the policy in force then, and the module's address
 pub record HasLoaded (k : Key) (who : Who) (number : ℕ) (answer : Loaded) (old new : Ledger) : Type 0 where
   pub told : HasTold k (asked_by who (loaded_line number answer)) old new
   pub epoch_is : answer.epoch ≡ new.course.end.epoch
   pub policy_is : answer.policy ≡ new.course.end.policy
   pub address_is : IsAddressOf new.course.end.loaded number answer.address
+
+-- of what is loaded after a call, the image then in force keeps the class numbers of the one before
+abbrev pub KeepsClasses : (old new : Ledger) → Type 0
+KeepsClasses old new =
+    KeepsNumbers (placed_modules new.course.end.loaded) (last_of old.keeping.entries).image
+    (last_of new.keeping.entries).image
 
 -- ---- a load that was refused
 
@@ -63,6 +73,7 @@ SaysOf c number (Place fault) = DoesNotJoin c number (joins.Place fault)
 SaysOf c number (Verify fault) = DoesNotJoin c number (joins.Verify fault)
 SaysOf c number fault = ⊤
 
+-- a refusal, with its line, and what it says of the module
 pub record HasRefused (k : Key) (who : Who) (number : ℕ) (fault : LoadFault) (line : JournalLine) (old new : Ledger)
     : Type 0 where
   pub told : HasTold k (asked_by who line) old new
@@ -73,11 +84,13 @@ abbrev pub RefusesBy : Key → Who → (number : ℕ) → LoadFault → Option J
 RefusesBy k who number fault (Some line) old new = HasRefused k who number fault line old new
 RefusesBy k who number fault None old new = (fault ≡ Memory) × HasStarved old new
 
+-- a load was refused for this fault
 abbrev pub IsLoadFault : Key → Who → (number : ℕ) → LoadFault → (old new : Ledger) → Type 0
 IsLoadFault k who number fault old new = RefusesBy k who number fault (fault_line number fault) old new
 
 -- ---- a refresh
 
+-- the line of a refresh that was refused
 abbrev pub refused_refresh : UpdateFault → JournalLine
 refused_refresh updates.EpochsSpent = lines.RefreshEpochs
 refused_refresh (updates.VersionsSpent guest quiet) = lines.RefreshVersions guest quiet

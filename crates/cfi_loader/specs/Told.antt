@@ -34,10 +34,12 @@ abbrev pub HasGrown : (policy mark : ℕ) → (old new : Keeping) → Type 0
 HasGrown policy mark old new =
     (image : Image) × (new ≡ grown_by (entry_by policy image mark) new.quiets old)
 
+-- an epoch more, with the policy and the image in force
 abbrev pub HasRefreshed : (mark : ℕ) → (old new : Keeping) → Type 0
 HasRefreshed mark old new =
     new ≡ grown_by (entry_by (last_of old.entries).policy (last_of old.entries).image mark) new.quiets old
 
+-- what the keeper keeps after a line: an epoch more, an update that was refused, or what it kept
 abbrev pub KeepsAfter : Key → (mark : ℕ) → JournalLine → (old new : Keeping) → Type 0
 KeepsAfter k mark (lines.LoadOk number epoch policy) old new = HasGrown policy mark old new
 KeepsAfter k mark (lines.RefreshOk epoch) old new = HasRefreshed mark old new

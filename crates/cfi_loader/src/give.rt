@@ -25,7 +25,8 @@ impl<N: LoaderName> Loader<N> {
         requires waits { guest.old.waits ≡ Some (waits.Service OPEN) }
         requires few { opens guest.old.base.log < MAX_OPENS }
         requires rises { last_policy guest.old.base.log ≤ self.now.course.end.policy }
-        requires address { IsAddressOf self.now.course.end.loaded (argument guest.old.base) loaded.now.address }
+        requires address { IsAddressOf self.now.course.end.loaded
+            (argument guest.old.base) loaded.now.address }
         ensures { guest.new ≡ serve_of guest.old
             (reply_with self.now guest.old.base.log loaded.now.address) }
     {

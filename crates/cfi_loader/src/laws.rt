@@ -29,7 +29,8 @@ ghost use Rattle.cfi_loader.specs.Told.{HasTold};
 /// A load that fits is made, or no version or no epoch is left; and while few updates were made versions are left.
 pub fn loads_that_fit_come_through()
     ensures through { (k : Key) (who : Who) (line : JournalLine) (number : ℕ) (old new : Ledger) →
-        HasTold k (asked_by who line) old new → call_of line ≡ Load number → LoadFits old.course number →
+        HasTold k (asked_by who line) old new → call_of line ≡ Load number
+        → LoadFits old.course number →
         ComesThrough line }
     ensures versions { (k : Key) (who : Who) (line : JournalLine) (old new : Ledger) →
         HasTold k (asked_by who line) old new → HasFewUpdates old.course → HasVersion line }
@@ -44,13 +45,16 @@ pub fn courses_go_on()
 /// Each epoch of the tables has the image of the modules that its policy finds loaded, under the edges of those that
 /// are live.
 pub fn histories_have_policies()
-    ensures { (k : Key) (plan : Plan) (modules : List Module) (l : Ledger) → IsLedger k plan modules l →
-        HasPolicies l.course.plan.code_words l.course.end.loaded (history_of (idle_tables k l.keeping)) }
+    ensures { (k : Key) (plan : Plan) (modules : List Module) (l : Ledger)
+        → IsLedger k plan modules l →
+        HasPolicies l.course.plan.code_words l.course.end.loaded
+        (history_of (idle_tables k l.keeping)) }
 {}
 
 /// A guest's lines of updates that were not admitted are the refusals with its mark.
 pub fn refusals_are_versions_lines()
-    ensures { (k : Key) (plan : Plan) (modules : List Module) (l : Ledger) → IsLedger k plan modules l →
+    ensures { (k : Key) (plan : Plan) (modules : List Module) (l : Ledger)
+        → IsLedger k plan modules l →
         (guest number : ℕ) → guest < GUESTS → number < length plan.modules →
         count_by (λ (r : Refusal). r.mark == mark_by (Guest guest) (Load number)) l.keeping.refusals
         ≡ count_by (is_versions guest number) l.course.journal }

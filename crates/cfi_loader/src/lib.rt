@@ -5,9 +5,10 @@
 //! line by line, that the tables' history and refusals are what the journal tells, with marks that name who asked, that
 //! each entry's image is that of the modules which its policy finds loaded, and that the script's lines are those of its
 //! calls before the one that is due (`specs/Ledger.antt`); each load and each refresh adds the one line that its answer
-//! tells (`specs/Told.antt`, `specs/Results.antt`), and a refusal leaves tables, code and modules as they were; a line is
-//! told in a guest's name by its slip alone, which says these lines in order; a load that fits is made, or no version or
-//! no epoch is left; an answer to an open brings the data that the guest lacks.
+//! tells (`specs/Told.antt`, `specs/Results.antt`), and a refusal leaves tables, code and modules as they were; the image
+//! that a load puts in force keeps the class numbers of the one before; a line is told in a guest's name by its slip
+//! alone, which says these lines in order; a load that fits is made, or no version or no epoch is left; an answer to an
+//! open brings the data that the guest lacks.
 //! Only tested: nothing. Open: that memory suffices; what a load costs.
 #![tactic(auto)]
 
@@ -23,6 +24,7 @@ mod reading;
 mod refresh;
 mod start;
 mod telling;
+mod told;
 
 pub use cfi_ledger::{Due, OpenFault, StartFault};
 pub use cfi_plan::{Entry, JournalLine, ModuleLine, Who};

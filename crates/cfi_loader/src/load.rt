@@ -1,6 +1,6 @@
 //! Loads.
 
-ghost use Rattle.std.specs.Prelude.{◌≡◌, ◌+◌, ◌-◌, ◌<◌, true, false, IfOk, IfErr, OnOk, length, slice_index_or};
+ghost use Rattle.std.specs.Prelude.{◌≡◌, ◌+◌, ◌-◌, ◌<◌, false, IfOk, IfErr, OnOk, length, slice_index_or};
 ghost use Rattle.cfi_aux.specs.declared.placed.Placed.{Placed};
 ghost use Rattle.cfi_plan.specs.declared.journal.JournalLine.TheVariants.{LoadOk};
 ghost use Rattle.cfi_plan.specs.declared.journal.Who.TheVariants.{Guest, Script};
@@ -10,92 +10,28 @@ ghost use Rattle.cfi_tables.specs.Keeping.{Keeping};
 ghost use Rattle.cfi_tables.specs.Key.{Key};
 ghost use Rattle.cfi_valid.specs.Script.{Load};
 ghost use Rattle.cfi_ledger.specs.Journal.{asked_by};
-ghost use Rattle.cfi_loader.specs.Results.{HasLoaded, IsLoadFault, told_lines};
+ghost use Rattle.cfi_loader.specs.Results.{HasLoaded, IsLoadFault, KeepsClasses, told_lines};
 ghost use Rattle.cfi_loader.specs.Told.{MayAskFor};
 ghost use Rattle.cfi_loader.specs.inner.Books.{BooksAgree, ledger_of};
 ghost use Rattle.cfi_ledger.specs.Journal.{HasLine, HasRoomFor};
 ghost use Rattle.cfi_valid.specs.declared.limits.TheConstants.{MAX_LOADED};
 ghost use Rattle.cfi_ledger.specs.Findings.{AreFindings};
-ghost use Rattle.cfi_ledger.specs.Loads.{IsAbsent, IsListed, IsSpent, IsUnprepared};
+ghost use Rattle.cfi_ledger.specs.Loads.{IsAbsent};
 ghost use Rattle.cfi_ledger.specs.Opens.{IsFirstGlobal};
 ghost use Rattle.cfi_ledger.specs.Plans.{CanStart};
 ghost use Rattle.cfi_word.specs.declared.limits.TheConstants.{MAX_EPOCH};
-ghost use Rattle.cfi_loader.specs.inner.Loads.{IsSamePlan, LoadsTo, Refuses, load_fault_of, load_fault_by, update_line};
+ghost use Rattle.cfi_loader.specs.inner.Loads.{IsSamePlan, LoadsTo, Refuses};
 
 use crate::fault::LoadFault;
 use crate::loaded::Loaded;
 use crate::loader::{Loader, LoaderName};
 use crate::mark::load_mark;
-use crate::telling::{load_fault_by, load_fault_of, update_line};
-use cfi_ledger::{Books, Candidate, Known, join_line};
+use crate::told::{again, refuse, refuse_spent, refuse_unjoined, turn_down};
+use cfi_ledger::{Books, Candidate, Known, Prospect};
 use cfi_plan::{JournalLine, Who};
-use cfi_series::JoinFault;
 use cfi_slips::Slip;
-use cfi_tables::{Keeper, TableName, Tables, UpdateFault};
+use cfi_tables::{Keeper, TableName, Tables};
 use cfi_word::limits::MAX_EPOCH;
-
-// The answer where the module stands at this place in load order.
-fn again(books: &mut Books, who: Who, number: u32, at: usize) -> Loaded
-    requires room { HasRoomFor who books.old.journal }
-    requires listed { IsListed books.old.roster number at }
-    ensures after { (k : Key) (keeping : Keeping) → BooksAgree k books.old keeping →
-        MayAskFor (ledger_of books.old keeping) who (Load number) →
-        LoadsTo k who number result books.old books.new keeping keeping }
-    ensures same { IsSamePlan books.old books.new }
-    ensures again { result.again ≡ true }
-{
-    let policy = books.policy;
-    books.tell(
-        who,
-        JournalLine::LoadAgain {
-            module: number,
-            policy,
-        },
-    );
-    Loaded {
-        again: true,
-        epoch: books.epoch,
-        policy,
-        address: books.address_at(at),
-    }
-}
-
-// Tells why the module does not join.
-fn refuse(books: &mut Books, who: Who, number: u32, fault: JoinFault) -> LoadFault
-    requires room { HasRoomFor who books.old.journal }
-    requires unprepared { IsUnprepared books.old number fault }
-    ensures after { (k : Key) (keeping : Keeping) → BooksAgree k books.old keeping →
-        MayAskFor (ledger_of books.old keeping) who (Load number) → IsAbsent books.old number →
-        Refuses k who number result books.old books.new keeping keeping }
-    ensures same { IsSamePlan books.old books.new }
-{
-    match join_line(number, &fault) {
-        Some(line) => books.tell(who, line),
-        None => books.starved = true,
-    }
-    load_fault_of(fault)
-}
-
-// Tells why the module is not put in force, and takes it back.
-fn turn_down(
-    books: &mut Books,
-    candidate: Candidate,
-    who: Who,
-    number: u32,
-    fault: UpdateFault,
-) -> LoadFault
-    requires room { HasRoomFor who books.old.journal }
-    ensures line { HasLine (asked_by who (update_line number fault)) books.old.journal books.new.journal }
-    ensures same { books.new ≡ record books.old {
-      journal = books.new.journal;
-      roster = candidate.before;
-    } }
-    ensures fault { result ≡ load_fault_by fault }
-{
-    books.roster = candidate.discard();
-    books.tell(who, update_line(number, fault));
-    load_fault_by(fault)
-}
 
 // Puts the module in force, with its line, and answers.
 fn commit(books: &mut Books, candidate: Candidate, who: Who, number: u32, epoch: u32) -> Loaded
@@ -107,7 +43,7 @@ fn commit(books: &mut Books, candidate: Candidate, who: Who, number: u32, epoch:
     ensures same { books.new ≡ record books.old {
       journal = books.new.journal;
       roster = candidate.roster;
-      image = candidate.image;
+      book = candidate.book;
       epoch = epoch;
       policy = books.old.policy + 1;
     } }
@@ -115,7 +51,8 @@ fn commit(books: &mut Books, candidate: Candidate, who: Who, number: u32, epoch:
     ensures epoch { result.epoch ≡ epoch }
     ensures policy { result.policy ≡ books.old.policy + 1 }
     ensures address { (d : Placed) → IsFirstGlobal
-        (slice_index_or candidate.roster.placed (length candidate.roster.placed - 1) d) result.address }
+        (slice_index_or candidate.roster.placed (length candidate.roster.placed - 1) d)
+        result.address }
 {
     books.commit(candidate, who, number, epoch);
     let last = books.roster.modules().len() - 1;
@@ -125,33 +62,6 @@ fn commit(books: &mut Books, candidate: Candidate, who: Who, number: u32, epoch:
         policy: books.policy,
         address: books.address_at(last),
     }
-}
-
-// Tells that no epoch is left for a module that joins.
-fn refuse_spent(books: &mut Books, who: Who, number: u32) -> LoadFault
-    requires room { HasRoomFor who books.old.journal }
-    requires spent { IsSpent books.old number }
-    ensures after { (k : Key) (keeping : Keeping) → BooksAgree k books.old keeping →
-        MayAskFor (ledger_of books.old keeping) who (Load number) → IsAbsent books.old number →
-        Refuses k who number result books.old books.new keeping keeping }
-    ensures same { IsSamePlan books.old books.new }
-{
-    books.tell(who, JournalLine::LoadEpochs { module: number });
-    LoadFault::EpochsSpent
-}
-
-// Tells why the module does not join, and keeps it.
-fn refuse_unjoined(books: &mut Books, who: Who, number: u32, fault: JoinFault) -> LoadFault
-    requires room { HasRoomFor who books.old.journal }
-    requires found { AreFindings books.old.modules books.old.roster books.old.found.items }
-    requires unprepared { IsUnprepared books.old number fault }
-    ensures after { (k : Key) (keeping : Keeping) → BooksAgree k books.old keeping →
-        MayAskFor (ledger_of books.old keeping) who (Load number) → IsAbsent books.old number →
-        Refuses k who number result books.old books.new keeping keeping }
-    ensures same { IsSamePlan books.old books.new }
-{
-    books.keep(number, &fault);
-    refuse(books, who, number, fault)
 }
 
 // Refuses a module where no epoch is left: whether it joins is found without an image, and kept.
@@ -188,6 +98,8 @@ fn attempt<N: TableName>(
     requires absent { IsAbsent books.old number }
     ensures ok { IfOk result (λ loaded.
         LoadsTo N.key who number loaded books.old books.new keeper.old keeper.new) }
+    ensures kept { OnOk result
+        (KeepsClasses (ledger_of books.old keeper.old) (ledger_of books.new keeper.new)) }
     ensures admitted { OnOk result (AllAdmit N.key keeper.old keeper.new.quiets) }
     ensures fault { IfErr result (λ fault.
         Refuses N.key who number fault books.old books.new keeper.old keeper.new) }
@@ -223,6 +135,8 @@ fn add<N: TableName>(
     requires absent { IsAbsent books.old number }
     ensures ok { IfOk result (λ loaded.
         LoadsTo N.key who number loaded books.old books.new keeper.old keeper.new) }
+    ensures kept { OnOk result
+        (KeepsClasses (ledger_of books.old keeper.old) (ledger_of books.new keeper.new)) }
     ensures admitted { OnOk result (AllAdmit N.key keeper.old keeper.new.quiets) }
     ensures fault { IfErr result (λ fault.
         Refuses N.key who number fault books.old books.new keeper.old keeper.new) }
@@ -249,6 +163,8 @@ fn load<N: TableName>(
     requires asks { MayAskFor (ledger_of books.old keeper.old) who (Load number) }
     ensures ok { IfOk result (λ loaded.
         LoadsTo N.key who number loaded books.old books.new keeper.old keeper.new) }
+    ensures kept { IfOk result (λ loaded. loaded.again ≡ false
+        → KeepsClasses (ledger_of books.old keeper.old) (ledger_of books.new keeper.new)) }
     ensures admitted { IfOk result (λ loaded. loaded.again ≡ false
         → AllAdmit N.key keeper.old keeper.new.quiets) }
     ensures fault { IfErr result (λ fault.
@@ -258,20 +174,20 @@ fn load<N: TableName>(
     if !books.reserve(who) {
         return Err(LoadFault::Memory);
     }
-    if let Some(at) = books.roster.find(number) {
-        return Ok(again(books, who, number, at));
+    match books.roster.prospect(number) {
+        Prospect::Again(at) => Ok(again(books, who, number, at)),
+        Prospect::Full => {
+            books.tell(who, JournalLine::LoadFull { module: number });
+            Err(LoadFault::ModulesFull)
+        }
+        Prospect::Open => add(keeper, books, tables, number, who),
     }
-    if books.is_full() {
-        books.tell(who, JournalLine::LoadFull { module: number });
-        return Err(LoadFault::ModulesFull);
-    }
-    add(keeper, books, tables, number, who)
 }
 
 impl<N: LoaderName> Loader<N> {
     /// Loads the module of this number of the plan: places and verifies it behind those that are loaded, makes the
-    /// image of all, and puts it in force with the next policy, which each guest's QUIET word has admitted. A module that
-    /// is loaded answers at once.
+    /// image of all, in which classes keep their numbers, and puts it in force with the next policy, which each guest's
+    /// QUIET word has admitted. A module that is loaded answers at once.
     ///
     /// Each answer but `Memory` adds one line to the journal. A refusal leaves the tables, the code and the modules as
     /// they were; all memory is taken before the first word is stored, and want of it marks the loader starved. The
@@ -279,7 +195,10 @@ impl<N: LoaderName> Loader<N> {
     pub fn load(&mut self, tables: &Tables<N>, number: u32) -> Result<Loaded, LoadFault>
         requires known { number < length N.plan.modules }
         requires due { MayAskFor self.old Script (Load number) }
-        ensures ok { IfOk result (λ loaded. HasLoaded N.key Script number loaded self.old self.new) }
+        ensures ok { IfOk result (λ loaded.
+            HasLoaded N.key Script number loaded self.old self.new) }
+        ensures kept { IfOk result (λ loaded. loaded.again ≡ false
+            → KeepsClasses self.old self.new) }
         ensures admitted { IfOk result (λ loaded. loaded.again ≡ false
             → AllAdmit N.key self.old.keeping self.new.keeping.quiets) }
         ensures fault { IfErr result (λ fault.
@@ -301,6 +220,8 @@ impl<N: LoaderName> Loader<N> {
         requires asks { MayAskFor self.old (Guest slip.old.guest) (Load number) }
         ensures ok { IfOk result (λ loaded.
             HasLoaded N.key (Guest slip.old.guest) number loaded self.old self.new) }
+        ensures kept { IfOk result (λ loaded. loaded.again ≡ false
+            → KeepsClasses self.old self.new) }
         ensures admitted { IfOk result (λ loaded. loaded.again ≡ false
             → AllAdmit N.key self.old.keeping self.new.keeping.quiets) }
         ensures fault { IfErr result (λ fault.

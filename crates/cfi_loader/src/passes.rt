@@ -40,7 +40,8 @@ impl<N: LoaderName> Loader<N> {
     /// `law`: what the loader keeps at every moment.
     pub fn note(&mut self, tables: &Tables<N>, pass: &mut Pass<N>)
         ensures pass { pass.new ≡ noted N.key self.old.keeping pass.old }
-        ensures agrees { AgreesWith N.key self.old.keeping.entries self.old.keeping.refusals pass.old.sight }
+        ensures agrees { AgreesWith N.key
+            self.old.keeping.entries self.old.keeping.refusals pass.old.sight }
         ensures kept { self.new ≡ heard_from pass.old self.old }
         ensures law { IsLedger N.key N.plan N.modules self.old }
     {
@@ -53,7 +54,8 @@ impl<N: LoaderName> Loader<N> {
     pub fn release(&mut self, tables: &Tables<N>, pass: Pass<N>, slip: Slip<N>) -> Seen
         requires { slip.guest ≡ pass.guest }
         ensures says { slip.lines ≡ lines_of slip.guest self.old.course.journal }
-        ensures agrees { AgreesWith N.key self.old.keeping.entries self.old.keeping.refusals pass.sight }
+        ensures agrees { AgreesWith N.key
+            self.old.keeping.entries self.old.keeping.refusals pass.sight }
         ensures out { self.new ≡ with_keeping (let_in pass.guest self.old.keeping) self.old }
         ensures epoch { result.epoch ≡ self.old.course.end.epoch }
         ensures policy { result.policy ≡ self.old.course.end.policy }

@@ -75,7 +75,8 @@ impl<N: LoaderName> Loader<N> {
     /// `law`: what the loader keeps at every moment.
     pub fn due(&self) -> Option<Due>
         ensures next { option_map call_due result ≡ slice_get self.now.left 0 }
-        ensures none { IfNone result (made_by_script self.now.course.journal ≡ script_calls N.plan.script) }
+        ensures none { IfNone result
+            (made_by_script self.now.course.journal ≡ script_calls N.plan.script) }
         ensures law { IsLedger N.key N.plan N.modules self.now }
     {
         self.books.journal.due()
@@ -85,7 +86,8 @@ impl<N: LoaderName> Loader<N> {
     /// and for a bare file's plan at its module's first word.
     pub fn entry(&self, name: &str) -> Option<u32>
         ensures some { IfSome result (GuestBegins N.plan self.now.course.end.loaded name.now) }
-        ensures only { (address : ℕ) → GuestBegins N.plan self.now.course.end.loaded name.now address →
+        ensures only { (address : ℕ)
+            → GuestBegins N.plan self.now.course.end.loaded name.now address →
             result ≡ Some address }
     {
         loaded_have_entries();

@@ -34,26 +34,26 @@ fn refresh<N: TableName>(
     keeper: &mut Keeper<N>,
     books: &mut Books,
     tables: &Tables<N>,
-    who: Who,
 ) -> Result<u32, UpdateFault>
-    requires script { who ≡ Script }
     requires kept { BooksAgree N.key books.old keeper.old }
     requires due { MayAskFor (ledger_of books.old keeper.old) Script Refresh }
     ensures ok { IfOk result (λ epoch.
-        IsAfter N.key (asked_by who (RefreshOk epoch)) books.old books.new keeper.old keeper.new) }
+        IsAfter N.key (asked_by Script (RefreshOk epoch)) books.old books.new
+        keeper.old keeper.new) }
     ensures admitted { OnOk result (AllAdmit N.key keeper.old keeper.new.quiets) }
     ensures fault { IfErr result (λ fault.
-        IsAfter N.key (asked_by who (refused_refresh fault)) books.old books.new keeper.old keeper.new) }
+        IsAfter N.key (asked_by Script (refused_refresh fault)) books.old books.new
+        keeper.old keeper.new) }
     ensures same { (books.new.plan ≡ books.old.plan) × (books.new.modules ≡ books.old.modules) }
 {
-    match keeper.update(tables, &books.image, books.policy, REFRESH_MARK) {
+    match keeper.update(tables, books.book.image(), books.policy, REFRESH_MARK) {
         Ok(epoch) => {
             books.epoch = epoch;
-            books.tell(who, JournalLine::RefreshOk { epoch });
+            books.tell(Who::Script, JournalLine::RefreshOk { epoch });
             Ok(epoch)
         }
         Err(fault) => {
-            books.tell(who, refused_refresh(fault));
+            books.tell(Who::Script, refused_refresh(fault));
             Err(fault)
         }
     }
@@ -63,17 +63,16 @@ impl<N: LoaderName> Loader<N> {
     /// Makes a new epoch with the policy in force, which each guest's QUIET word has admitted, and answers it. Each call
     /// adds one line to the journal. It takes no memory.
     ///
-    /// `who` is the script, whose next call is a refresh. `EpochsSpent` comes where the epoch is `MAX_EPOCH`, then
+    /// The script asks, whose next call is this one. `EpochsSpent` comes where the epoch is `MAX_EPOCH`, then
     /// `VersionsSpent` where a guest has published an epoch that is too far behind; neither stores anything.
-    pub fn refresh(&mut self, tables: &Tables<N>, who: Who) -> Result<u32, UpdateFault>
-        requires script { who ≡ Script }
-        requires due { MayAskFor self.old Script Refresh }
+    pub fn refresh(&mut self, tables: &Tables<N>) -> Result<u32, UpdateFault>
+        requires { MayAskFor self.old Script Refresh }
         ensures ok { IfOk result (λ epoch.
-            HasTold N.key (asked_by who (RefreshOk epoch)) self.old self.new) }
+            HasTold N.key (asked_by Script (RefreshOk epoch)) self.old self.new) }
         ensures admitted { OnOk result (AllAdmit N.key self.old.keeping self.new.keeping.quiets) }
         ensures fault { IfErr result (λ fault.
-            HasTold N.key (asked_by who (refused_refresh fault)) self.old self.new) }
+            HasTold N.key (asked_by Script (refused_refresh fault)) self.old self.new) }
     {
-        refresh(&mut self.keeper, &mut self.books, tables, who)
+        refresh(&mut self.keeper, &mut self.books, tables)
     }
 }

@@ -45,7 +45,13 @@ impl Start {
         ensures fault { IfErr result (IsStartFault plan.now modules) }
     {
         let books = Books::open(alloc, plan, modules)?;
-        let blank = Blank::new(alloc, books.layout, plan.versions, plan.first, &books.image)?;
+        let blank = Blank::new(
+            alloc,
+            books.layout,
+            plan.versions,
+            plan.first,
+            books.book.image(),
+        )?;
         let pad = Pad::new(alloc)?;
         Ok(Start { blank, pad, books })
     }

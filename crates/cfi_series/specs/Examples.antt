@@ -30,9 +30,11 @@ sized base slot_base data_base words checks bytes cells = record {
 abbrev pub one_byte : Placed
 one_byte = sized 16 0 0x40000000 15 1 1 refl
 
+-- a module of 31 words and 16 bytes of data
 abbrev pub sixteen_bytes : Placed
 sixteen_bytes = sized 31 1 0x40000010 29 2 16 refl
 
+-- a module of 60 words and 17 bytes of data
 abbrev pub seventeen_bytes : Placed
 seventeen_bytes = sized 60 3 0x40000020 2 0 17 refl
 
@@ -59,9 +61,11 @@ having base functions = record (sized base 0 0x40000000 8 0 0 refl) { functions 
 abbrev pub low : PlacedFunction
 low = named 2 true (codes "low")
 
+-- a Global function that begins at word 5
 abbrev pub high : PlacedFunction
 high = named 5 true (codes "high")
 
+-- a function of the module's own
 abbrev pub own : PlacedFunction
 own = named 0 false (codes "main")
 
@@ -73,5 +77,6 @@ main = named 1 true (codes "main")
 abbrev pub own_at : (base : ℕ) → Placed
 own_at base = having base (own ∷ [])
 
+-- a module with the function `main` alone
 abbrev pub main_at : (base : ℕ) → Placed
 main_at base = having base (main ∷ [])

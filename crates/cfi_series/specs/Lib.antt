@@ -6,6 +6,6 @@ pub mod Room
 pub mod inner
 pub mod Order
 pub mod Series
-pub mod Prepared
+pub mod Image
 pub mod Numbers
 pub mod Examples

@@ -1,5 +1,5 @@
 -- A series: the modules that stand in so many code words so far.
-use Rattle.std.specs.Prelude.{◌≡◌, ℕ, ◌+◌, ◌*◌, ◌<◌, ◌≤◌, ◌^◌, List, [], ◌∷◌, ◌++◌, length, All, Option, Some, None, ⊤}
+use Rattle.std.specs.Prelude.{◌≡◌, ℕ, ◌+◌, ◌*◌, ◌-◌, ◌<◌, ◌≤◌, ◌^◌, List, [], ◌∷◌, ◌++◌, length, take, All, Option, Some, None, ⊤}
 use Rattle.cfi_word.specs.declared.limits.TheConstants.{MAX_CODE_WORDS}
 use Rattle.cfi_word.specs.Table.{IsSize}
 use Rattle.cfi_aux.specs.declared.modules.Module.{Module}
@@ -11,6 +11,7 @@ use Rattle.cfi_series.specs.inner.Index.{IsIndexOf}
 use Rattle.cfi_series.specs.declared.series.Series.TheInside.{Inside}
 use Rattle.cfi_series.specs.Order.{Joins, AreInOrder}
 
+-- the modules, in so many code words
 pub record Series : Type 0 where
   pub code_words : ℕ
   pub placed : List Placed
@@ -19,6 +20,10 @@ pub record Series : Type 0 where
 abbrev pub with_module : Series → Placed → Series
 with_module series m = record series { placed = series.placed ++ m ∷ [] }
 
+-- without its last module
+abbrev pub without_last : Series → Series
+without_last series = record series { placed = take (length series.placed - 1) series.placed }
+
 -- the module joins the series as this placed module
 abbrev pub JoinsTo : Series → Module → Placed → Type 0
 JoinsTo series m placed = Joins series.code_words series.placed m placed
@@ -26,6 +31,10 @@ JoinsTo series m placed = Joins series.code_words series.placed m placed
 -- the series has the module more, as it joins it
 abbrev pub HasJoined : (old new : Series) → Module → Type 0
 HasJoined old new m = (placed : Placed) × JoinsTo old m placed × (new ≡ with_module old placed)
+
+-- some sound module joins the series as this placed module
+abbrev pub CanRejoin : Series → Placed → Type 0
+CanRejoin series placed = (m : Module) × IsSoundModule m × JoinsTo series m placed
 
 -- the placed modules are some sound modules in order, in as many code words as a layout may have
 pub record IsSeries (code_words : ℕ) (placed : List Placed) : Type 0 where

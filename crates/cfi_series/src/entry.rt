@@ -23,7 +23,8 @@ fn global_in(functions: &[PlacedFunction]) -> Option<&PlacedFunction>
 
 // The first Global function of this name.
 fn named_in<'a>(functions: &'a [PlacedFunction], name: &str) -> Option<&'a PlacedFunction>
-    ensures { option_map (λ f. f.now) result ≡ find (λ f. f.global && bytes_eq f.name name.now) functions.now }
+    ensures { option_map (λ f. f.now) result
+        ≡ find (λ f. f.global && bytes_eq f.name name.now) functions.now }
 {
     functions
         .iter()

@@ -13,6 +13,9 @@ use cfi_place::Symbols;
 use std::alloc::{AllocError, Global};
 use std::collections::BTreeMap;
 
+/// The FNV prime of 32 bits, `2 ^ 24 + 2 ^ 8 + 0x93` (G. Fowler, L. C. Noll and K.-P. Vo, the FNV hash).
+pub const FNV_PRIME: u32 = 16777619;
+
 /// The place of an export: its module and its number there, both from 0.
 #[derive(Clone, Copy)]
 pub struct ExportPlace {
@@ -38,7 +41,9 @@ fn digest_of(name: &str) -> u32
     let mut digest = 0u32;
     let mut bytes = name.as_bytes();
     while let [byte, rest @ ..] = bytes {
-        digest = digest.wrapping_mul(16777619).wrapping_add(u32::from(*byte));
+        digest = digest
+            .wrapping_mul(FNV_PRIME)
+            .wrapping_add(u32::from(*byte));
         bytes = rest;
     }
     digest
@@ -150,8 +155,8 @@ impl Index {
         Ok(())
     }
 
-    /// With the names of the last module too, which has come behind the others.
-    pub fn with_last(mut self, placed: &[Placed]) -> Result<Index, AllocError>
+    // With the names of the last module too, which has come behind the others.
+    fn with_last(mut self, placed: &[Placed]) -> Result<Index, AllocError>
         requires some { 0 < length placed.now }
         requires index { IsIndexOf (take (length placed.now - 1) placed.now) self }
         ensures { IfOk result (IsIndexOf placed.now) }
@@ -182,4 +187,13 @@ pub fn index_of(alloc: Global, kept: Option<Index>, placed: &[Placed]) -> Result
         Some(index) => Ok(index),
         None => made(alloc, placed),
     }
+}
+
+/// What is kept of where the names are, with those of the last module, which has come behind the others.
+pub fn with_last(kept: Option<Index>, placed: &[Placed]) -> Option<Index>
+    requires some { 0 < length placed.now }
+    requires kept { HasNames (take (length placed.now - 1) placed.now) kept }
+    ensures { HasNames placed.now result }
+{
+    kept?.with_last(placed).ok()
 }

@@ -52,7 +52,8 @@ pub fn loaded_have_starts()
 pub fn loaded_have_entries()
     ensures addresses { (code_words : ℕ) (ms : List Placed) →
         AreLoaded code_words ms → All HasAddresses ms }
-    ensures starts { (code_words : ℕ) (ms live : List Placed) (image : Image) (n : ℕ) (name : List ℕ) (address : ℕ) →
+    ensures starts { (code_words : ℕ) (ms live : List Placed) (image : Image) (n : ℕ)
+        (name : List ℕ) (address : ℕ) →
         AreLoaded code_words ms → IsLoadedImage code_words ms live image →
         IsEntryIn (take n ms) name address → IsStartIn image address }
 {}
@@ -107,7 +108,8 @@ pub fn one_answer()
     ensures fault { (code_words : ℕ) (before : List Placed) (m : Module) (a b : JoinFault) →
         IsJoinFault code_words before m a → IsJoinFault code_words before m b →
         a ≢ Memory → b ≢ Memory → a ≡ b }
-    ensures never { (code_words : ℕ) (before : List Placed) (m : Module) (p : Placed) (fault : JoinFault) →
+    ensures never { (code_words : ℕ) (before : List Placed)
+        (m : Module) (p : Placed) (fault : JoinFault) →
         Joins code_words before m p → IsJoinFault code_words before m fault → fault ≡ Memory }
 {}
 

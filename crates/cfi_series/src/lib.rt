@@ -5,9 +5,9 @@
 //! first fault and stays as it was, and tells the same without taking it; modules that were loaded at the next free
 //! places, each verified against some of those before it, are shaped, each image of them is closed, and the images of a
 //! growing list of them are a history; the modules of a series have a graph and an image, which is made with its
-//! classes in order; a load has two steps, of which the second takes no memory; the Global function of a name is found;
-//! why a module does not join is one fault, told by its numbers; some places and entries, by hand. Only tested: that
-//! ample memory is enough. Open: when memory runs out.
+//! classes in order; a load has two steps, of which the second takes no memory; a module that was taken back is taken
+//! again as it was placed; the Global function of a name is found; why a module does not join is one fault, told by its
+//! numbers; some places and entries, by hand. Only tested: that ample memory is enough. Open: when memory runs out.
 #![tactic(auto)]
 
 mod entry;

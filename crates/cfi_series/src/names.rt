@@ -34,7 +34,8 @@ fn add_asked(
         ((other : List ℕ) → find_in names.old other
         ≡ (if asked other then address_in placed.now index.now other else None)) →
         (other : List ℕ) → find_in names.new other
-        ≡ (if asked other || bytes_eq name.now other then address_in placed.now index.now other else None)) }
+        ≡ (if asked other || bytes_eq name.now other
+        then address_in placed.now index.now other else None)) }
 {
     match index.find(placed, name) {
         Some(address) => names.add(name, address),

@@ -5,14 +5,13 @@ ghost use Rattle.cfi_aux.specs.declared.placed.Placed.{Placed as PlacedModule};
 ghost use Rattle.cfi_graph.specs.Reading.{HaveGraph};
 ghost use Rattle.cfi_policy.specs.Image.{HaveImage};
 ghost use Rattle.cfi_series.specs.declared.fault.JoinFault.TheVariants.{Memory};
-ghost use Rattle.cfi_series.specs.inner.Index.{IsIndexOf};
+ghost use Rattle.cfi_series.specs.Image.{IsImageOfSeries, IsOrderedImage};
 ghost use Rattle.cfi_series.specs.Loaded.{AreLoaded, HaveClosedImages};
 ghost use Rattle.cfi_series.specs.Order.{IsJoinFault};
-ghost use Rattle.cfi_series.specs.Prepared.{IsImageOfSeries, IsOrderedImage, without_last};
-ghost use Rattle.cfi_series.specs.Series.{with_module, JoinsTo, HasJoined, CanBeTaken, IsSeries};
+ghost use Rattle.cfi_series.specs.Series.{with_module, without_last, JoinsTo, HasJoined, CanBeTaken, CanRejoin, IsSeries};
 
 use crate::fault::JoinFault;
-use crate::index::{Index, index_of};
+use crate::index::{Index, index_of, with_last};
 use crate::joining::join;
 use crate::laws::{
     loaded_have_closed_images, loaded_have_image, series_are_loaded, series_have_graph,
@@ -65,14 +64,27 @@ impl Series {
     pub fn add(&mut self, unplaced: &Module) -> Result<(), JoinFault>
         requires { CanBeTaken unplaced.now }
         ensures ok { OnOk result (HasJoined self.old self.new unplaced.now) }
-        ensures fault { IfErr result (IsJoinFault self.old.code_words self.old.placed unplaced.now) }
+        ensures fault { IfErr result
+            (IsJoinFault self.old.code_words self.old.placed unplaced.now) }
         ensures same { OnErr result (self.new ≡ self.old) }
         ensures only { (placed : PlacedModule) → JoinsTo self.old unplaced.now placed →
             (self.new ≡ with_module self.old placed) ⊎ (result ≡ Err Memory) }
     {
-        let (placed, index) = self.place_next(unplaced)?;
+        let placed = self.place_next(unplaced)?;
+        self.rejoin(placed)?;
+        Ok(())
+    }
+
+    /// Adds what placing made of a module behind those that are there. It is not placed or verified again.
+    ///
+    /// Without memory the series stays as it was.
+    pub fn rejoin(&mut self, placed: Placed) -> Result<(), AllocError>
+        requires { CanRejoin self.old placed }
+        ensures ok { OnOk result (self.new ≡ with_module self.old placed) }
+        ensures same { OnErr result (self.new ≡ self.old) }
+    {
         self.placed.push(placed)?;
-        self.index = index.with_last(&self.placed).ok();
+        self.index = with_last(self.index.take(), &self.placed);
         Ok(())
     }
 
@@ -82,35 +94,30 @@ impl Series {
     pub fn joins(&mut self, unplaced: &Module) -> Result<(), JoinFault>
         requires { CanBeTaken unplaced.now }
         ensures ok { OnOk result ((placed : PlacedModule) × JoinsTo self.old unplaced.now placed) }
-        ensures fault { IfErr result (IsJoinFault self.old.code_words self.old.placed unplaced.now) }
+        ensures fault { IfErr result
+            (IsJoinFault self.old.code_words self.old.placed unplaced.now) }
         ensures same { self.new ≡ self.old }
         ensures only { (placed : PlacedModule) → JoinsTo self.old unplaced.now placed →
             IfErr result (λ fault. fault ≡ Memory) }
     {
-        let (_, index) = self.place_next(unplaced)?;
-        self.index = Some(index);
+        let _ = self.place_next(unplaced)?;
         Ok(())
     }
 
-    // Places a module behind those that are there and verifies it. It comes with the index of those, which the
-    // series then keeps no longer.
-    fn place_next(&mut self, unplaced: &Module) -> Result<(Placed, Index), JoinFault>
+    // What placing makes of a module behind those that are there, against which it verifies.
+    fn place_next(&mut self, unplaced: &Module) -> Result<Placed, JoinFault>
         requires { CanBeTaken unplaced.now }
-        ensures joins { IfOk result (λ parts. JoinsTo self.old unplaced.now parts.0) }
-        ensures index { IfOk result (λ parts. IsIndexOf self.old.placed parts.1) }
-        ensures fault { IfErr result (IsJoinFault self.old.code_words self.old.placed unplaced.now) }
+        ensures joins { IfOk result (JoinsTo self.old unplaced.now) }
+        ensures fault { IfErr result
+            (IsJoinFault self.old.code_words self.old.placed unplaced.now) }
         ensures same { self.new ≡ self.old }
         ensures only { (placed : PlacedModule) → JoinsTo self.old unplaced.now placed →
             IfErr result (λ fault. fault ≡ Memory) }
     {
         let index = index_of(self.alloc, self.index.take(), &self.placed)?;
-        match join(self.alloc, self.code_words, &self.placed, &index, unplaced) {
-            Ok(placed) => Ok((placed, index)),
-            Err(fault) => {
-                self.index = Some(index);
-                Err(fault)
-            }
-        }
+        let joined = join(self.alloc, self.code_words, &self.placed, &index, unplaced);
+        self.index = Some(index);
+        joined
     }
 
     /// The image of all modules, in the series' layout, with its classes in the order of their least slots.
@@ -118,18 +125,25 @@ impl Series {
         ensures image { IfOk result (IsImageOfSeries self.now) }
         ensures ordered { IfOk result (IsOrderedImage self.now.placed) }
     {
-        let layout = Layout::new(self.code_words).unwrap();
-        image_of(self.alloc, self.modules(), &layout)
+        image_of(self.alloc, self.modules(), &self.layout())
     }
 
-    // Without the module that was added last.
-    pub(crate) fn without_last(mut self) -> Series
-        requires { 0 < length self.placed }
-        ensures { result ≡ without_last self }
+    /// The layout that the modules stand in.
+    pub fn layout(&self) -> Layout
+        ensures { result ≡ self.now.code_words }
     {
-        self.placed.pop();
+        Layout::new(self.code_words).unwrap()
+    }
+
+    // Without the module that was added last, and that.
+    pub(crate) fn without_last(mut self) -> (Series, Placed)
+        requires { 0 < length self.placed }
+        ensures rest { result.0 ≡ without_last self }
+        ensures placed { with_module result.0 result.1 ≡ self }
+    {
         self.index = None;
-        self
+        let placed = self.placed.pop().unwrap();
+        (self, placed)
     }
 
     /// The placed modules, in their order. They have a graph and an image, and each image of them is closed.

@@ -19,7 +19,7 @@ use Rattle.cfi_series.specs.declared.numbers.FaultNumbers.TheVariants as numbers
 use Rattle.cfi_series.specs.Loaded.{AreLoaded}
 use Rattle.cfi_series.specs.Numbers.{numbers_of}
 use Rattle.cfi_series.specs.Order.{IsJoinFault}
-use Rattle.cfi_series.specs.Prepared.{IsOrderedImage}
+use Rattle.cfi_series.specs.Image.{IsOrderedImage}
 use Rattle.cfi_series.proofs.GraphLemmas.{are_loaded}
 use Rattle.cfi_series.proofs.OrderLemmas.{joins_or_refused, one_fault}
 use Rattle.cfi_sim.specs.declared.aim.Aim.{Aim}

@@ -1,10 +1,14 @@
 -- Loads, as a simulation under way makes them.
-use Rattle.std.proofs.Common.{◌≡◌, ℕ, ◌<◌, ◌≤◌, Bool, true, false, List, length, get_or, Some, None, refl, sym, ◌∙◌, ap, subst, arith, inl, inr}
+use Rattle.std.proofs.Common.{◌≡◌, ℕ, ◌+◌, ◌<◌, ◌≤◌, ◌++◌, Bool, true, false, List, [], ◌∷◌, length, get_or, Some, None, refl, sym, ◌∙◌, ap, subst, arith, inl, inr}
 use Rattle.std.specs.Prelude.{option_map}
+use Rattle.cfi_aux.specs.Sound.{IsSoundModule}
 use Rattle.cfi_aux.specs.declared.modules.Module.{Module}
 use Rattle.cfi_aux.specs.declared.placed.Placed.{Placed}
+use Rattle.cfi_graph.specs.Direct.{DirectEdge}
+use Rattle.cfi_policy.specs.Image.{IsImage}
 use Rattle.cfi_plan.specs.declared.journal.JournalLine.{JournalLine}
 use Rattle.cfi_plan.specs.declared.journal.JournalLine.TheVariants as lines
+use Rattle.cfi_plan.specs.declared.journal.ModuleLine.{ModuleLine}
 use Rattle.cfi_series.proofs.OrderLemmas.{joins_or_refused}
 use Rattle.cfi_series.proofs.SeriesLemmas.{item_at}
 use Rattle.std.proofs.lemmas.Option.{slice_get-get_or}
@@ -13,31 +17,41 @@ use Rattle.cfi_series.specs.declared.fault.JoinFault.TheVariants.{Memory}
 use Rattle.cfi_series.specs.declared.numbers.FaultNumbers.{FaultNumbers}
 use Rattle.cfi_series.specs.declared.numbers.FaultNumbers.TheVariants as numbers
 use Rattle.cfi_series.specs.Numbers.{numbers_of}
-use Rattle.cfi_series.specs.Order.{IsJoinFault}
-use Rattle.cfi_series.specs.Series.{Series}
+use Rattle.cfi_series.specs.Image.{IsOrderedImage}
+use Rattle.cfi_series.specs.Order.{IsJoinFault, Joins}
+use Rattle.cfi_series.specs.Series.{JoinsTo, Series}
 use Rattle.cfi_sim.specs.declared.aim.Aim.TheVariants.{Loading}
 use Rattle.cfi_sim.specs.Events.{TellsLoad, IsLoadEvent}
 use Rattle.cfi_sim.specs.Reach.{OfLoad}
 use Rattle.cfi_sim.specs.Schedule.{PassesNoLimit}
 use Rattle.cfi_sim.specs.Stage.{Stage, with_journal_line}
 use Rattle.cfi_ledger.specs.Loads.{IsListed, IsUnlisted}
-use Rattle.cfi_ledger.specs.Roster.{Roster, loaded_of, origin_of, series_of}
+use Rattle.cfi_ledger.specs.Roster.{IsImageOfRoster, IsOffer, Offer, Roster, loaded_of, origin_of, series_of, with_offer}
 use Rattle.cfi_ledger.proofs.NumberedLemmas.{from_numbers}
 use Rattle.cfi_ledger.proofs.RosterLemmas.{listed_loaded, unlisted_absent}
-use Rattle.cfi_sim.specs.inner.Making.{HasMadeWithin, MakesBy, CanBegin, BeginsBy, IsImageWith, with_told}
+use Rattle.cfi_sim.specs.inner.Making.{HasMadeWithin, MakesBy, CanBegin, BeginsBy, with_told}
 use Rattle.cfi_sim.specs.declared.standing.Standing.TheInside.{Inside}
-use Rattle.cfi_sim.specs.inner.Standing.{Whole, RosterFits, IsUnderWay, whole_inside}
+use Rattle.cfi_sim.specs.declared.pending.Pending.TheVariants.{Load}
+use Rattle.cfi_sim.specs.inner.Pending.{aim_by}
+use Rattle.cfi_sim.specs.inner.Standing.{Whole, RosterFits, IsOffered, IsUnderWay, PendingFits, whole_inside}
 use Rattle.cfi_sim.proofs.BeginLemmas.{under_after, updates_few, done_so}
 use Rattle.cfi_sim.proofs.journal.BegunLemmas.{load_may}
 use Rattle.cfi_sim.proofs.GoLemmas.{all_sound}
 use Rattle.cfi_valid.proofs.KeptLemmas.{many_are, places_are}
 use Rattle.cfi_valid.specs.Joining.{IsUnloaded}
 use Rattle.cfi_valid.specs.Journal.{IsClean, LineLeads}
-use Rattle.cfi_valid.specs.Loaded.{placed_modules, IsLoaded}
+use Rattle.cfi_valid.specs.Loaded.{placed_modules, planned_name, IsLoaded}
 use Rattle.cfi_valid.specs.NumberedLine.{numbered_line}
 use Rattle.cfi_valid.specs.declared.limits.TheConstants.{MAX_LOADED}
 use Rattle.cfi_word.specs.declared.lists.Image.{Image}
 use Rattle.cfi_world.proofs.StoringLemmas.{idle_is}
+
+-- the image of the modules of a series and one more, which joins them
+pub record IsImageWith (series : Series) (m : Module) (image : Image) : Type 0 where
+  pub placed : Placed
+  pub joins : JoinsTo series m placed
+  pub is : (let all = series.placed ++ placed ∷ [] in IsImage (DirectEdge all) all series.code_words image)
+  pub ordered : IsOrderedImage (series.placed ++ placed ∷ []) image
 
 module _ (x : Whole) (under : IsUnderWay x) (within : PassesNoLimit x.stage) (number : ℕ) where
   -- a line that is told at once
@@ -217,7 +231,14 @@ module _ (a : Inside) (kept : RosterFits a) (x : Whole) (is : whole_inside a ≡
       room = subst (λ (w : Whole). length w.stage.state.loaded < MAX_LOADED) (sym is) room;
     }
 
-    module _ (image : Image) (with : IsImageWith (series_of a.roster) m image) where
+    -- it is offered, with the image of all
+    module _ (offer : Offer)
+        (its : IsOffer number (planned_name a.plan.now.modules number) (a.policy + 1) m a.roster offer)
+        (image : Image) (of : IsImageOfRoster (with_offer offer a.roster) image)
+        (ordered : IsOrderedImage (with_offer offer a.roster).placed image) where
+      abbrev with : IsImageWith (series_of a.roster) m image
+      with = record { placed = offer.placed; joins = its.joins; is = of; ordered = ordered }
+
       with_here : IsImageWith (record {
         code_words = here.plan.code_words;
         placed = placed_modules here.stage.state.loaded;
@@ -227,16 +248,35 @@ module _ (a : Inside) (kept : RosterFits a) (x : Whole) (is : whole_inside a ≡
       pub may_load : CanBegin a.world (Some image)
       may_load = load_room here under_here within_here number unloaded image with_here
 
+      number_is : offer.line.number ≡ number
+      number_is = ap (λ (l : ModuleLine). l.number) its.line_is
+
+      offered : PendingFits here (Load offer)
+      offered =
+          subst (λ (n : ℕ). IsOffered here.plan here.modules here.stage.state.loaded a.policy n offer) (sym number_is)
+          (record {
+            unplaced = m;
+            is = unloaded.is;
+            sound = subst IsSoundModule (sym m_is) (all_sound a.modules.now under_here.taken number m known_here);
+            joins = subst (λ (s : Series). Joins s.code_words s.placed m offer.placed) (series_is a kept) its.joins;
+            line_is = its.line_is;
+          })
+
+      pub offer_fits : (r : Roster) → r ≡ a.roster → PendingFits (whole_inside (record a { roster = r })) (Load offer)
+      offer_fits r same =
+          subst (λ (t : Roster). PendingFits (whole_inside (record a { roster = t })) (Load offer)) (sym same) offered
+
       pub begun_load : (r : Roster) → r ≡ a.roster → (y : Whole) (happened : Bool)
-          → BeginsBy (Loading number) (lines.LoadEpochs number) (Some image) (whole_inside (record a { roster = r })) y
-          happened
+          → BeginsBy (aim_by (Load offer)) (lines.LoadEpochs number) (Some image)
+          (whole_inside (record a { roster = r })) y happened
           → MakesBy (IsLoadEvent x.plan x.modules number) x y happened
       begun_load r same y happened begins =
           subst (λ (w : Whole). MakesBy (IsLoadEvent w.plan w.modules number) w y happened) is
           (load_by here under_here within_here number unloaded image with_here y happened
+          (subst (λ (n : ℕ). BeginsBy (Loading n) (lines.LoadEpochs number) (Some image) here y happened) number_is
           (subst
-          (λ (t : Roster). BeginsBy (Loading number) (lines.LoadEpochs number) (Some image)
-          (whole_inside (record a { roster = t })) y happened) same begins))
+          (λ (t : Roster). BeginsBy (aim_by (Load offer)) (lines.LoadEpochs number) (Some image)
+          (whole_inside (record a { roster = t })) y happened) same begins)))
 
     pub refused_load : (fault : JoinFault) → IsJoinFault a.roster.code_words a.roster.placed m fault
         → (line : JournalLine) → Some line ≡ option_map (numbered_line number) (numbers_of fault) → (r : Roster)

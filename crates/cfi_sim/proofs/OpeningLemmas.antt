@@ -18,7 +18,7 @@ use Rattle.cfi_plan.specs.Plan.{IsPlan}
 use Rattle.cfi_plan.specs.declared.plan.Plan.{Plan}
 use Rattle.cfi_policy.specs.Image.{IsImage}
 use Rattle.cfi_series.specs.Fills.{fills_of}
-use Rattle.cfi_series.specs.Prepared.{IsOrderedImage}
+use Rattle.cfi_series.specs.Image.{IsOrderedImage}
 use Rattle.cfi_series.specs.Series.{CanBeTaken}
 use Rattle.cfi_series.proofs.OrderLemmas.{left, last}
 use Rattle.cfi_series.proofs.SeriesLemmas.{item_at}

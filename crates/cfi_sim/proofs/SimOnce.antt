@@ -14,7 +14,7 @@ use Rattle.cfi_plan.specs.Plan.{IsPlan}
 use Rattle.cfi_plan.specs.declared.plan.Plan.{Plan}
 use Rattle.cfi_policy.specs.Image.{IsImage}
 use Rattle.cfi_report.specs.declared.report.GuestPart.{GuestPart}
-use Rattle.cfi_series.specs.Prepared.{IsOrderedImage}
+use Rattle.cfi_series.specs.Image.{IsOrderedImage}
 use Rattle.cfi_sim.specs.declared.limits.TheConstants.{MAX_UPDATES}
 use Rattle.cfi_sim.specs.declared.report.SimReport.{SimReport}
 use Rattle.cfi_sim.specs.Faults.{IsFirstBad}

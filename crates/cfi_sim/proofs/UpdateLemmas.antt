@@ -1,33 +1,34 @@
 -- Accesses of the updater, as a simulation under way makes them.
-use Rattle.std.proofs.Common.{◌≡◌, ℕ, ◌+◌, ◌<◌, ◌++◌, false, List, [], ◌∷◌, length, get_or, Some, None, refl, sym, ◌∙◌, ap, subst, arith}
-use Rattle.std.proofs.lemmas.Option.{slice_get-get_or, slice_get_within}
+use Rattle.std.proofs.Common.{◌≡◌, ℕ, ◌+◌, ◌<◌, ◌++◌, false, List, [], ◌∷◌, length, map, Option, Some, None, refl, sym, ◌∙◌, ap, subst, arith}
+use Rattle.std.specs.Prelude.{IfSome}
 use Rattle.cfi_aux.specs.declared.modules.Module.{Module}
 use Rattle.cfi_model.specs.declared.phase.Phase.{Phase}
 use Rattle.cfi_model.specs.declared.phase.Phase.TheVariants as phases
 use Rattle.cfi_model.specs.Phases.{phase_of}
 use Rattle.cfi_model.specs.World.{World}
 use Rattle.cfi_plan.specs.declared.journal.JournalLine.TheVariants as lines
-use Rattle.cfi_series.proofs.OrderLemmas.{joins_or_refused}
-use Rattle.cfi_series.specs.declared.fault.JoinFault.{JoinFault}
-use Rattle.cfi_series.specs.declared.fault.JoinFault.TheVariants.{Memory}
-use Rattle.cfi_series.specs.Order.{Joins, IsJoinFault}
-use Rattle.cfi_series.specs.Series.{Series}
-use Rattle.cfi_sim.specs.declared.aim.Aim.TheVariants.{Loading}
+use Rattle.cfi_plan.specs.declared.journal.ModuleLine.{ModuleLine}
+use Rattle.cfi_series.specs.Order.{Joins}
+use Rattle.cfi_series.specs.Series.{CanRejoin, Series}
+use Rattle.cfi_sim.specs.declared.aim.Aim.{Aim}
 use Rattle.cfi_sim.specs.declared.limits.TheConstants.{MAX_EVENTS}
+use Rattle.cfi_sim.specs.declared.pending.Pending.{Pending}
+use Rattle.cfi_sim.specs.declared.pending.Pending.TheVariants.{Load}
 use Rattle.cfi_sim.specs.declared.standing.Standing.TheInside.{Inside}
 use Rattle.cfi_sim.specs.Events.{IsNoted, IsUpdateEvent}
 use Rattle.cfi_sim.specs.Reach.{OfUpdate}
 use Rattle.cfi_sim.specs.Stage.{Stage, IsMade, after_event, loaded_as}
-use Rattle.cfi_sim.specs.Stands.{LoadFits}
-use Rattle.cfi_ledger.specs.Roster.{Roster, HasJoined, loaded_of}
+use Rattle.cfi_sim.specs.Stands.{AimFits, LoadFits}
 use Rattle.cfi_ledger.proofs.JoinedLemmas.{joined_lines, joined_loaded, joined_many}
-use Rattle.cfi_sim.specs.inner.Making.{FitsAim, HasCome, HasMadeWithin, NotesBy, with_dropped, with_told}
-use Rattle.cfi_sim.specs.inner.Standing.{Whole, RosterFits, IsUnderWay, whole_inside}
+use Rattle.cfi_ledger.specs.Roster.{HasJoined, Offer, Roster, loaded_of, series_of, with_offer}
+use Rattle.cfi_sim.specs.inner.Making.{FitsAim, HasCome, HasMadeWithin, NotesBy, with_dropped, with_entered, with_told}
+use Rattle.cfi_sim.specs.inner.Pending.{aim_by, aim_of}
+use Rattle.cfi_sim.specs.inner.Standing.{Whole, RosterFits, IsUnderWay, PendingFits, whole_inside}
 use Rattle.cfi_sim.proofs.BeginLemmas.{under_after, updates_few, done_so}
 use Rattle.cfi_sim.proofs.journal.NotedLemmas.{not_spent, busy, update_counts}
 use Rattle.cfi_sim.proofs.LoadLemmas.{series_is}
-use Rattle.cfi_valid.specs.Journal.{JournalState, IsClean}
-use Rattle.cfi_valid.specs.Loaded.{LoadedModule, placed_modules, planned_name}
+use Rattle.cfi_valid.specs.Journal.{IsClean}
+use Rattle.cfi_valid.specs.Loaded.{LoadedModule, module_line_of, placed_modules, planned_name}
 use Rattle.cfi_world.specs.declared.event.Event.TheVariants as events
 use Rattle.cfi_world.specs.declared.event.Turned.{Turned}
 use Rattle.cfi_world.specs.declared.event.Turned.TheVariants.{VersionsSpent}
@@ -36,98 +37,126 @@ use Rattle.cfi_world.specs.Updates.{is_idle}
 
 -- ---- a module enters
 
--- the module whose load is under way is there
-pub entrant_there : (a : Inside) (x : Whole) → whole_inside a ≡ x → (number : ℕ)
-    → LoadFits x.plan x.modules x.stage.state number → number < length a.modules.now
-entrant_there a x is number fits =
-    subst (λ (w : Whole). number < length w.modules) (sym is)
-    (slice_get_within x.modules number fits.clean.absent.unplaced fits.clean.absent.is)
+module _ (a : Inside) (kept : RosterFits a) (x : Whole) (is : whole_inside a ≡ x) (offer : Offer)
+    (offered : PendingFits x (Load offer)) where
+  abbrev its : PendingFits (whole_inside a) (Load offer)
+  its = subst (λ (w : Whole). PendingFits w (Load offer)) (sym is) offered
 
--- and has a line of the plan
-pub entrant_named : (a : Inside) (x : Whole) → whole_inside a ≡ x → (number : ℕ)
-    → LoadFits x.plan x.modules x.stage.state number → length x.modules ≡ length x.plan.modules
-    → number < length a.plan.now.modules
-entrant_named a x is number fits named =
-    let within = entrant_there a x is number fits in
-    let same = subst (λ (w : Whole). length w.modules ≡ length w.plan.modules) (sym is) named in
-    omega (arith, within, same)
+  -- it joins the roster
+  joins_here : Joins a.roster.code_words a.roster.placed its.unplaced offer.placed
+  joins_here =
+      subst (λ (s : Series). Joins s.code_words s.placed its.unplaced offer.placed) (sym (series_is a kept)) its.joins
 
-module _ (a : Inside) (kept : RosterFits a) (x : Whole) (is : whole_inside a ≡ x) (number : ℕ)
-    (fits : LoadFits x.plan x.modules x.stage.state number) (m : Module) (m_is : m ≡ get_or a.modules.now number m)
-  where
-    abbrev here : Whole
-    here = whole_inside a
+  pub rejoins : CanRejoin (series_of a.roster) offer.placed
+  rejoins = (its.unplaced, its.sound, joins_here)
 
-    clean_here : IsClean here.plan here.modules here.stage.state number
-    clean_here = subst (λ (w : Whole). IsClean w.plan w.modules w.stage.state number) (sym is) fits.clean
+  abbrev entered : LoadedModule
+  entered = record { number = offer.line.number; placed = offer.placed; policy = a.policy + 1 }
 
-    same_module : m ≡ clean_here.absent.unplaced
-    same_module =
-        let one : Module = clean_here.absent.unplaced in
-        let there = clean_here.absent.is in
-        let found = slice_get-get_or a.modules.now number m (slice_get_within a.modules.now number one there) in
-        let both : Some m ≡ Some one = ap (λ (k : Module). Some k) m_is ∙ sym found ∙ there in
+  abbrev name : List ℕ
+  name = planned_name a.plan.now.modules offer.line.number
+
+  module _ (r : Roster) (same : r ≡ with_offer offer a.roster) where
+    -- with it, it is loaded
+    abbrev joined : HasJoined offer.line.number name (a.policy + 1) its.unplaced a.roster r
+    joined = record {
+      one = offer.placed;
+      joins = joins_here;
+      is = same
+          ∙ ap (λ (l : ModuleLine). with_offer (record { line = l; placed = offer.placed }) a.roster) its.line_is;
+    }
+
+    loaded_with : loaded_of r.lines r.placed ≡ loaded_of a.roster.lines a.roster.placed ++ entered ∷ []
+    loaded_with =
+        joined_loaded offer.line.number name (a.policy + 1) its.unplaced a.roster r joined kept.many
+
+    pub entered_many : length r.lines ≡ length r.placed
+    entered_many = joined_many offer.line.number name (a.policy + 1) its.unplaced a.roster r joined kept.many
+
+    pub entered_size : r.code_words ≡ a.plan.now.code_words
+    entered_size = ap (λ (t : Roster). t.code_words) same ∙ kept.size
+
+    -- the lines are those of the modules
+    pub entered_lines : r.lines ≡ map (module_line_of a.plan.now.modules) (loaded_of r.lines r.placed)
+    entered_lines =
+        joined_lines offer.line.number name (a.policy + 1) its.unplaced a.roster r joined kept.many
+        a.plan.now.modules kept.lines refl
+
+    abbrev told_with : (number : ℕ) → Option Aim → List LoadedModule → Whole
+    told_with number aim loaded =
+        let here = whole_inside a in
+        with_told (lines.LoadOk number (a.epoch + 1) (a.policy + 1))
+        (record here {
+          stage = record here.stage {
+            state = record { epoch = a.epoch + 1; policy = a.policy + 1; loaded = loaded };
+            aim = aim;
+          };
+        })
+
+    -- and the state is the next one
+    pub has_entered : x.stage.aim ≡ None → (number : ℕ) → number ≡ offer.line.number → (y : Whole)
+        → y ≡ told_with number (aim_of a.pending) (loaded_of r.lines r.placed) → y ≡ with_entered offer x
+    has_entered none number number_is y y_is =
+        let loaded = loaded_of r.lines r.placed in
+        let aim_is = subst (λ (w : Whole). w.stage.aim ≡ None) (sym is) none in
+        y_is
+        ∙ ap (λ (n : ℕ). told_with n (aim_of a.pending) loaded) number_is
+        ∙ ap (λ (o : Option Aim). told_with offer.line.number o loaded) aim_is
+        ∙ ap (told_with offer.line.number None) loaded_with
+        ∙ ap (with_entered offer) is
+
+-- ---- what was under way is in force
+
+-- what has happened to the stage alone
+stage_alone : (x y : Whole) (s : Stage) → y ≡ record x { stage = s } → y ≡ record x { stage = y.stage }
+stage_alone x y s is = is ∙ ap (λ (t : Stage). record x { stage = t }) (ap (λ (w : Whole). w.stage) (sym is))
+
+-- without an aim nothing is under way
+pub none_pending : (Fits : Pending → Type 0) (pending : Option Pending) → aim_of pending ≡ None → IfSome pending Fits
+none_pending Fits None none = tt
+none_pending Fits (Some pending) none = absurd (cc)
+
+module _ (a : Inside) (kept : RosterFits a) (x : Whole) (is : whole_inside a ≡ x) (fits : FitsAim x) where
+  abbrev now_fits : FitsAim (whole_inside a)
+  now_fits = subst FitsAim (sym is) fits
+
+  aim_fits : (pending : Pending) → a.pending ≡ Some pending
+      → AimFits a.plan.now a.modules.now (whole_inside a).stage.state (Some (aim_by pending))
+  aim_fits pending same =
+      subst (λ (o : Option Pending). AimFits a.plan.now a.modules.now (whole_inside a).stage.state (aim_of o)) same
+      now_fits.fits
+
+  module _ (offer : Offer) (same : a.pending ≡ Some (Load offer)) where
+    pub held : PendingFits (whole_inside a) (Load offer)
+    held = subst (λ (o : Option Pending). IfSome o (PendingFits (whole_inside a))) same kept.pending
+
+    abbrev load_fits : LoadFits a.plan.now a.modules.now (whole_inside a).stage.state offer.line.number
+    load_fits = aim_fits (Load offer) same
+
+    held_module : held.unplaced ≡ load_fits.clean.absent.unplaced
+    held_module =
+        let both : Some held.unplaced ≡ Some load_fits.clean.absent.unplaced =
+        sym held.is ∙ load_fits.clean.absent.is in
         cc
 
-    -- no fault stands against it
-    pub not_refused : (fault : JoinFault) → IsJoinFault a.roster.code_words a.roster.placed m fault → fault ≡ Memory
-    not_refused fault why =
-        joins_or_refused here.plan.code_words (placed_modules here.stage.state.loaded) clean_here.absent.unplaced
-        clean_here.placed fault clean_here.joins
-        (subst (λ (k : Module). IsJoinFault here.plan.code_words (placed_modules here.stage.state.loaded) k fault)
-        same_module
-        (subst (λ (s : Series). IsJoinFault s.code_words s.placed m fault) (series_is a kept) why))
+    -- it has no fault, and is placed so
+    abbrev clean_held : IsClean a.plan.now a.modules.now (whole_inside a).stage.state offer.line.number
+    clean_held = record {
+      absent = load_fits.clean.absent;
+      placed = offer.placed;
+      joins = subst
+          (λ (m : Module). Joins a.plan.now.code_words (placed_modules (whole_inside a).stage.state.loaded) m offer.placed)
+          held_module held.joins;
+    }
 
-    -- it is loaded
-    module _ (aim : x.stage.aim ≡ Some (Loading number)) (r : Roster)
-        (joined : HasJoined number (planned_name a.plan.now.modules number) (a.policy + 1) m a.roster r) where
-      abbrev name : List ℕ
-      name = planned_name a.plan.now.modules number
-
-      abbrev clean_now : IsClean here.plan here.modules here.stage.state number
-      clean_now = record {
-        absent = clean_here.absent;
-        placed = joined.one;
-        joins = subst (λ (k : Module). Joins here.plan.code_words (placed_modules here.stage.state.loaded) k joined.one)
-            same_module
-            (subst (λ (t : Series). Joins t.code_words t.placed m joined.one) (series_is a kept) joined.joins);
-      }
-
-      loaded_now : loaded_of r.lines r.placed
-          ≡ here.stage.state.loaded ++ record { number = number; placed = joined.one; policy = a.policy + 1 } ∷ []
-      loaded_now = joined_loaded number name (a.policy + 1) m a.roster r joined kept.many
-
-      -- the roster fits still
-      pub entered_fits : RosterFits (record a { roster = r })
-      entered_fits = record {
-        layout = kept.layout;
-        many = joined_many number name (a.policy + 1) m a.roster r joined kept.many;
-        size = ap (λ (t : Roster). t.code_words) joined.is ∙ kept.size;
-        lines = joined_lines number name (a.policy + 1) m a.roster r joined kept.many a.plan.now.modules kept.lines
-            refl;
-      }
-
-      abbrev state_of : List LoadedModule → JournalState
-      state_of loaded = record { epoch = a.epoch + 1; policy = a.policy + 1; loaded = loaded }
-
-      abbrev entered : List LoadedModule → Whole
-      entered loaded =
-          with_told (lines.LoadOk number (a.epoch + 1) (a.policy + 1))
-          (record here { stage = record here.stage { state = state_of loaded; aim = None } })
-
-      pub has_entered : (y : Whole) → y ≡ entered (loaded_of r.lines r.placed) → HasCome x y
-      has_entered y y_is =
-          let stage_is : y.stage ≡ loaded_as number joined.one here.stage =
-          ap (λ (w : Whole). w.stage) y_is ∙ ap (λ (ls : List LoadedModule). (entered ls).stage) loaded_now in
-          let aim_here : here.stage.aim ≡ Some (Loading number) =
-          subst (λ (w : Whole). w.stage.aim ≡ Some (Loading number)) (sym is) aim in
-          let made : IsMade here.plan here.modules (Some (Loading number)) here.stage y.stage = (clean_now, stage_is) in
-          let come : HasCome here y = record {
-            made = subst (λ o. IsMade here.plan here.modules o here.stage y.stage) (sym aim_here) made;
-            is = y_is
-                ∙ ap (λ (st : Stage). record here { stage = st }) (ap (λ (w : Whole). w.stage) (sym y_is));
-          } in
-          subst (λ (w : Whole). HasCome w y) is come
+    pub load_comes : (y : Whole) → y ≡ with_entered offer (whole_inside a) → HasCome x y
+    load_comes y y_is =
+        subst (λ (w : Whole). HasCome w y) is (record {
+          made = subst
+              (λ (o : Option Pending). IsMade a.plan.now a.modules.now (aim_of o) (whole_inside a).stage y.stage)
+              (sym same) (clean_held, ap (λ (w : Whole). w.stage) y_is);
+          is = stage_alone (whole_inside a) y (loaded_as offer.line.number offer.placed (whole_inside a).stage) y_is;
+        })
 
 -- ---- an access
 
@@ -137,8 +166,6 @@ pub fits_aim : (x : Whole) → IsUnderWay x → (w : World) (events : ℕ)
 fits_aim x under w events = record {
   fits = under.going.holds.stands.aim;
   few = under.going.holds.agrees.tables.few;
-  taken = under.taken;
-  named = under.named;
 }
 
 -- ---- it is made

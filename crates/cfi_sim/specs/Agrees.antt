@@ -46,6 +46,7 @@ coming_by (Some e) all last = Some e
 coming_by None true last = None
 coming_by None false last = Some last
 
+-- the entry that is to come: one that is not in force yet, or was asked for
 abbrev pub coming : Tables → Option Entry
 coming t = coming_by t.asked (in_force t == newest t) (entry_at t (newest t))
 
@@ -93,6 +94,7 @@ HasFound first Asking = ⊤
 HasFound first Leaving = ⊤
 HasFound first (Found epoch) = first ≤ epoch
 
+-- the world has the plan's guests, fuel and room, and what its guests have published are epochs of the plan
 pub record GuestsAgree (plan : Plan) (w : World) : Type 0 where
   pub count : length w.guests ≡ length plan.guests
   pub fuel : w.fuel ≡ plan.fuel
@@ -102,6 +104,7 @@ pub record GuestsAgree (plan : Plan) (w : World) : Type 0 where
 
 -- ---- both
 
+-- the world agrees with the plan, and with the journal's state and aim
 pub record WorldAgrees (plan : Plan) (modules : List Module) (s : Stage) : Type 0 where
   pub world : IsWorld s.world
   pub tables : TablesAgree plan modules s.state s.aim s.world.tables

@@ -17,7 +17,7 @@ use Rattle.cfi_plan.specs.declared.journal.JournalLine.{JournalLine}
 use Rattle.cfi_plan.specs.declared.journal.JournalLine.TheVariants as lines
 use Rattle.cfi_plan.specs.declared.plan.Plan.{Plan}
 use Rattle.cfi_policy.specs.Image.{IsImage}
-use Rattle.cfi_series.specs.Prepared.{IsOrderedImage}
+use Rattle.cfi_series.specs.Image.{IsOrderedImage}
 use Rattle.cfi_sim.specs.declared.found.Found.{Found}
 use Rattle.cfi_sim.specs.declared.found.Found.TheVariants.{Unknown, Functionless, Opened, Unloaded}
 use Rattle.cfi_sim.specs.declared.limits.TheConstants.{NOT_LOADED}
@@ -36,6 +36,7 @@ use Rattle.cfi_world.specs.Turns.{turn_of, answer_turn}
 
 -- ---- opens
 
+-- no update is under way
 abbrev pub IsIdle : World → Type 0
 IsIdle world = phase_of world.tables ≡ phases.Idle
 
@@ -76,11 +77,13 @@ pub record IsAnswered (plan : Plan) (state : JournalState) (old new : World) (gu
 
 -- ---- an event of a guest
 
+-- what the turn of a guest comes to: an event, or an open that is answered; else it is none
 abbrev pub GuestTurns : Plan → JournalState → (mid new : World) → (guest : ℕ) → Turned → Type 0
 GuestTurns plan state mid new guest Did = new ≡ mid
 GuestTurns plan state mid new guest (Asks asking number) = IsAnswered plan state mid new guest number
 GuestTurns plan state mid new guest answer = ⊥
 
+-- a guest's event
 pub record IsGuestEvent (plan : Plan) (guest : ℕ) (old new : Stage) : Type 0 where
   pub world : World
   pub turns : (let turn = turn_of old.world (events.Guest guest) in
@@ -95,6 +98,7 @@ IsNoted plan modules phase (VersionsSpent guest quiet) old new = new ≡ dropped
 IsNoted plan modules phases.Epoch answer old new = IsMade plan modules old.aim old new
 IsNoted plan modules phase answer old new = new ≡ old
 
+-- an access of the updater, with what it means for the journal
 pub record IsUpdateEvent (plan : Plan) (modules : List Module) (old new : Stage) : Type 0 where
   pub busy : phase_of old.world.tables ≢ phases.Idle
   pub is : (let turn = turn_of old.world events.Update in
@@ -108,10 +112,12 @@ Begins aim spent old new image Did world = new ≡ record (after_event world old
 Begins aim spent old new image EpochsSpent world = new ≡ with_journal_line spent (after_event world old)
 Begins aim spent old new image answer world = ⊥
 
+-- an update begins, or is told that no epoch is left
 abbrev pub IsBeginning : Aim → (spent : JournalLine) → Option Image → (old new : Stage) → Type 0
 IsBeginning aim spent image old new =
     let turn = turn_of old.world (events.Begin image) in Begins aim spent old new image turn.answer turn.world
 
+-- a refresh begins so
 abbrev pub IsRefreshEvent : (old new : Stage) → Type 0
 IsRefreshEvent old new = IsBeginning Refreshing lines.RefreshEpochs None old new
 
@@ -146,12 +152,14 @@ pub record IsBegunLoad (plan : Plan) (modules : List Module) (number : ℕ) (old
   pub ordered : IsOrderedImage (placed_modules old.state.loaded ++ clean.placed ∷ []) image
   pub begins : IsBeginning (Loading number) (lines.LoadEpochs number) (Some image) old new
 
+-- a load is told at once, or begins
 abbrev pub IsLoadEvent : Plan → List Module → (number : ℕ) → (old new : Stage) → Type 0
 IsLoadEvent plan modules number old new =
     IsToldLoad plan modules number old new ⊎ IsBegunLoad plan modules number old new
 
 -- ---- a release
 
+-- a guest is let out of its service
 pub record IsReleaseEvent (guest : ℕ) (old new : Stage) : Type 0 where
   pub happens : (turn_of old.world (events.Release guest)).answer ≡ Did
   pub is : new ≡ after_event (turn_of old.world (events.Release guest)).world old

@@ -5,6 +5,7 @@ use Rattle.cfi_report.specs.declared.report.GuestPart.{GuestPart}
 use Rattle.cfi_sim.specs.declared.report.SimReport.{SimReport}
 use Rattle.cfi_valid.specs.Example.{hello_line}
 
+-- the part of its guest
 abbrev pub still_part : GuestPart
 still_part = record {
   number = 0;
@@ -16,6 +17,7 @@ still_part = record {
   steps = 0;
 }
 
+-- the simulation
 abbrev pub still : SimReport
 still = record {
   phase = Idle;

@@ -28,6 +28,7 @@ pub record IsFirstBad (plan : Plan) (modules : List Module) (schedule : List ℕ
   pub starts : IsStart plan modules start
   pub bad : IsBadLine plan modules schedule start number
 
+-- the simulation cannot be made for this fault; want of memory may always be
 abbrev pub IsSimFault : Plan → List Module → (schedule : List ℕ) → SimFault → Type 0
 IsSimFault plan modules schedule (Open fault) = IsOpenFault plan modules fault
 IsSimFault plan modules schedule (BadEvent number) = IsFirstBad plan modules schedule number

@@ -12,6 +12,7 @@ abbrev pub guest_in : Plan → (word : List ℕ) → Option ℕ
 guest_in plan word =
     small_number_in word >>= λ number. if nat_lt number (length plan.guests) then Some number else None
 
+-- a number of times, at least one
 abbrev pub count_in : (word : List ℕ) → Option ℕ
 count_in word = small_number_in word >>= λ number. if number == 0 then None else Some number
 

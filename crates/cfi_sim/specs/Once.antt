@@ -8,6 +8,7 @@ use Rattle.cfi_sim.specs.declared.report.SimReport.{SimReport}
 use Rattle.cfi_sim.specs.Faults.{IsFirstBad}
 use Rattle.cfi_sim.specs.Valid.{IsValidSim}
 
+-- a schedule makes one simulation at most
 abbrev pub SimulationsAreOne : Type 0
 SimulationsAreOne =
     (plan : Plan) (modules : List Module) (schedule : List ℕ) (a b : SimReport) → IsPlan plan →

@@ -23,6 +23,7 @@ pub data Happening : Type 0 where
   OfRefresh : Happening
   OfRelease : (guest : ℕ) → Happening
 
+-- an event of each kind
 abbrev pub Happens : Plan → List Module → (old new : Stage) → Happening → Type 0
 Happens plan modules old new (OfGuest guest) = IsGuestEvent plan guest old new
 Happens plan modules old new OfUpdate = IsUpdateEvent plan modules old new
@@ -30,6 +31,7 @@ Happens plan modules old new (OfLoad number) = IsLoadEvent plan modules number o
 Happens plan modules old new OfRefresh = IsRefreshEvent old new
 Happens plan modules old new (OfRelease guest) = IsReleaseEvent guest old new
 
+-- an event of some kind
 abbrev pub IsNext : Plan → List Module → (old new : Stage) → Type 0
 IsNext plan modules old new = (happening : Happening) × Happens plan modules old new happening
 

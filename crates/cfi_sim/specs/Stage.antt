@@ -30,6 +30,7 @@ abbrev pub versions_line : Aim → (guest quiet : ℕ) → JournalLine
 versions_line (Loading number) guest quiet = lines.LoadVersions number guest quiet
 versions_line Refreshing guest quiet = lines.RefreshVersions guest quiet
 
+-- the update under way is not made, with its line
 abbrev pub dropped : Option Aim → (guest quiet : ℕ) → Stage → Stage
 dropped None guest quiet s = s
 dropped (Some aim) guest quiet s = with_journal_line (versions_line aim guest quiet) (record s { aim = None })
@@ -42,11 +43,13 @@ loaded_as number placed s =
     with_journal_line (lines.LoadOk number epoch policy)
     (record s { state = with_loaded number epoch policy placed s.state; aim = None })
 
+-- a refresh is in force, with its line
 abbrev pub refreshed : Stage → Stage
 refreshed s =
     let epoch = s.state.epoch + 1 in
     with_journal_line (lines.RefreshOk epoch) (record s { state = record s.state { epoch = epoch }; aim = None })
 
+-- the update is in force: a load of a module that joins, or a refresh
 abbrev pub IsMade : Plan → List Module → Option Aim → (old new : Stage) → Type 0
 IsMade plan modules None old new = new ≡ old
 IsMade plan modules (Some (Loading number)) old new =

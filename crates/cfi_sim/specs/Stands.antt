@@ -14,6 +14,7 @@ pub record LoadFits (plan : Plan) (modules : List Module) (state : JournalState)
   pub clean : IsClean plan modules state number
   pub left : state.epoch < MAX_EPOCH
 
+-- what an update is for can be put in force
 abbrev pub AimFits : Plan → List Module → JournalState → Option Aim → Type 0
 AimFits plan modules state None = ⊤
 AimFits plan modules state (Some (Loading number)) = LoadFits plan modules state number
@@ -24,6 +25,7 @@ pub record JournalStands (plan : Plan) (modules : List Module) (opening : Journa
   pub leads : EntriesLead plan modules opening s.journal s.state
   pub aim : AimFits plan modules s.state s.aim
 
+-- the journal is legal so far, and the world agrees with it
 pub record Holds (plan : Plan) (modules : List Module) (opening : JournalState) (s : Stage) : Type 0 where
   pub stands : JournalStands plan modules opening s
   pub agrees : WorldAgrees plan modules s

@@ -15,5 +15,6 @@ phase_text (phases.Tary word) = codes "tary " ++ dec_text word
 phase_text phases.Epoch = codes "epoch"
 phase_text (phases.Bary slot) = codes "bary " ++ dec_text slot
 
+-- the text of a simulation
 abbrev pub sim_text : SimReport → List ℕ
 sim_text sim = codes "sim 1\nupdater " ++ phase_text sim.phase ++ codes "\n" ++ report_text sim.report

@@ -24,6 +24,7 @@ pub record Tracing : Type 0 where
   pub stage : Stage
   pub text : List ℕ
 
+-- a stage, and what was told so far
 abbrev pub tracing : Stage → (text : List ℕ) → Tracing
 tracing stage text = record { stage = stage; text = text }
 
@@ -34,11 +35,13 @@ abbrev pub told_of : Tables → (guest : ℕ) → Option Seen → Option Raw →
 told_of t guest (Some old) (Some new) = step_text t guest old new
 told_of t guest old new = []
 
+-- what is told of an event of a guest
 abbrev pub event_text : (guest : ℕ) → (old new : World) → List ℕ
 event_text guest old new =
     told_of new.tables guest (option_map (seen_of (point_of old guest)) (slice_get old.guests guest))
     (slice_get new.guests guest)
 
+-- a guest's event, and what is told of it behind what was told before
 pub record TellsEvent (plan : Plan) (guest : ℕ) (old new : Tracing) : Type 0 where
   pub event : IsGuestEvent plan guest old.stage new.stage
   pub text : new.text ≡ old.text ++ event_text guest old.stage.world new.stage.world
@@ -70,6 +73,7 @@ Tells plan modules (Release guest) old new = IsSilent (Makes plan modules (Relea
 abbrev pub named_text : (number : ℕ) → (statement : List ℕ) → List ℕ
 named_text number statement = codes "line " ++ dec_text number ++ codes " " ++ unblanked statement ++ codes "\n"
 
+-- the head of a line: its number and its statement, where it has one
 abbrev pub heading_text : (number : ℕ) → (statement : List ℕ) → Line → List ℕ
 heading_text number statement Blank = []
 heading_text number statement (Guest guest count) = named_text number statement

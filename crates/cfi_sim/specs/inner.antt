@@ -1,4 +1,5 @@
 pub mod Loaded
+pub mod Pending
 pub mod Standing
 pub mod Making
 pub mod Following

@@ -17,6 +17,7 @@ mod limits;
 mod line;
 mod opening;
 mod opens;
+mod pending;
 mod report;
 mod simulation;
 mod standing;

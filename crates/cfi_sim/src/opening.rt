@@ -78,5 +78,5 @@ pub(crate) fn open<'a>(
         MAX_UPDATES,
         plan.fuel,
     )?;
-    Ok(Standing::new(alloc, plan, modules, layout, world, roster))
+    Ok(Standing::new(alloc, plan, modules, world, roster))
 }

@@ -5,11 +5,10 @@ ghost use Rattle.cfi_ledger.specs.Roster.{loaded_of};
 ghost use Rattle.cfi_sim.specs.inner.Standing.{whole_at};
 ghost use Rattle.cfi_valid.specs.Loaded.{module_line_of};
 
-use crate::aim::Aim;
+use crate::pending::Pending;
 use cfi_aux::Module;
 use cfi_ledger::{Journal, Roster};
 use cfi_plan::Plan;
-use cfi_word::Layout;
 use cfi_world::World;
 use std::alloc::Global;
 use std::marker::Model;
@@ -27,15 +26,13 @@ mod updates;
 pub struct Standing<'a> {
     plan: &'a Plan,
     modules: &'a [Module],
-    layout: Layout,
     world: World,
     roster: Roster,
     journal: Journal,
     epoch: u32,
     policy: u32,
-    aim: Option<Aim>,
+    pending: Option<Pending>,
     events: u32,
-    alloc: Global,
 }
 
 impl<'a> Model for Standing<'a> {
@@ -54,11 +51,9 @@ impl<'a> Standing<'a> {
         alloc: Global,
         plan: &'a Plan,
         modules: &'a [Module],
-        layout: Layout,
         world: World,
         roster: Roster,
     ) -> Standing<'a>
-        requires layout { layout ≡ plan.now.code_words }
         requires many { length roster.lines ≡ length roster.placed }
         requires size { roster.code_words ≡ plan.now.code_words }
         requires lines { roster.lines ≡
@@ -68,15 +63,13 @@ impl<'a> Standing<'a> {
         Standing {
             plan,
             modules,
-            layout,
             world,
             roster,
             journal: Journal::unscripted(alloc),
             epoch: plan.first,
             policy: 0,
-            aim: None,
+            pending: None,
             events: 0,
-            alloc,
         }
     }
 }

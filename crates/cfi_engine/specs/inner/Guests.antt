@@ -4,7 +4,7 @@ use Rattle.cfi_drive.specs.Runner.{Ran}
 use Rattle.cfi_model.specs.declared.act.Wait.TheVariants as waits
 use Rattle.cfi_word.specs.declared.services.TheConstants.{OPEN}
 
--- the guest of this number has stopped, or waits in an open that found no memory
+-- the guest of this number has stopped, or waits in an open
 pub record IsOver (number : ℕ) (ran : Ran) : Type 0 where
   pub number_is : ran.pass.guest ≡ number
   pub ends : (ran.guest.base.stop ≢ None) ⊎ (ran.guest.waits ≡ Some (waits.Service OPEN))

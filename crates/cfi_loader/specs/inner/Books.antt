@@ -13,6 +13,7 @@ use Rattle.cfi_loader.specs.Ledger.{Ledger, IsLedger}
 use Rattle.cfi_loader.specs.Told.{HasTold}
 use Rattle.cfi_ledger.specs.Findings.{AreFindings}
 use Rattle.cfi_ledger.specs.Books.{course_in, IsRosterOf}
+use Rattle.cfi_ledger.specs.Roster.{IsBookOfRoster}
 
 -- what a loader keeps, as clauses see it
 abbrev pub ledger_of : Books → Keeping → Ledger
@@ -28,7 +29,8 @@ pub record BooksAgree (k : Key) (b : Books) (keeping : Keeping) : Type 0 where
   pub ledger : IsLedger k b.plan b.modules (ledger_of b keeping)
   pub roster_is : IsRosterOf b
   pub layout_is : b.layout ≡ b.plan.code_words
-  pub image_is : b.image ≡ (last_of keeping.entries).image
+  pub book_is : IsBookOfRoster b.roster b.book
+  pub image_is : b.book.image ≡ (last_of keeping.entries).image
   pub starts_are : b.starts ≡ starts b.plan.modules
   pub found_are : AreFindings b.modules b.roster b.found.items
 

@@ -32,6 +32,7 @@ abbrev pub load_fault_by : UpdateFault → LoadFault
 load_fault_by updates.EpochsSpent = EpochsSpent
 load_fault_by (updates.VersionsSpent guest quiet) = VersionsSpent guest quiet
 
+-- the line of a load whose update was refused
 abbrev pub update_line : (number : ℕ) → UpdateFault → JournalLine
 update_line number updates.EpochsSpent = lines.LoadEpochs number
 update_line number (updates.VersionsSpent guest quiet) = lines.LoadVersions number guest quiet

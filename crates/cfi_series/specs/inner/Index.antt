@@ -12,12 +12,14 @@ use Rattle.cfi_place.specs.Names.{Names, find_in}
 use Rattle.cfi_place.specs.inner.Wanted.{is_undefined}
 use Rattle.cfi_series.specs.declared.index.ExportPlace.{ExportPlace}
 use Rattle.cfi_series.specs.declared.index.Index.{Index}
+use Rattle.cfi_series.specs.declared.index.TheConstants.{FNV_PRIME}
 use Rattle.cfi_series.specs.Order.{names_of}
 
--- 32 bits of a name
+-- 32 bits of a name, byte by byte as the FNV hash mixes them, with a sum in the place of its exclusive or
 abbrev pub mixed : (digest byte : ℕ) → ℕ
-mixed digest byte = (digest * 16777619 % 2 ^ 32 + byte) % 2 ^ 32
+mixed digest byte = (digest * FNV_PRIME % 2 ^ 32 + byte) % 2 ^ 32
 
+-- the digest of a name, byte by byte
 unfoldable pub digest_of : (name : List ℕ) → ℕ
 digest_of name = fold mixed 0 name
 
@@ -25,9 +27,11 @@ digest_of name = fold mixed 0 name
 abbrev pub export_at : List Placed → ExportPlace → Option (List ℕ × ℕ)
 export_at placed place = option_and_then (λ m. slice_get m.exports place.export) (slice_get placed place.number)
 
+-- the address of an export that has this name
 abbrev pub address_if : (name : List ℕ) → List ℕ × ℕ → Option ℕ
 address_if name export = if bytes_eq export.0 name then Some export.1 else None
 
+-- where the name is exported, if the export of a place has it
 abbrev pub named_at : List Placed → (name : List ℕ) → ExportPlace → Option ℕ
 named_at placed name place = option_and_then (address_if name) (export_at placed place)
 
@@ -35,6 +39,7 @@ named_at placed name place = option_and_then (address_if name) (export_at placed
 abbrev pub address_by : List Placed → (apart : Names) → (name : List ℕ) → Option ExportPlace → Option ℕ
 address_by placed apart name place = option_or (option_and_then (named_at placed name) place) (apart name)
 
+-- where a name is exported: apart, or at the place of its digest
 abbrev pub address_in : List Placed → Index → Names
 address_in placed index name =
     address_by placed (find_in index.apart) name (get nat_cmp index.places (digest_of name))

@@ -25,6 +25,7 @@ IsLineFault old number text (BadEvent bad) =
     (bad ≡ number) × ((new : Stage) → ¬ LineMakes old.plan old.modules text old.stage new)
 IsLineFault old number text Memory = ⊤
 
+-- no line is led to for this fault: its first bad line; want of memory may always be
 abbrev pub IsScheduleFault : Whole → (schedule : List ℕ) → SimFault → Type 0
 IsScheduleFault old schedule (Open fault) = ⊥
 IsScheduleFault old schedule (BadEvent number) = IsBadLine old.plan old.modules schedule old.stage number

@@ -1,21 +1,16 @@
 -- What of a schedule a simulation under way makes, and when it makes nothing.
-use Rattle.std.specs.Prelude.{◌≡◌, ◌⊎◌, ℕ, ◌≤◌, ◌<◌, Bool, true, false, [], ◌∷◌, ◌++◌, length, Option, All}
-use Rattle.cfi_aux.specs.declared.modules.Module.{Module}
-use Rattle.cfi_aux.specs.declared.placed.Placed.{Placed}
-use Rattle.cfi_graph.specs.Direct.{DirectEdge}
+use Rattle.std.specs.Prelude.{◌≡◌, ◌⊎◌, ℕ, ◌≤◌, ◌<◌, Bool, true, false, length, Option}
 use Rattle.cfi_model.specs.declared.phase.Phase.{Phase}
 use Rattle.cfi_model.specs.declared.phase.Phase.TheVariants as phases
 use Rattle.cfi_model.specs.Phases.{phase_of}
 use Rattle.cfi_model.specs.World.{World}
 use Rattle.cfi_plan.specs.declared.journal.JournalLine.{JournalLine}
-use Rattle.cfi_policy.specs.Image.{IsImage}
-use Rattle.cfi_series.specs.Prepared.{IsOrderedImage}
-use Rattle.cfi_series.specs.Series.{Series, CanBeTaken, JoinsTo}
+use Rattle.cfi_ledger.specs.Roster.{Offer}
 use Rattle.cfi_sim.specs.declared.aim.Aim.{Aim}
 use Rattle.cfi_sim.specs.declared.limits.TheConstants.{MAX_EVENTS, MAX_UPDATES}
 use Rattle.cfi_sim.specs.Events.{IsBeginning, IsUpdateEvent, IsIdle}
 use Rattle.cfi_sim.specs.Schedule.{Repeats, PassesNoLimit}
-use Rattle.cfi_sim.specs.Stage.{Stage, with_journal_line, dropped, IsMade}
+use Rattle.cfi_sim.specs.Stage.{Stage, with_journal_line, dropped, loaded_as, refreshed, IsMade}
 use Rattle.cfi_sim.specs.Stands.{AimFits}
 use Rattle.cfi_sim.specs.inner.Standing.{Whole, HasDone}
 use Rattle.cfi_word.specs.declared.lists.Image.{Image}
@@ -33,6 +28,7 @@ pub record HasMadeWithin (Happens : (old new : Stage) → Type 0) (old new : Who
 abbrev pub Cannot : (Happens : (old new : Stage) → Type 0) → Whole → Type 0
 Cannot Happens old = (s : Stage) → Happens old.stage s → PassesNoLimit s → ⊥
 
+-- something of the kind happens, or nothing can
 abbrev pub MakesBy : (Happens : (old new : Stage) → Type 0) → (old new : Whole) → (happened : Bool) → Type 0
 MakesBy Happens old new true = HasMadeWithin Happens old new
 MakesBy Happens old new false = Cannot Happens old
@@ -55,18 +51,10 @@ pub record HasBegun (aim : Aim) (spent : JournalLine) (image : Option Image) (ol
   pub is : new ≡ record old { stage = new.stage }
   pub within : PassesNoLimit new.stage
 
+-- an update has begun, or none can
 abbrev pub BeginsBy : Aim → (spent : JournalLine) → Option Image → (old new : Whole) → (happened : Bool) → Type 0
 BeginsBy aim spent image old new true = HasBegun aim spent image old new
 BeginsBy aim spent image old new false = (other : Option Image) → Cannot (IsBeginning aim spent other) old
-
--- ---- a load
-
--- the image of the modules of a series and one more, which joins them
-pub record IsImageWith (series : Series) (m : Module) (image : Image) : Type 0 where
-  pub placed : Placed
-  pub joins : JoinsTo series m placed
-  pub is : (let all = series.placed ++ placed ∷ [] in IsImage (DirectEdge all) all series.code_words image)
-  pub ordered : IsOrderedImage (series.placed ++ placed ∷ []) image
 
 -- ---- the updater
 
@@ -74,6 +62,7 @@ pub record IsImageWith (series : Series) (m : Module) (image : Image) : Type 0 w
 abbrev pub IsAtRest : Stage → Type 0
 IsAtRest s = IsIdle s.world ⊎ MAX_EVENTS ≤ s.events
 
+-- an access of the updater was made, or none is left
 abbrev pub AdvancesBy : (old new : Whole) → (happened : Bool) → Type 0
 AdvancesBy old new true = HasMadeWithin (IsUpdateEvent old.plan old.modules) old new
 AdvancesBy old new false = IsAtRest old.stage
@@ -87,7 +76,15 @@ pub record HasAdvanced (old new : Whole) : Type 0 where
 abbrev pub with_dropped : (guest quiet : ℕ) → Whole → Whole
 with_dropped guest quiet x = record x { stage = dropped x.stage.aim guest quiet x.stage }
 
--- or was made
+-- or was made: the module is loaded, or the epoch is the next one
+abbrev pub with_entered : Offer → Whole → Whole
+with_entered offer x = record x { stage = loaded_as offer.line.number offer.placed x.stage }
+
+-- the next epoch is in force
+abbrev pub with_refreshed : Whole → Whole
+with_refreshed x = record x { stage = refreshed x.stage }
+
+-- the update is in force, if one was under way
 pub record HasCome (old new : Whole) : Type 0 where
   pub made : IsMade old.plan old.modules old.stage.aim old.stage new.stage
   pub is : new ≡ record old { stage = new.stage }
@@ -96,8 +93,6 @@ pub record HasCome (old new : Whole) : Type 0 where
 pub record FitsAim (x : Whole) : Type 0 where
   pub fits : AimFits x.plan x.modules x.stage.state x.stage.aim
   pub few : x.stage.state.policy ≤ length x.stage.state.loaded
-  pub taken : All CanBeTaken x.modules
-  pub named : length x.modules ≡ length x.plan.modules
 
 -- an access in a phase has made it, or has not
 abbrev pub NotesBy : Phase → (old new : Whole) → Type 0

@@ -28,11 +28,13 @@ pub record AreGuestsIn (plan : Plan) (starts : List Placed) (fills : List Fill) 
 
 -- ---- both
 
+-- the opening cannot be made for this fault; want of memory may always be
 abbrev pub IsOpeningFault : Plan → List Module → SimFault → Type 0
 IsOpeningFault plan modules (Open fault) = IsOpenFault plan modules fault
 IsOpeningFault plan modules (BadEvent line) = ⊥
 IsOpeningFault plan modules Memory = ⊤
 
+-- the plan and its modules are opened
 pub record IsOpened (plan : Plan) (modules : List Module) (x : Whole) : Type 0 where
   pub plan_is : x.plan ≡ plan
   pub modules_are : x.modules ≡ modules

@@ -1,17 +1,22 @@
 -- A simulation under way, as it is kept.
-use Rattle.std.specs.Prelude.{◌≡◌, ℕ, Bool, true, false, List, [], length, map, slice_get, Some, None, All}
+use Rattle.std.specs.Prelude.{◌≡◌, ℕ, ◌+◌, Bool, true, false, List, [], length, map, slice_get, Some, None, All, IfSome, ⊤}
+use Rattle.cfi_aux.specs.Sound.{IsSoundModule}
 use Rattle.cfi_aux.specs.declared.modules.Module.{Module}
 use Rattle.cfi_model.specs.Raw.{Raw}
 use Rattle.cfi_model.specs.World.{World}
 use Rattle.cfi_plan.specs.declared.plan.Plan.{Plan}
 use Rattle.cfi_plan.specs.Plan.{IsPlan}
+use Rattle.cfi_series.specs.Order.{Joins}
 use Rattle.cfi_series.specs.Series.{CanBeTaken}
 use Rattle.cfi_sim.specs.Events.{IsAnswered, IsGuestEvent, IsReleaseEvent}
 use Rattle.cfi_sim.specs.Stage.{Stage}
 use Rattle.cfi_sim.specs.Stands.{IsGoing}
-use Rattle.cfi_ledger.specs.Roster.{Roster, loaded_of}
+use Rattle.cfi_ledger.specs.Roster.{Offer, Roster, loaded_of}
+use Rattle.cfi_sim.specs.declared.pending.Pending.{Pending}
+use Rattle.cfi_sim.specs.declared.pending.Pending.TheVariants.{Load, Refresh}
 use Rattle.cfi_sim.specs.declared.standing.Standing.TheInside.{Inside}
-use Rattle.cfi_valid.specs.Loaded.{module_line_of}
+use Rattle.cfi_sim.specs.inner.Pending.{aim_of}
+use Rattle.cfi_valid.specs.Loaded.{LoadedModule, module_line_of, placed_modules}
 use Rattle.cfi_world.specs.Turns.{turn_of}
 use Rattle.cfi_world.specs.declared.event.Event.TheVariants as events
 use Rattle.cfi_world.specs.declared.event.Turned.TheVariants.{Nothing}
@@ -22,6 +27,7 @@ pub record Whole : Type 0 where
   pub modules : List Module
   pub stage : Stage
 
+-- what is kept, as clauses see it
 abbrev pub whole_inside : Inside → Whole
 whole_inside a = record {
   plan = a.plan.now;
@@ -30,7 +36,7 @@ whole_inside a = record {
     world = a.world;
     journal = a.journal.lines;
     state = record { epoch = a.epoch; policy = a.policy; loaded = loaded_of a.roster.lines a.roster.placed };
-    aim = a.aim;
+    aim = aim_of a.pending;
     events = a.events;
   };
 }
@@ -49,12 +55,33 @@ whole_at plan modules world roster = record {
   };
 }
 
--- the roster has the plan's code words, and a line for each of its modules
+-- the module of this number joins those that are loaded so, with the policy behind this one
+pub record IsOffered (plan : Plan) (modules : List Module) (loaded : List LoadedModule) (policy number : ℕ)
+    (offer : Offer) : Type 0 where
+  pub unplaced : Module
+  pub is : slice_get modules number ≡ Some unplaced
+  pub sound : IsSoundModule unplaced
+  pub joins : Joins plan.code_words (placed_modules loaded) unplaced offer.placed
+  pub line_is : offer.line
+      ≡ module_line_of plan.modules (record { number = number; placed = offer.placed; policy = policy + 1 })
+
+-- what an update brings fits those that are loaded
+abbrev pub FitsLoaded : Plan → List Module → List LoadedModule → (policy : ℕ) → Pending → Type 0
+FitsLoaded plan modules loaded policy (Load offer) = IsOffered plan modules loaded policy offer.line.number offer
+FitsLoaded plan modules loaded policy Refresh = ⊤
+
+-- what the update brings fits the loaded modules and their policy
+abbrev pub PendingFits : Whole → Pending → Type 0
+PendingFits x pending = FitsLoaded x.plan x.modules x.stage.state.loaded x.stage.state.policy pending
+
+-- the roster has the plan's code words, and a line for each of its modules; and what the update brings that is under
+-- way fits it
 pub record RosterFits (a : Inside) : Type 0 where
-  pub layout : a.layout ≡ a.plan.now.code_words
   pub many : length a.roster.lines ≡ length a.roster.placed
   pub size : a.roster.code_words ≡ a.plan.now.code_words
   pub lines : a.roster.lines ≡ map (module_line_of a.plan.now.modules) (loaded_of a.roster.lines a.roster.placed)
+  pub pending : IfSome a.pending
+      (FitsLoaded a.plan.now a.modules.now (loaded_of a.roster.lines a.roster.placed) a.policy)
 
 -- the journal is legal so far, and the world agrees with it
 pub record IsUnderWay (x : Whole) : Type 0 where

@@ -1,25 +1,23 @@
 // Accesses of the updater.
 
-ghost use Rattle.std.specs.Prelude.{◌≡◌, ◌≤◌, ◌<◌, IfOk, OnOk, Some, All, length};
-ghost use Rattle.cfi_series.specs.Series.{CanBeTaken};
+ghost use Rattle.std.specs.Prelude.{◌≡◌, ◌<◌, IfOk, OnOk, None};
 ghost use Rattle.cfi_sim.specs.Stage.{versions_line};
-ghost use Rattle.cfi_sim.specs.Stands.{LoadFits};
-ghost use Rattle.cfi_sim.specs.declared.aim.Aim.TheVariants.{Loading, Refreshing};
-ghost use Rattle.cfi_sim.specs.inner.Making.{with_dropped, AdvancesBy, FitsAim, HasCome, NotesBy};
-ghost use Rattle.cfi_sim.specs.inner.Standing.{IsUnderWay};
+ghost use Rattle.cfi_sim.specs.inner.Making.{with_dropped, with_entered, with_refreshed, AdvancesBy, FitsAim, HasCome, NotesBy};
+ghost use Rattle.cfi_sim.specs.declared.pending.Pending.TheVariants.{Load};
+ghost use Rattle.cfi_sim.specs.inner.Standing.{IsUnderWay, PendingFits};
+ghost use Rattle.cfi_valid.specs.declared.limits.TheConstants.{MAX_LOADED};
 ghost use Rattle.cfi_word.specs.declared.limits.TheConstants.{MAX_EPOCH};
 
 use crate::aim::Aim;
 use crate::limits::MAX_EVENTS;
 use crate::opens::is_idle;
+use crate::pending::Pending;
 use crate::standing::Standing;
-use cfi_ledger::{Entrant, Roster};
+use cfi_ledger::Offer;
 use cfi_model::Phase;
 use cfi_plan::JournalLine;
-use cfi_series::JoinFault;
 use cfi_world::{Event, Turned};
 use std::alloc::AllocError;
-use std::mem;
 
 // The line that tells why an update was not made.
 fn versions_line(aim: Aim, guest: u32, quiet: u32) -> JournalLine
@@ -40,39 +38,29 @@ impl<'a> Standing<'a> {
     fn drop_update(&mut self, guest: u32, quiet: u32) -> Result<(), AllocError>
         ensures { OnOk result (self.new ≡ with_dropped guest quiet self.old) }
     {
-        let Some(aim) = self.aim else {
+        let Some(pending) = self.pending.take() else {
             return Ok(());
         };
-        self.aim = None;
-        self.tell(versions_line(aim, guest, quiet))?;
+        self.tell(versions_line(pending.aim(), guest, quiet))?;
         Ok(())
     }
 
-    // The module of this number is loaded from now on. It has a place, since it had one when its load began.
-    fn enter(&mut self, number: u32) -> Result<(), AllocError>
-        requires aim { self.old.stage.aim ≡ Some (Loading number) }
-        requires fits { LoadFits self.old.plan self.old.modules self.old.stage.state number }
-        requires few { self.old.stage.state.policy ≤ length self.old.stage.state.loaded }
-        requires taken { All CanBeTaken self.old.modules }
-        requires named { length self.old.modules ≡ length self.old.plan.modules }
-        ensures { OnOk result (HasCome self.old self.new) }
+    // The module is loaded from now on, as it was placed when its load began.
+    fn enter(&mut self, offer: Offer) -> Result<(), AllocError>
+        requires none { self.old.stage.aim ≡ None }
+        requires fits { PendingFits self.old (Load offer) }
+        requires left { self.old.stage.state.epoch < MAX_EPOCH }
+        requires few { self.old.stage.state.policy < MAX_LOADED }
+        ensures { OnOk result (self.new ≡ with_entered offer self.old) }
     {
-        let (plan, modules) = (self.plan, self.modules);
+        let module = offer.number();
         let epoch = self.epoch + 1;
         let policy = self.policy + 1;
-        let entrant = Entrant::of(plan, number, policy);
-        let own = mem::replace(&mut self.roster, Roster::new(self.alloc, &self.layout));
-        self.roster = match own.add(&entrant, &modules[number as usize]) {
-            Ok(roster) => roster,
-            Err(JoinFault::Memory) => return Err(AllocError),
-            Err(JoinFault::Place(_)) => unreachable!(),
-            Err(JoinFault::Verify(_)) => unreachable!(),
-        };
+        self.roster.take(offer)?;
         self.epoch = epoch;
         self.policy = policy;
-        self.aim = None;
         self.tell(JournalLine::LoadOk {
-            module: number,
+            module,
             epoch,
             policy,
         })?;
@@ -81,13 +69,12 @@ impl<'a> Standing<'a> {
 
     // The next epoch is in force from now on.
     fn end_refresh(&mut self) -> Result<(), AllocError>
-        requires aim { self.old.stage.aim ≡ Some Refreshing }
+        requires none { self.old.stage.aim ≡ None }
         requires left { self.old.stage.state.epoch < MAX_EPOCH }
-        ensures { OnOk result (HasCome self.old self.new) }
+        ensures { OnOk result (self.new ≡ with_refreshed self.old) }
     {
         let epoch = self.epoch + 1;
         self.epoch = epoch;
-        self.aim = None;
         self.tell(JournalLine::RefreshOk { epoch })?;
         Ok(())
     }
@@ -97,10 +84,10 @@ impl<'a> Standing<'a> {
         requires { FitsAim self.old }
         ensures { OnOk result (HasCome self.old self.new) }
     {
-        match self.aim {
+        match self.pending.take() {
             None => Ok(()),
-            Some(Aim::Loading(number)) => self.enter(number),
-            Some(Aim::Refreshing) => self.end_refresh(),
+            Some(Pending::Load(offer)) => self.enter(offer),
+            Some(Pending::Refresh) => self.end_refresh(),
         }
     }
 

@@ -42,7 +42,8 @@ impl<'a> Standing<'a> {
         requires under_way { IsUnderWay self.old }
         requires within { PassesNoLimit self.old.stage }
         ensures { IfOk result
-            (MakesBy (Repeats (IsUpdateEvent self.old.plan self.old.modules) count) self.old self.new) }
+            (MakesBy (Repeats (IsUpdateEvent self.old.plan self.old.modules) count) self.old
+            self.new) }
     {
         for _access in 0..count {
             let made = self.advance()?;

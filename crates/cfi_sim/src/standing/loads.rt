@@ -1,53 +1,18 @@
 // Loads.
 
-ghost use Rattle.std.specs.Prelude.{◌≡◌, ◌<◌, IfOk, IfErr, length};
-ghost use Rattle.cfi_ledger.specs.Roster.{series_of};
-ghost use Rattle.cfi_series.specs.Order.{IsJoinFault};
-ghost use Rattle.cfi_series.specs.Series.{CanBeTaken};
+ghost use Rattle.std.specs.Prelude.{◌<◌, IfOk, length};
 ghost use Rattle.cfi_sim.specs.Events.{IsLoadEvent};
 ghost use Rattle.cfi_sim.specs.Schedule.{PassesNoLimit};
-ghost use Rattle.cfi_sim.specs.inner.Making.{IsImageWith, MakesBy};
+ghost use Rattle.cfi_sim.specs.inner.Making.{MakesBy};
 ghost use Rattle.cfi_sim.specs.inner.Standing.{IsUnderWay};
 ghost use Rattle.cfi_valid.specs.Loaded.{IsLoaded};
 ghost use Rattle.cfi_valid.specs.declared.limits.TheConstants.{MAX_LOADED};
 
-use crate::aim::Aim;
+use crate::pending::Pending;
 use crate::standing::Standing;
-use cfi_aux::Module;
-use cfi_ledger::{Entrant, Roster, join_line};
+use cfi_ledger::{Entrant, Prospect, join_line};
 use cfi_plan::JournalLine;
-use cfi_series::JoinFault;
-use cfi_word::{Image, Layout};
-use std::alloc::{AllocError, Global};
-use std::mem;
-
-// The image of the loaded modules and one more; or why that does not join them. The loaded modules stay.
-fn image_with(
-    alloc: Global,
-    layout: &Layout,
-    roster: &mut Roster,
-    entrant: &Entrant<'_>,
-    unplaced: &Module,
-) -> Result<Image, JoinFault>
-    requires { CanBeTaken unplaced.now }
-    ensures ok { IfOk result (IsImageWith (series_of roster.old) unplaced.now) }
-    ensures fault { IfErr result
-        (IsJoinFault roster.old.code_words roster.old.placed unplaced.now) }
-    ensures same { roster.new ≡ roster.old }
-{
-    let own = mem::replace(roster, Roster::new(alloc, layout));
-    match own.prepare(entrant, unplaced) {
-        Ok(candidate) => {
-            let (without, image) = candidate.withdraw();
-            *roster = without;
-            Ok(image)
-        }
-        Err(unjoined) => {
-            *roster = unjoined.roster;
-            Err(unjoined.fault)
-        }
-    }
-}
+use std::alloc::AllocError;
 
 impl<'a> Standing<'a> {
     // Loads a module that is not loaded, where there is room for it.
@@ -62,17 +27,10 @@ impl<'a> Standing<'a> {
     {
         let (plan, modules) = (self.plan, self.modules);
         let entrant = Entrant::of(plan, number, self.policy + 1);
-        let unplaced = &modules[number as usize];
-        match image_with(
-            self.alloc,
-            &self.layout,
-            &mut self.roster,
-            &entrant,
-            unplaced,
-        ) {
-            Ok(image) => {
+        match self.roster.offer(&entrant, &modules[number as usize]) {
+            Ok((offer, image)) => {
                 let spent = JournalLine::LoadEpochs { module: number };
-                let begun = self.begin(Aim::Loading(number), spent, Some(image))?;
+                let begun = self.begin(Pending::Load(offer), spent, Some(image))?;
                 Ok(begun)
             }
             Err(fault) => {
@@ -96,18 +54,20 @@ impl<'a> Standing<'a> {
         ensures { IfOk result
             (MakesBy (IsLoadEvent self.old.plan self.old.modules number) self.old self.new) }
     {
-        if let Some(_) = self.roster.find(number) {
-            let policy = self.policy;
-            self.tell(JournalLine::LoadAgain {
-                module: number,
-                policy,
-            })?;
-            return Ok(true);
+        match self.roster.prospect(number) {
+            Prospect::Again(_) => {
+                let policy = self.policy;
+                self.tell(JournalLine::LoadAgain {
+                    module: number,
+                    policy,
+                })?;
+                Ok(true)
+            }
+            Prospect::Full => {
+                self.tell(JournalLine::LoadFull { module: number })?;
+                Ok(true)
+            }
+            Prospect::Open => self.join(number),
         }
-        if self.roster.is_full() {
-            self.tell(JournalLine::LoadFull { module: number })?;
-            return Ok(true);
-        }
-        self.join(number)
     }
 }

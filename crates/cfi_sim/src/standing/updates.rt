@@ -3,11 +3,12 @@
 ghost use Rattle.std.specs.Prelude.{◌≡◌, IfOk, OnOk, Option};
 ghost use Rattle.cfi_sim.specs.Events.{IsRefreshEvent};
 ghost use Rattle.cfi_sim.specs.inner.Making.{with_told, BeginsBy, MakesBy, CanBegin};
-ghost use Rattle.cfi_sim.specs.inner.Standing.{IsUnderWay};
+ghost use Rattle.cfi_sim.specs.inner.Pending.{aim_by};
+ghost use Rattle.cfi_sim.specs.inner.Standing.{IsUnderWay, PendingFits};
 
-use crate::aim::Aim;
 use crate::limits::{MAX_EVENTS, MAX_UPDATES};
 use crate::opens::is_idle;
+use crate::pending::Pending;
 use crate::standing::Standing;
 use cfi_plan::{Entry, JournalLine, Who};
 use cfi_word::Image;
@@ -28,13 +29,14 @@ impl<'a> Standing<'a> {
     // Begins an update, or tells that no epoch is left. False where one is under way, or a limit would be passed.
     pub(super) fn begin(
         &mut self,
-        aim: Aim,
+        pending: Pending,
         spent: JournalLine,
         image: Option<Image>,
     ) -> Result<bool, AllocError>
         requires under_way { IsUnderWay self.old }
+        requires fits { PendingFits self.old pending }
         requires may { CanBegin self.old.stage.world image }
-        ensures { IfOk result (BeginsBy aim spent image self.old self.new) }
+        ensures { IfOk result (BeginsBy (aim_by pending) spent image self.old self.new) }
     {
         if self.events >= MAX_EVENTS {
             return Ok(false);
@@ -51,7 +53,7 @@ impl<'a> Standing<'a> {
             return Ok(false);
         }
         let _ = self.world.turn(Event::Begin(image));
-        self.aim = Some(aim);
+        self.pending = Some(pending);
         self.events += 1;
         Ok(true)
     }
@@ -62,7 +64,7 @@ impl<'a> Standing<'a> {
         requires { IsUnderWay self.old }
         ensures { IfOk result (MakesBy IsRefreshEvent self.old self.new) }
     {
-        let begun = self.begin(Aim::Refreshing, JournalLine::RefreshEpochs, None)?;
+        let begun = self.begin(Pending::Refresh, JournalLine::RefreshEpochs, None)?;
         Ok(begun)
     }
 }

@@ -12,7 +12,7 @@ use Rattle.cfi_loader.specs.inner.Books.{BooksAgree, ledger_of}
 use Rattle.cfi_ledger.specs.Findings.{AreFindings, DoesJoin}
 use Rattle.cfi_ledger.specs.Loads.{IsAbsent, IsUnprepared}
 use Rattle.cfi_loader.specs.inner.Loads.{Refuses}
-use Rattle.cfi_loader.proofs.JoiningLemmas.{made_answers, turned_down, unmade_refuses}
+use Rattle.cfi_loader.proofs.JoiningLemmas.{keeps_classes, made_answers, turned_down, unmade_refuses}
 use Rattle.cfi_loader.proofs.FindingLemmas.{refuses_then}
 use Rattle.cfi_loader.proofs.PrepareLemmas.{load_update}
 use Rattle.cfi_loader.proofs.UpdateLemmas.{epoch_left, not_spent, right_fault}
@@ -56,12 +56,13 @@ update-requires g c =
     let candidate = c.in-Ok.candidate in
     let mark = c.load_mark-mark.result in
     let follows = load_update k b keeping c.requires.kept c.args.number candidate.roster p.ok c.requires.absent
-    candidate.image p.image mark in
+    candidate.book p.book mark in
     let force = sym (ap (λ (m : Books). m.policy) p.lent) in
     record {
       follows = subst (λ (i : Image). IsUpdate k.code_words (last_of keeping.entries)
           (entry_by (c.prepare.new.self.policy + 1) i mark)) (sym c.image.ensures)
-          (subst (λ (n : ℕ). IsUpdate k.code_words (last_of keeping.entries) (entry_by (n + 1) candidate.image mark))
+          (subst (λ (n : ℕ). IsUpdate k.code_words (last_of keeping.entries) (entry_by (n + 1)
+          candidate.book.image mark))
           force follows);
     }
 
@@ -79,14 +80,26 @@ returns-in-Ok-update-clause-ok g c =
     let u = c.in-Ok-update.ensures in
     let left = epoch_left k b keeping kept (λ spent. not_spent epoch (u.spent spent)) in
     let grown = u.new
-    ∙ ap (λ (i : Image). grown_by (entry_by (mid.policy + 1) i c.load_mark-mark.result) c.update.new.self.quiets keeping) c.image.ensures
-    ∙ ap (λ (n : ℕ). grown_by (entry_by (mid.policy + 1) candidate.image n) c.update.new.self.quiets keeping) c.load_mark-mark.ensures in
+    ∙ ap (λ (i : Image). grown_by (entry_by (mid.policy + 1) i c.load_mark-mark.result) c.update.new.self.quiets keeping)
+    c.image.ensures
+    ∙ ap (λ (n : ℕ). grown_by (entry_by (mid.policy + 1) candidate.book.image n) c.update.new.self.quiets keeping)
+    c.load_mark-mark.ensures in
     let one = sized 0 0 0 0 0 0 refl in
     made_answers k b keeping kept c.args.who c.args.number c.requires.asks c.requires.absent mid c.commit.new.books
-    p.lent candidate.roster p.ok c.update.new.self candidate.image p.image epoch u.ok left c.commit.ensures.line
+    p.lent candidate.roster p.ok c.update.new.self candidate.book p.book epoch u.ok left c.commit.ensures.line
     c.commit.ensures.same grown c.commit.result c.commit.ensures.again c.commit.ensures.epoch
     c.commit.ensures.policy one
     (c.commit.ensures.address one)
+
+-- and its image keeps the class numbers
+pub returns-in-Ok-update-clause-kept : goal.returns-in-Ok-update-clause-kept
+returns-in-Ok-update-clause-kept g c =
+    let candidate = c.in-Ok.candidate in
+    let made = returns-in-Ok-update-clause-ok g c in
+    let same = c.commit.ensures.same in
+    keeps_classes g.N.TableName.key c.args.books.now c.commit.new.books c.args.keeper.now c.update.new.self
+    candidate.roster candidate.book c.requires.kept made.all.kept (ap (λ (m : Books). m.roster) same)
+    (ap (λ (m : Books). m.book) same) c.in-Ok.ensures.kept
 
 -- the keeper has refused it: the books are as they were, but for the line
 pub keep_joining-requires-clause-found : goal.keep_joining-requires-clause-found

@@ -1,7 +1,5 @@
 use Rattle.std.proofs.Common.{length, ap, sym, subst, arith}
-use Rattle.std.proofs.lemmas.Bool.{leb-true, leb-false}
 use Rattle.cfi_valid.specs.Script.{Load}
-use Rattle.cfi_valid.specs.declared.limits.TheConstants.{MAX_LOADED}
 use Rattle.cfi_ledger.specs.declared.books.Books.{Books}
 use Rattle.cfi_loader.specs.declared.fault.LoadFault.TheVariants.{ModulesFull}
 use Rattle.cfi_loader.specs.Ledger.{Ledger}
@@ -14,8 +12,8 @@ use Rattle.cfi_valid.proofs.KeptLemmas.{many_are}
 use Rattle.cfi_loader.proofs.load.load.Goals as goal
 
 -- it is loaded already
-pub returns-in-Some-clause-ok : goal.returns-in-Some-clause-ok
-returns-in-Some-clause-ok g c =
+pub returns-in-Again-clause-ok : goal.returns-in-Again-clause-ok
+returns-in-Again-clause-ok g c =
     let k = g.N.TableName.key in
     let b = c.args.books.now in
     let mid = c.reserve.new.self in
@@ -29,8 +27,8 @@ returns-in-Some-clause-ok g c =
     keeping (c.again.ensures.after k keeping mid_kept asks)
 
 -- there is no room
-pub returns-then-is_full-clause-fault : goal.returns-then-is_full-clause-fault
-returns-then-is_full-clause-fault g c =
+pub returns-in-Full-clause-fault : goal.returns-in-Full-clause-fault
+returns-in-Full-clause-fault g c =
     let k = g.N.TableName.key in
     let b = c.args.books.now in
     let mid = c.reserve.new.self in
@@ -41,7 +39,6 @@ returns-then-is_full-clause-fault g c =
     let asks = subst (λ (l : Ledger). MayAskFor l c.args.who (Load c.args.number))
     (sym (ledger_same k b mid keeping kept r.lines r.left r.same)) c.requires.asks in
     let many = mid_kept.roster_is.many in
-    let long = leb-true MAX_LOADED (length mid.roster.lines) (sym c.if-is_full.ensures) in
     refuses_from k b mid keeping kept r.lines r.left r.same c.args.who c.args.number ModulesFull c.tell.new.self keeping
     (full_refuses k mid keeping mid_kept c.args.who c.args.number asks c.tell.new.self c.tell.ensures.line
     c.tell.ensures.same (record {
@@ -51,8 +48,8 @@ returns-then-is_full-clause-fault g c =
         mid_kept.ledger.can_start.count,
         ap (λ (m : Books). length m.plan.modules) r.same,
       );
-      absent = unlisted_absent mid.roster many c.args.number c.in_default.ensures.none;
-      full = omega (arith, long, many, many_are origin_of mid.roster.lines mid.roster.placed many);
+      absent = unlisted_absent mid.roster many c.args.number c.in-Full.ensures.0;
+      full = omega (arith, c.in-Full.ensures.1, many, many_are origin_of mid.roster.lines mid.roster.placed many);
     }))
 
 -- it is not loaded, and there is room
@@ -64,8 +61,7 @@ add-requires-clause-absent g c =
     let r = c.if-not-reserve.ensures in
     let mid_kept = reserved k b mid c.args.keeper.now c.requires.kept r.lines r.left r.same in
     let many = mid_kept.roster_is.many in
-    let short = leb-false MAX_LOADED (length mid.roster.lines) (sym c.if-is_full.ensures) in
     record {
-      absent = unlisted_absent mid.roster many c.args.number c.in_default.ensures.none;
-      room = omega (arith, short, many, many_are origin_of mid.roster.lines mid.roster.placed many);
+      absent = unlisted_absent mid.roster many c.args.number c.in-Open.ensures.0;
+      room = omega (arith, c.in-Open.ensures.1, many, many_are origin_of mid.roster.lines mid.roster.placed many);
     }

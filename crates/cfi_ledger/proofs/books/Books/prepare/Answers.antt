@@ -1,11 +1,16 @@
-use Rattle.std.proofs.Common.{◌+◌, List, length, get_or, refl, ap, subst, ◌∙◌, arith}
+use Rattle.std.proofs.Common.{◌+◌, List, length, get_or, refl, sym, ap, subst, ◌∙◌, arith}
 use Rattle.std.proofs.lemmas.Option.{slice_get_read}
 use Rattle.cfi_aux.specs.declared.modules.Module.{Module}
 use Rattle.cfi_series.specs.Order.{IsJoinFault}
 use Rattle.cfi_valid.specs.Loaded.{planned_name}
-use Rattle.cfi_ledger.specs.Roster.{HasJoined, Roster}
+use Rattle.cfi_ledger.specs.Roster.{HasJoined, IsBookOfRoster, Roster}
 use Rattle.cfi_ledger.proofs.JoinedLemmas.{entrant_joined}
 use Rattle.cfi_ledger.proofs.books.Books.prepare.Goals as goal
+
+-- the book is that of the modules that are lent
+pub prepare-requires-clause-book : goal.prepare-requires-clause-book
+prepare-requires-clause-book c =
+    subst (λ (r : Roster). IsBookOfRoster r c.args.self.now.book) (sym c.replace-roster.ensures.value) c.requires.book
 
 -- the module of the number joins
 pub returns-in-Ok-clause-ok : goal.returns-in-Ok-clause-ok

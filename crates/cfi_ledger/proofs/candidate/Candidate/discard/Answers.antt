@@ -8,7 +8,7 @@ use Rattle.cfi_ledger.proofs.candidate.Candidate.discard.Goals as goal
 pub invariant_of-result : goal.invariant_of-result
 invariant_of-result c =
     let a = c.self.inside in
-    let placed = a.prepared.series.placed in
+    let placed = a.prepared.placed in
     let rest = sym (ap (λ (s : Series). s.placed) c.discard.ensures) in (
       init_listed (length a.lines.items) (length placed) placed c.self.invariant.many refl
           ∙ ap (λ (ps : List Placed). length ps) rest,

@@ -3,22 +3,27 @@ use Rattle.std.proofs.lemmas.List.{get_or_push}
 use Rattle.cfi_aux.specs.declared.placed.Placed.{Placed}
 use Rattle.cfi_plan.specs.declared.journal.ModuleLine.{ModuleLine}
 use Rattle.cfi_series.specs.Series.{Series}
-use Rattle.cfi_ledger.specs.Roster.{HasJoined, line_by}
+use Rattle.cfi_ledger.specs.Roster.{Roster, IsBookOfSeries, HasJoined, line_by, series_of}
 use Rattle.cfi_ledger.proofs.JoinedLemmas.{roster_back, roster_joined}
 use Rattle.cfi_ledger.proofs.roster.Roster.prepare.Goals as goal
+
+-- the book before is that of the series
+pub booked-requires-clause-book : goal.booked-requires-clause-book
+booked-requires-clause-book c =
+    subst (λ (r : Roster). IsBookOfSeries (series_of r) c.args.before.now) (sym c.self.view_is) c.requires.book
 
 -- the candidate has the module as it joined the series
 pub returns-in-Ok-taken-clause-ok : goal.returns-in-Ok-taken-clause-ok
 returns-in-Ok-taken-clause-ok c =
     let s = c.self.inside.series in
-    let new = c.in-Ok.prepared.series in
+    let new = c.in-Ok.prepared in
     let entrant = c.args.entrant.now in
     let joined = c.in-Ok.ensures.ok in
     let one = joined.0 in
     let m = c.index-modules-len.result in
     let line = c.in-Ok-taken.line in
     let placed_are : c.modules.result.now ≡ s.placed ++ one ∷ [] =
-    c.modules.ensures ∙ ap (λ (n : Series). n.placed) joined.2 in
+    c.modules.ensures.value ∙ ap (λ (n : Series). n.placed) (c.series.ensures ∙ joined.2) in
     let count : c.len.result ≡ length s.placed =
     omega (arith, c.len.ensures, c.self.inside.lines.ok, c.self.invariant.0) in
     let at : m ≡ one = c.index-modules-len.is ∙ ap (λ (ms : List Placed). get_or ms c.len.result m) placed_are
@@ -35,5 +40,5 @@ pub returns-in-Ok-taken-clause-before : goal.returns-in-Ok-taken-clause-before
 returns-in-Ok-taken-clause-before c =
     let entrant = c.args.entrant.now in
     roster_back entrant.number entrant.policy entrant.name.now c.args.unplaced.now c.self.inside.series
-    c.in-Ok.prepared.series c.self.inside.lines.items c.args.self c.self.view_is c.in-Ok.ensures.ok
+    c.in-Ok.prepared c.self.inside.lines.items c.args.self c.self.view_is c.in-Ok.ensures.ok
     c.taken.new.lines.items c.taken.ensures.lines

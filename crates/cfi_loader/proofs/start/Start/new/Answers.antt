@@ -2,6 +2,7 @@ use Rattle.std.proofs.Common.{◌≡◌, ℕ, ap, sym, subst, ◌∙◌}
 use Rattle.cfi_ledger.specs.declared.books.Books.{Books}
 use Rattle.cfi_model.specs.Closed.{IsClosed}
 use Rattle.cfi_tables.specs.Key.{key_by}
+use Rattle.cfi_word.specs.declared.lists.Image.{Image}
 use Rattle.cfi_loader.proofs.OpeningLemmas.{first_kept, first_started, first_closed}
 use Rattle.cfi_loader.proofs.start.Start.new.Goals as goal
 
@@ -11,8 +12,9 @@ new-requires-clause-closed c =
     let plan = c.args.plan.now in
     let b = c.in_ok-books.books in
     let opened = c.in_ok-books.ensures.ok in
-    subst (λ (n : ℕ). IsClosed n b.image) (sym (ap (λ (x : Books). x.layout) opened.books.is))
-    (first_closed plan c.args.modules c.requires opened.roster opened.started b opened.books)
+    subst (λ (i : Image). IsClosed b.layout i) (sym c.image.ensures)
+    (subst (λ (n : ℕ). IsClosed n b.book.image) (sym (ap (λ (x : Books). x.layout) opened.books.is))
+    (first_closed plan c.args.modules c.requires opened.roster opened.started b opened.books))
 
 pub invariant_of-result : goal.invariant_of-result
 invariant_of-result c =
@@ -20,7 +22,9 @@ invariant_of-result c =
     let b = c.in_ok-books.books in
     let opened = c.in_ok-books.ensures.ok in
     let layout : b.layout ≡ plan.code_words = ap (λ (x : Books). x.layout) opened.books.is in
-    let key = c.in_ok-blank.ensures ∙ ap (λ (n : ℕ). key_by n plan.versions plan.first b.image) layout in
+    let key = c.in_ok-blank.ensures
+    ∙ ap (λ (i : Image). key_by b.layout plan.versions plan.first i) c.image.ensures
+    ∙ ap (λ (n : ℕ). key_by n plan.versions plan.first b.book.image) layout in
     record {
       kept = first_kept plan c.args.modules c.requires opened.roster opened.started b opened.books
           c.in_ok-blank.blank.key key opened.enter;

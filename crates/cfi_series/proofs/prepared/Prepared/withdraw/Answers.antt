@@ -1,7 +1,8 @@
-use Rattle.std.proofs.Common.{subst}
-use Rattle.cfi_series.specs.Prepared.{Prepared, IsOrderedImage}
+use Rattle.std.proofs.Common.{◌∙◌}
+use Rattle.cfi_series.proofs.PreparedLemmas.{gives_back}
 use Rattle.cfi_series.proofs.prepared.Prepared.withdraw.Goals as goal
 
-pub returns-clause-ordered : goal.returns-clause-ordered
-returns-clause-ordered c =
-    subst (λ (p : Prepared). IsOrderedImage p.series.placed p.image) c.self.view_is c.self.invariant.ordered
+pub returns : goal.returns
+returns c = λ series placed is.
+    gives_back c.self.inside.series c.without_last.result.0 series c.without_last.result.1 placed
+    c.without_last.ensures.rest c.without_last.ensures.placed (c.self.view_is ∙ is)

@@ -1,7 +1,7 @@
 use Rattle.std.proofs.Common.{List, subst}
 use Rattle.std.specs.Prelude.{IfOk}
 use Rattle.cfi_aux.specs.declared.placed.Placed.{Placed}
-use Rattle.cfi_series.specs.Prepared.{IsOrderedImage}
+use Rattle.cfi_series.specs.Image.{IsOrderedImage}
 use Rattle.cfi_series.proofs.series.Series.image.Goals as goal
 
 pub returns-clause-ordered : goal.returns-clause-ordered

@@ -3,7 +3,7 @@ use Rattle.cfi_series.specs.Examples.{sized}
 use Rattle.cfi_ledger.specs.declared.books.Books.{Books}
 use Rattle.cfi_ledger.specs.Opens.{IsFirstGlobal}
 use Rattle.cfi_loader.proofs.AddLemmas.{again_answers}
-use Rattle.cfi_loader.proofs.load.again.Goals as goal
+use Rattle.cfi_loader.proofs.told.again.Goals as goal
 
 pub returns-clause-after : goal.returns-clause-after
 returns-clause-after c = λ k keeping kept asks.

@@ -8,8 +8,8 @@ use Rattle.cfi_ledger.specs.Journal.{HasLine}
 use Rattle.cfi_loader.specs.inner.Loads.{Refuses, load_fault_of}
 use Rattle.cfi_loader.proofs.AddLemmas.{told_refuses, starved_refuses}
 use Rattle.cfi_ledger.proofs.NumberedLemmas.{from_numbers, from_none}
-use Rattle.cfi_loader.proofs.load.refuse.Goals as goal
-use Rattle.cfi_loader.proofs.load.refuse.Goals.{in-Some, in-None}
+use Rattle.cfi_loader.proofs.told.refuse.Goals as goal
+use Rattle.cfi_loader.proofs.told.refuse.Goals.{in-Some, in-None}
 
 pub returns-clause-after : goal.returns-clause-after
 returns-clause-after c = λ k keeping kept asks absent.

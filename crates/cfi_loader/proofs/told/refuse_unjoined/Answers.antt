@@ -2,7 +2,7 @@ use Rattle.std.proofs.Common.{sym, subst}
 use Rattle.cfi_ledger.specs.declared.books.Books.{Books}
 use Rattle.cfi_ledger.specs.Loads.{IsUnprepared}
 use Rattle.cfi_loader.proofs.FindingLemmas.{refuses_as_noted}
-use Rattle.cfi_loader.proofs.load.refuse_unjoined.Goals as goal
+use Rattle.cfi_loader.proofs.told.refuse_unjoined.Goals as goal
 
 -- what was found stands of the books as they are noted
 pub refuse-requires-clause-unprepared : goal.refuse-requires-clause-unprepared

@@ -1,5 +1,5 @@
 use Rattle.cfi_loader.proofs.AddLemmas.{spent_refuses}
-use Rattle.cfi_loader.proofs.load.refuse_spent.Goals as goal
+use Rattle.cfi_loader.proofs.told.refuse_spent.Goals as goal
 
 pub returns-clause-after : goal.returns-clause-after
 returns-clause-after c = λ k keeping kept asks absent.

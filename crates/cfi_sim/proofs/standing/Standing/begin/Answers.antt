@@ -1,0 +1,12 @@
+use Rattle.std.proofs.Common.{sym, subst}
+use Rattle.cfi_sim.specs.inner.Standing.{Whole, PendingFits}
+use Rattle.cfi_sim.proofs.standing.Standing.begin.Goals as goal
+
+-- what it brings fits
+pub invariant_of-self-2 : goal.invariant_of-self-2
+invariant_of-self-2 c = record {
+  many = c.self.invariant.many;
+  size = c.self.invariant.size;
+  lines = c.self.invariant.lines;
+  pending = subst (λ (w : Whole). PendingFits w c.args.pending) (sym c.self.view_is) c.requires.fits;
+}
